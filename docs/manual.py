@@ -42,7 +42,7 @@ def help_of(name):
 
 def words_of(text):
     """Each word, and what it does."""
-    return [(word, " ".join(what.split())) for word, what in re.findall(r"^  (\w+) {2,}(.*(?:\n {6,}.*)*)$", text, re.M)]
+    return [(word, " ".join(what.split())) for word, what in re.findall(r"^  ([\w-]+) {2,}(.*(?:\n {6,}.*)*)$", text, re.M)]
 
 
 def roff(text):
@@ -57,7 +57,7 @@ def man(name, text):
         if part.startswith("The status"):
             lines += [".SH EXIT STATUS", roff(part)]
         elif part.startswith("For example"):
-            lines += [".SH EXAMPLES", ".nf", roff(re.sub(r"^For example:\s*", "", part)), ".fi"]
+            lines += [".SH EXAMPLES", ".nf", roff(re.sub(r"^(For example:\s*|  )", "", part, flags=re.M)), ".fi"]
         else:
             lines += [".PP", roff(re.split(r"\n  \w", part)[0])]
             for word, what in words_of(part):

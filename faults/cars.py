@@ -77,6 +77,8 @@ BLOCKS = {
     b"\x05": ("ok integer", []),
     b"": ("refused Eof", []),
 }
+# By which byte those are refused that are.
+PLACES = {UNORDERED: 5, b"": 0}
 # The roots of each header.
 HEADERS = {header(): [], header(cid(ROOT)): [cid(ROOT)], header(AWAY, cid(ROOT)): [AWAY, cid(ROOT)]}
 # Why other headers are none.
@@ -107,7 +109,7 @@ class Judge:
     def __init__(self, bytes_):
         self.at = 0
         self.checked, self.listed, self.linked, self.held, self.is_well = [], [], set(), set(), True
-        self.sections, self.refusal = [], []
+        self.sections, self.refusal, self.places = [], [], []
         try:
             self.bytes, is_short = self.file_in(bytes_)
             self.header()
@@ -161,6 +163,8 @@ class Judge:
         self.is_well = self.is_well and (found == "not read" or found.startswith("ok "))
         self.sections.append((body[:end], body[end:], found))
         self.checked.append(f"{text_of(body[:end])} {found}")
+        if found.startswith("refused "):
+            self.places.append(f"{text_of(body[:end])}: {found} at byte {PLACES[body[end:]]}")
         self.listed.append(f"{text_of(body[:end])} {len(body) - end}")
         if found not in ("other bytes", "not verified"):
             self.held.add(body[:end])
@@ -303,13 +307,13 @@ def sweep_files(path, report):
     for name, given in files():
         wrong = []
         for number, file in enumerate(given):
+            judge = Judge(file)
             for command in ("check", "list"):
                 how = {"input": file, "capture_output": True, "preexec_fn": limit, "timeout": 60}
                 ran = subprocess.run([path, command], check=False, **how)
-                wanted = Judge(file).wanted(command)
-                if (ran.returncode, ran.stdout) != wanted or ran.stderr:
+                told = "".join(f"{line}\n" for line in judge.places if command == "check").encode()
+                if (ran.returncode, ran.stdout, ran.stderr) != (*judge.wanted(command), told):
                     wrong.append((command, number, ran.returncode, ran.stdout[-80:], ran.stderr))
-            judge = Judge(file)
             for words, wanted in ((("get", NUMBERS), judge.got), (("tree", ROOT), judge.tree)):
                 of = cid(words[1])
                 how = {"input": file, "capture_output": True, "preexec_fn": limit, "timeout": 60}
@@ -326,13 +330,17 @@ BLOCKS_AND_TEXTS = {
     "show": (NUMBERS_IN_A_MAP, (0, TEXT + b"\n")),
     "make": (TEXT, (0, NUMBERS_IN_A_MAP)),
 }
-# A file of a list of a link that stands there twice, and of a raw leaf: what `get` and `tree` give of it.
+# A file of a list of a link that stands there twice, and of a raw leaf: what `get`, `tree`, `at` and `prove` give of it.
 TWICE = b"\x83" + link(cid(NUMBERS)) + link(cid(b"raw", codec=0x55)) + link(cid(NUMBERS))
 TREE = [section(TWICE), section(NUMBERS), section(b"raw", codec=0x55)]
 OUT_OF_ORDER = counted(header()) + b"".join(reversed(TREE)) + section(UNORDERED) + section(NUMBERS)
 FOUND = {
     f"get {text_of(cid(NUMBERS))}": (0, NUMBERS),
     f"tree {text_of(cid(TWICE))}": (0, counted(header(cid(TWICE))) + b"".join(TREE)),
+    f"at {text_of(cid(TWICE))}/2/1": (0, b"2\n"),
+    f"at --raw {text_of(cid(TWICE))}/2": (0, TWICE[-41:]),
+    f"prove {text_of(cid(TWICE))}/2/1": (0, counted(header(cid(TWICE))) + section(TWICE) + section(NUMBERS)),
+    f"prove {text_of(cid(TWICE))}/3": (0, counted(header(cid(TWICE))) + section(TWICE)),
 }
 MANY = 100_000
 
@@ -368,6 +376,51 @@ def sweep_texts(path, report):
             if not (made if cause is None else refused):
                 wrong.append((number, ran.returncode, ran.stdout[:80], ran.stderr))
         report(f"dagcar make, {name}", len(given), wrong)
+
+
+def chain(count, block_over):
+    """So many blocks, each over the name of the next one, and the numbers."""
+    blocks = [NUMBERS]
+    for _ in range(count):
+        blocks.append(block_over(cid(blocks[-1])))
+    return blocks[::-1]
+
+
+def paths():
+    """What each kind of path is, the blocks, the path from the first of them, how many it passes, and what `at` says."""
+    maps, links = chain(3_000, lambda name: b"\xa1\x61n" + link(name)), chain(3_000, link)
+    nothing = lambda block, left: (1, b"", f"{text_of(cid(block))} has nothing at {left}\n".encode())
+    yield "over 3,000 maps", maps, "n/" * 3_000 + "1", 3_001, (0, b"2\n", b"")
+    yield "over 3,000 blocks that are links", links, "1", 3_001, (0, b"2\n", b"")
+    yield "over 3,000 maps to nothing", maps, "n/" * 3_000 + "01", 3_001, nothing(NUMBERS, "01")
+    yield "to nothing on the way", maps, "n/" * 10 + "m/" + "n/" * 3_000, 11, nothing(maps[10], "m/" + "n/" * 3_000)
+    yield "of one long segment", maps, "n" * MANY, 1, nothing(maps[0], "n" * MANY)
+    yield "of a long index", links, "9" * MANY, 3_001, nothing(NUMBERS, "9" * MANY)
+    yield "of many slashes", [NUMBERS], "/" * MANY, 1, (0, b"[1,2,3]\n", b"")
+
+
+def sweep_paths(path, report):
+    """The blocks on each path are written, `at` answers over them as over all blocks, and without the last one nothing is proved."""
+    for name, blocks, text, count, answer in paths():
+        wrong = []
+
+        def holds(words, given, wanted):
+            how = {"input": given, "capture_output": True, "preexec_fn": limit, "timeout": 60}
+            ran = subprocess.run([path, *words, f"{text_of(cid(blocks[0]))}/{text}"], check=False, **how)
+            if (ran.returncode, ran.stdout, ran.stderr) != wanted:
+                wrong.append((words, ran.returncode, ran.stdout[-80:], ran.stderr[-80:]))
+
+        first = counted(header(cid(blocks[0])))
+        file = counted(header()) + b"".join(map(section, reversed(blocks)))
+        proof = first + b"".join(map(section, blocks[:count]))
+        cut = first + b"".join(map(section, blocks[: count - 1]))
+        missing = (1, b"", (missing_line(cid(blocks[count - 1])) + "\n").encode())
+        holds(["prove"], file, (0, proof, b""))
+        holds(["prove"], proof, (0, proof, b""))
+        for given, wanted in ((file, answer), (proof, answer), (cut, missing)):
+            holds(["at"], given, wanted)
+        holds(["prove"], cut, missing)
+        report(f"dagcar, a path {name}", 6, wrong)
 
 
 def wanted_of_small():

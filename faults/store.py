@@ -37,22 +37,37 @@ def block_of(draw):
     return b"\x01\x71\x12\x20" + hashlib.sha256(block).digest(), block
 
 
-def car_of(blocks):
-    return varint(len(HEADER)) + HEADER + b"".join(varint(len(c) + len(b)) + c + b for c, b in blocks.items())
+def head_of(major, n):
+    return bytes([major + n]) if n < 24 else bytes([major + 24, n]) if n < 256 else bytes([major + 25]) + n.to_bytes(2, "big")
 
 
-def rows_of(path):
-    """What SQLite reads in a copy of the files, which it finds whole."""
+def links_of(names):
+    """A list of links."""
+    return head_of(0x80, len(names)) + b"".join(b"\xd8\x2a\x58\x25\x00" + name for name in names)
+
+
+def car_of(blocks, roots=()):
+    header = b"\xa2\x65roots" + links_of(roots) + b"\x67version\x01"
+    return varint(len(header)) + header + b"".join(varint(len(c) + len(b)) + c + b for c, b in blocks.items())
+
+
+def tables_of(path):
+    """The blocks, and the roots in their order, that SQLite reads in a copy of the files, which it finds whole."""
     with tempfile.TemporaryDirectory() as at:
         for end in ("", "-wal"):
             if os.path.exists(path + end):
                 shutil.copy(path + end, f"{at}/copy{end}")
         base = sqlite3.connect(f"{at}/copy")
         assert base.execute("PRAGMA integrity_check").fetchall() == [("ok",)], "integrity_check"
-        has_table = base.execute("SELECT count(*) FROM sqlite_schema WHERE name = 'block'").fetchone()[0]
-        rows = dict(base.execute("SELECT cid, bytes FROM block")) if has_table else {}
+        tables = {name for name, in base.execute("SELECT name FROM sqlite_schema WHERE type = 'table'")}
+        rows = dict(base.execute("SELECT cid, bytes FROM block")) if "block" in tables else {}
+        roots = [name for name, in base.execute("SELECT cid FROM root ORDER BY rowid")] if "root" in tables else []
         base.close()
-        return rows
+        return rows, roots
+
+
+def rows_of(path):
+    return tables_of(path)[0]
 
 
 def run(program, path, *words, given=b"", **how):
@@ -102,16 +117,19 @@ def crash(program, path, count, seed):
     return wrong, killed
 
 
-def collect(program, path, count, seed):
-    """Kills a `gc` at a random moment, so often; answers what was wrong. Each round adds a tree and blocks that it does not lead to."""
+def collect(program, path, count, seed, is_stored=False):
+    """Kills a `gc` at a random moment, so often; answers what was wrong. Each round adds a tree and blocks that it does not lead to.
+    The tree's root is given, or stored."""
     draw, wrong, killed, longest = random.Random(seed), [], 0, 0.05
     for n in range(count):
         leaves = dict(block_of(draw) for _ in range(draw.choice([1, 30, 300])))
         root, parent = parent_of(list(leaves))
         tree = {root: parent, **leaves}
         run(program, path, "import", given=car_of({**tree, **dict(block_of(draw) for _ in range(draw.choice([1, 100, 1000])))}))
+        if is_stored and run(program, path, "add-root", text_of(root)).returncode != 0:
+            wrong.append(f"{n}: add-root")
         before = rows_of(path)
-        words = [program, path, "gc", text_of(root)]
+        words = [program, path, "gc", *([] if is_stored else [text_of(root)])]
         process = subprocess.Popen(words, stdout=subprocess.PIPE, stderr=subprocess.DEVNULL)
         timer = threading.Timer(draw.random() * longest, process.kill)
         timer.start()
@@ -131,6 +149,41 @@ def collect(program, path, count, seed):
         longest = max(longest, time.monotonic() - begun)
         if (again.returncode, again.stdout) != (0, b"removed %d\n" % (len(rows) - len(tree))) or rows_of(path) != tree:
             wrong.append(f"{n}: a second gc: {again.returncode} {again.stdout} {again.stderr}")
+        if is_stored and (tables_of(path)[1] != [root] or run(program, path, "drop-root", text_of(root)).stdout != b"removed 1\n"):
+            wrong.append(f"{n}: the stored root")
+    return wrong, killed
+
+
+def add_roots(program, path, count, seed):
+    """Kills an `add-root` at a random moment, so often; answers what was wrong. Its names are roots behind the others, or none is."""
+    draw, wrong, killed, longest = random.Random(seed), [], 0, 0.05
+    blocks = dict(block_of(draw) for _ in range(50))
+    run(program, path, "import", given=car_of(blocks))
+    kept = []
+    for n in range(count):
+        names = [named(0x71, b"\x50" + draw.randbytes(16))[0] for _ in range(draw.choice([1, 30, 500]))]
+        words = [program, path, "add-root", *(text_of(name) for name in names)]
+        process = subprocess.Popen(words, stdout=subprocess.DEVNULL, stderr=subprocess.DEVNULL)
+        timer = threading.Timer(draw.random() * longest, process.kill)
+        timer.start()
+        process.wait()
+        timer.cancel()
+        timer.join()
+        killed += process.returncode == -signal.SIGKILL
+        if process.returncode not in (0, -signal.SIGKILL):
+            wrong.append(f"{n}: status {process.returncode}")
+        rows, roots = tables_of(path)
+        if rows != blocks or roots not in (kept, kept + names) or (process.returncode == 0 and roots != kept + names):
+            wrong.append(f"{n}: {len(rows)} rows, {len(roots)} roots, and {len(kept)} or {len(kept) + len(names)} ought to be there")
+        begun = time.monotonic()
+        again = run(program, path, *words[2:])
+        longest = max(longest, time.monotonic() - begun)
+        kept = kept + names
+        if (again.returncode, again.stdout, again.stderr) != (0, b"", b"") or tables_of(path) != (blocks, kept):
+            wrong.append(f"{n}: a second add-root: {again.returncode} {again.stdout} {again.stderr}")
+    listed = run(program, path, "roots")
+    if (listed.returncode, listed.stdout) != (0, lines_of(kept)):
+        wrong.append(f"roots: {listed.returncode} {len(listed.stdout)} bytes {listed.stderr}")
     return wrong, killed
 
 
@@ -202,6 +255,10 @@ def text_of(name):
     return "b" + base64.b32encode(name).decode().lower().rstrip("=")
 
 
+def lines_of(names):
+    return "".join(f"{text_of(name)}\n" for name in names).encode()
+
+
 def named(codec, block):
     """A block of a codec, and its CID."""
     return b"\x01" + bytes([codec]) + b"\x12\x20" + hashlib.sha256(block).digest(), block
@@ -209,10 +266,124 @@ def named(codec, block):
 
 def parent_of(names):
     """A list of links, and its CID."""
-    n = len(names)
-    head = bytes([0x80 + n]) if n < 24 else b"\x98" + bytes([n]) if n < 256 else b"\x99" + n.to_bytes(2, "big")
-    block = head + b"".join(b"\xd8\x2a\x58\x25\x00" + name for name in names)
+    block = links_of(names)
     return b"\x01\x71\x12\x20" + hashlib.sha256(block).digest(), block
+
+
+NO_ROOTS = b"dagstore: no roots are stored; name some, or add-root\n"
+EARLIER = b"dagstore: the file is of an earlier version, which keeps no roots: export it, and import that into a new file\n"
+
+
+def roots(program, at, draw):
+    """What `roots`, `add-root`, `drop-root`, and `export` and `gc` without words say of the roots of a store."""
+    wrong, path = [], f"{at}/roots.db"
+
+    def expect(what, ran, status, said, told=b""):
+        if (ran.returncode, ran.stdout, ran.stderr) != (status, said, told):
+            wrong.append(f"{what}: {ran.returncode} {ran.stdout[:200]} {ran.stderr}")
+
+    leaves = dict(block_of(draw) for _ in range(30))
+    first, second, third = (parent_of(list(leaves)[n:n + 10]) for n in (0, 10, 20))
+    blocks = {**leaves, **dict([first, second, third])}
+    lost = named(0x71, b"\xf6")[0]
+    ordered = dict(sorted(blocks.items()))
+    names = [third[0], first[0]]
+    said = "".join(f"root {text_of(name)}\n" for name in names).encode() + b"stored %d\n" % len(blocks)
+    expect("import of roots", run(program, path, "import", given=car_of(blocks, names)), 0, said)
+    expect("roots of an import", run(program, path, "roots"), 0, lines_of(names))
+    exported = run(program, path, "export")
+    expect("export of stored roots", exported, 0, car_of(ordered, names))
+    expect("import of that", run(program, f"{at}/roots2.db", "import", given=exported.stdout), 0, said)
+    expect("roots of that", run(program, f"{at}/roots2.db", "roots"), 0, lines_of(names))
+    expect("export of that", run(program, f"{at}/roots2.db", "export"), 0, exported.stdout)
+    expect("export of given roots", run(program, path, "export", text_of(second[0])), 0, car_of(ordered, [second[0]]))
+
+    # Each is a root behind the others, in the order of the words; one that is a root stays where it is.
+    expect("add-root", run(program, path, "add-root", text_of(lost), text_of(first[0]), text_of(second[0]), text_of(lost)), 0, b"")
+    names += [lost, second[0]]
+    if tables_of(path) != (blocks, names):
+        wrong.append("the roots behind add-root")
+    expect("roots behind add-root", run(program, path, "roots"), 0, lines_of(names))
+    expect("export of more roots", run(program, path, "export"), 0, car_of(ordered, names))
+    expect("drop-root", run(program, path, "drop-root", text_of(first[0]), text_of(lost)), 0, b"removed 2\n")
+    names = [third[0], second[0]]
+    expect("roots behind drop-root", run(program, path, "roots"), 0, lines_of(names))
+    twice = run(program, path, "drop-root", text_of(lost), text_of(third[0]), text_of(third[0]))
+    expect("drop-root of none", twice, 1, b"removed 1\n", b"dagstore: no root has the name\n")
+    expect("add-root again", run(program, path, "add-root", text_of(third[0])), 0, b"")
+    names = [second[0], third[0]]
+    if tables_of(path) != (blocks, names):
+        wrong.append("the roots behind drop-root")
+
+    # What each of the stored roots leads to is kept, and nothing else; with no root nothing is taken out.
+    expect("gc of stored roots", run(program, path, "gc"), 0, b"removed 11\n")
+    kept = {n: b for n, b in blocks.items() if n != first[0] and n not in list(leaves)[:10]}
+    if tables_of(path) != (kept, names):
+        wrong.append("gc of stored roots keeps others")
+    expect("drop-root of all", run(program, path, "drop-root", *map(text_of, names)), 0, b"removed 2\n")
+    expect("roots of none", run(program, path, "roots"), 0, b"")
+    expect("export of no roots", run(program, path, "export"), 0, car_of(dict(sorted(kept.items()))))
+    expect("gc of no roots", run(program, path, "gc"), 1, b"", NO_ROOTS)
+    if tables_of(path) != (kept, []):
+        wrong.append("gc of no roots changes something")
+    expect("gc of given roots", run(program, path, "gc", text_of(third[0])), 0, b"removed 11\n")
+
+    # A file of the earlier version, which has no table of roots.
+    old = f"{at}/old.db"
+    expect("import", run(program, f"{at}/new.db", "import", given=car_of(blocks)), 0, b"stored %d\n" % len(blocks))
+    base = sqlite3.connect(f"{at}/new.db")
+    table, = base.execute("SELECT sql FROM sqlite_schema WHERE name = 'block'").fetchone()
+    base.close()
+    base = sqlite3.connect(old)
+    base.execute("PRAGMA user_version = 1")
+    base.execute(table)
+    base.executemany("INSERT INTO block (cid, bytes) VALUES (?, ?)", blocks.items())
+    base.commit()
+    base.close()
+    expect("roots of the earlier version", run(program, old, "roots"), 0, b"")
+    expect("add-root to the earlier version", run(program, old, "add-root", text_of(first[0])), 1, b"", EARLIER)
+    expect("gc of the earlier version", run(program, old, "gc"), 1, b"", NO_ROOTS)
+    expect("drop-root of the earlier version", run(program, old, "drop-root", text_of(lost)), 1, b"removed 0\n", b"dagstore: no root has the name\n")
+    expect("export of the earlier version", run(program, old, "export"), 0, car_of(ordered))
+    if tables_of(old) != (blocks, []):
+        wrong.append("a file of the earlier version was changed")
+    return wrong
+
+
+def paths(program, at, draw):
+    """What `at` says of a path over the blocks of a store."""
+    wrong, path = [], f"{at}/paths.db"
+
+    def expect(what, words, status, said, told=b""):
+        ran = run(program, path, "at", *words)
+        if (ran.returncode, ran.stdout, ran.stderr) != (status, said, told):
+            wrong.append(f"{what}: {ran.returncode} {ran.stdout[:200]} {ran.stderr}")
+
+    # {"a": [1, h'0102']}, and a list of links to it, to a raw block and to one that is not stored.
+    inner, raw = named(0x71, b"\xa1\x61a\x82\x01\x42\x01\x02"), named(0x55, b"foo")
+    lost = named(0x71, b"\xf6")[0]
+    root, block = parent_of([inner[0], raw[0], lost])
+    run(program, path, "import", given=car_of({**dict(block_of(draw) for _ in range(20)), root: block, **dict([inner, raw])}))
+    top, below = text_of(root), text_of(inner[0])
+    expect("at over a link", [f"{top}/0/a/0"], 0, b"1\n")
+    expect("at of bytes", [f"{top}/0/a/1"], 0, b'{"/":{"bytes":"AQI"}}\n')
+    expect("at of a link", [f"{top}/0"], 0, f'{{"/":"{below}"}}\n'.encode())
+    expect("at --raw", ["--raw", f"{top}/0/a"], 0, b"\x82\x01\x42\x01\x02")
+    expect("at of nothing", [f"{top}/0/b"], 1, b"", f"{below} has nothing at b\n".encode())
+    expect("at over a missing link", [f"{top}/2/a"], 1, b"", f"missing {text_of(lost)} dag-cbor\n".encode())
+    expect("at of a root that is not stored", [f"{text_of(lost)}/a"], 1, b"", f"missing {text_of(lost)} dag-cbor\n".encode())
+    expect("at of no CID", ["b!/a"], 2, b"", b"no CID: InvalidCharacter\n")
+    ran = run(program, f"{at}/none.db", "at", f"{top}/0")
+    if (ran.returncode, ran.stdout) != (1, b"") or os.path.exists(f"{at}/none.db"):
+        wrong.append(f"at of no file: {ran.returncode} {ran.stdout} {ran.stderr}")
+    base = sqlite3.connect(path)
+    base.execute("UPDATE block SET bytes = x'00' WHERE cid = ?", (inner[0],))
+    base.commit()
+    base.close()
+    ran = run(program, path, "at", f"{top}/0/a/0")
+    if (ran.returncode, ran.stdout) != (1, b"") or b"other bytes" not in ran.stderr:
+        wrong.append(f"at over a damaged block: {ran.returncode} {ran.stdout} {ran.stderr}")
+    return wrong
 
 
 def words(program, at, draw):
@@ -293,7 +464,8 @@ def words(program, at, draw):
         expect("get", run(program, put, "get", own), 0, block)
     for block in (b"\x18\x17", b"", b"\x01\x01"):
         expect("put of no DAG-CBOR", run(program, put, "put", given=block), 1, b"")
-    for word in ("0x", "0x1z", "0x11111111111111111", "dag-pb"):
+        expect("put of no DAG-CBOR into no file", run(program, f"{at}/none.db", "put", given=block), 1, b"")
+    for word in ("0x", "0x1z", "0x+1", "0x11111111111111111", "dag-pb"):
         expect(f"put {word}", run(program, put, "put", word), 2, b"")
     expect("count", run(program, put, "count"), 0, b"holds 4\n")
     expect("has of another", run(program, put, "has", text_of(lost)), 1, b"")
@@ -310,11 +482,11 @@ def words(program, at, draw):
     expect("import of -", run(program, f"{at}/g.db", "import", "-", given=exported.stdout), 0, said)
     expect("import of no file", run(program, f"{at}/none.db", "import", f"{at}/none.car"), 2, b"")
     for word, cause in (("mAXASIA", "UnknownBase"), ("b!", "InvalidCharacter"), ("f01", "InvalidCid"), ("", "UnknownBase")):
-        for verb in ("export", "get", "has", "remove", "gc", "tree"):
+        for verb in ("export", "get", "has", "remove", "gc", "tree", "add-root", "drop-root"):
             ran = run(program, path, verb, word)
             if (ran.returncode, ran.stdout, ran.stderr) != (2, b"", f"no CID: {cause}\n".encode()):
                 wrong.append(f"{verb} {word}: {ran.returncode} {ran.stdout[:100]} {ran.stderr}")
-    for wordless in ("gc", "remove", "get", "has", "tree"):
+    for wordless in ("remove", "get", "has", "tree", "at", "add-root", "drop-root"):
         expect(f"{wordless} of nothing", run(program, path, wordless), 2, b"")
     ran = subprocess.run([program, "--help"], capture_output=True)
     if ran.returncode != 0 or not ran.stdout.startswith(b"usage: dagstore FILE ") or ran.stderr:
@@ -328,9 +500,9 @@ def words(program, at, draw):
     ran = run(program, path, "import", given=cut)
     if (ran.returncode, ran.stderr) != (1, b"dagstore: behind 0 sections\ndagstore: the input is no file of blocks: Truncated\n"):
         wrong.append(f"import of a cut file: {ran.returncode} {ran.stderr}")
-    for word in ("export", "check", "list", "count"):
+    for word in ("export", "gc", "roots", "check", "list", "count"):
         expect(f"{word} of no file", run(program, f"{at}/none.db", word), 1, b"")
-    for word in ("get", "has", "remove", "gc", "tree"):
+    for word in ("get", "has", "remove", "gc", "tree", "add-root", "drop-root"):
         expect(f"{word} of no file", run(program, f"{at}/none.db", word, text_of(held)), 1, b"")
     if os.path.exists(f"{at}/none.db"):
         wrong.append("a word that reads made a file")
@@ -397,6 +569,12 @@ def check(report, program, count=200, seed=1):
         report(f"dagstore: killed at random moments ({killed} in an import)", count, wrong)
         wrong, killed = collect(program, f"{at}/gc.db", count // 4, seed)
         report(f"dagstore: killed at random moments of a gc ({killed} in one)", count // 4, wrong)
+        wrong, killed = collect(program, f"{at}/gc2.db", count // 4, seed, is_stored=True)
+        report(f"dagstore: killed at random moments of a gc of stored roots ({killed} in one)", count // 4, wrong)
+        wrong, killed = add_roots(program, f"{at}/add.db", count // 4, seed)
+        report(f"dagstore: killed at random moments of an add-root ({killed} in one)", count // 4, wrong)
         report("dagstore: a full disk, a second process, a file that may not be written, other bytes", 4, limits(program, f"{at}/b.db", random.Random(seed)))
         report("dagstore: what its words say of a store, whole and changed by hand", 1, words(program, at, random.Random(seed)))
+        report("dagstore: the roots of a store, and what export and gc do of them", 1, roots(program, at, random.Random(seed)))
+        report("dagstore: what a path leads to in a store", 1, paths(program, at, random.Random(seed)))
         report("dagstore: files that are none of ours", 3, foreign(program, at))

@@ -1,5 +1,5 @@
-/* Calls each export for each row of its table: call TABLE SECTIONS TEXTS HEADERS SPANS. Prints the
- * number of rows, or the row that is answered otherwise. */
+/* Calls each export for each row of its table: call TABLE SECTIONS TEXTS HEADERS SPANS PATHS. Prints
+ * the number of rows, or the row that is answered otherwise. */
 #include "dagcbor.h"
 #include <inttypes.h>
 #include <stdbool.h>
@@ -115,6 +115,22 @@ static int is_right_block(char *const field[8]) {
     return memcmp(name, wanted_name, 36) == 0;
 }
 
+/* As far as a path leads, and whether all of it does. Of what is refused the places stay. */
+static int is_right_path(char *const field[6]) {
+    static uint8_t block[MOST], path[MOST];
+    size_t length = from_hex(field[0], block, 0), path_length = from_hex(field[1], path, 0);
+    size_t places[] = {99, 98, 97, 96}, wanted[] = {99, 98, 97, 96}, place = 99, end = 98;
+    const uint8_t *bytes = dagcbor_from(block, length), *text = dagcbor_from(path, path_length);
+    int code = atoi(field[2]);
+    for (int i = 0; i < 3 && code >= 0; i++) wanted[i] = strtoull(field[3 + i], NULL, 10);
+    if (dagcbor_follow(bytes, length, text, path_length, places) != code) return 0;
+    if (memcmp(places, wanted, sizeof wanted) != 0) return 0;
+    if (code >= 0 && wanted[2] < path_length) code = DAGCBOR_NO_SUCH_PATH;
+    if (code < 0) wanted[0] = 99, wanted[1] = 98;
+    if (dagcbor_find(bytes, length, text, path_length, &place, &end) != code) return 0;
+    return place == wanted[0] && end == wanted[1];
+}
+
 /* Where no section begins the bytes, the places stay. */
 static int is_right_section(char *const field[3]) {
     static uint8_t bytes[MOST];
@@ -210,13 +226,14 @@ static int rows_of(const char *name, int words, int is_right(char *const *)) {
 }
 
 int main(int count, char **words) {
-    bool is_whole = count == 6;
+    bool is_whole = count == 7;
     int blocks = is_whole ? rows_of(words[1], 8, is_right_block) : 0;
     int sections = is_whole ? rows_of(words[2], 3, is_right_section) : 0;
     int texts = is_whole ? rows_of(words[3], 4, is_right_text) : 0;
     int headers = is_whole ? rows_of(words[4], 4, is_right_header) : 0;
     int spans = is_whole ? rows_of(words[5], 3, is_right_span) : 0;
-    printf("%d blocks, %d sections, %d texts, %d headers, %d spans\n", blocks, sections, texts,
-           headers, spans);
-    return !blocks || !sections || !texts || !headers || !spans;
+    int paths = is_whole ? rows_of(words[6], 6, is_right_path) : 0;
+    printf("%d blocks, %d sections, %d texts, %d headers, %d spans, %d paths\n", blocks, sections,
+           texts, headers, spans, paths);
+    return !blocks || !sections || !texts || !headers || !spans || !paths;
 }

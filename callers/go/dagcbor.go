@@ -91,6 +91,7 @@ func (err *Error) Unwrap() error {
 }
 
 var reasons = map[C.int32_t][2]string{
+	9:   {"NotRead", "the block is of another codec than DAG-CBOR"},
 	-1:  {"Msg", "a link holds no CID"},
 	-3:  {"Eof", "the bytes end too early"},
 	-4:  {"Mismatch", "a key that is no text, or another tag than that of a link"},

@@ -260,6 +260,26 @@ static napi_value place(napi_env env, napi_callback_info info) {
     return number_of(env, (int64_t)at);
 }
 
+/* follow(block, path): a Float64Array of the kind of the last item to which a front of the path
+ * leads, where it begins and ends, and how many bytes of the path lead there. */
+static napi_value follow(napi_env env, napi_callback_info info) {
+    size_t count = 2, length, path_length, places[3];
+    napi_value given[2];
+    void *numbers;
+    TRY(napi_get_cb_info(env, info, &count, given, NULL, NULL));
+    const uint8_t *block = bytes_in(env, given[0], &length);
+    const uint8_t *path = bytes_in(env, given[1], &path_length);
+    if (!block || !path) return no_bytes(env);
+    int32_t code = dagcbor_follow(block, length, path, path_length, places);
+    if (code < 0) return number_of(env, code);
+    napi_value answer = new_array(env, napi_float64_array, 4, sizeof(double), &numbers);
+    double *told = numbers;
+    if (!answer) return NULL;
+    told[0] = code;
+    for (int i = 0; i < 3; i++) told[1 + i] = (double)places[i];
+    return answer;
+}
+
 /* tape(block): a BigUint64Array of three numbers for each token. */
 static napi_value tape(napi_env env, napi_callback_info info) {
     size_t length, count;
@@ -338,6 +358,7 @@ NAPI_MODULE_INIT() {
         const char *name;
         napi_callback call;
     } all[] = {{"reader", reader}, {"judge", judge}, {"place", place}, {"tape", tape},
+               {"follow", follow},
                {"links", links}, {"name", name}, {"cid_text", cid_text},
                {"cid_from_text", cid_from_text},
                {"car_open", car_open}, {"car_put", car_put}, {"car_go", car_go},

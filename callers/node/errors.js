@@ -4,6 +4,7 @@
 const KINDS = ['null', 'bool', 'integer', 'string', 'bytes', 'list', 'map', 'link'];
 
 const REASONS = {
+  9: ['NotRead', 'the block is of another codec than DAG-CBOR'],
   [-1]: ['Msg', 'no CID'],
   [-3]: ['Eof', 'the bytes end too early'],
   [-4]: ['Mismatch', 'a key that is no text, or another tag than that of a link'],
@@ -19,6 +20,7 @@ const REASONS = {
   [-16]: ['NonMinimal', 'a number or a length in more bytes than it needs'],
   [-17]: ['UnorderedKey', 'a key that does not come behind the one before it'],
   [-22]: ['OtherBytes', 'the bytes are not those that the CID names'],
+  [-23]: ['NotVerified', 'the CID is by another hash function than SHA-256 and the identity'],
   [-26]: ['InvalidCid', 'the bytes are no CID'],
   [-28]: ['UnknownBase', 'the first character of the text names no base that is read here'],
   [-29]: ['TooLong', 'the text is longer than that of any CID'],
@@ -27,6 +29,7 @@ const REASONS = {
   [-32]: ['TrailingBits', 'bits that are not zero stand behind the last byte'],
   [-33]: ['LeadingZero', 'the text begins with a zero byte, as no CID does'],
   [-34]: ['InvalidVersion', 'version 0 has no prefix, and version 1 has one'],
+  [-37]: ['RequireUtf8', 'a path with a surrogate that has no other'],
 };
 
 class DagCborError extends Error {

@@ -43,6 +43,9 @@ export type Refusal =
   | 'LeadingZero'
   | 'InvalidVersion'
   | 'OtherBytes'
+  | 'NotVerified'
+  | 'NotRead'
+  | 'MissingBlock'
   | 'Truncated'
   | 'NoBlock'
   | 'OtherHeader'
@@ -133,6 +136,27 @@ export function check(block: Uint8Array): Kind;
 
 /** The links of the first item, in their order. What follows it is not looked at. */
 export function links(block: Uint8Array): CID[];
+
+/**
+ * The data to which a path as `a/0/b` leads in a block; undefined where it leads nowhere. Segments
+ * stand between slashes, and empty ones say nothing: each is a key of a map, or the index of an item
+ * of a list in decimal. A link is an item, and nothing is in it.
+ */
+export function find<T = Data>(block: Uint8Array, path: string): T | undefined;
+
+/** What holds blocks by their names: a call, or what has `get`, as a `CarReader` or a blockstore. */
+export type Blocks = Get | { get: Get };
+export type Get = (cid: CID) => Held | Promise<Held>;
+export type Held = Uint8Array | { readonly bytes: Uint8Array } | undefined | null;
+
+/**
+ * The data to which the path leads from the block of the CID, over links, as `ipfs dag get`;
+ * undefined where it leads nowhere. Each block on the way is verified, so either answer holds of
+ * whoever has blocks of these names. It is refused where a block on the way is not held
+ * (`MissingBlock`), is of another codec (`NotRead`) or hash function (`NotVerified`), is not the one
+ * that its name says (`OtherBytes`), or no block.
+ */
+export function resolve<T = Data>(get: Blocks, cid: AnyCid, path: string): Promise<T | undefined>;
 
 /** The CID of any bytes as a block: version 1, DAG-CBOR, SHA-256. */
 export function name(block: Uint8Array): CID;

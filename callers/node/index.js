@@ -6,6 +6,7 @@ const { DagCborError, KINDS, answered } = require('./errors.js');
 const { decode, decodeFirst } = require('./decode.js');
 const { encode } = require('./encode.js');
 const cars = require('./car.js');
+const { find, resolve } = require('./paths.js');
 
 // What is said of a block, or its refusal with the place.
 const of = (call) => (block) => answered(call(block), () => native.place(block));
@@ -21,5 +22,6 @@ const { CarReader, CarWriter, checkCar, verify } = cars;
 // Each is named, so that `import` finds it.
 module.exports = {
   CID, CarBlockIterator, CarBufferWriter, CarCIDIterator, CarError, CarIndexer, CarReader,
-  CarWriter, DagCborError, check, checkCar, decode, decodeFirst, encode, links, name, tape, verify,
+  CarWriter, DagCborError, check, checkCar, decode, decodeFirst, encode, find, links, name,
+  resolve, tape, verify,
 };

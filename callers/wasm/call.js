@@ -1,5 +1,5 @@
-// node --experimental-wasm-memory64 call.js dagcbor_ffi.wasm TABLE TEXTS HEADERS SECTIONS SPANS (later
-// versions want no flag). Holds the module against each row of the tables.
+// node --experimental-wasm-memory64 call.js dagcbor_ffi.wasm TABLE TEXTS HEADERS SECTIONS SPANS PATHS
+// (later versions want no flag). Holds the module against each row of the tables.
 'use strict';
 const { readFileSync } = require('fs');
 
@@ -65,6 +65,13 @@ const isRightText = ({ cidText, cidFromText }, [text, code, cid, written]) => {
   return hex(read) === cid && cidText(read) === written && cidText(read.subarray(1)) === -26;
 };
 
+const isRightPath = ({ follow }, [block, path, code, begin, end, passed]) => {
+  const [bytes, text] = [block, path].map((it) => Buffer.from(it === '-' ? '' : it, 'hex'));
+  const found = follow(bytes, text);
+  if (Number(code) < 0) return String(found) === code;
+  return `${found.kind} ${found.begin} ${found.end} ${found.passed}` === `${code} ${begin} ${end} ${passed}`;
+};
+
 const rowsOf = (table) => {
   const lines = readFileSync(table, 'utf8').split('\n');
   return lines.filter((it) => it && !it.startsWith('#')).map((it) => it.split(' '));
@@ -73,7 +80,7 @@ const rowsOf = (table) => {
 const main = async () => {
   const module = await require('./dagcbor.js').load(readFileSync(process.argv[2]));
   const tables = process.argv.slice(3).map(rowsOf);
-  const holds = [isRight, isRightText, isRightHeader, isRightSection, isRightSpan];
+  const holds = [isRight, isRightText, isRightHeader, isRightSection, isRightSpan, isRightPath];
   const wrong = tables.flatMap((rows, i) => rows.filter((it) => !holds[i](module, it)))[0];
   const counts = tables.map((rows) => rows.length);
   console.log(wrong ? `wrong: ${wrong[0]}` : `${counts.join(', ')} rows`);

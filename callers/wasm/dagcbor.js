@@ -1,5 +1,5 @@
 // The WebAssembly module for JavaScript, in Node and in a browser:
-// const { check, tape, tokens, spell, links, name, cidText, cidFromText, carSpan, carHeader,
+// const { check, tape, tokens, follow, spell, links, name, cidText, cidFromText, carSpan, carHeader,
 // carSection, carSections } = await load(module), which is the module's bytes, or a WebAssembly.Module.
 // It imports nothing, and has a 64-bit memory: addresses and lengths are BigInts.
 const PAGE = 65536;
@@ -99,6 +99,17 @@ const judging = (calls, room) => ({
     ask(told.count);
     told.tape = new BigUint64Array(room.copy(out, 24 * told.count).buffer);
     return told;
+  },
+  // The number of a refusal; or the kind of the last item to which a front of the path leads, whose
+  // UTF-8 it is, where the item begins and ends, and how many bytes of the path lead there.
+  follow: (block, path) => {
+    const given = room.put(block, path.length + 1);
+    new Uint8Array(room.memory.buffer).set(path, room.base + FRONT + block.length);
+    const text = [room.address(block.length), BigInt(path.length)];
+    const kind = calls.dagcbor_follow(...given, ...text, room.front);
+    if (kind < 0) return kind;
+    const [begin, end, passed] = [0, 1, 2].map((n) => room.number(n));
+    return { kind, begin, end, passed };
   },
   // The number of a refusal, or CIDs: packed they are shorter than the block.
   links: (block) => {

@@ -3,6 +3,7 @@
 
 import { load } from './dagcbor.js';
 import { readBy } from './cid.js';
+import { followBy } from './paths.js';
 import { fromBase64 } from './text.js';
 
 const moduleBytes = async () => {
@@ -33,10 +34,11 @@ export class Asker {
     this.ready = moduleBytes().then((module) => this.start(module));
   }
 
-  // The worker has the library, and this side has it too, for the texts of CIDs.
+  // The worker has the library, and this side has it too, for the texts of CIDs and for paths.
   async start(module) {
     const [library] = await Promise.all([load(module), this.send('start', { module })]);
     readBy(library);
+    followBy(library);
   }
 
   hear({ number, answer, progress, error }) {

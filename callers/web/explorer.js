@@ -6,13 +6,14 @@ import { counted, grouping, toBase64, toHex } from './text.js';
 import { button, copier, download, make, withAttributes } from './dom.js';
 import { Bytes } from './bytes.js';
 import { linkLine } from './links.js';
+import { itemAt, pathTo } from './paths.js';
 import { Tree } from './tree.js';
 import { refusalOf } from './verdicts.js';
 
 const MOST_SHOWN = 4_000; // characters of a text or byte string that is picked
 const MOST_COPIED = 4 << 20; // bytes, in hexadecimal
 const HOW_TO_POINT = 'Point at an item or a byte to see the one in the other; pick it to see it whole.'
-  + ' Arrow keys move.';
+  + ' Arrow keys move, and P copies its path.';
 
 export class Explorer {
   // `block` has the bytes, and its items where it has a tree; `why` says why it has none.
@@ -33,11 +34,33 @@ export class Explorer {
       pick: (token) => this.pick(token, 'tree'),
       follow: this.follow,
       canFollow: this.canFollow,
+      copyPath: () => this.whole.parentElement.querySelector('.copy-path')?.click(),
     });
     const title = make('h3', this.fault ? 'Tree, to the fault' : 'Tree');
     const unfold = button('Unfold all', () => this.tree.openAll(), '.quiet');
     const fold = button('Fold all', () => this.tree.foldAll(), '.quiet');
-    return make('section.pane', make('div.tools', title, unfold, fold), host);
+    const tools = make('div.tools', title, this.fault ? null : this.pathField(), unfold, fold);
+    return make('section.pane', tools, host);
+  }
+
+  // A field that takes a path.
+  pathField() {
+    const field = withAttributes(make('input.path-field'), {
+      type: 'text', 'aria-label': 'Go to a path', placeholder: 'a/0/b', spellcheck: false, autocomplete: 'off',
+      autocapitalize: 'off',
+    });
+    field.addEventListener('keydown', (event) => {
+      if (event.key === 'Enter') this.goTo(field.value);
+    });
+    return field;
+  }
+
+  goTo(path) {
+    const { token, left, goesOn } = itemAt(this.block, path);
+    this.pick(token, 'tree');
+    if (!left) return;
+    const told = goesOn ? 'It goes on in the block of this link: ' : 'Nothing is there at ';
+    this.what.prepend(make('p.left', told, make('bdi.path', left)));
   }
 
   bytesPane(name) {
@@ -109,9 +132,19 @@ export class Explorer {
       this.what.replaceChildren(title, make('p', make('code.name', name), ' ', asks));
       this.whole.replaceChildren();
     } else {
-      this.what.replaceChildren(title, this.spread(token));
+      this.what.replaceChildren(title, this.spread(token), this.pathLine(token));
       this.whole.replaceChildren(...this.value(token, kind));
     }
+  }
+
+  // Its path, for who asks for it in another place.
+  pathLine(token) {
+    const { items } = this.block;
+    const path = pathTo(items, items.valueOf(token));
+    if (path === null) return make('p.hint', 'No path leads here: a key on the way is empty or has a slash.');
+    const copy = copier('Copy the path', () => path, 'Copy path');
+    copy.classList.add('copy-path');
+    return make('p.hint', 'Path ', make('bdi.path', path || '(empty)'), ' ', copy);
   }
 
   // Where it stands, and of what it is made.

@@ -12,9 +12,10 @@ const LONG_TEXT = 300; // bytes
 const DEEP = 16; // levels: deeper ones are told by their number
 
 export class Tree {
-  // `point` and `pick` are told of tokens, -1 for none; `follow` of a link's.
-  constructor(host, { point, pick, follow, canFollow }) {
-    Object.assign(this, { host, point, pick, follow, canFollow });
+  // `point` and `pick` are told of tokens, -1 for none; `follow` of a link's. `copyPath` copies that of
+  // the picked one.
+  constructor(host, { point, pick, follow, canFollow, copyPath }) {
+    Object.assign(this, { host, point, pick, follow, canFollow, copyPath });
     this.rows = new Rows(host, ITEM_HEIGHT, (row) => this.draw(row));
     this.visible = [];
     this.picked = -1;
@@ -257,7 +258,8 @@ export class Tree {
       const cid = this.items.payload(token);
       if (this.items.kind(token) === LINK && this.canFollow(cid)) this.follow(cid);
       else this.toggle(token);
-    } else return;
+    } else if (event.key === 'p') this.copyPath();
+    else return;
     event.preventDefault();
   }
 }

@@ -667,26 +667,62 @@ static PyObject *check(PyObject *module, PyObject *given) {
     return kind;
 }
 
+/* The bytes of a part of a block as data. */
+static PyObject *part_of(State *state, PyObject *block, size_t begin, size_t end) {
+    PyObject *part = PyBytes_FromStringAndSize((const char *)bytes_of(block) + begin,
+                                               (Py_ssize_t)(end - begin));
+    PyObject *value = part ? loads_bytes(state, part) : NULL;
+    Py_XDECREF(part);
+    return value;
+}
+
+/* The block and the path that a call is given: the block, and the path's text, which is `path`'s. */
+static PyObject *block_and_path(PyObject *args, PyObject **path, const char **text,
+                                Py_ssize_t *length) {
+    PyObject *given;
+    if (!PyArg_ParseTuple(args, "OU", &given, path)) return NULL;
+    *text = PyUnicode_AsUTF8AndSize(*path, length);
+    return *text ? to_bytes(given) : NULL;
+}
+
 /* The data to which a path leads in a block. */
 static PyObject *find(PyObject *module, PyObject *args) {
-    PyObject *given, *path, *value = NULL;
-    if (!PyArg_ParseTuple(args, "OU:find", &given, &path)) return NULL;
+    State *state = PyModule_GetState(module);
+    PyObject *path, *value = NULL;
+    const char *text;
     Py_ssize_t length;
-    const char *text = PyUnicode_AsUTF8AndSize(path, &length);
-    PyObject *block = text ? to_bytes(given) : NULL;
-    if (!block) return NULL;
     size_t place, end;
+    PyObject *block = block_and_path(args, &path, &text, &length);
+    if (!block) return NULL;
     int32_t code = dagcbor_find(bytes_of(block), length_of(block), (const uint8_t *)text,
                                 (size_t)length, &place, &end);
-    if (code >= 0) {
-        PyObject *part = PyBytes_FromStringAndSize((const char *)bytes_of(block) + place,
-                                                   (Py_ssize_t)(end - place));
-        value = part ? loads_bytes(PyModule_GetState(module), part) : NULL;
-        Py_XDECREF(part);
-    } else if (code == DAGCBOR_NO_SUCH_PATH) PyErr_SetObject(PyExc_KeyError, path);
-    else refuse_block(PyModule_GetState(module), code, block);
+    if (code >= 0) value = part_of(state, block, place, end);
+    else if (code == DAGCBOR_NO_SUCH_PATH) PyErr_SetObject(PyExc_KeyError, path);
+    else refuse_block(state, code, block);
     Py_DECREF(block);
     return value;
+}
+
+/* The data and the path that is left, as far as a path leads in a block; None for the data where it
+ * goes on nowhere. */
+static PyObject *follow(PyObject *module, PyObject *args) {
+    State *state = PyModule_GetState(module);
+    PyObject *path, *answer = NULL;
+    const char *text;
+    Py_ssize_t length;
+    size_t places[3];
+    PyObject *block = block_and_path(args, &path, &text, &length);
+    if (!block) return NULL;
+    int32_t code = dagcbor_follow(bytes_of(block), length_of(block), (const uint8_t *)text,
+                                  (size_t)length, places);
+    if (code >= 0) {
+        Py_ssize_t left = length - (Py_ssize_t)places[2];
+        bool goes_on = left == 0 || code == DAGCBOR_LINK;
+        PyObject *value = goes_on ? part_of(state, block, places[0], places[1]) : Py_NewRef(Py_None);
+        if (value) answer = Py_BuildValue("NNs#", value, PyBool_FromLong(goes_on), text + places[2], left);
+    } else refuse_block(state, code, block);
+    Py_DECREF(block);
+    return answer;
 }
 
 PyObject *unpack(State *state, const uint8_t *packed, size_t length) {
@@ -758,6 +794,8 @@ static PyMethodDef methods[] = {
     {"check", check, METH_O, "check(block): the kind of a block."},
     {"find", find, METH_VARARGS,
      "find(block, path): the data to which a path as a/0/b leads in a block; else a KeyError."},
+    {"follow", follow, METH_VARARGS,
+     "The data, whether the path leads to it or goes on at it, and the path that is left."},
     {"links", links, METH_O,
      "links(block): the links of the first item, in their order. What follows it is not looked "
      "at."},

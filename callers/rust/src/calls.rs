@@ -40,6 +40,13 @@ extern "C" {
         room: usize,
         needed: *mut usize,
     ) -> i32;
+    fn dagcbor_follow(
+        block: *const u8,
+        length: usize,
+        path: *const u8,
+        path_length: usize,
+        places: *mut [usize; 3],
+    ) -> i32;
     fn dagcbor_name(bytes: *const u8, length: usize, out: *mut [u8; 36]);
     fn dagcbor_car_span(bytes: *const u8, length: usize, places: *mut [u64; 2]) -> i32;
     fn dagcbor_car_header(
@@ -115,6 +122,20 @@ pub fn name(block: &[u8]) -> Cid {
     // SAFETY: see above.
     unsafe { dagcbor_name(block.as_ptr(), block.len(), &mut out) };
     Cid::held(&out)
+}
+
+/// The kind of the last item to which a front of the path leads; where it begins and ends, and how
+/// many bytes of the path lead there.
+pub(crate) fn put_followed(
+    block: &[u8],
+    path: &str,
+    places: &mut [usize; 3],
+) -> Result<Kind, Refused> {
+    // SAFETY: see above.
+    let code = unsafe {
+        dagcbor_follow(block.as_ptr(), block.len(), path.as_ptr(), path.len(), places)
+    };
+    answer_of(code, 0).map_err(|refusal| refusal.at(place_in(block)))
 }
 
 /// What the library answers of the front of a file of blocks.

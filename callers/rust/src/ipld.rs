@@ -38,19 +38,26 @@ pub enum Ipld {
 }
 
 impl Ipld {
-    /// What stands at the end of a path: keys of maps and indices of lists, with `/` between. No
-    /// step is taken by a key with a `/` in it; the empty path is the data itself.
+    /// What stands at the end of a path, as of [`find`](crate::find): keys of maps and indices of
+    /// lists, with `/` between. What is empty there is no step, and none is taken by a key with a
+    /// `/` in it; the empty path is the data itself.
     pub fn get(&self, path: &str) -> Option<&Ipld> {
         let mut found = self;
-        for step in path.split('/').filter(|_| !path.is_empty()) {
+        for step in path.split('/').filter(|it| !it.is_empty()) {
             found = match found {
                 Ipld::Map(map) => map.get(step)?,
-                Ipld::List(list) => list.get(step.parse::<usize>().ok()?)?,
+                Ipld::List(list) => list.get(index_of(step)?)?,
                 _ => return None,
             };
         }
         Some(found)
     }
+}
+
+/// The index that the step is, in decimal without a sign and without zeros in front.
+fn index_of(step: &str) -> Option<usize> {
+    let is_plain = step.bytes().all(|it| it.is_ascii_digit()) && (step == "0" || !step.starts_with('0'));
+    is_plain.then(|| step.parse().ok())?
 }
 
 /// What the data is, where it is that; and the data of what there is.

@@ -35,6 +35,7 @@ mod calls;
 mod car;
 mod cid;
 mod item;
+mod paths;
 
 #[cfg(feature = "serde")]
 mod de;
@@ -64,6 +65,9 @@ pub use error::Error;
 #[cfg(feature = "serde")]
 pub use ipld::Ipld;
 pub use item::{Cids, Item, Items, Token};
+pub use paths::find;
+#[cfg(feature = "alloc")]
+pub use paths::{resolve, Unresolved};
 #[cfg(feature = "serde")]
 pub use ser::to_vec;
 #[cfg(all(feature = "serde", feature = "std"))]

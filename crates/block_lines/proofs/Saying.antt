@@ -1,8 +1,9 @@
 -- How a line goes out.
-use Rattle.std.proofs.Common.{◌≡◌, inl, inr, ℕ, List, [], ◌++◌, Bool, refl, sym, ap, ◌∙◌, subst, append-nil, Option, Result, Ok, Err, OnOk, IsErrAnd}
+use Rattle.std.proofs.Common.{◌≡◌, inl, inr, ℕ, List, [], ◌∷◌, ◌++◌, Bool, true, ◌&&◌, refl, sym, ap, ◌∙◌, subst, append_assoc, append-nil, Option, Result, Ok, Err, OnOk, IsErrAnd}
+use Rattle.std.proofs.Math.Bool.{and-true, and_assoc}
 use Rattle.std.specs.Io.KnownBytes.{Appends}
 use Rattle.std.proofs.KnownBytes.{Appends-nil}
-use Rattle.block_lines.specs.Lines.{Says, SaysBoth, SaysLines}
+use Rattle.block_lines.specs.Lines.{IsSaidOfEach, Says, SaysBoth, SaysLines}
 use Rattle.dagcbor_cli.specs.declared.fault.ToolError.{ToolError}
 use Rattle.dagcbor_cli.specs.declared.fault.ToolError.TheVariants.{Output}
 
@@ -36,3 +37,24 @@ first_broken lines text bytes well old heard (Err e) new x same is fault k =
 pub known_anyway : {A E X : Type 0} (r : Result A E) → X → OnOk r X
 known_anyway (Ok v) x = x
 known_anyway (Err e) x = tt
+
+-- ---- each, one behind the other
+
+-- one more
+pub each_push : {X : Type 0} (IsSaid : X → Bool → List ℕ → Type 0) (xs : List X) (x : X) (all well : Bool) (lines line : List ℕ) → IsSaidOfEach IsSaid xs all lines → IsSaid x well line → IsSaidOfEach IsSaid (xs ++ x ∷ []) (all && well) (lines ++ line)
+each_push IsSaid [] x all well lines line h is = (well, true, line, [], is, (refl, refl), ap (λ b. b && well) h.0 ∙ sym (and-true well), ap (λ y. y ++ line) h.1 ∙ sym (append-nil line))
+each_push IsSaid (y ∷ xs) x all well lines line h is = (
+  h.0,
+  h.1 && well,
+  h.2,
+  h.3 ++ line,
+  h.4,
+  each_push IsSaid xs x h.1 well h.3 line h.5 is,
+  ap (λ b. b && well) h.6 ∙ and_assoc h.0 h.1 well,
+  ap (λ z. z ++ line) h.7 ∙ append_assoc h.2 h.3 line,
+)
+
+-- what is said of each, in other words
+pub each_map : {X : Type 0} (P Q : X → Bool → List ℕ → Type 0) (xs : List X) (well : Bool) (out : List ℕ) → ((x : X) (w : Bool) (t : List ℕ) → P x w t → Q x w t) → IsSaidOfEach P xs well out → IsSaidOfEach Q xs well out
+each_map P Q [] well out f h = h
+each_map P Q (x ∷ xs) well out f h = (h.0, h.1, h.2, h.3, f x h.0 h.2 h.4, each_map P Q xs h.1 h.3 f h.5, h.6, h.7)

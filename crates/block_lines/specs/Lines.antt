@@ -1,5 +1,5 @@
 -- The lines that programs write of files and blocks, and how a line goes out.
-use Rattle.std.specs.Prelude.{◌≡◌, ◌⊎◌, ℕ, List, [], ◌∷◌, ◌++◌, length, codes, Bool, true, false, Option, Result, MatchResult, decimal}
+use Rattle.std.specs.Prelude.{◌≡◌, ◌⊎◌, ℕ, List, [], ◌∷◌, ◌++◌, length, codes, Bool, true, false, ◌&&◌, Option, Result, MatchResult, decimal}
 use Rattle.std.specs.Io.KnownBytes.{Appends}
 use Rattle.cid_text.specs.Texts.{text_of_form, cid_text}
 use Rattle.dagcbor_car.specs.Car.{Section}
@@ -60,6 +60,13 @@ refused_line e = line (codes "refused " ++ fault_name e)
 -- of a text that is none of a CID, where one should stand
 abbrev pub no_cid_line : CidTextError → List ℕ
 no_cid_line e = line (codes "no CID: " ++ cid_fault_name e)
+
+-- what is said of each, one behind the other, and whether all of it tells of nothing wrong
+abbrev pub IsSaidOfEach : {X : Type 0} → (X → Bool → List ℕ → Type 0) → List X → Bool → List ℕ → Type 0
+IsSaidOfEach IsSaid [] well out = (well ≡ true) × (out ≡ [])
+IsSaidOfEach IsSaid (x ∷ xs) well out = (first others : Bool) × (line lines : List ℕ)
+    × IsSaid x first line × IsSaidOfEach IsSaid xs others lines
+    × (well ≡ (first && others)) × (out ≡ line ++ lines)
 
 -- nothing more went out; or the device failed, and of one of these lines a front did
 abbrev pub BreaksLine : (List ℕ → Type 0) → Option (List ℕ) → Option (List ℕ) → ToolError → Type 0

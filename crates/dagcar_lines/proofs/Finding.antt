@@ -208,8 +208,3 @@ module _ (stored : Stored) (root : CidParts) (found names lost : List CidParts) 
   told_broken old heard new after (Ok w) e is out h k = absurd is
   told_broken old heard new after (Err x) e is out h k =
       inr (well, h.0, [], k.0, k.1, subst (IsTreeOf stored root well (h.0 ++ [])) k.2 (is_tree (h.0 ++ []) (subst (IsTreeFile stored root names) (sym (append-nil h.0)) h.1)), is ∙ out, h.2, k.3)
-
-pub both_of : (P Q : Bool → List ℕ → List ℕ → Type 0) (old heard : Option (List ℕ)) (r : Result Bool ToolError) (new after : Option (List ℕ)) → ((well : Bool) (said told : List ℕ) → P well said told → Q well said told) → SaysBoth P old heard r new after → SaysBoth Q old heard r new after
-both_of P Q old heard (Ok w) new after f k = (k.0, k.1, f w k.0 k.1 k.2, k.3, k.4)
-both_of P Q old heard (Err e) new after f (inl none) = inl none
-both_of P Q old heard (Err e) new after f (inr k) = inr (k.0, k.1, k.2, k.3, k.4, f k.0 (k.1 ++ k.2) (k.3 ++ k.4) k.5, k.6, k.7, k.8)

@@ -2,5 +2,6 @@ pub mod Saying
 pub mod Summing
 pub mod Running
 pub mod Ending
+pub mod Proving
 pub mod Taking
 pub mod Finding

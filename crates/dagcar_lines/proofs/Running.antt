@@ -7,7 +7,7 @@ use Rattle.std.proofs.Math.Seq.{take-length}
 use Rattle.std.proofs.lemmas.Slice.Eq.{bytes_eq-Decides}
 use Rattle.ipld_tree.specs.Cid.{CidParts}
 use Rattle.cid_text.specs.Texts.{IsTextOf, TextsTellCids}
-use Rattle.dagcar_lines.specs.Commands.{command_name, name_part, path_part, IsWordOf, IsCommand, IsCommandOn}
+use Rattle.dagcar_lines.specs.Commands.{command_name, name_part, path_part, IsWordOf, IsRootOf, IsCommand, IsCommandOn}
 use Rattle.dagcar_lines.specs.declared.command.Command.{Command}
 use Rattle.dagcar_lines.specs.declared.command.Command.TheVariants as commands
 
@@ -34,6 +34,8 @@ abbrev IsPlain : Command → Type 0
 IsPlain (commands.Get name) = ⊥
 IsPlain (commands.Tree name) = ⊥
 IsPlain (commands.At name) = ⊥
+IsPlain (commands.Raw name) = ⊥
+IsPlain (commands.Prove name) = ⊥
 IsPlain commands.Summary = ⊥
 IsPlain _ = ⊤
 
@@ -50,99 +52,117 @@ by_name commands.Make p = refl
 by_name (commands.Get name) p = absurd p
 by_name (commands.Tree name) p = absurd p
 by_name (commands.At name) p = absurd p
+by_name (commands.Raw name) p = absurd p
+by_name (commands.Prove name) p = absurd p
 by_name commands.Summary p = absurd p
 
 same_name : TextsTellCids → (words : List (List ℕ)) (word other : List ℕ) (n m : CidParts) → IsWordOf words word n → IsWordOf words other m → n ≡ m
 same_name law words word other n m h k = law h.0 n m h.2 (subst (λ t. IsTextOf t m) (ap (λ ws. get_or ws 1 []) (sym k.1 ∙ h.1)) k.2)
 
-other_words : (words : List (List ℕ)) (word text other : List ℕ) → words ≡ word ∷ text ∷ [] → words ≡ other ∷ [] → ⊥
-other_words words word text other h k = let clash : 2 ≡ 1 = ap length (sym h ∙ k) in absurd (cc clash)
-
-other_letter : (words : List (List ℕ)) (word text other more : List ℕ) → words ≡ word ∷ text ∷ [] → words ≡ other ∷ more ∷ [] → get_or word 0 0 ≢ get_or other 0 0 → ⊥
-other_letter words word text other more h k differ = differ (ap first_letter (sym h ∙ k))
-
 -- a name before a path
-same_root : TextsTellCids → (words : List (List ℕ)) (n m : CidParts) → IsCommand words (commands.At n) → IsCommand words (commands.At m) → n ≡ m
-same_root law words n m h k = law (name_part h.0) n m h.2 (subst (λ t. IsTextOf (name_part t) m) (ap (λ ws. get_or ws 1 []) (sym k.1 ∙ h.1)) k.2)
+same_root : TextsTellCids → (words : List (List ℕ)) (word : List ℕ) (n m : CidParts) → IsRootOf words word n → IsRootOf words word m → n ≡ m
+same_root law words word n m h k = law (name_part h.0) n m h.2 (subst (λ t. IsTextOf (name_part t) m) (ap (λ ws. get_or ws 1 []) (sym k.1 ∙ h.1)) k.2)
+
+same_raw : TextsTellCids → (words : List (List ℕ)) (n m : CidParts) → IsCommand words (commands.Raw n) → IsCommand words (commands.Raw m) → n ≡ m
+same_raw law words n m h k = law (name_part h.0) n m h.2 (subst (λ t. IsTextOf (name_part t) m) (ap (λ ws. get_or ws 2 []) (sym k.1 ∙ h.1)) k.2)
+
+-- how many words a command has, and the letter with which the first of them begins
+abbrev count_of : Command → ℕ
+count_of (commands.Get name) = 2
+count_of (commands.Tree name) = 2
+count_of (commands.At name) = 2
+count_of (commands.Prove name) = 2
+count_of (commands.Raw name) = 3
+count_of commands.Summary = 2
+count_of _ = 1
+
+abbrev letter_of : Command → ℕ
+letter_of c = get_or (command_name c) 0 0
+
+counted : (words : List (List ℕ)) (c : Command) → IsCommand words c → (length words ≡ count_of c) × (first_letter words ≡ letter_of c)
+counted words (commands.Get name) h = (ap length h.1, ap first_letter h.1)
+counted words (commands.Tree name) h = (ap length h.1, ap first_letter h.1)
+counted words (commands.At name) h = (ap length h.1, ap first_letter h.1)
+counted words (commands.Prove name) h = (ap length h.1, ap first_letter h.1)
+counted words (commands.Raw name) h = (ap length h.1, ap first_letter h.1)
+counted words commands.Summary h = (ap length h, ap first_letter h)
+counted words c h = (ap length h, ap first_letter h)
+
+-- two commands of one text have as many words and one letter
+abbrev Differ : Command → Command → Type 0
+Differ c d = (count_of c ≡ count_of d) → (letter_of c ≡ letter_of d) → ⊥
+
+never_both : (words : List (List ℕ)) (c d : Command) → Differ c d → IsCommand words c → IsCommand words d → ⊥
+never_both words c d differ h k =
+    let a = counted words c h in
+    let b = counted words d k in
+    differ (sym a.0 ∙ b.0) (sym a.1 ∙ b.1)
 
 -- words name one command at most
 pub same_command : TextsTellCids → (words : List (List ℕ)) (c d : Command) → IsCommand words c → IsCommand words d → c ≡ d
 same_command law words (commands.Get n) (commands.Get m) h k = ap commands.Get (same_name law words (codes "get") (codes "get") n m h k)
 same_command law words (commands.Tree n) (commands.Tree m) h k = ap commands.Tree (same_name law words (codes "tree") (codes "tree") n m h k)
-same_command law words (commands.At n) (commands.At m) h k = ap commands.At (same_root law words n m h k)
-same_command law words (commands.Get n) (commands.Tree m) h k = absurd (other_letter words (codes "get") h.0 (codes "tree") k.0 h.1 k.1 (λ e. cc))
-same_command law words (commands.Tree n) (commands.Get m) h k = absurd (other_letter words (codes "tree") h.0 (codes "get") k.0 h.1 k.1 (λ e. cc))
-same_command law words (commands.Get n) (commands.At m) h k = absurd (other_letter words (codes "get") h.0 (codes "at") k.0 h.1 k.1 (λ e. cc))
-same_command law words (commands.At n) (commands.Get m) h k = absurd (other_letter words (codes "at") h.0 (codes "get") k.0 h.1 k.1 (λ e. cc))
-same_command law words (commands.Tree n) (commands.At m) h k = absurd (other_letter words (codes "tree") h.0 (codes "at") k.0 h.1 k.1 (λ e. cc))
-same_command law words (commands.At n) (commands.Tree m) h k = absurd (other_letter words (codes "at") h.0 (codes "tree") k.0 h.1 k.1 (λ e. cc))
+same_command law words (commands.At n) (commands.At m) h k = ap commands.At (same_root law words (codes "at") n m h k)
+same_command law words (commands.Prove n) (commands.Prove m) h k = ap commands.Prove (same_root law words (codes "prove") n m h k)
+same_command law words (commands.Raw n) (commands.Raw m) h k = ap commands.Raw (same_raw law words n m h k)
 same_command law words commands.Summary commands.Summary h k = refl
-same_command law words commands.Summary (commands.Get n) h k = absurd (other_letter words (codes "check") (codes "--summary") (codes "get") k.0 h k.1 (λ e. cc))
-same_command law words commands.Summary (commands.Tree n) h k = absurd (other_letter words (codes "check") (codes "--summary") (codes "tree") k.0 h k.1 (λ e. cc))
-same_command law words commands.Summary (commands.At n) h k = absurd (other_letter words (codes "check") (codes "--summary") (codes "at") k.0 h k.1 (λ e. cc))
-same_command law words (commands.Get n) commands.Summary h k = absurd (other_letter words (codes "get") h.0 (codes "check") (codes "--summary") h.1 k (λ e. cc))
-same_command law words (commands.Tree n) commands.Summary h k = absurd (other_letter words (codes "tree") h.0 (codes "check") (codes "--summary") h.1 k (λ e. cc))
-same_command law words (commands.At n) commands.Summary h k = absurd (other_letter words (codes "at") h.0 (codes "check") (codes "--summary") h.1 k (λ e. cc))
-same_command law words (commands.Get n) d h k = absurd (other_words words (codes "get") h.0 (command_name d) h.1 k)
-same_command law words (commands.Tree n) d h k = absurd (other_words words (codes "tree") h.0 (command_name d) h.1 k)
-same_command law words (commands.At n) d h k = absurd (other_words words (codes "at") h.0 (command_name d) h.1 k)
-same_command law words commands.Summary d h k = absurd (other_words words (codes "check") (codes "--summary") (command_name d) h k)
-same_command law words c commands.Summary h k = absurd (other_words words (codes "check") (codes "--summary") (command_name c) k h)
-same_command law words c (commands.At m) h k = absurd (other_words words (codes "at") k.0 (command_name c) k.1 h)
-same_command law words c (commands.Get m) h k = absurd (other_words words (codes "get") k.0 (command_name c) k.1 h)
-same_command law words c (commands.Tree m) h k = absurd (other_words words (codes "tree") k.0 (command_name c) k.1 h)
+same_command law words (commands.Get n) d h k = absurd (never_both words (commands.Get n) d (λ e f. omega (arith, e, f)) h k)
+same_command law words (commands.Tree n) d h k = absurd (never_both words (commands.Tree n) d (λ e f. omega (arith, e, f)) h k)
+same_command law words (commands.At n) d h k = absurd (never_both words (commands.At n) d (λ e f. omega (arith, e, f)) h k)
+same_command law words (commands.Prove n) d h k = absurd (never_both words (commands.Prove n) d (λ e f. omega (arith, e, f)) h k)
+same_command law words (commands.Raw n) d h k = absurd (never_both words (commands.Raw n) d (λ e f. omega (arith, e, f)) h k)
+same_command law words commands.Summary d h k = absurd (never_both words commands.Summary d (λ e f. omega (arith, e, f)) h k)
+same_command law words c (commands.Get m) h k = absurd (never_both words c (commands.Get m) (λ e f. omega (arith, e, f)) h k)
+same_command law words c (commands.Tree m) h k = absurd (never_both words c (commands.Tree m) (λ e f. omega (arith, e, f)) h k)
+same_command law words c (commands.At m) h k = absurd (never_both words c (commands.At m) (λ e f. omega (arith, e, f)) h k)
+same_command law words c (commands.Prove m) h k = absurd (never_both words c (commands.Prove m) (λ e f. omega (arith, e, f)) h k)
+same_command law words c (commands.Raw m) h k = absurd (never_both words c (commands.Raw m) (λ e f. omega (arith, e, f)) h k)
+same_command law words c commands.Summary h k = absurd (never_both words c commands.Summary (λ e f. omega (arith, e, f)) h k)
 same_command law words c d h k = sym (by_name c tt) ∙ ap by_words (sym h ∙ k) ∙ by_name d tt
 
 -- ---- which words are none
 
 -- a word and a text
-pub no_word : (word text : List ℕ) → word ≢ codes "at" → word ≢ codes "check" → ((n : CidParts) → ((word ≡ codes "get") ⊎ (word ≡ codes "tree")) → IsTextOf text n → ⊥) → (c : Command) → IsCommand (word ∷ text ∷ []) c → ⊥
-no_word word text no_at no_check other (commands.Get n) h = other n (inl (ap (λ ws. get_or ws 0 []) h.1)) (subst (λ t. IsTextOf t n) (sym (ap (λ ws. get_or ws 1 []) h.1)) h.2)
-no_word word text no_at no_check other (commands.Tree n) h = other n (inr (ap (λ ws. get_or ws 0 []) h.1)) (subst (λ t. IsTextOf t n) (sym (ap (λ ws. get_or ws 1 []) h.1)) h.2)
-no_word word text no_at no_check other (commands.At n) h = no_at (ap (λ ws. get_or ws 0 []) h.1)
-no_word word text no_at no_check other commands.Summary h = no_check (ap (λ ws. get_or ws 0 []) h)
-no_word word text no_at no_check other c h = other_words (word ∷ text ∷ []) word text (command_name c) refl h
+pub no_word : (word text : List ℕ) → word ≢ codes "at" → word ≢ codes "prove" → word ≢ codes "check" → ((n : CidParts) → ((word ≡ codes "get") ⊎ (word ≡ codes "tree")) → IsTextOf text n → ⊥) → (c : Command) → IsCommand (word ∷ text ∷ []) c → ⊥
+no_word word text no_at no_prove no_check other (commands.Get n) h = other n (inl (ap (λ ws. get_or ws 0 []) h.1)) (subst (λ t. IsTextOf t n) (sym (ap (λ ws. get_or ws 1 []) h.1)) h.2)
+no_word word text no_at no_prove no_check other (commands.Tree n) h = other n (inr (ap (λ ws. get_or ws 0 []) h.1)) (subst (λ t. IsTextOf t n) (sym (ap (λ ws. get_or ws 1 []) h.1)) h.2)
+no_word word text no_at no_prove no_check other (commands.At n) h = no_at (ap (λ ws. get_or ws 0 []) h.1)
+no_word word text no_at no_prove no_check other (commands.Prove n) h = no_prove (ap (λ ws. get_or ws 0 []) h.1)
+no_word word text no_at no_prove no_check other commands.Summary h = no_check (ap (λ ws. get_or ws 0 []) h)
+no_word word text no_at no_prove no_check other c h = let two = (counted (word ∷ text ∷ []) c h).0 in absurd (omega (arith, two))
 
 pub word_on : (word text : List ℕ) (n : CidParts) (c : Command) → IsTextOf text n → IsCommandOn word n c → IsCommand (word ∷ text ∷ []) c
 word_on word text n c is (inl k) = subst (IsCommand (word ∷ text ∷ [])) (sym k.1) (text, ap (λ w. w ∷ text ∷ []) k.0, is)
 word_on word text n c is (inr k) = subst (IsCommand (word ∷ text ∷ [])) (sym k.1) (text, ap (λ w. w ∷ text ∷ []) k.0, is)
 
+-- the command that words are, if they are one
+abbrev pub IsCommandOf : List (List ℕ) → Option Command → Type 0
+IsCommandOf words o = MatchOption o ((c : Command) → IsCommand words c → ⊥) (λ c. IsCommand words c)
+
 -- what a word and a text are
-pub words_on : (word text : List ℕ) (n : CidParts) (o : Option Command) → word ≢ codes "at" → word ≢ codes "check" → IsTextOf text n → MatchOption o ((word ≢ codes "get") × (word ≢ codes "tree")) (IsCommandOn word n) → MatchOption o ((c : Command) → IsCommand (word ∷ text ∷ []) c → ⊥) (λ c. IsCommand (word ∷ text ∷ []) c)
-words_on word text n None no_at no_check is h = no_word word text no_at no_check (λ m w t. elim w [ inl g ↦ h.0 g | inr r ↦ h.1 r ])
-words_on word text n (Some c) no_at no_check is h = word_on word text n c is h
+pub words_on : (word text : List ℕ) (n : CidParts) (o : Option Command) → word ≢ codes "at" → word ≢ codes "prove" → word ≢ codes "check" → IsTextOf text n → MatchOption o ((word ≢ codes "get") × (word ≢ codes "tree")) (IsCommandOn word n) → IsCommandOf (word ∷ text ∷ []) o
+words_on word text n None no_at no_prove no_check is h = no_word word text no_at no_prove no_check (λ m w t. elim w [ inl g ↦ h.0 g | inr r ↦ h.1 r ])
+words_on word text n (Some c) no_at no_prove no_check is h = word_on word text n c is h
 
 -- the word `at` and a text
-not_at : (text word : List ℕ) (more : List (List ℕ)) → codes "at" ∷ text ∷ [] ≡ word ∷ more → get_or word 0 0 ≢ 97 → ⊥
-not_at text word more is other = other (sym (ap first_letter is))
+pub at_root : (word text : List ℕ) (n : CidParts) → word ≡ codes "at" → IsTextOf (name_part text) n → IsCommand (word ∷ text ∷ []) (commands.At n)
+at_root word text n at is = (text, ap (λ w. w ∷ text ∷ []) at, is)
 
-pub words_at : (word text : List ℕ) (o : Option Command) → word ≡ codes "at" → MatchOption o ((n : CidParts) → ¬ IsTextOf (name_part text) n) (λ c. (n : CidParts) × (c ≡ commands.At n) × IsTextOf (name_part text) n)
-    → MatchOption o ((c : Command) → IsCommand (word ∷ text ∷ []) c → ⊥) (λ c. IsCommand (word ∷ text ∷ []) c)
-words_at word text (Some c) at h = subst (IsCommand (word ∷ text ∷ [])) (sym h.1) (text, ap (λ w. w ∷ text ∷ []) at, h.2)
-words_at word text None at h = none
-  where
-    none : (c : Command) → IsCommand (word ∷ text ∷ []) c → ⊥
-    none (commands.At n) k = h n (subst (λ t. IsTextOf (name_part t) n) (sym (ap (λ ws. get_or ws 1 []) k.1)) k.2)
-    none (commands.Get n) k = not_at text (codes "get") (k.0 ∷ []) (ap (λ w. w ∷ text ∷ []) (sym at) ∙ k.1) (λ e. cc)
-    none (commands.Tree n) k = not_at text (codes "tree") (k.0 ∷ []) (ap (λ w. w ∷ text ∷ []) (sym at) ∙ k.1) (λ e. cc)
-    none commands.Summary k = not_at text (codes "check") (codes "--summary" ∷ []) (ap (λ w. w ∷ text ∷ []) (sym at) ∙ k) (λ e. cc)
-    none c k = other_words (word ∷ text ∷ []) word text (command_name c) refl k
+-- the word `prove` and a text
+pub prove_root : (word text : List ℕ) (n : CidParts) → word ≡ codes "prove" → IsTextOf (name_part text) n → IsCommand (word ∷ text ∷ []) (commands.Prove n)
+prove_root word text n prove is = (text, ap (λ w. w ∷ text ∷ []) prove, is)
 
 -- the word `check` and an option
-pub check_words : (word text : List ℕ) (o : Option Command) → word ≡ codes "check" → MatchOption o (text ≢ codes "--summary") (λ c. (c ≡ commands.Summary) × (text ≡ codes "--summary"))
-    → MatchOption o ((c : Command) → IsCommand (word ∷ text ∷ []) c → ⊥) (λ c. IsCommand (word ∷ text ∷ []) c)
+pub check_words : (word text : List ℕ) (o : Option Command) → word ≡ codes "check" → MatchOption o (text ≢ codes "--summary") (λ c. (c ≡ commands.Summary) × (text ≡ codes "--summary")) → IsCommandOf (word ∷ text ∷ []) o
 check_words word text (Some c) is h = subst (IsCommand (word ∷ text ∷ [])) (sym h.0) (ap₂ (λ w t. w ∷ t ∷ []) is h.1)
 check_words word text None is h = none
   where
-    first : (other more : List ℕ) → word ∷ text ∷ [] ≡ other ∷ more ∷ [] → get_or other 0 0 ≢ 99 → ⊥
-    first other more k differ = differ (sym (ap first_letter k) ∙ ap (λ w. get_or w 0 0) is)
-
     none : (c : Command) → IsCommand (word ∷ text ∷ []) c → ⊥
-    none (commands.At n) k = first (codes "at") k.0 k.1 (λ e. cc)
-    none (commands.Get n) k = first (codes "get") k.0 k.1 (λ e. cc)
-    none (commands.Tree n) k = first (codes "tree") k.0 k.1 (λ e. cc)
     none commands.Summary k = h (ap (λ ws. get_or ws 1 []) k)
-    none c k = other_words (word ∷ text ∷ []) word text (command_name c) refl k
+    none c k =
+        let a = counted (word ∷ text ∷ []) c k in
+        let letter : get_or word 0 0 ≡ 99 = ap (λ w. get_or w 0 0) is in
+        omega (arith, a.0, a.1, letter)
 
 pub is_word : (name word : List ℕ) (t : Bool) → t ≡ bytes_eq word name → t ≡ true → word ≡ name
 is_word name word t e h = (bytes_eq-Decides word name).0 (sym e ∙ h)
@@ -168,3 +188,11 @@ two_words f [] a b word text least most p q v w = absurd (omega arith)
 two_words f (x ∷ []) a b word text least most p q v w = absurd (omega arith)
 two_words f (x ∷ y ∷ []) a b word text least most p q v w = ap₂ (λ s t. s ∷ t ∷ []) (sym (v ∙ ap f p)) (sym (w ∙ ap f q))
 two_words f (x ∷ y ∷ z ∷ xs) a b word text least most p q v w = absurd (omega arith)
+
+-- and of three
+pub three_words : {X : Type 0} (f : X → List ℕ) (xs : List X) (a b c : X) (word option text : List ℕ) → 3 ≤ length xs → length xs < 4 → a ≡ get_or xs 0 a → b ≡ get_or xs 1 b → c ≡ get_or xs 2 c → word ≡ f a → option ≡ f b → text ≡ f c → map f xs ≡ word ∷ option ∷ text ∷ []
+three_words f [] a b c word option text least most p q r u v w = absurd (omega arith)
+three_words f (x ∷ []) a b c word option text least most p q r u v w = absurd (omega arith)
+three_words f (x ∷ y ∷ []) a b c word option text least most p q r u v w = absurd (omega arith)
+three_words f (x ∷ y ∷ z ∷ []) a b c word option text least most p q r u v w = λ i. sym (u ∙ ap f p) i ∷ sym (v ∙ ap f q) i ∷ sym (w ∙ ap f r) i ∷ []
+three_words f (x ∷ y ∷ z ∷ t ∷ xs) a b c word option text least most p q r u v w = absurd (omega arith)

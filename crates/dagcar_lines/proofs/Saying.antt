@@ -10,16 +10,15 @@ use Rattle.dagcbor_car.specs.Versions.{IsFile}
 use Rattle.dagcbor_car.specs.Each.{Takes}
 use Rattle.dagcbor_car.specs.Extents.{within, wanting}
 use Rattle.dagcbor_car.specs.Sources.{CarRefuses, RefusesStart, TakesStart}
-use Rattle.ipld_links.specs.Verdicts.{IsVerdict}
-use Rattle.ipld_links.specs.declared.verdict.Verdict.{Verdict}
 use Rattle.dagcbor_car.specs.Checks.{IsAfter, ListsMissing, IsFileFront}
 use Rattle.dagcbor_car.specs.declared.check.CarCheck.{CarCheck}
 use Rattle.dagcbor_car.specs.declared.error.CarError.{CarError}
 use Rattle.dagcbor_car.proofs.Places.{no_file, place_front}
-use Rattle.block_lines.specs.Lines.{told_line, missing_line, refused_line, is_well, BreaksLine, Says, SaysLines}
+use Rattle.block_lines.specs.Lines.{missing_line, refused_line, BreaksLine, Says, SaysLines}
+use Rattle.block_lines.proofs.Saying.{each_push}
 use Rattle.dagcbor_cli.specs.Writing.{WritesFront}
-use Rattle.dagcar_lines.specs.Answers.{IsVerdictLine, check_speech}
-use Rattle.dagcar_lines.specs.Speeches.{Speech, IsSaidOfEach, IsSaidSoFar, IsSaidOf, AreFirstLines, AreLines, BreaksOff, SaysBytes, SaysFile}
+use Rattle.dagcar_lines.specs.Answers.{check_speech}
+use Rattle.dagcar_lines.specs.Speeches.{Speech, beside, IsSaidSoFar, IsSaidOf, AreFirstLines, AreLines, BreaksOff, SaysBytes, SaysFile}
 use Rattle.dagcar_lines.specs.Steps.{Knowing, TellsEnd, Work, SaysSection, SaysRest}
 use Rattle.dagcar_lines.specs.Taking.{IsOfBytes, TookEach, TakesFront, TakesWhole, FaultBehind, EndsAt}
 use Rattle.dagcar_lines.proofs.Taking.{took_knows, left_begun, alone, alone_line, header_alone}
@@ -30,29 +29,8 @@ use Rattle.dagcbor_cli.specs.declared.fault.ToolError.TheVariants.{Output}
 
 -- ---- sections
 
-and_true : (b : Bool) → (b && true) ≡ b
-and_true true = refl
-and_true false = refl
-
-and_assoc : (a b c : Bool) → (a && (b && c)) ≡ ((a && b) && c)
-and_assoc true b c = refl
-and_assoc false b c = refl
-
-each_push : (speech : Speech) (ss : List Section) (s : Section) (all well : Bool) (lines line : List ℕ) → IsSaidOfEach speech ss all lines → speech.of_section s well line → IsSaidOfEach speech (ss ++ s ∷ []) (all && well) (lines ++ line)
-each_push speech [] s all well lines line h is = (well, true, line, [], is, (refl, refl), ap (λ b. b && well) h.0 ∙ sym (and_true well), ap (λ x. x ++ line) h.1 ∙ sym (append-nil line))
-each_push speech (x ∷ ss) s all well lines line h is = (
-  h.0,
-  h.1 && well,
-  h.2,
-  h.3 ++ line,
-  h.4,
-  each_push speech ss s h.1 well h.3 line h.5 is,
-  ap (λ b. b && well) h.6 ∙ sym (and_assoc h.0 h.1 well),
-  ap (λ x. x ++ line) h.7 ∙ append_assoc h.2 h.3 line,
-)
-
 so_far_push : (speech : Speech) (roots : List (List ℕ)) (ss : List Section) (s : Section) (all well : Bool) (said line : List ℕ) → IsSaidSoFar speech roots ss all said → speech.of_section s well line → IsSaidSoFar speech roots (ss ++ s ∷ []) (all && well) (said ++ line)
-so_far_push speech roots ss s all well said line h is = (h.0 ++ line, each_push speech ss s all well h.0 line h.1 is, ap (λ x. x ++ line) h.2 ∙ append_assoc (speech.of_roots roots) h.0 line)
+so_far_push speech roots ss s all well said line h is = (h.0 ++ line, each_push speech.of_section ss s all well h.0 line h.1 is, ap (λ x. x ++ line) h.2 ∙ append_assoc (speech.of_roots roots) h.0 line)
 
 none_yet : (speech : Speech) (roots : List (List ℕ)) (text : List ℕ) → text ≡ speech.of_roots roots → IsSaidSoFar speech roots [] true text
 none_yet speech roots text is = ([], (refl, refl), is ∙ sym (append-nil (speech.of_roots roots)))
@@ -78,18 +56,28 @@ last_said IsLast speech b whole before between after (Err e) first out next k =
 
 -- ---- a teller at work
 
+-- what is told beside lines is told, and nothing of a fault or at the end
+pub rest_silent : {T : Type 0} (speech : Speech) (TellsOf : Section → List ℕ → Type 0) (knows : Knowing T) (teller : T) (well : Bool) (w : Result (Ended ToolError) ToolError) (before heard : Option (List ℕ)) (r : Result Bool ToolError) (after : Option (List ℕ)) → SaysRest speech knows teller well w before r after → SaysRest (beside TellsOf) knows teller well w heard r heard
+rest_silent speech TellsOf knows teller well (Ok ended.Whole) before heard (Ok answer) after says = λ roots sections k.
+    let s = says roots sections k in
+    ([], (s.1.0, refl, s.1.2), Appends-nil heard)
+rest_silent speech TellsOf knows teller well (Ok ended.Whole) before heard (Err e) after says = λ roots sections k. inl (Appends-nil heard)
+rest_silent speech TellsOf knows teller well (Ok (ended.Stopped e)) before heard r after says = (says.0, refl)
+rest_silent speech TellsOf knows teller well (Ok (ended.Fault line)) before heard (Ok answer) after says = ([], (says.1.0, refl), Appends-nil heard)
+rest_silent speech TellsOf knows teller well (Ok (ended.Fault line)) before heard (Err e) after says = inl (Appends-nil heard)
+rest_silent speech TellsOf knows teller well (Err e) before heard r after says = (says.0, refl)
+
 -- what a teller does to its work
 abbrev pub Tells : {S T : Type 0} → Speech → Knowing T → (S → Work T) → Takes S ToolError
 Tells speech knows work s old result new = SaysSection speech knows s (work old) result (work new)
 
-module _ {S T : Type 0} (speech : Speech) (knows : Knowing T) (work : S → Work T) (roots : List (List ℕ)) (b : List ℕ) (before : Option (List ℕ)) (name : ℕ) where
+module _ {S T : Type 0} (speech : Speech) (knows : Knowing T) (work : S → Work T) (roots : List (List ℕ)) (b : List ℕ) (before : Option (List ℕ)) where
   -- what was said of these sections
   pub record SoFar (it : S) (done : List Section) : Type 0 where
     pub said : List ℕ
     pub far : IsSaidSoFar speech roots done (work it).well said
     pub after : knows (work it).teller roots done
     pub out : Appends before (work it).written said
-    pub through : (work it).through ≡ name
 
   one_more : (s : Section) (old new : S) (done : List Section) → SoFar old done → SaysSection speech knows s (work old) (Ok tt) (work new) → SoFar new (done ++ s ∷ [])
   one_more s old new done h k = record {
@@ -97,7 +85,6 @@ module _ {S T : Type 0} (speech : Speech) (knows : Knowing T) (work : S → Work
     far = subst (λ w. IsSaidSoFar speech roots (done ++ s ∷ []) w (h.said ++ k.1.1)) (sym k.1.4) (so_far_push speech roots done s (work old).well k.1.0 h.said k.1.1 h.far k.1.2);
     after = k.1.3 roots done h.after;
     out = Appends-trans before (work old).written (work new).written h.said k.1.1 h.out k.1.5;
-    through = k.0 ∙ h.through;
   }
 
   pub all_said : (ss : List Section) (old new : S) → SoFar old [] → TookEach (Tells speech knows work) old ss new → SoFar new ss
@@ -123,7 +110,7 @@ module _ {S T : Type 0} (speech : Speech) (knows : Knowing T) (work : S → Work
       (λ text is. inl (inr (roots, ss ++ s ∷ [], m, behind, (work it).well && is.0, next, so_far_push speech roots ss s (work it).well is.0 h.said text h.far is.1))) k.1
 
   -- a line that tells why no section stands there
-  none_said : (it : S) (e : CarError Infallible) (text : List ℕ) (old : S) (h : FaultBehind (Tells speech knows work) roots b old e it) → (far : SoFar it h.first.sections) → text ≡ refused_line e → IsSaidOf speech b false (far.said ++ text)
+  none_said : (it : S) (e : CarError Infallible) (text : List ℕ) (old : S) (h : FaultBehind (Tells speech knows work) roots b old e it) → (far : SoFar it h.first.sections) → text ≡ speech.of_fault (refused_line e) → IsSaidOf speech b false (far.said ++ text)
   none_said it e text old h far is = inr (
     refl,
     record {
@@ -162,26 +149,18 @@ module _ {S T : Type 0} (speech : Speech) (knows : Knowing T) (work : S → Work
       (section_broken k.it new k.first.sections k.section k.first.wanting k.wanting k.first.rest k.rest e far k.first.front k.front k.refused))
   rest_said old new (Ok (ended.Fault line)) r after h k says =
       let far = all_said k.1.first.sections old new h k.1.first.took in
-      last_said (λ answer text. (answer ≡ false) × (text ≡ line.items)) speech b far.said before (work new).written after r (first_lines new k.1.first.sections k.1.first.wanting k.1.first.rest far k.1.first.front) far.out
-      (λ answer text is. subst (λ x. IsSaidOf speech b x (far.said ++ text)) (sym is.0) (none_said new k.0 text old k.1 far (is.1 ∙ k.2))) says
+      last_said (λ answer text. (answer ≡ false) × (text ≡ speech.of_fault line.items)) speech b far.said before (work new).written after r (first_lines new k.1.first.sections k.1.first.wanting k.1.first.rest far k.1.first.front) far.out
+      (λ answer text is. subst (λ x. IsSaidOf speech b x (far.said ++ text)) (sym is.0) (none_said new k.0 text old k.1 far (is.1 ∙ ap speech.of_fault k.2))) says
   rest_said old new (Err e) r after h k says =
       let far = all_said k.sections old new h k.took in
       subst (λ x. SaysBytes speech b before x after) (sym says.0) (subst (λ a. BreaksOff speech b before a e) (sym says.1) (nothing_more new k.sections k.wanting k.rest e far k.front))
 
-  -- the output is the one that was lent
-  pub same_output : (old new : S) (w : Result (Ended ToolError) ToolError) → SoFar old [] → MatchResult w (λ e. EndsAt (Tells speech knows work) roots b old e new) (λ _. TakesFront (Tells speech knows work) roots b old new) → (work new).through ≡ name
-  same_output old new (Ok ended.Whole) h k = (all_said k.sections old new h k.took).through
-  same_output old new (Ok (ended.Stopped e)) h k = k.refused.0 ∙ (all_said k.first.sections old k.it h k.first.took).through
-  same_output old new (Ok (ended.Fault line)) h k = (all_said k.1.first.sections old new h k.1.first.took).through
-  same_output old new (Err e) h k = (all_said k.sections old new h k.took).through
-
-  pub none_told : (it : S) → (work it).well ≡ true → knows (work it).teller roots [] → Appends before (work it).written (speech.of_roots roots) → (work it).through ≡ name → SoFar it []
-  none_told it well k out same = record {
+  pub none_told : (it : S) → (work it).well ≡ true → knows (work it).teller roots [] → Appends before (work it).written (speech.of_roots roots) → SoFar it []
+  none_told it well k out = record {
     said = speech.of_roots roots;
     far = subst (λ w. IsSaidSoFar speech roots [] w (speech.of_roots roots)) (sym well) (none_yet speech roots (speech.of_roots roots) refl);
     after = k;
     out = out;
-    through = same;
   }
 
 -- ---- the roots
@@ -196,25 +175,35 @@ roots_broken speech start now extent roots text before after (Err x) e w h is sa
 
 -- ---- no file begins
 
-pub header_said : {E : Type 0} (speech : Speech) (old now : Reading) (before after : Option (List ℕ)) (e : CarError E) (line : List ℕ) (r : Result Bool ToolError) → CarRefuses RefusesStart old e now → IsOfBytes e → line ≡ refused_line e → SaysLines line false before r after → SaysFile speech old before r after
+pub header_said : {E : Type 0} (speech : Speech) (old now : Reading) (before after : Option (List ℕ)) (e : CarError E) (line : List ℕ) (r : Result Bool ToolError) → CarRefuses RefusesStart old e now → IsOfBytes e → line ≡ speech.of_fault (refused_line e) → SaysLines line false before r after → SaysFile speech old before r after
 header_said speech old now before after e line r h is same says b l =
     let refused = header_alone old now e is h b l in
     last_said (λ answer text. (answer ≡ false) × (text ≡ line)) speech b [] before before after r (inl refl) (Appends-nil before)
-    (λ answer text k. inr (k.0, record { error = alone e; said = []; none = no_file (alone e) b refused; stands = inl (refused, refl); lines = k.1 ∙ same ∙ alone_line e is })) (as_last r says)
+    (λ answer text k. inr (k.0, record { error = alone e; said = []; none = no_file (alone e) b refused; stands = inl (refused, refl); lines = k.1 ∙ same ∙ ap speech.of_fault (alone_line e is) })) (as_last r says)
   where
     as_last : (r : Result Bool ToolError) → SaysLines line false before r after → Says (λ answer text. (answer ≡ false) × (text ≡ line)) before r after
     as_last (Ok answer) k = (line, (k.0, refl), k.1)
     as_last (Err x) (inl none) = inl none
     as_last (Err x) (inr k) = inr (k.0, k.1, (false, (refl, k.2)), k.3, k.4)
 
+-- the same, of which nothing is told beside
+pub header_silent : {E : Type 0} (TellsOf : Section → List ℕ → Type 0) (old now : Reading) (heard before after : Option (List ℕ)) (e : CarError E) (line : List ℕ) (r : Result Bool ToolError) → CarRefuses RefusesStart old e now → IsOfBytes e → SaysLines line false before r after → SaysFile (beside TellsOf) old heard r heard
+header_silent TellsOf old now heard before after e line r h is says =
+    header_said (beside TellsOf) old now heard heard e [] r h is refl (as_nothing r says)
+  where
+    as_nothing : (r : Result Bool ToolError) → SaysLines line false before r after → SaysLines [] false heard r heard
+    as_nothing (Ok answer) k = (k.0, Appends-nil heard)
+    as_nothing (Err x) k = inl (Appends-nil heard)
+
 pub not_begun : (speech : Speech) (old : Reading) (before : Option (List ℕ)) (e : ToolError) → SaysFile speech old before (Err e) before
 not_begun speech old before e b l = record { whole = []; front = []; first = inl refl; out = Appends-nil before; next = inl refl }
 
--- ---- what `check` says
+-- nothing went out
+pub broke : (speech : Speech) (old : Reading) (before : Option (List ℕ)) (e : ToolError) (r : Result Bool ToolError) → IsErrAnd r (λ x. x ≡ e) → SaysFile speech old before r before
+broke speech old before e (Ok v) is b l = absurd is
+broke speech old before e (Err x) is b l = not_begun speech old before x b l
 
-pub verdict_is_said : {E : Type 0} (s : Section) (v : Verdict) (r : Result (Vec ℕ Global × Bool) E) → IsVerdict s v → IfOk r (λ p. p.0.items ≡ told_line (s, v)) → IfOk r (λ p. p.1 ≡ is_well v) → IfOk r (λ p. IsVerdictLine s p.1 p.0.items)
-verdict_is_said s v (Ok p) is line well = (v, is, well, line)
-verdict_is_said s v (Err e) is line well = tt
+-- ---- what `check` says
 
 pub missing_is_said : {E : Type 0} (check : CarCheck) (v : Vec CidParts Global) (items : List CidParts) (r : Result (Vec ℕ Global × Bool) E) → items ≡ v.items → ((roots : List (List ℕ)) (sections : List Section) → IsAfter check roots sections → ListsMissing roots sections v)
     → IfOk r (λ p. p.0.items ≡ flat_map missing_line items) → IfOk r (λ p. IsTrue p.1 ↔ (items ≡ [])) → TellsEnd check_speech IsAfter check r

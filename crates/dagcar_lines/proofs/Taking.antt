@@ -1,5 +1,5 @@
 -- A file that is taken section by section.
-use Rattle.std.proofs.Common.{◌≡◌, inl, inr, ℕ, List, [], ◌∷◌, ◌++◌, length, append_assoc, append-nil, refl, sym, ◌∙◌, subst, Option, Some, Result, Ok, Err, IfOk, MatchResult, Vec, Global}
+use Rattle.std.proofs.Common.{◌≡◌, inl, inr, ℕ, List, [], ◌∷◌, ◌++◌, length, append_assoc, append-nil, refl, sym, ap, ◌∙◌, subst, Option, Some, Result, Ok, Err, IfOk, MatchResult, Vec, Global}
 use Rattle.dagcbor_heads.specs.Reading.{Reading}
 use Rattle.dagcbor_car.specs.Car.{Section}
 use Rattle.dagcbor_car.specs.Each.{Takes, TakesEach, StopsEach, RunsEach}
@@ -51,6 +51,47 @@ pub took_knows : {S Stop : Type 0} (takes : Takes S Stop) (knows : S → List Se
     → (done more : List Section) (old new : S) → knows old done → TookEach takes old more new → knows new (done ++ more)
 took_knows takes knows step done [] old new h t = subst (knows new) (sym (append-nil done)) (subst (λ x. knows x done) (sym t) h)
 took_knows takes knows step done (s ∷ more) old new h t = subst (knows new) (append_assoc done (s ∷ []) more) (took_knows takes knows step (done ++ s ∷ []) more t.0 new (step s old t.0 done h t.1) t.2)
+
+-- what takes sections so takes them so too
+took_as : {S Stop : Type 0} (P Q : Takes S Stop) → ((s : Section) (old : S) (r : Result (Unit {0}) Stop) (new : S) → P s old r new → Q s old r new) → (ss : List Section) (old new : S) → TookEach P old ss new → TookEach Q old ss new
+took_as P Q f [] old new t = t
+took_as P Q f (s ∷ ss) old new t = (t.0, f s old (Ok tt) t.0 t.1, took_as P Q f ss t.0 new t.2)
+
+abbrev front_as : {S Stop : Type 0} (P Q : Takes S Stop) → ((s : Section) (old : S) (r : Result (Unit {0}) Stop) (new : S) → P s old r new → Q s old r new) → (roots : List (List ℕ)) (b : List ℕ) (old new : S) → TakesFront P roots b old new → TakesFront Q roots b old new
+front_as P Q f roots b old new h = record {
+  sections = h.sections;
+  wanting = h.wanting;
+  rest = h.rest;
+  front = h.front;
+  took = took_as P Q f h.sections old new h.took;
+}
+
+pub ends_as : {S Stop : Type 0} (P Q : Takes S Stop) → ((s : Section) (old : S) (r : Result (Unit {0}) Stop) (new : S) → P s old r new → Q s old r new) → (roots : List (List ℕ)) (b : List ℕ) (old new : S) (w : Result (Ended Stop) ToolError) → MatchResult w (λ e. EndsAt P roots b old e new) (λ _. TakesFront P roots b old new)
+    → MatchResult w (λ e. EndsAt Q roots b old e new) (λ _. TakesFront Q roots b old new)
+ends_as P Q f roots b old new (Ok ended.Whole) h = record { sections = h.sections; file = h.file; took = took_as P Q f h.sections old new h.took }
+ends_as P Q f roots b old new (Ok (ended.Stopped stop)) h = record {
+  it = h.it;
+  first = front_as P Q f roots b old h.it h.first;
+  section = h.section;
+  wanting = h.wanting;
+  rest = h.rest;
+  front = h.front;
+  refused = f h.section h.it (Err stop) new h.refused;
+}
+ends_as P Q f roots b old new (Ok (ended.Fault line)) h = (h.0, record { first = front_as P Q f roots b old new h.1.first; none = h.1.none; refuses = h.1.refuses }, h.2)
+ends_as P Q f roots b old new (Err e) h = front_as P Q f roots b old new h
+
+-- what no section changes
+took_same : {S Stop X : Type 0} (takes : Takes S Stop) (f : S → X) → ((s : Section) (old : S) (r : Result (Unit {0}) Stop) (new : S) → takes s old r new → f new ≡ f old) → (ss : List Section) (old new : S) → TookEach takes old ss new → f new ≡ f old
+took_same takes f stays [] old new t = ap f t
+took_same takes f stays (s ∷ ss) old new t = took_same takes f stays ss t.0 new t.2 ∙ stays s old (Ok tt) t.0 t.1
+
+pub ends_same : {S Stop X : Type 0} (takes : Takes S Stop) (f : S → X) → ((s : Section) (old : S) (r : Result (Unit {0}) Stop) (new : S) → takes s old r new → f new ≡ f old) → (roots : List (List ℕ)) (b : List ℕ) (old new : S) (w : Result (Ended Stop) ToolError)
+    → MatchResult w (λ e. EndsAt takes roots b old e new) (λ _. TakesFront takes roots b old new) → f new ≡ f old
+ends_same takes f stays roots b old new (Ok ended.Whole) h = took_same takes f stays h.sections old new h.took
+ends_same takes f stays roots b old new (Ok (ended.Stopped stop)) h = stays h.section h.it (Err stop) new h.refused ∙ took_same takes f stays h.first.sections old h.it h.first.took
+ends_same takes f stays roots b old new (Ok (ended.Fault line)) h = took_same takes f stays h.1.first.sections old new h.1.first.took
+ends_same takes f stays roots b old new (Err e) h = took_same takes f stays h.sections old new h.took
 
 -- so much is left, behind the header and these sections
 abbrev IsLeft : List ℕ → List (List ℕ) → List Section → Option ℕ → Reading → Type 0

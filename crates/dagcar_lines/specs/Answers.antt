@@ -20,15 +20,17 @@ use Rattle.ipld_links.specs.Blocks.{HasBlock}
 use Rattle.ipld_links.specs.Verdicts.{IsVerdict}
 use Rattle.dagcbor_car.specs.Checks.{ListsMissing}
 use Rattle.ipld_links.specs.declared.verdict.Verdict.{Verdict}
+use Rattle.ipld_links.specs.declared.verdict.Verdict.TheVariants.{Refused}
 use Rattle.dagcbor_items.specs.PrintedNames.{kind_name, variant_name}
 use Rattle.block_lines.specs.Lines.{line, told_line, listed_line, missing_line, root_line, is_well, Says, SaysBoth}
-use Rattle.dagcar_lines.specs.Lines.{cause_line, place_line, reserved_line}
-use Rattle.dagcar_lines.specs.Speeches.{Speech, SaysBytes}
+use Rattle.dagcar_lines.specs.Lines.{cause_line, place_line, section_place_line, reserved_line}
+use Rattle.dagcar_lines.specs.Speeches.{Speech, beside, SaysBytes}
 use Rattle.dagcar_lines.specs.Summary.{IsSummary}
 use Rattle.dagcar_lines.specs.Help.{help_text, version_text}
 use Rattle.dagcbor_paths.specs.Paths.{segments}
 use Rattle.dagcar_lines.specs.Finding.{IsGot, IsTree}
-use Rattle.dagcar_lines.specs.Paths.{IsAt}
+use Rattle.dagcar_lines.specs.Paths.{IsAnswer}
+use Rattle.dagcar_lines.specs.declared.at.Asked.TheVariants as asks
 use Rattle.dagcar_lines.specs.declared.command.Command.{Command}
 use Rattle.dagcar_lines.specs.declared.command.Command.TheVariants as commands
 use Rattle.dagcbor_cli.specs.declared.fault.ToolError.{ToolError}
@@ -39,6 +41,12 @@ use Rattle.dagcbor_cli.specs.declared.fault.ToolError.{ToolError}
 abbrev pub IsVerdictLine : Section → Bool → List ℕ → Type 0
 IsVerdictLine s well text = (v : Verdict) × IsVerdict s v × (well ≡ is_well v)
     × (text ≡ told_line (s, v))
+
+-- what is told of a section: of one whose block is refused, by which byte
+abbrev pub TellsPlace : Section → List ℕ → Type 0
+TellsPlace s told = ((e : DecodeError Infallible) × (place : ℕ) × IsVerdict s (Refused e) × StandsAt e s.1 place
+    × (told ≡ section_place_line s.0 e place))
+    ⊎ (((e : DecodeError Infallible) → ¬ IsVerdict s (Refused e)) × (told ≡ []))
 
 -- the lines of the roots and the links that lead nowhere; nothing is wrong where there is none
 pub record AreMissingLines (roots : List (List ℕ)) (sections : List Section) (well : Bool) (text : List ℕ) : Type 0 where
@@ -53,6 +61,7 @@ check_speech = record {
   of_roots = λ roots. [];
   of_section = IsVerdictLine;
   of_end = AreMissingLines;
+  of_fault = λ line. line;
 }
 
 -- what `verify` says: the verdict on each section
@@ -61,6 +70,7 @@ verify_speech = record {
   of_roots = λ roots. [];
   of_section = IsVerdictLine;
   of_end = λ roots sections well text. (well ≡ true) × (text ≡ []);
+  of_fault = λ line. line;
 }
 
 -- what `check --summary` says: what `check` says, and then how many sections had which verdict
@@ -69,6 +79,7 @@ summary_speech = record {
   of_roots = λ roots. [];
   of_section = IsVerdictLine;
   of_end = IsSummary;
+  of_fault = λ line. line;
 }
 
 -- what `list` says: the roots, and then each section
@@ -77,6 +88,7 @@ list_speech = record {
   of_roots = λ roots. flat_map root_line roots;
   of_section = λ s well text. (well ≡ true) × (text ≡ listed_line s);
   of_end = λ roots sections well text. (well ≡ true) × (text ≡ []);
+  of_fault = λ line. line;
 }
 
 -- ---- one block
@@ -122,12 +134,18 @@ abbrev pub EndsSo : Result Bool ToolError → ℕ → Type 0
 EndsSo (Ok well) status = status ≡ (if well then 0 else 1)
 EndsSo (Err e) status = status ≡ 2
 
--- a run of a command on these bytes, and on the path of `at`, by what the output and the errors hold
+-- this is said of the bytes, and beside it of each refused section by which byte it is
+abbrev pub SaysWithPlaces : Speech → List ℕ → Option (List ℕ) → Option (List ℕ) → Result Bool ToolError
+    → Option (List ℕ) → Option (List ℕ) → Type 0
+SaysWithPlaces speech b old heard ended new after = SaysBytes speech b old ended new
+    × SaysBytes (beside TellsPlace) b heard ended after
+
+-- a run of a command on these bytes, and on the path in the words, by what the output and the errors hold
 abbrev pub RunsCommand : Command → List ℕ → List ℕ → Option (List ℕ) → Option (List ℕ)
     → Result Bool ToolError → Option (List ℕ) → Option (List ℕ) → Type 0
-RunsCommand commands.Check path b old heard ended new after = SaysBytes check_speech b old ended new
-RunsCommand commands.Verify path b old heard ended new after = SaysBytes verify_speech b old ended new
-RunsCommand commands.Summary path b old heard ended new after = SaysBytes summary_speech b old ended new
+RunsCommand commands.Check path b old heard ended new after = SaysWithPlaces check_speech b old heard ended new after
+RunsCommand commands.Verify path b old heard ended new after = SaysWithPlaces verify_speech b old heard ended new after
+RunsCommand commands.Summary path b old heard ended new after = SaysWithPlaces summary_speech b old heard ended new after
 RunsCommand commands.Help path b old heard ended new after = Says (λ well out. (well ≡ true) × (out ≡ help_text)) old ended new
 RunsCommand commands.Version path b old heard ended new after = Says (λ well out. (well ≡ true) × (out ≡ version_text)) old ended new
 RunsCommand commands.List path b old heard ended new after = SaysBytes list_speech b old ended new
@@ -137,10 +155,15 @@ RunsCommand commands.Show path b old heard ended new after = SaysBoth (IsShown b
 RunsCommand commands.Make path b old heard ended new after = SaysBoth (IsMade b) old heard ended new after
 RunsCommand (commands.Get name) path b old heard ended new after = SaysBoth (IsGot name b) old heard ended new after
 RunsCommand (commands.Tree root) path b old heard ended new after = SaysBoth (IsTree root b) old heard ended new after
-RunsCommand (commands.At root) path b old heard ended new after = SaysBoth (IsAt root (segments path) b) old heard ended new after
+RunsCommand (commands.At root) path b old heard ended new after = SaysBoth (IsAnswer asks.Data root (segments path) b) old heard ended new after
+RunsCommand (commands.Raw root) path b old heard ended new after = SaysBoth (IsAnswer asks.Bytes root (segments path) b) old heard ended new after
+RunsCommand (commands.Prove root) path b old heard ended new after = SaysBoth (IsAnswer asks.Proof root (segments path) b) old heard ended new after
 
 -- the commands that tell of nothing but of faults
 abbrev pub IsQuiet : Command → Type 0
+IsQuiet commands.Check = ⊥
+IsQuiet commands.Verify = ⊥
+IsQuiet commands.Summary = ⊥
 IsQuiet commands.Name = ⊥
 IsQuiet commands.One = ⊥
 IsQuiet commands.Show = ⊥
@@ -148,4 +171,6 @@ IsQuiet commands.Make = ⊥
 IsQuiet (commands.Get name) = ⊥
 IsQuiet (commands.Tree root) = ⊥
 IsQuiet (commands.At root) = ⊥
+IsQuiet (commands.Raw root) = ⊥
+IsQuiet (commands.Prove root) = ⊥
 IsQuiet _ = ⊤

@@ -1,5 +1,5 @@
 -- The program's words.
-use Rattle.std.specs.Prelude.{◌≡◌, ◌⊎◌, ℕ, List, [], ◌∷◌, codes, ◌==◌}
+use Rattle.std.specs.Prelude.{◌≡◌, ◌≢◌, ◌⊎◌, ℕ, List, [], ◌∷◌, codes, ◌==◌}
 use Rattle.std.specs.List.{before_first, after_first}
 use Rattle.ipld_tree.specs.Cid.{CidParts}
 use Rattle.cid_text.specs.Texts.{IsTextOf, IsTextFault}
@@ -22,6 +22,8 @@ command_name commands.Make = codes "make"
 command_name (commands.Get name) = codes "get"
 command_name (commands.Tree name) = codes "tree"
 command_name (commands.At name) = codes "at"
+command_name (commands.Raw name) = codes "at"
+command_name (commands.Prove name) = codes "prove"
 
 -- a name and a path: what stands before the first slash of a text, and behind it
 abbrev pub name_part : List ℕ → List ℕ
@@ -30,30 +32,44 @@ name_part text = before_first (λ b. b == 0x2f) text
 abbrev pub path_part : List ℕ → List ℕ
 path_part text = after_first (λ b. b == 0x2f) text
 
--- the path in the second of two words
+-- the path in the last of two or three words
 abbrev pub path_of : List (List ℕ) → List ℕ
 path_of (word ∷ text ∷ []) = path_part text
+path_of (word ∷ option ∷ text ∷ []) = path_part text
 path_of _ = []
 
 -- this word, and the name as text
 abbrev pub IsWordOf : List (List ℕ) → List ℕ → CidParts → Type 0
 IsWordOf words word name = (text : List ℕ) × (words ≡ word ∷ text ∷ []) × IsTextOf text name
 
--- the words are the command: the one that names it; of `get` and `tree` also a CID; of `at` also one
--- before a path; and `check` with `--summary`
+-- this word, and the name as text before a path
+abbrev pub IsRootOf : List (List ℕ) → List ℕ → CidParts → Type 0
+IsRootOf words word name = (text : List ℕ) × (words ≡ word ∷ text ∷ []) × IsTextOf (name_part text) name
+
+-- the words are the command: the one that names it; of `get` and `tree` also a CID; of `at` and `prove`
+-- also one before a path; of `at` also `--raw` before that; and `check` with `--summary`
 abbrev pub IsCommand : List (List ℕ) → Command → Type 0
 IsCommand words (commands.Get name) = IsWordOf words (codes "get") name
 IsCommand words (commands.Tree name) = IsWordOf words (codes "tree") name
-IsCommand words (commands.At name) = (text : List ℕ) × (words ≡ codes "at" ∷ text ∷ [])
-    × IsTextOf (name_part text) name
+IsCommand words (commands.At name) = IsRootOf words (codes "at") name
+IsCommand words (commands.Prove name) = IsRootOf words (codes "prove") name
+IsCommand words (commands.Raw name) = (text : List ℕ)
+    × (words ≡ codes "at" ∷ codes "--raw" ∷ text ∷ []) × IsTextOf (name_part text) name
 IsCommand words commands.Summary = words ≡ codes "check" ∷ codes "--summary" ∷ []
 IsCommand words command = words ≡ command_name command ∷ []
 
--- no CID stands in the words where one should, for this cause
+-- no CID stands in two words where one should, for this cause
+abbrev pub IsMistypedIn : List ℕ → List ℕ → CidTextError → Type 0
+IsMistypedIn word text e = (((word ≡ codes "get") ⊎ (word ≡ codes "tree")) × IsTextFault e text)
+    ⊎ ((((word ≡ codes "at") × (text ≢ codes "--raw")) ⊎ (word ≡ codes "prove"))
+    × IsTextFault e (name_part text))
+
+-- none stands in the words, or behind `at --raw`
 abbrev pub IsMistyped : List (List ℕ) → CidTextError → Type 0
-IsMistyped words e = (word text : List ℕ) × (words ≡ word ∷ text ∷ [])
-    × ((((word ≡ codes "get") ⊎ (word ≡ codes "tree")) × IsTextFault e text)
-    ⊎ ((word ≡ codes "at") × IsTextFault e (name_part text)))
+IsMistyped (word ∷ text ∷ []) e = IsMistypedIn word text e
+IsMistyped (word ∷ option ∷ text ∷ []) e = (word ≡ codes "at") × (option ≡ codes "--raw")
+    × IsTextFault e (name_part text)
+IsMistyped _ e = ⊥
 
 -- the command of this word on the block of this name
 abbrev pub IsCommandOn : List ℕ → CidParts → Command → Type 0

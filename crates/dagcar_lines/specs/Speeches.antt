@@ -1,5 +1,5 @@
 -- What is said of a file of blocks, whatever is said of its roots, of a section and at its end.
-use Rattle.std.specs.Prelude.{◌≡◌, ◌⊎◌, ℕ, List, [], ◌∷◌, ◌++◌, Bool, true, false, ◌&&◌, Option, Some, Result, MatchResult}
+use Rattle.std.specs.Prelude.{◌≡◌, ◌⊎◌, ℕ, List, [], ◌++◌, Bool, false, ◌&&◌, Option, Some, Result, MatchResult}
 use Rattle.std.specs.Io.KnownBytes.{Appends}
 use Rattle.std.specs.declared.convert.Infallible.{Infallible}
 use Rattle.dagcbor_heads.specs.Reading.{Reading}
@@ -8,7 +8,7 @@ use Rattle.dagcbor_car.specs.Versions.{IsFile}
 use Rattle.dagcbor_car.specs.Sources.{RefusesStart, RefusesSection}
 use Rattle.dagcbor_car.specs.Checks.{IsFileFront, IsNoFile}
 use Rattle.dagcbor_car.specs.declared.error.CarError.{CarError}
-use Rattle.block_lines.specs.Lines.{refused_line}
+use Rattle.block_lines.specs.Lines.{IsSaidOfEach, refused_line}
 use Rattle.dagcbor_cli.specs.declared.fault.ToolError.{ToolError}
 use Rattle.dagcbor_cli.specs.declared.fault.ToolError.TheVariants.{Output}
 
@@ -20,18 +20,22 @@ pub record Speech : Type 1 where
   pub of_section : Section → Bool → List ℕ → Type 0
   -- at the end of a file of these roots and sections
   pub of_end : List (List ℕ) → List Section → Bool → List ℕ → Type 0
+  -- of bytes behind which no section stands, by the line that says why
+  pub of_fault : List ℕ → List ℕ
 
--- what is said of each of the sections, and whether all of it tells of nothing wrong
-abbrev pub IsSaidOfEach : Speech → List Section → Bool → List ℕ → Type 0
-IsSaidOfEach speech [] well out = (well ≡ true) × (out ≡ [])
-IsSaidOfEach speech (s ∷ sections) well out = (first others : Bool) × (line lines : List ℕ)
-    × speech.of_section s first line × IsSaidOfEach speech sections others lines
-    × (well ≡ (first && others)) × (out ≡ line ++ lines)
+-- What is told beside that, of each section alone.
+abbrev pub beside : (Section → List ℕ → Type 0) → Speech
+beside TellsOf = record {
+  of_roots = λ roots. [];
+  of_section = λ s well text. TellsOf s text;
+  of_end = λ roots sections well text. text ≡ [];
+  of_fault = λ line. [];
+}
 
 -- what is said of the roots and of the first sections
 abbrev pub IsSaidSoFar : Speech → List (List ℕ) → List Section → Bool → List ℕ → Type 0
 IsSaidSoFar speech roots sections well out = (lines : List ℕ)
-    × IsSaidOfEach speech sections well lines × (out ≡ speech.of_roots roots ++ lines)
+    × IsSaidOfEach speech.of_section sections well lines × (out ≡ speech.of_roots roots ++ lines)
 
 -- what is said of a file: of the roots, of each section, and at the end
 pub record IsSaidOfFile (speech : Speech) (b : List ℕ) (well : Bool) (out : List ℕ) : Type 0 where
@@ -55,13 +59,13 @@ StandsBehind speech e b said = (RefusesStart e b × (said ≡ []))
     × (well : Bool) × IsFileFront b roots sections n rest
     × IsSaidSoFar speech roots sections well said × RefusesSection n e rest)
 
--- what is said of bytes that are no file: what stands in front of the fault, and a line for it
+-- what is said of bytes that are no file: what stands in front of the fault, and of the fault
 pub record IsSaidOfNone (speech : Speech) (b : List ℕ) (out : List ℕ) : Type 0 where
   pub error : CarError Infallible
   pub said : List ℕ
   pub none : IsNoFile b
   pub stands : StandsBehind speech error b said
-  pub lines : out ≡ said ++ refused_line error
+  pub lines : out ≡ said ++ speech.of_fault (refused_line error)
 
 -- What is said of bytes, and whether nothing is wrong.
 abbrev pub IsSaidOf : Speech → List ℕ → Bool → List ℕ → Type 0

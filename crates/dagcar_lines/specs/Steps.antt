@@ -31,8 +31,8 @@ TellsEnd speech knows teller result = (roots : List (List ℕ)) (sections : List
 
 -- ---- a teller at work
 
--- the teller, whether nothing is wrong so far, what the output holds, and through which reference it
--- is written
+-- the teller, whether nothing is wrong so far, what a device holds, and through which reference it is
+-- written
 pub record Work (T : Type 0) : Type 0 where
   pub teller : T
   pub well : Bool
@@ -40,12 +40,21 @@ pub record Work (T : Type 0) : Type 0 where
   pub through : ℕ
 
 -- what contracts see of a teller at work, of whose output the bytes are told so
-abbrev pub work_of : {T W : Type 0} → (W → Option (List ℕ)) → Telling T W → Work T
+abbrev pub work_of : {T W V : Type 0} → (W → Option (List ℕ)) → Telling T W V → Work T
 work_of contents t = record {
   teller = t.teller;
   well = t.well;
   written = contents t.output.now;
   through = t.output.ghost_name;
+}
+
+-- the same, of whose errors the bytes are told so
+abbrev pub beside_of : {T W V : Type 0} → (V → Option (List ℕ)) → Telling T W V → Work T
+beside_of contents t = record {
+  teller = t.teller;
+  well = t.well;
+  written = contents t.errors.now;
+  through = t.errors.ghost_name;
 }
 
 -- a section was told, and its lines went out
@@ -73,7 +82,7 @@ SaysRest speech knows teller well (Ok ended.Whole) before result after =
 SaysRest speech knows teller well (Ok (ended.Stopped e)) before result after =
     (result ≡ Err e) × (after ≡ before)
 SaysRest speech knows teller well (Ok (ended.Fault line)) before result after =
-    Says (λ answer text. (answer ≡ false) × (text ≡ line.items)) before result after
+    Says (λ answer text. (answer ≡ false) × (text ≡ speech.of_fault line.items)) before result after
 SaysRest speech knows teller well (Err e) before result after = (result ≡ Err e) × (after ≡ before)
 
 -- ---- the whole

@@ -1,62 +1,32 @@
-//! `at`: what a path leads to in a file.
+//! `at` and `prove`: what a path leads to in a file.
 
-ghost use Rattle.std.specs.Prelude.{◌≡◌, [], false, IfOk, IfSome};
+ghost use Rattle.std.specs.Prelude.{IfSome};
 ghost use Rattle.dagcbor_paths.specs.Paths.{segments};
 ghost use Rattle.ipld_links.specs.Reaching.{stored_in};
 ghost use Rattle.dagcar_lines.specs.Answers.{IsShown};
 ghost use Rattle.block_lines.specs.Lines.{SaysBoth};
-ghost use Rattle.dagcar_lines.specs.Paths.{end_line, IsAtOf, IsAt};
+ghost use Rattle.dagcar_lines.specs.Paths.{IsAtOf, IsAnswerOf, IsAnswer};
 
 use crate::block::shown;
 use crate::holding::held_of;
-use block_lines::{line_of, missing_line, say_both, told_line};
-use cid_text::cid_text;
+use block_lines::say_both;
 use dagcbor_cli::ToolError;
-use dagcbor_resolve::{End, Resolved, item_bytes, resolve};
+use dagcbor_resolve::{item_bytes, resolve};
 use ipld_tree::Cid;
-use std::alloc::{AllocError, Global};
+use path_lines::{say_end, say_proof, say_raw};
+use std::alloc::Global;
 use std::collections::BTreeMap;
 use std::io::{BufRead, Write};
 
-/// The line that tells why a path ended at no item, in the block of this name.
-fn end_told(alloc: Global, block: &Cid, end: &End<'_>) -> Result<Vec<u8>, AllocError>
-    ensures { IfOk result (λ v. v.items ≡ end_line block.now end.now) }
-{
-    match end {
-        End::Item(_, _, _) => Ok(Vec::new(alloc)),
-        End::NoSuchPath(left) => {
-            line_of(
-                alloc,
-                &cid_text(block),
-                b" has nothing at ",
-                left.as_bytes(),
-            )
-        }
-        End::NotHeld => missing_line(alloc, block),
-        End::NoBlock(verdict) => {
-            let (line, _well) = told_line(alloc, block, verdict)?;
-            Ok(line)
-        }
-        End::Endless => line_of(alloc, &cid_text(block), b" leads on", b""),
-    }
-}
-
-/// Tells why a path ended at no item.
-fn say_end<W: Write, V: Write>(
-    alloc: Global,
-    resolved: &Resolved<'_>,
-    output: &mut W,
-    errors: &mut V,
-) -> Result<bool, ToolError>
-    ensures { SaysBoth (λ well out told. (well ≡ false) × (out ≡ [])
-        × (told ≡ end_line resolved.now.block resolved.now.end))
-        (W.contents output.old) (V.contents errors.old) result
-        (W.contents output.new) (V.contents errors.new) }
-{
-    match end_told(alloc, &resolved.block, &resolved.end) {
-        Ok(line) => say_both((Vec::new(alloc), false), &line, output, errors),
-        Err(_) => Err(ToolError::OutOfMemory),
-    }
+/// What is asked of a path.
+#[derive(Clone, Copy)]
+pub enum Asked {
+    /// The data of the item, as DAG-JSON.
+    Data,
+    /// The bytes of the item.
+    Bytes,
+    /// The file that proves what it leads to.
+    Proof,
 }
 
 /// Writes the data of the item.
@@ -95,11 +65,33 @@ fn say_at<W: Write, V: Write>(
     }
 }
 
-/// Writes what the path leads to from the root, over the blocks of the file that the input is, or tells
-/// why it leads to nothing, or why there is no file. Whether it leads to something. The blocks of the
-/// input are in memory.
-pub fn write_at<R: BufRead, W: Write, V: Write>(
+/// Writes what is asked of the path from the root, or tells why there is none. Whether there is.
+pub fn say_asked<W: Write, V: Write>(
     alloc: Global,
+    asked: Asked,
+    root: &Cid,
+    path: &str,
+    blocks: &BTreeMap<Cid, Vec<u8>>,
+    output: &mut W,
+    errors: &mut V,
+) -> Result<bool, ToolError>
+    ensures { SaysBoth (IsAnswerOf asked root.now (segments path.now) (stored_in blocks.now))
+        (W.contents output.old) (V.contents errors.old) result
+        (W.contents output.new) (V.contents errors.new) }
+{
+    match asked {
+        Asked::Data => say_at(alloc, root, path, blocks, output, errors),
+        Asked::Bytes => say_raw(alloc, root, path, blocks, output, errors),
+        Asked::Proof => say_proof(alloc, root, path, blocks, output, errors),
+    }
+}
+
+/// Writes what is asked of the path from the root, over the blocks of the file that the input is, or
+/// tells why there is none, or why there is no file. Whether there is. The blocks of the input are in
+/// memory.
+pub fn write_asked<R: BufRead, W: Write, V: Write>(
+    alloc: Global,
+    asked: Asked,
     root: &Cid,
     path: &str,
     input: &mut R,
@@ -107,11 +99,11 @@ pub fn write_at<R: BufRead, W: Write, V: Write>(
     errors: &mut V,
 ) -> Result<bool, ToolError>
     ensures { IfSome (R.remaining input.old) (λ b.
-        SaysBoth (IsAt root.now (segments path.now) b) (W.contents output.old)
+        SaysBoth (IsAnswer asked root.now (segments path.now) b) (W.contents output.old)
         (V.contents errors.old) result (W.contents output.new) (V.contents errors.new)) }
 {
     match held_of(alloc, input) {
-        Ok(Ok(held)) => say_at(alloc, root, path, &held, output, errors),
+        Ok(Ok(held)) => say_asked(alloc, asked, root, path, &held, output, errors),
         Ok(Err(line)) => say_both((Vec::new(alloc), false), &line, output, errors),
         Err(fault) => Err(fault),
     }

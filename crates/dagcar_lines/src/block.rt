@@ -1,15 +1,16 @@
-//! One block: its kind, its name, or its data.
+//! `name`, `one` and `show`: the name, the kind or the data of a block.
 
-ghost use Rattle.std.specs.Prelude.{◌≡◌, ◌++◌, [], codes, true, false, IfOk, IfSome, if◌then◌else◌};
+ghost use Rattle.std.specs.Prelude.{◌≡◌, ◌++◌, [], codes, true, false, IfOk, if◌then◌else◌};
 ghost use Rattle.cid_text.specs.Texts.{cid_text};
 ghost use Rattle.dagcbor_items.specs.PrintedNames.{variant_name};
-ghost use Rattle.block_lines.specs.Lines.{line, SaysBoth};
+ghost use Rattle.block_lines.specs.Lines.{line};
 ghost use Rattle.dagcar_lines.specs.Lines.{reserved_line, place_line};
 ghost use Rattle.ipld_tree.specs.Ipld.{tree_of};
 ghost use Rattle.dag_json.specs.DagJson.{dag_json, has_reserved_key};
 ghost use Rattle.dagcar_lines.specs.Answers.{IsJudged, IsNamed, IsShown};
 
-use block_lines::{Said, line_of, say_both};
+use crate::answer::{Answer, Answering};
+use block_lines::line_of;
 use cid_text::cid_text;
 use dag_json::{dag_json, has_reserved_key};
 use dagcbor_cli::ToolError;
@@ -17,25 +18,9 @@ use dagcbor_items::{Refused, any_from_slice, judge_slice, kind_name, variant_nam
 use ipld_links::name_of_block;
 use ipld_tree::{Cid, Ipld};
 use std::alloc::{AllocError, Global};
-use std::io::{BufRead, ErrorKind, Write};
-
-/// What is said of a block, and what is told beside that.
-type Answer = (Said, Vec<u8>);
-
-/// All bytes of the input.
-pub fn read_all<R: BufRead>(alloc: Global, input: &mut R) -> Result<Vec<u8>, ToolError>
-    ensures { IfSome (R.remaining input.old) (λ b. IfOk result (λ v. v.items ≡ b)) }
-{
-    let mut bytes = Vec::new(alloc);
-    match input.read_to_end(&mut bytes) {
-        Ok(_count) => Ok(bytes),
-        Err(e) if e.kind() == ErrorKind::OutOfMemory => Err(ToolError::OutOfMemory),
-        Err(_) => Err(ToolError::Input),
-    }
-}
 
 /// The line of bytes that are no block, with the byte by which they are none.
-fn place_line(alloc: Global, refused: &Refused) -> Result<Vec<u8>, AllocError>
+pub fn place_line(alloc: Global, refused: &Refused) -> Result<Vec<u8>, AllocError>
     ensures { IfOk result (λ v. v.items ≡ place_line refused.now.cause refused.now.place) }
 {
     let place = format!(in alloc; " at byte {}", refused.place)?;
@@ -55,37 +40,11 @@ fn refused_of(alloc: Global, refused: &Refused) -> Result<Answer, AllocError>
     Ok(((line, false), told))
 }
 
-/// The kind of the block, or why the bytes are none.
-fn judged(alloc: Global, block: &[u8]) -> Result<Answer, AllocError>
-    ensures { IfOk result (λ p. IsJudged block.now p.0.1 p.0.0.items p.1.items) }
-{
-    match judge_slice(block) {
-        Ok(kind) => {
-            let line = line_of(alloc, b"ok ", kind_name(kind).as_bytes(), b"")?;
-            Ok(((line, true), Vec::new(alloc)))
-        }
-        Err(refused) => refused_of(alloc, &refused),
-    }
-}
-
 /// The line of a name.
 fn name_line(alloc: Global, cid: &Cid) -> Result<Vec<u8>, AllocError>
     ensures { IfOk result (λ v. v.items ≡ line (cid_text cid.now)) }
 {
     line_of(alloc, &cid_text(cid), b"", b"")
-}
-
-/// The name of the block, or why the bytes are none.
-fn named(alloc: Global, block: &[u8]) -> Result<Answer, AllocError>
-    ensures { IfOk result (λ p. IsNamed block.now p.0.1 p.0.0.items p.1.items) }
-{
-    match judge_slice(block) {
-        Ok(_kind) => {
-            let line = name_line(alloc, &name_of_block(block))?;
-            Ok(((line, true), Vec::new(alloc)))
-        }
-        Err(refused) => refused_of(alloc, &refused),
-    }
 }
 
 /// The line of the data.
@@ -135,62 +94,50 @@ pub fn shown(alloc: Global, block: &[u8]) -> Result<Answer, AllocError>
     }
 }
 
-/// Writes the name of the block that the input is, or why it is none. Whether it is one.
-pub fn say_name<R: BufRead, W: Write, V: Write>(
-    alloc: Global,
-    input: &mut R,
-    output: &mut W,
-    errors: &mut V,
-) -> Result<bool, ToolError>
-    ensures { IfSome (R.remaining input.old) (λ b.
-        SaysBoth (IsNamed b) (W.contents output.old) (V.contents errors.old) result
-        (W.contents output.new) (V.contents errors.new)) }
-{
-    match read_all(alloc, input) {
-        Ok(block) => match named(alloc, &block) {
-            Ok((said, told)) => say_both(said, &told, output, errors),
-            Err(_) => Err(ToolError::OutOfMemory),
-        },
-        Err(fault) => Err(fault),
+/// `name`: the CID of the block, or why the bytes are none.
+#[derive(Clone, Copy)]
+pub struct Naming;
+
+impl Answering for Naming {
+    ghost is_said = { IsNamed };
+
+    fn answer(alloc: Global, bytes: &[u8]) -> Result<Answer, ToolError> {
+        match judge_slice(bytes) {
+            Ok(_kind) => {
+                let line = name_line(alloc, &name_of_block(bytes))?;
+                Ok(((line, true), Vec::new(alloc)))
+            }
+            Err(refused) => Ok(refused_of(alloc, &refused)?),
+        }
     }
 }
 
-/// Writes the kind of the block that the input is, or why it is none. Whether it is one.
-pub fn say_kind<R: BufRead, W: Write, V: Write>(
-    alloc: Global,
-    input: &mut R,
-    output: &mut W,
-    errors: &mut V,
-) -> Result<bool, ToolError>
-    ensures { IfSome (R.remaining input.old) (λ b.
-        SaysBoth (IsJudged b) (W.contents output.old) (V.contents errors.old) result
-        (W.contents output.new) (V.contents errors.new)) }
-{
-    match read_all(alloc, input) {
-        Ok(block) => match judged(alloc, &block) {
-            Ok((said, told)) => say_both(said, &told, output, errors),
-            Err(_) => Err(ToolError::OutOfMemory),
-        },
-        Err(fault) => Err(fault),
+/// `one`: the kind of the block, or why the bytes are none.
+#[derive(Clone, Copy)]
+pub struct Judging;
+
+impl Answering for Judging {
+    ghost is_said = { IsJudged };
+
+    fn answer(alloc: Global, bytes: &[u8]) -> Result<Answer, ToolError> {
+        match judge_slice(bytes) {
+            Ok(kind) => {
+                let line = line_of(alloc, b"ok ", kind_name(kind).as_bytes(), b"")?;
+                Ok(((line, true), Vec::new(alloc)))
+            }
+            Err(refused) => Ok(refused_of(alloc, &refused)?),
+        }
     }
 }
 
-/// Writes the data of the block that the input is, or why it is none. Whether it is one.
-pub fn say_data<R: BufRead, W: Write, V: Write>(
-    alloc: Global,
-    input: &mut R,
-    output: &mut W,
-    errors: &mut V,
-) -> Result<bool, ToolError>
-    ensures { IfSome (R.remaining input.old) (λ b.
-        SaysBoth (IsShown b) (W.contents output.old) (V.contents errors.old) result
-        (W.contents output.new) (V.contents errors.new)) }
-{
-    match read_all(alloc, input) {
-        Ok(block) => match shown(alloc, &block) {
-            Ok((said, told)) => say_both(said, &told, output, errors),
-            Err(_) => Err(ToolError::OutOfMemory),
-        },
-        Err(fault) => Err(fault),
+/// `show`: the data of the block, or why the bytes are none.
+#[derive(Clone, Copy)]
+pub struct Showing;
+
+impl Answering for Showing {
+    ghost is_said = { IsShown };
+
+    fn answer(alloc: Global, bytes: &[u8]) -> Result<Answer, ToolError> {
+        Ok(shown(alloc, bytes)?)
     }
 }

@@ -1,32 +1,90 @@
 //! `check`: the verdict on each section, and then the roots and the links that lead nowhere.
 
-ghost use Rattle.std.specs.Prelude.{◌≡◌, ◌↔◌, [], IsTrue, IfOk, OnOk};
+ghost use Rattle.std.specs.Prelude.{◌≡◌, ◌↔◌, [], IsTrue, IfOk, OnOk, refl};
 ghost use Rattle.std.specs.List.{flat_map};
 ghost use Rattle.dagcbor_car.specs.Checks.{IsAfter, TakesSection};
 ghost use Rattle.block_lines.specs.Lines.{missing_line};
-ghost use Rattle.dagcar_lines.specs.Answers.{IsVerdictLine, check_speech};
+ghost use Rattle.ipld_links.specs.Verdicts.{IsVerdict};
+ghost use Rattle.dagcar_lines.specs.Answers.{IsVerdictLine, TellsPlace, check_speech};
+ghost use Rattle.dagcar_lines.specs.Lines.{section_place_line};
 ghost use Rattle.dagcar_lines.specs.Steps.{TellsEnd};
 
+use crate::answer::Answer;
+use crate::block::place_line;
 use crate::walk::Teller;
 use block_lines::{Said, is_none, missing_lines, told_line};
+use cid_text::cid_text;
 use dagcbor_car::{CarCheck, Section};
+use dagcbor_items::{Refused, judge_slice};
 use ipld_links::Verdict;
 use ipld_tree::Cid;
 use std::alloc::{AllocError, Global};
 
-/// Takes the section, and answers the line of the verdict on it.
+/// The line that tells by which byte the block of the section is refused.
+fn section_place_line(
+    alloc: Global,
+    section: &Section<'_>,
+    refused: &Refused,
+) -> Result<Vec<u8>, AllocError>
+    ensures { IfOk result (λ v. v.items ≡ section_place_line section.now.cid refused.now.cause
+        refused.now.place) }
+{
+    let mut line = Vec::new(alloc);
+    line.extend_from_slice(&cid_text(&section.cid))?;
+    line.extend_from_slice(b": ")?;
+    line.extend_from_slice(&place_line(alloc, refused)?)?;
+    Ok(line)
+}
+
+/// What is told of a section with this verdict: of one that is refused, by which byte of its block.
+fn section_told(
+    alloc: Global,
+    section: &Section<'_>,
+    verdict: &Verdict,
+) -> Result<Vec<u8>, AllocError>
+    ensures { IsVerdict (section.now.cid, section.now.block.now) verdict.now → IfOk result
+        (λ v. TellsPlace (section.now.cid, section.now.block.now) v.items) }
+{
+    if !matches!(verdict, Verdict::Refused(_)) {
+        return Ok(Vec::new(alloc));
+    }
+    match judge_slice(section.block) {
+        Ok(_) => Ok(Vec::new(alloc)),
+        Err(refused) => section_place_line(alloc, section, &refused),
+    }
+}
+
+/// The line of the section with this verdict, and what is told beside that.
+pub fn section_answer(
+    alloc: Global,
+    section: &Section<'_>,
+    verdict: &Verdict,
+) -> Result<Answer, AllocError>
+    ensures said { IsVerdict (section.now.cid, section.now.block.now) verdict.now → IfOk result
+        (λ p. IsVerdictLine (section.now.cid, section.now.block.now) p.0.1 p.0.0.items) }
+    ensures told { IsVerdict (section.now.cid, section.now.block.now) verdict.now → IfOk result
+        (λ p. TellsPlace (section.now.cid, section.now.block.now) p.1.items) }
+{
+    let said = told_line(alloc, &section.cid, verdict)?;
+    let told = section_told(alloc, section, verdict)?;
+    Ok((said, told))
+}
+
+/// Takes the section, and answers the line of the verdict on it, and what is told beside that.
 fn verdict_said(
     alloc: Global,
     check: &mut CarCheck,
     section: &Section<'_>,
-) -> Result<Said, AllocError>
+) -> Result<Answer, AllocError>
     ensures said { IfOk result
-        (λ p. IsVerdictLine (section.now.cid, section.now.block.now) p.1 p.0.items) }
+        (λ p. IsVerdictLine (section.now.cid, section.now.block.now) p.0.1 p.0.0.items) }
+    ensures told { IfOk result
+        (λ p. TellsPlace (section.now.cid, section.now.block.now) p.1.items) }
     ensures taken { OnOk result
         (TakesSection (section.now.cid, section.now.block.now) check.old check.new) }
 {
     match check.take(section) {
-        Ok(verdict) => told_line(alloc, &section.cid, &verdict),
+        Ok(verdict) => section_answer(alloc, section, &verdict),
         Err(error) => Err(error),
     }
 }
@@ -53,14 +111,18 @@ fn missing_said(alloc: Global, check: CarCheck) -> Result<Said, AllocError>
 impl Teller for CarCheck {
     ghost speech = { check_speech };
 
+    ghost tells = { TellsPlace };
+
     ghost knows = { IsAfter };
+
+    ghost says_faults = { λ line. refl };
 
     fn begin(alloc: Global, roots: &[Cid]) -> Result<(CarCheck, Vec<u8>), AllocError> {
         let check = CarCheck::new(alloc, roots)?;
         Ok((check, Vec::new(alloc)))
     }
 
-    fn tell(&mut self, alloc: Global, section: &Section<'_>) -> Result<Said, AllocError> {
+    fn tell(&mut self, alloc: Global, section: &Section<'_>) -> Result<Answer, AllocError> {
         verdict_said(alloc, self, section)
     }
 

@@ -3,23 +3,24 @@
 ghost use Rattle.std.specs.Prelude.{◌≡◌, ◌≢◌, [], ◌∷◌, ◌++◌, codes, true, map, string_bytes, IfSome, MatchOption, Result, Bool, Option, None, Some, List, ℕ};
 ghost use Rattle.dagcbor_heads.specs.Inputs.{input_reading, not_lending};
 ghost use Rattle.dagcar_lines.specs.Answers.{RunsCommand, EndsSo, IsQuiet};
-ghost use Rattle.dagcar_lines.specs.Speeches.{SaysBytes};
+ghost use Rattle.dagcar_lines.specs.Speeches.{beside, SaysBytes};
 ghost use Rattle.block_lines.specs.Lines.{no_cid_line, Says};
 ghost use Rattle.dagcbor_cli.specs.declared.fault.ToolError.{ToolError};
 ghost use Rattle.dagcar_lines.specs.Commands.{IsCommand, IsCommandOn, IsMistyped};
 ghost use Rattle.dagcar_lines.specs.Commands.{name_part, path_part, path_of};
-ghost use Rattle.dagcar_lines.specs.declared.command.Command.TheVariants.{At, Summary};
+ghost use Rattle.dagcar_lines.specs.declared.command.Command.TheVariants.{Summary};
 ghost use Rattle.ipld_tree.specs.Cid.{CidParts};
 ghost use Rattle.cid_text.specs.Texts.{IsTextFault, IsTextOf};
 ghost use Rattle.cid_text.specs.declared.error.CidTextError.{CidTextError};
 ghost use Rattle.dagcbor_cli.specs.Writing.{WritesFront};
 
-use crate::at::write_at;
-use crate::block::{say_data, say_kind, say_name};
+use crate::answer::say_answer;
+use crate::at::{Asked, write_asked};
+use crate::block::{Judging, Naming, Showing};
 use crate::get::get_block;
 use crate::help::{help_text, version_text};
 use crate::list::Listing;
-use crate::make::make_block;
+use crate::make::Making;
 use crate::summary::Summing;
 use crate::tree::write_tree;
 use crate::verify::Verifying;
@@ -31,11 +32,13 @@ use dagcbor_cli::{ToolError, give_up, write_all};
 use dagcbor_heads::{Input, IoRefReader, Read};
 use ipld_tree::Cid;
 use std::alloc::Global;
+use std::io;
 use std::io::{BufRead, Write};
 
 /// What is told of wrong words.
 pub const USAGE: &str =
-    "usage: dagcar check [--summary]|verify|list|name|one|show|make|get CID|tree CID|at CID/PATH\n";
+    "usage: dagcar check [--summary]|verify|list|name|one|show|make|get CID|tree CID\
+    |at [--raw] CID/PATH|prove CID/PATH\n";
 
 /// What is told of want of memory.
 pub const OUT_OF_MEMORY: &str = "dagcar: out of memory\n";
@@ -69,6 +72,10 @@ pub enum Command {
     Tree(Cid),
     /// To show what a path leads to from this root.
     At(Cid),
+    /// To write the bytes of what a path leads to from this root.
+    Raw(Cid),
+    /// To write the file that proves what a path leads to from this root.
+    Prove(Cid),
 }
 
 /// The command of this one word.
@@ -103,7 +110,7 @@ fn command_on(word: &str, name: Cid) -> Option<Command>
 }
 
 /// A name and a path: the text before its first slash, and behind it.
-fn split_path(text: &str) -> (&str, &str)
+pub fn split_path(text: &str) -> (&str, &str)
     ensures name { result.0.now ≡ name_part text.now }
     ensures path { result.1.now ≡ path_part text.now }
 {
@@ -113,16 +120,25 @@ fn split_path(text: &str) -> (&str, &str)
     }
 }
 
-/// The command `at` of a text: a CID, and a path behind it.
-fn command_at(text: &str) -> Option<Command>
+/// The root in a text: a CID, and a path behind it.
+fn root_in(text: &str) -> Option<Cid>
     ensures { MatchOption result ((n : CidParts) → ¬ IsTextOf (name_part text.now) n)
-        (λ c. (n : CidParts) × (c ≡ At n) × IsTextOf (name_part text.now) n) }
+        (λ n. IsTextOf (name_part text.now) n) }
 {
     let (name, _path) = split_path(text);
-    match cid_from_text(name.as_bytes()) {
-        Ok(root) => Some(Command::At(root)),
-        Err(_) => None,
+    cid_from_text(name.as_bytes()).ok()
+}
+
+/// The command of a word, an option and a text: `at --raw` of a root.
+fn command_with(word: &str, option: &str, text: &str) -> Option<Command>
+    ensures { MatchOption result
+        ((c : Command) → ¬ IsCommand (word.now ∷ option.now ∷ text.now ∷ []) c)
+        (λ c. IsCommand (word.now ∷ option.now ∷ text.now ∷ []) c) }
+{
+    if word != "at" || option != "--raw" {
+        return None;
     }
+    Some(Command::Raw(root_in(text)?))
 }
 
 /// The command `check` with this word behind it.
@@ -142,17 +158,21 @@ fn path_of(args: &[String]) -> &str
 {
     match args {
         [_word, text] => split_path(text.as_str()).1,
+        [_word, _option, text] => split_path(text.as_str()).1,
         _ => "",
     }
 }
 
-/// The command of a word and a CID as text, with a path behind it where the word is `at`.
+/// The command of a word and a CID as text, with a path behind it where the word is `at` or `prove`.
 fn command_on_text(word: &str, text: &str) -> Option<Command>
     ensures { MatchOption result ((c : Command) → ¬ IsCommand (word.now ∷ text.now ∷ []) c)
         (λ c. IsCommand (word.now ∷ text.now ∷ []) c) }
 {
     if word == "at" {
-        return command_at(text);
+        return Some(Command::At(root_in(text)?));
+    }
+    if word == "prove" {
+        return Some(Command::Prove(root_in(text)?));
     }
     if word == "check" {
         return check_with(text);
@@ -171,6 +191,7 @@ fn command_of(args: &[String]) -> Option<Command>
     match args {
         [word] => command_named(word.as_str()),
         [word, text] => command_on_text(word.as_str(), text.as_str()),
+        [word, option, text] => command_with(word.as_str(), option.as_str(), text.as_str()),
         _ => None,
     }
 }
@@ -192,9 +213,21 @@ fn no_cid_behind(word: &str, text: &str) -> Option<CidTextError>
 {
     match word {
         "get" | "tree" => text_fault(text),
-        "at" => text_fault(split_path(text).0),
+        "at" if text == "--raw" => None,
+        "at" | "prove" => text_fault(split_path(text).0),
         _ => None,
     }
+}
+
+/// Why no CID stands where one should, behind this word and this option.
+fn no_cid_with(word: &str, option: &str, text: &str) -> Option<CidTextError>
+    ensures { (e : CidTextError) → IsMistyped (word.now ∷ option.now ∷ text.now ∷ []) e
+        → result ≡ Some e }
+{
+    if word == "at" && option == "--raw" {
+        return text_fault(split_path(text).0);
+    }
+    None
 }
 
 /// Why no CID stands in the words where one should.
@@ -203,6 +236,7 @@ fn no_cid_in(args: &[String]) -> Option<CidTextError>
 {
     match args {
         [word, text] => no_cid_behind(word.as_str(), text.as_str()),
+        [word, option, text] => no_cid_with(word.as_str(), option.as_str(), text.as_str()),
         _ => None,
     }
 }
@@ -267,17 +301,21 @@ pub fn input_over<'de, R: Read>(reader: R) -> Input<'de, R>
     Input::Reader(reader)
 }
 
-/// Says what the teller says of the file that the input is. Whether nothing is wrong.
-fn say_input<T: Teller, R: BufRead, W: Write>(
+/// Says what the teller says of the file that the input is, and tells what it tells beside that.
+/// Whether nothing is wrong.
+fn say_input<T: Teller, R: BufRead, W: Write, V: Write>(
     alloc: Global,
     input: &mut R,
     output: &mut W,
+    errors: &mut V,
 ) -> Result<bool, ToolError>
-    ensures { IfSome (R.remaining input.old) (λ b.
+    ensures said { IfSome (R.remaining input.old) (λ b.
         SaysBytes T.speech b (W.contents output.old) result (W.contents output.new)) }
+    ensures told { IfSome (R.remaining input.old) (λ b.
+        SaysBytes (beside T.tells) b (V.contents errors.old) result (V.contents errors.new)) }
 {
     let mut source = input_over(IoRefReader::new(input));
-    let result = say_file::<T, _, _>(alloc, &mut source, output);
+    let result = say_file::<T, _, _, _>(alloc, &mut source, output, errors);
     if let Some(lent) = source.into_reader() {
         let _source = lent.into_inner();
     }
@@ -308,19 +346,28 @@ pub fn run<R: BufRead, W: Write, V: Write>(
     ensures quiet { IsQuiet command → errors.new ≡ errors.old }
 {
     match command {
-        Command::Check => say_input::<CarCheck, R, W>(alloc, input, output),
-        Command::Summary => say_input::<Summing, R, W>(alloc, input, output),
-        Command::Verify => say_input::<Verifying, R, W>(alloc, input, output),
+        Command::Check => say_input::<CarCheck, R, W, V>(alloc, input, output, errors),
+        Command::Summary => say_input::<Summing, R, W, V>(alloc, input, output, errors),
+        Command::Verify => say_input::<Verifying, R, W, V>(alloc, input, output, errors),
         Command::Help => say_text(help_text(), output),
         Command::Version => say_text(version_text(), output),
-        Command::List => say_input::<Listing, R, W>(alloc, input, output),
-        Command::Name => say_name(alloc, input, output, errors),
-        Command::One => say_kind(alloc, input, output, errors),
-        Command::Show => say_data(alloc, input, output, errors),
-        Command::Make => make_block(alloc, input, output, errors),
+        Command::List => say_input::<Listing, R, W, io::Sink>(
+            alloc,
+            input,
+            output,
+            &mut io::sink(),
+        ),
+        Command::Name => say_answer::<Naming, R, W, V>(alloc, input, output, errors),
+        Command::One => say_answer::<Judging, R, W, V>(alloc, input, output, errors),
+        Command::Show => say_answer::<Showing, R, W, V>(alloc, input, output, errors),
+        Command::Make => say_answer::<Making, R, W, V>(alloc, input, output, errors),
         Command::Get(name) => get_block(alloc, &name, input, output, errors),
         Command::Tree(root) => write_tree(alloc, &root, input, output, errors),
-        Command::At(root) => write_at(alloc, &root, path, input, output, errors),
+        Command::At(root) => write_asked(alloc, Asked::Data, &root, path, input, output, errors),
+        Command::Raw(root) => write_asked(alloc, Asked::Bytes, &root, path, input, output, errors),
+        Command::Prove(root) => {
+            write_asked(alloc, Asked::Proof, &root, path, input, output, errors)
+        }
     }
 }
 

@@ -5,8 +5,9 @@ ghost use Rattle.ipld_links.specs.Verdicts.{IsVerified};
 ghost use Rattle.dagcar_lines.specs.Finding.{IsGot, Seeks};
 ghost use Rattle.block_lines.specs.Lines.{SaysBoth};
 
+use crate::answer::Answer;
 use crate::take::{Ended, take_input};
-use block_lines::{Said, missing_lines, say_both};
+use block_lines::{missing_lines, say_both};
 use dagcbor_car::{Section, SectionSink};
 use dagcbor_cli::ToolError;
 use ipld_links::{Verdict, verify};
@@ -66,7 +67,7 @@ impl SectionSink for Search {
 
 /// The block of the name in the file that the input is, or what is told of a file that has none. What
 /// stands behind the block is not read.
-fn got<R: BufRead>(alloc: Global, name: &Cid, input: &mut R) -> Result<(Said, Vec<u8>), ToolError>
+fn got<R: BufRead>(alloc: Global, name: &Cid, input: &mut R) -> Result<Answer, ToolError>
     ensures { IfSome (R.remaining input.old) (λ b. IfOk result
         (λ p. IsGot name.now b p.0.1 p.0.0.items p.1.items)) }
 {

@@ -7,7 +7,8 @@ ghost use Rattle.dagcar_lines.specs.Help.{help_text, version_text};
 const HELP: &str = "usage: dagcar check [--summary] [FILE]
        dagcar verify|list|name|one|show|make [FILE]
        dagcar get|tree CID [FILE]
-       dagcar at CID/PATH [FILE]
+       dagcar at [--raw] CID/PATH [FILE]
+       dagcar prove CID/PATH [FILE]
 
 Of a file of blocks (CAR, version 1 or 2); without FILE, or with -, standard input:
   check    the verdict on each block, and which links lead nowhere; --summary counts them
@@ -15,7 +16,8 @@ Of a file of blocks (CAR, version 1 or 2); without FILE, or with -, standard inp
   list     the roots, and the length of each block
   get      the block of a name
   tree     the file of the blocks that links lead to
-  at       the data that a path leads to, as DAG-JSON
+  at       the data that a path leads to, as DAG-JSON; --raw writes its bytes
+  prove    the file of the blocks on a path, over which at answers the same
 
 Of a block of DAG-CBOR:
   name     its CID
@@ -23,7 +25,11 @@ Of a block of DAG-CBOR:
   show     its data as DAG-JSON
   make     the other way: the block of data in DAG-JSON
 
-For example: dagcar check blocks.car
+For example:
+  dagcar check blocks.car
+  dagcar prove CID/a/0 blocks.car > proof.car
+  dagcar at CID/a/0 proof.car
+  dagcar at --raw CID/a/0 proof.car | dagcar one
 
 The status is 0 where nothing is wrong, 1 where something is, 2 where it could not be told.
 ";

@@ -2,6 +2,7 @@
 //! blocks are named, judged, shown and made.
 #![tactic(auto)]
 
+mod answer;
 mod at;
 mod block;
 mod check;
@@ -10,6 +11,7 @@ mod device;
 mod get;
 mod help;
 mod holding;
+pub mod laws;
 mod list;
 mod make;
 mod names;
@@ -19,5 +21,6 @@ mod tree;
 mod verify;
 mod walk;
 
-pub use command::{Command, OUT_OF_MEMORY, USAGE, run_command, split_words};
+pub use at::{Asked, say_asked};
+pub use command::{Command, OUT_OF_MEMORY, USAGE, run_command, split_path, split_words};
 pub use device::OneFault;

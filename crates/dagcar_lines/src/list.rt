@@ -1,8 +1,9 @@
 //! `list`: the roots, and then each section, with the length of its block.
 
-ghost use Rattle.std.specs.Prelude.{⊤};
+ghost use Rattle.std.specs.Prelude.{◌≡◌, [], ⊤, refl};
 ghost use Rattle.dagcar_lines.specs.Answers.{list_speech};
 
+use crate::answer::Answer;
 use crate::walk::Teller;
 use block_lines::{Said, listed_line, root_lines};
 use dagcbor_car::Section;
@@ -16,16 +17,20 @@ pub struct Listing;
 impl Teller for Listing {
     ghost speech = { list_speech };
 
+    ghost tells = { λ s text. text ≡ [] };
+
     ghost knows = { λ listing roots sections. ⊤ };
+
+    ghost says_faults = { λ line. refl };
 
     fn begin(alloc: Global, roots: &[Cid]) -> Result<(Listing, Vec<u8>), AllocError> {
         let lines = root_lines(alloc, roots)?;
         Ok((Listing, lines))
     }
 
-    fn tell(&mut self, alloc: Global, section: &Section<'_>) -> Result<Said, AllocError> {
+    fn tell(&mut self, alloc: Global, section: &Section<'_>) -> Result<Answer, AllocError> {
         let line = listed_line(alloc, &section.cid, section.block)?;
-        Ok((line, true))
+        Ok(((line, true), Vec::new(alloc)))
     }
 
     fn end(self, alloc: Global) -> Result<Said, AllocError> {

@@ -1,20 +1,17 @@
 //! `make`: the block of the data that a text is.
 
-ghost use Rattle.std.specs.Prelude.{◌≡◌, [], true, false, IfOk, IfSome};
+ghost use Rattle.std.specs.Prelude.{◌≡◌, [], true, false, IfOk};
 ghost use Rattle.ipld_tree.specs.Ipld.{tree_of};
 ghost use Rattle.ipld_tree.specs.Spelling.{IsSpelling};
-ghost use Rattle.block_lines.specs.Lines.{SaysBoth};
 ghost use Rattle.dagcar_lines.specs.Answers.{IsMade};
 
-use crate::block::read_all;
+use crate::answer::{Answer, Answering};
 use crate::names::cause_line;
-use block_lines::{Said, say_both};
 use dag_json::{DagJsonError, data_from_json};
 use dagcbor_cli::ToolError;
 use dagcbor_write::to_vec;
 use ipld_tree::Ipld;
 use std::alloc::Global;
-use std::io::{BufRead, Write};
 
 /// The block of the data. What a text spells has one, so that it lacks nothing but memory.
 fn block_of(alloc: Global, value: &Ipld) -> Result<Vec<u8>, ToolError>
@@ -27,7 +24,7 @@ fn block_of(alloc: Global, value: &Ipld) -> Result<Vec<u8>, ToolError>
 }
 
 /// The block of the data that the text is, or what is told of one that is none.
-fn made(alloc: Global, text: &[u8]) -> Result<(Said, Vec<u8>), ToolError>
+fn made(alloc: Global, text: &[u8]) -> Result<Answer, ToolError>
     ensures { IfOk result (λ p. IsMade text.now p.0.1 p.0.0.items p.1.items) }
 {
     match data_from_json(alloc, text) {
@@ -42,23 +39,14 @@ fn made(alloc: Global, text: &[u8]) -> Result<(Said, Vec<u8>), ToolError>
     }
 }
 
-/// Writes the block of the data that the input is in DAG-JSON, or tells why it is none. Whether it is
-/// one.
-pub fn make_block<R: BufRead, W: Write, V: Write>(
-    alloc: Global,
-    input: &mut R,
-    output: &mut W,
-    errors: &mut V,
-) -> Result<bool, ToolError>
-    ensures { IfSome (R.remaining input.old) (λ b.
-        SaysBoth (IsMade b) (W.contents output.old) (V.contents errors.old) result
-        (W.contents output.new) (V.contents errors.new)) }
-{
-    match read_all(alloc, input) {
-        Ok(text) => match made(alloc, &text) {
-            Ok((said, told)) => say_both(said, &told, output, errors),
-            Err(fault) => Err(fault),
-        },
-        Err(fault) => Err(fault),
+/// `make`: the block of data in DAG-JSON.
+#[derive(Clone, Copy)]
+pub struct Making;
+
+impl Answering for Making {
+    ghost is_said = { IsMade };
+
+    fn answer(alloc: Global, bytes: &[u8]) -> Result<Answer, ToolError> {
+        made(alloc, bytes)
     }
 }

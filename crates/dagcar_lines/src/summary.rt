@@ -1,14 +1,17 @@
 //! `check --summary`: what `check` says, and then how many sections had which verdict.
 
-ghost use Rattle.std.specs.Prelude.{◌≡◌, ◌↔◌, ◌++◌, ◌+◌, [], ℕ, List, length, flat_map, IsTrue, IfOk, OnOk};
+ghost use Rattle.std.specs.Prelude.{◌≡◌, ◌↔◌, ◌++◌, ◌+◌, [], length, flat_map, IsTrue, IfOk, OnOk, refl};
 ghost use Rattle.dagcbor_car.specs.Checks.{TakesSection};
-ghost use Rattle.block_lines.specs.Lines.{is_well, missing_line, told_line};
-ghost use Rattle.dagcar_lines.specs.Answers.{IsVerdictLine, summary_speech};
+ghost use Rattle.ipld_links.specs.Verdicts.{IsVerdict};
+ghost use Rattle.block_lines.specs.Lines.{missing_line};
+ghost use Rattle.dagcar_lines.specs.Answers.{IsVerdictLine, TellsPlace, summary_speech};
 ghost use Rattle.dagcar_lines.specs.Summary.{CountsOne, CountsSection, AreCounts, KnowsCounts};
 ghost use Rattle.dagcar_lines.specs.Summary.{count_line, counts_lines};
 
+use crate::answer::Answer;
+use crate::check::section_answer;
 use crate::walk::Teller;
-use block_lines::{Said, is_none, missing_lines, told_line};
+use block_lines::{Said, is_none, missing_lines};
 use dagcbor_car::{CarCheck, Section};
 use ipld_links::Verdict;
 use ipld_tree::Cid;
@@ -111,38 +114,42 @@ fn summary_said(alloc: Global, missing: &[Cid], counts: &Counts) -> Result<Said,
     Ok((lines, is_none(missing)))
 }
 
-/// Counts the section with this verdict, and answers its line.
+/// Counts the section with this verdict, and answers its line, and what is told beside that.
 fn told_counted(
     alloc: Global,
     counts: &mut Counts,
-    cid: &Cid,
+    section: &Section<'_>,
     verdict: &Verdict,
-) -> Result<Said, AllocError>
-    ensures line { (block : List ℕ)
-        → IfOk result (λ p. p.0.items ≡ told_line ((cid.now, block), verdict.now)) }
-    ensures well { IfOk result (λ p. p.1 ≡ is_well verdict.now) }
+) -> Result<Answer, AllocError>
+    ensures said { IsVerdict (section.now.cid, section.now.block.now) verdict.now → IfOk result
+        (λ p. IsVerdictLine (section.now.cid, section.now.block.now) p.0.1 p.0.0.items) }
+    ensures told { IsVerdict (section.now.cid, section.now.block.now) verdict.now → IfOk result
+        (λ p. TellsPlace (section.now.cid, section.now.block.now) p.1.items) }
     ensures counted { OnOk result (CountsOne verdict.now counts.old counts.new) }
 {
     counts.count(verdict)?;
-    told_line(alloc, cid, verdict)
+    section_answer(alloc, section, verdict)
 }
 
-/// Takes the section, counts it, and answers the line of the verdict on it.
+/// Takes the section, counts it, and answers the line of the verdict on it, and what is told beside
+/// that.
 fn tell_counted(
     alloc: Global,
     check: &mut CarCheck,
     counts: &mut Counts,
     section: &Section<'_>,
-) -> Result<Said, AllocError>
+) -> Result<Answer, AllocError>
     ensures said { IfOk result
-        (λ p. IsVerdictLine (section.now.cid, section.now.block.now) p.1 p.0.items) }
+        (λ p. IsVerdictLine (section.now.cid, section.now.block.now) p.0.1 p.0.0.items) }
+    ensures told { IfOk result
+        (λ p. TellsPlace (section.now.cid, section.now.block.now) p.1.items) }
     ensures taken { OnOk result
         (TakesSection (section.now.cid, section.now.block.now) check.old check.new) }
     ensures counted { OnOk result
         (CountsSection (section.now.cid, section.now.block.now) counts.old counts.new) }
 {
     match check.take(section) {
-        Ok(verdict) => told_counted(alloc, counts, &section.cid, &verdict),
+        Ok(verdict) => told_counted(alloc, counts, section, &verdict),
         Err(error) => Err(error),
     }
 }
@@ -150,7 +157,11 @@ fn tell_counted(
 impl Teller for Summing {
     ghost speech = { summary_speech };
 
+    ghost tells = { TellsPlace };
+
     ghost knows = { KnowsCounts };
+
+    ghost says_faults = { λ line. refl };
 
     fn begin(alloc: Global, roots: &[Cid]) -> Result<(Summing, Vec<u8>), AllocError> {
         let check = CarCheck::new(alloc, roots)?;
@@ -158,7 +169,7 @@ impl Teller for Summing {
         Ok((Summing { check, counts }, Vec::new(alloc)))
     }
 
-    fn tell(&mut self, alloc: Global, section: &Section<'_>) -> Result<Said, AllocError> {
+    fn tell(&mut self, alloc: Global, section: &Section<'_>) -> Result<Answer, AllocError> {
         tell_counted(alloc, &mut self.check, &mut self.counts, section)
     }
 

@@ -1,10 +1,12 @@
 //! `verify`: the verdict on each section. No link is followed.
 
-ghost use Rattle.std.specs.Prelude.{⊤};
-ghost use Rattle.dagcar_lines.specs.Answers.{verify_speech};
+ghost use Rattle.std.specs.Prelude.{⊤, refl};
+ghost use Rattle.dagcar_lines.specs.Answers.{TellsPlace, verify_speech};
 
+use crate::answer::Answer;
+use crate::check::section_answer;
 use crate::walk::Teller;
-use block_lines::{Said, told_line};
+use block_lines::Said;
 use dagcbor_car::Section;
 use ipld_links::verify;
 use ipld_tree::Cid;
@@ -17,15 +19,19 @@ pub struct Verifying;
 impl Teller for Verifying {
     ghost speech = { verify_speech };
 
+    ghost tells = { TellsPlace };
+
     ghost knows = { λ it roots sections. ⊤ };
+
+    ghost says_faults = { λ line. refl };
 
     fn begin(alloc: Global, _roots: &[Cid]) -> Result<(Verifying, Vec<u8>), AllocError> {
         Ok((Verifying, Vec::new(alloc)))
     }
 
-    fn tell(&mut self, alloc: Global, section: &Section<'_>) -> Result<Said, AllocError> {
+    fn tell(&mut self, alloc: Global, section: &Section<'_>) -> Result<Answer, AllocError> {
         let verdict = verify(&section.cid, section.block);
-        told_line(alloc, &section.cid, &verdict)
+        section_answer(alloc, section, &verdict)
     }
 
     fn end(self, alloc: Global) -> Result<Said, AllocError> {

@@ -5,12 +5,13 @@ ghost use Rattle.dagcar_lines.specs.declared.take.Ended.TheVariants.{Whole};
 ghost use Rattle.dagcbor_heads.specs.Inputs.{input_reading};
 ghost use Rattle.dagcbor_items.specs.Walks.{forms};
 ghost use Rattle.dagcbor_car.specs.Car.{Section as CarSection};
-ghost use Rattle.dagcar_lines.specs.Speeches.{Speech, SaysFile};
-ghost use Rattle.dagcar_lines.specs.Steps.{KnowsMore, TellsEnd, work_of, SaysSection, SaysRest};
+ghost use Rattle.dagcar_lines.specs.Speeches.{Speech, beside, SaysFile};
+ghost use Rattle.dagcar_lines.specs.Steps.{KnowsMore, TellsEnd, work_of, beside_of, SaysSection, SaysRest};
 ghost use Rattle.dagcar_lines.specs.Steps.{SaysSections, SaysHeader};
 
+use crate::answer::Answer;
 use crate::take::{Ended, fault_line, take_sections};
-use block_lines::{Said, say};
+use block_lines::{Said, say, say_both};
 use dagcbor_car::{Section, SectionSink, pull_header};
 use dagcbor_cli::{ToolError, write_all};
 use dagcbor_heads::{Input, Read};
@@ -23,6 +24,9 @@ pub trait Teller: Sized + Drop {
     /// What is said, in the words of contracts.
     ghost speech: { Speech };
 
+    /// What is told of a section beside that.
+    ghost tells: { CarSection → List ℕ → Type 0 };
+
     /// What is known behind these sections of a file of these roots.
     ghost knows: { Self → List (List ℕ) → List CarSection → Type 0 };
 
@@ -31,33 +35,46 @@ pub trait Teller: Sized + Drop {
         ensures known { IfOk result (λ p. Self.knows p.0 (forms roots.now) []) }
         ensures said { IfOk result (λ p. p.1.items ≡ Self.speech.of_roots (forms roots.now)) };
 
-    /// Takes the next section, and answers what is said of it.
-    fn tell(&mut self, alloc: Global, section: &Section<'_>) -> Result<Said, AllocError>
+    /// Takes the next section, and answers what is said of it, and what is told beside that.
+    fn tell(&mut self, alloc: Global, section: &Section<'_>) -> Result<Answer, AllocError>
         ensures said { IfOk result (λ p.
-            Self.speech.of_section (section.now.cid, section.now.block.now) p.1 p.0.items) }
+            Self.speech.of_section (section.now.cid, section.now.block.now) p.0.1 p.0.0.items) }
+        ensures told { IfOk result (λ p.
+            Self.tells (section.now.cid, section.now.block.now) p.1.items) }
         ensures known { OnOk result
             (KnowsMore Self.knows (section.now.cid, section.now.block.now) self.old self.new) };
 
     /// What is said at the end.
     fn end(self, alloc: Global) -> Result<Said, AllocError>
         ensures { TellsEnd Self.speech Self.knows self result };
+
+    /// The line of a fault is said.
+    ghost says_faults: { (line : List ℕ) → Self.speech.of_fault line ≡ line };
 }
 
 /// A teller at work: what it says goes out as it comes.
 #[derive(Drop)]
-struct Telling<'a, T, W> {
+struct Telling<'a, 'b, T, W, V> {
     alloc: Global,
     teller: T,
     /// Whether nothing is wrong so far.
     well: bool,
     output: &'a mut W,
+    errors: &'b mut V,
 }
 
-impl<'a, T: Teller, W: Write> Telling<'a, T, W> {
+impl<'a, 'b, T: Teller, W: Write, V: Write> Telling<'a, 'b, T, W, V> {
     /// A teller behind the header, of which nothing is wrong so far.
-    fn new(alloc: Global, teller: T, output: &'a mut W) -> Telling<'a, T, W>
+    fn new(
+        alloc: Global,
+        teller: T,
+        output: &'a mut W,
+        errors: &'b mut V,
+    ) -> Telling<'a, 'b, T, W, V>
         ensures reference { result.output.ghost_name ≡ output.entry.ghost_name }
         ensures bytes { result.output.now ≡ output.old }
+        ensures errors_reference { result.errors.ghost_name ≡ errors.entry.ghost_name }
+        ensures errors_bytes { result.errors.now ≡ errors.old }
         ensures teller { result.teller ≡ teller }
         ensures well { result.well ≡ true }
     {
@@ -66,19 +83,22 @@ impl<'a, T: Teller, W: Write> Telling<'a, T, W> {
             teller,
             well: true,
             output,
+            errors,
         }
     }
 }
 
-impl<T: Teller, W: Write> SectionSink for Telling<'_, T, W> {
+impl<T: Teller, W: Write, V: Write> SectionSink for Telling<'_, '_, T, W, V> {
     type Stop = ToolError;
 
     ghost takes = { λ s old result new. SaysSection T.speech T.knows s
-        (work_of W.contents old) result (work_of W.contents new) };
+        (work_of W.contents old) result (work_of W.contents new)
+        × SaysSection (beside T.tells) T.knows s
+        (beside_of V.contents old) result (beside_of V.contents new) };
 
     fn take(&mut self, section: &Section<'_>) -> Result<(), ToolError> {
         match self.teller.tell(self.alloc, section) {
-            Ok(said) => match say(said, self.output) {
+            Ok((said, told)) => match say_both(said, &told, self.output, self.errors) {
                 Ok(well) => {
                     self.well = self.well && well;
                     Ok(())
@@ -129,57 +149,69 @@ fn say_rest<T: Teller, W: Write>(
 }
 
 /// Says what is behind the header, of so much of the file. Whether nothing is wrong.
-fn say_sections<'de, T: Teller, R: Read, W: Write>(
+fn say_sections<'de, T: Teller, R: Read, W: Write, V: Write>(
     alloc: Global,
     teller: T,
     input: &mut Input<'de, R>,
     extent: Option<u64>,
     output: &mut W,
+    errors: &mut V,
 ) -> Result<bool, ToolError>
-    ensures { SaysSections T.speech T.knows extent (input_reading R.reading input.old) teller
+    ensures said { SaysSections T.speech T.knows extent (input_reading R.reading input.old) teller
         (W.contents output.old) result (W.contents output.new) }
+    ensures told { SaysSections (beside T.tells) T.knows extent (input_reading R.reading input.old)
+        teller (V.contents errors.old) result (V.contents errors.new) }
 {
-    let mut telling = Telling::new(alloc, teller, output);
+    let mut telling = Telling::new(alloc, teller, output, errors);
     let ended = take_sections(alloc, &mut telling, input, extent);
     let Telling {
         alloc: _,
         teller,
         well,
         output,
+        errors,
     } = telling;
+    // No effect at run time. The proof reads what `errors` holds from this use of it.
+    let _ = &*errors;
     say_rest(alloc, teller, well, ended, output)
 }
 
 /// Says this of the roots, and then what is behind the header. Whether nothing is wrong.
-fn say_header<'de, T: Teller, R: Read, W: Write>(
+fn say_header<'de, T: Teller, R: Read, W: Write, V: Write>(
     alloc: Global,
     teller: T,
     of_roots: &[u8],
     input: &mut Input<'de, R>,
     extent: Option<u64>,
     output: &mut W,
+    errors: &mut V,
 ) -> Result<bool, ToolError>
-    ensures { SaysHeader T.speech T.knows extent (input_reading R.reading input.old) of_roots.now teller
-        (W.contents output.old) result (W.contents output.new) }
+    ensures said { SaysHeader T.speech T.knows extent (input_reading R.reading input.old)
+        of_roots.now teller (W.contents output.old) result (W.contents output.new) }
+    ensures told { SaysHeader (beside T.tells) T.knows extent (input_reading R.reading input.old)
+        [] teller (V.contents errors.old) result (V.contents errors.new) }
 {
     write_all(output, of_roots)?;
-    say_sections(alloc, teller, input, extent, output)
+    say_sections(alloc, teller, input, extent, output, errors)
 }
 
-/// Writes what the teller says of the file, and where it is refused why, in a line. Whether nothing
-/// is wrong.
-pub fn say_file<'de, T: Teller, R: Read, W: Write>(
+/// Writes what the teller says of the file, and where it is refused why, in a line; and what it tells
+/// beside that. Whether nothing is wrong.
+pub fn say_file<'de, T: Teller, R: Read, W: Write, V: Write>(
     alloc: Global,
     input: &mut Input<'de, R>,
     output: &mut W,
+    errors: &mut V,
 ) -> Result<bool, ToolError>
-    ensures { SaysFile T.speech (input_reading R.reading input.old) (W.contents output.old) result
-        (W.contents output.new) }
+    ensures said { SaysFile T.speech (input_reading R.reading input.old) (W.contents output.old)
+        result (W.contents output.new) }
+    ensures told { SaysFile (beside T.tells) (input_reading R.reading input.old)
+        (V.contents errors.old) result (V.contents errors.new) }
 {
     match pull_header(alloc, input) {
         Ok((roots, extent)) => match T::begin(alloc, &roots) {
             Ok((teller, of_roots)) => {
-                say_header(alloc, teller, &of_roots, input, extent, output)
+                say_header(alloc, teller, &of_roots, input, extent, output, errors)
             }
             Err(_) => Err(ToolError::OutOfMemory),
         },

@@ -7,12 +7,16 @@ ghost use Rattle.serde_ipld_dagcbor.specs.Slices.{IsBlock};
 use crate::bag::Bag;
 use crate::declared::Declared;
 use crate::record::Record;
+use dagcbor_paths::find_slice;
 use serde_ipld_dagcbor::{
     Bytes, Deserialize, DeserializeOwned, IgnoredAny, Ipld, Serialize, check_slice, from_reader,
     from_slice, iter_from_reader, links_from_slice, to_vec,
 };
 use std::alloc::Global;
 use std::collections::{BTreeMap, HashMap};
+
+/// What is looked for in a list of records.
+const PATH: &str = "5000/year_of_birth";
 
 /// How many of so many calls answer true.
 fn repeated<F: Fn() -> bool>(times: u64, call: F) -> u64
@@ -99,6 +103,7 @@ fn is_texts(alloc: Global, block: &[u8]) -> bool {
 pub fn successes(alloc: Global, name: &str, block: &[u8], times: u64) -> Option<u64> {
     Some(match name {
         "check_slice" => judges(block, times),
+        "find_slice" => repeated(times, || matches!(find_slice(block, PATH), Ok(Some(_)))),
         "links_from_slice" => repeated(times, || links_from_slice(alloc, block).is_ok()),
         "from_slice::<IgnoredAny>" => reads::<IgnoredAny>(alloc, block, times),
         "from_slice::<Ipld>" => reads::<Ipld>(alloc, block, times),

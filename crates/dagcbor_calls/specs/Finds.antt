@@ -1,5 +1,5 @@
 -- What callers in other languages are answered of a path.
-use Rattle.std.specs.Prelude.{◌≡◌, ◌≢◌, ◌⊎◌, ℕ, ◌+◌, ℤ, negsuc, List, length, IsUtf8}
+use Rattle.std.specs.Prelude.{◌≡◌, ◌≢◌, ◌⊎◌, ℕ, ◌+◌, ℤ, negsuc, List, [], ◌∷◌, ◌++◌, length, IsUtf8}
 use Rattle.std.specs.declared.convert.Infallible.{Infallible}
 use Rattle.dagcbor_heads.specs.declared.error.DecodeError.{DecodeError}
 use Rattle.dagcbor_heads.specs.declared.error.DecodeError.TheVariants.{OutOfMemory}
@@ -7,7 +7,7 @@ use Rattle.ipld_tree.specs.Tree.{Tree}
 use Rattle.dagcbor_items.specs.Slices.{IsBlock, SliceRefused}
 use Rattle.dagcbor_items.specs.TreeKinds.{kind_of}
 use Rattle.dagcbor_paths.specs.Paths.{segments, At}
-use Rattle.dagcbor_paths.specs.Finding.{StandAt}
+use Rattle.dagcbor_paths.specs.Finding.{StandAt, LeadsInto, StopsAt}
 use Rattle.dagcbor_calls.specs.Codes.{kind_code, refusal_code}
 
 -- where an item stands in a block: where it begins, and where it ends
@@ -43,3 +43,33 @@ IsRefusedAs b code = (e : DecodeError Infallible) × SliceRefused e b × (e ≢ 
 abbrev pub IsFindAnswer : List ℕ → List ℕ → Places → Places → ℤ → Type 0
 IsFindAnswer b path old new code = IsFoundAt b path new code
     ⊎ ((new ≡ old) × (IsNotFound b path code ⊎ (IsRefusedAs b code ⊎ ((¬ IsUtf8 path) × (code ≡ negsuc 36)))))
+
+-- ---- as far as it leads
+
+-- so many bytes stand before what is left: all of them where no segment is
+abbrev pub IsPassed : List ℕ → List ℕ → ℕ → Type 0
+IsPassed path left count = (before rest : List ℕ) × (path ≡ before ++ rest) × (length before ≡ count)
+    × (segments rest ≡ segments left) × (segments rest ≡ [] → rest ≡ [])
+
+-- the path is a text, and a front of it leads from the block's tree to a tree, whose spelling stands at the
+-- places; what is left of it has no segment, or its first leads nowhere from there
+pub record IsFollowedTo (b path : List ℕ) (begin end count : ℕ) (code : ℤ) : Type 0 where
+  pub text : IsUtf8 path
+  pub tree : Tree
+  pub found : Tree
+  pub left : List ℕ
+  pub led : LeadsInto b (segments path) (segments left) tree found
+  pub stopped : StopsAt (segments left) found
+  pub passed : IsPassed path left count
+  pub part : List ℕ
+  pub is_block : IsBlock part found
+  pub stands : StandAt b begin part
+  pub ends : end ≡ begin + length part
+  pub told : code ≡ kind_code (kind_of found)
+
+-- the last item to which a front of the path leads in the block, where it begins and ends, and how many bytes
+-- of the path lead there; or the places stay, since the bytes are no block, or the path is no text, -37
+abbrev pub IsFollowAnswer : List ℕ → List ℕ → List ℕ → List ℕ → ℤ → Type 0
+IsFollowAnswer b path old new code =
+    ((begin end count : ℕ) × (new ≡ begin ∷ end ∷ count ∷ []) × IsFollowedTo b path begin end count code)
+    ⊎ ((new ≡ old) × (IsRefusedAs b code ⊎ ((¬ IsUtf8 path) × (code ≡ negsuc 36))))

@@ -1,9 +1,13 @@
 //! What a path leads to in a block.
 
-ghost use Rattle.dagcbor_calls.specs.Finds.{IsFindAnswer};
+ghost use Rattle.std.specs.Prelude.{◌≡◌, [], ◌∷◌, length};
+ghost use Rattle.dagcbor_paths.specs.Paths.{segments};
+ghost use Rattle.dagcbor_paths.specs.Parts.{EndsWith};
+ghost use Rattle.dagcbor_paths.specs.Finding.{StopsIn};
+ghost use Rattle.dagcbor_calls.specs.Finds.{IsFindAnswer, IsFollowAnswer, IsPassed};
 
 use crate::code::{kind_code, refusal_code};
-use dagcbor_paths::{Item, find_slice};
+use dagcbor_paths::{Item, Stop, find_slice, follow_slice, next_segment};
 use std::str::from_utf8;
 
 /// What is answered where the path leads nowhere.
@@ -35,6 +39,44 @@ pub fn put_found(block: &[u8], path: &[u8], place: &mut usize, end: &mut usize) 
             kind_code(kind)
         }
         Ok(None) => NOTHING,
+        Err(refusal) => refusal_code(&refusal),
+    }
+}
+
+/// How many bytes of the path were passed, of which this is left.
+fn passed(path: &str, left: &str) -> usize
+    requires { EndsWith path.now left.now }
+    ensures { IsPassed path.now left.now result }
+{
+    match next_segment(left) {
+        Some(_) => path.len() - left.len(),
+        None => path.len(),
+    }
+}
+
+/// Puts where the item stands at which a walk along the path stopped in the block, and how many bytes
+/// of the path were passed; the number of the item's kind.
+fn put_stop(block: &[u8], path: &str, stop: &Stop<'_, '_>, places: &mut [usize; 3]) -> i32
+    requires { StopsIn block.now path.now stop.now }
+    ensures { IsFollowAnswer block.now path.now places.old places.new result }
+{
+    let begin = stop.item.place;
+    let end = begin + stop.item.bytes.len();
+    *places = [begin, end, passed(path, stop.left)];
+    kind_code(stop.item.kind)
+}
+
+/// The number of the kind of the last item to which a front of the path leads in the block; where it
+/// begins and ends, and how many bytes of the path lead there. Or why the bytes are no block, or the
+/// path no text, and then the places stay.
+pub fn put_followed(block: &[u8], path: &[u8], places: &mut [usize; 3]) -> i32
+    ensures { IsFollowAnswer block.now path.now places.old places.new result }
+{
+    let Ok(text) = from_utf8(path) else {
+        return NO_TEXT;
+    };
+    match follow_slice(block, text) {
+        Ok(stop) => put_stop(block, text, &stop, places),
         Err(refusal) => refusal_code(&refusal),
     }
 }

@@ -119,6 +119,13 @@ enum dagcbor_path {
 int32_t dagcbor_find(const uint8_t *block, size_t length, const uint8_t *path, size_t path_length, size_t *place,
                      size_t *end);
 
+/* As far as a path leads in the block: from 0 the kind of the last item to which a front of the path leads. places[0] and
+   places[1] become where that item begins and where it ends, and places[2] how many bytes of the path lead there: `path_length`
+   exactly where all of it does, and then dagcbor_find answers the same. Where some are left and the kind is DAGCBOR_LINK, the
+   rest of the path goes on in the block of that link; else it leads nowhere. Below 0 the refusal of dagcbor_check, or
+   DAGCBOR_PATH_NOT_UTF8; then `places` stay. The path may not be NULL either. */
+int32_t dagcbor_follow(const uint8_t *block, size_t length, const uint8_t *path, size_t path_length, size_t places[3]);
+
 /* The block's name: the CID of version 1, of the codec DAG-CBOR, by the SHA-256 of the bytes. Any bytes have one. */
 void dagcbor_name(const uint8_t *bytes, size_t length, uint8_t out[36]);
 

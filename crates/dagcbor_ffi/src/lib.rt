@@ -13,11 +13,11 @@ ghost use Rattle.dagcbor_calls.specs.Answers.{IsSpellAnswer, IsTokensAnswer};
 ghost use Rattle.dagcbor_calls.specs.Headers.{IsHeaderAnswer};
 ghost use Rattle.dagcbor_calls.specs.Sections.{IsSectionAnswer};
 ghost use Rattle.dagcbor_calls.specs.Spans.{IsSpanAnswer};
-ghost use Rattle.dagcbor_calls.specs.Finds.{IsFindAnswer};
+ghost use Rattle.dagcbor_calls.specs.Finds.{IsFindAnswer, IsFollowAnswer};
 ghost use Rattle.dagcbor_calls.specs.CidTexts.{IsCidTextAnswer, IsCidFromTextAnswer};
 
 use dagcbor_calls::{
-    Token, code_of, judge_section, name_of, put_cid_of_text, put_cid_text, put_found,
+    Token, code_of, judge_section, name_of, put_cid_of_text, put_cid_text, put_followed, put_found,
     put_front_tape, put_header, put_links, put_span, put_tape, spell_tape,
 };
 use dagcbor_items::check_slice;
@@ -93,6 +93,18 @@ pub extern "C" fn dagcbor_find(block: &[u8], path: &[u8], place: &mut usize, end
     ensures { IsFindAnswer block.now path.now (place.old, end.old) (place.new, end.new) result }
 {
     put_found(block, path, place, end)
+}
+
+/// The number of the kind, from 0, of the last item to which a front of the path leads in the block.
+/// `places` become where the item begins, where it ends, and how many bytes of the path lead there: all
+/// of them where the whole path does. Where some are left and the item is a link, the path goes on in
+/// the block of that name; else it leads nowhere. Below 0 the number of the refusal of `dagcbor_check`,
+/// and -37 where the path is not UTF-8; then the places stay.
+#[unsafe(no_mangle)]
+pub extern "C" fn dagcbor_follow(block: &[u8], path: &[u8], places: &mut [usize; 3]) -> i32
+    ensures { IsFollowAnswer block.now path.now places.old places.new result }
+{
+    put_followed(block, path, places)
 }
 
 /// Puts the block's name into `out`: the CID of version 1, of the codec DAG-CBOR, by the SHA-256 of

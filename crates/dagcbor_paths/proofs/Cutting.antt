@@ -1,9 +1,10 @@
 -- Texts of paths, cut at their slashes.
-use Rattle.std.proofs.Common.{◌≡◌, ◌≢◌, inl, inr, ℕ, suc, ◌<◌, List, [], ◌∷◌, ◌++◌, length, get_or, refl, sym, ap, ◌∙◌, arith, Bool, false, nat_eq, if◌then◌else◌, Option, None, Some}
-use Rattle.std.proofs.lemmas.Bool.{ne_eqb, eqb-false, cases_lt}
+use Rattle.std.proofs.Common.{◌≡◌, ◌≢◌, inl, inr, ℕ, suc, ◌<◌, List, [], ◌∷◌, ◌++◌, length, get_or, refl, sym, ap, ◌∙◌, arith, append_assoc, append-nil, Bool, true, false, nat_eq, if◌then◌else◌, Option, None, Some}
+use Rattle.std.proofs.lemmas.Bool.{ne_eqb, eqb-false, eqb-true, cases_lt}
 use Rattle.std.proofs.lemmas.Option.{slice_get-get_or, get_or_from_slice_get}
 use Rattle.std.specs.List.{slice_get}
 use Rattle.dagcbor_paths.specs.Paths.{onto_first, pieces, without_empty, segments}
+use Rattle.dagcbor_paths.specs.Parts.{EndsWith}
 
 -- no slash stands in the text
 abbrev pub HasNoSlash : List ℕ → Type 0
@@ -51,6 +52,9 @@ no_segment (b ∷ s) none = absurd (omega arith)
 pub not_empty : (s : List ℕ) (t : Bool) → t ≡ nat_eq (length s) 0 → t ≡ false → 0 < length s
 not_empty s t e h = elim (cases_lt 0 (length s)) [ inl some ↦ some | inr none ↦ absurd (eqb-false (length s) 0 (sym e ∙ h) (omega (arith, none))) ]
 
+pub empty : (s : List ℕ) (t : Bool) → t ≡ nat_eq (length s) 0 → t ≡ true → length s ≡ 0
+empty s t e h = eqb-true (length s) 0 (sym e ∙ h)
+
 pub no_first : (s : List ℕ) → ◌≡◌ {A = Option ℕ} None (slice_get s 0) → length s ≡ 0
 no_first s none = elim (cases_lt 0 (length s)) [ inl some ↦ absurd (cc (none, slice_get-get_or s 0 0 some)) | inr few ↦ omega (arith, few) ]
 
@@ -60,3 +64,13 @@ first_is s b is = get_or_from_slice_get s 0 b 0 (sym is)
 pub some_first : (s : List ℕ) (b : ℕ) → Some b ≡ slice_get s 0 → 0 < length s
 some_first [] b is = absurd cc
 some_first (a ∷ s) b is = omega arith
+
+-- ---- what is left behind
+
+pub behind_slash : (path left s more : List ℕ) → EndsWith path left → left ≡ s ++ 47 ∷ more → EndsWith path more
+behind_slash path left s more ends is =
+    let cut = s ++ 47 ∷ [] in
+    (ends.0 ++ cut, ends.1 ∙ ap (λ x. ends.0 ++ x) (is ∙ sym (append_assoc s (47 ∷ []) more)) ∙ sym (append_assoc ends.0 cut more))
+
+pub behind_all : (path : List ℕ) → EndsWith path []
+behind_all path = (path, sym (append-nil path))

@@ -1,6 +1,7 @@
 -- What is told where a walk ended.
-use Rattle.std.proofs.Common.{◌≡◌, ◌≢◌, ℕ, ◌-◌, List, [], ◌∷◌, ◌++◌, length, take, refl, sym, ap, ◌∙◌, subst, arith, append_assoc, append-nil, length-append, Option, None, Some, MatchOption, Result, Ok, Err}
+use Rattle.std.proofs.Common.{Bor, rules, ◌≡◌, ◌≢◌, ℕ, ◌-◌, List, [], ◌∷◌, ◌++◌, length, take, refl, sym, ap, ◌∙◌, subst, arith, append_assoc, append-nil, length-append, Option, None, Some, MatchOption, Result, Ok, Err}
 use Rattle.std.specs.List.{slice_get}
+use Rattle.std.specs.Option.{IsSome}
 use Rattle.std.specs.Result.{result_ok}
 use Rattle.std.specs.declared.convert.Infallible.{Infallible}
 use Rattle.std.proofs.Math.Seq.{take-append_seam}
@@ -20,9 +21,9 @@ use Rattle.dagcbor_items.specs.Slices.{IsBlock}
 use Rattle.dagcbor_items.specs.TreeKinds.{kind_of, IsKindAt}
 use Rattle.dagcbor_items.specs.declared.kind.Kind.{Kind}
 use Rattle.dagcbor_items.proofs.SliceReads.{whole_front}
-use Rattle.dagcbor_paths.specs.Paths.{At}
+use Rattle.dagcbor_paths.specs.Paths.{segments, At}
 use Rattle.dagcbor_paths.specs.Parts.{Begins, EndsWith, FindsPart}
-use Rattle.dagcbor_paths.specs.Finding.{IsItem, FindsItemIn, LeadsInto, LeadsNowhere, StopsAt, Walked, Follows, TellsItem}
+use Rattle.dagcbor_paths.specs.Finding.{IsItem, FindsItemIn, LeadsInto, LeadsNowhere, StopsAt, StopsIn, Walked, Follows, TellsItem}
 use Rattle.dagcbor_paths.specs.declared.find.Item.{Item}
 use Rattle.dagcbor_paths.proofs.Leading.{at_then, at_behind}
 
@@ -185,3 +186,21 @@ pub ends_before : (b at segment : List ℕ) (path left more : List (List ℕ)) �
 ends_before b at segment path left more w is t h =
     let k = led_into b at path left w t h in
     nothing_found b path left t k.0 k.1 (nowhere left k.0 (some_left segment left more is) k.2)
+
+-- ---- as far as it leads
+
+pub item_begins : (b at : List ℕ) (path left : List (List ℕ)) (o : Option Item) → Follows b path at left → TellsItem b at o → (t : Tree) → IsBlock b t → IsSome o
+item_begins b at path left None w told t h = ends_at_none b at path left w told t h
+item_begins b at path left (Some item) w told t h = search rules
+
+pub stopped_in : (b at path : List ℕ) (left : Bor (List ℕ)) (o : Option Item) (item : Item) → Follows b (segments path) at (segments left.now) → EndsWith path left.now → TellsItem b at o → o ≡ Some item → (t : Tree) → IsBlock b t → StopsIn b path (record { item = item; left = left })
+stopped_in b at path left o item w behind told is t h =
+    let k = led_into b at (segments path) (segments left.now) w t h in
+    record {
+      tree = t;
+      found = k.0;
+      led = k.1;
+      stopped = k.2;
+      item = subst (TellsItem b at) is told k.0 k.3;
+      behind = behind;
+    }

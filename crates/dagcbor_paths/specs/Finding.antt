@@ -5,8 +5,9 @@ use Rattle.ipld_tree.specs.Tree.{Tree, link}
 use Rattle.dagcbor_items.specs.Slices.{IsBlock}
 use Rattle.dagcbor_items.specs.TreeKinds.{kind_of}
 use Rattle.dagcbor_paths.specs.Paths.{segments, IsPart, At}
-use Rattle.dagcbor_paths.specs.Parts.{Begins}
+use Rattle.dagcbor_paths.specs.Parts.{Begins, EndsWith}
 use Rattle.dagcbor_paths.specs.declared.find.Item.{Item}
+use Rattle.dagcbor_paths.specs.declared.find.Stop.{Stop}
 use Rattle.dagcbor_paths.specs.declared.find.Found.{Found}
 use Rattle.dagcbor_paths.specs.declared.find.Found.TheVariants as found
 
@@ -56,6 +57,15 @@ IsFoundIn b path (found.Nothing left) = (t u : Tree) × LeadsInto b path (segmen
 abbrev pub StopsAt : List (List ℕ) → Tree → Type 0
 StopsAt [] u = ⊤
 StopsAt (segment ∷ more) u = (part : Tree) → ¬ IsPart segment u part
+
+-- The last item to which a front of the path leads in the block, and what is left of the path.
+pub record StopsIn (b path : List ℕ) (stop : Stop) : Type 0 where
+  pub tree : Tree
+  pub found : Tree
+  pub led : LeadsInto b (segments path) (segments stop.left.now) tree found
+  pub stopped : StopsAt (segments stop.left.now) found
+  pub item : IsItem b found stop.item
+  pub behind : EndsWith path stop.left.now
 
 -- a walk from t led to u, which begins at these bytes
 pub record Walked (t : Tree) (path left : List (List ℕ)) (u : Tree) (at : List ℕ) : Type 0 where

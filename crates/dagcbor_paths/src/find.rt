@@ -7,7 +7,7 @@ ghost use Rattle.dagcbor_items.specs.Slices.{IsBlock, SliceRefused};
 ghost use Rattle.dagcbor_paths.specs.Paths.{segments};
 ghost use Rattle.dagcbor_paths.specs.Parts.{EndsWith};
 ghost use Rattle.dagcbor_paths.specs.Finding.{Follows, TellsItem, TellsLink, TellsEnd};
-ghost use Rattle.dagcbor_paths.specs.Finding.{FindsItemIn, IsFoundIn};
+ghost use Rattle.dagcbor_paths.specs.Finding.{FindsItemIn, IsFoundIn, StopsIn};
 
 use crate::parts::part_at;
 use crate::segments::next_segment;
@@ -27,6 +27,15 @@ pub struct Item<'b> {
     pub bytes: &'b [u8],
 }
 
+/// Where a walk along a path stopped in a block.
+#[derive(Clone, Copy, Debug)]
+pub struct Stop<'b, 'p> {
+    /// The last item to which a front of the path leads.
+    pub item: Item<'b>,
+    /// The path that is left there: it has no segment, or its first leads nowhere from the item.
+    pub left: &'p str,
+}
+
 /// How far a path leads in a block.
 #[derive(Debug, Drop)]
 pub enum Found<'b, 'p> {
@@ -43,6 +52,7 @@ pub enum Found<'b, 'p> {
 fn follow<'b, 'p>(bytes: &'b [u8], path: &'p str) -> (&'b [u8], &'p str)
     ensures led { Follows bytes.now (segments path.now) result.0.now (segments result.1.now) }
     ensures within { EndsWith bytes.now result.0.now }
+    ensures behind { EndsWith path.now result.1.now }
 {
     let mut at = bytes;
     let mut left = path;
@@ -143,4 +153,20 @@ pub fn find_slice<'b>(
         Some(_) => Ok(None),
         None => Ok(item_in(block, at)),
     }
+}
+
+/// The last item of the block to which a front of the path leads, and the path that is left there: at
+/// a link it goes on in another block. The block is judged whole, and no memory is taken.
+pub fn follow_slice<'b, 'p>(
+    block: &'b [u8],
+    path: &'p str,
+) -> Result<Stop<'b, 'p>, DecodeError<Infallible>>
+    ensures stops { IfOk result (StopsIn block.now path.now) }
+    ensures refused { IfErr result (λ e. SliceRefused e block.now) }
+    ensures memory { IfErr result (λ e. e ≢ OutOfMemory) }
+{
+    check_slice(block)?;
+    let (at, left) = follow(block, path);
+    let item = item_in(block, at).unwrap();
+    Ok(Stop { item, left })
 }

@@ -6,5 +6,5 @@ mod parts;
 mod segments;
 mod skip;
 
-pub use find::{Found, Item, find_in_block, find_judged, find_slice};
+pub use find::{Found, Item, Stop, find_in_block, find_judged, find_slice, follow_slice};
 pub use segments::next_segment;

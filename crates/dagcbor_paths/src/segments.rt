@@ -1,14 +1,16 @@
 //! The segments of a path.
 
-ghost use Rattle.std.specs.Prelude.{◌≡◌, [], ◌∷◌, ℕ, ◌^◌, ◌<◌, MatchOption};
+ghost use Rattle.std.specs.Prelude.{◌≡◌, [], ◌∷◌, ℕ, ◌^◌, ◌<◌, MatchOption, IfSome};
 ghost use Rattle.std.specs.Fmt.{decimal};
 ghost use Rattle.dagcbor_paths.specs.Paths.{segments};
+ghost use Rattle.dagcbor_paths.specs.Parts.{EndsWith};
 
 /// The first segment of a path, and the path behind it. Segments stand between slashes; what is
 /// empty there is none. Nothing is escaped, so no segment has a slash.
 pub fn next_segment(path: &str) -> Option<(&str, &str)>
-    ensures { MatchOption result (segments path.now ≡ [])
+    ensures first { MatchOption result (segments path.now ≡ [])
         (λ p. segments path.now ≡ p.0.now ∷ segments p.1.now) }
+    ensures behind { IfSome result (λ p. EndsWith path.now p.1.now) }
 {
     let mut left = path;
     while let Some((segment, more)) = left.split_once('/') {

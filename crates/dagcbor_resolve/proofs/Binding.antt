@@ -35,7 +35,7 @@ same_bytes s o name x y h k = elim h.1 [
   | inr a ↦ elim k.1 [ inl b ↦ absurd (omega (arith, a.0, b.0.0)) | inr b ↦ inl (sym a.1 ∙ b.1) ]
 ]
 
-block_unique : (b : List ℕ) (t u : Tree) → IsBlock b t → IsBlock b u → t ≡ u
+pub block_unique : (b : List ℕ) (t u : Tree) → IsBlock b t → IsBlock b u → t ≡ u
 block_unique b t u h k = (front_unique b [] [] t u (whole_front h.0) (whole_front k.0)).0
 
 -- ---- in one block
@@ -50,7 +50,7 @@ led_unique (s ∷ p) (r ∷ q) left more t u v w e h k x y =
     let same = part_unique s t k.0 h.0 w (subst (λ z. IsPart z t k.0) (sym first) k.1) h.1 in
     led_unique p q left more h.0 u v (part_whole s t h.0 w h.1) rest h.2 (subst (λ z. At q z v) same k.2) x y
 
-into_unique : (b : List ℕ) (path left more : List (List ℕ)) (t r u v : Tree) → LeadsInto b path left t u → LeadsInto b path more r v → LeadsNowhere left u → LeadsNowhere more v → (u ≡ v) × (left ≡ more)
+pub into_unique : (b : List ℕ) (path left more : List (List ℕ)) (t r u v : Tree) → LeadsInto b path left t u → LeadsInto b path more r v → LeadsNowhere left u → LeadsNowhere more v → (u ≡ v) × (left ≡ more)
 into_unique b path left more t r u v h k x y =
     led_unique h.passed k.passed left more t u v (h.block.0.well_formed, h.block.0.spellable) (sym h.whole ∙ k.whole) h.leads (subst (λ z. At k.passed z v) (block_unique b r t k.block h.block) k.leads) x y
 
@@ -65,7 +65,7 @@ found_unique b path (Some u) None h k = absurd (none_beside b path k.2 k.0 h.0 k
 found_unique b path None (Some v) h k = absurd (none_beside b path h.2 h.0 k.0 h.1 v h.3 h.4 k.1 k.2)
 found_unique b path None None h k = refl
 
-no_end_at_link : (b : List ℕ) (path left : List (List ℕ)) (t : Tree) (next : CidParts) (o : Option Tree) → LeadsInto b path left t (link (cid_bytes next)) → left ≢ [] → LeadsTo b path o → ⊥
+pub no_end_at_link : (b : List ℕ) (path left : List (List ℕ)) (t : Tree) (next : CidParts) (o : Option Tree) → LeadsInto b path left t (link (cid_bytes next)) → left ≢ [] → LeadsTo b path o → ⊥
 no_end_at_link b path left t next (Some v) h some k = none_beside b path left t k.0 (link (cid_bytes next)) v h (no_part_of_link left (cid_bytes next) some) k.1 k.2
 no_end_at_link b path left t next None h some k = k.5 (cid_bytes next) (sym (into_unique b path left k.2 t k.0 (link (cid_bytes next)) k.1 h k.3 (no_part_of_link left (cid_bytes next) some) k.4).0)
 

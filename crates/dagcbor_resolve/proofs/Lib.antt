@@ -1,3 +1,5 @@
 pub mod Ways
 pub mod Binding
 pub mod Telling
+pub mod Deciding
+pub mod Gathering

@@ -1,5 +1,5 @@
 -- The item at which a path ended.
-use Rattle.std.proofs.Common.{◌≡◌, inl, inr, ℕ, zero, suc, ◌+◌, ◌<◌, ◌≤◌, List, ◌++◌, length, take, refl, sym, ap, ◌∙◌, subst, arith, append_assoc, length-append, Option, None, Some}
+use Rattle.std.proofs.Common.{◌≡◌, inl, inr, ℕ, zero, suc, ◌+◌, ◌<◌, ◌≤◌, List, ◌++◌, length, take, sym, ap, ◌∙◌, subst, arith, append_assoc, length-append, None, Some}
 use Rattle.std.specs.List.{IsSplitAt}
 use Rattle.std.proofs.lemmas.List.{take-append-drop}
 use Rattle.ipld_tree.specs.Cid.{CidParts}
@@ -7,10 +7,12 @@ use Rattle.ipld_tree.specs.Tree.{Tree}
 use Rattle.ipld_tree.proofs.Unique.{split_at_length}
 use Rattle.dagcbor_items.specs.Slices.{IsBlock}
 use Rattle.dagcbor_items.specs.declared.kind.Kind.{Kind}
+use Rattle.dagcbor_paths.specs.Paths.{segments}
 use Rattle.dagcbor_paths.specs.Finding.{StandAt}
 use Rattle.ipld_links.specs.Reaching.{Stored, AreBytesOf}
-use Rattle.dagcbor_resolve.specs.Resolving.{AreNamed, EndsAs, ResolvesIn, Resolves}
-use Rattle.dagcbor_resolve.specs.Laws.{Leads, GivesItem}
+use Rattle.dagcbor_resolve.specs.Resolving.{EndsAs, ResolvesIn, Resolves}
+use Rattle.dagcbor_resolve.specs.Laws.{Leads, GivesItem, IsNothing, NothingIsLedTo}
+use Rattle.dagcbor_resolve.specs.declared.resolution.End.{End}
 use Rattle.dagcbor_resolve.specs.declared.resolution.End.TheVariants as ends
 use Rattle.dagcbor_resolve.specs.declared.resolution.Resolved.{Resolved}
 
@@ -96,3 +98,16 @@ module _ {A : Type 0} (bytes_of : A → List ℕ) (stored : Stored) (root : CidP
 
 pub split_whole : {s front back : List ℕ} (n : ℕ) → IsSplitAt s n front back → s ≡ front ++ back
 split_whole {s} {front} {back} n cut = sym (ap (λ x. x ++ back) cut.1 ∙ ap (λ x. take n s ++ x) cut.2 ∙ take-append-drop n s)
+
+-- ---- a path that leads to nothing
+
+led_to_none : (stored : Stored) (name : CidParts) (path : List (List ℕ)) (end : End) → EndsAs stored name path end → IsNothing end → Leads 0 stored name path None
+led_to_none stored name path (ends.NoSuchPath left) h is = (h.0, h.3, (h.1, h.2, segments left.now, h.4, h.5, h.6))
+led_to_none stored name path _ h is = absurd is
+
+none_led_to : (n : ℕ) (stored : Stored) (name : CidParts) (path : List (List ℕ)) (r : Resolved) → ResolvesIn n stored name path r → IsNothing r.end → Leads n stored name path None
+none_led_to zero stored name path r h is = led_to_none stored name path r.end h.2 is
+none_led_to (suc n) stored name path r h is = (h.0, h.1, h.2, none_led_to n stored h.0 h.1 r h.3 is)
+
+pub nothing_is_led_to : NothingIsLedTo
+nothing_is_led_to stored root path r h is = (h.0, none_led_to h.0 stored root path r h.1 is)

@@ -1,15 +1,17 @@
 -- What holds of all stores.
-use Rattle.std.specs.Prelude.{◌≡◌, ◌≢◌, ◌⊎◌, ℕ, zero, suc, List, Option, None, Some, MatchOption, ⊤}
+use Rattle.std.specs.Prelude.{◌≡◌, ◌≢◌, ◌⊎◌, ◌↔◌, ℕ, zero, suc, List, Option, None, Some, MatchOption, ⊤}
 use Rattle.sha2.specs.Sha256.{sha256}
 use Rattle.ipld_tree.specs.Cid.{CidParts}
 use Rattle.ipld_tree.specs.Tree.{Tree, link}
 use Rattle.dagcbor_items.specs.Slices.{IsBlock}
 use Rattle.dagcbor_paths.specs.Paths.{At}
 use Rattle.dagcbor_paths.specs.Finding.{LeadsInto, LeadsNowhere}
-use Rattle.ipld_links.specs.Reaching.{Stored}
-use Rattle.dagcbor_resolve.specs.Resolving.{AreNamed, GoesOn}
+use Rattle.ipld_links.specs.Sets.{Among}
+use Rattle.ipld_links.specs.Reaching.{Stored, AreBytesOf}
+use Rattle.dagcbor_resolve.specs.Resolving.{AreNamed, GoesOn, Resolves, AreOnTheWay}
 use Rattle.dagcbor_resolve.specs.declared.resolution.End.{End}
 use Rattle.dagcbor_resolve.specs.declared.resolution.End.TheVariants as ends
+use Rattle.dagcbor_resolve.specs.declared.resolution.Resolved.{Resolved}
 
 -- the path leads from the block to a tree, or a part of it to an item that is no link, and then nowhere
 abbrev pub LeadsTo : List ℕ → List (List ℕ) → Option Tree → Type 0
@@ -34,6 +36,38 @@ abbrev pub PathsBind : Type 0
 PathsBind = (stored others : Stored) (m n : ℕ) (root : CidParts) (path : List (List ℕ))
     (found other : Option Tree) → Leads m stored root path found → Leads n others root path other
     → (found ≡ other) ⊎ Collides
+
+-- the path ends at an item of a block from which its next segment leads nowhere
+abbrev pub IsNothing : End → Type 0
+IsNothing (ends.NoSuchPath left) = ⊤
+IsNothing _ = ⊥
+
+-- A path that ends so leads to none, so that this binds as what is found does.
+abbrev pub NothingIsLedTo : Type 0
+NothingIsLedTo = (stored : Stored) (root : CidParts) (path : List (List ℕ)) (r : Resolved)
+    → Resolves stored root path r → IsNothing r.end → (n : ℕ) × Leads n stored root path None
+
+-- ---- what the blocks on the way decide
+
+-- both stores have the same bytes under each of the names, or both have none
+abbrev pub AgreeOn : List CidParts → Stored → Stored → Type 0
+AgreeOn names stored other = (q : CidParts) → Among q names → (b : List ℕ)
+    → AreBytesOf stored q b ↔ AreBytesOf other q b
+
+-- What is under the names on a path's way decides where it ends: a store that agrees on them with
+-- another has the same answers.
+abbrev pub WaysDecideEnds : Type 0
+WaysDecideEnds = (stored other : Stored) (root : CidParts) (path : List (List ℕ)) (names : List CidParts)
+    → AreOnTheWay stored root path names → AgreeOn names stored other
+    → (r : Resolved) → Resolves stored root path r ↔ Resolves other root path r
+
+-- It decides what the path leads to.
+abbrev pub WaysDecideItems : Type 0
+WaysDecideItems = (stored other : Stored) (root : CidParts) (path : List (List ℕ)) (names : List CidParts)
+    → AreOnTheWay stored root path names → AgreeOn names stored other
+    → (n : ℕ) (found : Option Tree) → Leads n stored root path found ↔ Leads n other root path found
+
+-- ---- what is given
 
 -- the bytes are the block of the tree to which the path leads; or it ended otherwise, and there are none
 abbrev pub GivesItem : {A : Type 0} → (A → List ℕ) → Stored → CidParts → List (List ℕ) → End → Option A

@@ -1,12 +1,13 @@
 -- Resolving a path over blocks, in whatever they are stored.
-use Rattle.std.specs.Prelude.{◌≡◌, ◌≢◌, ℕ, zero, suc, ◌+◌, ◌-◌, ◌^◌, List, [], length, ⊤, Option, None, Some}
+use Rattle.std.specs.Prelude.{◌≡◌, ◌≢◌, ℕ, zero, suc, ◌+◌, ◌-◌, ◌^◌, List, [], ◌∷◌, length, ⊤, Option, None, Some}
 use Rattle.ipld_tree.specs.Cid.{CidParts, AreCidParts, cid_bytes}
 use Rattle.ipld_tree.specs.Tree.{Tree, link}
 use Rattle.dagcbor_items.specs.Slices.{IsBlock}
 use Rattle.dagcbor_items.specs.TreeKinds.{kind_of}
 use Rattle.dagcbor_paths.specs.Paths.{segments, At}
 use Rattle.dagcbor_paths.specs.Finding.{StandAt, LeadsInto, LeadsNowhere}
-use Rattle.ipld_links.specs.Reaching.{Stored, AreBytesOf}
+use Rattle.ipld_links.specs.Sets.{Among}
+use Rattle.ipld_links.specs.Reaching.{Stored, AreBytesOf, NoneTwice, Lists}
 use Rattle.ipld_links.specs.Verdicts.{IsVerified, IsDagCbor, IsVerdict}
 use Rattle.ipld_links.specs.declared.verdict.Verdict.{Verdict}
 use Rattle.ipld_links.specs.declared.verdict.Verdict.TheVariants.{Block}
@@ -61,6 +62,26 @@ IsEndlessAfter n _ = ⊤
 -- the path is resolved over what is stored
 abbrev pub Resolves : Stored → CidParts → List (List ℕ) → Resolved → Type 0
 Resolves stored root path r = (n : ℕ) × ResolvesIn n stored root path r × IsEndlessAfter n r.end
+
+-- ---- the way
+
+-- The path goes on from the block under the name to the one under the first of these, and so from each
+-- to the next, and from the last to none.
+abbrev pub GoesOver : Stored → CidParts → List (List ℕ) → List CidParts → Type 0
+GoesOver stored name path [] = (next : CidParts) (left : List (List ℕ)) → ¬ GoesOn stored name path next left
+GoesOver stored name path (next ∷ more) = (left : List (List ℕ)) × GoesOn stored name path next left
+    × GoesOver stored next left more
+
+-- these are the names of the blocks on the way of the path, in its order: the root's, and those it goes
+-- over
+abbrev pub AreOnTheWay : Stored → CidParts → List (List ℕ) → List CidParts → Type 0
+AreOnTheWay stored root path names = (more : List CidParts) × (names ≡ root ∷ more)
+    × GoesOver stored root path more
+
+-- the names, each once, in their order where none stands twice
+pub record AreOnceEach (names once : List CidParts) : Type 0 where
+  pub lists : Lists (λ q. Among q names) once
+  pub order : NoneTwice names → once ≡ names
 
 -- ---- one block
 

@@ -5,16 +5,20 @@ use mathlib.Core.List.{List-discrete}
 use Rattle.sqlite_trees.specs.Tree.{Trees}
 use Rattle.sqlite_trees.specs.View.{View, IsClean, Tells}
 use Rattle.sqlite_trees.specs.declared.store.Store.{Ghosts}
-use Rattle.ipld_tree.specs.Cid.{cid_bytes}
+use Rattle.ipld_tree.specs.Cid.{CidParts, cid_bytes}
 use Rattle.dagcbor_car.specs.Car.{Section}
 use Rattle.ipld_links.proofs.Members.{among_push, push_among}
-use Rattle.dagcbor_store.specs.Ends.{Quiet}
-use Rattle.dagcbor_store.specs.Rows.{IsStored, IsTooLong}
+use Rattle.ipld_links.specs.Sets.{Among}
+use Rattle.block_trees.specs.Ends.{Quiet, KeepsOthers, IsOfBlocks, IsOfRoots}
+use Rattle.block_trees.specs.Rows.{block_tree, name_tree, block_row, name_entry, IsStored, IsListed, IsTooLong}
+use Rattle.block_trees.specs.RootRows.{root_tree, AreRoots}
 use Rattle.dagcbor_store.specs.Stored.{IsAddedTo, IsAdded, IsSame, IsUndone, Fails, IsUnfit, PutRefused, IsCommitted}
+use Rattle.dagcbor_store.specs.Roots.{GainsRoots, MayKeepRoots, AreRootsAdded}
 use Rattle.dagcbor_store.specs.Cars.{IsNameIn, IsSectionIn, HoldsSections, IsFilled, IsAddedAll, Adds, NotKept}
 use Rattle.dagcbor_store.specs.declared.error.StoreRefusal.{StoreRefusal}
 use Rattle.dagcbor_store.specs.declared.error.StoreRefusal.TheVariants as refusal
-use Rattle.dagcbor_store.proofs.Causes.{cause_then}
+use Rattle.block_trees.proofs.Causes.{cause_then}
+pub use Rattle.block_trees.proofs.Ending.{quiet_itself, quiet_then}
 use Rattle.dagcbor_store.proofs.Calls.{cause_until}
 
 -- ---- what is stored
@@ -29,13 +33,24 @@ push_name ss s q (inr e) = (s, push_among s ss s (inr refl), e)
 section_push : (ss : List Section) (s : Section) (q b : List ℕ) → IsSectionIn ss q b → IsSectionIn (ss ++ s ∷ []) q b
 section_push ss s q b n = (n.0, push_among n.0 ss s (inl n.1), n.2, n.3)
 
-holds_none : (t : Trees) → HoldsSections t t []
-holds_none t = record {
+stored_as : (old new : Trees) (q b : List ℕ) → new name_tree ≡ old name_tree → new block_tree ≡ old block_tree → IsStored new q b → IsStored old q b
+stored_as old new q b names blocks s = record { id = s.id; listed = subst (Among (name_entry q s.id)) names s.listed; row = subst (Among (block_row s.id q b)) blocks s.row }
+
+-- roots alone were written
+holds_none : (old new : Trees) → KeepsOthers IsOfRoots old new → HoldsSections old new []
+holds_none old new h = record {
   named = λ q b n s. absurd n.1;
   each = λ q n. absurd n.1;
-  others = λ q b none. (λ s. s, λ s. s);
-  lists = λ q. (λ l. inr l, λ h. elim h [ inl n ↦ absurd n.1 | inr l ↦ l ]);
+  others = λ q b none. (stored_as old new q b names blocks, stored_as new old q b (sym names) (sym blocks));
+  lists = λ q. (λ l. inr (subst (λ es. IsListed es q) names l), λ k. elim k [ inl n ↦ absurd n.1 | inr l ↦ subst (λ es. IsListed es q) (sym names) l ]);
+  beside = λ t out. h t (λ r. out (inr r));
 }
+  where
+    names : new name_tree ≡ old name_tree
+    names = h name_tree (λ e. cc e)
+
+    blocks : new block_tree ≡ old block_tree
+    blocks = h block_tree (λ e. cc e)
 
 holds_more : (old mid new : Trees) (ss : List Section) (s : Section) → HoldsSections old mid ss → IsAddedTo mid new s.0 s.1 → HoldsSections old new (ss ++ s ∷ [])
 holds_more old mid new ss s h a = record {
@@ -57,6 +72,7 @@ holds_more old mid new ss s h a = record {
       | inr l ↦ (a.lists q).1 (inr ((h.lists q).1 (inr l)))
     ],
   );
+  beside = λ t out. a.beside t (λ b. out (inl b)) ∙ h.beside t out;
 }
   where
     earlier : (q : List ℕ) → IsNameIn (ss ++ s ∷ []) q → (q ≡ cid_bytes s.0 → ⊥) → IsNameIn ss q
@@ -70,50 +86,48 @@ holds_more old mid new ss s h a = record {
     each q n (yes e) = (s.1, subst (λ x. IsStored new x s.1) (sym e) ((a.stored s.1).1 refl))
     each q n (no apart) = let t = h.each q (earlier q n apart) in (t.0, (a.others q t.0 apart).1 t.1)
 
-added_none : (v : View) → IsAddedAll v v []
-added_none v = record { trees = holds_none v.trees; committed = refl; reals = refl; is_open = refl; broken = refl }
+-- blocks alone were written
+gains_same : (old mid new : Trees) (roots : List CidParts) → KeepsOthers IsOfBlocks mid new → GainsRoots old mid roots → GainsRoots old new roots
+gains_same old mid new roots beside h names are = let k = h names are in (k.0, subst (λ rs. AreRoots rs k.0) (sym (beside root_tree not_blocks)) k.1, k.2)
+  where
+    not_blocks : IsOfBlocks root_tree → ⊥
+    not_blocks (inl e) = cc e
+    not_blocks (inr e) = cc e
 
-added_more : (old mid new : View) (ss : List Section) (s : Section) → IsAddedAll old mid ss → IsAdded mid new s.0 s.1 → IsAddedAll old new (ss ++ s ∷ [])
-added_more old mid new ss s h a = record {
+added_none : (old new : View) (roots : List CidParts) → AreRootsAdded old new roots → IsAddedAll old new roots []
+added_none old new roots h = record { trees = holds_none old.trees new.trees h.beside; gains = h.roots; committed = h.committed; reals = h.reals; is_open = h.is_open; broken = h.broken }
+
+added_more : (old mid new : View) (roots : List CidParts) (ss : List Section) (s : Section) → IsAddedAll old mid roots ss → IsAdded mid new s.0 s.1 → IsAddedAll old new roots (ss ++ s ∷ [])
+added_more old mid new roots ss s h a = record {
   trees = holds_more old.trees mid.trees new.trees ss s h.trees a.trees;
+  gains = gains_same old.trees mid.trees new.trees roots a.trees.beside h.gains;
   committed = a.committed ∙ h.committed;
   reals = a.reals ∙ h.reals;
   is_open = a.is_open ∙ sym a.was_open ∙ h.is_open;
   broken = a.sound ∙ sym a.was_sound ∙ h.broken;
 }
 
-pub filled : (old mid new : View) (ss : List Section) → IsAddedAll old mid ss → IsCommitted mid new → IsFilled old new ss
-filled old mid new ss h c = record {
+pub filled : (old mid new : View) (roots : List CidParts) (ss : List Section) → IsAddedAll old mid roots ss → IsCommitted mid new → IsFilled old new ss
+filled old mid new roots ss h c = record {
   trees = subst (λ (t : Trees). HoldsSections old.trees t ss) (sym c.trees) h.trees;
   committed = c.committed ∙ sym c.trees;
   is_open = c.is_open;
 }
 
+pub gained : (old mid new : View) (roots : List CidParts) (ss : List Section) → IsAddedAll old mid roots ss → IsCommitted mid new → GainsRoots old.trees new.trees roots
+gained old mid new roots ss h c = subst (λ (t : Trees). GainsRoots old.trees t roots) (sym c.trees) h.gains
+
 -- ---- stores
 
-module _ {S : Type 0} (g : Ghosts S) where
-  pub quiet_itself : (a : S) → Quiet g a a
-  quiet_itself a = record { shield = λ h. h; clean = omega arith; counts = omega arith; closes = λ c o. inl o; outcomes = λ db h. h }
+module _ {S : Type 0} (g : Ghosts S) (roots : List CidParts) where
+  pub adds_none : (old new : S) → MayKeepRoots (g.view old) roots → (IsClean (g.view new) → AreRootsAdded (g.view old) (g.view new) roots) → Quiet g old new → Adds g roots [] old new
+  adds_none old new keeps a quiet = record { keeps = keeps; added = λ clean. added_none (g.view old) (g.view new) roots (a clean); quiet = quiet }
 
-  pub quiet_then : (a b c : S) → Quiet g a b → Quiet g b c → Quiet g a c
-  quiet_then a b c p q = record {
-    shield = λ h. q.shield (p.shield h);
-    clean = omega (arith, p.clean, q.clean);
-    counts = omega (arith, p.counts, q.counts);
-    closes = λ now h. elim (p.closes (omega (arith, q.clean)) h) [
-      | inl on ↦ elim (q.closes now on) [ inl still ↦ inl still | inr fault ↦ inr (omega (arith, p.counts)) ]
-      | inr fault ↦ inr (omega (arith, q.counts))
-    ];
-    outcomes = λ db h. p.outcomes db (q.outcomes db h);
-  }
-
-  pub adds_none : (a : S) → Adds g [] a a
-  adds_none a = record { added = λ clean. added_none (g.view a); quiet = quiet_itself a }
-
-  pub adds_more : (ss : List Section) (s : Section) (old mid new : S) → Adds g ss old mid → (IsClean (g.view new) → IsAdded (g.view mid) (g.view new) s.0 s.1) → Quiet g mid new → Adds g (ss ++ s ∷ []) old new
+  pub adds_more : (ss : List Section) (s : Section) (old mid new : S) → Adds g roots ss old mid → (IsClean (g.view new) → IsAdded (g.view mid) (g.view new) s.0 s.1) → Quiet g mid new → Adds g roots (ss ++ s ∷ []) old new
   adds_more ss s old mid new h a quiet = record {
-    added = λ clean. added_more (g.view old) (g.view mid) (g.view new) ss s (h.added (omega (arith, quiet.clean))) (a clean);
-    quiet = quiet_then old mid new h.quiet quiet;
+    keeps = h.keeps;
+    added = λ clean. added_more (g.view old) (g.view mid) (g.view new) roots ss s (h.added (omega (arith, quiet.clean))) (a clean);
+    quiet = quiet_then g old mid new h.quiet quiet;
   }
 
 -- ---- what stands after a refusal
@@ -132,8 +146,8 @@ last_undone old new h = record { was_open = h.was_open; committed = h.committed 
 pub last_same : (old new : View) → IsSame old new → KeepsLast old new
 last_same old new h = record { was_open = λ o. sym h.is_open ∙ o; committed = λ o. h.committed }
 
-pub last_added : (old new : View) (ss : List Section) → IsAddedAll old new ss → KeepsLast old new
-last_added old new ss h = record { was_open = λ o. sym h.is_open ∙ o; committed = λ o. h.committed }
+pub last_added : (old new : View) (roots : List CidParts) (ss : List Section) → IsAddedAll old new roots ss → KeepsLast old new
+last_added old new roots ss h = record { was_open = λ o. sym h.is_open ∙ o; committed = λ o. h.committed }
 
 pub last_then : (a b c : View) → KeepsLast a b → KeepsLast b c → KeepsLast a c
 last_then a b c p q = record { was_open = λ o. p.was_open (q.was_open o); committed = λ o. q.committed o ∙ p.committed (q.was_open o) }
@@ -161,10 +175,10 @@ module _ {S : Type 0} (g : Ghosts S) where
         ),
   )
 
-  -- behind sections that were added
-  pub fails_from : (U V : Type 0) (ss : List Section) (old mid new : S) (told : StoreRefusal) → Adds g ss old mid → (IsClean (g.view new) → IsClean (g.view mid)) → (IsClean (g.view mid) → U → V) → Fails g U mid new told → Fails g V old new told
-  fails_from U V ss old mid new told h was gives =
-      fails_behind U V old mid new told h.quiet was (λ clean. let a = h.added clean in (a.broken, last_added (g.view old) (g.view mid) ss a, gives clean))
+  -- behind roots and sections that were added
+  pub fails_from : (U V : Type 0) (roots : List CidParts) (ss : List Section) (old mid new : S) (told : StoreRefusal) → Adds g roots ss old mid → (IsClean (g.view new) → IsClean (g.view mid)) → (IsClean (g.view mid) → U → V) → Fails g U mid new told → Fails g V old new told
+  fails_from U V roots ss old mid new told h was gives =
+      fails_behind U V old mid new told h.quiet was (λ clean. let a = h.added clean in (a.broken, last_added (g.view old) (g.view mid) roots ss a, gives clean))
 
   -- a failure before a rollback
   pub fails_until : (U : Type 0) (old mid new : S) (told : StoreRefusal) → Quiet g mid new → g.blamed new ≡ g.blamed mid → (IsClean (g.view new) → IsUndone (g.view mid) (g.view new)) → Fails g U old mid told → Fails g U old new told
@@ -179,16 +193,16 @@ module _ {S : Type 0} (g : Ghosts S) where
         ),
   )
 
-  pub not_kept : (ss : List Section) (s : Section) (old mid refused new : S) (told : StoreRefusal) → Adds g ss old mid → Quiet g mid refused → Quiet g refused new → g.blamed new ≡ g.blamed refused
+  pub not_kept : (roots : List CidParts) (ss : List Section) (s : Section) (old mid refused new : S) (told : StoreRefusal) → Adds g roots ss old mid → Quiet g mid refused → Quiet g refused new → g.blamed new ≡ g.blamed refused
       → (IsClean (g.view new) → IsUndone (g.view refused) (g.view new)) → PutRefused g s mid refused told → NotKept g ss s old new told
-  not_kept ss s old mid refused new refusal.NoNumber h quiet last blame undone p = inr (inl (
+  not_kept roots ss s old mid refused new refusal.NoNumber h quiet last blame undone p = inr (inl (
     refl,
     λ clean.
         let behind : IsClean (g.view refused) = omega (arith, last.clean) in
         let was : IsClean (g.view mid) = omega (arith, quiet.clean, last.clean) in
         ((g.view mid).trees, (h.added was).trees, (p behind).0),
   ))
-  not_kept ss s old mid refused new told h quiet last blame undone p = by p
+  not_kept roots ss s old mid refused new told h quiet last blame undone p = by p
     where
       long : IsClean (g.view mid) → IsTooLong (g.view mid).reals (cid_bytes s.0) s.1 → IsTooLong (g.view old).reals (cid_bytes s.0) s.1
       long clean = subst (λ r. IsTooLong r (cid_bytes s.0) s.1) (h.added clean).reals
@@ -196,7 +210,7 @@ module _ {S : Type 0} (g : Ghosts S) where
       by : (IsUnfit s told × (refused ≡ mid)) ⊎ Fails g (IsTooLong (g.view mid).reals (cid_bytes s.0) s.1) mid refused told → NotKept g ss s old new told
       by (inl u) = inl u.0
       by (inr f) = inr (inr (fails_until (IsTooLong (g.view old).reals (cid_bytes s.0) s.1) old refused new told last blame undone
-          (fails_from (IsTooLong (g.view mid).reals (cid_bytes s.0) s.1) (IsTooLong (g.view old).reals (cid_bytes s.0) s.1) ss old mid refused told h (λ clean. omega (arith, quiet.clean)) long f)))
+          (fails_from (IsTooLong (g.view mid).reals (cid_bytes s.0) s.1) (IsTooLong (g.view old).reals (cid_bytes s.0) s.1) roots ss old mid refused told h (λ clean. omega (arith, quiet.clean)) long f)))
 
   pub last_put : (s : Section) (old new : S) (told : StoreRefusal) → IsClean (g.view new) → PutRefused g s old new told → KeepsLast (g.view old) (g.view new)
   last_put s old new refusal.NoNumber clean p = last_same (g.view old) (g.view new) (p clean).1

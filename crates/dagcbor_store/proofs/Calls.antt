@@ -1,28 +1,29 @@
 -- What the calls of a store answer.
-use Rattle.std.proofs.Common.{◌≡◌, ◌↔◌, ◌⊎◌, inl, inr, ℕ, ℤ, ◌≤◌, List, [], ◌∷◌, filter, Bool, true, false, not, refl, sym, ap, ◌∙◌, subst, true≢false, IsTrue, arith, Option, None, option_map, Result, Ok, Err, IfOk, IfErr, OnOk, OnErr, Vec, Global}
+use Rattle.std.proofs.Common.{◌≡◌, ◌↔◌, ◌⊎◌, inl, inr, ℕ, ℤ, ◌≤◌, List, [], ◌∷◌, filter, Bool, true, false, refl, sym, ap, ◌∙◌, subst, true≢false, IsTrue, arith, Option, None, option_map, Result, Ok, Err, IfOk, IfErr, OnOk, OnErr, Vec, Global}
 use Rattle.std.proofs.Math.Decide.{ℕ_discrete}
 use Rattle.std.proofs.Math.IntN.{ℤ_discrete}
 use mathlib.Core.List.{List-discrete}
 use Rattle.sqlite_disk.specs.Disk.{MoreFaults}
-use Rattle.sqlite_trees.proofs.ListLemmas.{all-filter}
-use Rattle.sqlite_value.specs.Keys.{plain}
-use Rattle.sqlite_trees.specs.Tree.{Trees, has_rowid, remove_entry}
-use Rattle.sqlite_trees.specs.View.{View, IsClean, KeepsCommitted, IsRolledBack, HasCause, OnlyWrites, SetsTree, Commits, Tells}
+use Rattle.sqlite_trees.specs.Tree.{Trees, has_rowid}
+use Rattle.sqlite_trees.specs.View.{View, IsClean, KeepsCommitted, IsRolledBack, HasCause, OnlyWrites, Commits, Tells}
 use Rattle.sqlite_trees.specs.declared.store.Store.{Ghosts}
+use Rattle.sqlite_trees.specs.declared.store.Shape.{Shape}
 use Rattle.sqlite_trees.specs.declared.error.StoreError.{StoreError}
 use Rattle.sqlite_trees.specs.declared.error.StoreError.TheVariants as stored
 use Rattle.ipld_tree.specs.Cid.{CidParts, cid_bytes, IsCid}
 use Rattle.dagcbor_car.specs.Car.{Section}
 use Rattle.ipld_links.specs.Sets.{Among}
-use Rattle.dagcbor_store.specs.Rows.{block_tree, name_tree, block_row, name_entry, IsStored, IsListed, IsFreeId, FreesId, FindsName, Gets, Writes, Appends, Renews, Adds, Takes, TakesEntry, TakesRow, ClearsRow, IsTooLong}
-use Rattle.dagcbor_store.specs.Stored.{IsKeyed, IsReady, IsSame, IsUndone, IsNamed, GetsSome, GetRefused, IsDamaged, IsVerified, Fails, TellsOfStore, IsAdded, IsAddedTo, IsTaken, IsToldAdded, PutRefused}
-use Rattle.dagcbor_store.specs.declared.entries.Found.{Found}
-use Rattle.dagcbor_store.specs.declared.entries.Found.TheVariants.{Nothing, NoRow, Block}
-use Rattle.dagcbor_store.specs.declared.entries.Added.{Added}
-use Rattle.dagcbor_store.specs.declared.entries.Added.TheVariants.{New, Stored, NoNumber}
+use Rattle.block_trees.specs.Rows.{block_tree, name_tree, block_row, name_entry, IsStored, IsListed, FreesId, Gets, Writes, Adds, Takes, IsKeyed, IsTooLong}
+use Rattle.dagcbor_store.specs.Stored.{AreAllRoots, IsReady, IsSame, IsUndone, IsNamed, GetsSome, GetRefused, IsDamaged, IsVerified, Fails, TellsOfStore, IsAdded, IsAddedTo, IsTaken, IsToldAdded, PutRefused}
+use Rattle.block_trees.specs.RootRows.{root_tree, IsRootShape}
+use Rattle.block_trees.specs.Ends.{WritesIn, KeepsOthers, IsOfBlocks}
+use Rattle.block_trees.specs.declared.entries.Found.{Found}
+use Rattle.block_trees.specs.declared.entries.Found.TheVariants.{Nothing, NoRow, Block}
+use Rattle.block_trees.specs.declared.entries.Added.{Added}
+use Rattle.block_trees.specs.declared.entries.Added.TheVariants.{New, Stored, NoNumber}
 use Rattle.dagcbor_store.specs.declared.error.StoreRefusal.{StoreRefusal}
 use Rattle.dagcbor_store.specs.declared.error.StoreRefusal.TheVariants as refusal
-use Rattle.dagcbor_store.proofs.Numbers.{among_unfiltered}
+use Rattle.block_trees.proofs.Numbers.{among_unfiltered}
 use Rattle.dagcbor_store.proofs.Keeping.{stored_found, stored_there, stored_as_found, stored_since, keyed_since, rows_since, stored_left, none_left, lists_since, lists_left, entries_left, keyed_left, rows_left, rows_taken, ready_undone}
 
 -- ---- getting
@@ -65,8 +66,8 @@ added_if_clean (Err e) B C P b h = tt
 
 -- ---- writing
 
-pub ready_written : (old new : View) → OnlyWrites old new → (IsTrue old.is_open → IsKeyed (new.trees name_tree)) → IsReady old → IsReady new
-ready_written old new h keyed r =
+pub ready_written : (old new : View) → OnlyWrites old new → (IsTrue old.is_open → IsKeyed (new.trees name_tree) × AreAllRoots (new.trees root_tree)) → IsReady old → IsReady new
+ready_written old new h sound r =
     let shape = ap (λ (v : View). v.shape) h in
     let is_open = ap (λ (v : View). v.is_open) h in
     let committed = ap (λ (v : View). v.committed) h in
@@ -75,9 +76,20 @@ ready_written old new h keyed r =
       names = ap (λ f. f name_tree) shape ∙ r.names;
       lasting = shape ∙ r.lasting ∙ sym (ap (λ (v : View). v.committed_shape) h);
       unbroken = λ o. ap (λ (v : View). v.is_broken) h ∙ r.unbroken (subst IsTrue is_open o);
-      keyed = λ o. keyed (subst IsTrue is_open o);
+      keyed = λ o. (sound (subst IsTrue is_open o)).0;
       committed = λ o. subst (λ (t : Trees). IsKeyed (t name_tree)) (sym committed) (r.committed (subst IsTrue is_open o));
+      rooted = subst (λ (f : ℕ → Shape). IsRootShape (f root_tree)) (sym shape) r.rooted;
+      roots = λ o. (sound (subst IsTrue is_open o)).1;
+      last_roots = λ o. subst (λ (t : Trees). AreAllRoots (t root_tree)) (sym committed) (r.last_roots (subst IsTrue is_open o));
     }
+
+-- rows of blocks and entries of names were written
+pub ready_blocks : (old new : View) → WritesIn IsOfBlocks old new → (IsTrue old.is_open → IsKeyed (new.trees name_tree)) → IsReady old → IsReady new
+ready_blocks old new h keyed r = ready_written old new h.frame (λ o. (keyed o, subst AreAllRoots (sym (h.others root_tree not_blocks)) (r.roots o))) r
+  where
+    not_blocks : IsOfBlocks root_tree → ⊥
+    not_blocks (inl e) = cc e
+    not_blocks (inr e) = cc e
 
 pub keyed_added : (old new : Trees) (name b : List ℕ) (added : Added) → IsCid name → Adds old new name b added → IsKeyed (old name_tree) → IsKeyed (new name_tree)
 keyed_added old new name b New cid (inl a) keyed = let w = a.1 in keyed_since old new name b w.0 keyed (a.0 keyed.0) w.1 w.2 w.3 cid
@@ -95,7 +107,7 @@ pub keyed_taken : (old new : Trees) (name : List ℕ) (taken : Bool) → Takes o
 keyed_taken old new name false t keyed = subst (λ (x : Trees). IsKeyed (x name_tree)) (sym t.1) keyed
 keyed_taken old new name true t keyed = keyed_left old new name t.0 keyed t.1 t.2.0
 
-still_open : (old new : View) → OnlyWrites old new → IsTrue old.is_open → IsTrue new.is_open
+pub still_open : (old new : View) → OnlyWrites old new → IsTrue old.is_open → IsTrue new.is_open
 still_open old new h o = subst IsTrue (sym (ap (λ (v : View). v.is_open) h)) o
 
 added_view : (old new : View) (name : CidParts) (b : List ℕ) → OnlyWrites old new → old.is_broken ≡ false → IsTrue old.is_open → IsAddedTo old.trees new.trees name b → IsAdded old new name b
@@ -112,8 +124,8 @@ added_view old new name b h sound o trees = record {
 -- the name was taken out, if it was listed, and is written with the bytes
 written_anew : (old mid new : Trees) (name : CidParts) (b : List ℕ) → IsKeyed (mid name_tree) → (IsListed (mid name_tree) (cid_bytes name) → ⊥) → ((q d : List ℕ) → (q ≡ cid_bytes name → ⊥) → IsStored mid q d ↔ IsStored old q d)
     → ((q : List ℕ) → (q ≡ cid_bytes name → ⊥) → IsListed (mid name_tree) q ↔ IsListed (old name_tree) q) → ((id : ℤ) (q d : List ℕ) → Among (block_row id q d) (mid block_tree) ↔ (Among (block_row id q d) (old block_tree) × ((q ≡ cid_bytes name) × Among (name_entry q id) (old name_tree) → ⊥)))
-    → (IsStored old (cid_bytes name) b → ⊥) → Writes mid new (cid_bytes name) b → IsAddedTo old new name b
-written_anew old mid new name b keyed none stays lists table other w = record {
+    → (IsStored old (cid_bytes name) b → ⊥) → KeepsOthers IsOfBlocks old new → Writes mid new (cid_bytes name) b → IsAddedTo old new name b
+written_anew old mid new name b keyed none stays lists table other beside w = record {
   stored = λ d. (
     λ s. elim ((since (cid_bytes name) d).0 s) [ inl is ↦ is.1 | inr was ↦ absurd (none (was.id, was.listed)) ],
     λ e. (since (cid_bytes name) d).1 (inl (refl, e)),
@@ -131,6 +143,7 @@ written_anew old mid new name b keyed none stays lists table other w = record {
     λ h. (rows id q d).1 (elim h [ inl is ↦ inl is | inr was ↦ inr ((table id q d).1 was) ]),
   );
   same = λ s. absurd (other s);
+  beside = beside;
 }
   where
     since : (q d : List ℕ) → IsStored new q d ↔ (((q ≡ cid_bytes name) × (d ≡ b)) ⊎ IsStored mid q d)
@@ -160,6 +173,7 @@ stored_already old name b id keyed at row = record {
     ],
   );
   same = λ s. refl;
+  beside = λ t out. refl;
 }
   where
     number : (i : ℤ) (q : List ℕ) → q ≡ cid_bytes name → Among (name_entry q i) (old name_tree) → i ≡ id
@@ -174,12 +188,12 @@ stored_already old name b id keyed at row = record {
     rows i q d m (yes e) (no apart) = inr (m, λ u. apart (number i q u.0 u.1))
     rows i q d m (no apart) decided = inr (m, λ u. apart u.0)
 
-new_added : (old new : Trees) (name : CidParts) (b : List ℕ) → IsKeyed (old name_tree) → Adds old new (cid_bytes name) b New → IsAddedTo old new name b
-new_added old new name b keyed (inl a) =
+new_added : (old new : Trees) (name : CidParts) (b : List ℕ) → IsKeyed (old name_tree) → KeepsOthers IsOfBlocks old new → Adds old new (cid_bytes name) b New → IsAddedTo old new name b
+new_added old new name b keyed beside (inl a) =
     let none = a.0 keyed.0 in
     written_anew old old new name b keyed none (λ q d apart. (λ s. s, λ s. s)) (λ q apart. (λ l. l, λ l. l))
-    (λ id q d. (λ m. (m, λ u. none (id, subst (λ n. Among (name_entry n id) (old name_tree)) u.0 u.1)), λ m. m.0)) (λ s. none (s.id, s.listed)) a.1
-new_added old new name b keyed (inr (id, at, a)) =
+    (λ id q d. (λ m. (m, λ u. none (id, subst (λ n. Among (name_entry n id) (old name_tree)) u.0 u.1)), λ m. m.0)) (λ s. none (s.id, s.listed)) beside a.1
+new_added old new name b keyed beside (inr (id, at, a)) =
     let mid = a.1.0 in
     let t = a.1.1 in
     let rows = rows_left old mid (cid_bytes name) id t.1 in
@@ -189,42 +203,20 @@ new_added old new name b keyed (inr (id, at, a)) =
     (λ q d apart. (λ s. ((left q d).0 s).0, λ s. (left q d).1 (s, apart)))
     (λ q apart. (λ l. ((lists q).0 l).0, λ l. (lists q).1 (l, apart)))
     (rows_taken old mid (cid_bytes name) id keyed at t.1)
-    (λ s. a.0 (subst (λ i. Among (block_row i (cid_bytes name) b) (old block_tree)) (keyed.1 (cid_bytes name) s.id id s.listed at) s.row)) a.1.2
+    (λ s. a.0 (subst (λ i. Among (block_row i (cid_bytes name) b) (old block_tree)) (keyed.1 (cid_bytes name) s.id id s.listed at) s.row)) beside a.1.2
 
 stored_added : (old new : Trees) (name : CidParts) (b : List ℕ) → IsKeyed (old name_tree) → Adds old new (cid_bytes name) b Stored → IsAddedTo old new name b
 stored_added old new name b keyed (inl a) = absurd a.1
 stored_added old new name b keyed (inr (id, at, a)) = subst (λ (t : Trees). IsAddedTo old t name b) (sym a.1) (stored_already old name b id keyed at a.0)
 
-pub renewed : {E : Type 0} (r : Result Added E) (C : Type 0) (old mid new : Trees) (id : ℤ) (name b : List ℕ) → (C → (mid ≡ old) × Among (name_entry name id) (old name_tree)) → IfOk r (λ added. C → Renews mid new id name b added) → IfOk r (λ added. C → Adds old new name b added)
-renewed (Ok added) C old mid new id name b at h = λ clean. let k = at clean in inr (id, k.1, subst (λ t. Renews t new id name b added) k.0 (h clean))
-renewed (Err e) C old mid new id name b at h = tt
-
-pub appended : {E : Type 0} (r : Result Added E) (C : Type 0) (old mid new : Trees) (name b : List ℕ) → (C → (mid ≡ old) × FindsName (old name_tree) name None) → IfOk r (λ added. C → Appends mid new name b added) → IfOk r (λ added. C → Adds old new name b added)
-appended (Ok added) C old mid new name b none h = λ clean. let k = none clean in inl (k.1, subst (λ t. Appends t new name b added) k.0 (h clean))
-appended (Err e) C old mid new name b none h = tt
-
-pub entry_taken : {X E : Type 0} (r : Result X E) (C : Type 0) (old mid new : View) (id : ℤ) (name : List ℕ) → (C → TakesRow old.trees mid.trees id name) → OnOk r (C → SetsTree mid new name_tree (remove_entry plain (name_entry name id))) → OnOk r (C → TakesEntry old.trees new.trees id name)
-entry_taken (Ok x) C old mid new id name row h = λ clean.
-    let k = row clean in
-    let s = h clean in
-    (ap (λ (v : View). v.trees name_tree) s.is ∙ ap (remove_entry plain (name_entry name id)) k.0, subst (λ rs. ClearsRow (old.trees block_tree) rs id name) (sym (ap (λ (v : View). v.trees block_tree) s.is)) k.1)
-entry_taken (Err e) C old mid new id name row h = tt
-
--- what is free in the table is free once an entry and its row are taken out
-pub free_left : (old mid : Trees) (id fresh : ℤ) (name : List ℕ) → TakesEntry old mid id name → IsFreeId (old block_tree) fresh → IsFreeId (mid block_tree) fresh
-free_left old mid id fresh name t free = elim t.1 [
-  | inl h ↦ subst (λ rs. IsFreeId rs fresh) (sym h.1) (all-filter _ (λ r. not (has_rowid id r)) (old block_tree) free)
-  | inr h ↦ subst (λ rs. IsFreeId rs fresh) (sym h.2) free
-]
-
 none_added : (old new : Trees) (name b : List ℕ) → Adds old new name b NoNumber → FreesId (old block_tree) None × (new ≡ old)
 none_added old new name b (inl a) = a.1
 none_added old new name b (inr (id, at, a)) = a
 
-pub is_added : (old new : View) (name : CidParts) (b : List ℕ) (added : Added) (r : Result (Unit {0}) StoreRefusal) → OnlyWrites old new → old.is_broken ≡ false → IsTrue old.is_open → IsKeyed (old.trees name_tree)
+pub is_added : (old new : View) (name : CidParts) (b : List ℕ) (added : Added) (r : Result (Unit {0}) StoreRefusal) → WritesIn IsOfBlocks old new → old.is_broken ≡ false → IsTrue old.is_open → IsKeyed (old.trees name_tree)
     → Adds old.trees new.trees (cid_bytes name) b added → IsToldAdded added r → OnOk r (IsAdded old new name b)
-is_added old new name b New r h sound o keyed a is = subst (λ x. OnOk x (IsAdded old new name b)) (sym is) (added_view old new name b h sound o (new_added old.trees new.trees name b keyed a))
-is_added old new name b Stored r h sound o keyed a is = subst (λ x. OnOk x (IsAdded old new name b)) (sym is) (added_view old new name b h sound o (stored_added old.trees new.trees name b keyed a))
+is_added old new name b New r h sound o keyed a is = subst (λ x. OnOk x (IsAdded old new name b)) (sym is) (added_view old new name b h.frame sound o (new_added old.trees new.trees name b keyed h.others a))
+is_added old new name b Stored r h sound o keyed a is = subst (λ x. OnOk x (IsAdded old new name b)) (sym is) (added_view old new name b h.frame sound o (stored_added old.trees new.trees name b keyed a))
 is_added old new name b NoNumber r h sound o keyed a is = subst (λ x. OnOk x (IsAdded old new name b)) (sym is) tt
 
 pub not_added : {S : Type 0} (g : Ghosts S) (s : Section) (old new : S) (added : Added) (r : Result (Unit {0}) StoreRefusal)
@@ -234,7 +226,7 @@ not_added g s old new Stored r h is = subst (λ x. IfErr x (PutRefused g s old n
 not_added g s old new NoNumber r h is = subst (λ x. IfErr x (PutRefused g s old new)) (sym is)
     (λ clean. let k = h clean in let n = none_added (g.view old).trees (g.view new).trees (cid_bytes s.0) s.1 k.0 in (n.0, record { trees = n.1; committed = ap (λ (v : View). v.committed) k.1; is_open = ap (λ (v : View). v.is_open) k.1; broken = ap (λ (v : View). v.is_broken) k.1 }))
 
-pub is_taken : (old new : View) (name : CidParts) (taken : Bool) → OnlyWrites old new → IsTrue old.is_open → IsKeyed (old.trees name_tree) → Takes old.trees new.trees (cid_bytes name) taken → IsTaken old new name taken
+pub is_taken : (old new : View) (name : CidParts) (taken : Bool) → WritesIn IsOfBlocks old new → IsTrue old.is_open → IsKeyed (old.trees name_tree) → Takes old.trees new.trees (cid_bytes name) taken → IsTaken old new name taken
 is_taken old new name true h o keyed t =
     let rows = rows_left old.trees new.trees (cid_bytes name) t.0 t.2.1 in
     record {
@@ -243,10 +235,11 @@ is_taken old new name true h o keyed t =
       entries = entries_left old.trees new.trees (cid_bytes name) t.0 keyed t.1 t.2.0;
       holds = stored_left old.trees new.trees (cid_bytes name) t.0 keyed t.1 t.2.0 rows.0 rows.1;
       rows = rows_taken old.trees new.trees (cid_bytes name) t.0 keyed t.1 t.2.1;
-      committed = ap (λ (v : View). v.committed) h;
+      beside = h.others;
+      committed = ap (λ (v : View). v.committed) h.frame;
       was_open = o;
-      is_open = still_open old new h o;
-      broken = ap (λ (v : View). v.is_broken) h;
+      is_open = still_open old new h.frame o;
+      broken = ap (λ (v : View). v.is_broken) h.frame;
     }
 is_taken old new name false h o keyed t =
     let none = t.0 keyed.0 in
@@ -268,10 +261,11 @@ is_taken old new name false h o keyed t =
         λ m. (subst (λ (x : Trees). Among (block_row id q d) (x block_tree)) t.1 m, λ u. none (id, subst (λ n. Among (name_entry n id) (old.trees name_tree)) u.0 u.1)),
         λ m. subst (λ (x : Trees). Among (block_row id q d) (x block_tree)) (sym t.1) m.0,
       );
-      committed = ap (λ (v : View). v.committed) h;
+      beside = h.others;
+      committed = ap (λ (v : View). v.committed) h.frame;
       was_open = o;
-      is_open = still_open old new h o;
-      broken = ap (λ (v : View). v.is_broken) h;
+      is_open = still_open old new h.frame o;
+      broken = ap (λ (v : View). v.is_broken) h.frame;
     }
 
 -- ---- failures
@@ -289,7 +283,7 @@ pub fails_since : {S : Type 0} (g : Ghosts S) (U : Type 0) (old mid new : S) (e 
 fails_since g U old mid new e told t blame tells up h =
     (e, t, subst (λ b. Tells b e) (sym blame) tells, λ clean. (cause_until (g.view old) (g.faults old) (g.faults mid) (g.faults new) U e up (h clean).0, (h clean).1))
 
-not_number : (e : StoreError) → TellsOfStore e refusal.NoNumber → ⊥
+pub not_number : (e : StoreError) → TellsOfStore e refusal.NoNumber → ⊥
 not_number stored.OutOfMemory h = cc
 not_number _ h = cc
 
@@ -318,4 +312,7 @@ ready_committed (Ok x) old new ok err clean r =
       unbroken = λ o. ap (λ (v : View). v.is_broken) is ∙ r.unbroken (subst IsTrue is_open o);
       keyed = λ o. subst (λ (t : Trees). IsKeyed (t name_tree)) (sym (ap (λ (v : View). v.trees) is)) (r.keyed (subst IsTrue is_open o));
       committed = λ o. subst (λ (t : Trees). IsKeyed (t name_tree)) (sym (ap (λ (v : View). v.committed) is)) (r.keyed (subst IsTrue is_open o));
+      rooted = subst (λ (f : ℕ → Shape). IsRootShape (f root_tree)) (sym shape) r.rooted;
+      roots = λ o. subst (λ (t : Trees). AreAllRoots (t root_tree)) (sym (ap (λ (v : View). v.trees) is)) (r.roots (subst IsTrue is_open o));
+      last_roots = λ o. subst (λ (t : Trees). AreAllRoots (t root_tree)) (sym (ap (λ (v : View). v.committed) is)) (r.roots (subst IsTrue is_open o));
     }

@@ -9,23 +9,25 @@ use Rattle.sqlite_value.proofs.OrderLemmas.{value_cmp-Blob}
 use Rattle.std.proofs.lemmas.Cmp.{tied_itself}
 use Rattle.std.proofs.lemmas.Map.Lookups.{exact_bytes}
 use Rattle.sqlite_trees.proofs.ListLemmas.{all-filter}
-use Rattle.dagcbor_store.proofs.Finding.{all_among}
+use Rattle.block_trees.proofs.Finding.{all_among}
 use Rattle.sqlite_trees.specs.Tree.{Trees, rowid, has_rowid, put_row, insert_entry, remove_entry}
 use Rattle.sqlite_trees.specs.View.{View, IsClean, KeepsCommitted, IsRolledBack}
 use Rattle.sqlite_trees.specs.declared.store.Store.{Ghosts}
+use Rattle.sqlite_trees.specs.declared.store.Shape.{Shape}
 use Rattle.sqlite_trees.specs.declared.error.StoreError.{StoreError}
 use Rattle.sqlite_exec.specs.Calls.{OnlyReads}
-use Rattle.dagcbor_store.specs.Ends.{Quiet, Ends}
+use Rattle.block_trees.specs.Ends.{Quiet, Ends}
 use Rattle.ipld_tree.specs.Cid.{IsCid}
 use Rattle.ipld_links.specs.Sets.{Among}
-use Rattle.dagcbor_store.specs.Rows.{block_tree, name_tree, block_row, name_entry, IsStored, IsListed, IsNameEntry, AreNameEntries, FindsName, IsFreeId, IsRowOf, ClearsRow}
-use Rattle.dagcbor_store.proofs.Numbers.{among_filter, among_unfiltered, has_own, number_is}
-use Rattle.dagcbor_store.specs.Stored.{IsKeyed, IsReady, IsSame, IsUndone}
+use Rattle.block_trees.specs.Rows.{block_tree, name_tree, block_row, name_entry, IsStored, IsListed, IsNameEntry, AreNameEntries, FindsName, IsFreeId, IsRowOf, ClearsRow, IsKeyed}
+use Rattle.block_trees.specs.RootRows.{root_tree, IsRootShape}
+use Rattle.block_trees.proofs.Numbers.{among_filter, among_unfiltered, has_own, number_is}
+use Rattle.dagcbor_store.specs.Stored.{AreAllRoots, IsReady, IsSame, IsUndone}
 
 -- ---- reads
 
 pub ready_read : (old new : View) → OnlyReads old new → IsReady old → IsReady new
-ready_read old new h r = subst IsReady (sym h) (record { blocks = r.blocks; names = r.names; lasting = r.lasting; unbroken = r.unbroken; keyed = r.keyed; committed = r.committed })
+ready_read old new h r = subst IsReady (sym h) (record { blocks = r.blocks; names = r.names; lasting = r.lasting; unbroken = r.unbroken; keyed = r.keyed; committed = r.committed; rooted = r.rooted; roots = r.roots; last_roots = r.last_roots })
 
 pub same_read : (old new : View) → OnlyReads old new → IsSame old new
 same_read old new h = record { trees = ap (λ (v : View). v.trees) h; committed = ap (λ (v : View). v.committed) h; is_open = ap (λ (v : View). v.is_open) h; broken = ap (λ (v : View). v.is_broken) h }
@@ -47,6 +49,9 @@ ready_undone old mid new clean kept undone r =
       unbroken = λ h. (undone.undone h).1;
       keyed = λ h. subst (λ (t : Trees). IsKeyed (t name_tree)) (sym (trees h)) (r.committed (opened h));
       committed = λ h. subst (λ (t : Trees). IsKeyed (t name_tree)) (sym (committed h)) (r.committed (opened h));
+      rooted = subst (λ (f : ℕ → Shape). IsRootShape (f root_tree)) (sym shape) r.rooted;
+      roots = λ h. subst (λ (t : Trees). AreAllRoots (t root_tree)) (sym (trees h)) (r.last_roots (opened h));
+      last_roots = λ h. subst (λ (t : Trees). AreAllRoots (t root_tree)) (sym (committed h)) (r.last_roots (opened h));
     }
 
 pub undone_since : (old mid new : View) → IsClean new → KeepsCommitted old mid → IsRolledBack mid new → IsUndone old new

@@ -1,12 +1,10 @@
-pub mod Finding
-pub mod Numbers
-pub mod Causes
-pub mod Ending
+pub mod Behind
 pub mod Keeping
 pub mod Calls
-pub mod Surveying
+pub mod Rooting
 pub mod Opening
 pub mod Adding
+pub mod ManyRoots
 pub mod Reading
 pub mod Walking
 pub mod Unlisted

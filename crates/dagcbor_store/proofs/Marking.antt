@@ -17,8 +17,8 @@ use Rattle.ipld_links.specs.Verdicts.{IsDagCbor}
 use Rattle.ipld_links.specs.Sets.{Among}
 use Rattle.ipld_links.specs.Reaching.{Stored, IsThere, LeadsTo, IsStepsFrom, LeadsFar}
 use Rattle.ipld_links.proofs.Members.{at_same, same_at, any_among, among_any, among_push, push_among}
-use Rattle.dagcbor_store.specs.Rows.{name_tree, IsListed}
-use Rattle.dagcbor_store.specs.Ends.{Quiet}
+use Rattle.block_trees.specs.Rows.{name_tree, IsListed}
+use Rattle.block_trees.specs.Ends.{Quiet}
 use Rattle.dagcbor_store.specs.Stored.{HoldsOnly, IsNamed, IsDamaged, IsSame, Fails, GetRefused}
 use Rattle.dagcbor_store.specs.Lost.{HoldsNoneSound}
 use Rattle.dagcbor_store.specs.Trees.{Shows}

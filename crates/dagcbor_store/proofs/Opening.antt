@@ -1,46 +1,64 @@
 -- A database that was checked is a store.
-use Rattle.std.proofs.Common.{◌≡◌, List, false, sym, ap, ◌∙◌, subst, IsTrue}
+use Rattle.std.proofs.Common.{◌≡◌, inl, inr, ℕ, List, false, refl, sym, ap, ◌∙◌, subst, IsTrue}
 use Rattle.sqlite_value.specs.Order.{Row}
-use Rattle.sqlite_value.specs.Keys.{plain}
 use Rattle.sqlite_trees.specs.Tree.{Trees}
-use Rattle.sqlite_trees.specs.View.{View, IsClean, IsRolledBack, Commits, SetsTree}
-use Rattle.sqlite_trees.specs.Objects.{catalog_tree, version_tree}
-use Rattle.sqlite_trees.specs.declared.store.Shape.TheVariants as shape
+use Rattle.sqlite_trees.specs.View.{View, IsClean, IsRolledBack, Commits, OnlyWrites, SetsTree}
+use Rattle.sqlite_trees.specs.Objects.{catalog_tree, version_tree, version_rows}
+use Rattle.sqlite_trees.specs.declared.store.Shape.{Shape}
 use Rattle.sqlite_exec.specs.Calls.{OnlyReads}
-use Rattle.dagcbor_store.specs.Rows.{block_tree, name_tree}
-use Rattle.dagcbor_store.specs.Stored.{IsKeyed, IsReady}
-use Rattle.dagcbor_store.specs.Opened.{IsChecked, IsOpened, IsSettled}
+use Rattle.block_trees.specs.Rows.{block_tree, name_tree, IsKeyed}
+use Rattle.block_trees.specs.RootRows.{root_tree, IsRootShape}
+use Rattle.dagcbor_store.specs.Stored.{AreAllRoots, IsReady}
+use Rattle.dagcbor_store.specs.Opened.{HasTrees, OnlyMarks, IsChecked, IsOpened, IsSettled}
+use Rattle.block_trees.proofs.Ending.{writes_set}
 use Rattle.dagcbor_store.proofs.Keeping.{open_of}
 
-pub checked_read : (old new : View) → OnlyReads old new → old.is_broken ≡ false → old.shape block_tree ≡ shape.Table → old.shape name_tree ≡ shape.Index plain → IsKeyed (old.trees name_tree) → IsChecked old new
-checked_read old new h sound blocks names keyed =
+pub reads_then : (old mid new : View) → OnlyReads old mid → OnlyReads mid new → OnlyReads old new
+reads_then old mid new h k = k ∙ ap (λ (v : View). record v { cursors = new.cursors }) h
+
+pub checked_read : (old new : View) → OnlyReads old new → old.is_broken ≡ false → HasTrees old → IsKeyed (old.trees name_tree) → AreAllRoots (old.trees root_tree) → IsChecked old new
+checked_read old new h sound has keyed roots =
     let trees = ap (λ (v : View). v.trees) h in
     let at = ap (λ (v : View). v.shape) h in
     record {
-      blocks = ap (λ f. f block_tree) at ∙ blocks;
-      names = ap (λ f. f name_tree) at ∙ names;
+      blocks = ap (λ f. f block_tree) at ∙ has.blocks;
+      names = ap (λ f. f name_tree) at ∙ has.names;
+      rooted = subst (λ (f : ℕ → Shape). IsRootShape (f root_tree)) (sym at) has.rooted;
       was_sound = sound;
       sound = ap (λ (v : View). v.is_broken) h ∙ sound;
       keyed = subst (λ (t : Trees). IsKeyed (t name_tree)) (sym trees) keyed;
-      same = record { blocks = ap (λ t. t block_tree) trees; names = ap (λ t. t name_tree) trees };
+      roots = subst (λ (t : Trees). AreAllRoots (t root_tree)) (sym trees) roots;
+      same = record { others = λ t out. ap (λ (u : Trees). u t) trees; version = inl (ap (λ (u : Trees). u version_tree) trees) };
       settled = λ e. trees ∙ e ∙ sym (ap (λ (v : View). v.committed) h);
       lasting = λ e. at ∙ e ∙ sym (ap (λ (v : View). v.committed_shape) h);
     }
 
--- what a mark of the version and its commit leave
-pub checked_marked : (old read mid new : View) (edit : List Row → List Row) → OnlyReads old read → old.is_broken ≡ false → old.shape block_tree ≡ shape.Table → old.shape name_tree ≡ shape.Index plain → IsKeyed (old.trees name_tree)
-    → SetsTree read mid version_tree edit → Commits mid new → IsChecked old new
-checked_marked old read mid new edit h sound blocks names keyed set done =
-    let was = checked_read old read h sound blocks names keyed in
+-- what a mark of a database that has no version leaves
+pub marked_same : (old read mid : View) (edit : List Row → List Row) → OnlyReads old read → read.trees version_tree ≡ version_rows 0 → SetsTree read mid version_tree edit → OnlyMarks old.trees mid.trees
+marked_same old read mid edit h none set =
+    let trees = ap (λ (v : View). v.trees) h in
+    record {
+      others = λ t out. (writes_set (λ u. u ≡ version_tree) version_tree read mid edit refl (only_set read mid edit set) set).others t out ∙ ap (λ (u : Trees). u t) trees;
+      version = inr (ap (λ (u : Trees). u version_tree) (sym trees) ∙ none);
+    }
+  where
+    only_set : (a b : View) (e : List Row → List Row) → SetsTree a b version_tree e → OnlyWrites a b
+    only_set a b e k = k.is ∙ ap (λ t. record a { trees = t; cursors = b.cursors }) (sym (ap (λ (v : View). v.trees) k.is))
+
+-- what it leaves with its commit
+pub checked_marked : (old read mid new : View) (edit : List Row → List Row) → IsChecked old read → OnlyMarks old.trees mid.trees → SetsTree read mid version_tree edit → Commits mid new → IsChecked old new
+checked_marked old read mid new edit was same set done =
     let trees = ap (λ (v : View). v.trees) done.is ∙ ap (λ (v : View). v.trees) set.is in
     let at = ap (λ (v : View). v.shape) done.is ∙ ap (λ (v : View). v.shape) set.is in
     record {
       blocks = ap (λ f. f block_tree) at ∙ was.blocks;
       names = ap (λ f. f name_tree) at ∙ was.names;
-      was_sound = sound;
+      rooted = subst (λ (f : ℕ → Shape). IsRootShape (f root_tree)) (sym at) was.rooted;
+      was_sound = was.was_sound;
       sound = ap (λ (v : View). v.is_broken) done.is ∙ ap (λ (v : View). v.is_broken) set.is ∙ was.sound;
       keyed = subst IsKeyed (sym (ap (λ t. t name_tree) trees)) was.keyed;
-      same = record { blocks = ap (λ t. t block_tree) trees ∙ was.same.blocks; names = ap (λ t. t name_tree) trees ∙ was.same.names };
+      roots = subst AreAllRoots (sym (ap (λ t. t root_tree) trees)) was.roots;
+      same = subst (OnlyMarks old.trees) (sym (ap (λ (v : View). v.trees) done.is)) same;
       settled = λ e. ap (λ (v : View). v.trees) done.is ∙ sym (ap (λ (v : View). v.committed) done.is);
       lasting = λ e. ap (λ (v : View). v.shape) done.is ∙ sym (ap (λ (v : View). v.committed_shape) done.is);
     }
@@ -69,17 +87,17 @@ module _ (old rolled : View) (clean : IsClean rolled) (undone : IsRolledBack old
     unbroken = λ h. c.sound;
     keyed = λ h. c.keyed;
     committed = λ h. subst (λ (t : Trees). IsKeyed (t name_tree)) (c.settled settled) c.keyed;
+    rooted = c.rooted;
+    roots = λ h. c.roots;
+    last_roots = λ h. subst (λ (t : Trees). AreAllRoots (t root_tree)) (c.settled settled) c.roots;
   }
 
   pub is_opened : (new : View) → (new.is_open ≡ false → IsTrue new.is_broken) → IsChecked rolled new → IsOpened old new
-  is_opened new shut_now c =
-      let blocks = c.same.blocks ∙ ap (λ t. t block_tree) (settled ∙ committed) in
-      let names = c.same.names ∙ ap (λ t. t name_tree) (settled ∙ committed) in
-      record {
-        is_open = open_of new shut_now c.sound;
-        now = record { blocks = blocks; names = names };
-        committed = record { blocks = ap (λ t. t block_tree) (sym (c.settled settled)) ∙ blocks; names = ap (λ t. t name_tree) (sym (c.settled settled)) ∙ names };
-      }
+  is_opened new shut_now c = record {
+    is_open = open_of new shut_now c.sound;
+    now = subst (λ (t : Trees). OnlyMarks t new.trees) (settled ∙ committed) c.same;
+    committed = sym (c.settled settled);
+  }
 
 pub is_settled : (old new : View) → IsOpened old new → IsSettled new
-is_settled old new h = record { is_open = h.is_open; committed = record { blocks = h.now.blocks ∙ sym h.committed.blocks; names = h.now.names ∙ sym h.committed.names } }
+is_settled old new h = record { is_open = h.is_open; committed = h.committed }

@@ -1,10 +1,13 @@
 -- A file that is read into a store, section by section.
-use Rattle.std.proofs.Common.{◌≡◌, inl, inr, ℕ, List, [], ◌∷◌, ◌++◌, length, append_assoc, append-nil, refl, sym, ap, ◌∙◌, subst, Option, Some, Result, Ok, Err}
+use Rattle.std.proofs.Common.{◌≡◌, ◌⊎◌, inl, inr, ℕ, List, [], ◌∷◌, ◌++◌, length, append_assoc, append-nil, refl, sym, ap, ◌∙◌, subst, arith, Option, Some, Result, Ok, Err}
 use Rattle.std.specs.List.{AllByRecursion}
 use Rattle.dagcbor_heads.proofs.Taking.{stays_both}
 use Rattle.dagcbor_heads.specs.Reading.{Reading, Stays}
+use Rattle.sqlite_trees.specs.Tree.{Trees}
 use Rattle.sqlite_trees.specs.View.{IsClean}
 use Rattle.sqlite_trees.specs.declared.store.Store.{Ghosts}
+use Rattle.ipld_tree.specs.Cid.{CidParts}
+use Rattle.dagcbor_items.specs.Walks.{forms}
 use Rattle.dagcbor_car.specs.Car.{Section}
 use Rattle.dagcbor_car.specs.Extents.{EndsThere}
 use Rattle.dagcbor_car.specs.Sources.{CarRefuses, LacksMemoryIf, TakesStart, TakesSectionBytes}
@@ -13,12 +16,14 @@ use Rattle.dagcbor_car.specs.declared.error.CarError.TheVariants.{OutOfMemory}
 use Rattle.dagcbor_car.proofs.Places.{IsPlace, place_begun, place_more, place_front, place_whole, place_end, ended, ends_same}
 use Rattle.ipld_links.specs.Sound.{IsSound}
 use Rattle.dagcbor_store.specs.Stored.{IsUndone, Fails}
+use Rattle.dagcbor_store.specs.Roots.{GainsRoots, IsAnyTooLong, RootsRefused}
 use Rattle.dagcbor_store.specs.declared.error.StoreRefusal.{StoreRefusal}
-use Rattle.dagcbor_store.specs.Cars.{TellsOfFile, FileRefused, IsReadTo, IsRead, Adds, NextRefused, AddRefused, ReadRefused, StopsAt, TellsOfRun, TakesBlock, of_block, of_commit}
+use Rattle.dagcbor_store.specs.declared.error.StoreRefusal.TheVariants as kind
+use Rattle.dagcbor_store.specs.Cars.{TellsOfFile, FileRefused, IsReadTo, IsRead, Adds, NextRefused, AddRefused, ReadRefused, StopsAt, RootsNotKept, HoldsSections, MayLeave, TellsOfRun, TakesBlock, of_block, of_refusal}
 use Rattle.dagcbor_store.specs.declared.car_error.ReadCarError.{ReadCarError}
 use Rattle.dagcbor_store.specs.declared.car_error.ReadCarError.TheVariants as own
-use Rattle.dagcbor_store.specs.Ends.{Quiet}
-use Rattle.dagcbor_store.proofs.Adding.{not_kept, fails_from, quiet_itself, quiet_then, adds_none, adds_more}
+use Rattle.block_trees.specs.Ends.{Quiet}
+use Rattle.dagcbor_store.proofs.Adding.{not_kept, fails_from, fails_until, quiet_itself, quiet_then, adds_more}
 use Rattle.dagcbor_car.proofs.Taking.{lacks_alike}
 use Rattle.dagcbor_car.specs.Each.{TakesEach, StopsEach, RunsEach}
 use Rattle.dagcbor_car.specs.declared.each.ReadCarError as run
@@ -76,40 +81,59 @@ pub file_refused : {E : Type 0} (T : Type 0) (variant : CarError E → ReadCarEr
 file_refused T variant stands lacks e told old new tells refused memory = (e, tells, refused, lacks_alike T lacks e memory)
 
 module _ {S : Type 0} (g : Ghosts S) where
-  stops_at : {E : Type 0} (ss : List Section) (extent : Option ℕ) (mid new : Reading) (before held after last : S) (e : ReadCarError E) → Adds g ss before held → Quiet g held after → Quiet g after last → g.blamed last ≡ g.blamed after
+  stops_at : {E : Type 0} (roots : List CidParts) (ss : List Section) (extent : Option ℕ) (mid new : Reading) (before held after last : S) (e : ReadCarError E) → Adds g roots ss before held → Quiet g held after → Quiet g after last → g.blamed last ≡ g.blamed after
       → (IsClean (g.view last) → IsUndone (g.view after) (g.view last)) → NextRefused g (length ss) extent mid held e new after → StopsAt g ss extent mid before e new last
-  stops_at ss extent mid new before held after last e h quiet behind blame undone (inl f) = inl f.0
-  stops_at ss extent mid new before held after last e h quiet behind blame undone (inr p) =
-      inr (inl (p.0, p.1, p.2, p.3, p.4, not_kept g ss p.0 before held after last p.2 h quiet behind blame undone p.5))
+  stops_at roots ss extent mid new before held after last e h quiet behind blame undone (inl f) = inl f.0
+  stops_at roots ss extent mid new before held after last e h quiet behind blame undone (inr p) =
+      inr (inl (p.0, p.1, p.2, p.3, p.4, not_kept g roots ss p.0 before held after last p.2 h quiet behind blame undone p.5))
+
+  roots_not_kept : (roots : List CidParts) (before after last : S) (told : StoreRefusal) → Quiet g after last → g.blamed last ≡ g.blamed after → (IsClean (g.view last) → IsUndone (g.view after) (g.view last))
+      → RootsRefused g roots before after told → RootsNotKept g roots before last told
+  roots_not_kept roots before after last kind.EarlierVersion behind blame undone p = (p.0, p.1)
+  roots_not_kept roots before after last kind.NoNumber behind blame undone p = λ clean.
+      let k = p (omega (arith, behind.clean)) in
+      (k.2.trees, k.0, k.1, k.3, k.4.roots, k.5)
+  roots_not_kept roots before after last told behind blame undone p = fails_until g (IsAnyTooLong (g.view before).reals roots) before after last told behind blame undone p
 
   -- nothing of the file is kept
   pub read_refused : {E : Type 0} (old new : Reading) (before after last : S) (e : ReadCarError E) → Quiet g after last → g.blamed last ≡ g.blamed after
       → (IsClean (g.view last) → IsUndone (g.view after) (g.view last)) → AddRefused g old before e new after → ReadRefused g old before e new last
   read_refused old new before after last e behind blame undone (inl f) = inl f.0
-  read_refused old new before after last e behind blame undone (inr r) = inr (
+  read_refused old new before after last e behind blame undone (inr (inl r)) = inr (inl (r.0, r.1, r.2, r.3, r.4, roots_not_kept r.0 before after last r.2 behind blame undone r.5))
+  read_refused old new before after last e behind blame undone (inr (inr r)) = inr (inr (
     r.0,
     r.1,
     r.2,
     r.3,
+    r.6.keeps,
     r.5,
     elim r.8 [
-      | inl n ↦ inl (stops_at r.1 r.2 r.3 new before r.4 after last e r.6 r.7 behind blame undone n)
+      | inl n ↦ inl (stops_at r.0 r.1 r.2 r.3 new before r.4 after last e r.6 r.7 behind blame undone n)
       | inr m ↦ inr (m.0, m.2)
     ],
-  )
+  ))
 
   -- the commit failed
-  pub commit_refused : {E : Type 0} (roots : List (List ℕ)) (ss : List Section) (extent more : Option ℕ) (old mid new : Reading) (before after last : S) (told : StoreRefusal) → IsReadTo roots ss old extent mid → EndsThere extent mid more new → Adds g ss before after
-      → (IsClean (g.view last) → IsClean (g.view after)) → Fails g ⊥ after last told → ReadRefused {E = E} g old before (of_commit told) new last
+  pub commit_refused : {E : Type 0} (roots : List CidParts) (ss : List Section) (extent more : Option ℕ) (old mid new : Reading) (before after last : S) (told : StoreRefusal) → IsReadTo (forms roots) ss old extent mid → EndsThere extent mid more new → Adds g roots ss before after
+      → (IsClean (g.view last) → IsClean (g.view after)) → Fails g ⊥ after last told → ReadRefused {E = E} g old before (of_refusal told) new last
   commit_refused roots ss extent more old mid new before after last told to end h was f =
-      inr (roots, ss, extent, mid, to, inl (inr (inr (more, told, end, refl, fails_from g ⊥ ⊥ ss before after last told h was (λ clean none. none) f))))
+      inr (inr (roots, ss, extent, mid, h.keeps, to, inl (inr (inr (more, told, end, refl, fails_from g ⊥ ⊥ roots ss before after last told h was (λ clean none. none) f)))))
+
+  -- what a crash behind the commit leaves
+  pub may_leave : (roots : List CidParts) (ss : List Section) (old new : Reading) (before after last : S) → IsRead (forms roots) ss old new → Adds g roots ss before after → (IsClean (g.view last) → IsClean (g.view after))
+      → ((db : Trees) → g.recovers last db → (db ≡ (g.view after).trees) ⊎ g.recovers after db)
+      → (db : Trees) → g.recovers last db → g.recovers before db ⊎ (IsClean (g.view last) → MayLeave old new (g.view before).trees db)
+  may_leave roots ss old new before after last read h was crash db r = elim (crash db r) [
+    | inl e ↦ inr (λ clean. let a = h.added (was clean) in (roots, ss, read, subst (λ (t : Trees). HoldsSections (g.view before).trees t ss) (sym e) a.trees, subst (λ (t : Trees). GainsRoots (g.view before).trees t roots) (sym e) a.gains))
+    | inr earlier ↦ inl (h.quiet.outcomes db earlier)
+  ]
 
 -- ---- the sections, one by one
 
-module _ {S : Type 0} (g : Ghosts S) (roots : List (List ℕ)) (start : Reading) (before : S) where
+module _ {S : Type 0} (g : Ghosts S) (roots : List CidParts) (start : Reading) (before : S) where
   -- so many were taken, and added
   abbrev IsAddedTo : List Section → Option ℕ → Reading → S → Type 0
-  IsAddedTo ss extent source it = IsReadAt roots ss start extent source × Adds g ss before it
+  IsAddedTo ss extent source it = IsReadAt (forms roots) ss start extent source × Adds g roots ss before it
 
   along : (ss more : List Section) (extent rest : Option ℕ) (source mid : Reading) (old new : S) → IsAddedTo ss extent source old → TakesEach (TakesBlock g) extent source old more rest mid new → IsAddedTo (ss ++ more) rest mid new
   along ss [] extent rest source mid old new h t =
@@ -119,26 +143,26 @@ module _ {S : Type 0} (g : Ghosts S) (roots : List (List ℕ)) (start : Reading)
       (subst (λ l. IsAddedTo l extent source old) (sym (append-nil ss)) h)))
   along ss (s ∷ more) extent rest source mid old new h t =
       subst (λ l. IsAddedTo l rest mid new) (append_assoc ss (s ∷ []) more)
-      (along (ss ++ s ∷ []) more t.0 rest t.1 mid t.2 new (read_more roots ss s extent t.0 start source t.1 h.0 t.3 t.4.1.0, adds_more g ss s before old t.2 h.1 t.4.1.1 t.4.0) t.5)
+      (along (ss ++ s ∷ []) more t.0 rest t.1 mid t.2 new (read_more (forms roots) ss s extent t.0 start source t.1 h.0 t.3 t.4.1.0, adds_more g roots ss s before old t.2 h.1 t.4.1.1 t.4.0) t.5)
 
-  pub added_all : (ss : List Section) (extent rest : Option ℕ) (source mid : Reading) (new : S) → IsReadAt roots [] start extent source → TakesEach (TakesBlock g) extent source before ss rest mid new → IsAddedTo ss rest mid new
-  added_all ss extent rest source mid new h t = along [] ss extent rest source mid before new (h, adds_none g before) t
+  pub added_all : (ss : List Section) (extent rest : Option ℕ) (source mid : Reading) (held new : S) → IsAddedTo [] extent source held → TakesEach (TakesBlock g) extent source held ss rest mid new → IsAddedTo ss rest mid new
+  added_all ss extent rest source mid held new h t = along [] ss extent rest source mid held new h t
 
   stopped : {E : Type 0} (ss : List Section) (extent more : Option ℕ) (mid behind : Reading) (it new : S) (e : run.ReadCarError E StoreRefusal) (told : ReadCarError E) → IsAddedTo ss extent mid it → StopsEach (TakesBlock g) (length ss) extent mid it e more behind new → TellsOfRun e told → AddRefused g start before told behind new
   stopped ss extent more mid behind it new (stop.Header e) told h k tells = absurd k
   stopped ss extent more mid behind it new (stop.Section n e) told h k tells =
-      inr (roots, ss, extent, mid, it, read_to h.0, h.1, subst (Quiet g it) (sym k.2) (quiet_itself g it), inl (inl ((e, subst (λ n. TellsOfFile (own.Section n) e told) k.0 tells, k.1.0, k.1.1), k.2)))
+      inr (inr (roots, ss, extent, mid, it, read_to h.0, h.1, subst (Quiet g it) (sym k.2) (quiet_itself g it), inl (inl ((e, subst (λ n. TellsOfFile (own.Section n) e told) k.0 tells, k.1.0, k.1.1), k.2))))
   stopped {E} ss extent more mid behind it new (stop.Block n name refusal) told h k tells =
-      inr (roots, ss, extent, mid, it, read_to h.0, h.1, k.4.0, inl (inr (k.0, more, refusal, k.2, tells ∙ ap (λ n. of_block {E = E} n name refusal) k.1 ∙ ap (λ c. of_block {E = E} (length ss) c refusal) k.3, k.4.1)))
+      inr (inr (roots, ss, extent, mid, it, read_to h.0, h.1, k.4.0, inl (inr (k.0, more, refusal, k.2, tells ∙ ap (λ n. of_block {E = E} n name refusal) k.1 ∙ ap (λ c. of_block {E = E} (length ss) c refusal) k.3, k.4.1))))
 
   too_many : {E : Type 0} (n : ℕ) (e : run.ReadCarError E StoreRefusal) (told : ReadCarError E) → e ≡ stop.Section n OutOfMemory → TellsOfRun e told → told ≡ own.OutOfMemory
   too_many n e told is tells = subst (λ x. TellsOfRun x told) is tells
 
-  pub run_refused : {E : Type 0} (extent more : Option ℕ) (source behind : Reading) (new : S) (e : run.ReadCarError E StoreRefusal) (told : ReadCarError E) → IsReadAt roots [] start extent source → RunsEach (TakesBlock g) extent source before (Err e) more behind new → TellsOfRun e told → AddRefused g start before told behind new
-  run_refused extent more source behind new e told h (ss, rest, mid, it, t, inl k) tells = stopped ss rest more mid behind it new e told (added_all ss extent rest source mid it h t) k tells
-  run_refused extent more source behind new e told h (ss, rest, mid, it, t, inr k) tells =
-      let at = added_all ss extent rest source mid it h t in
-      inr (roots, ss, rest, mid, it, read_to at.0, at.1, subst (Quiet g it) (sym k.1) (quiet_itself g it), inr (k.0, k.1, (too_many (length ss) e told k.2.0 tells, k.2.1)))
+  pub run_refused : {E : Type 0} (extent more : Option ℕ) (source behind : Reading) (held new : S) (e : run.ReadCarError E StoreRefusal) (told : ReadCarError E) → IsAddedTo [] extent source held → RunsEach (TakesBlock g) extent source held (Err e) more behind new → TellsOfRun e told → AddRefused g start before told behind new
+  run_refused extent more source behind held new e told h (ss, rest, mid, it, t, inl k) tells = stopped ss rest more mid behind it new e told (added_all ss extent rest source mid held it h t) k tells
+  run_refused extent more source behind held new e told h (ss, rest, mid, it, t, inr k) tells =
+      let at = added_all ss extent rest source mid held it h t in
+      inr (inr (roots, ss, rest, mid, it, read_to at.0, at.1, subst (Quiet g it) (sym k.1) (quiet_itself g it), inr (k.0, k.1, (too_many (length ss) e told k.2.0 tells, k.2.1))))
 
 module _ {S : Type 0} (g : Ghosts S) where
   each_quiet : (extent rest : Option ℕ) (source mid : Reading) (old new : S) (ss : List Section) → TakesEach (TakesBlock g) extent source old ss rest mid new → Quiet g old new

@@ -15,8 +15,8 @@ use Rattle.ipld_tree.proofs.Cids.{cid_unique}
 use Rattle.ipld_links.specs.Sets.{Among}
 use Rattle.ipld_links.specs.Reaching.{Stored, IsThere, NoneTwice}
 use Rattle.ipld_links.proofs.Members.{among_push, push_among}
-use Rattle.dagcbor_store.specs.Ends.{Quiet}
-use Rattle.dagcbor_store.specs.Rows.{block_tree, name_tree, block_row, name_entry, name_cmp, IsStored, IsListed}
+use Rattle.block_trees.specs.Ends.{Quiet, KeepsOthers, IsOfBlocks}
+use Rattle.block_trees.specs.Rows.{block_tree, name_tree, block_row, name_entry, name_cmp, IsStored, IsListed}
 use Rattle.dagcbor_store.specs.Stored.{IsBehind, IsNext, GivesNext, Lists, IsSame, IsTaken, IsCommitted, Fails}
 use Rattle.dagcbor_store.specs.Trees.{Shows}
 use Rattle.dagcbor_store.specs.Collecting.{IsLedForm, HoldsThose, KeepsReachable, TakesOut, IsCollected, Marks, IsKeptForm, SweepsNext, IsSwept}
@@ -88,6 +88,7 @@ Stays kept last q = IsKeptForm kept q ⊎ IsBehind last q
 pub record SweptTo (old now : View) (kept : BTreeSet CidParts) (last : Option CidParts) (count : ℕ) : Type 0 where
   pub trees : HoldsThose (Stays kept last) old.trees now.trees
   pub taken : TakesOut old.trees now.trees count
+  pub beside : KeepsOthers IsOfBlocks old.trees now.trees
   pub committed : now.committed ≡ old.committed
   pub is_open : now.is_open ≡ old.is_open
   pub broken : now.is_broken ≡ old.is_broken
@@ -99,6 +100,7 @@ pub swept_none : (v : View) (kept : BTreeSet CidParts) → SweptTo v v kept None
 swept_none v kept = record {
   trees = those_as (λ q. ⊤) (Stays kept None) v.trees v.trees (λ q l. (λ t. inr tt, λ s. tt)) (those_all v.trees);
   taken = none_out v.trees;
+  beside = λ t out. refl;
   committed = refl;
   is_open = refl;
   broken = refl;
@@ -155,6 +157,7 @@ module _ (old mid : View) (kept : BTreeSet CidParts) (last : Option CidParts) (c
   swept_same new m same = record {
     trees = those_as (Stays kept last) (Stays kept (Some c)) old.trees new.trees (same_stay m) (subst (HoldsThose (Stays kept last) old.trees) (sym same.trees) h.trees);
     taken = subst (λ t. TakesOut old.trees t count) (sym same.trees) h.taken;
+    beside = λ t out. ap (λ (u : Trees). u t) same.trees ∙ h.beside t out;
     committed = same.committed ∙ h.committed;
     is_open = same.is_open ∙ h.is_open;
     broken = same.broken ∙ h.broken;
@@ -176,6 +179,7 @@ module _ (old mid : View) (kept : BTreeSet CidParts) (last : Option CidParts) (c
   swept_less new out t = record {
     trees = those_as (λ q. Stays kept last q × (q ≡ cid_bytes c → ⊥)) (Stays kept (Some c)) old.trees new.trees (less_stay out) (those_less (Stays kept last) old mid new c true h.trees t);
     taken = one_out (Stays kept last) old mid new c count h.trees h.taken next.listed t;
+    beside = λ u out. t.beside u out ∙ h.beside u out;
     committed = t.committed ∙ h.committed;
     is_open = opened ∙ h.is_open;
     broken = t.broken ∙ h.broken;
@@ -200,6 +204,7 @@ taken_same old mid new c taken same listed t = record {
   lists = subst (λ (u : Trees). (q : List ℕ) → IsListed (new.trees name_tree) q ↔ (IsListed (u name_tree) q × (q ≡ cid_bytes c → ⊥))) same.trees t.lists;
   entries = subst (λ (u : Trees). (id : ℤ) (q : List ℕ) → Among (name_entry q id) (new.trees name_tree) ↔ (Among (name_entry q id) (u name_tree) × (q ≡ cid_bytes c → ⊥))) same.trees t.entries;
   rows = subst (λ (u : Trees). (id : ℤ) (q d : List ℕ) → Among (block_row id q d) (new.trees block_tree) ↔ (Among (block_row id q d) (u block_tree) × ((q ≡ cid_bytes c) × Among (name_entry q id) (u name_tree) → ⊥))) same.trees t.rows;
+  beside = subst (λ (u : Trees). KeepsOthers IsOfBlocks u new.trees) same.trees t.beside;
   committed = t.committed ∙ same.committed;
   was_open = subst IsTrue same.is_open t.was_open;
   is_open = t.is_open;
@@ -210,6 +215,7 @@ pub swept_all : (old mid new : View) (kept : BTreeSet CidParts) (last : Option C
 swept_all old mid new kept last count h none same = record {
   trees = subst (HoldsThose (IsKeptForm kept) old.trees) (sym same.trees) (those_as (Stays kept last) (IsKeptForm kept) old.trees mid.trees alike h.trees);
   taken = subst (λ t. TakesOut old.trees t count) (sym same.trees) h.taken;
+  beside = subst (KeepsOthers IsOfBlocks old.trees) (sym same.trees) h.beside;
   committed = same.committed ∙ h.committed;
   is_open = same.is_open ∙ h.is_open;
   broken = same.broken ∙ h.broken;
@@ -247,9 +253,13 @@ module _ (old mid swept : View) (roots : List CidParts) (kept : BTreeSet CidPart
   pub keeps_reachable : KeepsReachable old roots swept.trees
   keeps_reachable stored shows = (those_led stored shows, λ name l. (marks stored shows name).1 l)
 
+  pub beside_swept : KeepsOthers IsOfBlocks old.trees swept.trees
+  beside_swept = subst (λ (u : Trees). KeepsOthers IsOfBlocks u swept.trees) same.trees h.beside
+
   pub collected : (new : View) → IsCommitted swept new → IsCollected old new roots count
   collected new c = record {
     trees = subst (KeepsReachable old roots) (sym c.trees) keeps_reachable;
+    beside = subst (KeepsOthers IsOfBlocks old.trees) (sym c.trees) beside_swept;
     taken = subst (λ t. TakesOut old.trees t count) (sym c.trees) (subst (λ t. TakesOut t swept.trees count) same.trees h.taken);
     committed = c.committed ∙ sym c.trees;
     is_open = c.is_open;

@@ -18,7 +18,7 @@ use Rattle.ipld_links.specs.declared.reach.Walk.{Walk}
 use Rattle.ipld_links.proofs.Members.{push_among}
 use Rattle.ipld_links.proofs.Reaching.{none_found}
 use Rattle.dagcbor_car.proofs.Writing.{sections_left}
-use Rattle.dagcbor_store.specs.Rows.{name_tree, IsStored, IsListed}
+use Rattle.block_trees.specs.Rows.{name_tree, IsStored, IsListed}
 use Rattle.dagcbor_store.specs.Stored.{IsNamed, HoldsOnly, GetsSome, Lists, IsDamaged, IsSame, GetRefused}
 use Rattle.dagcbor_store.specs.Walking.{AreNamed, HeaderUnwritten}
 use Rattle.dagcbor_store.specs.Trees.{Shows, OfStored, Reaches, ReachRefused, tree_bytes, AreFirstReached, WritesTree, TreeRefused, AreFirstAt, NamedRefused, NamesRefused, NamedUnwritten, WritesNames, NamesUnwritten}
@@ -27,8 +27,8 @@ use Rattle.dagcbor_store.specs.declared.error.StoreRefusal.TheVariants as refusa
 use Rattle.dagcbor_store.specs.declared.car_error.WriteCarError.{WriteCarError}
 use Rattle.dagcbor_store.specs.declared.car_error.WriteCarError.TheVariants as car
 use Rattle.dagcbor_store.specs.declared.car_error.WriteTreeError.TheVariants as tree
-use Rattle.dagcbor_store.proofs.Surveying.{all_more}
-use Rattle.dagcbor_store.specs.Ends.{Quiet}
+use Rattle.block_trees.proofs.Surveying.{all_more}
+use Rattle.block_trees.specs.Ends.{Quiet}
 use Rattle.dagcbor_store.proofs.Adding.{quiet_itself, quiet_then}
 use Rattle.dagcbor_store.proofs.Walking.{holds_same, damaged_same, same_itself, same_then, fails_same, car_push}
 

@@ -20,7 +20,7 @@ use Rattle.ipld_links.specs.Within.{IsReached, IsReachedName, AreFirstNames}
 use Rattle.ipld_links.proofs.Within.{reached_cid, not_inline}
 use Rattle.ipld_links.proofs.Members.{at_same, same_at, any_among, among_any, among_push, push_among, among_map, map_among, whole_block}
 use Rattle.sqlite_trees.specs.Tree.{Trees}
-use Rattle.dagcbor_store.specs.Rows.{name_tree, IsListed}
+use Rattle.block_trees.specs.Rows.{name_tree, IsListed}
 use Rattle.dagcbor_store.specs.Stored.{Lists, IsNext, GivesNext, HoldsOnly, IsSame}
 use Rattle.dagcbor_store.specs.Walking.{AreBlocks}
 use Rattle.dagcbor_store.specs.Lost.{IsLinked, NamesNone, ListsLost, AddsName, AddsNames, AddsLost, AddsOf, HoldsNoneSound, GrowsBy, IsReachedIn}

@@ -12,7 +12,7 @@ use Rattle.dagcbor_car.specs.Car.{Section, header_bytes, section_bytes, car_byte
 use Rattle.ipld_links.specs.Sets.{Among}
 use Rattle.ipld_links.proofs.Members.{among_push}
 use Rattle.dagcbor_car.proofs.Places.{flat_push}
-use Rattle.dagcbor_store.specs.Rows.{name_tree, name_cmp, IsStored, IsListed}
+use Rattle.block_trees.specs.Rows.{name_tree, name_cmp, IsStored, IsListed}
 use Rattle.dagcbor_store.specs.Stored.{IsNamed, IsBehind, IsNext, GivesNext, HoldsOnly, IsDamaged, IsSame, Fails, GetRefused, TellsOfStore}
 use Rattle.sqlite_trees.specs.declared.error.StoreError.{StoreError}
 use Rattle.sqlite_trees.specs.declared.error.StoreError.TheVariants as stored
@@ -22,8 +22,8 @@ use Rattle.dagcbor_store.specs.declared.error.StoreRefusal.{StoreRefusal}
 use Rattle.dagcbor_store.specs.declared.error.StoreRefusal.TheVariants as refusal
 use Rattle.dagcbor_store.specs.declared.car_error.WriteCarError.{WriteCarError}
 use Rattle.dagcbor_store.specs.declared.car_error.WriteCarError.TheVariants as car
-use Rattle.dagcbor_store.proofs.Surveying.{all_more, ascending_more}
-use Rattle.dagcbor_store.specs.Ends.{Quiet}
+use Rattle.block_trees.proofs.Surveying.{all_more, ascending_more}
+use Rattle.block_trees.specs.Ends.{Quiet}
 use Rattle.dagcbor_store.proofs.Adding.{push_name, quiet_itself, quiet_then, last_same, fails_behind}
 
 -- ---- how far a walk has come

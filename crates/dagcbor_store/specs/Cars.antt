@@ -1,10 +1,11 @@
 -- What is read into a store from a file of blocks.
-use Rattle.std.specs.Prelude.{◌≡◌, ◌↔◌, ◌⊎◌, ℕ, ◌-◌, ◌^◌, List, length, Option, None, Some, IsTrue, Result, Err, MatchResult, Vec}
+use Rattle.std.specs.Prelude.{◌≡◌, ◌≢◌, ◌↔◌, ◌⊎◌, ℕ, ◌-◌, ◌^◌, List, [], length, Option, None, Some, IsTrue, Result, Err, MatchResult, Vec}
 use Rattle.std.specs.List.{AllByRecursion}
 use Rattle.std.specs.declared.alloc.Global.{Global}
 use Rattle.sqlite_trees.specs.Tree.{Trees}
 use Rattle.sqlite_trees.specs.View.{View, IsClean}
 use Rattle.sqlite_trees.specs.declared.store.Store.{Ghosts}
+use Rattle.sqlite_trees.specs.declared.store.Shape.TheVariants as shape
 use Rattle.dagcbor_heads.specs.Reading.{Reading, Stays}
 use Rattle.ipld_tree.specs.Cid.{CidParts, cid_bytes}
 use Rattle.dagcbor_items.specs.Walks.{forms}
@@ -19,9 +20,11 @@ use Rattle.dagcbor_car.specs.declared.error.CarError.{CarError}
 use Rattle.dagcbor_car.specs.declared.error.CarError.TheVariants as file
 use Rattle.dagcbor_car.specs.declared.each.ReadCarError as run
 use Rattle.dagcbor_car.specs.declared.each.ReadCarError.TheVariants as stop
-use Rattle.dagcbor_store.specs.Rows.{block_tree, name_tree, IsStored, IsListed, FreesId, IsTooLong}
-use Rattle.dagcbor_store.specs.Ends.{Quiet}
+use Rattle.block_trees.specs.Rows.{block_tree, name_tree, IsStored, IsListed, FreesId, IsTooLong}
+use Rattle.block_trees.specs.RootRows.{root_tree}
+use Rattle.block_trees.specs.Ends.{Quiet, KeepsOthers, IsOfBlocks, IsOfRoots}
 use Rattle.dagcbor_store.specs.Stored.{IsUnfit, IsAdded, Fails, PutRefused}
+use Rattle.dagcbor_store.specs.Roots.{GainsRoots, MayKeepRoots, StandsBehind, LacksNumber, IsAnyTooLong, RootsRefused}
 use Rattle.dagcbor_store.specs.declared.error.StoreRefusal.{StoreRefusal}
 use Rattle.dagcbor_store.specs.declared.error.StoreRefusal.TheVariants as refusal
 use Rattle.dagcbor_store.specs.declared.car_error.ReadCarError.{ReadCarError}
@@ -37,14 +40,19 @@ IsNameIn sections q = (s : Section) × Among s sections × (cid_bytes s.0 ≡ q)
 abbrev pub IsSectionIn : List Section → List ℕ → List ℕ → Type 0
 IsSectionIn sections q b = (s : Section) × Among s sections × (cid_bytes s.0 ≡ q) × (s.1 ≡ b)
 
+-- the tables of blocks and of roots, and the index of names
+abbrev pub IsOfStore : ℕ → Type 0
+IsOfStore t = IsOfBlocks t ⊎ IsOfRoots t
+
 -- Under the name of each section the bytes of a section of that name are stored, and no others; under each other name
--- what was stored there.
+-- what was stored there. Each tree that is none of the store is the same.
 pub record HoldsSections (old new : Trees) (sections : List Section) : Type 0 where
   pub named : (q b : List ℕ) → IsNameIn sections q → IsStored new q b → IsSectionIn sections q b
   pub each : (q : List ℕ) → IsNameIn sections q → (b : List ℕ) × IsStored new q b
   pub others : (q b : List ℕ) → (IsNameIn sections q → ⊥) → IsStored new q b ↔ IsStored old q b
   pub lists : (q : List ℕ) → IsListed (new name_tree) q
       ↔ (IsNameIn sections q ⊎ IsListed (old name_tree) q)
+  pub beside : KeepsOthers IsOfStore old new
 
 -- the same, and all of it is committed
 pub record IsFilled (old new : View) (sections : List Section) : Type 0 where
@@ -92,16 +100,28 @@ of_block count name refusal.TooLong = car.Block count name refusal.TooLong
 of_block count name refusal.OutOfMemory = car.OutOfMemory
 of_block count name told = car.Store told
 
+-- how the refusal of the roots, or of the commit, is told
+abbrev pub of_refusal : {E : Type 0} → StoreRefusal → ReadCarError E
+of_refusal refusal.OutOfMemory = car.OutOfMemory
+of_refusal told = car.Store told
+
 -- how it is told why not all sections were added
 abbrev pub TellsOfRun : {E : Type 0} → run.ReadCarError E StoreRefusal → ReadCarError E → Type 0
 TellsOfRun (stop.Header e) told = TellsOfFile car.Header e told
 TellsOfRun (stop.Section n e) told = TellsOfFile (car.Section n) e told
 TellsOfRun (stop.Block n name refusal) told = told ≡ of_block n name refusal
 
--- the same of the commit
-abbrev pub of_commit : {E : Type 0} → StoreRefusal → ReadCarError E
-of_commit refusal.OutOfMemory = car.OutOfMemory
-of_commit told = car.Store told
+-- one of the names is no root, and no number is left for it, behind the roots that there were and the names before it
+abbrev pub RootNumbersEnd : Trees → List CidParts → Type 0
+RootNumbersEnd old names = (mid : Trees) × (first : List CidParts) × (name : CidParts)
+    × StandsBehind first name names × GainsRoots old mid first × LacksNumber mid name
+
+-- Why the roots of a file are not kept: there are some, and the database is of the earlier version; no number is left; or
+-- the store failed.
+abbrev pub RootsNotKept : {S : Type 0} → Ghosts S → List CidParts → S → S → StoreRefusal → Type 0
+RootsNotKept g roots old new refusal.EarlierVersion = ((g.view old).shape root_tree ≡ shape.Absent) × (roots ≢ [])
+RootsNotKept g roots old new refusal.NoNumber = IsClean (g.view new) → RootNumbersEnd (g.view old).trees roots
+RootsNotKept g roots old new told = Fails g (IsAnyTooLong (g.view old).reals roots) old new told
 
 -- a row has the greatest number, behind these sections
 abbrev pub NumbersEnd : Trees → List Section → Type 0
@@ -121,38 +141,43 @@ StopsAt g sections extent old before e new after =
     FileRefused (car.Section (length sections)) (RefusesNext extent) (SectionLacks (of_file extent old)) old e new
     ⊎ (((s : Section) × (more : Option ℕ) × (told : StoreRefusal) × TakesSectionBytes extent old s more new
     × (e ≡ of_block (length sections) s.0 told) × NotKept g sections s before after told)
-    ⊎ ((more : Option ℕ) × (told : StoreRefusal) × EndsThere extent old more new × (e ≡ of_commit told)
+    ⊎ ((more : Option ℕ) × (told : StoreRefusal) × EndsThere extent old more new × (e ≡ of_refusal told)
     × Fails g ⊥ before after told))
 
 -- the call gives up behind so many sections
 abbrev pub AreTooMany : {E : Type 0} → List Section → ReadCarError E → Type 0
 AreTooMany sections e = (e ≡ car.OutOfMemory) × (length sections ≡ 2 ^ 64 - 1)
 
--- why a file is not read: none begins; or else behind some of its sections there is a cause
+-- why a file is not read: none begins; its header was taken, and its roots are not kept; or else behind some of its
+-- sections there is a cause
 abbrev pub ReadRefused : {S E : Type 0} → Ghosts S → Reading → S → ReadCarError E → Reading → S → Type 0
 ReadRefused g old before e new after = FileRefused car.Header RefusesStart (FileLacks old) old e new
-    ⊎ ((roots : List (List ℕ)) × (sections : List Section) × (extent : Option ℕ) × (mid : Reading)
-    × IsReadTo roots sections old extent mid
-    × (StopsAt g sections extent mid before e new after ⊎ ((new ≡ mid) × AreTooMany sections e)))
+    ⊎ (((roots : List CidParts) × (extent : Option ℕ) × (told : StoreRefusal)
+    × IsReadTo (forms roots) [] old extent new × (e ≡ of_refusal told) × RootsNotKept g roots before after told)
+    ⊎ ((roots : List CidParts) × (sections : List Section) × (extent : Option ℕ) × (mid : Reading)
+    × MayKeepRoots (g.view before) roots × IsReadTo (forms roots) sections old extent mid
+    × (StopsAt g sections extent mid before e new after ⊎ ((new ≡ mid) × AreTooMany sections e))))
 
--- A crash behind the call leaves what it could leave before; or that and a whole file, which was taken.
+-- A crash behind the call leaves what it could leave before; or that and a whole file, which was taken, and its roots.
 abbrev pub MayLeave : Reading → Reading → Trees → Trees → Type 0
-MayLeave old new before db = (roots : List (List ℕ)) × (sections : List Section)
-    × IsRead roots sections old new × HoldsSections before db sections
+MayLeave old new before db = (roots : List CidParts) × (sections : List Section)
+    × IsRead (forms roots) sections old new × HoldsSections before db sections × GainsRoots before db roots
 
 -- ---- steps
 
--- these sections were added, and what was committed stands
-pub record IsAddedAll (old new : View) (sections : List Section) : Type 0 where
+-- these roots and sections were added, and what was committed stands
+pub record IsAddedAll (old new : View) (roots : List CidParts) (sections : List Section) : Type 0 where
   pub trees : HoldsSections old.trees new.trees sections
+  pub gains : GainsRoots old.trees new.trees roots
   pub committed : new.committed ≡ old.committed
   pub reals : new.reals ≡ old.reals
   pub is_open : new.is_open ≡ old.is_open
   pub broken : new.is_broken ≡ old.is_broken
 
 -- the same, and no fault is forgotten
-pub record Adds {S : Type 0} (g : Ghosts S) (sections : List Section) (old new : S) : Type 0 where
-  pub added : IsClean (g.view new) → IsAddedAll (g.view old) (g.view new) sections
+pub record Adds {S : Type 0} (g : Ghosts S) (roots : List CidParts) (sections : List Section) (old new : S) : Type 0 where
+  pub keeps : MayKeepRoots (g.view old) roots
+  pub added : IsClean (g.view new) → IsAddedAll (g.view old) (g.view new) roots sections
   pub quiet : Quiet g old new
 
 -- The block of a section is added under its name, or refused.
@@ -171,16 +196,18 @@ NextRefused g count extent old before e new after =
 -- why not all of a file is added
 abbrev pub AddRefused : {S E : Type 0} → Ghosts S → Reading → S → ReadCarError E → Reading → S → Type 0
 AddRefused {S} g old before e new after = (FileRefused car.Header RefusesStart (FileLacks old) old e new × (after ≡ before))
-    ⊎ ((roots : List (List ℕ)) × (sections : List Section) × (extent : Option ℕ) × (mid : Reading) × (held : S)
-    × IsReadTo roots sections old extent mid × Adds g sections before held
+    ⊎ (((roots : List CidParts) × (extent : Option ℕ) × (told : StoreRefusal)
+    × IsReadTo (forms roots) [] old extent new × (e ≡ of_refusal told) × RootsRefused g roots before after told)
+    ⊎ ((roots : List CidParts) × (sections : List Section) × (extent : Option ℕ) × (mid : Reading) × (held : S)
+    × IsReadTo (forms roots) sections old extent mid × Adds g roots sections before held
     × Quiet g held after
-    × (NextRefused g (length sections) extent mid held e new after ⊎ ((new ≡ mid) × (after ≡ held) × AreTooMany sections e)))
+    × (NextRefused g (length sections) extent mid held e new after ⊎ ((new ≡ mid) × (after ≡ held) × AreTooMany sections e))))
 
--- The sections of a whole file are added, so many.
+-- The roots and the sections of a whole file are added, so many.
 abbrev pub AddsCar : {S E : Type 0} → Ghosts S → Reading → S → Result (Vec CidParts Global × ℕ) (ReadCarError E)
     → Reading → S → Type 0
 AddsCar g old before result new after = MatchResult result
     (λ p. (sections : List Section) × (extent : Option ℕ) × (more : Option ℕ) × (mid : Reading) × (p.1 ≡ length sections)
     × IsReadTo (forms p.0.items) sections old extent mid × EndsThere extent mid more new
-    × IsRead (forms p.0.items) sections old new × Adds g sections before after)
+    × IsRead (forms p.0.items) sections old new × Adds g p.0.items sections before after)
     (λ e. AddRefused g old before e new after)

@@ -9,7 +9,8 @@ use Rattle.ipld_links.specs.Sets.{Among}
 use Rattle.ipld_links.specs.Sound.{IsSound}
 use Rattle.ipld_links.specs.Reaching.{Stored, IsThere, LeadsFar, NoneTwice, ListsReachable, Walks, WalksAt}
 use Rattle.ipld_links.specs.declared.reach.Walk.{Walk}
-use Rattle.dagcbor_store.specs.Rows.{block_tree, name_tree, block_row, name_entry, IsStored, IsListed}
+use Rattle.block_trees.specs.Rows.{block_tree, name_tree, block_row, name_entry, IsStored, IsListed}
+use Rattle.block_trees.specs.Ends.{KeepsOthers, IsOfBlocks}
 use Rattle.dagcbor_store.specs.Stored.{IsNext, GivesNext, Lists, HoldsOnly, IsSame, IsTaken, Fails}
 use Rattle.dagcbor_store.specs.Lost.{HoldsNoneSound}
 use Rattle.dagcbor_store.specs.Trees.{OfStored}
@@ -43,9 +44,10 @@ abbrev pub TakesOut : Trees → Trees → ℕ → Type 0
 TakesOut old new count = (names : List (List ℕ)) × NoneTwice names × (count ≡ length names)
     × ((q : List ℕ) → Among q names ↔ (IsListed (old name_tree) q × ¬ IsListed (new name_tree) q))
 
--- the same, and all is committed
+-- the same, and all is committed; each other tree than those of blocks is the same
 pub record IsCollected (old new : View) (roots : List CidParts) (count : ℕ) : Type 0 where
   pub trees : KeepsReachable old roots new.trees
+  pub beside : KeepsOthers IsOfBlocks old.trees new.trees
   pub taken : TakesOut old.trees new.trees count
   pub committed : new.committed ≡ new.trees
   pub is_open : IsTrue new.is_open
@@ -128,9 +130,10 @@ SweepsNext old new last kept (Some p) = IsNext (old.trees name_tree) last p.0 ×
     ((¬ Among p.0 kept.keys) × IsTaken old new p.0 true)
     (Among p.0 kept.keys × IsSame old new)
 
--- the names in the set are kept, and so many were taken out; what was committed stands
+-- the names in the set are kept, and so many were taken out; what was committed stands, and each other tree
 pub record IsSwept (old new : View) (kept : BTreeSet CidParts) (count : ℕ) : Type 0 where
   pub trees : HoldsThose (IsKeptForm kept) old.trees new.trees
+  pub beside : KeepsOthers IsOfBlocks old.trees new.trees
   pub taken : TakesOut old.trees new.trees count
   pub committed : new.committed ≡ old.committed
   pub is_open : new.is_open ≡ old.is_open

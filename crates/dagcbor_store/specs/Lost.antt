@@ -13,7 +13,7 @@ use Rattle.ipld_links.specs.Verdicts.{IsDagCbor}
 use Rattle.ipld_links.specs.Sound.{IsSound}
 use Rattle.ipld_links.specs.Sets.{Among}
 use Rattle.ipld_links.specs.Within.{IsInlineForm, IsReached, IsReachedName}
-use Rattle.dagcbor_store.specs.Rows.{name_tree, IsListed}
+use Rattle.block_trees.specs.Rows.{name_tree, IsListed}
 use Rattle.dagcbor_store.specs.Stored.{IsNext, GivesNext, Lists, Holds, HoldsOnly, IsSame, Fails}
 use Rattle.dagcbor_store.specs.declared.error.StoreRefusal.{StoreRefusal}
 use Rattle.dagcbor_store.specs.declared.error.StoreRefusal.TheVariants as refusal

@@ -1,43 +1,55 @@
 -- What an open finds.
-use Rattle.std.specs.Prelude.{◌≡◌, false, IsTrue}
+use Rattle.std.specs.Prelude.{◌≡◌, ◌⊎◌, false, IsTrue}
 use Rattle.sqlite_value.specs.Keys.{plain}
 use Rattle.sqlite_trees.specs.Tree.{Trees}
 use Rattle.sqlite_trees.specs.View.{View}
+use Rattle.sqlite_trees.specs.Objects.{version_tree, version_rows}
 use Rattle.sqlite_trees.specs.declared.store.Shape.TheVariants as shape
 use Rattle.sqlite_trees.specs.declared.error.StoreError.TheVariants as stored
 use Rattle.sqlite_store.specs.declared.error.OpenError.{OpenError}
 use Rattle.sqlite_store.specs.declared.error.OpenError.TheVariants as opening
 use Rattle.dagcbor_store.specs.declared.error.StoreRefusal.{StoreRefusal}
 use Rattle.dagcbor_store.specs.declared.error.StoreRefusal.TheVariants as refusal
-use Rattle.dagcbor_store.specs.Rows.{block_tree, name_tree}
-use Rattle.dagcbor_store.specs.Stored.{IsKeyed}
+use Rattle.block_trees.specs.Rows.{block_tree, name_tree, IsKeyed}
+use Rattle.block_trees.specs.RootRows.{root_tree, IsRootShape}
+use Rattle.block_trees.specs.Ends.{KeepsOthers}
+use Rattle.dagcbor_store.specs.Stored.{AreAllRoots}
 
--- the rows of blocks and the entries of names are the same
-pub record HasSameBlocks (old new : Trees) : Type 0 where
-  pub blocks : new block_tree ≡ old block_tree
-  pub names : new name_tree ≡ old name_tree
+-- the trees of a store are there, that of the roots but in a file of the earlier version
+pub record HasTrees (v : View) : Type 0 where
+  pub blocks : v.shape block_tree ≡ shape.Table
+  pub names : v.shape name_tree ≡ shape.Index plain
+  pub rooted : IsRootShape (v.shape root_tree)
 
--- the database holds blocks, and they are the same, as the transaction sees them and as they are committed
+-- The blocks, the roots and each other tree are the same; the version too, but where it was 0, as in a database that was
+-- just made.
+pub record OnlyMarks (old new : Trees) : Type 0 where
+  pub others : KeepsOthers (λ t. t ≡ version_tree) old new
+  pub version : (new version_tree ≡ old version_tree) ⊎ (old version_tree ≡ version_rows 0)
+
+-- the database holds blocks and roots, and they are the same, as the transaction sees them and as they are committed
 pub record IsChecked (old new : View) : Type 0 where
   pub blocks : new.shape block_tree ≡ shape.Table
   pub names : new.shape name_tree ≡ shape.Index plain
   pub was_sound : old.is_broken ≡ false
   pub sound : new.is_broken ≡ false
   pub keyed : IsKeyed (new.trees name_tree)
-  pub same : HasSameBlocks old.trees new.trees
+  pub rooted : IsRootShape (new.shape root_tree)
+  pub roots : AreAllRoots (new.trees root_tree)
+  pub same : OnlyMarks old.trees new.trees
   pub settled : old.trees ≡ old.committed → new.trees ≡ new.committed
   pub lasting : old.shape ≡ old.committed_shape → new.shape ≡ new.committed_shape
 
--- the blocks that were committed are stored, and nothing else waits for a commit
+-- the blocks and the roots that were committed are stored, and nothing waits for a commit
 pub record IsOpened (old new : View) : Type 0 where
   pub is_open : IsTrue new.is_open
-  pub now : HasSameBlocks old.committed new.trees
-  pub committed : HasSameBlocks old.committed new.committed
+  pub now : OnlyMarks old.committed new.trees
+  pub committed : new.committed ≡ new.trees
 
 -- the store is open, and all that it holds is committed
 pub record IsSettled (v : View) : Type 0 where
   pub is_open : IsTrue v.is_open
-  pub committed : HasSameBlocks v.committed v.trees
+  pub committed : v.committed ≡ v.trees
 
 -- how the refusal of an open is told
 abbrev pub TellsOfOpening : OpenError → StoreRefusal → Type 0

@@ -16,21 +16,23 @@ use Rattle.ipld_links.specs.Names.{IsBySha256}
 use Rattle.ipld_links.specs.Sound.{IsUnsound}
 use Rattle.dagcbor_car.specs.Car.{Section}
 use Rattle.ipld_links.specs.Sets.{Among}
-use Rattle.dagcbor_store.specs.Rows.{block_tree, name_tree, block_row, name_entry, name_cmp, IsStored, IsListed, AreNameEntries, FreesId, IsTooLong}
+use Rattle.block_trees.specs.Rows.{block_tree, name_tree, block_row, name_entry, name_cmp, IsStored, IsListed, IsKeyed, FreesId, IsTooLong}
+use Rattle.block_trees.specs.RootRows.{root_tree, IsRootShape, AreRoots}
+use Rattle.block_trees.specs.Ends.{KeepsOthers, IsOfBlocks}
 use Rattle.std.specs.declared.alloc.Global.{Global}
-use Rattle.dagcbor_store.specs.declared.entries.Added.{Added}
-use Rattle.dagcbor_store.specs.declared.entries.Added.TheVariants.{New, Stored, NoNumber}
-use Rattle.dagcbor_store.specs.declared.entries.Found.{Found}
-use Rattle.dagcbor_store.specs.declared.entries.Found.TheVariants.{Nothing, NoRow, Block}
+use Rattle.block_trees.specs.declared.entries.Added.{Added}
+use Rattle.block_trees.specs.declared.entries.Added.TheVariants.{New, Stored, NoNumber}
+use Rattle.block_trees.specs.declared.entries.Found.{Found}
+use Rattle.block_trees.specs.declared.entries.Found.TheVariants.{Nothing, NoRow, Block}
 use Rattle.dagcbor_store.specs.declared.error.StoreRefusal.{StoreRefusal}
 use Rattle.dagcbor_store.specs.declared.error.StoreRefusal.TheVariants as refusal
 
--- no name has two entries
-abbrev pub IsKeyed : List Row → Type 0
-IsKeyed entries = AreNameEntries entries
-    × ((name : List ℕ) (i j : ℤ) → Among (name_entry name i) entries → Among (name_entry name j) entries → i ≡ j)
+-- each row of the table is that of a root
+abbrev pub AreAllRoots : List Row → Type 0
+AreAllRoots rows = (names : List CidParts) × AreRoots rows names
 
--- the two trees are there, and no name is listed twice, as the transaction sees them and as the last commit left them
+-- The trees are there, that of the roots but in a file of the earlier version. No name is listed twice, and each row of the
+-- roots is one, as the transaction sees them and as the last commit left them.
 pub record IsReady (v : View) : Type 0 where
   pub blocks : v.shape block_tree ≡ shape.Table
   pub names : v.shape name_tree ≡ shape.Index plain
@@ -38,6 +40,9 @@ pub record IsReady (v : View) : Type 0 where
   pub unbroken : IsTrue v.is_open → v.is_broken ≡ false
   pub keyed : IsTrue v.is_open → IsKeyed (v.trees name_tree)
   pub committed : IsTrue v.is_open → IsKeyed (v.committed name_tree)
+  pub rooted : IsRootShape (v.shape root_tree)
+  pub roots : IsTrue v.is_open → AreAllRoots (v.trees root_tree)
+  pub last_roots : IsTrue v.is_open → AreAllRoots (v.committed root_tree)
 
 -- a block is stored under its name
 abbrev pub Holds : View → CidParts → List ℕ → Type 0
@@ -159,7 +164,7 @@ IsUnfit s _ = ⊥
 
 -- The block is stored under its name, and nothing else; under each other name what was stored there. The table has the
 -- row of the block, and the rows that it had, but that to which the name led. Where just the block was stored under it,
--- nothing is changed.
+-- nothing is changed. Each other tree is the same.
 pub record IsAddedTo (old new : Trees) (name : CidParts) (b : List ℕ) : Type 0 where
   pub stored : (d : List ℕ) → IsStored new (cid_bytes name) d ↔ (d ≡ b)
   pub others : (q d : List ℕ) → q ≢ cid_bytes name → IsStored new q d ↔ IsStored old q d
@@ -168,6 +173,7 @@ pub record IsAddedTo (old new : Trees) (name : CidParts) (b : List ℕ) : Type 0
       ↔ (((q ≡ cid_bytes name) × (d ≡ b) × Among (name_entry q id) (new name_tree))
       ⊎ (Among (block_row id q d) (old block_tree) × ¬ ((q ≡ cid_bytes name) × Among (name_entry q id) (old name_tree))))
   pub same : IsStored old (cid_bytes name) b → new ≡ old
+  pub beside : KeepsOthers IsOfBlocks old new
 
 -- the same, and what was committed stands
 pub record IsAdded (old new : View) (name : CidParts) (b : List ℕ) : Type 0 where
@@ -186,7 +192,8 @@ pub record IsPut (old new : View) (name : CidParts) (b : List ℕ) : Type 0 wher
   pub is_open : IsTrue new.is_open
 
 -- what is stored is what was stored under the other names; nothing is changed where the name is not listed; the index
--- has the entries that it had of the others, and the table the rows that it had, but that to which the name led
+-- has the entries that it had of the others, and the table the rows that it had, but that to which the name led; each
+-- other tree is the same
 pub record IsTaken (old new : View) (name : CidParts) (taken : Bool) : Type 0 where
   pub was : IsTrue taken ↔ Lists old name
   pub holds : (q d : List ℕ) → IsStored new.trees q d ↔ (IsStored old.trees q d × (q ≢ cid_bytes name))
@@ -195,6 +202,7 @@ pub record IsTaken (old new : View) (name : CidParts) (taken : Bool) : Type 0 wh
       ↔ (Among (name_entry q id) (old.trees name_tree) × (q ≢ cid_bytes name))
   pub rows : (id : ℤ) (q d : List ℕ) → Among (block_row id q d) (new.trees block_tree)
       ↔ (Among (block_row id q d) (old.trees block_tree) × ¬ ((q ≡ cid_bytes name) × Among (name_entry q id) (old.trees name_tree)))
+  pub beside : KeepsOthers IsOfBlocks old.trees new.trees
   pub committed : new.committed ≡ old.committed
   pub was_open : IsTrue old.is_open
   pub is_open : IsTrue new.is_open

@@ -10,7 +10,7 @@ use Rattle.ipld_links.specs.Reaching.{Stored, LeadsFar, IsLost, ListsReachable, 
 use Rattle.dagcbor_car.specs.Reached.{sections_at}
 use Rattle.ipld_links.specs.declared.reach.Reached.{Reached}
 use Rattle.ipld_links.specs.declared.reach.Walk.{Walk}
-use Rattle.dagcbor_store.specs.Rows.{IsStored}
+use Rattle.block_trees.specs.Rows.{IsStored}
 use Rattle.dagcbor_store.specs.Stored.{IsNamed, HoldsOnly, Lists, IsDamaged, IsSame, Fails}
 use Rattle.dagcbor_store.specs.Walking.{AreNamed, UnsentWithoutMemory}
 use Rattle.dagcbor_store.specs.declared.error.StoreRefusal.{StoreRefusal}

@@ -11,7 +11,7 @@ use Rattle.dagcbor_heads.specs.declared.error.EncodeError.TheVariants as unsent
 use Rattle.ipld_tree.specs.Cid.{CidParts, cid_bytes}
 use Rattle.dagcbor_car.specs.Car.{Section, header_bytes, section_bytes, car_bytes, IsHeader, IsSection}
 use Rattle.ipld_links.specs.Sets.{Among}
-use Rattle.dagcbor_store.specs.Rows.{name_tree, name_cmp, IsStored, IsListed}
+use Rattle.block_trees.specs.Rows.{name_tree, name_cmp, IsStored, IsListed}
 use Rattle.dagcbor_store.specs.Stored.{IsNamed, IsNext, GivesNext, HoldsOnly, IsDamaged, IsSame, Fails}
 use Rattle.dagcbor_store.specs.Cars.{IsNameIn, IsSectionIn}
 use Rattle.dagcbor_store.specs.declared.error.StoreRefusal.{StoreRefusal}

@@ -1,7 +1,7 @@
 //! Why a file of blocks was not read into a store.
 
 ghost use Rattle.std.specs.Prelude.{◌≡◌};
-ghost use Rattle.dagcbor_store.specs.Cars.{TellsOfFile, TellsOfRun, of_block, of_commit};
+ghost use Rattle.dagcbor_store.specs.Cars.{TellsOfFile, TellsOfRun, of_block, of_refusal};
 ghost use Rattle.dagcbor_store.specs.declared.car_error.ReadCarError.TheVariants.{Header, Section};
 
 use crate::error::StoreRefusal;
@@ -24,7 +24,8 @@ pub enum ReadCarError<E> {
     /// for a row.
     #[error("behind {0} sections: {2}")]
     Block(u64, Cid, StoreRefusal),
-    /// The store failed, or no number is left for a row. Never want of memory.
+    /// The store failed, or no number is left for a row; or the file has roots, and the store is of
+    /// the earlier version, or one of them too long for a row. Never want of memory.
     #[error("{0}")]
     Store(StoreRefusal),
     /// A growth was refused.
@@ -99,9 +100,9 @@ impl<E: Drop> ReadCarError<E> {
         }
     }
 
-    /// Why the sections are not committed. Want of memory is told as such.
-    pub(crate) fn of_commit(refusal: StoreRefusal) -> ReadCarError<E>
-        ensures { result ≡ of_commit refusal }
+    /// Why the roots are not added, or nothing is committed. Want of memory is told as such.
+    pub(crate) fn of_refusal(refusal: StoreRefusal) -> ReadCarError<E>
+        ensures { result ≡ of_refusal refusal }
     {
         match refusal {
             StoreRefusal::OutOfMemory => ReadCarError::OutOfMemory,

@@ -2,7 +2,7 @@
 
 ghost use Rattle.std.specs.Prelude.{◌⊎◌, IfOk, IfErr, OnOk, option_map};
 ghost use Rattle.sqlite_trees.specs.View.{IsClean};
-ghost use Rattle.dagcbor_store.specs.Ends.{Quiet};
+ghost use Rattle.block_trees.specs.Ends.{Quiet, KeepsOthers, IsOfBlocks};
 ghost use Rattle.dagcbor_store.specs.Stored.{StaysSame, Fails, IsKeptBy};
 ghost use Rattle.dagcbor_store.specs.Collecting.{KeepsReachable, IsCollected, CollectRefused, GetsSound, SoundRefused, IsShown, VisitsShown, FindsBeside, FindRefused, AddsAll, Marks, MarksMore, MarkRefused, SweepsNext, IsSwept};
 
@@ -40,6 +40,7 @@ impl<S: Store> BlockStore<S> {
         ensures ok { IfOk result (λ count. IsClean (S.Store.view self.new) → IsCollected (S.Store.view self.old) (S.Store.view self.new) roots.now count) }
         ensures refused { IfErr result (CollectRefused S.Store roots.now self.old self.new) }
         ensures crash { (db : _) → S.Store.recovers self.new db → S.Store.recovers self.old db ⊎ (IsClean (S.Store.view self.new) → KeepsReachable (S.Store.view self.old) roots.now db) }
+        ensures beside { (db : _) → S.Store.recovers self.new db → S.Store.recovers self.old db ⊎ (IsClean (S.Store.view self.new) → KeepsOthers IsOfBlocks (S.Store.view self.old).trees db) }
         ensures kept { IsKeptBy S.Store self.old self.new }
     {
         let kept = self.mark(roots)?;

@@ -27,6 +27,10 @@ pub enum StoreRefusal {
     /// The file holds no blocks, or something else.
     #[error("the file is no store of blocks")]
     NotAStore,
+    /// The file is of an earlier version, which keeps no roots. Export it, and import that into a new
+    /// file.
+    #[error("the file is of an earlier version, which keeps no roots: export it, and import that into a new file")]
+    EarlierVersion,
     /// Another process or handle has the file open.
     #[error("another process has the file open")]
     Locked,

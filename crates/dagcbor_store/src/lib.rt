@@ -3,14 +3,13 @@
 
 mod car_error;
 mod collect;
-mod entries;
 mod error;
 mod lost;
 mod open;
 mod reach;
 mod read_car;
+mod roots;
 mod store;
-mod survey;
 #[cfg(test)]
 mod tests;
 mod value;

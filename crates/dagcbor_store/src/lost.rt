@@ -5,7 +5,7 @@ ghost use Rattle.dagcbor_items.specs.Walks.{forms};
 ghost use Rattle.ipld_links.specs.Sets.{Among};
 ghost use Rattle.ipld_links.specs.Blocks.{HasBlock};
 ghost use Rattle.sqlite_trees.specs.View.{IsClean};
-ghost use Rattle.dagcbor_store.specs.Ends.{Quiet};
+ghost use Rattle.block_trees.specs.Ends.{Quiet};
 ghost use Rattle.dagcbor_store.specs.Stored.{StaysSame, Fails};
 ghost use Rattle.dagcbor_store.specs.Lost.{ListsLost, LostRefused, AddsLost, AddsName, AddsNames, AddsLinks, ListsKeys, GrowsBy, IsReachedIn};
 

@@ -1,15 +1,17 @@
 //! Opening a store.
 
-ghost use Rattle.std.specs.Prelude.{◌≡◌, ◌⊎◌, IsTrue, IfOk, IfErr};
+ghost use Rattle.std.specs.Prelude.{◌≡◌, ◌⊎◌, IsTrue, IfOk, IfErr, IfSome};
 ghost use Rattle.sqlite_trees.specs.View.{IsClean};
 ghost use Rattle.dagcbor_store.specs.Stored.{IsKeptBy};
 ghost use Rattle.sqlite_store.specs.FileStore.{view};
-ghost use Rattle.dagcbor_store.specs.Opened.{IsChecked, IsOpened, IsSettled, HasSameBlocks};
+ghost use Rattle.sqlite_store.specs.Unopened.{AreUsable};
+ghost use Rattle.dagcbor_store.specs.Opened.{HasTrees, IsChecked, IsOpened, IsSettled, OnlyMarks};
 
-use crate::entries::{BLOCKS, NAMES};
 use crate::error::StoreRefusal;
 use crate::store::BlockStore;
-use crate::survey::survey;
+use block_trees::entries::{BLOCKS, NAMES};
+use block_trees::roots::{self, ROOTS};
+use block_trees::survey::survey;
 use sqlite_disk::{Disk, Files, Start};
 use sqlite_pager::{Options, Pager};
 use sqlite_std_file::{FileFrom, OpenError as PathError};
@@ -25,31 +27,53 @@ use std::hash::{BuildHasher, RandomState};
 use std::rt::HostRuntime;
 
 /// The version of the schema, SQLite's `user_version`.
-const VERSION: u32 = 1;
+const VERSION: u32 = 2;
 
-const TABLE: &str =
+/// That of a schema with no roots.
+const EARLIER: u32 = 1;
+
+const BLOCK_TABLE: &str =
     "CREATE TABLE block (cid BLOB NOT NULL PRIMARY KEY, bytes BLOB NOT NULL) STRICT";
+
+const ROOT_TABLE: &str = "CREATE TABLE root (cid BLOB NOT NULL) STRICT";
 
 /// The size of a page of a file that is made.
 const PAGE_SIZE: usize = 4096;
 
-#[tactic(auto, using(crate::proofs::Opening::checked_read, crate::proofs::Opening::checked_marked))]
-/// Whether the database holds blocks, and nothing else. One that was just made gets the version.
-fn check<S: Alter>(alloc: Global, store: &mut S, row: &mut Row) -> Result<bool, StoreError>
-    ensures ok { IfOk result (λ is_ours. IsClean (S.Store.view store.new) → IsTrue is_ours → IsChecked (S.Store.view store.old) (S.Store.view store.new)) }
-    ensures crash { (db : _) → S.Store.recovers store.new db → S.Store.recovers store.old db ⊎ (IsClean (S.Store.view store.new) → HasSameBlocks (S.Store.view store.old).trees db) }
-    ensures kept { IsKeptBy S.Store store.old store.new }
+/// The version of the schema that has these trees.
+fn version_of<S: Store>(store: &S) -> Option<u32>
+    ensures { IfSome result (λ _. HasTrees (S.Store.view store.now)) }
 {
     if store.shape(BLOCKS) != Shape::Table || store.shape(NAMES) != Shape::Index(Order::PLAIN) {
-        return Ok(false);
+        return None;
     }
+    match store.shape(ROOTS) {
+        Shape::Table => Some(VERSION),
+        Shape::Absent => Some(EARLIER),
+        _ => None,
+    }
+}
+
+/// Whether the database holds blocks and roots, and nothing else. One that was just made gets the
+/// version.
+fn check<S: Alter>(alloc: Global, store: &mut S, row: &mut Row) -> Result<bool, StoreError>
+    ensures ok { IfOk result (λ is_ours. IsClean (S.Store.view store.new) → IsTrue is_ours → IsChecked (S.Store.view store.old) (S.Store.view store.new)) }
+    ensures crash { (db : _) → S.Store.recovers store.new db → S.Store.recovers store.old db ⊎ (IsClean (S.Store.view store.new) → OnlyMarks (S.Store.view store.old).trees db) }
+    ensures kept { IsKeptBy S.Store store.old store.new }
+{
+    let Some(version) = version_of(store) else {
+        return Ok(false);
+    };
     let Some(count) = survey(alloc, store, row)? else {
         return Ok(false);
     };
+    let Some(names) = roots::list(alloc, store, row)? else {
+        return Ok(false);
+    };
     match store.version() {
-        VERSION => Ok(true),
-        0 if count == 0 => {
-            store.set_version(VERSION)?;
+        found if found == version => Ok(true),
+        0 if count == 0 && names.is_empty() => {
+            store.set_version(version)?;
             store.commit()?;
             Ok(true)
         }
@@ -91,8 +115,8 @@ fn opened<S: Alter + Drop>(alloc: Global, store: S) -> Result<BlockStore<S>, Sto
     }
 }
 
-/// The table and the index of its names.
-fn schema() -> [Object<'static>; 2] {
+/// The table of blocks, the index of their names, and the table of roots.
+pub(crate) fn schema() -> [Object<'static>; 3] {
     [
         Object {
             shape: Shape::Table,
@@ -100,7 +124,7 @@ fn schema() -> [Object<'static>; 2] {
             name: "block",
             table: "block",
             reals: 0,
-            sql: Some(TABLE),
+            sql: Some(BLOCK_TABLE),
         },
         Object {
             shape: Shape::Index(Order::PLAIN),
@@ -109,6 +133,14 @@ fn schema() -> [Object<'static>; 2] {
             table: "block",
             reals: 0,
             sql: None,
+        },
+        Object {
+            shape: Shape::Table,
+            kind: "table",
+            name: "root",
+            table: "root",
+            reals: 0,
+            sql: Some(ROOT_TABLE),
         },
     ]
 }
@@ -133,6 +165,47 @@ fn page_size<D: Disk>(alloc: Global, files: &mut Files<D>) -> Result<(PageSize, 
     }
 }
 
+/// The files, with this schema, of which nothing is known yet.
+pub(crate) fn over_files<D: Disk + Drop>(
+    alloc: Global,
+    files: Files<D>,
+    size: PageSize,
+    seed: u64,
+    schema: &[Object<'_>],
+) -> Result<Unopened<D>, StoreRefusal>
+    requires log { IsTrue (D.Disk.is_usable files.log) }
+    requires db { IsTrue (D.Disk.is_usable files.db) }
+    ensures usable { IfOk result (λ it. AreUsable it) }
+{
+    let Ok(pager) = Pager::new(alloc, files, size, Options::new(seed)) else {
+        return Err(StoreRefusal::OutOfMemory);
+    };
+    match Unopened::new(alloc, pager, schema) {
+        Ok(unopened) => Ok(unopened),
+        Err(_) => Err(StoreRefusal::OutOfMemory),
+    }
+}
+
+/// The same files, with the schema of the earlier version where they list no third object.
+fn as_listed<D: Disk + Drop>(
+    alloc: Global,
+    mut found: Unopened<D>,
+    size: PageSize,
+    seed: u64,
+) -> Result<Unopened<D>, StoreRefusal>
+    requires usable { AreUsable found }
+    ensures usable { IfOk result (λ it. AreUsable it) }
+{
+    let listed = match found.read_catalog() {
+        Ok(rows) => rows.len(),
+        Err(error) => return Err(StoreRefusal::of_opening(error)),
+    };
+    if listed > 2 {
+        return Ok(found);
+    }
+    over_files(alloc, found.close(), size, seed, &schema()[..2])
+}
+
 /// Recovers the database in the files, or makes one where there is none.
 fn recover<D: Disk + Drop>(
     alloc: Global,
@@ -143,14 +216,10 @@ fn recover<D: Disk + Drop>(
     requires db { IsTrue (D.Disk.is_usable files.db) }
 {
     let (size, is_begun) = page_size(alloc, &mut files)?;
-    let Ok(pager) = Pager::new(alloc, files, size, Options::new(seed)) else {
-        return Err(StoreRefusal::OutOfMemory);
-    };
-    let Ok(unopened) = Unopened::new(alloc, pager, &schema()) else {
-        return Err(StoreRefusal::OutOfMemory);
-    };
+    let schema = schema();
+    let unopened = over_files(alloc, files, size, seed, &schema)?;
     let opened = if is_begun {
-        unopened.open_numbered()
+        as_listed(alloc, unopened, size, seed)?.open_numbered()
     } else {
         unopened.create()
     };

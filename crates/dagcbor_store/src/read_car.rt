@@ -1,13 +1,14 @@
-//! Reading the blocks of a file into a store.
+//! Reading a file of blocks into a store.
 
 ghost use Rattle.std.specs.Prelude.{◌≡◌, ◌⊎◌, List, length, IfOk, IfErr, OnErr};
 ghost use Rattle.dagcbor_heads.specs.Inputs.{input_reading};
 ghost use Rattle.dagcbor_items.specs.Walks.{forms};
 ghost use Rattle.dagcbor_car.specs.Car.{Section as CarSection};
 ghost use Rattle.sqlite_trees.specs.View.{IsClean};
-ghost use Rattle.dagcbor_store.specs.Ends.{Quiet};
+ghost use Rattle.block_trees.specs.Ends.{Quiet};
 ghost use Rattle.dagcbor_store.specs.Stored.{IsUndone, IsKeptBy};
 ghost use Rattle.dagcbor_store.specs.Cars.{IsRead, IsFilled, ReadRefused, MayLeave, AddsCar, TakesBlock};
+ghost use Rattle.dagcbor_store.specs.Roots.{GainsRoots, MayKeepRoots};
 
 use crate::car_error::ReadCarError;
 use crate::error::StoreRefusal;
@@ -30,13 +31,14 @@ impl<S: Store> SectionSink for BlockStore<S> {
 
 impl<S: Store> BlockStore<S> {
     /// Keeps the blocks of the file that the input has left (CAR, version 1 or 2), each under its
-    /// name, and commits them, with whatever waited for a commit. Answers the roots of the file, and
-    /// how many sections it has. The input is a slice, or a reader, as
+    /// name, and its roots, as `add_roots`, and commits them, with whatever waited for a commit.
+    /// Answers the roots of the file, and how many sections it has. The input is a slice, or a reader, as
     /// `Input::Reader(IoReader::new(source))` for a source of std; one section of it is in memory
     /// at a time.
     ///
     /// Each block must be one that `put_block` takes, of whatever codec. Where one is not, or the bytes
-    /// are no file, nothing of it is kept.
+    /// are no file, nothing of it is kept. Nor is it of a file with roots, where the store is of the
+    /// earlier version: that is told behind the header.
     pub fn read_car<'de, R: Read>(
         &mut self,
         input: &mut Input<'de, R>,
@@ -44,6 +46,8 @@ impl<S: Store> BlockStore<S> {
         ensures ok { IfOk result (λ p. (sections : List CarSection) × (p.1 ≡ length sections)
             × IsRead (forms p.0.items) sections (input_reading R.reading input.old) (input_reading R.reading input.new)
             × (IsClean (S.Store.view self.new) → IsFilled (S.Store.view self.old) (S.Store.view self.new) sections)) }
+        ensures roots { IfOk result (λ p. IsClean (S.Store.view self.new) → GainsRoots (S.Store.view self.old).trees (S.Store.view self.new).trees p.0.items) }
+        ensures table { IfOk result (λ p. MayKeepRoots (S.Store.view self.old) p.0.items) }
         ensures refused { IfErr result (λ e. ReadRefused S.Store (input_reading R.reading input.old) self.old e (input_reading R.reading input.new) self.new) }
         ensures undone { OnErr result (IsClean (S.Store.view self.new) → IsUndone (S.Store.view self.old) (S.Store.view self.new)) }
         ensures crash { (db : _) → S.Store.recovers self.new db → S.Store.recovers self.old db
@@ -53,7 +57,7 @@ impl<S: Store> BlockStore<S> {
         match self.add_car(input) {
             Ok(read) => match self.commit() {
                 Ok(()) => Ok(read),
-                Err(refusal) => Err(ReadCarError::of_commit(refusal)),
+                Err(refusal) => Err(ReadCarError::of_refusal(refusal)),
             },
             Err(error) => {
                 self.rollback();
@@ -74,6 +78,10 @@ impl<S: Store> BlockStore<S> {
             Ok(begun) => begun,
             Err(error) => return Err(ReadCarError::of_header(error)),
         };
+        match self.add_roots(&roots) {
+            Ok(()) => {}
+            Err(refusal) => return Err(ReadCarError::of_refusal(refusal)),
+        }
         match each_section(self.alloc, input, &mut left, self) {
             Ok(count) => Ok((roots, count)),
             Err(error) => Err(ReadCarError::of_run(error)),

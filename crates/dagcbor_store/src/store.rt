@@ -2,15 +2,15 @@
 
 ghost use Rattle.std.specs.Prelude.{◌≡◌, ◌↔◌, ◌⊎◌, IsTrue, IfOk, IfErr, IfSome, OnOk, option_map, length};
 ghost use Rattle.ipld_links.specs.Sound.{IsSound};
-ghost use Rattle.dagcbor_store.specs.Ends.{Quiet};
-ghost use Rattle.dagcbor_store.specs.Rows.{name_tree};
+ghost use Rattle.block_trees.specs.Ends.{Quiet};
+ghost use Rattle.block_trees.specs.Rows.{name_tree};
 ghost use Rattle.sqlite_trees.specs.View.{IsClean, IsRolledBack};
 ghost use Rattle.dagcbor_store.specs.Stored.{IsReady, GivesNext, bound_behind, Lists, StaysSame, IsUndone, IsNamed, GetsSome, GetRefused, Fails, TellsOfStore, IsCommitted, IsKeptBy, IsAdded, IsAddedTo, IsPut, IsTaken, PutRefused, IsVerified, IsToldAdded};
 
-use crate::entries::{self, Added, Found};
 use crate::error::StoreRefusal;
-use crate::survey::survey;
 use arrayvec::ArrayVec;
+use block_trees::entries::{self, Added, Found};
+use block_trees::survey::survey;
 use ipld_links::{SHA2_256, check_block};
 use ipld_tree::Cid;
 use sha2::{Digest, Sha256};
@@ -24,8 +24,8 @@ use std::marker::Model;
 #[derive(Drop)]
 pub struct BlockStore<S: Store> {
     pub(crate) alloc: Global,
-    store: S,
-    row: Row,
+    pub(crate) store: S,
+    pub(crate) row: Row,
 }
 
 impl<S: Store> Model for BlockStore<S> {
@@ -42,7 +42,7 @@ impl<S: Store> Model for BlockStore<S> {
 }
 
 /// Undoes what is not committed, and tells the failure.
-fn undo<S: Store>(store: &mut S, error: StoreError) -> StoreRefusal
+pub(crate) fn undo<S: Store>(store: &mut S, error: StoreError) -> StoreRefusal
     ensures told { TellsOfStore error result }
     ensures undone { IsRolledBack (S.Store.view store.old) (S.Store.view store.new) }
     ensures blame { S.Store.blamed store.new ≡ S.Store.blamed store.old }
@@ -209,7 +209,7 @@ fn bound_behind(last: Option<Cid>) -> ArrayVec<u8, 87>
 }
 
 /// What is told of a block that was to be kept.
-fn told(added: Added) -> Result<(), StoreRefusal>
+pub(crate) fn told(added: Added) -> Result<(), StoreRefusal>
     ensures { IsToldAdded added result }
 {
     match added {

@@ -3,6 +3,7 @@ use dagcbor_car::CarError;
 use dagcbor_heads::{BufWriter, Input, SliceReader};
 use ipld_links::name_of_block;
 use ipld_tree::Cid;
+use sqlite_wal::PageSize;
 use std::alloc::Global;
 use std::convert::Infallible;
 use std::fs;
@@ -141,6 +142,7 @@ fn word_of(answer: &Result<(Vec<Cid>, u64), ReadCarError<Infallible>>) -> &'stat
         Err(ReadCarError::Block(1, _, StoreRefusal::Unsound(Unsound::OtherHash))) => "other hash",
         Err(ReadCarError::Block(1, _, StoreRefusal::Unsound(Unsound::OtherBytes))) => "other bytes",
         Err(ReadCarError::Block(1, _, StoreRefusal::Unsound(Unsound::NoBlock(_)))) => "no block",
+        Err(ReadCarError::Store(StoreRefusal::EarlierVersion)) => "earlier version",
         Err(_) => "other",
     }
 }
@@ -317,5 +319,141 @@ fn what_links_lead_to_is_kept(rt: HostRuntime) -> Result<(), Fail> {
     keeps_what_is_reached(rt.alloc(), &mut store)?;
     drop(store);
     fs::remove_dir_all(&rt, "dagcbor_store_collected")?;
+    Ok(())
+}
+
+/// Adds roots, one of them twice, and takes one out.
+fn keeps_roots<S: Store>(store: &mut BlockStore<S>) -> Result<(), Fail> {
+    let (first, second) = (name_in(NUMBERS)?, name_in(TEXT)?);
+    agree(store.roots()?.is_empty(), "no roots")?;
+    store.add_root(&first)?;
+    store.add_root(&second)?;
+    store.add_root(&first)?;
+    agree(
+        store.roots()?.as_slice() == [first, second].as_slice(),
+        "two roots",
+    )?;
+    store.commit()?;
+    agree(store.remove_root(&first)?, "it was one")?;
+    agree(!store.remove_root(&first)?, "it is none")?;
+    agree(store.roots()?.as_slice() == [second].as_slice(), "one root")?;
+    store.rollback();
+    agree(
+        store.roots()?.as_slice() == [first, second].as_slice(),
+        "both again",
+    )
+}
+
+#[test]
+fn roots_are_kept(rt: HostRuntime) -> Result<(), Fail> {
+    let _ = fs::remove_dir_all(&rt, "dagcbor_store_roots");
+    fs::create_dir(&rt, "dagcbor_store_roots")?;
+    let mut store = BlockStore::open(&rt, "dagcbor_store_roots/a.db", Wary)?;
+    keeps_roots(&mut store)?;
+    drop(store);
+    fs::remove_dir_all(&rt, "dagcbor_store_roots")?;
+    Ok(())
+}
+
+/// The header of two roots, the names of `TEXT` and of `NUMBERS`.
+const TWO_ROOTS: &[u8] =
+    b"\x63\xa2\x65\x72\x6f\x6f\x74\x73\x82\xd8\x2a\x58\x25\x00\x01\x71\x12\x20\x96\x1b\x6d\xd3\xed\xe3\xcb\x8e\xcb\xaa\xcb\xd6\x8d\xe0\x40\xcd\x78\xeb\x2e\xd5\x88\x91\x30\xcc\xeb\x4c\x49\x26\x8e\xa4\xd5\x06\xd8\x2a\x58\x25\x00\x01\x71\x12\x20\x4a\xbc\x31\x13\x7c\xe7\x38\xd9\xac\xeb\x8a\x1d\x1d\x51\xf1\x5c\xad\x42\xc2\xb0\x8d\xcb\x7e\xd1\x79\xf7\x37\xa1\x94\xb3\x55\xe7\x67\x76\x65\x72\x73\x69\x6f\x6e\x01";
+
+/// The header of no root.
+const NO_ROOTS: &[u8] = b"\x11\xa2\x65\x72\x6f\x6f\x74\x73\x80\x67\x76\x65\x72\x73\x69\x6f\x6e\x01";
+
+/// Reads a file of two roots twice, one that is refused, and one of another root.
+fn keeps_roots_of_files<S: Store>(alloc: Global, store: &mut BlockStore<S>) -> Result<(), Fail> {
+    let (first, second) = (name_in(TEXT)?, name_in(NUMBERS)?);
+    reads(alloc, store, &[TWO_ROOTS, NUMBERS, TEXT], "read", 2)?;
+    reads(alloc, store, &[TWO_ROOTS, NUMBERS, TEXT], "read", 2)?;
+    reads(alloc, store, &[HEADER, TEXT, CHANGED], "other bytes", 2)?;
+    agree(
+        store.roots()?.as_slice() == [first, second].as_slice(),
+        "two roots",
+    )?;
+    reads(alloc, store, &[HEADER, PARENT], "read", 3)?;
+    // They are committed.
+    store.rollback();
+    agree(
+        store.roots()?.as_slice() == [first, second, name_in(PARENT)?].as_slice(),
+        "three roots",
+    )
+}
+
+#[test]
+fn roots_of_files_are_kept(rt: HostRuntime) -> Result<(), Fail> {
+    let _ = fs::remove_dir_all(&rt, "dagcbor_store_file_roots");
+    fs::create_dir(&rt, "dagcbor_store_file_roots")?;
+    let mut store = BlockStore::open(&rt, "dagcbor_store_file_roots/a.db", Wary)?;
+    keeps_roots_of_files(rt.alloc(), &mut store)?;
+    drop(store);
+    fs::remove_dir_all(&rt, "dagcbor_store_file_roots")?;
+    Ok(())
+}
+
+/// Makes a file with the trees of the earlier version.
+fn make_earlier(rt: &HostRuntime, path: &str) -> Result<(), Fail> {
+    let Ok(files) = sqlite_std_file::open(rt, path, Wary) else {
+        return Err(Fail::new("no files"));
+    };
+    let size = PageSize::new(4096).unwrap();
+    let Ok(unopened) = open::over_files(rt.alloc(), files, size, 1, &open::schema()[..2]) else {
+        return Err(Fail::new("no memory"));
+    };
+    match unopened.create() {
+        Ok(store) => {
+            drop(store);
+            Ok(())
+        }
+        Err(_) => Err(Fail::new("not made")),
+    }
+}
+
+/// Fails where a store of the earlier version keeps a root, or no block.
+fn keeps_no_roots<S: Store>(store: &mut BlockStore<S>) -> Result<(), Fail> {
+    let name = name_of_block(b"\x17");
+    store.put_block(&name, b"\x17")?;
+    let added = store.add_root(&name);
+    agree(
+        matches!(added, Err(StoreRefusal::EarlierVersion)),
+        "of the earlier version",
+    )?;
+    agree(!store.remove_root(&name)?, "no root")?;
+    agree(store.roots()?.is_empty(), "no roots")?;
+    agree(store.len()? == 1, "one block")
+}
+
+#[test]
+fn earlier_files_keep_no_roots(rt: HostRuntime) -> Result<(), Fail> {
+    let _ = fs::remove_dir_all(&rt, "dagcbor_store_earlier");
+    fs::create_dir(&rt, "dagcbor_store_earlier")?;
+    make_earlier(&rt, "dagcbor_store_earlier/a.db")?;
+    let mut store = BlockStore::open(&rt, "dagcbor_store_earlier/a.db", Wary)?;
+    keeps_no_roots(&mut store)?;
+    drop(store);
+    fs::remove_dir_all(&rt, "dagcbor_store_earlier")?;
+    Ok(())
+}
+
+/// Reads a file with roots, which a store of the earlier version does not keep, and one without.
+fn keeps_files_without_roots<S: Store>(
+    alloc: Global,
+    store: &mut BlockStore<S>,
+) -> Result<(), Fail> {
+    reads(alloc, store, &[HEADER, PARENT], "earlier version", 0)?;
+    reads(alloc, store, &[NO_ROOTS, PARENT], "read", 1)?;
+    agree(store.roots()?.is_empty(), "no roots")
+}
+
+#[test]
+fn earlier_files_keep_no_file_with_roots(rt: HostRuntime) -> Result<(), Fail> {
+    let _ = fs::remove_dir_all(&rt, "dagcbor_store_earlier_files");
+    fs::create_dir(&rt, "dagcbor_store_earlier_files")?;
+    make_earlier(&rt, "dagcbor_store_earlier_files/a.db")?;
+    let mut store = BlockStore::open(&rt, "dagcbor_store_earlier_files/a.db", Wary)?;
+    keeps_files_without_roots(rt.alloc(), &mut store)?;
+    drop(store);
+    fs::remove_dir_all(&rt, "dagcbor_store_earlier_files")?;
     Ok(())
 }

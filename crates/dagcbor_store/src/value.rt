@@ -4,7 +4,7 @@ ghost use Rattle.std.specs.Prelude.{◌⊎◌, IsSomeAnd, IfOk, IfErr, OnOk, opt
 ghost use Rattle.ipld_tree.specs.Spelling.{spelling};
 ghost use Rattle.ipld_links.specs.Names.{block_name};
 ghost use Rattle.sqlite_trees.specs.View.{IsClean};
-ghost use Rattle.dagcbor_store.specs.Ends.{Quiet};
+ghost use Rattle.block_trees.specs.Ends.{Quiet};
 ghost use Rattle.dagcbor_store.specs.Stored.{StaysSame, IsAddedTo, IsKeptBy};
 ghost use Rattle.dagcbor_store.specs.Values.{PutsValue, PutValueRefused, ShowsNamed, GetsValue, GetValueRefused};
 

@@ -5,7 +5,7 @@ ghost use Rattle.dagcbor_heads.specs.Written.{WroteAll, Stops};
 ghost use Rattle.dagcbor_items.specs.Walks.{forms};
 ghost use Rattle.dagcbor_car.specs.Car.{Section as CarSection, car_bytes, section_bytes, IsCar, IsSection};
 ghost use Rattle.sqlite_trees.specs.View.{IsClean};
-ghost use Rattle.dagcbor_store.specs.Ends.{Quiet};
+ghost use Rattle.block_trees.specs.Ends.{Quiet};
 ghost use Rattle.dagcbor_store.specs.Stored.{StaysSame, IsNamed};
 ghost use Rattle.dagcbor_store.specs.Walking.{AreBlocks, AreNamed, WriteRefused, BeginsFile, WritesNext, UnsentWithoutMemory, WantsMemoryOnlyIf};
 

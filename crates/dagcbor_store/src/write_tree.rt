@@ -2,7 +2,7 @@
 
 ghost use Rattle.std.specs.Prelude.{IfOk, IfErr, OnOk};
 ghost use Rattle.sqlite_trees.specs.View.{IsClean};
-ghost use Rattle.dagcbor_store.specs.Ends.{Quiet};
+ghost use Rattle.block_trees.specs.Ends.{Quiet};
 ghost use Rattle.dagcbor_store.specs.Trees.{WritesTree, TreeRefused, TreeUnsent, WritesNames, NamesUnwritten, WritesNamed};
 ghost use Rattle.dagcbor_store.specs.Walking.{UnsentWithoutMemory, WantsMemoryOnlyIf};
 

@@ -1,16 +1,18 @@
 //! The program `dagstore`: blocks in a file that lasts.
 #![tactic(auto)]
 
-mod command;
+mod counted;
 
+use crate::counted::Counted;
 use block_lines::no_cid_line;
-use command::{Command, Words, words_of};
 use dagcbor_cli::{ToolError, arguments, give_up, write_all};
 use dagcbor_store::{BlockStore, FileFrom, FileStore, Wary};
 use dagstore_lines::{
-    Counted, Fault, HELP, NO_STORE, NOT_READ, NOT_WRITTEN, OUT_OF_MEMORY, Progress, USAGE, VERSION,
-    answer_check, answer_collect, answer_count, answer_export, answer_get, answer_has, answer_list,
-    answer_put, answer_remove, answer_tree, end, import_blocks, tell_refusal,
+    Asking, Command, Fault, HELP, NO_STORE, NOT_READ, NOT_WRITTEN, OUT_OF_MEMORY, Progress, USAGE,
+    VERSION, Words, answer_add_roots, answer_at, answer_check, answer_collect, answer_count,
+    answer_drop_roots, answer_export, answer_get, answer_has, answer_list, answer_put,
+    answer_remove, answer_roots, answer_tree, check_put, end, import_blocks, tell_refusal,
+    words_of,
 };
 use ipld_tree::Cid;
 use std::fs;
@@ -76,11 +78,15 @@ fn put_into<W: Write>(
     )
 }
 
-/// Keeps the block that standard input has, under its name of this codec.
+/// Keeps the block that standard input has, under its name of this codec. One that is refused makes no
+/// file.
 fn run_put<W: Write>(rt: &HostRuntime, path: &str, codec: u64, errors: &mut W) -> u8 {
     let mut block = Vec::new(rt.alloc());
     if rt.reader().read_to_end(&mut block).is_err() {
         return give_up(errors, NOT_READ, 2);
+    }
+    if let Err(refusal) = check_put(codec, &block) {
+        return tell_refusal(&refusal, errors);
     }
     match open(rt, path, errors) {
         Ok(mut store) => put_into(rt, &mut store, codec, &block, errors),
@@ -93,18 +99,50 @@ fn run_has<W: Write>(store: &mut Store, name: &Cid, errors: &mut W) -> u8 {
     answer_has(store, name, errors)
 }
 
+/// Writes the roots, a line each.
+fn run_roots<W: Write>(rt: &HostRuntime, store: &mut Store, errors: &mut W) -> u8 {
+    answer_roots(rt.alloc(), store, &mut rt.stdout().lock(), errors)
+}
+
+/// Makes the names roots.
+fn run_add_roots<W: Write>(store: &mut Store, names: &[Cid], errors: &mut W) -> u8 {
+    answer_add_roots(store, names, errors)
+}
+
+/// Takes the names out of the roots, and says how many. Status 1 where one is no root.
+fn run_drop_roots<W: Write>(
+    rt: &HostRuntime,
+    store: &mut Store,
+    names: &[Cid],
+    errors: &mut W,
+) -> u8 {
+    answer_drop_roots(rt.alloc(), store, names, &mut rt.stdout().lock(), errors)
+}
+
 /// Takes out the blocks under the names, and says how many. Status 1 where one is not listed.
 fn run_remove<W: Write>(rt: &HostRuntime, store: &mut Store, names: &[Cid], errors: &mut W) -> u8 {
     answer_remove(rt.alloc(), store, names, &mut rt.stdout().lock(), errors)
 }
 
-/// Keeps what links lead to from the roots, and says how many names were taken out.
-fn run_collect<W: Write>(rt: &HostRuntime, store: &mut Store, roots: &[Cid], errors: &mut W) -> u8 {
+/// Keeps what links lead to from the roots, or from those that are stored where none is given, and
+/// says how many names were taken out.
+fn run_collect<W: Write>(
+    rt: &HostRuntime,
+    store: &mut Store,
+    roots: Vec<Cid>,
+    errors: &mut W,
+) -> u8 {
     answer_collect(rt.alloc(), store, roots, &mut rt.stdout().lock(), errors)
 }
 
-/// Writes the file of these roots and of all blocks on standard output.
-fn run_export<W: Write>(rt: &HostRuntime, store: &mut Store, roots: &[Cid], errors: &mut W) -> u8 {
+/// Writes the file of these roots, or of those that are stored where none is given, and of all blocks
+/// on standard output.
+fn run_export<W: Write>(
+    rt: &HostRuntime,
+    store: &mut Store,
+    roots: Vec<Cid>,
+    errors: &mut W,
+) -> u8 {
     let Ok(mut output) = BufWriter::new(rt.alloc(), rt.stdout().lock()) else {
         return give_up(errors, OUT_OF_MEMORY, 2);
     };
@@ -125,6 +163,43 @@ fn run_tree<W: Write>(rt: &HostRuntime, store: &mut Store, root: &Cid, errors: &
 /// Writes the block under the name on standard output.
 fn run_get<W: Write>(rt: &HostRuntime, store: &mut Store, name: &Cid, errors: &mut W) -> u8 {
     answer_get(rt.alloc(), store, name, &mut rt.stdout().lock(), errors)
+}
+
+/// Writes what the path leads to from the root on standard output, or tells why it leads to nothing.
+fn run_at<W: Write>(
+    rt: &HostRuntime,
+    store: &mut Store,
+    asking: &Asking,
+    path: &str,
+    errors: &mut W,
+) -> u8 {
+    let Ok(mut output) = BufWriter::new(rt.alloc(), rt.stdout().lock()) else {
+        return give_up(errors, OUT_OF_MEMORY, 2);
+    };
+    let status = answer_at(
+        rt.alloc(),
+        store,
+        asking.is_raw,
+        &asking.root,
+        path,
+        &mut output,
+        errors,
+    );
+    flushed(output, status, errors)
+}
+
+/// The same over a file that is there.
+fn run_at_file<W: Write>(
+    rt: &HostRuntime,
+    file: &str,
+    asking: &Asking,
+    path: &str,
+    errors: &mut W,
+) -> u8 {
+    match open_old(rt, file, errors) {
+        Ok(mut store) => run_at(rt, &mut store, asking, path, errors),
+        Err(status) => status,
+    }
 }
 
 /// Says how many names there are.
@@ -174,12 +249,17 @@ fn open<W: Write>(rt: &HostRuntime, path: &str, errors: &mut W) -> Result<Store,
     }
 }
 
+/// Opens the store in a file that is there. The status, where none is or it can't be.
+fn open_old<W: Write>(rt: &HostRuntime, path: &str, errors: &mut W) -> Result<Store, u8> {
+    if matches!(fs::exists(rt, path), Ok(false)) {
+        return Err(give_up(errors, NO_STORE, 1));
+    }
+    open(rt, path, errors)
+}
+
 /// Does what is to be done with a file that is there.
 fn run<W: Write>(rt: &HostRuntime, path: &str, command: Command, errors: &mut W) -> u8 {
-    if matches!(fs::exists(rt, path), Ok(false)) {
-        return give_up(errors, NO_STORE, 1);
-    }
-    match open(rt, path, errors) {
+    match open_old(rt, path, errors) {
         Ok(mut store) => run_over(rt, &mut store, command, errors),
         Err(status) => status,
     }
@@ -187,11 +267,14 @@ fn run<W: Write>(rt: &HostRuntime, path: &str, command: Command, errors: &mut W)
 
 fn run_over<W: Write>(rt: &HostRuntime, store: &mut Store, command: Command, errors: &mut W) -> u8 {
     match command {
-        Command::Export(roots) => run_export(rt, store, &roots, errors),
+        Command::Export(roots) => run_export(rt, store, roots, errors),
         Command::Get(name) => run_get(rt, store, &name, errors),
         Command::Has(name) => run_has(store, &name, errors),
         Command::Remove(names) => run_remove(rt, store, &names, errors),
-        Command::Collect(roots) => run_collect(rt, store, &roots, errors),
+        Command::Collect(roots) => run_collect(rt, store, roots, errors),
+        Command::AddRoots(names) => run_add_roots(store, &names, errors),
+        Command::DropRoots(names) => run_drop_roots(rt, store, &names, errors),
+        Command::Roots => run_roots(rt, store, errors),
         Command::Tree(root) => run_tree(rt, store, &root, errors),
         Command::Check => run_check(rt, store, errors),
         Command::List => run_list(rt, store, errors),
@@ -212,6 +295,7 @@ fn run_words<W: Write>(rt: &HostRuntime, words: &[String], errors: &mut W) -> u8
     match words_of(rt.alloc(), words) {
         Ok(Words::Import(path, from)) => run_import(rt, path, from, errors),
         Ok(Words::Put(path, codec)) => run_put(rt, path, codec, errors),
+        Ok(Words::At(file, asking, path)) => run_at_file(rt, file, &asking, path, errors),
         Ok(Words::Do(path, command)) => run(rt, path, command, errors),
         Ok(Words::Help) => run_text(rt, HELP, errors),
         Ok(Words::Version) => run_text(rt, VERSION, errors),

@@ -4,3 +4,6 @@ pub mod Missing
 pub mod Importing
 pub mod Removing
 pub mod Exporting
+pub mod Gathering
+pub mod Commanding
+pub mod Rooting

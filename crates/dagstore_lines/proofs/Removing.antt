@@ -14,6 +14,7 @@ use Rattle.dagcbor_store.specs.Stored.{IsTaken, IsCommitted}
 use Rattle.dagcbor_store.specs.Collecting.{TakesOut}
 use Rattle.dagcbor_store.proofs.Sweeping.{those_as, those_all, those_less, none_out, one_out}
 use Rattle.dagstore_lines.specs.Changes.{HoldsOthers, TakesNames, IsRemoved, Removes, SaysTaken, SaysRemoved}
+use Rattle.dagstore_lines.specs.Lines.{no_block_line}
 use Rattle.dagstore_lines.specs.declared.fault.Fault.{Fault}
 use Rattle.dagstore_lines.specs.declared.fault.Fault.TheVariants as fault
 
@@ -97,8 +98,8 @@ removed old mid new names count h c = record {
   is_open = c.is_open;
 }
 
-pub removed_said : {S : Type 0} (g : Ghosts S) (names : List CidParts) (old new : S) (count given : ℕ) (before heard after told : Option (List ℕ)) (r : Result Bool Fault) → given ≡ length names → Removes g names old new count → SaysTaken count given before heard r after told
+pub removed_said : {S : Type 0} (g : Ghosts S) (names : List CidParts) (old new : S) (count given : ℕ) (before heard after told : Option (List ℕ)) (r : Result Bool Fault) → given ≡ length names → Removes g names old new count → SaysTaken no_block_line count given before heard r after told
     → SaysRemoved g names old before heard r new after told
-removed_said g names old new count given before heard after told (Ok well) is h k = (count, h, subst (λ n. SaysTaken count n before heard (Ok well) after told) is k)
+removed_said g names old new count given before heard after told (Ok well) is h k = (count, h, subst (λ n. SaysTaken no_block_line count n before heard (Ok well) after told) is k)
 removed_said g names old new count given before heard after told (Err (fault.Store why)) is h k = absurd k
-removed_said g names old new count given before heard after told (Err (fault.Tool e)) is h k = (count, h, subst (λ n. SaysTaken count n before heard (Err (fault.Tool e)) after told) is k)
+removed_said g names old new count given before heard after told (Err (fault.Tool e)) is h k = (count, h, subst (λ n. SaysTaken no_block_line count n before heard (Err (fault.Tool e)) after told) is k)

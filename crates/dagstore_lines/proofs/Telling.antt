@@ -1,5 +1,5 @@
 -- What is said of the names that are listed in a store, one behind the other.
-use Rattle.std.proofs.Common.{◌≡◌, inl, inr, ℕ, List, [], ◌∷◌, ◌++◌, Bool, true, false, ◌&&◌, refl, sym, ap, ◌∙◌, subst, arith, append_assoc, append-nil, Option, None, Some, Ok, Err}
+use Rattle.std.proofs.Common.{◌≡◌, inl, inr, ℕ, List, [], ◌∷◌, ◌++◌, Bool, true, false, ◌&&◌, refl, sym, subst, arith, Option, None, Some, Ok, Err}
 use Rattle.std.specs.Io.KnownBytes.{Appends}
 use Rattle.std.proofs.KnownBytes.{Appends-nil, Appends-trans}
 use Rattle.sqlite_trees.specs.Tree.{Trees}
@@ -7,14 +7,15 @@ use Rattle.sqlite_trees.specs.View.{View, IsClean}
 use Rattle.sqlite_trees.specs.declared.store.Store.{Ghosts}
 use Rattle.ipld_tree.specs.Cid.{CidParts, cid_bytes}
 use Rattle.dagcbor_cli.specs.declared.fault.ToolError.{ToolError}
-use Rattle.block_lines.specs.Lines.{BreaksLine}
+use Rattle.block_lines.specs.Lines.{BreaksLine, IsSaidOfEach}
+use Rattle.block_lines.proofs.Saying.{each_push, each_map}
 use Rattle.dagcbor_store.specs.Ends.{Quiet}
 use Rattle.dagcbor_store.specs.Rows.{name_tree, IsListed as IsIn}
 use Rattle.dagcbor_store.specs.Stored.{IsNext, GivesNext, Lists, IsSame, StaysSame}
 use Rattle.dagcbor_store.proofs.Adding.{quiet_itself, quiet_then}
 use Rattle.dagcbor_store.proofs.Walking.{next_same, none_same, holds_same, damaged_same, same_itself, same_then, fails_same}
 use Rattle.dagstore_lines.specs.Said.{StoreFails, Breaks}
-use Rattle.dagstore_lines.specs.Names.{AreFirst, AreAll, last_of, Telling, IsSaidOfEach, IsNextLine, SaysNames, IsListed}
+use Rattle.dagstore_lines.specs.Names.{AreFirst, AreAll, last_of, Telling, IsNextLine, SaysNames, IsListed}
 use Rattle.dagstore_lines.specs.declared.fault.Fault.{Fault}
 use Rattle.dagstore_lines.specs.declared.fault.Fault.TheVariants as fault
 
@@ -37,31 +38,6 @@ all_first v last [] h = tt
 all_first v last (x ∷ xs) h = (h.0, all_first v (Some x) xs h.1)
 
 -- ---- what is said of each
-
-and_true : (b : Bool) → (b && true) ≡ b
-and_true true = refl
-and_true false = refl
-
-and_assoc : (a b c : Bool) → (a && (b && c)) ≡ ((a && b) && c)
-and_assoc true b c = refl
-and_assoc false b c = refl
-
-each_push : (IsSaid : CidParts → Bool → List ℕ → Type 0) (names : List CidParts) (c : CidParts) (all well : Bool) (lines line : List ℕ) → IsSaidOfEach IsSaid names all lines → IsSaid c well line → IsSaidOfEach IsSaid (names ++ c ∷ []) (all && well) (lines ++ line)
-each_push IsSaid [] c all well lines line h is = (well, true, line, [], is, (refl, refl), ap (λ b. b && well) h.0 ∙ sym (and_true well), ap (λ x. x ++ line) h.1 ∙ sym (append-nil line))
-each_push IsSaid (x ∷ xs) c all well lines line h is = (
-  h.0,
-  h.1 && well,
-  h.2,
-  h.3 ++ line,
-  h.4,
-  each_push IsSaid xs c h.1 well h.3 line h.5 is,
-  ap (λ b. b && well) h.6 ∙ sym (and_assoc h.0 h.1 well),
-  ap (λ x. x ++ line) h.7 ∙ append_assoc h.2 h.3 line,
-)
-
-each_map : (P Q : CidParts → Bool → List ℕ → Type 0) (names : List CidParts) (well : Bool) (out : List ℕ) → ((c : CidParts) (w : Bool) (t : List ℕ) → P c w t → Q c w t) → IsSaidOfEach P names well out → IsSaidOfEach Q names well out
-each_map P Q [] well out f h = h
-each_map P Q (x ∷ xs) well out f h = (h.0, h.1, h.2, h.3, f x h.0 h.2 h.4, each_map P Q xs h.1 h.3 f h.5, h.6, h.7)
 
 -- what was said stays so behind more calls that change nothing
 abbrev pub StaysSaid : Telling → Type 0

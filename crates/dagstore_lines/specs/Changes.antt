@@ -103,16 +103,16 @@ pub record IsRemoved (old new : View) (names : List CidParts) (count : ℕ) : Ty
 abbrev pub Removes : {S : Type 0} → Ghosts S → List CidParts → S → S → ℕ → Type 0
 Removes g names old new count = IsClean (g.view new) → IsRemoved (g.view old) (g.view new) names count
 
--- The line of how many were listed went out; where that are not as many as were given, it is told that
--- no block has the name. Or one of the two lines is not out.
-abbrev pub SaysTaken : ℕ → ℕ → Option (List ℕ) → Option (List ℕ) → Result Bool Fault → Option (List ℕ)
+-- The line of how many were there went out; where that are not as many as were given, this other line
+-- is told. Or one of the two lines is not out.
+abbrev pub SaysTaken : List ℕ → ℕ → ℕ → Option (List ℕ) → Option (List ℕ) → Result Bool Fault → Option (List ℕ)
     → Option (List ℕ) → Type 0
-SaysTaken count given before heard (Ok well) after told = (IsTrue well ↔ (count ≡ given))
-    × Appends before after (removed_line count) × Appends heard told (if well then [] else no_block_line)
-SaysTaken count given before heard (Err (fault.Store why)) after told = ⊥
-SaysTaken count given before heard (Err (fault.Tool e)) after told =
+SaysTaken none count given before heard (Ok well) after told = (IsTrue well ↔ (count ≡ given))
+    × Appends before after (removed_line count) × Appends heard told (if well then [] else none)
+SaysTaken none count given before heard (Err (fault.Store why)) after told = ⊥
+SaysTaken none count given before heard (Err (fault.Tool e)) after told =
     (TextFails (removed_line count) before e after × (told ≡ heard))
-    ⊎ (Appends before after (removed_line count) × (count ≢ given) × TextFails no_block_line heard e told)
+    ⊎ (Appends before after (removed_line count) × (count ≢ given) × TextFails none heard e told)
 
 -- The names are taken out, and it is said how many were listed; or the store failed, and nothing went out.
 abbrev pub SaysRemoved : {S : Type 0} → Ghosts S → List CidParts → S → Option (List ℕ) → Option (List ℕ)
@@ -120,4 +120,4 @@ abbrev pub SaysRemoved : {S : Type 0} → Ghosts S → List CidParts → S → O
 SaysRemoved g names old before heard (Err (fault.Store why)) new after told = Fails g ⊥ old new why
     × (after ≡ before) × (told ≡ heard)
 SaysRemoved g names old before heard ended new after told = (count : ℕ) × Removes g names old new count
-    × SaysTaken count (length names) before heard ended after told
+    × SaysTaken no_block_line count (length names) before heard ended after told

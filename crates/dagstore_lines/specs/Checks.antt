@@ -14,12 +14,12 @@ use Rattle.ipld_links.specs.Sound.{IsSound}
 use Rattle.ipld_links.specs.Verdicts.{IsDagCbor, IsVerdict}
 use Rattle.ipld_links.specs.Within.{IsReached}
 use Rattle.ipld_links.specs.declared.verdict.Verdict.{Verdict}
-use Rattle.block_lines.specs.Lines.{told_line, missing_line}
+use Rattle.block_lines.specs.Lines.{told_line, missing_line, IsSaidOfEach}
 use Rattle.dagcbor_store.specs.Stored.{IsNamed, Holds, HoldsOnly, Lists}
 use Rattle.dagcbor_store.specs.Lost.{NamesNone, HoldsNoneSound, IsReachedIn}
 use Rattle.dagstore_lines.specs.Lines.{damaged_line}
 use Rattle.dagstore_lines.specs.Said.{Breaks}
-use Rattle.dagstore_lines.specs.Names.{Telling, AreAll, IsSaidOfEach, SaysNames}
+use Rattle.dagstore_lines.specs.Names.{Telling, AreAll, SaysNames}
 use Rattle.dagstore_lines.specs.declared.fault.Fault.{Fault}
 
 -- the verdict on the bytes that are stored under the name, which are sound; or nothing sound is stored

@@ -18,6 +18,7 @@ use Rattle.block_lines.specs.Lines.{line, root_line, BreaksLine}
 use Rattle.block_lines.specs.Names.{fault_name}
 use Rattle.dagcbor_store.specs.Stored.{IsSame, IsUndone}
 use Rattle.dagcbor_store.specs.Cars.{IsRead, IsFilled, ReadRefused}
+use Rattle.dagcbor_store.specs.Roots.{GainsRoots, MayKeepRoots}
 use Rattle.dagcbor_store.specs.Walking.{AreNamed, AreBlocks, AreFirstBlocks, WalkRefused}
 use Rattle.dagcbor_store.specs.declared.car_error.ReadCarError.{ReadCarError}
 use Rattle.dagcbor_store.specs.declared.car_error.ReadCarError.TheVariants as car
@@ -98,12 +99,14 @@ SaysStored roots count before result after = MatchResult result
     (λ e. (kind : ToolError) × (e ≡ fault.Tool kind)
     × BreaksLine (λ text. text ≡ stored_lines roots count) before after kind)
 
--- The file was read, and its blocks are committed; and then its lines went out, or broke off.
+-- The file was read, and its blocks and roots are committed; and then its lines went out, or broke off.
 pub record IsImported {S : Type 0} (g : Ghosts S) (source left : Reading) (old : S) (before heard : Option (List ℕ)) (status : ℕ) (new : S) (after told : Option (List ℕ)) : Type 0 where
   pub roots : List CidParts
   pub sections : List Section
   pub read : IsRead (forms roots) sections source left
   pub filled : IsClean (g.view new) → IsFilled (g.view old) (g.view new) sections
+  pub gains : IsClean (g.view new) → GainsRoots (g.view old).trees (g.view new).trees roots
+  pub keeps : MayKeepRoots (g.view old) roots
   pub ended : Result Bool Fault
   pub says : SaysStored (forms roots) (length sections) before ended after
   pub is_status : status ≡ status_of ended

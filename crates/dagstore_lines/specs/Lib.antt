@@ -1,4 +1,5 @@
 pub mod Lines
+pub mod Commands
 pub mod Said
 pub mod Names
 pub mod Checks
@@ -7,3 +8,5 @@ pub mod Blocks
 pub mod Changes
 pub mod Files
 pub mod Trees
+pub mod Ways
+pub mod Roots

@@ -16,6 +16,14 @@ count_line count = line (codes "holds " ++ decimal count)
 abbrev pub no_block_line : List ℕ
 no_block_line = line (codes "dagstore: no block has the name")
 
+-- where a name is no root
+abbrev pub no_root_line : List ℕ
+no_root_line = line (codes "dagstore: no root has the name")
+
+-- where no root is given, and none is stored
+abbrev pub no_roots_line : List ℕ
+no_roots_line = line (codes "dagstore: no roots are stored; name some, or add-root")
+
 -- of how many sections a file had, which are kept
 abbrev pub stored_line : ℕ → List ℕ
 stored_line count = line (codes "stored " ++ decimal count)

@@ -1,9 +1,9 @@
 -- What is said of each name that is listed in a store.
-use Rattle.std.specs.Prelude.{◌≡◌, ℕ, List, [], ◌∷◌, ◌++◌, Bool, true, false, ◌&&◌, ⊤, Option, None, Some, Result, MatchResult, MatchOption}
+use Rattle.std.specs.Prelude.{◌≡◌, ℕ, List, [], ◌∷◌, Bool, true, false, ⊤, Option, None, Some, Result, MatchResult, MatchOption}
 use Rattle.std.specs.Io.KnownBytes.{Appends}
 use Rattle.sqlite_trees.specs.View.{View, IsClean}
 use Rattle.ipld_tree.specs.Cid.{CidParts}
-use Rattle.block_lines.specs.Lines.{listed_line}
+use Rattle.block_lines.specs.Lines.{listed_line, IsSaidOfEach}
 use Rattle.dagcbor_store.specs.Rows.{name_tree}
 use Rattle.dagcbor_store.specs.Stored.{IsNext, GivesNext, IsNamed, HoldsOnly, IsDamaged}
 use Rattle.dagstore_lines.specs.Lines.{damaged_line}
@@ -33,13 +33,6 @@ last_of last (c ∷ names) = last_of (Some c) names
 -- that tells of nothing wrong
 abbrev pub Telling : Type 1
 Telling = View → View → CidParts → Bool → List ℕ → Type 0
-
--- what is said of each of the names, and whether all of it tells of nothing wrong
-abbrev pub IsSaidOfEach : (CidParts → Bool → List ℕ → Type 0) → List CidParts → Bool → List ℕ → Type 0
-IsSaidOfEach IsSaid [] well out = (well ≡ true) × (out ≡ [])
-IsSaidOfEach IsSaid (c ∷ names) well out = (first others : Bool) × (line lines : List ℕ)
-    × IsSaid c first line × IsSaidOfEach IsSaid names others lines
-    × (well ≡ (first && others)) × (out ≡ line ++ lines)
 
 -- the line of the next name behind the last one
 abbrev pub IsNextLine : Telling → View → Option CidParts → View → List ℕ → Type 0

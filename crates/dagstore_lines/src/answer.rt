@@ -1,28 +1,30 @@
 //! The words of the program: what each says, and the status of its run.
 
-ghost use Rattle.std.specs.Prelude.{Result, Bool, Option, List, ℕ, ◌⊎◌};
+ghost use Rattle.std.specs.Prelude.{Result, Bool, Option, List, ℕ, ◌⊎◌, OnOk, IfErr};
 ghost use Rattle.sqlite_trees.specs.View.{IsClean};
-ghost use Rattle.dagcbor_items.specs.Walks.{forms};
-ghost use Rattle.dagcbor_store.specs.Collecting.{KeepsReachable};
+ghost use Rattle.dagcbor_paths.specs.Paths.{segments};
 ghost use Rattle.dagcbor_store.specs.Ends.{Quiet};
-ghost use Rattle.dagcbor_store.specs.Stored.{IsAddedTo, IsKeptBy};
+ghost use Rattle.dagcbor_store.specs.Stored.{IsAddedTo, IsKeptBy, StaysSame};
 ghost use Rattle.dagstore_lines.specs.Blocks.{SaysCount, IsGot, Has};
-ghost use Rattle.dagstore_lines.specs.Changes.{name_as, SaysPut, SaysCollected, HoldsOthers, SaysRemoved};
+ghost use Rattle.dagstore_lines.specs.Changes.{name_as, SaysPut, HoldsOthers, SaysRemoved};
 ghost use Rattle.dagstore_lines.specs.Checks.{SaysCheck};
-ghost use Rattle.dagstore_lines.specs.Files.{Exports};
 ghost use Rattle.dagstore_lines.specs.Names.{IsListed, SaysNames};
 ghost use Rattle.dagstore_lines.specs.Refusals.{EndsSo};
-ghost use Rattle.dagstore_lines.specs.Said.{SaysAll};
+ghost use Rattle.dagstore_lines.specs.Roots.{SaysRoots, ExportsMeant, CollectsMeant, KeepsMeant, AddsRoots, AddsToRoots, DropsSome, SaysDropped};
+ghost use Rattle.dagstore_lines.specs.Said.{StoreFails, SaysAll};
 ghost use Rattle.dagstore_lines.specs.Trees.{SaysTree};
+ghost use Rattle.dagstore_lines.specs.Ways.{IsAnswerIn, WayFails};
 ghost use Rattle.dagstore_lines.specs.declared.fault.Fault.{Fault};
 
+use crate::at::write_at;
 use crate::block::{count_blocks, get_block, has_block};
-use crate::change::{collect_blocks, put_block, remove_blocks};
+use crate::change::{collect_meant, put_block, remove_blocks};
 use crate::check::check_blocks;
-use crate::export::{export_blocks, write_tree};
+use crate::export::{export_meant, write_tree};
 use crate::list::list_blocks;
 use crate::progress::Progress;
 use crate::refusal::end;
+use crate::roots::{add_roots, drop_roots, list_roots};
 use dagcbor_store::{BlockStore, Store};
 use ipld_tree::Cid;
 use std::alloc::Global;
@@ -77,20 +79,37 @@ pub fn answer_count<S: Store, W: Write, V: Write>(
     end(count_blocks(alloc, store, output), errors)
 }
 
-/// `export`: answers the status.
-pub fn answer_export<S: Store, W: Write, V: Write>(
+/// `roots`: answers the status.
+pub fn answer_roots<S: Store, W: Write, V: Write>(
+    alloc: Global,
     store: &mut BlockStore<S>,
-    roots: &[Cid],
     output: &mut W,
     errors: &mut V,
 ) -> u8
     ensures answers { (ended : Result Bool Fault)
         × EndsSo ended result (V.contents errors.old) (V.contents errors.new)
-        × Exports S.Store (forms roots.now) store.old (W.contents output.old) ended store.new
+        × SaysRoots (S.Store.view store.old) (W.contents output.old) ended (S.Store.view store.new)
+        (W.contents output.new) × OnOk ended (StaysSame S.Store store.old store.new)
+        × IfErr ended (StoreFails S.Store store.old store.new) }
+    ensures quiet { Quiet S.Store store.old store.new }
+{
+    end(list_roots(alloc, store, output), errors)
+}
+
+/// `export`: answers the status.
+pub fn answer_export<S: Store, W: Write, V: Write>(
+    store: &mut BlockStore<S>,
+    given: Vec<Cid>,
+    output: &mut W,
+    errors: &mut V,
+) -> u8
+    ensures answers { (ended : Result Bool Fault)
+        × EndsSo ended result (V.contents errors.old) (V.contents errors.new)
+        × ExportsMeant S.Store given.items store.old (W.contents output.old) ended store.new
         (W.contents output.new) }
     ensures quiet { Quiet S.Store store.old store.new }
 {
-    end(export_blocks(store, roots, output), errors)
+    end(export_meant(store, given, output), errors)
 }
 
 /// `get`: answers the status.
@@ -108,6 +127,28 @@ pub fn answer_get<S: Store, W: Write, V: Write>(
     ensures quiet { Quiet S.Store store.old store.new }
 {
     let ended = get_block(alloc, store, name, output, errors);
+    end(ended, errors)
+}
+
+/// `at`: answers the status.
+pub fn answer_at<S: Store, W: Write, V: Write>(
+    alloc: Global,
+    store: &mut BlockStore<S>,
+    is_raw: bool,
+    root: &Cid,
+    path: &str,
+    output: &mut W,
+    errors: &mut V,
+) -> u8
+    ensures answers { (ended : Result Bool Fault) × (heard : Option (List ℕ))
+        × SaysAll (IsAnswerIn is_raw root.now (segments path.now) (S.Store.view store.old)
+        (S.Store.view store.new)) (W.contents output.old) (V.contents errors.old) ended
+        (W.contents output.new) heard × OnOk ended (StaysSame S.Store store.old store.new)
+        × IfErr ended (WayFails S.Store root.now (segments path.now) store.old store.new)
+        × EndsSo ended result heard (V.contents errors.new) }
+    ensures quiet { Quiet S.Store store.old store.new }
+{
+    let ended = write_at(alloc, store, is_raw, root, path, output, errors);
     end(ended, errors)
 }
 
@@ -182,17 +223,53 @@ pub fn answer_remove<S: Store, W: Write, V: Write>(
 pub fn answer_collect<S: Store, W: Write, V: Write>(
     alloc: Global,
     store: &mut BlockStore<S>,
-    roots: &[Cid],
+    given: Vec<Cid>,
     output: &mut W,
     errors: &mut V,
 ) -> u8
     ensures answers { (ended : Result Bool Fault) × (heard : Option (List ℕ))
-        × SaysCollected S.Store roots.now store.old (W.contents output.old) (V.contents errors.old) ended
+        × CollectsMeant S.Store given.items store.old (W.contents output.old) (V.contents errors.old) ended
         store.new (W.contents output.new) heard × EndsSo ended result heard (V.contents errors.new) }
     ensures crash { (db : _) → S.Store.recovers store.new db → S.Store.recovers store.old db
-        ⊎ (IsClean (S.Store.view store.new) → KeepsReachable (S.Store.view store.old) roots.now db) }
+        ⊎ (IsClean (S.Store.view store.new)
+        → KeepsMeant (S.Store.view store.old) (S.Store.view store.new) given.items db) }
     ensures kept { IsKeptBy S.Store store.old store.new }
 {
-    let ended = collect_blocks(alloc, store, roots, output, errors);
+    let ended = collect_meant(alloc, store, given, output, errors);
+    end(ended, errors)
+}
+
+/// `add-root`: answers the status. Nothing is said.
+pub fn answer_add_roots<S: Store, V: Write>(
+    store: &mut BlockStore<S>,
+    names: &[Cid],
+    errors: &mut V,
+) -> u8
+    ensures answers { (ended : Result Bool Fault)
+        × EndsSo ended result (V.contents errors.old) (V.contents errors.new)
+        × AddsToRoots S.Store names.now store.old ended store.new }
+    ensures crash { (db : _) → S.Store.recovers store.new db → S.Store.recovers store.old db
+        ⊎ (IsClean (S.Store.view store.new) → AddsRoots names.now (S.Store.view store.old).trees db) }
+    ensures kept { IsKeptBy S.Store store.old store.new }
+{
+    end(add_roots(store, names), errors)
+}
+
+/// `drop-root`: answers the status.
+pub fn answer_drop_roots<S: Store, W: Write, V: Write>(
+    alloc: Global,
+    store: &mut BlockStore<S>,
+    names: &[Cid],
+    output: &mut W,
+    errors: &mut V,
+) -> u8
+    ensures answers { (ended : Result Bool Fault) × (heard : Option (List ℕ))
+        × SaysDropped S.Store names.now store.old (W.contents output.old) (V.contents errors.old) ended
+        store.new (W.contents output.new) heard × EndsSo ended result heard (V.contents errors.new) }
+    ensures crash { (db : _) → S.Store.recovers store.new db → S.Store.recovers store.old db
+        ⊎ (IsClean (S.Store.view store.new) → DropsSome names.now (S.Store.view store.old).trees db) }
+    ensures kept { IsKeptBy S.Store store.old store.new }
+{
+    let ended = drop_roots(alloc, store, names, output, errors);
     end(ended, errors)
 }

@@ -1,21 +1,25 @@
 //! `put`, `remove` and `gc`: blocks that are kept and taken out.
 
-ghost use Rattle.std.specs.Prelude.{◌≡◌, ◌⊎◌, IfOk, IfErr};
+ghost use Rattle.std.specs.Prelude.{◌≡◌, ◌⊎◌, IfOk, IfErr, MatchResult};
 ghost use Rattle.sqlite_trees.specs.View.{IsClean};
 ghost use Rattle.dagcbor_heads.specs.Written.{AppendsFront};
 ghost use Rattle.dagcbor_store.specs.Collecting.{KeepsReachable};
 ghost use Rattle.dagcbor_store.specs.Ends.{Quiet};
-ghost use Rattle.dagcbor_store.specs.Stored.{IsKeptBy, IsAddedTo, Fails};
+ghost use Rattle.dagcbor_store.specs.Stored.{IsKeptBy, IsAddedTo, IsUnfit, Fails};
+ghost use Rattle.ipld_links.specs.Sound.{IsSound};
 ghost use Rattle.dagstore_lines.specs.Changes.{SaysText, name_as, name_line, SaysPut, name_lines, SaysCollected, HoldsOthers, TakesNames, Removes, SaysTaken, SaysRemoved};
 ghost use Rattle.dagstore_lines.specs.Lines.{removed_line};
+ghost use Rattle.dagstore_lines.specs.Roots.{CollectsMeant, KeepsMeant};
 
 use crate::block::NO_BLOCK;
+use crate::export::tell_wrong;
 use crate::fault::Fault;
 use crate::refusal::write_name;
+use crate::roots::{NO_ROOTS, meant_roots};
 use block_lines::{line_of, named_line};
 use dagcbor_cli::{ToolError, write_all};
 use dagcbor_store::{BlockStore, Store, StoreRefusal};
-use ipld_links::{SHA2_256, name_of_block};
+use ipld_links::{SHA2_256, check_block, name_of_block};
 use ipld_tree::Cid;
 use std::alloc::{AllocError, Global};
 use std::io::Write;
@@ -34,6 +38,18 @@ fn say_name<W: Write>(alloc: Global, name: &Cid, output: &mut W) -> Result<(), T
 {
     let line = named_line(alloc, b"", name)?;
     write_all(output, &line)
+}
+
+/// Whether the block is one that a store keeps under its name of this codec. One that is not is refused
+/// by `put_block` too; this asks no store, so that none is made for it.
+pub fn check_put(codec: u64, block: &[u8]) -> Result<(), StoreRefusal>
+    ensures { MatchResult result (λ _. IsSound (name_as codec block.now, block.now))
+        (IsUnfit (name_as codec block.now, block.now)) }
+{
+    match check_block(&name_as(codec, block), block) {
+        Ok(()) => Ok(()),
+        Err(cause) => Err(StoreRefusal::Unsound(cause)),
+    }
 }
 
 /// Keeps the block under its name of this codec, commits it, and then writes the name.
@@ -104,16 +120,17 @@ fn take_out<S: Store>(store: &mut BlockStore<S>, names: &[Cid]) -> Result<u64, S
     Ok(count)
 }
 
-/// Writes how many names were taken out, and tells that no block has the name where that are fewer
-/// than were given. Whether all were.
-fn say_taken<W: Write, V: Write>(
+/// Writes how many names were taken out, and tells the other line where that are fewer than were
+/// given. Whether all were.
+pub fn say_taken<W: Write, V: Write>(
     alloc: Global,
     count: u64,
     given: u64,
+    none: &[u8],
     output: &mut W,
     errors: &mut V,
 ) -> Result<bool, Fault>
-    ensures { SaysTaken count given (W.contents output.old) (V.contents errors.old) result
+    ensures { SaysTaken none.now count given (W.contents output.old) (V.contents errors.old) result
         (W.contents output.new) (V.contents errors.new) }
 {
     if let Err(error) = say_removed(alloc, count, output) {
@@ -122,7 +139,7 @@ fn say_taken<W: Write, V: Write>(
     if count == given {
         return Ok(true);
     }
-    match write_all(errors, NO_BLOCK) {
+    match write_all(errors, none) {
         Ok(()) => Ok(false),
         Err(error) => Err(Fault::Tool(error)),
     }
@@ -144,7 +161,7 @@ pub fn remove_blocks<S: Store, W: Write, V: Write>(
     ensures kept { IsKeptBy S.Store store.old store.new }
 {
     match take_out(store, names) {
-        Ok(count) => say_taken(alloc, count, names.len() as u64, output, errors),
+        Ok(count) => say_taken(alloc, count, names.len() as u64, NO_BLOCK, output, errors),
         Err(refusal) => Err(Fault::Store(refusal)),
     }
 }
@@ -183,5 +200,33 @@ pub fn collect_blocks<S: Store, W: Write, V: Write>(
             tell_name(&refusal, errors);
             Err(Fault::Store(refusal))
         }
+    }
+}
+
+/// Keeps what links lead to from the roots that are given, or that are stored where none is, and
+/// writes how many names were taken out. Where there is no root at all, that is told, and nothing is
+/// taken out.
+pub fn collect_meant<S: Store, W: Write, V: Write>(
+    alloc: Global,
+    store: &mut BlockStore<S>,
+    given: Vec<Cid>,
+    output: &mut W,
+    errors: &mut V,
+) -> Result<bool, Fault>
+    ensures says { CollectsMeant S.Store given.items store.old (W.contents output.old)
+        (V.contents errors.old) result store.new (W.contents output.new) (V.contents errors.new) }
+    ensures crash { (db : _) → S.Store.recovers store.new db → S.Store.recovers store.old db
+        ⊎ (IsClean (S.Store.view store.new)
+        → KeepsMeant (S.Store.view store.old) (S.Store.view store.new) given.items db) }
+    ensures kept { IsKeptBy S.Store store.old store.new }
+{
+    match meant_roots(store, given) {
+        Ok(roots) => {
+            if roots.is_empty() {
+                return tell_wrong(NO_ROOTS, errors);
+            }
+            collect_blocks(alloc, store, &roots, output, errors)
+        }
+        Err(refusal) => Err(Fault::Store(refusal)),
     }
 }

@@ -4,12 +4,13 @@ ghost use Rattle.std.specs.Prelude.{◌≡◌, ◌↔◌, [], IsTrue, false, fla
 ghost use Rattle.dagcbor_items.specs.Walks.{forms};
 ghost use Rattle.dagcbor_store.specs.Ends.{Quiet};
 ghost use Rattle.dagstore_lines.specs.Files.{fault_of, Exports};
-ghost use Rattle.dagstore_lines.specs.Lines.{no_block_line};
+ghost use Rattle.dagstore_lines.specs.Roots.{ExportsMeant};
 ghost use Rattle.dagstore_lines.specs.Trees.{SaysTree, TellsAll};
 ghost use Rattle.block_lines.specs.Lines.{missing_line};
 
 use crate::block::NO_BLOCK;
 use crate::fault::Fault;
+use crate::roots::meant_roots;
 use block_lines::{is_none, missing_lines};
 use dagcbor_cli::{ToolError, write_all};
 use dagcbor_heads::{EncodeError, IoRefWriter};
@@ -51,6 +52,23 @@ pub fn export_blocks<S: Store, W: Write>(
     }
 }
 
+/// Writes the file of all blocks, with the roots that are given, or with those that are stored where
+/// none is.
+pub fn export_meant<S: Store, W: Write>(
+    store: &mut BlockStore<S>,
+    given: Vec<Cid>,
+    output: &mut W,
+) -> Result<bool, Fault>
+    ensures exports { ExportsMeant S.Store given.items store.old (W.contents output.old) result
+        store.new (W.contents output.new) }
+    ensures quiet { Quiet S.Store store.old store.new }
+{
+    match meant_roots(store, given) {
+        Ok(roots) => export_blocks(store, &roots, output),
+        Err(refusal) => Err(Fault::Store(refusal)),
+    }
+}
+
 /// Writes the file of the root, and of the blocks that links lead to from there, and tells which links
 /// lead to none, or that the root names nothing. Whether nothing is wrong.
 pub fn write_tree<S: Store, W: Write, V: Write>(
@@ -71,7 +89,7 @@ pub fn write_tree<S: Store, W: Write, V: Write>(
     match written {
         Ok(lost) => tell_lost(alloc, &lost, errors),
         Err(error) => match error {
-            WriteTreeError::NotStored => tell_nothing(errors),
+            WriteTreeError::NotStored => tell_wrong(NO_BLOCK, errors),
             WriteTreeError::Unwritten(error) => Err(fault_of(error)),
         },
     }
@@ -87,10 +105,10 @@ fn tell_lost<V: Write>(alloc: Global, lost: &[Cid], errors: &mut V) -> Result<bo
     Ok(is_none(lost))
 }
 
-/// Tells that nothing is stored under a name.
-fn tell_nothing<V: Write>(errors: &mut V) -> Result<bool, Fault>
-    ensures { TellsAll no_block_line (λ well. well ≡ false) (V.contents errors.old) result (V.contents errors.new) }
+/// Tells the line of what is wrong.
+pub fn tell_wrong<V: Write>(line: &[u8], errors: &mut V) -> Result<bool, Fault>
+    ensures { TellsAll line.now (λ well. well ≡ false) (V.contents errors.old) result (V.contents errors.new) }
 {
-    write_all(errors, NO_BLOCK)?;
+    write_all(errors, line)?;
     Ok(false)
 }

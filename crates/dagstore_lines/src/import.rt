@@ -162,8 +162,8 @@ fn say_stored<W: Write>(
     Ok(well)
 }
 
-/// Keeps the blocks of the file that the source has, all of them or none, writes its roots and how
-/// many sections it has, and answers the status. Why it is not kept is told.
+/// Keeps the blocks and the roots of the file that the source has, all of them or none, writes its
+/// roots and how many sections it has, and answers the status. Why it is not kept is told.
 pub fn import_blocks<S: Store, R: BufRead + Drop, W: Write, V: Write>(
     alloc: Global,
     store: &mut BlockStore<S>,

@@ -2,9 +2,11 @@
 #![tactic(auto)]
 
 mod answer;
+mod at;
 mod block;
 mod change;
 mod check;
+mod command;
 mod export;
 mod fault;
 mod import;
@@ -12,19 +14,26 @@ mod line;
 mod list;
 mod progress;
 mod refusal;
+mod roots;
+mod way;
 mod words;
 
 pub use answer::{
-    answer_check, answer_collect, answer_count, answer_export, answer_get, answer_has, answer_list,
-    answer_put, answer_remove, answer_tree,
+    answer_add_roots, answer_at, answer_check, answer_collect, answer_count, answer_drop_roots,
+    answer_export, answer_get, answer_has, answer_list, answer_put, answer_remove, answer_roots,
+    answer_tree,
 };
+pub use at::write_at;
 pub use block::{NO_BLOCK, count_blocks, get_block, has_block};
-pub use change::{collect_blocks, put_block, remove_blocks};
+pub use change::{check_put, collect_blocks, collect_meant, put_block, remove_blocks};
 pub use check::check_blocks;
-pub use export::{export_blocks, write_tree};
+pub use command::{Asking, Command, Words, words_of};
+pub use export::{export_blocks, export_meant, write_tree};
 pub use fault::Fault;
 pub use import::import_blocks;
 pub use list::list_blocks;
-pub use progress::{Counted, Progress};
+pub use progress::Progress;
 pub use refusal::{end, tell_refusal};
+pub use roots::{NO_ROOT, NO_ROOTS, add_roots, drop_roots, list_roots};
+pub use way::gather_way;
 pub use words::{HELP, NO_STORE, NOT_READ, NOT_WRITTEN, OUT_OF_MEMORY, USAGE, VERSION};

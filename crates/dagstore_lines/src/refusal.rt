@@ -58,6 +58,10 @@ pub fn refusal_words(refusal: &StoreRefusal) -> (&'static str, &'static str)
         StoreRefusal::NoNumber => ("no number is left for a row", ""),
         StoreRefusal::TooLong => ("the block is too long for a row", ""),
         StoreRefusal::NotAStore => ("the file is no store of blocks", ""),
+        StoreRefusal::EarlierVersion => (
+            "the file is of an earlier version, which keeps no roots: export it, and import that into a new file",
+            "",
+        ),
         StoreRefusal::Locked => ("another process has the file open", ""),
         StoreRefusal::CannotOpen => ("the file cannot be opened for reading and writing", ""),
         StoreRefusal::Disk(error) => (disk_text(error), ""),
@@ -75,6 +79,7 @@ pub fn refusal_status(refusal: &StoreRefusal) -> u8
         StoreRefusal::NoNumber => 2,
         StoreRefusal::TooLong => 1,
         StoreRefusal::NotAStore => 1,
+        StoreRefusal::EarlierVersion => 1,
         StoreRefusal::Locked => 2,
         StoreRefusal::CannotOpen => 2,
         StoreRefusal::Disk(_) => 2,

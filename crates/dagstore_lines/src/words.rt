@@ -2,15 +2,16 @@
 
 /// What is told of other words.
 pub const USAGE: &str =
-    "usage: dagstore FILE import|put|export|get|has|tree|remove|gc|check|list|count, dagstore --help\n";
+    "usage: dagstore FILE import|put|export|get|at|has|tree|remove|gc|roots|add-root|drop-root|check|list|count, dagstore --help\n";
 
 /// What `--help` writes.
 pub const HELP: &str = "usage: dagstore FILE import [SOURCE]
        dagstore FILE put [dag-cbor|raw|0xCODEC]
-       dagstore FILE export [CID..]
+       dagstore FILE export|gc [CID..]
        dagstore FILE get|has|tree CID
-       dagstore FILE remove|gc CID..
-       dagstore FILE check|list|count
+       dagstore FILE at [--raw] CID/PATH
+       dagstore FILE remove|add-root|drop-root CID..
+       dagstore FILE roots|check|list|count
 
 Into the file, which these two make where there is none:
   import   the blocks of a file of blocks (CAR, version 1 or 2), all or none; without SOURCE, or
@@ -18,19 +19,27 @@ Into the file, which these two make where there is none:
   put      the block on standard input, under its name, which is written
 
 Out of the file:
-  export   the file of all blocks (CAR, version 1), with these roots
+  export   the file of all blocks (CAR, version 1), with these roots; without CIDs, with those
+           that are stored
   get      the block of a name
+  at       the data that a path leads to from a block, as DAG-JSON; --raw writes its bytes
   has      nothing: the status is 0 where something is listed under the name, else 1
   tree     the file of the blocks that links lead to
   check    the verdict on each block, and which links lead nowhere
   list     the length of each block
   count    how many names are listed
+  roots    the roots that are stored, in their order
 
 Changes:
-  remove   what is listed under the names is taken out
-  gc       all is taken out that no link leads to from these names
+  remove     what is listed under the names is taken out
+  gc         all is taken out that no link leads to from these names; without CIDs, from the roots
+             that are stored
+  add-root   the names are stored as roots, behind the others
+  drop-root  the names are roots no more; the blocks under them stay
 
-For example: dagstore blocks.db import blocks.car
+For example:
+  dagstore blocks.db import blocks.car
+  dagstore blocks.db at CID/a/0
 
 The status is 0 where nothing is wrong, 1 where something is, 2 where it could not be told.
 ";

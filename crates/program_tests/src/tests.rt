@@ -4,3 +4,4 @@ mod dagcbor;
 mod found;
 mod make;
 mod paths;
+mod proofs;

@@ -8,6 +8,8 @@
     name(block)          the block's own CID
     verify(cid, block)   whether the bytes are those that the CID names
 
+    resolve(get, cid, path)  the data to which a path leads from a block on, over links
+
     loads_first(bytes)   the data of the first item, and where it ends
     iter_loads(bytes)    the data of the items that stand one behind the other
 
@@ -24,6 +26,7 @@ from ._errors import CarError, DagCborError
 from ._items import iter_loads
 from ._native import CID, CarReader, Section, check, dumps, find, links, loads, loads_first, name
 from ._native import read_car
+from ._paths import MissingBlock, resolve
 
 __all__ = [
     "CID",
@@ -31,6 +34,7 @@ __all__ = [
     "CarError",
     "CarReader",
     "DagCborError",
+    "MissingBlock",
     "Section",
     "check",
     "check_car",
@@ -42,6 +46,7 @@ __all__ = [
     "loads_first",
     "name",
     "read_car",
+    "resolve",
     "verify",
     "write_car",
 ]

@@ -18,6 +18,7 @@ REASONS = {
     -17: ("UnorderedKey", "a key that does not come behind the one before it"),
     -22: ("OtherBytes", "the bytes are not those that the CID names"),
     -23: ("NotVerified", "the CID is by another hash function than SHA-256 and the identity"),
+    9: ("NotRead", "the block is of another codec than DAG-CBOR"),
     -26: ("InvalidCid", "the bytes are no CID"),
     -28: ("UnknownBase", "the first character of the text names no base that is read here"),
     -29: ("TooLong", "the text is longer than that of any CID"),

@@ -1,6 +1,6 @@
 //! Rows are of a walk over decoded blocks that was written apart, in Python, names and all.
 
-use dagcbor_resolve::resolve;
+use dagcbor_resolve::{each_once, resolve, resolve_way};
 use dagcbor_testing::{agree, is_told};
 use ipld_tree::Cid;
 use std::alloc::Global;
@@ -145,3 +145,77 @@ const ROWS: &[(&str, &[u8], &str, &str)] = &[
     ("a/2", ROOT_NAME, "a/2", r#"NoSuchPath("2")"#),
     ("a/1/0", ROOT_NAME, "a/1/0", r#"NoSuchPath("0")"#),
 ];
+
+/// Fails where these are other names.
+fn are_named(alloc: Global, names: &[Cid], forms: &[&[u8]]) -> Result<(), Fail> {
+    agree(names.len(), forms.len())?;
+    let mut left = forms;
+    for name in names {
+        let [form, more @ ..] = left else {
+            return Err(Fail::new("a name too many"));
+        };
+        agree(name.to_bytes(alloc)?.as_slice(), *form)?;
+        left = more;
+    }
+    Ok(())
+}
+
+#[test]
+fn ways_over_blocks(rt: HostRuntime) -> Result<(), Fail> {
+    let alloc = rt.alloc();
+    let blocks = blocks(alloc)?;
+    let Ok(root) = Cid::try_from(ROOT_NAME) else {
+        return Err(Fail::new("no CID"));
+    };
+    for (path, names) in WAYS {
+        let way = resolve_way(alloc, &blocks, &root, path)?;
+        are_named(alloc, &way.names, names)?;
+    }
+    Ok(())
+}
+
+/// A path, and the names of the blocks on its way.
+const WAYS: &[(&str, &[&[u8]])] = &[
+    ("", &[ROOT_NAME]),
+    ("a", &[ROOT_NAME]),
+    ("a/1", &[ROOT_NAME]),
+    ("a/0", &[ROOT_NAME]),
+    ("a/0/c", &[ROOT_NAME, MID_NAME]),
+    ("a/0/b", &[ROOT_NAME, MID_NAME]),
+    ("a/0/b/0", &[ROOT_NAME, MID_NAME, LEAF_NAME]),
+    ("a/0/b/1", &[ROOT_NAME, MID_NAME, LEAF_NAME]),
+    ("a/0/b/2", &[ROOT_NAME, MID_NAME, LEAF_NAME]),
+    ("a/0/b/00/x", &[ROOT_NAME, MID_NAME, LEAF_NAME]),
+    ("/a//0//b//1//", &[ROOT_NAME, MID_NAME, LEAF_NAME]),
+    ("way", &[ROOT_NAME]),
+    ("way/c", &[ROOT_NAME, ONLY_NAME, MID_NAME]),
+    ("way/b/1", &[ROOT_NAME, ONLY_NAME, MID_NAME, LEAF_NAME]),
+    ("way/id/x/1", &[ROOT_NAME, ONLY_NAME, MID_NAME, INLINE_NAME]),
+    ("a/0/id/x", &[ROOT_NAME, MID_NAME, INLINE_NAME]),
+    ("a/0/id/y", &[ROOT_NAME, MID_NAME, INLINE_NAME]),
+    ("gone", &[ROOT_NAME]),
+    ("gone/a", &[ROOT_NAME, GONE_NAME]),
+    ("other", &[ROOT_NAME]),
+    ("other/0", &[ROOT_NAME, OTHER_NAME]),
+    ("raw", &[ROOT_NAME]),
+    ("raw/0", &[ROOT_NAME, RAW_NAME]),
+    ("zz/0", &[ROOT_NAME]),
+    ("a/2", &[ROOT_NAME]),
+    ("a/1/0", &[ROOT_NAME]),
+];
+
+#[test]
+fn names_are_listed_once(rt: HostRuntime) -> Result<(), Fail> {
+    let alloc = rt.alloc();
+    let mut names = Vec::new(alloc);
+    for name in [
+        ROOT_NAME, MID_NAME, ROOT_NAME, LEAF_NAME, MID_NAME, MID_NAME,
+    ] {
+        let Ok(cid) = Cid::try_from(name) else {
+            return Err(Fail::new("no CID"));
+        };
+        names.push(cid)?;
+    }
+    let once = each_once(alloc, &names)?;
+    are_named(alloc, &once, &[ROOT_NAME, MID_NAME, LEAF_NAME])
+}

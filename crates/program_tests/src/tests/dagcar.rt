@@ -156,17 +156,21 @@ const CODECS: &[u8] =
 const CODECS_LINES: &[u8] =
     b"bafyreiedtbzudc2l3bzt6xdnv4qobi5hb55yszys3o66rq3ngdinmmd4be ok list\nmissing QmWM3bHfxC7Prszf82gqKrjGyWHXHWcuCrriXhgre87RB6 dag-pb\nmissing bafkreidw65pgckp6gajvxvcnqcvxzrdp3oubsb3vrxear47ckf5654vr5e raw\nmissing bafybeidw65pgckp6gajvxvcnqcvxzrdp3oubsb3vrxear47ckf5654vr5e dag-pb\nmissing bafyreidw65pgckp6gajvxvcnqcvxzrdp3oubsb3vrxear47ckf5654vr5e dag-cbor\nmissing bafzbeidw65pgckp6gajvxvcnqcvxzrdp3oubsb3vrxear47ckf5654vr5e libp2p-key\nmissing baf4beidw65pgckp6gajvxvcnqcvxzrdp3oubsb3vrxear47ckf5654vr5e codec 0x78\nmissing baguqeerao33v4yjj7yybgw6ujwakw7gen7n2qgihowg4qcht4jixx3xswhuq dag-json\nmissing bagaaierao33v4yjj7yybgw6ujwakw7gen7n2qgihowg4qcht4jixx3xswhuq json\nmissing baga6iaqseb3poxtbfh7dae232rgybk34yrx5xkaza52y3sai6prfc67o6ky6s codec 0xb201\n";
 
-const FILES: &[(&str, &[u8], u8, &[u8])] = &[
-    ("check", GOOD, 0, GOOD_LINES),
-    ("check", MIXED, 1, MIXED_LINES),
-    ("check", CODECS, 1, CODECS_LINES),
-    ("list", MIXED, 0, MIXED_LISTED),
+/// What is told of the section of `MIXED` that is refused.
+const MIXED_PLACES: &[u8] =
+    b"bafyreibwqtyzplcfcsvwtqi3tb3b6lemdpv3k2hys62l5nlc45h2n6qxe4: refused UnorderedKey at byte 5\n";
+
+const FILES: &[(&str, &[u8], u8, &[u8], &[u8])] = &[
+    ("check", GOOD, 0, GOOD_LINES, b""),
+    ("check", MIXED, 1, MIXED_LINES, MIXED_PLACES),
+    ("check", CODECS, 1, CODECS_LINES, b""),
+    ("list", MIXED, 0, MIXED_LISTED, b""),
 ];
 
 #[test]
 fn files_are_checked_and_listed(rt: HostRuntime) -> Result<(), Fail> {
-    for (word, file, status, lines) in FILES {
-        gives(rt.alloc(), word, file, *status, lines, b"")?;
+    for (word, file, status, lines, places) in FILES {
+        gives(rt.alloc(), word, file, *status, lines, places)?;
     }
     Ok(())
 }
@@ -201,7 +205,7 @@ const FIRST_LINE: &[u8] = b"bafyreic6rlmkazpohhul74xyu654gs4k37idb2uz6r7vurebasd
 fn sections_are_verified_and_no_link_is_followed(rt: HostRuntime) -> Result<(), Fail> {
     let alloc = rt.alloc();
     gives(alloc, "verify", GOOD, 0, GOOD_LINES, b"")?;
-    gives(alloc, "verify", MIXED, 1, MIXED_VERDICTS, b"")?;
+    gives(alloc, "verify", MIXED, 1, MIXED_VERDICTS, MIXED_PLACES)?;
     gives(alloc, "verify", &GOOD[..ENDS[1]], 0, FIRST_LINE, b"")?;
     let cut = joined(alloc, &[FIRST_LINE, CUT])?;
     gives(alloc, "verify", &GOOD[..ENDS[1] + 1], 1, &cut, b"")
@@ -217,13 +221,15 @@ const MIXED_COUNTS: &[u8] =
 const CODECS_COUNTS: &[u8] =
     b"sections 1\nok 1\nnot read 0\nrefused 0\nother bytes 0\nnot verified 0\nmissing 9\n";
 
-/// Fails where `check --summary` ends with another status, or writes other lines than these and those.
+/// Fails where `check --summary` ends with another status, writes other lines than these and those, or
+/// tells of other places.
 fn sums_up(
     alloc: Global,
     file: &[u8],
     status: u8,
     lines: &[u8],
     counts: &[u8],
+    places: &[u8],
 ) -> Result<(), Fail> {
     let mut input = file;
     let (mut output, mut errors) = (Vec::new(alloc), Vec::new(alloc));
@@ -232,18 +238,18 @@ fn sums_up(
     let wanted = joined(alloc, &[lines, counts])?;
     agree(
         (output.as_slice(), ended, errors.as_slice()),
-        (wanted.as_slice(), status, b"".as_slice()),
+        (wanted.as_slice(), status, places),
     )
 }
 
 #[test]
 fn verdicts_are_counted(rt: HostRuntime) -> Result<(), Fail> {
     let alloc = rt.alloc();
-    sums_up(alloc, GOOD, 0, GOOD_LINES, GOOD_COUNTS)?;
-    sums_up(alloc, MIXED, 1, MIXED_LINES, MIXED_COUNTS)?;
-    sums_up(alloc, CODECS, 1, CODECS_LINES, CODECS_COUNTS)?;
+    sums_up(alloc, GOOD, 0, GOOD_LINES, GOOD_COUNTS, b"")?;
+    sums_up(alloc, MIXED, 1, MIXED_LINES, MIXED_COUNTS, MIXED_PLACES)?;
+    sums_up(alloc, CODECS, 1, CODECS_LINES, CODECS_COUNTS, b"")?;
     let cut = &GOOD[..GOOD.len() - 1];
-    sums_up(alloc, cut, 1, &GOOD_LINES[..136], CUT)
+    sums_up(alloc, cut, 1, &GOOD_LINES[..136], CUT, b"")
 }
 
 #[test]
@@ -359,6 +365,12 @@ const CALLS: &[(&[&str], usize, Option<&str>)] = &[
     (&["get", "bafkrgaly"], 2, None),
     (&["get", "bafkrgaly", "blocks.car"], 2, Some("blocks.car")),
     (&["at", "bafkrgaly/a", "b"], 2, Some("b")),
+    (&["at", "--raw", "bafkrgaly/a"], 3, None),
+    (&["at", "--raw", "bafkrgaly/a", "b"], 3, Some("b")),
+    (&["at", "--raw", "none"], 3, None),
+    (&["at", "--raw", "none/a", "b"], 3, Some("b")),
+    (&["prove", "bafkrgaly/a"], 2, None),
+    (&["prove", "bafkrgaly/a", "-"], 2, Some("-")),
     // A word that is no CID is told before the file is asked for.
     (&["get", "none", "blocks.car"], 2, Some("blocks.car")),
     (&["look", "blocks.car"], 2, None),
@@ -378,8 +390,8 @@ fn a_file_stands_behind_the_words(rt: HostRuntime) -> Result<(), Fail> {
 
 #[test]
 fn other_words_are_refused(rt: HostRuntime) -> Result<(), Fail> {
-    let line =
-        b"usage: dagcar check [--summary]|verify|list|name|one|show|make|get CID|tree CID|at CID/PATH\n";
+    let line = b"usage: dagcar check [--summary]|verify|list|name|one|show|make|get CID|tree CID\
+        |at [--raw] CID/PATH|prove CID/PATH\n";
     gives(rt.alloc(), "links", GOOD, 2, b"", line)
 }
 

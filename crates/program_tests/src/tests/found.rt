@@ -61,7 +61,8 @@ const FLOAT_LINE: &[u8] =
     b"missing bafyreib2ir5ittexhu5d3zopo6wzsshuwi6byb3cdtp67bfopa2fkbpfcy dag-cbor\n";
 
 const USAGE_LINE: &[u8] =
-    b"usage: dagcar check [--summary]|verify|list|name|one|show|make|get CID|tree CID|at CID/PATH\n";
+    b"usage: dagcar check [--summary]|verify|list|name|one|show|make|get CID|tree CID\
+    |at [--raw] CID/PATH|prove CID/PATH\n";
 
 /// The map's block.
 const MAP: &[u8] =

@@ -4,10 +4,18 @@ use Rattle.dagcbor_heads.specs.Inputs.{not_lending}
 use Rattle.dagcar_lines.proofs.Running.{if_known}
 use Rattle.dagcar_lines.proofs.command.say_input.Goals as goal
 
-pub returns-in-Some : goal.returns-in-Some
-returns-in-Some g c = if_known (g.R.Read.remaining c.args.input.now) (λ b l.
-    c.say_file-result.ensures b (ap (λ (r : Reading). r.left) (c.input_over-source.ensures ∙ ap not_lending c.new.ensures) ∙ l))
+pub returns-in-Some-clause-said : goal.returns-in-Some-clause-said
+returns-in-Some-clause-said g c = if_known (g.R.Read.remaining c.args.input.now) (λ b l.
+    c.say_file-result.ensures.said b (ap (λ (r : Reading). r.left) (c.input_over-source.ensures ∙ ap not_lending c.new.ensures) ∙ l))
 
-pub returns-in_default : goal.returns-in_default
-returns-in_default g c = if_known (g.R.Read.remaining c.args.input.now) (λ b l.
-    c.say_file-result.ensures b (ap (λ (r : Reading). r.left) (c.input_over-source.ensures ∙ ap not_lending c.new.ensures) ∙ l))
+pub returns-in-Some-clause-told : goal.returns-in-Some-clause-told
+returns-in-Some-clause-told g c = if_known (g.R.Read.remaining c.args.input.now) (λ b l.
+    c.say_file-result.ensures.told b (ap (λ (r : Reading). r.left) (c.input_over-source.ensures ∙ ap not_lending c.new.ensures) ∙ l))
+
+pub returns-in_default-clause-said : goal.returns-in_default-clause-said
+returns-in_default-clause-said g c = if_known (g.R.Read.remaining c.args.input.now) (λ b l.
+    c.say_file-result.ensures.said b (ap (λ (r : Reading). r.left) (c.input_over-source.ensures ∙ ap not_lending c.new.ensures) ∙ l))
+
+pub returns-in_default-clause-told : goal.returns-in_default-clause-told
+returns-in_default-clause-told g c = if_known (g.R.Read.remaining c.args.input.now) (λ b l.
+    c.say_file-result.ensures.told b (ap (λ (r : Reading). r.left) (c.input_over-source.ensures ∙ ap not_lending c.new.ensures) ∙ l))

@@ -4,7 +4,7 @@ use Rattle.ipld_links.specs.Reaching.{stored_in}
 use Rattle.dagcar_lines.specs.Finding.{IsTreeOf, IsTree, TellsFault}
 use Rattle.dagcar_lines.proofs.Running.{if_some}
 use Rattle.block_lines.proofs.Saying.{both_said}
-use Rattle.dagcar_lines.proofs.Finding.{both_of}
+use Rattle.path_lines.proofs.Ending.{both_of}
 use Rattle.dagcar_lines.proofs.tree.write_tree.Goals as goal
 
 pub returns-in-Ok-Ok : goal.returns-in-Ok-Ok

@@ -2,10 +2,11 @@ use Rattle.std.proofs.Common.{◌≡◌, length}
 use denote.Text.{Utf8}
 use denote.Shadow.{shadow}
 use Rattle.dagcbor_paths.specs.Paths.{segments}
+use Rattle.dagcbor_paths.specs.Parts.{EndsWith}
 use Rattle.dagcbor_paths.proofs.segments.next_segment.Given as goal
 
 abbrev pub invariant-loop-segment : goal.invariant-loop-segment
-invariant-loop-segment l = shadow (Utf8 l.left) × (segments l.path ≡ segments l.left)
+invariant-loop-segment l = shadow (Utf8 l.left) × (segments l.path ≡ segments l.left) × EndsWith l.path l.left
 
 abbrev pub decreases-loop-segment : goal.decreases-loop-segment
 decreases-loop-segment l = length l.left

@@ -1,4 +1,4 @@
 use Rattle.dagstore_lines.proofs.answer.answer_export.Goals as goal
 
 pub returns-clause-answers : goal.returns-clause-answers
-returns-clause-answers g c = (c.export_blocks.result, (c.end.ensures.status, c.end.ensures.told), c.export_blocks.ensures.exports)
+returns-clause-answers g c = (c.export_meant.result, (c.end.ensures.status, c.end.ensures.told), c.export_meant.ensures.exports)

@@ -9,7 +9,7 @@ returns-in-Ok-clause-says g c =
 
 pub returns-in-NotStored-clause-says : goal.returns-in-NotStored-clause-says
 returns-in-NotStored-clause-says g c =
-    tree_nothing c.new-writer.result c.write_tree-written.new.writer _ _ (search rules) (search rules) g.S.Store c.args.store.now c.write_tree-written.new.self Error c.args.root.now _ _ c.tell_nothing.result (rw c.in-NotStored.is at c.in-Err.ensures.refused) c.tell_nothing.ensures
+    tree_nothing c.new-writer.result c.write_tree-written.new.writer _ _ (search rules) (search rules) g.S.Store c.args.store.now c.write_tree-written.new.self Error c.args.root.now _ _ c.tell_wrong.result (rw c.in-NotStored.is at c.in-Err.ensures.refused) c.tell_wrong.ensures
 
 pub returns-in-Unwritten-clause-says : goal.returns-in-Unwritten-clause-says
 returns-in-Unwritten-clause-says g c =

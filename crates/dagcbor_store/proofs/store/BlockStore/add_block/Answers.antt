@@ -1,10 +1,10 @@
 use Rattle.std.proofs.Common.{rules, arith, ◌≡◌, subst, OnOk, IfErr}
 use Rattle.sqlite_trees.specs.View.{IsClean}
 use Rattle.ipld_tree.specs.Cid.{cid_bytes}
-use Rattle.dagcbor_store.specs.Rows.{Adds, IsTooLong}
+use Rattle.block_trees.specs.Rows.{Adds, IsTooLong}
 use Rattle.dagcbor_store.specs.Stored.{IsAdded, PutRefused, Fails}
 use Rattle.dagcbor_store.proofs.Keeping.{ready_failed, keyed_ended, undone_since}
-use Rattle.dagcbor_store.proofs.Calls.{ready_written, keyed_added, is_added, not_added, fails_since, put_failed, added_if_clean}
+use Rattle.dagcbor_store.proofs.Calls.{ready_blocks, keyed_added, is_added, not_added, fails_since, put_failed, added_if_clean}
 use Rattle.dagcbor_store.proofs.store.BlockStore.add_block.Goals as goal
 
 pub invariant_of-self : goal.invariant_of-self
@@ -13,7 +13,7 @@ invariant_of-self g c clean =
     let was : IsClean old = omega (arith, c.add.ensures.ends.quiet.clean) in
     let ready = c.self.invariant was in
     let form : c.deref.result.now ≡ cid_bytes c.args.name.now = search rules in
-    ready_written old _ (c.in-Ok.ensures.ends.frame clean) (λ o. keyed_added old.trees (g.S.Store.view c.add.new.store).trees c.deref.result.now c.args.block.now c.in-Ok.added (c.args.name.now, c.write_bytes.ensures.valid, form) (c.in-Ok.ensures.ok clean) (ready.keyed o)) ready
+    ready_blocks old _ (c.in-Ok.ensures.ends.frame clean) (λ o. keyed_added old.trees (g.S.Store.view c.add.new.store).trees c.deref.result.now c.args.block.now c.in-Ok.added (c.args.name.now, c.write_bytes.ensures.valid, form) (c.in-Ok.ensures.ok clean) (ready.keyed o)) ready
 
 pub invariant_of-self-in-Err-add : goal.invariant_of-self-in-Err-add
 invariant_of-self-in-Err-add g c = ready_failed g.S.Store c.self.inside.store c.undo.new.store c.add.new.store c.self.invariant c.in-Err-add.ensures.ends c.undo.ensures.undone c.undo.ensures.quiet
@@ -35,7 +35,7 @@ returns-in-Ok-clause-refused g c =
     let form : c.deref.result.now ≡ cid_bytes c.args.name.now = search rules in
     subst (λ s. IfErr c.told.result (PutRefused g.S.Store (c.args.name.now, c.args.block.now) s c.add.new.store)) c.self.view_is
     (not_added g.S.Store (c.args.name.now, c.args.block.now) c.self.inside.store c.add.new.store c.in-Ok.added c.told.result
-    (λ clean. (subst (λ n. Adds old.trees new.trees n c.args.block.now c.in-Ok.added) form (c.in-Ok.ensures.ok clean), c.in-Ok.ensures.ends.frame clean)) c.told.ensures)
+    (λ clean. (subst (λ n. Adds old.trees new.trees n c.args.block.now c.in-Ok.added) form (c.in-Ok.ensures.ok clean), (c.in-Ok.ensures.ends.frame clean).frame)) c.told.ensures)
 
 pub returns-in-Err-add-clause-refused : goal.returns-in-Err-add-clause-refused
 returns-in-Err-add-clause-refused g c =

@@ -3,7 +3,7 @@ use Rattle.sqlite_trees.specs.View.{IsClean}
 use Rattle.ipld_links.specs.Sets.{Among}
 use Rattle.dagcbor_store.specs.Stored.{IsSame}
 use Rattle.dagcbor_store.specs.Lost.{AddsNames, GrowsBy}
-use Rattle.dagcbor_store.specs.Ends.{Quiet}
+use Rattle.block_trees.specs.Ends.{Quiet}
 use Rattle.dagcbor_store.proofs.store.BlockStore.add_unlisted.Given as goal
 
 abbrev pub invariant-loop-name : goal.invariant-loop-name

@@ -1,6 +1,6 @@
 use Rattle.std.proofs.Common.{rules, ◌≡◌, sym, subst, IsTrue, ◌↔◌}
 use Rattle.ipld_tree.specs.Cid.{cid_bytes}
-use Rattle.dagcbor_store.specs.Rows.{name_tree, FindsName}
+use Rattle.block_trees.specs.Rows.{name_tree, FindsName}
 use Rattle.dagcbor_store.specs.Stored.{Lists}
 use Rattle.dagcbor_store.proofs.Keeping.{ready_ended, ready_failed, keyed_ended, found_listed}
 use Rattle.dagcbor_store.proofs.store.BlockStore.contains.Goals as goal

@@ -1,6 +1,6 @@
 use Rattle.sqlite_trees.specs.View.{IsClean}
 use Rattle.ipld_links.specs.Reaching.{Stored, Walks}
-use Rattle.dagcbor_store.specs.Ends.{Quiet}
+use Rattle.block_trees.specs.Ends.{Quiet}
 use Rattle.dagcbor_store.specs.Stored.{IsSame}
 use Rattle.dagcbor_store.specs.Collecting.{Fits}
 use Rattle.dagcbor_store.proofs.store.BlockStore.find_beside.Given as goal

@@ -1,6 +1,6 @@
 use Rattle.std.proofs.Common.{rules, ◌≡◌, subst, IfOk, IfErr, option_map, Vec, ℕ, Global}
 use Rattle.ipld_tree.specs.Cid.{cid_bytes}
-use Rattle.dagcbor_store.specs.Rows.{Gets}
+use Rattle.block_trees.specs.Rows.{Gets}
 use Rattle.dagcbor_store.specs.Stored.{GetsSome, GetRefused}
 use Rattle.dagcbor_store.proofs.Keeping.{ready_ended, ready_failed, keyed_ended, same_read}
 use Rattle.dagcbor_store.proofs.Calls.{found_if_clean, gets_some, get_refused}

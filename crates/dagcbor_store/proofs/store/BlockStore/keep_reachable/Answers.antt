@@ -1,7 +1,8 @@
 use Rattle.std.proofs.Common.{arith, inl, inr, sym, subst}
 use Rattle.sqlite_trees.specs.View.{IsClean}
+use Rattle.block_trees.specs.Ends.{KeepsOthers, IsOfBlocks}
 use Rattle.dagcbor_store.specs.Collecting.{KeepsReachable}
-use Rattle.dagcbor_store.proofs.Sweeping.{keeps_reachable, collected}
+use Rattle.dagcbor_store.proofs.Sweeping.{keeps_reachable, beside_swept, collected}
 use Rattle.dagcbor_store.proofs.store.BlockStore.keep_reachable.Goals as goal
 
 pub returns-in_err-commit-clause-crash : goal.returns-in_err-commit-clause-crash
@@ -28,5 +29,25 @@ returns-clause-crash g c db h = elim (c.commit.ensures.crash db h) [
       let marked : IsClean (g.S.Store.view c.mark.new.self) = omega (arith, c.commit.ensures.kept.clean, c.sweep.ensures.quiet.clean) in
       subst (KeepsReachable (g.S.Store.view c.args.self.now) c.args.roots.now) (sym same)
       (keeps_reachable (g.S.Store.view c.args.self.now) (g.S.Store.view c.mark.new.self) (g.S.Store.view c.sweep.new.self) c.args.roots.now c.in_ok-kept.kept c.in_ok-count.count (c.in_ok-kept.ensures.same marked) (c.in_ok-kept.ensures.ok marked) (c.in_ok-count.ensures.ok swept)))
+  | inr was ↦ inl (c.mark.ensures.quiet.outcomes db (c.sweep.ensures.quiet.outcomes db was))
+]
+
+pub returns-in_err-commit-clause-beside : goal.returns-in_err-commit-clause-beside
+returns-in_err-commit-clause-beside g c db h = elim (c.commit.ensures.crash db h) [
+  | inl same ↦ inr (λ clean.
+      let swept : IsClean (g.S.Store.view c.sweep.new.self) = omega (arith, c.commit.ensures.kept.clean) in
+      let marked : IsClean (g.S.Store.view c.mark.new.self) = omega (arith, c.commit.ensures.kept.clean, c.sweep.ensures.quiet.clean) in
+      subst (KeepsOthers IsOfBlocks (g.S.Store.view c.args.self.now).trees) (sym same)
+      (beside_swept (g.S.Store.view c.args.self.now) (g.S.Store.view c.mark.new.self) (g.S.Store.view c.sweep.new.self) c.args.roots.now c.in_ok-kept.kept c.in_ok-count.count (c.in_ok-kept.ensures.same marked) (c.in_ok-kept.ensures.ok marked) (c.in_ok-count.ensures.ok swept)))
+  | inr was ↦ inl (c.mark.ensures.quiet.outcomes db (c.sweep.ensures.quiet.outcomes db was))
+]
+
+pub returns-clause-beside : goal.returns-clause-beside
+returns-clause-beside g c db h = elim (c.commit.ensures.crash db h) [
+  | inl same ↦ inr (λ clean.
+      let swept : IsClean (g.S.Store.view c.sweep.new.self) = omega (arith, c.commit.ensures.kept.clean) in
+      let marked : IsClean (g.S.Store.view c.mark.new.self) = omega (arith, c.commit.ensures.kept.clean, c.sweep.ensures.quiet.clean) in
+      subst (KeepsOthers IsOfBlocks (g.S.Store.view c.args.self.now).trees) (sym same)
+      (beside_swept (g.S.Store.view c.args.self.now) (g.S.Store.view c.mark.new.self) (g.S.Store.view c.sweep.new.self) c.args.roots.now c.in_ok-kept.kept c.in_ok-count.count (c.in_ok-kept.ensures.same marked) (c.in_ok-kept.ensures.ok marked) (c.in_ok-count.ensures.ok swept)))
   | inr was ↦ inl (c.mark.ensures.quiet.outcomes db (c.sweep.ensures.quiet.outcomes db was))
 ]

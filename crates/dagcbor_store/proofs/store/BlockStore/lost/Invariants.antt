@@ -2,7 +2,7 @@ use Rattle.std.proofs.Common.{List}
 use Rattle.sqlite_trees.specs.View.{IsClean}
 use Rattle.dagcbor_car.specs.Car.{Section}
 use Rattle.dagcbor_store.specs.Stored.{IsSame}
-use Rattle.dagcbor_store.specs.Ends.{Quiet}
+use Rattle.block_trees.specs.Ends.{Quiet}
 use Rattle.dagcbor_store.proofs.Walking.{IsWalked}
 use Rattle.dagcbor_store.proofs.Unlisted.{LostOf}
 use Rattle.dagcbor_store.proofs.store.BlockStore.lost.Given as goal

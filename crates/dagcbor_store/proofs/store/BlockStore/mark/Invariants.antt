@@ -1,6 +1,6 @@
 use Rattle.std.proofs.Common.{take}
 use Rattle.sqlite_trees.specs.View.{IsClean}
-use Rattle.dagcbor_store.specs.Ends.{Quiet}
+use Rattle.block_trees.specs.Ends.{Quiet}
 use Rattle.dagcbor_store.specs.Stored.{IsSame}
 use Rattle.dagcbor_store.specs.Collecting.{Marks}
 use Rattle.dagcbor_store.proofs.store.BlockStore.mark.Given as goal

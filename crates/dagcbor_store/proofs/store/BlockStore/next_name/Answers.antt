@@ -1,9 +1,9 @@
 use Rattle.std.proofs.Common.{rules, arith, ◌≡◌, subst, None, Some, Ok}
 use Rattle.sqlite_trees.specs.View.{IsClean}
 use Rattle.sqlite_trees.specs.declared.error.StoreError.TheVariants as stored
-use Rattle.dagcbor_store.specs.Rows.{name_tree, FindsFirst}
+use Rattle.block_trees.specs.Rows.{name_tree, FindsFirst}
 use Rattle.dagcbor_store.specs.Stored.{GivesNext, bound_behind}
-use Rattle.dagcbor_store.proofs.Finding.{next_none, next_some}
+use Rattle.dagcbor_store.proofs.Behind.{next_none, next_some}
 use Rattle.dagcbor_store.proofs.Keeping.{ready_ended, ready_failed, keyed_ended}
 use Rattle.dagcbor_store.proofs.store.BlockStore.next_name.Goals as goal
 

@@ -2,7 +2,7 @@ use Rattle.sqlite_trees.specs.View.{IsClean}
 use Rattle.ipld_links.specs.Reaching.{Walks}
 use Rattle.dagcbor_store.specs.Stored.{IsSame}
 use Rattle.dagcbor_store.specs.Trees.{OfStored}
-use Rattle.dagcbor_store.specs.Ends.{Quiet}
+use Rattle.block_trees.specs.Ends.{Quiet}
 use Rattle.dagcbor_store.proofs.store.BlockStore.reach.Given as goal
 
 abbrev pub invariant-loop-count : goal.invariant-loop-count

@@ -1,10 +1,10 @@
 use Rattle.std.proofs.Common.{rules, arith, ◌≡◌, subst}
 use Rattle.sqlite_trees.specs.View.{IsClean}
 use Rattle.ipld_tree.specs.Cid.{cid_bytes}
-use Rattle.dagcbor_store.specs.Rows.{Takes}
+use Rattle.block_trees.specs.Rows.{Takes}
 use Rattle.dagcbor_store.specs.Stored.{IsTaken}
 use Rattle.dagcbor_store.proofs.Keeping.{ready_failed, keyed_ended}
-use Rattle.dagcbor_store.proofs.Calls.{ready_written, keyed_taken, is_taken}
+use Rattle.dagcbor_store.proofs.Calls.{ready_blocks, keyed_taken, is_taken}
 use Rattle.dagcbor_store.proofs.store.BlockStore.remove.Goals as goal
 
 pub invariant_of-self : goal.invariant_of-self
@@ -12,7 +12,7 @@ invariant_of-self g c clean =
     let old = g.S.Store.view c.self.inside.store in
     let was : IsClean old = omega (arith, c.take.ensures.ends.quiet.clean) in
     let ready = c.self.invariant was in
-    ready_written old _ (c.in-Ok.ensures.ends.frame clean) (λ o. keyed_taken old.trees _ _ c.in-Ok.taken (c.in-Ok.ensures.ok clean) (ready.keyed o)) ready
+    ready_blocks old _ (c.in-Ok.ensures.ends.frame clean) (λ o. keyed_taken old.trees _ _ c.in-Ok.taken (c.in-Ok.ensures.ok clean) (ready.keyed o)) ready
 
 pub invariant_of-self-in-Err : goal.invariant_of-self-in-Err
 invariant_of-self-in-Err g c = ready_failed g.S.Store c.self.inside.store c.undo.new.store c.take.new.store c.self.invariant c.in-Err.ensures.ends c.undo.ensures.undone c.undo.ensures.quiet

@@ -1,6 +1,6 @@
 use Rattle.std.proofs.Common.{◌≤◌}
 use Rattle.sqlite_trees.specs.View.{IsClean}
-use Rattle.dagcbor_store.specs.Ends.{Quiet}
+use Rattle.block_trees.specs.Ends.{Quiet}
 use Rattle.dagcbor_store.proofs.Sweeping.{SweptTo}
 use Rattle.dagcbor_store.proofs.store.BlockStore.sweep.Given as goal
 

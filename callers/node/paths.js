@@ -1,0 +1,63 @@
+// Paths in blocks, and over links from block to block: index.d.ts says what each call does.
+'use strict';
+const native = require('./out/dagcbor.node');
+const { latin1, lengthOf, view } = require('./bytes.js');
+const { verify } = require('./car.js');
+const { CID, binaryOf } = require('./cid.js');
+const { decode } = require('./decode.js');
+const { DagCborError, answered, refusal } = require('./errors.js');
+
+const [LINK, IDENTITY, NOT_READ, OTHER_BYTES, NOT_VERIFIED, NO_TEXT] = [7, 0, 9, -22, -23, -37];
+const REFUSED = { 'not read': NOT_READ, 'other bytes': OTHER_BYTES, 'not verified': NOT_VERIFIED };
+
+const bytesOf = (path) => {
+  if (typeof path !== 'string') throw new TypeError('a path is a text');
+  if (/\p{Surrogate}/u.test(path)) throw refusal(NO_TEXT);
+  return new TextEncoder().encode(path);
+};
+
+// The last item of the block to which a front of the path leads, whether it is a link, and what is
+// left of the path.
+const follow = (block, path) => {
+  const found = answered(native.follow(block, path), () => native.place(block));
+  const [kind, begin, end, passed] = found;
+  return { item: view(block, begin, end), isLink: kind === LINK, left: path.subarray(passed) };
+};
+
+const find = (block, path) => {
+  const { item, left } = follow(block, bytesOf(path));
+  return lengthOf.call(left) === 0 ? decode(item) : undefined;
+};
+
+// What is held under the name. A name by the identity holds its block itself.
+const heldUnder = async (get, cid) => {
+  if (cid.multihash.code === IDENTITY) return cid.multihash.digest;
+  const held = await (typeof get === 'function' ? get(cid) : get.get(cid));
+  if (held === undefined || held === null) {
+    throw new DagCborError('MissingBlock', `no block is held under ${cid}`);
+  }
+  return held.bytes ?? held;
+};
+
+// Refuses bytes that are not the block of the name.
+const verified = (cid, block) => {
+  if (native.name(block) === binaryOf(cid)) return block;
+  const code = REFUSED[verify(cid, block)];
+  if (code !== undefined) throw refusal(code);
+  return block;
+};
+
+const resolve = async (get, cid, path) => {
+  let left = bytesOf(path);
+  let name = CID.asCID(cid);
+  if (name === null) throw new TypeError('a CID is wanted');
+  for (;;) {
+    const found = follow(verified(name, await heldUnder(get, name)), left);
+    if (lengthOf.call(found.left) === 0) return decode(found.item);
+    if (!found.isLink) return undefined;
+    name = decode(found.item);
+    left = found.left;
+  }
+};
+
+module.exports = { find, resolve };

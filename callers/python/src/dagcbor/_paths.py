@@ -1,0 +1,50 @@
+"""Paths that lead over links, from block to block."""
+
+from collections.abc import Mapping
+
+from . import _native
+from ._car import verify
+from ._errors import refused
+
+IDENTITY = 0
+
+
+class MissingBlock(LookupError):
+    """A block on the way is not held, so nothing is said of what the path leads to. `cid` names it."""
+
+    def __init__(self, cid):
+        super().__init__(f"no block is held under {cid}")
+        self.cid = cid
+
+
+def _block_of(get, cid):
+    """The block of the name, verified. A name by the identity holds it itself."""
+    block = cid.digest if cid.hash_code == IDENTITY else get(cid)
+    if block is None:
+        raise MissingBlock(cid)
+    if _native.name(block) != cid:
+        if not verify(cid, block):
+            raise refused(-22)
+        if cid.codec != 0x71:
+            raise refused(9)
+    return block
+
+
+def resolve(get, cid, path):
+    """The data to which the path leads from the block of the CID, over links, as `ipfs dag get`.
+
+    `get` is a mapping of blocks by their CIDs, or a call that gives the block of one, or None. Each
+    block on the way is verified, so what is answered, a KeyError too, holds of whoever has blocks
+    of these names: the KeyError says that the path leads nowhere, with the name of the block in
+    which it ends and the path that is left there. A block that is not held is a MissingBlock, and
+    bytes that are not the block of their name a DagCborError. A link at the end is the CID itself.
+    """
+    get = get.get if isinstance(get, Mapping) else get
+    left = path
+    while True:
+        value, is_led, left = _native.follow(_block_of(get, cid), left)
+        if not is_led:
+            raise KeyError(cid, left)
+        if not left:
+            return value
+        cid = value

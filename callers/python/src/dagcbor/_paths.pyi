@@ -1,0 +1,12 @@
+from collections.abc import Callable, Mapping
+from typing import Any
+
+from ._native import CID, Buffer
+
+class MissingBlock(LookupError):
+    cid: CID
+    def __init__(self, cid: CID) -> None: ...
+
+def resolve(
+    get: Mapping[CID, Buffer] | Callable[[CID], Buffer | None], cid: CID, path: str
+) -> Any: ...

@@ -1,0 +1,112 @@
+"""Where paths lead over links, beside a walk over the data of the blocks in Python."""
+
+import hashlib
+import os
+
+import pytest
+from dagcbor import CID, DagCborError, MissingBlock, dumps, find, name, resolve
+
+TABLE = os.path.join(os.path.dirname(os.path.realpath(__file__)), "../../tables/paths.txt")
+LEAF = {"b": "hi", "list": [1, [2, None]], "": 3}
+RAW = b"raw bytes"
+RAW_NAME = CID.of(0x55, 0x12, hashlib.sha256(RAW).digest())
+INSIDE = CID.of(0x71, 0x00, dumps({"kept": "in the name"}))
+MIDDLE = {"leaf": name(dumps(LEAF)), "none": name(b"none is held"), "raw": RAW_NAME, "in": INSIDE}
+ROOT = {"links": [name(dumps(MIDDLE)), name(dumps(LEAF))], "a": {"b": True}}
+ONLY = name(dumps(MIDDLE))  # a block that is a link
+BLOCKS = {name(dumps(it)): dumps(it) for it in (LEAF, MIDDLE, ROOT, ONLY)} | {RAW_NAME: RAW}
+DATA = {name(dumps(it)): it for it in (LEAF, MIDDLE, ROOT, ONLY)} | {INSIDE: {"kept": "in the name"}}
+PATHS = [
+    "", "/", "a", "a/b", "a/b/c", "links", "links/0", "links/0/", "links/0/leaf", "links/0/leaf/b", "links/0/leaf/list/1/0",
+    "links/1/b", "links/1/list/1/1", "links/1/list/2", "links/1/c", "links/2", "links/00", "links/0/none", "links/0/in/kept",
+    "links/0/in/lost", "//links//0//leaf//b//", "links/0/raw", "links/1/b/c", "x" * 1_000_000, "links/" + "9" * 5000,
+]
+
+
+def walked(root, path):
+    """The data to which the path leads, or a KeyError."""
+    data, segments = DATA[root], [it for it in path.split("/") if it]
+    while segments:
+        if isinstance(data, CID):
+            data = DATA[data]
+        elif isinstance(data, dict) and segments[0] in data:
+            data = data[segments.pop(0)]
+        elif isinstance(data, list) and segments[0] in map(str, range(len(data))):
+            data = data[int(segments.pop(0))]
+        else:
+            raise KeyError
+    return data
+
+
+@pytest.mark.parametrize("get", [BLOCKS, BLOCKS.get], ids=["a mapping", "a call"])
+@pytest.mark.parametrize("path", PATHS, ids=lambda it: it[:30])
+def test_a_path(get, path):
+    try:
+        wanted = walked(name(dumps(ROOT)), path)
+    except KeyError:
+        with pytest.raises(KeyError):
+            resolve(get, name(dumps(ROOT)), path)
+    else:
+        assert resolve(get, name(dumps(ROOT)), path) == wanted
+
+
+def test_a_block_that_is_a_link():
+    assert resolve(BLOCKS, name(dumps(ONLY)), "leaf/b") == "hi"
+    assert resolve(BLOCKS, name(dumps(ONLY)), "") == ONLY
+
+
+def test_nothing_names_the_block_and_what_is_left():
+    with pytest.raises(KeyError) as none:
+        resolve(BLOCKS, name(dumps(ROOT)), "links/0/leaf/list/7/x")
+    assert none.value.args == (name(dumps(LEAF)), "7/x")
+
+
+def test_a_missing_block_is_no_absence():
+    with pytest.raises(MissingBlock) as missing:
+        resolve(BLOCKS, name(dumps(ROOT)), "links/0/none/x")
+    assert missing.value.cid == MIDDLE["none"] and not isinstance(missing.value, KeyError)
+    with pytest.raises(MissingBlock):
+        resolve({}, name(dumps(ROOT)), "")
+
+
+def test_bytes_that_are_not_the_block():
+    for block, kind in [(dumps(1), "OtherBytes"), (dumps(LEAF) + b"\0", "OtherBytes")]:
+        with pytest.raises(DagCborError) as refused:
+            resolve(BLOCKS | {name(dumps(LEAF)): block}, name(dumps(ROOT)), "links/1/b")
+        assert refused.value.kind == kind
+    with pytest.raises(DagCborError) as refused:
+        resolve(BLOCKS, name(dumps(ROOT)), "links/0/raw/x")
+    assert refused.value.kind == "NotRead"
+    other = CID.of(0x71, 0x1B, bytes(32))
+    with pytest.raises(DagCborError) as refused:
+        resolve({other: b"\0"}, other, "x")
+    assert refused.value.kind == "NotVerified"
+    long = CID.of(0x71, 0x12, hashlib.sha256(b"\x18\x17").digest())
+    with pytest.raises(DagCborError) as refused:
+        resolve({long: b"\x18\x17"}, long, "x")
+    assert (refused.value.kind, refused.value.place) == ("NonMinimal", 1)
+
+
+def test_other_arguments():
+    with pytest.raises(TypeError):
+        resolve(BLOCKS, name(dumps(ROOT)), 0)
+    with pytest.raises(TypeError):
+        resolve(None, name(dumps(ROOT)), "a")
+    with pytest.raises(UnicodeEncodeError):
+        resolve(BLOCKS, name(dumps(ROOT)), "\ud800")
+
+
+def test_the_table():
+    """Of blocks alone: each item that a path leads to is the block between its places."""
+    with open(TABLE, encoding="ascii") as file:
+        rows = [it.split() for it in file]
+    for block, path, code, begin, end, passed in rows:
+        block, path = (bytes.fromhex(it) if it != "-" else b"" for it in (block, path))
+        if code == "-37":
+            continue  # no str
+        if int(code) >= 0 and int(passed) == len(path):
+            assert dumps(find(block, path.decode())) == block[int(begin) : int(end)]
+        else:
+            with pytest.raises(KeyError if int(code) >= 0 else DagCborError):
+                find(block, path.decode())
+    assert len(rows) > 1000

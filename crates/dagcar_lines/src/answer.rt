@@ -1,0 +1,53 @@
+//! What is said of all bytes of the input, and what is told beside that.
+
+ghost use Rattle.std.specs.Prelude.{◌≡◌, Bool, List, ℕ, IfOk, IfSome};
+ghost use Rattle.block_lines.specs.Lines.{SaysBoth};
+
+use block_lines::{Said, say_both};
+use dagcbor_cli::ToolError;
+use std::alloc::Global;
+use std::io::{BufRead, ErrorKind, Write};
+
+/// What is said, and what is told beside that.
+pub type Answer = (Said, Vec<u8>);
+
+/// A command on bytes as a whole.
+pub trait Answering {
+    /// What is said and told of the bytes, and whether that tells of nothing wrong.
+    ghost is_said: { List ℕ → Bool → List ℕ → List ℕ → Type 0 };
+
+    fn answer(alloc: Global, bytes: &[u8]) -> Result<Answer, ToolError>
+        ensures { IfOk result (λ p. Self.is_said bytes.now p.0.1 p.0.0.items p.1.items) };
+}
+
+/// All bytes of the input.
+fn read_all<R: BufRead>(alloc: Global, input: &mut R) -> Result<Vec<u8>, ToolError>
+    ensures { IfSome (R.remaining input.old) (λ b. IfOk result (λ v. v.items ≡ b)) }
+{
+    let mut bytes = Vec::new(alloc);
+    match input.read_to_end(&mut bytes) {
+        Ok(_count) => Ok(bytes),
+        Err(e) if e.kind() == ErrorKind::OutOfMemory => Err(ToolError::OutOfMemory),
+        Err(_) => Err(ToolError::Input),
+    }
+}
+
+/// Writes what the command says of the bytes that the input has. Whether nothing is wrong.
+pub fn say_answer<A: Answering, R: BufRead, W: Write, V: Write>(
+    alloc: Global,
+    input: &mut R,
+    output: &mut W,
+    errors: &mut V,
+) -> Result<bool, ToolError>
+    ensures { IfSome (R.remaining input.old) (λ b.
+        SaysBoth (A.is_said b) (W.contents output.old) (V.contents errors.old) result
+        (W.contents output.new) (V.contents errors.new)) }
+{
+    match read_all(alloc, input) {
+        Ok(bytes) => match A::answer(alloc, &bytes) {
+            Ok((said, told)) => say_both(said, &told, output, errors),
+            Err(fault) => Err(fault),
+        },
+        Err(fault) => Err(fault),
+    }
+}

@@ -1,0 +1,11 @@
+//! Laws of what the program answers, each the contract of a function that does nothing.
+
+ghost use Rattle.dagcar_lines.specs.Paths.{ProofsDecide};
+ghost use Rattle.dagcar_lines.specs.declared.at.Asked.TheVariants.{Data, Bytes};
+
+/// A file that `prove` wrote decides what its path leads to: what `at` says of it, it says of the whole
+/// file, that the path leads to nothing included.
+pub fn proofs_decide()
+    ensures data { ProofsDecide Data }
+    ensures bytes { ProofsDecide Bytes }
+{}

@@ -1,0 +1,99 @@
+-- The names on the way of a path.
+use Rattle.std.proofs.Common.{◌≡◌, ◌↔◌, inl, inr, ℕ, ◌+◌, ◌<◌, List, [], ◌∷◌, ◌++◌, length, get_or, take, refl, sym, ap, ◌∙◌, subst, append_assoc, add-one, take-suc}
+use Rattle.std.proofs.Math.Seq.{take-length}
+use Rattle.ipld_tree.specs.Cid.{CidParts}
+use Rattle.ipld_links.specs.Sets.{Among, members, AddsCid}
+use Rattle.ipld_links.specs.Reaching.{Stored, NoneTwice}
+use Rattle.ipld_links.specs.declared.cid_set.CidSet.{CidSet}
+use Rattle.ipld_links.proofs.Members.{among_push, push_among}
+use Rattle.dagcbor_resolve.specs.Resolving.{GoesOn, GoesOver, AreOnTheWay, AreOnceEach}
+
+-- ---- the way
+
+-- the path went over these names, and goes on from this one, where these segments are left
+abbrev pub WentTo : Stored → CidParts → List (List ℕ) → List CidParts → CidParts → List (List ℕ) → Type 0
+WentTo stored root path names name left = (more : List CidParts) → GoesOver stored name left more
+    → AreOnTheWay stored root path (names ++ name ∷ more)
+
+pub went_nowhere : (stored : Stored) (root : CidParts) (path : List (List ℕ)) → WentTo stored root path [] root path
+went_nowhere stored root path more over = (more, refl, over)
+
+pub went_on : (stored : Stored) (root name next : CidParts) (path left behind : List (List ℕ)) (names after : List CidParts) → WentTo stored root path names name left → after ≡ names ++ name ∷ [] → GoesOn stored name left next behind → WentTo stored root path after next behind
+went_on stored root name next path left behind names after went is g more over =
+    subst (AreOnTheWay stored root path) (sym (append_assoc names (name ∷ []) (next ∷ more)) ∙ ap (λ ns. ns ++ next ∷ more) (sym is)) (went (next ∷ more) (behind, g, over))
+
+pub went_to_end : (stored : Stored) (root name : CidParts) (path left : List (List ℕ)) (names after : List CidParts) → WentTo stored root path names name left → after ≡ names ++ name ∷ [] → GoesOver stored name left [] → AreOnTheWay stored root path after
+went_to_end stored root name path left names after went is over = subst (AreOnTheWay stored root path) (sym is) (went [] over)
+
+-- ---- each once
+
+-- of these names each was gathered once, and all were seen
+pub record Gathered (done once : List CidParts) (seen : CidSet) : Type 0 where
+  pub all : AreOnceEach done once
+  pub known : (q : CidParts) → Among q (members seen) ↔ Among q done
+
+twice : {X : Type 0} (xs : List X) (y : X) → Among y xs → NoneTwice (xs ++ y ∷ []) → ⊥
+twice [] y m once = m
+twice (x ∷ xs) y (inl e) once = once.0 (push_among x xs y (inr (sym e)))
+twice (x ∷ xs) y (inr m) once = twice xs y m once.1
+
+once_before : {X : Type 0} (xs : List X) (y : X) → NoneTwice (xs ++ y ∷ []) → NoneTwice xs
+once_before [] y once = tt
+once_before (x ∷ xs) y once = ((λ m. once.0 (push_among x xs y (inl m))), once_before xs y once.1)
+
+once_push : {X : Type 0} (xs : List X) (y : X) → NoneTwice xs → (Among y xs → ⊥) → NoneTwice (xs ++ y ∷ [])
+once_push [] y h none = (λ m. m, tt)
+once_push (x ∷ xs) y h none = (
+  λ m. elim (among_push x xs y m) [ inl n ↦ h.0 n | inr e ↦ none (inl (sym e)) ],
+  once_push xs y h.1 (λ m. none (inr m)),
+)
+
+pub none_gathered : (seen : CidSet) → members seen ≡ [] → Gathered [] [] seen
+none_gathered seen none = record {
+  all = record { lists = record { all = λ q. (λ m. m, λ m. m); once = tt }; order = λ once. refl };
+  known = λ q. (λ m. subst (Among q) none m, λ m. absurd m);
+}
+
+pub gathered_before : (done once : List CidParts) (seen : CidSet) (name : CidParts) → Among name (members seen) → Gathered done once seen → Gathered (done ++ name ∷ []) once seen
+gathered_before done once seen name m h =
+    let among = (h.known name).0 m in
+    record {
+      all = record {
+        lists = record {
+          all = λ q. (
+            λ k. push_among q done name (inl ((h.all.lists.all q).0 k)),
+            λ k. (h.all.lists.all q).1 (elim (among_push q done name k) [ inl a ↦ a | inr e ↦ subst (λ x. Among x done) (sym e) among ]),
+          );
+          once = h.all.lists.once;
+        };
+        order = λ k. absurd (twice done name among k);
+      };
+      known = λ q. (
+        λ k. push_among q done name (inl ((h.known q).0 k)),
+        λ k. (h.known q).1 (elim (among_push q done name k) [ inl a ↦ a | inr e ↦ subst (λ x. Among x done) (sym e) among ]),
+      );
+    }
+
+pub gathered_new : (done once after : List CidParts) (seen now : CidSet) (name : CidParts) → ¬ Among name (members seen) → AddsCid name seen now → after ≡ once ++ name ∷ [] → Gathered done once seen → Gathered (done ++ name ∷ []) after now
+gathered_new done once after seen now name fresh adds is h = subst (λ ns. Gathered (done ++ name ∷ []) ns now) (sym is) record {
+  all = record {
+    lists = record {
+      all = λ q. (
+        λ k. push_among q done name (elim (among_push q once name k) [ inl a ↦ inl ((h.all.lists.all q).0 a) | inr e ↦ inr e ]),
+        λ k. push_among q once name (elim (among_push q done name k) [ inl a ↦ inl ((h.all.lists.all q).1 a) | inr e ↦ inr e ]),
+      );
+      once = once_push once name h.all.lists.once (λ m. fresh ((h.known name).1 ((h.all.lists.all name).0 m)));
+    };
+    order = λ k. ap (λ ns. ns ++ name ∷ []) (h.all.order (once_before done name k));
+  };
+  known = λ q. (
+    λ k. push_among q done name (elim ((adds.1 q).0 k) [ inl a ↦ inl ((h.known q).0 a) | inr e ↦ inr e ]),
+    λ k. (adds.1 q).1 (elim (among_push q done name k) [ inl a ↦ inl ((h.known q).1 a) | inr e ↦ inr e ]),
+  );
+}
+
+pub next_taken : (names : List CidParts) (i : ℕ) (name : CidParts) → i < length names → name ≡ get_or names i name → take i names ++ name ∷ [] ≡ take (i + 1) names
+next_taken names i name within is = ap (λ y. take i names ++ y ∷ []) is ∙ sym (take-suc names i name within) ∙ ap (λ n. take n names) (sym (add-one i))
+
+pub all_gathered : (names once : List CidParts) (i : ℕ) (seen : CidSet) → i ≡ length names → Gathered (take i names) once seen → AreOnceEach names once
+all_gathered names once i seen all h = subst (λ ns. AreOnceEach ns once) (ap (λ n. take n names) all ∙ take-length names) h.all

@@ -1,0 +1,74 @@
+//! The blocks on the way of a path.
+
+ghost use Rattle.std.specs.Prelude.{IfOk};
+ghost use Rattle.dagcbor_paths.specs.Paths.{segments};
+ghost use Rattle.ipld_links.specs.Reaching.{stored_in};
+ghost use Rattle.dagcbor_resolve.specs.Resolving.{Resolves, AreOnTheWay, AreOnceEach};
+
+use crate::resolution::{Resolved, Step, resolve_step};
+use ipld_links::{CidSet, stored_bytes};
+use ipld_tree::Cid;
+use std::alloc::{AllocError, Global};
+use std::collections::BTreeMap;
+
+/// Where a path ended, and over which blocks it went.
+#[derive(Debug, Drop)]
+pub struct Way<'p> {
+    /// The names of the blocks, in the order of the path, the root first. Under the last one there may
+    /// be none.
+    pub names: Vec<Cid>,
+    pub resolved: Resolved<'p>,
+}
+
+/// Where the path ends, from the block of the root, over the blocks of the map, and the names on its
+/// way.
+pub fn resolve_way<'p>(
+    alloc: Global,
+    blocks: &BTreeMap<Cid, Vec<u8>>,
+    root: &Cid,
+    path: &'p str,
+) -> Result<Way<'p>, AllocError>
+    ensures resolved { IfOk result
+        (λ w. Resolves (stored_in blocks.now) root.now (segments path.now) w.resolved) }
+    ensures names { IfOk result
+        (λ w. AreOnTheWay (stored_in blocks.now) root.now (segments path.now) w.names.items) }
+{
+    let mut names = Vec::new(alloc);
+    let mut block = *root;
+    let mut left = path;
+    for _count in 0..u64::MAX {
+        names.push(block)?;
+        match resolve_step(&block, stored_bytes(blocks, &block), left) {
+            Step::GoesOn(next, more) => {
+                block = next;
+                left = more;
+            }
+            Step::Ends(end) => {
+                return Ok(Way {
+                    names,
+                    resolved: Resolved {
+                        block,
+                        path: left,
+                        end,
+                    },
+                });
+            }
+        }
+    }
+    Err(AllocError)
+}
+
+/// The names, each where it first stands.
+pub fn each_once(alloc: Global, names: &[Cid]) -> Result<Vec<Cid>, AllocError>
+    ensures { IfOk result (λ v. AreOnceEach names.now v.items) }
+{
+    let mut seen = CidSet::new(alloc);
+    let mut once = Vec::new(alloc);
+    for name in names {
+        if !seen.contains(name) {
+            seen.add(*name)?;
+            once.push(*name)?;
+        }
+    }
+    Ok(once)
+}

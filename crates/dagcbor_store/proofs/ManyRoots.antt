@@ -1,0 +1,89 @@
+-- Roots that are added to a store one by one.
+use Rattle.std.proofs.Common.{◌≡◌, ◌≢◌, ◌⊎◌, inl, inr, ℕ, zero, suc, ◌+◌, ◌<◌, ◌≤◌, List, [], ◌∷◌, ◌++◌, length, get_or, take, refl, sym, ap, ◌∙◌, subst, arith, add-one, take-suc}
+use Rattle.std.proofs.Math.Seq.{take-length}
+use Rattle.sqlite_trees.specs.Tree.{Trees}
+use Rattle.sqlite_trees.specs.View.{View, IsClean}
+use Rattle.sqlite_trees.specs.declared.store.Store.{Ghosts}
+use Rattle.ipld_tree.specs.Cid.{CidParts, cid_bytes}
+use Rattle.ipld_links.specs.Sets.{Among}
+use Rattle.ipld_links.proofs.Members.{push_among}
+use Rattle.block_trees.specs.RootRows.{root_tree, AreRoots, IsRootTooLong}
+use Rattle.block_trees.specs.Ends.{Quiet}
+use Rattle.dagcbor_store.specs.Roots.{AddsName, AddsInTurn, KeepsRoots, MayKeepRoots, IsRootAdded, RootRefused, AreRootsAdded, StandsBehind, IsAnyTooLong, RootsRefused}
+use Rattle.dagcbor_store.specs.declared.error.StoreRefusal.{StoreRefusal}
+use Rattle.dagcbor_store.specs.declared.error.StoreRefusal.TheVariants as refusal
+use Rattle.dagcbor_store.proofs.Adding.{KeepsLast, fails_behind}
+use Rattle.dagcbor_store.proofs.Unlisted.{item_among}
+
+-- ---- names
+
+in_turn_push : (old names mid : List CidParts) (name : CidParts) (new : List CidParts) → AddsInTurn old names mid → AddsName mid name new → AddsInTurn old (names ++ name ∷ []) new
+in_turn_push old [] mid name new h a = (new, subst (λ m. AddsName m name new) h a, refl)
+in_turn_push old (n ∷ names) mid name new h a = (h.0, h.1, in_turn_push h.0 names mid name new h.2 a)
+
+stands_at : (names : List CidParts) (i : ℕ) (name : CidParts) → i < length names → name ≡ get_or names i name → StandsBehind (take i names) name names
+stands_at [] i name within is = absurd (omega (arith, within))
+stands_at (n ∷ names) zero name within is = (names, ap (λ x. x ∷ names) (sym is))
+stands_at (n ∷ names) (suc i) name within is = let k = stands_at names i name (omega (arith, within)) is in (k.0, ap (λ ns. n ∷ ns) k.1)
+
+not_none : (names : List CidParts) (i : ℕ) → i < length names → names ≢ []
+not_none [] i within is = absurd (omega (arith, within))
+not_none (n ∷ names) i within is = cc is
+
+-- ---- adding
+
+pub roots_none : (v : View) → AreRootsAdded v v []
+roots_none v = record { roots = λ names are. (names, are, refl); same = λ names are all. refl; beside = λ t out. refl; committed = refl; reals = refl; is_open = refl; broken = refl }
+
+roots_more : (old mid new : View) (names : List CidParts) (name : CidParts) → AreRootsAdded old mid names → IsRootAdded mid new name → AreRootsAdded old new (names ++ name ∷ [])
+roots_more old mid new names name h a = record {
+  roots = λ before are. let k = h.roots before are in let w = a.roots k.0 k.1 in (w.0, w.1, in_turn_push before names k.0 name w.0 k.2 w.2);
+  same = λ before are all.
+      let was : mid.trees ≡ old.trees = h.same before are (λ c m. all c (push_among c names name (inl m))) in
+      a.same before (subst (λ (t : Trees). AreRoots (t root_tree) before) (sym was) are) (all name (push_among name names name (inr refl))) ∙ was;
+  beside = λ t out. a.beside t out ∙ h.beside t out;
+  committed = a.committed ∙ h.committed;
+  reals = a.reals ∙ h.reals;
+  is_open = a.is_open ∙ sym a.was_open ∙ h.is_open;
+  broken = a.broken ∙ h.broken;
+}
+
+pub roots_next : (old mid new : View) (names : List CidParts) (i : ℕ) (name : CidParts) → i < length names → name ≡ get_or names i name → AreRootsAdded old mid (take i names) → IsRootAdded mid new name → AreRootsAdded old new (take (i + 1) names)
+roots_next old mid new names i name within is h a =
+    let longer : take i names ++ name ∷ [] ≡ take (i + 1) names = ap (λ y. take i names ++ y ∷ []) is ∙ sym (take-suc names i name within) ∙ ap (λ n. take n names) (sym (add-one i)) in
+    subst (AreRootsAdded old new) longer (roots_more old mid new (take i names) name h a)
+
+pub all_taken : (names : List CidParts) (i : ℕ) → i ≤ length names → length names ≤ i → take i names ≡ names
+all_taken names i below end =
+    let same : i ≡ length names = omega (arith, below, end) in
+    ap (λ n. take n names) same ∙ take-length names
+
+pub last_rooted : (old new : View) (names : List CidParts) → AreRootsAdded old new names → KeepsLast old new
+last_rooted old new names h = record { was_open = λ o. sym h.is_open ∙ o; committed = λ o. h.committed }
+
+-- ---- refusals
+
+-- none was added, and nothing is changed; or the file is not of the earlier version
+abbrev pub IsBegun : {S : Type 0} → Ghosts S → List CidParts → S → S → Type 0
+IsBegun g names old new = ((names ≡ []) × (new ≡ old)) ⊎ KeepsRoots (g.view old)
+
+pub may_keep : {S : Type 0} (g : Ghosts S) (names : List CidParts) (old new : S) → IsBegun g names old new → MayKeepRoots (g.view old) names
+may_keep g names old new (inl k) = inl k.0
+may_keep g names old new (inr keeps) = inr keeps
+
+module _ {S : Type 0} (g : Ghosts S) (names : List CidParts) (i : ℕ) (name : CidParts) (old mid new : S) (within : i < length names) (is : name ≡ get_or names i name) (added : IsClean (g.view mid) → AreRootsAdded (g.view old) (g.view mid) (take i names))
+    (shape : (g.view mid).shape ≡ (g.view old).shape) (begun : IsBegun g (take i names) old mid) (before : Quiet g old mid) (quiet : Quiet g mid new) where
+  too_long : IsClean (g.view mid) → IsRootTooLong (g.view mid).reals (cid_bytes name) → IsAnyTooLong (g.view old).reals names
+  too_long clean long = (name, item_among names i name within is, subst (λ r. IsRootTooLong r (cid_bytes name)) (added clean).reals long)
+
+  earlier : IsBegun g (take i names) old mid → RootRefused g name mid new refusal.EarlierVersion → RootsRefused g names old new refusal.EarlierVersion
+  earlier (inl k) p = (sym (ap (λ f. f root_tree) shape) ∙ p.0, not_none names i within, p.1 ∙ k.1)
+  earlier (inr keeps) p = absurd (keeps (sym (ap (λ f. f root_tree) shape) ∙ p.0))
+
+  pub roots_refused : (told : StoreRefusal) → RootRefused g name mid new told → RootsRefused g names old new told
+  roots_refused refusal.EarlierVersion p = earlier begun p
+  roots_refused refusal.NoNumber p = λ clean.
+      let k = p clean in
+      (take i names, name, g.view mid, stands_at names i name within is, added (omega (arith, quiet.clean)), (k.0, k.2), k.1)
+  roots_refused told p = fails_behind g (IsRootTooLong (g.view mid).reals (cid_bytes name)) (IsAnyTooLong (g.view old).reals names) old mid new told before (λ clean. omega (arith, quiet.clean))
+      (λ clean. let a = added clean in (a.broken, last_rooted (g.view old) (g.view mid) (take i names) a, too_long clean)) p

@@ -1,0 +1,119 @@
+-- The program's words.
+use Rattle.std.specs.Prelude.{◌≡◌, ◌≢◌, ◌⊎◌, ◌≤◌, ℕ, List, [], ◌∷◌, ◌++◌, length, codes, ⊤, Bool, true, false, Option, None, Some}
+use Rattle.std.specs.Borrow.{Bor}
+use Rattle.std.specs.Str.Parse.{IsNumeral, digits_value}
+use Rattle.ipld_tree.specs.Cid.{CidParts}
+use Rattle.cid_text.specs.Texts.{IsTextOf, IsTextFault}
+use Rattle.cid_text.specs.declared.error.CidTextError.{CidTextError}
+use Rattle.dagcar_lines.specs.Commands.{name_part, path_part}
+use Rattle.dagstore_lines.specs.declared.command.Command.{Command}
+use Rattle.dagstore_lines.specs.declared.command.Command.TheVariants as commands
+use Rattle.dagstore_lines.specs.declared.command.Words.{Words}
+use Rattle.dagstore_lines.specs.declared.command.Words.TheVariants as words
+
+-- ---- codecs
+
+-- the text is 0x and this number in hexadecimal, of 1 to 16 digits
+abbrev pub IsHexadecimal : List ℕ → ℕ → Type 0
+IsHexadecimal text number = (digits : List ℕ) × (text ≡ codes "0x" ++ digits) × IsNumeral 16 digits
+    × (length digits ≤ 16) × (number ≡ digits_value 16 digits)
+
+-- the word names the codec (multicodec table)
+abbrev pub NamesCodec : List ℕ → ℕ → Type 0
+NamesCodec word codec = ((word ≡ codes "dag-cbor") × (codec ≡ 0x71))
+    ⊎ (((word ≡ codes "raw") × (codec ≡ 0x55)) ⊎ IsHexadecimal word codec)
+
+-- ---- CIDs
+
+-- the words are texts of these CIDs
+abbrev pub AreTextsOf : List (List ℕ) → List CidParts → Type 0
+AreTextsOf [] [] = ⊤
+AreTextsOf (text ∷ texts) (name ∷ names) = IsTextOf text name × AreTextsOf texts names
+AreTextsOf _ _ = ⊥
+
+-- the first of the words that is no text of a CID is none for this cause
+abbrev pub IsFirstFault : List (List ℕ) → CidTextError → Type 0
+IsFirstFault [] e = ⊥
+IsFirstFault (text ∷ texts) e = IsTextFault e text
+    ⊎ (((name : CidParts) × IsTextOf text name) × IsFirstFault texts e)
+
+-- CIDs stand behind the word, and nothing else
+abbrev pub TakesNames : List ℕ → Type 0
+TakesNames word = (word ≡ codes "export") ⊎ ((word ≡ codes "get") ⊎ ((word ≡ codes "has")
+    ⊎ ((word ≡ codes "tree") ⊎ ((word ≡ codes "remove") ⊎ ((word ≡ codes "gc")
+    ⊎ ((word ≡ codes "add-root") ⊎ (word ≡ codes "drop-root")))))))
+
+-- ---- commands
+
+-- the word that names the command
+abbrev pub command_name : Command → List ℕ
+command_name (commands.Export roots) = codes "export"
+command_name (commands.Get name) = codes "get"
+command_name (commands.Has name) = codes "has"
+command_name (commands.Remove names) = codes "remove"
+command_name (commands.Collect roots) = codes "gc"
+command_name (commands.Tree root) = codes "tree"
+command_name (commands.AddRoots names) = codes "add-root"
+command_name (commands.DropRoots names) = codes "drop-root"
+command_name commands.Roots = codes "roots"
+command_name commands.Check = codes "check"
+command_name commands.List = codes "list"
+command_name commands.Count = codes "count"
+
+-- the CIDs behind it: any, one, at least one, or none
+abbrev pub AreNamesOf : Command → List CidParts → Type 0
+AreNamesOf (commands.Export roots) names = names ≡ roots.items
+AreNamesOf (commands.Get name) names = names ≡ name ∷ []
+AreNamesOf (commands.Has name) names = names ≡ name ∷ []
+AreNamesOf (commands.Tree root) names = names ≡ root ∷ []
+AreNamesOf (commands.Remove taken) names = (names ≡ taken.items) × (names ≢ [])
+AreNamesOf (commands.Collect roots) names = names ≡ roots.items
+AreNamesOf (commands.AddRoots added) names = (names ≡ added.items) × (names ≢ [])
+AreNamesOf (commands.DropRoots dropped) names = (names ≡ dropped.items) × (names ≢ [])
+AreNamesOf _ names = names ≡ []
+
+-- the word and the CIDs behind it are the command
+abbrev pub IsCommand : List ℕ → List CidParts → Command → Type 0
+IsCommand word names command = (word ≡ command_name command) × AreNamesOf command names
+
+-- the source of a file of blocks: a path; or - or nothing, which is standard input
+abbrev pub IsSource : List (List ℕ) → Option (Bor (List ℕ)) → Type 0
+IsSource rest None = (rest ≡ []) ⊎ (rest ≡ codes "-" ∷ [])
+IsSource rest (Some source) = (rest ≡ source.now ∷ []) × (source.now ≢ codes "-")
+
+-- the codec of a block, which is DAG-CBOR where none is named
+abbrev pub IsCodec : List (List ℕ) → ℕ → Type 0
+IsCodec rest codec = ((rest ≡ []) × (codec ≡ 0x71))
+    ⊎ ((word : List ℕ) × (rest ≡ word ∷ []) × NamesCodec word codec)
+
+-- what stands behind `at`: a text, and --raw before it where bytes are asked for
+abbrev pub IsAskedBy : List (List ℕ) → Bool → List ℕ → Type 0
+IsAskedBy rest false text = rest ≡ text ∷ []
+IsAskedBy rest true text = rest ≡ codes "--raw" ∷ text ∷ []
+
+-- ---- words
+
+-- a path, a word and what stands behind it are this; and where a CID should stand and none does, they
+-- are the cause of the first that is none
+abbrev pub IsSaidOf : List ℕ → List ℕ → List (List ℕ) → Words → Type 0
+IsSaidOf path word rest (words.Import file source) = (path ≡ file.now) × (word ≡ codes "import") × IsSource rest source
+IsSaidOf path word rest (words.Put file codec) = (path ≡ file.now) × (word ≡ codes "put") × IsCodec rest codec
+IsSaidOf path word rest (words.Do file command) = (path ≡ file.now)
+    × ((names : List CidParts) × AreTextsOf rest names × IsCommand word names command)
+IsSaidOf path word rest (words.At file asking inner) = (path ≡ file.now) × (word ≡ codes "at")
+    × ((text : List ℕ) × IsAskedBy rest asking.is_raw text × IsTextOf (name_part text) asking.root × (inner.now ≡ path_part text))
+IsSaidOf path word rest (words.NoCid e) = (TakesNames word × IsFirstFault rest e)
+    ⊎ ((word ≡ codes "at") × ((is_raw : Bool) × (text : List ℕ) × IsAskedBy rest is_raw text × IsTextFault e (name_part text)))
+IsSaidOf path word rest _ = ⊥
+
+-- the words are this, and known
+abbrev pub AreKnown : List (List ℕ) → Words → Type 0
+AreKnown (word ∷ []) words.Help = word ≡ codes "--help"
+AreKnown (word ∷ []) words.Version = word ≡ codes "--version"
+AreKnown (path ∷ (word ∷ rest)) it = IsSaidOf path word rest it
+AreKnown _ _ = ⊥
+
+-- The words are this; or they are unknown, which are no other.
+abbrev pub AreWords : List (List ℕ) → Words → Type 0
+AreWords said words.Unknown = (it : Words) → ¬ AreKnown said it
+AreWords said it = AreKnown said it

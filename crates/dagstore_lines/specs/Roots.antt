@@ -1,0 +1,156 @@
+-- What is said of the roots that a store keeps, and how they change.
+use Rattle.std.specs.Prelude.{◌≡◌, ◌≢◌, ◌⊎◌, ◌+◌, ℕ, List, [], ◌∷◌, ◌++◌, length, Bool, true, false, Option, Result, Ok, Err, MatchResult, IsTrue, flat_map}
+use Rattle.std.specs.Io.KnownBytes.{Appends}
+use Rattle.sqlite_trees.specs.Tree.{Trees}
+use Rattle.sqlite_trees.specs.View.{View, IsClean}
+use Rattle.sqlite_trees.specs.declared.store.Store.{Ghosts}
+use Rattle.ipld_tree.specs.Cid.{CidParts}
+use Rattle.dagcbor_items.specs.Walks.{forms}
+use Rattle.ipld_links.specs.Sets.{Among}
+use Rattle.dagcbor_store.specs.RootRows.{root_tree, AreRoots, LeavesOut}
+use Rattle.dagcbor_store.specs.Ends.{Quiet, KeepsOthers, IsOfRoots}
+use Rattle.dagcbor_store.specs.Stored.{IsSame, IsUndone, Fails}
+use Rattle.dagcbor_store.specs.Roots.{HasRoots, AddsName, RootRefused}
+use Rattle.dagcbor_store.specs.Collecting.{KeepsReachable}
+use Rattle.dagcbor_store.specs.declared.error.StoreRefusal.{StoreRefusal}
+use Rattle.dagstore_lines.specs.Changes.{name_line, SaysCollected, SaysTaken}
+use Rattle.dagstore_lines.specs.Files.{Exports}
+use Rattle.dagstore_lines.specs.Lines.{no_root_line, no_roots_line}
+use Rattle.dagstore_lines.specs.Said.{Breaks}
+use Rattle.dagstore_lines.specs.Trees.{TellsAll}
+use Rattle.dagstore_lines.specs.declared.fault.Fault.{Fault}
+use Rattle.dagstore_lines.specs.declared.fault.Fault.TheVariants as fault
+
+-- ---- roots
+
+-- the lines of the roots, in their order
+abbrev pub AreRootLines : View → View → List ℕ → Type 0
+AreRootLines old new text = (names : List CidParts) × (IsClean new → HasRoots old names)
+    × (text ≡ flat_map name_line names)
+
+-- they went out, or broke off
+abbrev pub SaysRoots : View → Option (List ℕ) → Result Bool Fault → View → Option (List ℕ) → Type 0
+SaysRoots old before result new after = MatchResult result
+    (λ well. (well ≡ true) × ((text : List ℕ) × AreRootLines old new text × Appends before after text))
+    (Breaks (AreRootLines old new) before after)
+
+-- ---- the roots of export and gc
+
+-- the roots that are meant where these are given: these; or, where none is, those that the store keeps
+abbrev pub AreMeant : View → View → List CidParts → List CidParts → Type 0
+AreMeant old new given roots = ((given ≡ []) × (IsClean new → HasRoots old roots))
+    ⊎ ((given ≢ []) × (roots ≡ given))
+
+-- none is given, and those that the store keeps were not read, since it failed
+abbrev pub RootsUnread : {S : Type 0} → Ghosts S → List CidParts → S → S → StoreRefusal → Type 0
+RootsUnread g given old new told = (given ≡ []) × Fails g ⊥ old new told
+
+-- the file of the roots that are meant went out, or broke off; or they were not read, and nothing did
+abbrev pub ExportsMeant : {S : Type 0} → Ghosts S → List CidParts → S → Option (List ℕ) → Result Bool Fault → S → Option (List ℕ) → Type 0
+ExportsMeant g given old before ended new after = ((told : StoreRefusal) × (ended ≡ Err (fault.Store told))
+    × RootsUnread g given old new told × (after ≡ before))
+    ⊎ ((roots : List CidParts) × AreMeant (g.view old) (g.view new) given roots
+    × Exports g (forms roots) old before ended new after)
+
+-- none is given, the store keeps none, and nothing is changed: that is told
+abbrev pub TellsNoRoots : {S : Type 0} → Ghosts S → List CidParts → S → Option (List ℕ) → Option (List ℕ)
+    → Result Bool Fault → S → Option (List ℕ) → Option (List ℕ) → Type 0
+TellsNoRoots g given old before heard ended new after told = (given ≡ [])
+    × (IsClean (g.view new) → HasRoots (g.view old) [] × IsSame (g.view old) (g.view new))
+    × (after ≡ before) × TellsAll no_roots_line (λ well. well ≡ false) heard ended told
+
+-- What links lead to from the roots that are meant is kept, and it is said how much was taken out; or there is no such
+-- root, and nothing is taken out; or those that the store keeps were not read, and nothing is said.
+abbrev pub CollectsMeant : {S : Type 0} → Ghosts S → List CidParts → S → Option (List ℕ) → Option (List ℕ)
+    → Result Bool Fault → S → Option (List ℕ) → Option (List ℕ) → Type 0
+CollectsMeant g given old before heard ended new after told = ((why : StoreRefusal) × (ended ≡ Err (fault.Store why))
+    × RootsUnread g given old new why × (after ≡ before) × (told ≡ heard))
+    ⊎ (TellsNoRoots g given old before heard ended new after told
+    ⊎ ((roots : List CidParts) × (roots ≢ []) × AreMeant (g.view old) (g.view new) given roots
+    × SaysCollected g roots old before heard ended new after told))
+
+-- what links lead to from the roots that are meant, of which there are some, is what stands
+abbrev pub KeepsMeant : View → View → List CidParts → Trees → Type 0
+KeepsMeant old new given db = (roots : List CidParts) × (roots ≢ []) × AreMeant old new given roots
+    × KeepsReachable old roots db
+
+-- ---- changes
+
+-- the trees are so changed, and what was committed stands
+pub record Changes (Does : Trees → Trees → Type 0) (old new : View) : Type 0 where
+  pub trees : Does old.trees new.trees
+  pub committed : new.committed ≡ old.committed
+  pub is_open : new.is_open ≡ old.is_open
+  pub broken : new.is_broken ≡ old.is_broken
+
+-- the same, and all is committed
+pub record Commits (Does : Trees → Trees → Type 0) (old new : View) : Type 0 where
+  pub trees : Does old.trees new.trees
+  pub committed : new.committed ≡ new.trees
+  pub is_open : IsTrue new.is_open
+
+-- ---- add-root
+
+-- each of the names is made a root in its turn
+abbrev pub AddsNames : List CidParts → List CidParts → List CidParts → Type 0
+AddsNames old [] new = new ≡ old
+AddsNames old (name ∷ names) new = (mid : List CidParts) × AddsName old name mid × AddsNames mid names new
+
+-- the roots are those, and each other tree is the same
+pub record AddsRoots (names : List CidParts) (old new : Trees) : Type 0 where
+  pub roots : (before : List CidParts) → AreRoots (old root_tree) before
+      → (now : List CidParts) × AreRoots (new root_tree) now × AddsNames before names now
+  pub beside : KeepsOthers IsOfRoots old new
+
+-- one of the names was refused, behind those before it, which were added
+pub record StopsAdding {S : Type 0} (g : Ghosts S) (names : List CidParts) (old new : S) (told : StoreRefusal) : Type 0 where
+  pub done : List CidParts
+  pub name : CidParts
+  pub more : List CidParts
+  pub mid : S
+  pub is : names ≡ done ++ name ∷ more
+  pub added : IsClean (g.view mid) → Changes (AddsRoots done) (g.view old) (g.view mid)
+  pub before : Quiet g old mid
+  pub refused : RootRefused g name mid new told
+  pub quiet : Quiet g mid new
+
+-- one of the names was refused, and what was not committed is undone; or the commit failed
+abbrev pub AddingRefused : {S : Type 0} → Ghosts S → List CidParts → S → S → StoreRefusal → Type 0
+AddingRefused {S = S} g names old new told = ((IsClean (g.view new) → IsUndone (g.view old) (g.view new))
+    × ((failed : S) × StopsAdding g names old failed told × Quiet g failed new))
+    ⊎ Fails g ⊥ old new told
+
+-- each of the names is a root, which is committed; or the store refused
+abbrev pub AddsToRoots : {S : Type 0} → Ghosts S → List CidParts → S → Result Bool Fault → S → Type 0
+AddsToRoots g names old (Ok well) new = (well ≡ true)
+    × (IsClean (g.view new) → Commits (AddsRoots names) (g.view old) (g.view new))
+AddsToRoots g names old (Err (fault.Store told)) new = AddingRefused g names old new told
+AddsToRoots g names old (Err (fault.Tool e)) new = ⊥
+
+-- ---- drop-root
+
+-- each of the names is taken out of the roots in its turn, and so many were roots
+abbrev pub DropsNames : List CidParts → List CidParts → List CidParts → ℕ → Type 0
+DropsNames old [] new count = (new ≡ old) × (count ≡ 0)
+DropsNames old (name ∷ names) new count = (mid : List CidParts) × LeavesOut (λ c. c ≡ name) old mid
+    × ((Among name old × ((fewer : ℕ) × (count ≡ fewer + 1) × DropsNames mid names new fewer))
+    ⊎ ((¬ Among name old) × DropsNames mid names new count))
+
+-- the roots are those, and each other tree is the same
+pub record DropsRoots (names : List CidParts) (count : ℕ) (old new : Trees) : Type 0 where
+  pub roots : (before : List CidParts) → AreRoots (old root_tree) before
+      → (now : List CidParts) × AreRoots (new root_tree) now × DropsNames before names now count
+  pub beside : KeepsOthers IsOfRoots old new
+
+-- The names are taken out of the roots, and it is said how many were roots; or the store failed, and nothing went out.
+abbrev pub SaysDropped : {S : Type 0} → Ghosts S → List CidParts → S → Option (List ℕ) → Option (List ℕ)
+    → Result Bool Fault → S → Option (List ℕ) → Option (List ℕ) → Type 0
+SaysDropped g names old before heard (Err (fault.Store why)) new after told = Fails g ⊥ old new why
+    × (after ≡ before) × (told ≡ heard)
+SaysDropped g names old before heard ended new after told = (count : ℕ)
+    × (IsClean (g.view new) → Commits (DropsRoots names count) (g.view old) (g.view new))
+    × SaysTaken no_root_line count (length names) before heard ended after told
+
+-- some of the names may have been roots, and none of them is
+abbrev pub DropsSome : List CidParts → Trees → Trees → Type 0
+DropsSome names old new = (count : ℕ) × DropsRoots names count old new

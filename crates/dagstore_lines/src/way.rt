@@ -1,0 +1,69 @@
+//! The blocks on the way of a path, taken out of a store.
+
+ghost use Rattle.std.specs.Prelude.{IfOk, OnOk, IfErr};
+ghost use Rattle.sqlite_trees.specs.View.{IsClean};
+ghost use Rattle.dagcbor_paths.specs.Paths.{segments};
+ghost use Rattle.ipld_links.specs.Reaching.{stored_in};
+ghost use Rattle.dagcbor_store.specs.Ends.{Quiet};
+ghost use Rattle.dagcbor_store.specs.Stored.{StaysSame};
+ghost use Rattle.dagstore_lines.specs.Blocks.{GetFails};
+ghost use Rattle.dagstore_lines.specs.Ways.{HoldsAlso, HoldsWay, WayFails};
+
+use crate::fault::Fault;
+use dagcbor_cli::ToolError;
+use dagcbor_resolve::{Step, resolve_step};
+use dagcbor_store::{BlockStore, Store};
+use ipld_links::stored_bytes;
+use ipld_tree::Cid;
+use std::alloc::Global;
+use std::collections::BTreeMap;
+
+/// Holds the block under the name too, if one is stored.
+fn hold<S: Store>(
+    store: &mut BlockStore<S>,
+    name: &Cid,
+    held: &mut BTreeMap<Cid, Vec<u8>>,
+) -> Result<(), Fault>
+    ensures held { OnOk result (IsClean (S.Store.view store.new)
+        → HoldsAlso (S.Store.view store.old) name.now (stored_in held.old) (stored_in held.new)) }
+    ensures same { OnOk result (StaysSame S.Store store.old store.new) }
+    ensures fault { IfErr result (GetFails S.Store name.now store.old store.new) }
+    ensures quiet { Quiet S.Store store.old store.new }
+{
+    let Some(block) = store.get_block(name)? else {
+        return Ok(());
+    };
+    match held.insert(*name, block) {
+        Ok(_none) => Ok(()),
+        Err(_) => Err(Fault::Tool(ToolError::OutOfMemory)),
+    }
+}
+
+/// The blocks that are stored under the names on the path's way from the root. They are in memory.
+pub fn gather_way<S: Store>(
+    alloc: Global,
+    store: &mut BlockStore<S>,
+    root: &Cid,
+    path: &str,
+) -> Result<BTreeMap<Cid, Vec<u8>>, Fault>
+    ensures held { IfOk result (λ held. IsClean (S.Store.view store.new)
+        → HoldsWay (S.Store.view store.old) root.now (segments path.now) (stored_in held)) }
+    ensures same { OnOk result (StaysSame S.Store store.old store.new) }
+    ensures fault { IfErr result (WayFails S.Store root.now (segments path.now) store.old store.new) }
+    ensures quiet { Quiet S.Store store.old store.new }
+{
+    let mut held = BTreeMap::new(alloc);
+    let mut block = *root;
+    let mut left = path;
+    for _count in 0..u64::MAX {
+        hold(store, &block, &mut held)?;
+        match resolve_step(&block, stored_bytes(&held, &block), left) {
+            Step::GoesOn(next, more) => {
+                block = next;
+                left = more;
+            }
+            Step::Ends(_end) => return Ok(held),
+        }
+    }
+    Err(Fault::Tool(ToolError::OutOfMemory))
+}

@@ -1,0 +1,33 @@
+-- A file that proves what a path leads to.
+use Rattle.std.specs.Prelude.{◌≡◌, ◌⊎◌, ℕ, List, [], ◌∷◌, Bool, true, false, ⊤}
+use Rattle.ipld_tree.specs.Cid.{CidParts, cid_bytes}
+use Rattle.ipld_links.specs.Reaching.{Stored}
+use Rattle.dagcbor_car.specs.Car.{IsCar}
+use Rattle.dagcbor_car.specs.Reached.{sections_at}
+use Rattle.dagcbor_resolve.specs.Resolving.{Resolves, AreOnTheWay, AreOnceEach}
+use Rattle.dagcbor_resolve.specs.declared.resolution.End.{End}
+use Rattle.dagcbor_resolve.specs.declared.resolution.End.TheVariants as ends
+use Rattle.dagcbor_resolve.specs.declared.resolution.Resolved.{Resolved}
+use Rattle.path_lines.specs.Ends.{end_line}
+
+-- the blocks on the way decide what the path leads to: an item, or nothing at a segment
+abbrev pub IsDecided : End → Type 0
+IsDecided (ends.Item kind place end) = ⊤
+IsDecided (ends.NoSuchPath left) = ⊤
+IsDecided _ = ⊥
+
+-- The file (version 1) of the root, and of the blocks on the path's way that are stored, each once. A
+-- name by the identity, under which none is stored, holds its block itself, and has no section.
+pub record IsProofFile (stored : Stored) (root : CidParts) (path : List (List ℕ)) (out : List ℕ) : Type 0 where
+  pub way : List CidParts
+  pub once : List CidParts
+  pub passed : AreOnTheWay stored root path way
+  pub each : AreOnceEach way once
+  pub file : IsCar out (cid_bytes root ∷ []) (sections_at stored once)
+
+-- what `prove` gives of what is stored: that file, where it decides what the path leads to; else
+-- nothing, and a line that tells where the path ended
+abbrev pub IsProofOf : Stored → CidParts → List (List ℕ) → Bool → List ℕ → List ℕ → Type 0
+IsProofOf stored root path well out told = (r : Resolved) × Resolves stored root path r
+    × ((IsDecided r.end × IsProofFile stored root path out × (well ≡ true) × (told ≡ []))
+    ⊎ ((¬ IsDecided r.end) × (well ≡ false) × (out ≡ []) × (told ≡ end_line r.block r.end)))

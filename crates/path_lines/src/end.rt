@@ -1,0 +1,54 @@
+//! What is told of a path that ended at no item.
+
+ghost use Rattle.std.specs.Prelude.{◌≡◌, [], false, IfOk};
+ghost use Rattle.block_lines.specs.Lines.{SaysBoth};
+ghost use Rattle.path_lines.specs.Ends.{end_line};
+
+use block_lines::{line_of, missing_line, say_both, told_line};
+use cid_text::cid_text;
+use dagcbor_cli::ToolError;
+use dagcbor_resolve::{End, Resolved};
+use ipld_tree::Cid;
+use std::alloc::{AllocError, Global};
+use std::io::Write;
+
+/// The line that tells why a path ended at no item, in the block of this name.
+pub fn end_told(alloc: Global, block: &Cid, end: &End<'_>) -> Result<Vec<u8>, AllocError>
+    ensures { IfOk result (λ v. v.items ≡ end_line block.now end.now) }
+{
+    match end {
+        End::Item(_, _, _) => Ok(Vec::new(alloc)),
+        End::NoSuchPath(left) => {
+            line_of(
+                alloc,
+                &cid_text(block),
+                b" has nothing at ",
+                left.as_bytes(),
+            )
+        }
+        End::NotHeld => missing_line(alloc, block),
+        End::NoBlock(verdict) => {
+            let (line, _well) = told_line(alloc, block, verdict)?;
+            Ok(line)
+        }
+        End::Endless => line_of(alloc, &cid_text(block), b" leads on", b""),
+    }
+}
+
+/// Tells why a path ended at no item.
+pub fn say_end<W: Write, V: Write>(
+    alloc: Global,
+    resolved: &Resolved<'_>,
+    output: &mut W,
+    errors: &mut V,
+) -> Result<bool, ToolError>
+    ensures { SaysBoth (λ well out told. (well ≡ false) × (out ≡ [])
+        × (told ≡ end_line resolved.now.block resolved.now.end))
+        (W.contents output.old) (V.contents errors.old) result
+        (W.contents output.new) (V.contents errors.new) }
+{
+    match end_told(alloc, &resolved.block, &resolved.end) {
+        Ok(line) => say_both((Vec::new(alloc), false), &line, output, errors),
+        Err(_) => Err(ToolError::OutOfMemory),
+    }
+}

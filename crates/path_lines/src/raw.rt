@@ -1,0 +1,38 @@
+//! The bytes of the item that a path leads to.
+
+ghost use Rattle.dagcbor_paths.specs.Paths.{segments};
+ghost use Rattle.ipld_links.specs.Reaching.{stored_in};
+ghost use Rattle.block_lines.specs.Lines.{SaysBoth};
+ghost use Rattle.path_lines.specs.Raw.{IsRawOf};
+
+use crate::end::say_end;
+use dagcbor_cli::{ToolError, write_all};
+use dagcbor_resolve::{item_bytes, resolve};
+use ipld_tree::Cid;
+use std::alloc::Global;
+use std::collections::BTreeMap;
+use std::io::Write;
+
+/// Writes the bytes of the item to which the path leads from the root, which are a block, or tells why
+/// it leads to none. Whether it does.
+pub fn say_raw<W: Write, V: Write>(
+    alloc: Global,
+    root: &Cid,
+    path: &str,
+    blocks: &BTreeMap<Cid, Vec<u8>>,
+    output: &mut W,
+    errors: &mut V,
+) -> Result<bool, ToolError>
+    ensures { SaysBoth (IsRawOf (stored_in blocks.now) root.now (segments path.now))
+        (W.contents output.old) (V.contents errors.old) result
+        (W.contents output.new) (V.contents errors.new) }
+{
+    let resolved = resolve(blocks, root, path);
+    match item_bytes(blocks, &resolved) {
+        Some(item) => {
+            write_all(output, item)?;
+            Ok(true)
+        }
+        None => say_end(alloc, &resolved, output, errors),
+    }
+}

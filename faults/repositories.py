@@ -1,0 +1,265 @@
+"""The program `dagcar` over repositories of signed records: random ones, and damaged ones of each kind.
+
+No row is copied from a run: trees are those of `signed_trees`."""
+
+import base64
+import random
+import subprocess
+
+from car_bytes import counted, missing_line, section, text_of
+from signed_trees import (MOST_KEY, Node, Pool, Row, commit, fields, file_of, key_text, layer, lines_of, named, record, shared_front, spelled,
+                          tree_of)
+
+RANDOM_TREES = 2_000
+
+# The name of a record, and the root of the tree of these keys, each of that record: from the tests of the reference implementation.
+VALUE = "bafyreie5cvv4h45feadgeuwhbcutmh6t2ceseocckahdoe6uat64zmz454"
+ROOTS = {
+    (): "bafyreie5737gdxlw5i64vzichcalba3z2v5n6icifvx5xytvske7mr3hpm",
+    ("3jqfcqzm3fo2j",): "bafyreibj4lsc3aqnrvphp5xmrnfoorvru4wynt6lwidqbm2623a6tatzdu",
+    ("3jqfcqzm3fx2j",): "bafyreih7wfei65pxzhauoibu3ls7jgmkju4bspy4t2ha2qdjnzqvoy33ai",
+    ("3jqfcqzm3fp2j", "3jqfcqzm3fr2j", "3jqfcqzm3fs2j", "3jqfcqzm3ft2j", "3jqfcqzm4fc2j"):
+        "bafyreicmahysq4n6wfuxo522m6dpiy7z7qzym3dzs756t5n7nfdgccwq7m",
+}
+
+
+# ---- damages: each answers a file, and what must be told
+
+
+def some(rng, pool, wanted=lambda tree: True):
+    """A tree, and its records, that is as wanted."""
+    while True:
+        records = pool.take(rng)
+        tree = tree_of(records)
+        if wanted(tree):
+            return tree, records
+
+
+def over(tree, **changed):
+    return file_of(commit(tree.name(), **changed), tree.all())
+
+
+def pick(rng, pool, wanted):
+    """A tree, and a node of it that is as wanted."""
+    tree, _ = some(rng, pool, lambda it: any(map(wanted, it.all())))
+    return tree, rng.choice([node for node in tree.all() if wanted(node)])
+
+
+def has_rows(node):
+    return bool(node.rows)
+
+
+def node_missing(rng, pool):
+    tree, _ = some(rng, pool)
+    lost = rng.choice(tree.all())
+    kept = [node for node in tree.all() if node.block() != lost.block()]
+    return file_of(commit(tree.name()), kept), missing_line(lost.name())
+
+
+def short_prefix(rng, pool):
+    tree, _ = some(rng, pool, lambda it: any(row.shared for node in it.all() for row in node.rows))
+    row = rng.choice([row for node in tree.all() for row in node.rows if row.shared])
+    row.shared -= 1
+    return over(tree), "canonical"
+
+
+def long_prefix(rng, pool):
+    tree, node = pick(rng, pool, has_rows)
+    node.rows[0].shared = 1
+    return over(tree), "front"
+
+
+def lower_key(rng, pool):
+    """A key of a lower layer in a node, where it would stand below."""
+    tree, node = pick(rng, pool, lambda it: it.rows and layer(it.rows[-1].key + b"\x00") < layer(it.rows[-1].key) < 40)
+    row = node.rows[-1]
+    row.after = None
+    node.rows.append(Row(len(row.key), row.key + b"\x00", row.value, None))
+    return over(tree), "canonical"
+
+
+def empty_subtree(rng, pool):
+    tree, _ = some(rng, pool, lambda it: any(not row.after for node in it.all() for row in node.rows))
+    row = rng.choice([row for node in tree.all() for row in node.rows if not row.after])
+    row.after = Node(None, [])
+    return over(tree), "canonical"
+
+
+def empty_root(rng, pool):
+    """A node of a higher layer than that of any key."""
+    tree, _ = some(rng, pool)
+    return over(Node(tree, [])), "canonical"
+
+
+def deep(rng, pool):
+    tree, _ = some(rng, pool)
+    for _ in range(130):
+        tree = Node(tree, [])
+    return over(tree), "deep"
+
+
+def out_of_order(rng, pool):
+    tree, node = pick(rng, pool, lambda it: len(it.rows) >= 2)
+    one, other = node.rows[0], node.rows[1]
+    one.key, other.key = other.key, one.key
+    one.shared, other.shared = 0, 0
+    for before, row in zip(node.rows[1:], node.rows[2:]):
+        row.shared = shared_front(before.key, row.key)
+    return over(tree), "order"
+
+
+def listed_twice(rng, pool):
+    tree, node = pick(rng, pool, has_rows)
+    row = node.rows[-1]
+    node.rows.append(Row(len(row.key), row.key, row.value, None))
+    return over(tree), "order"
+
+
+def node_twice(rng, pool):
+    """A node that two links lead to."""
+    tree, node = pick(rng, pool, lambda it: it.rows and it.below() and it.below()[0].rows)
+    node.left = node.rows[-1].after = node.below()[0]
+    return over(tree), "order"
+
+
+def empty_key(rng, pool):
+    tree, _ = some(rng, pool, has_rows)
+    node = tree
+    while node.left:
+        node = node.left
+    node.rows.insert(0, Row(0, b"", record(b"1"), None))
+    return over(tree), "length"
+
+
+def long_key(rng, pool):
+    tree, node = pick(rng, pool, has_rows)
+    row = node.rows[-1]
+    row.key = row.key + b"x" * (MOST_KEY + 1 - len(row.key))
+    return over(tree), "length"
+
+
+def no_node(rng, pool):
+    block = rng.choice((b"\x80", b"\xa0", b"\x05", fields((b"e", b"\x80")), fields((b"e", b"\x80"), (b"l", b"\xf6"), (b"m", b"\x01")),
+                        fields((b"e", b"\x81\xa0"), (b"l", b"\xf6"))))
+    tree = Node(None, [])
+    tree.block = lambda: block
+    return over(tree), "node"
+
+
+def no_commit(rng, pool):
+    tree, _ = some(rng, pool)
+    changed = rng.choice(({"did": None}, {"sig": spelled(3, b"a")}, {"data": b"\xf6"}, {"prev": None}, {"version": spelled(3, b"3")},
+                          {"rev": b"\x01"}, {"version": b"\x20"}))
+    return over(tree, **changed), "commit"
+
+
+def other_version(rng, pool):
+    tree, _ = some(rng, pool)
+    return over(tree, version=rng.choice((b"\x02", b"\x04", b"\x00"))), "version"
+
+
+def other_fields(rng, pool):
+    tree, _ = some(rng, pool)
+    return over(tree, more=b"\x01"), "fields"
+
+
+def roots(rng, pool):
+    tree, _ = some(rng, pool)
+    block = commit(tree.name())
+    if rng.random() < 0.5:
+        return file_of(block, tree.all(), named(block), tree.name()), "roots"
+    return counted(b"\xa2\x65roots\x80\x67version\x01") + section(block), "roots"
+
+
+def commit_missing(rng, pool):
+    tree, _ = some(rng, pool)
+    name = record(b"away")
+    return file_of(commit(tree.name()), tree.all(), name), missing_line(name)
+
+
+DAMAGES = (node_missing, short_prefix, long_prefix, lower_key, empty_subtree, empty_root, deep, out_of_order, listed_twice, node_twice,
+           empty_key, long_key, no_node, no_commit, other_version, other_fields, roots, commit_missing)
+
+# What a line says of a damage.
+WORDS = {
+    "canonical": "the nodes are not those of the tree of their entries",
+    "front": "an entry shares more bytes with the key before it than that has",
+    "length": "a key has no byte, or more than 1024",
+    "order": "the keys do not rise",
+    "deep": "nodes stand below each other more deeply than there are layers",
+    "node": "is no node",
+    "commit": "the block is no commit",
+    "version": "and not of version 3",
+    "fields": "the commit has other fields than one of version 3",
+    "roots": "roots",
+}
+
+
+def ran(path, words, data):
+    how = {"input": data, "capture_output": True, "timeout": 120, "check": False}
+    it = subprocess.run([path, *words], **how)
+    return it.returncode, it.stdout.decode("ascii"), it.stderr.decode("utf-8", "replace")
+
+
+def reference():
+    """Whether this reading gives the roots of the reference implementation."""
+    value = base64.b32decode(VALUE[1:].upper() + "=" * (-len(VALUE[1:]) % 8))
+    for keys, root in ROOTS.items():
+        tree = tree_of({f"com.example.record/{key}".encode(): value for key in keys})
+        if text_of(tree.name()) != root:
+            yield f"{keys}: another root than the reference's"
+
+
+def whole(path, rng, pool, count):
+    for number in range(count):
+        records = pool.take(rng)
+        found = ran(path, ["records"], over(tree_of(records)))
+        if found != (0, lines_of(records), ""):
+            yield f"tree {number}, of {len(records)} records: {found[0]}, {found[2]!r}"
+
+
+def damaged(path, rng, pool, count):
+    for number in range(count):
+        damage = DAMAGES[number % len(DAMAGES)]
+        file, wanted = damage(rng, pool)
+        status, out, told = ran(path, ["records"], file)
+        if status != 1 or out or WORDS.get(wanted, wanted) not in told or told.count("\n") != 1:
+            yield f"{damage.__name__}, {number}: {status}, {len(out)} bytes, {told!r}"
+
+
+def one_record(path, rng, pool, count):
+    """Each key that there is, and some that are not, over the whole file and over the nodes on the way alone."""
+    for number in range(count):
+        data = rng.randbytes(8)
+        records = {**pool.take(rng), b"app.bsky.feed.post/self": record(data)}
+        tree = tree_of(records)
+        block = commit(tree.name())
+        # A word of a program is text.
+        words = [key for key in records if key == key_text(key).encode()]
+        way, node, key = [], tree, rng.choice([*words, b"app.bsky.feed.post/none"])
+        while node is not None:
+            way.append(node)
+            before = [row for row in node.rows if row.key <= key]
+            node = None if before and before[-1].key == key else before[-1].after if before else node.left
+        for nodes in (tree.all(), way):
+            file = file_of(block, nodes) + section(spelled(2, data))
+            status, out, told = ran(path, ["record", key], file)
+            if key not in records:
+                right = (status, out) == (1, "") and "no record" in told
+            elif records[key] == record(data):
+                text = base64.b64encode(data).decode().rstrip("=")
+                right = (status, out, told) == (0, f'{{"/":{{"bytes":"{text}"}}}}\n', "")
+            else:
+                right = (status, out, told) == (1, "", missing_line(records[key]) + "\n")
+            if not right:
+                yield f"record {number}: {key!r}: {status}, {out!r}, {told!r}"
+
+
+def run(path, report, count=RANDOM_TREES):
+    """Everything, of the program that is built there."""
+    rng = random.Random(20261127)
+    pool = Pool(rng)
+    report("repositories, roots of the reference", len(ROOTS), list(reference()))
+    report("repositories, random trees", count, list(whole(path, rng, pool, count)))
+    report("repositories, damaged", count // 4, list(damaged(path, rng, pool, count // 4)))
+    report("repositories, one record", 2 * (count // 8), list(one_record(path, rng, pool, count // 8)))

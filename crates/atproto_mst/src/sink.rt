@@ -15,8 +15,8 @@ pub trait NodeSink {
     /// Whether these may be the nodes that it was handed so far, by this.
     ghost holds: { Self → World → List Section → Type 0 };
 
-    /// Whether it may refuse a node, by this, but for want of memory.
-    ghost refuses: { World → Section → Type 0 };
+    /// Whether it may refuse a node for this, by that, but for want of memory.
+    ghost refuses: { World → Section → MstError → Type 0 };
 
     /// Hands it the name and the block of the next node.
     fn take(&mut self, name: Cid, block: Vec<u8>) -> Result<(), MstError>

@@ -25,7 +25,7 @@ pub record Gathers (W : List Entry → Type 0) (old new : Vec MstEntry Global) :
 pub record AddsRow (r : NodeRow) (previous : List ℕ) (old : Vec MstEntry Global) (key : List ℕ)
     (new : Vec MstEntry Global) : Type 0 where
   pub shares : r.shared ≤ length previous
-  pub key : key ≡ key_of previous r
+  pub is : key ≡ key_of previous r
   pub is_key : IsKey key
   pub behind : slice_cmp nat_cmp (last_key [] (entries old.items)) key ≡ Less
   pub all : entries new.items ≡ entries old.items ++ (key, r.value) ∷ []

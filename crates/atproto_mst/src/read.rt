@@ -1,6 +1,6 @@
 //! The entries of a tree that is stored.
 
-ghost use Rattle.std.specs.Prelude.{◌≡◌, ◌≢◌, ◌≤◌, ◌⊎◌, [], ◌∷◌, ◌++◌, ℕ, List, Option, Some, MatchResult, IfOk, OnOk, IfErr, length};
+ghost use Rattle.std.specs.Prelude.{◌≡◌, ◌≢◌, ◌≤◌, ◌⊎◌, [], ◌∷◌, ◌++◌, ℕ, List, Option, Some, MatchResult, IfOk, OnOk, IfErr, length, map};
 ghost use Rattle.ipld_links.specs.Reaching.{stored_in, Stored};
 ghost use Rattle.atproto_mst.specs.Keys.{Entry};
 ghost use Rattle.atproto_mst.specs.Trees.{root_of, nodes_of};

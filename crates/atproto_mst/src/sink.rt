@@ -9,6 +9,8 @@ use ipld_tree::Cid;
 
 /// What is done with the nodes of a tree, each behind those below it.
 pub trait NodeSink {
+    ghost use Rattle.atproto_mst.specs.declared.error.MstError.{MstError};
+
     /// What the nodes are judged by.
     ghost World: { Type 0 };
 

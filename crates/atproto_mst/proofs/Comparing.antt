@@ -10,15 +10,15 @@ use Rattle.ipld_links.specs.Sets.{Among}
 use Rattle.ipld_links.specs.Reaching.{Stored}
 use Rattle.atproto_mst.specs.Entries.{AreStored}
 use Rattle.atproto_mst.specs.declared.error.MstError.{MstError}
-use Rattle.atproto_mst.specs.declared.error.MstError.TheVariants.{OutOfMemory}
+use Rattle.atproto_mst.specs.declared.error.MstError.TheVariants.{OutOfMemory, OtherTree}
 
 pub stored_more : (stored : Stored) (before : List Section) (s : Section) → AreStored stored before → stored s.0 ≡ Some s.1 → AreStored stored (before ++ (s ∷ []))
 stored_more stored [] s h k = (k, tt)
 stored_more stored (x ∷ xs) s h k = (h.0, stored_more stored xs s h.1 k)
 
-pub other_stored : (stored all : Stored) (s : Section) (found : Option (List ℕ)) (e : MstError) → stored ≡ all → found ≡ all s.0 → found ≢ Some s.1
-    → (e ≡ OutOfMemory) ⊎ ((x : Section) × Among x (s ∷ []) × (stored x.0 ≢ Some x.1))
-other_stored stored all s found e w f other = inr (s, inl refl, λ h. other (f ∙ sym (ap (λ g. g s.0) w) ∙ h))
+pub other_stored : (stored all : Stored) (s : Section) (found : Option (List ℕ)) → stored ≡ all → found ≡ all s.0 → found ≢ Some s.1
+    → (OtherTree ≡ OutOfMemory) ⊎ ((x : Section) × Among x (s ∷ []) × ((OtherTree ≡ OtherTree) × (stored x.0 ≢ Some x.1)))
+other_stored stored all s found w f other = inr (s, inl refl, (refl, λ h. other (f ∙ sym (ap (λ g. g s.0) w) ∙ h)))
 
 -- what is stored under the names of some nodes is stored under one of them
 pub stored_one : (stored : Stored) (nodes : List Section) (s : Section) → AreStored stored nodes → Among s nodes → stored s.0 ≡ Some s.1

@@ -9,7 +9,6 @@ use Rattle.dagcbor_car.specs.Car.{Section}
 use Rattle.ipld_links.specs.Sets.{Among}
 use Rattle.ipld_links.specs.Reaching.{Stored}
 use Rattle.atproto_mst.specs.Entries.{AreStored}
-use Rattle.atproto_mst.specs.declared.error.MstError.{MstError}
 use Rattle.atproto_mst.specs.declared.error.MstError.TheVariants.{OutOfMemory, OtherTree}
 
 pub stored_more : (stored : Stored) (before : List Section) (s : Section) → AreStored stored before → stored s.0 ≡ Some s.1 → AreStored stored (before ++ (s ∷ []))

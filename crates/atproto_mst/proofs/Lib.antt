@@ -6,3 +6,4 @@ pub mod Building
 pub mod Orders
 pub mod Whole
 pub mod Comparing
+pub mod Parts

@@ -7,3 +7,5 @@ pub mod Orders
 pub mod Whole
 pub mod Comparing
 pub mod Parts
+pub mod Layers
+pub mod Canonical

@@ -1,5 +1,5 @@
 -- The nodes over leaves, by their parts.
-use Rattle.std.proofs.Common.{◌≡◌, ℕ, zero, suc, ◌+◌, ◌^◌, ◌<◌, ◌≤◌, Bool, true, false, List, [], ◌∷◌, ◌++◌, map, length, take, drop, codes, Option, None, Some, refl, sym, ap, ◌∙◌, arith, rules, subst, inr, IsUtf8, IsTrue}
+use Rattle.std.proofs.Common.{◌≡◌, ℕ, zero, suc, ◌+◌, ◌^◌, ◌<◌, ◌≤◌, Bool, true, false, List, [], ◌∷◌, ◌++◌, map, length, take, drop, codes, Option, None, Some, refl, ap, arith, rules, subst, inr}
 use Rattle.std.specs.Prelude.{if◌then◌else◌, nat_lt, ◌==◌}
 use Rattle.std.specs.List.{AllByRecursion}
 use Rattle.std.proofs.lemmas.Bool.{eqb-true}
@@ -7,14 +7,13 @@ use Rattle.std.proofs.lemmas.List.{length-drop}
 use Rattle.dagcbor_items.proofs.Judging.{plain_text}
 use Rattle.sha2.proofs.Facts256.{length-sha256}
 use Rattle.ipld_tree.specs.Cid.{CidParts, AreCidParts, cid_bytes}
-use Rattle.ipld_tree.specs.Key.{comes_before}
-use Rattle.ipld_tree.specs.Tree.{Tree, IsTree, AreItems, items_of}
-use Rattle.ipld_tree.specs.Spelling.{spelling, IsSpellable, AreSpellableItems, IsSpelling, item_count}
+use Rattle.ipld_tree.specs.Tree.{IsTree, AreItems, items_of}
+use Rattle.ipld_tree.specs.Spelling.{spelling, IsSpellable, AreSpellableItems, item_count}
 use Rattle.ipld_tree.proofs.Cids.{cid_length}
 use Rattle.ipld_links.specs.Names.{block_name}
 use Rattle.atproto_mst.specs.Keys.{IsKey}
 use Rattle.atproto_mst.specs.Trees.{Leaf, lower_run, shared, link_tree, entry_tree, entry_trees, map_of, node_over, subtree, node}
-use Rattle.atproto_mst.specs.Nodes.{NodeRow, NodeParts, tree_of_row, tree_of_node, IsCidIfAny, IsNode, key_of}
+use Rattle.atproto_mst.specs.Nodes.{NodeRow, NodeParts, tree_of_row, tree_of_node, IsCidIfAny, IsNode}
 
 -- the row of a leaf behind this key
 abbrev pub row_at : List ℕ → Leaf → Option CidParts → NodeRow

@@ -1,4 +1,4 @@
-use Rattle.std.proofs.Common.{◌≡◌, [], refl, sym, ap, ◌∙◌, inr}
+use Rattle.std.proofs.Common.{[], refl, sym, ap, ◌∙◌, inr}
 use Rattle.std.proofs.lemmas.Result.{err_from_is_err_and}
 use Rattle.ipld_links.specs.Reaching.{stored_in}
 use Rattle.atproto_mst.specs.Trees.{top_layer}

@@ -8,7 +8,7 @@ use Rattle.atproto_mst.specs.Keys.{Entry, HaveKeys, Rise, AreEntries}
 use Rattle.atproto_mst.specs.Trees.{root_of, nodes_of}
 use Rattle.atproto_mst.specs.declared.entries.MstEntry.{MstEntry}
 use Rattle.atproto_mst.specs.declared.error.MstError.{MstError}
-use Rattle.atproto_mst.specs.declared.error.MstError.TheVariants.{OutOfMemory, KeyLength, KeyOrder, OtherNodes, NoCommit}
+use Rattle.atproto_mst.specs.declared.error.MstError.TheVariants.{OutOfMemory, KeyLength, KeyOrder}
 
 abbrev pub entry_of : MstEntry → Entry
 entry_of e = (e.key.items, e.value)
@@ -22,8 +22,7 @@ abbrev pub EntriesRefused : MstError → List Entry → Type 0
 EntriesRefused OutOfMemory es = ⊤
 EntriesRefused KeyLength es = ¬ HaveKeys es
 EntriesRefused KeyOrder es = ¬ Rise es
-EntriesRefused OtherNodes es = ⊥
-EntriesRefused NoCommit es = ⊥
+EntriesRefused _ es = ⊥
 
 -- under the name of each node its block is stored
 abbrev pub AreStored : Stored → List Section → Type 0

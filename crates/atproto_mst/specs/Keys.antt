@@ -1,11 +1,12 @@
 -- Keys of a repository's tree, and their layers (AT Protocol specification, repository).
-use Rattle.std.specs.Prelude.{◌≡◌, ℕ, ◌+◌, ◌/◌, ◌≤◌, List, [], ◌∷◌, length, if◌then◌else◌, ◌==◌, ⊤}
+use Rattle.std.specs.Prelude.{◌≡◌, ℕ, ◌+◌, ◌/◌, ◌≤◌, ◌<◌, ◌^◌, List, [], ◌∷◌, length, if◌then◌else◌, ◌==◌, ⊤}
+use Rattle.std.specs.List.{AllByRecursion}
 use Rattle.std.specs.Int.{w8, leading_zeros}
 use Rattle.std.specs.declared.cmp.Ordering.TheVariants.{Less}
 use Rattle.std.specs.Ordering.{nat_cmp}
 use Rattle.std.specs.Cmp.Lexicographic.{slice_cmp}
 use Rattle.sha2.specs.Sha256.{sha256}
-use Rattle.ipld_tree.specs.Cid.{CidParts}
+use Rattle.ipld_tree.specs.Cid.{CidParts, AreCidParts}
 
 -- a key, and the CID of its record
 abbrev pub Entry : Type 0
@@ -20,10 +21,18 @@ zero_bits (b ∷ bs) = if b == 0 then 8 + zero_bits bs else leading_zeros w8 b
 unfoldable pub key_layer : List ℕ → ℕ
 key_layer key = zero_bits (sha256 key) / 2
 
--- each key has 1 to 1024 bytes
+-- a key has 1 to 1024 bytes
+abbrev pub IsKey : List ℕ → Type 0
+IsKey key = (1 ≤ length key) × (length key ≤ 1024)
+
+-- each has a key
 abbrev pub HaveKeys : List Entry → Type 0
 HaveKeys [] = ⊤
-HaveKeys (e ∷ es) = (1 ≤ length e.0) × (length e.0 ≤ 1024) × HaveKeys es
+HaveKeys (e ∷ es) = IsKey e.0 × HaveKeys es
+
+-- each has a CID
+abbrev pub HaveCids : List Entry → Type 0
+HaveCids es = AllByRecursion (λ e. AreCidParts e.1) es
 
 -- the key comes before the first of the entries
 abbrev pub ComesBefore : List ℕ → List Entry → Type 0
@@ -35,6 +44,9 @@ abbrev pub Rise : List Entry → Type 0
 Rise [] = ⊤
 Rise (e ∷ es) = ComesBefore e.0 es × Rise es
 
--- the entries of a repository: keys of 1 to 1024 bytes, which rise
-abbrev pub AreEntries : List Entry → Type 0
-AreEntries es = HaveKeys es × Rise es
+-- the entries of a repository: keys of 1 to 1024 bytes, which rise, and CIDs; fewer than 2 ^ 64 of them
+pub record AreEntries (es : List Entry) : Type 0 where
+  pub keys : HaveKeys es
+  pub rise : Rise es
+  pub values : HaveCids es
+  pub count : length es < 2 ^ 64

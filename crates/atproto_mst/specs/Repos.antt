@@ -1,19 +1,48 @@
 -- Repositories that are stored (AT Protocol specification, repository).
-use Rattle.std.specs.Prelude.{◌≡◌, ℕ, List, Some}
+use Rattle.std.specs.Prelude.{◌≡◌, ◌≢◌, ℕ, List, None, Some, ⊤}
 use Rattle.ipld_tree.specs.Cid.{CidParts}
 use Rattle.dagcbor_write.specs.Answers.{AreSpellingOf}
 use Rattle.ipld_links.specs.Names.{block_name}
 use Rattle.ipld_links.specs.Reaching.{Stored}
 use Rattle.atproto_mst.specs.Commits.{commit_tree}
+use Rattle.atproto_mst.specs.UnreadCommits.{UnreadCommit}
 use Rattle.atproto_mst.specs.Entries.{entries, IsMst}
+use Rattle.atproto_mst.specs.Stops.{MstRefused}
 use Rattle.atproto_mst.specs.declared.commit.Commit.{Commit}
 use Rattle.atproto_mst.specs.declared.entries.MstEntry.{MstEntry}
+use Rattle.atproto_mst.specs.declared.error.MstError.{MstError}
+use Rattle.atproto_mst.specs.declared.repo_error.RepoError.{RepoError}
+use Rattle.atproto_mst.specs.declared.repo_error.RepoError.TheVariants as error
+
+-- the block is stored under the name, which is its own
+abbrev pub IsBlockAt : Stored → CidParts → List ℕ → Type 0
+IsBlockAt stored name b = (stored name ≡ Some b) × (name ≡ block_name b)
 
 -- under the name its block is stored, which is the commit's spelling; commits are of version 3
 abbrev pub IsStoredCommit : Stored → CidParts → Commit → Type 0
-IsStoredCommit stored name c = (c.version ≡ 3) × ((b : List ℕ) × (stored name ≡ Some b)
-    × (name ≡ block_name b) × AreSpellingOf (commit_tree c) b)
+IsStoredCommit stored name c = (c.version ≡ 3)
+    × ((b : List ℕ) × IsBlockAt stored name b × AreSpellingOf (commit_tree c) b)
 
 -- the commit is stored under the name, and the tree that it names is that of the records
 abbrev pub IsRepo : Stored → CidParts → Commit → List MstEntry → Type 0
 IsRepo stored name c records = IsStoredCommit stored name c × IsMst stored c.data (entries records)
+
+-- ---- why it is not read
+
+-- why no commit is read
+abbrev pub CommitRefused : Stored → CidParts → RepoError → Type 0
+CommitRefused stored name error.OutOfMemory = ⊤
+CommitRefused stored name error.Missing = stored name ≡ None
+CommitRefused stored name error.OtherBytes = (b : List ℕ) × (stored name ≡ Some b) × (name ≢ block_name b)
+CommitRefused stored name (error.NoCommit e) = (b : List ℕ) × IsBlockAt stored name b
+    × UnreadCommit b (error.NoCommit e)
+CommitRefused stored name error.OtherFields = (b : List ℕ) × IsBlockAt stored name b
+    × UnreadCommit b error.OtherFields
+CommitRefused stored name (error.OtherVersion n) = (b : List ℕ) × (c : Commit) × IsBlockAt stored name b
+    × AreSpellingOf (commit_tree c) b × (c.version ≡ n) × (n ≢ 3)
+CommitRefused stored name _ = ⊥
+
+-- why no repository is read
+abbrev pub RepoRefused : Stored → CidParts → RepoError → Type 0
+RepoRefused stored name (error.Tree e) = (c : Commit) × IsStoredCommit stored name c × MstRefused stored c.data e
+RepoRefused stored name e = CommitRefused stored name e

@@ -10,9 +10,9 @@ abbrev pub Takes : {S W : Type 0} → (S → W → List Section → Type 0) → 
 Takes {S} {W} holds old taken new = (world : W) (before : List Section) → holds old world before
     → holds new world (before ++ taken)
 
--- memory was wanted, or one of the nodes was refused
-abbrev pub RefusesOne : {S W : Type 0} → (S → W → List Section → Type 0) → (W → Section → Type 0)
+-- memory was wanted, or one of the nodes was refused, for this
+abbrev pub RefusesOne : {S W : Type 0} → (S → W → List Section → Type 0) → (W → Section → MstError → Type 0)
     → S → List Section → MstError → Type 0
 RefusesOne {S} {W} holds refuses old nodes e = (world : W) (before : List Section)
     → holds old world before
-    → (e ≡ OutOfMemory) ⊎ ((s : Section) × Among s nodes × refuses world s)
+    → (e ≡ OutOfMemory) ⊎ ((s : Section) × Among s nodes × refuses world s e)

@@ -3,9 +3,9 @@
 ghost use Rattle.std.specs.Prelude.{◌≡◌, [], ◌∷◌, map, Some, IfOk, OnOk, IfErr, MatchResult};
 ghost use Rattle.ipld_tree.specs.Spelling.{spelling};
 ghost use Rattle.ipld_links.specs.Names.{block_name};
-ghost use Rattle.atproto_mst.specs.Trees.{lower_run, entry_tree, entry_trees, map_of, node_section};
+ghost use Rattle.atproto_mst.specs.Trees.{lower_run, entry_tree, entry_trees, node_section};
 ghost use Rattle.atproto_mst.specs.Trees.{subtree, node, subtree_nodes, nodes, nodes_between};
-ghost use Rattle.atproto_mst.specs.Rows.{tree_of_row};
+ghost use Rattle.atproto_mst.specs.Nodes.{tree_of_row, tree_of_node, row_told, node_told};
 ghost use Rattle.atproto_mst.specs.Placed.{told, all_told};
 ghost use Rattle.atproto_mst.specs.Sinks.{Takes, RefusesOne};
 
@@ -72,7 +72,7 @@ fn name_rows<'a, S: NodeSink>(
     sink: &mut S,
 ) -> Result<Vec<Row<'a>>, MstError>
     requires { lower_run layer (all_told leaves.now) ≡ [] }
-    ensures rows { IfOk result (λ rows. map tree_of_row rows.items
+    ensures rows { IfOk result (λ rows. map tree_of_row (map row_told rows.items)
         ≡ entry_trees (subtree layer) layer [] (all_told leaves.now)) }
     ensures taken { OnOk result (Takes S.holds sink.old
         (nodes_between (subtree_nodes layer) layer (all_told leaves.now)) sink.new) }
@@ -98,7 +98,7 @@ fn name_rows<'a, S: NodeSink>(
 
 /// The entry of a leaf behind this key, before the node.
 fn row_of<'a>(previous: &[u8], leaf: &Placed<'a>, after: Option<Cid>) -> Row<'a>
-    ensures { tree_of_row result ≡ entry_tree previous.now (told leaf.now) after }
+    ensures { tree_of_row (row_told result) ≡ entry_tree previous.now (told leaf.now) after }
 {
     let shared = shared_front(previous, leaf.key);
     Row {
@@ -112,11 +112,11 @@ fn row_of<'a>(previous: &[u8], leaf: &Placed<'a>, after: Option<Cid>) -> Row<'a>
 /// Hands over the node, and answers its name.
 fn hand_over<S: NodeSink>(alloc: Global, node: &Node<'_>, sink: &mut S) -> Result<Cid, MstError>
     ensures name { IfOk result (λ name. name ≡ block_name (spelling
-        (map_of (map tree_of_row node.now.rows.items) node.now.left))) }
+        (tree_of_node (node_told node.now)))) }
     ensures taken { OnOk result (Takes S.holds sink.old (node_section
-        (map_of (map tree_of_row node.now.rows.items) node.now.left) ∷ []) sink.new) }
+        (tree_of_node (node_told node.now)) ∷ []) sink.new) }
     ensures refused { IfErr result (RefusesOne S.holds S.refuses sink.old (node_section
-        (map_of (map tree_of_row node.now.rows.items) node.now.left) ∷ [])) }
+        (tree_of_node (node_told node.now)) ∷ [])) }
 {
     let block = spell_node(alloc, node)?;
     let name = name_of_block(&block);

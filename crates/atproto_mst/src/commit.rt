@@ -1,14 +1,17 @@
 //! A repository's commit.
 
-ghost use Rattle.std.specs.Prelude.{◌≡◌, [], ◌∷◌, Some, codes, pos, true, string_bytes, IfOk};
+ghost use Rattle.std.specs.Prelude.{◌≡◌, [], ◌∷◌, Some, codes, pos, true, string_bytes, IfOk, MatchResult};
 ghost use Rattle.ipld_tree.specs.Cid.{cid_bytes};
 ghost use Rattle.ipld_tree.specs.Tree.{bytes, integer, link, text, entries_tree};
 ghost use Rattle.dagcbor_write.specs.Trees.{field};
 ghost use Rattle.dagcbor_write.specs.Answers.{AreSpellingOf};
 ghost use Rattle.atproto_mst.specs.CommitShapes.{CommitView, commit_shape};
 ghost use Rattle.atproto_mst.specs.Commits.{commit_tree, unsigned_tree};
+ghost use Rattle.atproto_mst.specs.UnreadCommits.{UnparsedCommit, UnreadCommit};
+ghost use Rattle.dagcbor_heads.specs.Reading.{default_steps};
+ghost use Rattle.dagcbor_read.specs.Whole.{IsWhole};
 
-use crate::error::MstError;
+use crate::repo_error::RepoError;
 use dagcbor_heads::{DecodeError, EncodeError, Read, ReadResult, Write, WriteResult};
 use dagcbor_read::{Deserialize, Deserializer, Required, Shown, from_slice, read_struct};
 use dagcbor_write::{Field, Serialize, Serializer, to_vec, write_struct};
@@ -119,15 +122,13 @@ impl Serialize for Unsigned<'_> {
 }
 
 /// The block of the commit.
-fn spell_commit(alloc: Global, commit: &Commit) -> Result<Vec<u8>, MstError>
+fn spell_commit(alloc: Global, commit: &Commit) -> Result<Vec<u8>, AllocError>
     ensures { IfOk result (λ v. AreSpellingOf (commit_tree commit.now) v.items) }
 {
+    // Each commit has a spelling, which is refused for want of memory alone.
     match to_vec(alloc, commit) {
         Ok(block) => Ok(block),
-        Err(error) => match error {
-            EncodeError::OutOfMemory => Err(MstError::OutOfMemory),
-            _ => Err(MstError::NoCommit),
-        },
+        Err(_) => Err(AllocError),
     }
 }
 
@@ -141,26 +142,31 @@ pub fn spell_unsigned(alloc: Global, commit: &Commit) -> Result<Vec<u8>, AllocEr
     }
 }
 
-/// The commit that the block is.
-pub(crate) fn read_commit(alloc: Global, block: &[u8]) -> Result<Commit, MstError>
-    ensures { IfOk result (λ commit. AreSpellingOf (commit_tree commit) block.now) }
+/// The commit that the block is, of whatever version.
+pub(crate) fn read_commit(alloc: Global, block: &[u8]) -> Result<Commit, RepoError>
+    ensures { MatchResult result (λ commit. AreSpellingOf (commit_tree commit) block.now)
+        (UnreadCommit block.now) }
 {
     let commit = parse_commit(alloc, block)?;
     let spelled = spell_commit(alloc, &commit)?;
     if spelled.as_slice() == block {
         Ok(commit)
     } else {
-        Err(MstError::NoCommit)
+        Err(RepoError::OtherFields)
     }
 }
 
 /// The commit in the block, where other fields are skipped.
-fn parse_commit(alloc: Global, block: &[u8]) -> Result<Commit, MstError> {
+fn parse_commit(alloc: Global, block: &[u8]) -> Result<Commit, RepoError>
+    ensures { MatchResult result
+        (λ commit. IsWhole commit_shape default_steps block.now (⟦<Commit as Shown>⟧.meaning commit))
+        (UnparsedCommit block.now) }
+{
     match from_slice(alloc, block) {
         Ok(commit) => Ok(commit),
         Err(error) => match error {
-            DecodeError::OutOfMemory => Err(MstError::OutOfMemory),
-            _ => Err(MstError::NoCommit),
+            DecodeError::OutOfMemory => Err(RepoError::OutOfMemory),
+            _ => Err(RepoError::NoCommit(error)),
         },
     }
 }

@@ -1,13 +1,16 @@
 //! A repository that is stored.
 
-ghost use Rattle.std.specs.Prelude.{◌≡◌, IfOk};
+ghost use Rattle.std.specs.Prelude.{◌≡◌, List, IfOk, IfErr};
 ghost use Rattle.ipld_links.specs.Reaching.{stored_in};
-ghost use Rattle.atproto_mst.specs.Repos.{IsRepo, IsStoredCommit};
+ghost use Rattle.atproto_mst.specs.Repos.{IsRepo, RepoRefused, IsStoredCommit, CommitRefused};
+ghost use Rattle.atproto_mst.specs.declared.commit.Commit.{Commit};
+ghost use Rattle.atproto_mst.specs.declared.entries.MstEntry.{MstEntry};
+ghost use Rattle.atproto_mst.specs.declared.repo_error.RepoError.TheVariants.{OutOfMemory};
 
 use crate::commit::{Commit, read_commit};
 use crate::entries::MstEntry;
-use crate::error::MstError;
 use crate::read::read_mst;
+use crate::repo_error::RepoError;
 use ipld_links::{name_of_block, stored_bytes};
 use ipld_tree::Cid;
 use std::alloc::Global;
@@ -29,32 +32,40 @@ pub fn read_repo(
     alloc: Global,
     blocks: &BTreeMap<Cid, Vec<u8>>,
     root: &Cid,
-) -> Result<Repo, MstError>
-    ensures { IfOk result
+) -> Result<Repo, RepoError>
+    ensures read { IfOk result
         (λ r. IsRepo (stored_in blocks.now) root.now r.commit r.records.items) }
+    ensures refused { IfErr result (RepoRefused (stored_in blocks.now) root.now) }
+    ensures whole { (c : Commit) (records : List MstEntry) → IsRepo (stored_in blocks.now) root.now c records
+        → IfErr result (λ e. e ≡ OutOfMemory) }
 {
     let commit = stored_commit(alloc, blocks, root)?;
-    let records = read_mst(alloc, blocks, &commit.data)?;
-    Ok(Repo { commit, records })
+    match read_mst(alloc, blocks, &commit.data) {
+        Ok(records) => Ok(Repo { commit, records }),
+        Err(error) => Err(RepoError::Tree(error)),
+    }
 }
 
 /// The commit that is stored under its name.
-fn stored_commit(
+pub fn stored_commit(
     alloc: Global,
     blocks: &BTreeMap<Cid, Vec<u8>>,
     name: &Cid,
-) -> Result<Commit, MstError>
-    ensures { IfOk result (IsStoredCommit (stored_in blocks.now) name.now) }
+) -> Result<Commit, RepoError>
+    ensures read { IfOk result (IsStoredCommit (stored_in blocks.now) name.now) }
+    ensures refused { IfErr result (CommitRefused (stored_in blocks.now) name.now) }
+    ensures whole { (c : Commit) → IsStoredCommit (stored_in blocks.now) name.now c
+        → IfErr result (λ e. e ≡ OutOfMemory) }
 {
     let Some(block) = stored_bytes(blocks, name) else {
-        return Err(MstError::NoCommit);
+        return Err(RepoError::Missing);
     };
     if name_of_block(block) != *name {
-        return Err(MstError::NoCommit);
+        return Err(RepoError::OtherBytes);
     }
     let commit = read_commit(alloc, block)?;
     if commit.version != VERSION {
-        return Err(MstError::NoCommit);
+        return Err(RepoError::OtherVersion(commit.version));
     }
     Ok(commit)
 }

@@ -1,18 +1,15 @@
 //! A node as it stands in a block.
 
-ghost use Rattle.std.specs.Prelude.{◌≡◌, [], ◌∷◌, Some, codes, pos, true, IfOk, MatchResult, ◌⊎◌, map};
+ghost use Rattle.std.specs.Prelude.{◌≡◌, [], ◌∷◌, Some, codes, pos, true, IfOk, MatchOption};
 ghost use Rattle.ipld_tree.specs.Cid.{cid_bytes};
 ghost use Rattle.ipld_tree.specs.Tree.{bytes, integer, link, entries_tree};
 ghost use Rattle.ipld_tree.specs.Spelling.{IsSpelling};
 ghost use Rattle.dagcbor_write.specs.Trees.{field};
-ghost use Rattle.atproto_mst.specs.Trees.{map_of};
-ghost use Rattle.atproto_mst.specs.Rows.{tree_of_row};
+ghost use Rattle.atproto_mst.specs.Nodes.{NodeParts, IsNode, tree_of_node, node_told};
 ghost use Rattle.atproto_mst.specs.RowShapes.{RowView, row_shape, NodeView, node_shape};
 ghost use Rattle.dagcbor_heads.specs.Reading.{default_steps};
 ghost use Rattle.dagcbor_read.specs.Whole.{IsWhole, HoldsNoValue};
-ghost use Rattle.atproto_mst.specs.declared.error.MstError.TheVariants.{OutOfMemory};
 
-use crate::error::MstError;
 use dagcbor_heads::{DecodeError, Read, ReadResult, Write, WriteResult};
 use dagcbor_read::{Deserialize, Deserializer, Required, Shown, from_slice, read_struct};
 use dagcbor_write::{Field, Serialize, Serializer, to_vec, write_struct};
@@ -121,17 +118,32 @@ impl<'de> Deserialize<'de> for Node<'de> {
     }
 }
 
-/// The node of a block. Keys of other names are skipped.
-pub(crate) fn read_node<'a>(alloc: Global, block: &'a [u8]) -> Result<Node<'a>, MstError>
-    ensures { MatchResult result
-        (λ node. IsWhole node_shape default_steps block.now (⟦<Node<'a> as Shown>⟧.meaning node))
-        (λ e. (e ≡ OutOfMemory) ⊎ HoldsNoValue node_shape default_steps block.now) }
+/// The node that the block is spelled of, if it is one: a node with other fields is none.
+pub(crate) fn read_node(alloc: Global, block: &[u8]) -> Result<Option<Node<'_>>, AllocError>
+    ensures { IfOk result (λ found. MatchOption found ((p : NodeParts) → ¬ IsNode block.now p)
+        (λ node. IsNode block.now (node_told node))) }
+{
+    let Some(node) = parse_node(alloc, block)? else {
+        return Ok(None);
+    };
+    let spelled = spell_node(alloc, &node)?;
+    if spelled.as_slice() == block {
+        Ok(Some(node))
+    } else {
+        Ok(None)
+    }
+}
+
+/// The node in the block, where other fields are skipped.
+fn parse_node<'a>(alloc: Global, block: &'a [u8]) -> Result<Option<Node<'a>>, AllocError>
+    ensures { IfOk result (λ found. MatchOption found (HoldsNoValue node_shape default_steps block.now)
+        (λ node. IsWhole node_shape default_steps block.now (⟦<Node<'a> as Shown>⟧.meaning node))) }
 {
     match from_slice(alloc, block) {
-        Ok(node) => Ok(node),
+        Ok(node) => Ok(Some(node)),
         Err(error) => match error {
-            DecodeError::OutOfMemory => Err(MstError::OutOfMemory),
-            _ => Err(MstError::OtherNodes),
+            DecodeError::OutOfMemory => Err(AllocError),
+            _ => Ok(None),
         },
     }
 }
@@ -139,7 +151,7 @@ pub(crate) fn read_node<'a>(alloc: Global, block: &'a [u8]) -> Result<Node<'a>, 
 /// The block of a node.
 pub(crate) fn spell_node(alloc: Global, node: &Node<'_>) -> Result<Vec<u8>, AllocError>
     ensures { IfOk result (λ v. IsSpelling v.items
-        (map_of (map tree_of_row node.now.rows.items) node.now.left)) }
+        (tree_of_node (node_told node.now))) }
 {
     // Each node has a spelling, which is refused for want of memory alone.
     match to_vec(alloc, node) {

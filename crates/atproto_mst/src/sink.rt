@@ -9,14 +9,16 @@ use ipld_tree::Cid;
 
 /// What is done with the nodes of a tree, each behind those below it.
 pub trait NodeSink {
+    ghost use Rattle.atproto_mst.specs.declared.error.MstError.{MstError};
+
     /// What the nodes are judged by.
     ghost World: { Type 0 };
 
     /// Whether these may be the nodes that it was handed so far, by this.
     ghost holds: { Self → World → List Section → Type 0 };
 
-    /// Whether it may refuse a node, by this, but for want of memory.
-    ghost refuses: { World → Section → Type 0 };
+    /// Whether it may refuse a node for this, by that, but for want of memory.
+    ghost refuses: { World → Section → MstError → Type 0 };
 
     /// Hands it the name and the block of the next node.
     fn take(&mut self, name: Cid, block: Vec<u8>) -> Result<(), MstError>

@@ -44,7 +44,7 @@ impl NodeSink for Forgotten {
 
     ghost holds = { λ s world nodes. ⊤ };
 
-    ghost refuses = { λ world node. ⊥ };
+    ghost refuses = { λ world node e. ⊥ };
 
     fn take(&mut self, _name: Cid, _block: Vec<u8>) -> Result<(), MstError> {
         Ok(())

@@ -1,0 +1,31 @@
+-- What holds of all trees.
+use Rattle.std.specs.Prelude.{◌≡◌, ◌≢◌, ◌⊎◌, ℕ, List, Option}
+use Rattle.sha2.specs.Sha256.{sha256}
+use Rattle.ipld_tree.specs.Cid.{CidParts}
+use Rattle.ipld_links.specs.Reaching.{Stored}
+use Rattle.atproto_mst.specs.Keys.{Entry}
+use Rattle.atproto_mst.specs.Trees.{root_of}
+use Rattle.atproto_mst.specs.Entries.{IsMst}
+use Rattle.atproto_mst.specs.Walks.{most_layers}
+use Rattle.atproto_mst.specs.Finding.{lookup, Finds}
+
+-- two different byte strings have one SHA-256
+abbrev pub Collides : Type 0
+Collides = (x y : List ℕ) × (x ≢ y) × (sha256 x ≡ sha256 y)
+
+-- equal entries have an equal root
+abbrev pub OneRoot : Type 0
+OneRoot = (es others : List Entry) → es ≡ others → root_of es ≡ root_of others
+
+-- A root binds its entries: where two stores have its tree, they have the same entries, or two
+-- different byte strings of one SHA-256 are at hand.
+abbrev pub RootBinds : Type 0
+RootBinds = (stored others : Stored) (root : CidParts) (es fs : List Entry)
+    → IsMst stored root es → IsMst others root fs → (es ≡ fs) ⊎ Collides
+
+-- What is found of a key, and that nothing is, by nodes that may be of any store, is what the tree of
+-- that root has, wherever it is stored whole; or two different byte strings of one SHA-256 are at hand.
+abbrev pub RecordsBind : Type 0
+RecordsBind = (stored others : Stored) (root : CidParts) (key : List ℕ) (es : List Entry)
+    (found : Option CidParts) → Finds most_layers stored key root found → IsMst others root es
+    → (found ≡ lookup key es) ⊎ Collides

@@ -1,0 +1,60 @@
+-- Nodes as they are stored (AT Protocol specification, repository).
+use Rattle.std.specs.Prelude.{◌≡◌, ℕ, List, ◌++◌, take, map, Option, None, Some, ⊤}
+use Rattle.std.specs.List.{AllByRecursion}
+use Rattle.ipld_tree.specs.Cid.{CidParts, AreCidParts}
+use Rattle.ipld_tree.specs.Tree.{Tree}
+use Rattle.ipld_tree.specs.Spelling.{IsSpelling}
+use Rattle.ipld_links.specs.Names.{block_name}
+use Rattle.ipld_links.specs.Reaching.{Stored}
+use Rattle.atproto_mst.specs.Trees.{row_tree, map_of}
+use Rattle.atproto_mst.specs.declared.rows.Row.{Row}
+use Rattle.atproto_mst.specs.declared.rows.Node.{Node}
+
+-- An entry of a node: how many bytes of its key are those of the key before it in the node, the other
+-- bytes, its record, and the tree between this key and the next.
+pub record NodeRow : Type 0 where
+  pub shared : ℕ
+  pub rest : List ℕ
+  pub value : CidParts
+  pub after : Option CidParts
+
+-- its entries, and the tree before the first key
+pub record NodeParts : Type 0 where
+  pub left : Option CidParts
+  pub rows : List NodeRow
+
+abbrev pub tree_of_row : NodeRow → Tree
+tree_of_row r = row_tree r.shared r.rest r.value r.after
+
+abbrev pub tree_of_node : NodeParts → Tree
+tree_of_node p = map_of (map tree_of_row p.rows) p.left
+
+-- where there is a link, it is a CID
+abbrev pub IsCidIfAny : Option CidParts → Type 0
+IsCidIfAny None = ⊤
+IsCidIfAny (Some name) = AreCidParts name
+
+-- the bytes are the block of the node
+pub record IsNode (b : List ℕ) (p : NodeParts) : Type 0 where
+  pub spelled : IsSpelling b (tree_of_node p)
+  pub left : IsCidIfAny p.left
+  pub rows : AllByRecursion (λ r. AreCidParts r.value × IsCidIfAny r.after) p.rows
+
+-- the node's block is stored under its name
+pub record IsNodeAt (stored : Stored) (name : CidParts) (p : NodeParts) : Type 0 where
+  pub block : List ℕ
+  pub is : stored name ≡ Some block
+  pub named : name ≡ block_name block
+  pub node : IsNode block p
+
+-- the key of an entry behind this key
+abbrev pub key_of : List ℕ → NodeRow → List ℕ
+key_of previous r = take r.shared previous ++ r.rest
+
+-- ---- as they are held
+
+abbrev pub row_told : Row → NodeRow
+row_told r = record { shared = r.shared; rest = r.rest.now; value = r.value; after = r.after }
+
+abbrev pub node_told : Node → NodeParts
+node_told n = record { left = n.left; rows = map row_told n.rows.items }

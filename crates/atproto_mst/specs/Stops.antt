@@ -1,0 +1,75 @@
+-- Why a walk from a root stops: the first fault on its way.
+use Rattle.std.specs.Prelude.{◌≡◌, ◌≢◌, ◌⊎◌, ℕ, zero, suc, ◌≤◌, ◌<◌, List, [], ◌∷◌, length, Option, None, Some, ⊤}
+use Rattle.std.specs.declared.cmp.Ordering.TheVariants.{Less}
+use Rattle.std.specs.Ordering.{nat_cmp}
+use Rattle.std.specs.Cmp.Lexicographic.{slice_cmp}
+use Rattle.ipld_tree.specs.Cid.{CidParts}
+use Rattle.ipld_links.specs.Names.{block_name}
+use Rattle.ipld_links.specs.Reaching.{Stored}
+use Rattle.atproto_mst.specs.Keys.{Entry, IsKey, AreEntries}
+use Rattle.atproto_mst.specs.Entries.{IsMst}
+use Rattle.atproto_mst.specs.Nodes.{NodeRow, NodeParts, IsNode, IsNodeAt, key_of}
+use Rattle.atproto_mst.specs.Walks.{WalksLink, Walks, most_layers}
+use Rattle.atproto_mst.specs.declared.error.MstError.{MstError}
+use Rattle.atproto_mst.specs.declared.error.MstError.TheVariants as error
+
+-- no node of this name is there, and why
+abbrev pub NodeFault : Stored → CidParts → MstError → Type 0
+NodeFault stored name (error.MissingNode lost) = (lost ≡ name) × (stored name ≡ None)
+NodeFault stored name (error.OtherBytes other) = (other ≡ name)
+    × ((b : List ℕ) × (stored name ≡ Some b) × (name ≢ block_name b))
+NodeFault stored name (error.NoNode other) = (other ≡ name)
+    × ((b : List ℕ) × (stored name ≡ Some b) × (name ≡ block_name b) × ((p : NodeParts) → ¬ IsNode b p))
+NodeFault stored name _ = ⊥
+
+-- what is wrong with a row behind this key of its node, where this key comes before it in the tree
+abbrev pub RowFault : List ℕ → List ℕ → NodeRow → MstError → Type 0
+RowFault previous before r error.KeyFront = length previous < r.shared
+RowFault previous before r error.KeyLength = (r.shared ≤ length previous) × ¬ IsKey (key_of previous r)
+RowFault previous before r error.KeyOrder = (r.shared ≤ length previous) × IsKey (key_of previous r)
+    × (slice_cmp nat_cmp before (key_of previous r) ≢ Less)
+RowFault previous before r _ = ⊥
+
+-- the last key of the entries, or this one, where there are none
+abbrev pub last_key : List ℕ → List Entry → List ℕ
+last_key before [] = before
+last_key before (e ∷ es) = last_key e.0 es
+
+-- ---- the walk
+
+-- behind a link
+abbrev pub StopsBehind : (List ℕ → CidParts → MstError → Type 0) → List ℕ → Option CidParts → MstError → Type 0
+StopsBehind S before None e = ⊥
+StopsBehind S before (Some name) e = S before name e
+
+-- At a row, or in the tree behind it; or it goes on behind that tree.
+abbrev pub StopsInRows : (CidParts → List Entry → Type 0) → (List ℕ → CidParts → MstError → Type 0)
+    → List ℕ → List ℕ → List NodeRow → MstError → Type 0
+StopsInRows W S before previous [] e = ⊥
+StopsInRows W S before previous (r ∷ rs) e = RowFault previous before r e
+    ⊎ ((r.shared ≤ length previous) × (StopsBehind S (key_of previous r) r.after e
+    ⊎ ((below : List Entry) × WalksLink W r.after below
+    × StopsInRows W S (last_key (key_of previous r) below) (key_of previous r) rs e)))
+
+-- in the tree before the first key, or behind it
+abbrev pub StopsInNode : (CidParts → List Entry → Type 0) → (List ℕ → CidParts → MstError → Type 0)
+    → List ℕ → NodeParts → MstError → Type 0
+StopsInNode W S before p e = StopsBehind S before p.left e
+    ⊎ ((below : List Entry) × WalksLink W p.left below
+    × StopsInRows W S (last_key before below) [] p.rows e)
+
+-- From the root of this name, behind this key, where at most so many nodes stand below each other.
+abbrev pub Stops : ℕ → Stored → List ℕ → CidParts → MstError → Type 0
+Stops zero stored before name e = e ≡ error.TooDeep name
+Stops (suc m) stored before name e = NodeFault stored name e
+    ⊎ ((p : NodeParts) × IsNodeAt stored name p × StopsInNode (Walks m stored) (Stops m stored) before p e)
+
+-- ---- why a tree is not read
+
+-- Memory was wanted; the entries that the tree has are those of another tree, by which it should be
+-- stored; or the walk stops, at the first fault on its way.
+abbrev pub MstRefused : Stored → CidParts → MstError → Type 0
+MstRefused stored root error.OutOfMemory = ⊤
+MstRefused stored root error.OtherTree = (es : List Entry) × Walks most_layers stored root es
+    × AreEntries es × ¬ IsMst stored root es
+MstRefused stored root e = Stops most_layers stored [] root e

@@ -1,0 +1,33 @@
+-- The entries of a stored tree, in the order of a walk from its root (AT Protocol specification,
+-- repository). Nothing is said of layers or of the order of keys.
+use Rattle.std.specs.Prelude.{◌≡◌, ℕ, zero, suc, ◌≤◌, List, [], ◌∷◌, ◌++◌, length, Option, None, Some}
+use Rattle.ipld_tree.specs.Cid.{CidParts}
+use Rattle.ipld_links.specs.Reaching.{Stored}
+use Rattle.atproto_mst.specs.Keys.{Entry}
+use Rattle.atproto_mst.specs.Nodes.{NodeRow, NodeParts, IsNodeAt, key_of}
+
+-- the entries of the tree behind a link; no link has none
+abbrev pub WalksLink : (CidParts → List Entry → Type 0) → Option CidParts → List Entry → Type 0
+WalksLink W None es = es ≡ []
+WalksLink W (Some name) es = W name es
+
+-- the entries of these rows behind a key, and of the trees behind them
+abbrev pub WalksRows : (CidParts → List Entry → Type 0) → List ℕ → List NodeRow → List Entry → Type 0
+WalksRows W previous [] es = es ≡ []
+WalksRows W previous (r ∷ rs) es = (r.shared ≤ length previous)
+    × ((below more : List Entry) × WalksLink W r.after below × WalksRows W (key_of previous r) rs more
+    × (es ≡ (key_of previous r, r.value) ∷ (below ++ more)))
+
+-- the entries of the tree before the first key, and of the rows
+abbrev pub WalksNode : (CidParts → List Entry → Type 0) → NodeParts → List Entry → Type 0
+WalksNode W p es = (below more : List Entry) × WalksLink W p.left below × WalksRows W [] p.rows more
+    × (es ≡ below ++ more)
+
+-- the entries of the tree whose root has this name, where at most so many nodes stand below each other
+abbrev pub Walks : ℕ → Stored → CidParts → List Entry → Type 0
+Walks zero stored name es = ⊥
+Walks (suc m) stored name es = (p : NodeParts) × IsNodeAt stored name p × WalksNode (Walks m stored) p es
+
+-- the greatest number of nodes below each other: one a layer, of 0 to 128
+abbrev pub most_layers : ℕ
+most_layers = 129

@@ -1,0 +1,78 @@
+//! One record of a tree that is stored.
+
+ghost use Rattle.std.specs.Prelude.{◌≡◌, ◌⊎◌, [], List, MatchResult, IfOk, IfErr};
+ghost use Rattle.ipld_links.specs.Reaching.{stored_in};
+ghost use Rattle.atproto_mst.specs.Keys.{Entry};
+ghost use Rattle.atproto_mst.specs.Entries.{IsMst};
+ghost use Rattle.atproto_mst.specs.Nodes.{node_told};
+ghost use Rattle.atproto_mst.specs.Walks.{most_layers};
+ghost use Rattle.atproto_mst.specs.Finding.{lookup, seek_in, Finds, FindStops};
+ghost use Rattle.atproto_mst.specs.declared.error.MstError.TheVariants.{OutOfMemory};
+
+use crate::error::MstError;
+use crate::read::MOST_LAYERS;
+use crate::rows::Node;
+use crate::stored::node_at;
+use ipld_tree::Cid;
+use std::alloc::{AllocError, Global};
+use std::cmp::Ordering;
+use std::collections::BTreeMap;
+
+/// What a node says of a key.
+#[derive(Debug, Clone, Copy, Drop)]
+pub(crate) enum Sought {
+    /// The key is one of the node, and this is its record.
+    Record(Cid),
+    /// It is none, and would stand in this tree, if there is one.
+    Below(Option<Cid>),
+    /// An entry before it shares more bytes with the key before that one than it has.
+    KeyFront,
+}
+
+/// What the node says of the key.
+fn seek(alloc: Global, node: &Node<'_>, key: &[u8]) -> Result<Sought, AllocError>
+    ensures { IfOk result (λ s. s ≡ seek_in key.now (node_told node.now)) }
+{
+    let mut before = node.left;
+    let mut next = Vec::new(alloc);
+    for row in &node.rows {
+        if row.shared > next.len() as u64 {
+            return Ok(Sought::KeyFront);
+        }
+        next.truncate(row.shared as usize);
+        next.extend_from_slice(row.rest)?;
+        match key.cmp(next.as_slice()) {
+            Ordering::Less => return Ok(Sought::Below(before)),
+            Ordering::Equal => return Ok(Sought::Record(row.value)),
+            Ordering::Greater => before = row.after,
+        }
+    }
+    Ok(Sought::Below(before))
+}
+
+/// The record of the key in the tree that is stored with this root, if the tree has one. The nodes
+/// on the path from the root to the key are read, and no others need be stored.
+pub fn find_record(
+    alloc: Global,
+    blocks: &BTreeMap<Cid, Vec<u8>>,
+    root: &Cid,
+    key: &[u8],
+) -> Result<Option<Cid>, MstError>
+    ensures found { IfOk result (Finds most_layers (stored_in blocks.now) key.now root.now) }
+    ensures refused { IfErr result
+        (λ e. (e ≡ OutOfMemory) ⊎ FindStops most_layers (stored_in blocks.now) key.now root.now e) }
+    ensures whole { (es : List Entry) → IsMst (stored_in blocks.now) root.now es →
+        MatchResult result (λ found. found ≡ lookup key.now es) (λ e. e ≡ OutOfMemory) }
+{
+    let mut name = *root;
+    for _layer in 0..MOST_LAYERS {
+        let node = node_at(alloc, blocks, &name)?;
+        match seek(alloc, &node, key)? {
+            Sought::Record(value) => return Ok(Some(value)),
+            Sought::Below(None) => return Ok(None),
+            Sought::Below(Some(next)) => name = next,
+            Sought::KeyFront => return Err(MstError::KeyFront),
+        }
+    }
+    Err(MstError::TooDeep(name))
+}

@@ -1,0 +1,20 @@
+//! Laws of the definitions, each the contract of a function that does nothing.
+
+ghost use Rattle.atproto_mst.specs.Laws.{OneRoot, RootBinds, RecordsBind};
+
+/// Equal entries have an equal root.
+pub fn one_root()
+    ensures { OneRoot }
+{}
+
+/// A root binds the entries of its tree.
+#[tactic(auto, using(crate::proofs::Binding::root_binds))]
+pub fn root_binds()
+    ensures { RootBinds }
+{}
+
+/// The nodes on the path to a key bind what its record is, and that there is none.
+#[tactic(auto, using(crate::proofs::Binding::records_bind))]
+pub fn records_bind()
+    ensures { RecordsBind }
+{}

@@ -1,0 +1,36 @@
+//! A node that is stored under its name.
+
+ghost use Rattle.std.specs.Prelude.{◌≡◌, ◌⊎◌, MatchResult};
+ghost use Rattle.ipld_links.specs.Reaching.{stored_in};
+ghost use Rattle.atproto_mst.specs.Nodes.{IsNodeAt, node_told};
+ghost use Rattle.atproto_mst.specs.Stops.{NodeFault};
+ghost use Rattle.atproto_mst.specs.declared.error.MstError.TheVariants.{OutOfMemory};
+
+use crate::error::MstError;
+use crate::rows::{Node, read_node};
+use ipld_links::{name_of_block, stored_bytes};
+use ipld_tree::Cid;
+use std::alloc::Global;
+use std::collections::BTreeMap;
+
+/// The node that is stored under the name, of whose bytes the name is.
+pub(crate) fn node_at<'b>(
+    alloc: Global,
+    blocks: &'b BTreeMap<Cid, Vec<u8>>,
+    name: &Cid,
+) -> Result<Node<'b>, MstError>
+    ensures { MatchResult result
+        (λ node. IsNodeAt (stored_in blocks.now) name.now (node_told node))
+        (λ e. (e ≡ OutOfMemory) ⊎ NodeFault (stored_in blocks.now) name.now e) }
+{
+    let Some(block) = stored_bytes(blocks, name) else {
+        return Err(MstError::MissingNode(*name));
+    };
+    if name_of_block(block) != *name {
+        return Err(MstError::OtherBytes(*name));
+    }
+    match read_node(alloc, block)? {
+        Some(node) => Ok(node),
+        None => Err(MstError::NoNode(*name)),
+    }
+}

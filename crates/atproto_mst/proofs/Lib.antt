@@ -2,6 +2,7 @@ pub mod Bits
 pub mod Runs
 pub mod Handing
 pub mod Written
+pub mod Shown
 pub mod Building
 pub mod Orders
 pub mod Comparing

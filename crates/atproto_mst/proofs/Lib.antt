@@ -3,6 +3,7 @@ pub mod Runs
 pub mod Handing
 pub mod Written
 pub mod Shown
+pub mod Naming
 pub mod Building
 pub mod Orders
 pub mod Comparing

@@ -4,6 +4,7 @@ pub mod Handing
 pub mod Written
 pub mod Shown
 pub mod Naming
+pub mod ShownCommits
 pub mod Building
 pub mod Orders
 pub mod Comparing

@@ -94,7 +94,7 @@ meaning_told : (n : Node) → node_meaning n ≡ node_view (node_told n)
 meaning_told n = ap (λ vs. (vs, (option_map cid_bytes n.left, tt))) (rows_told n.rows.items)
 
 -- the tree of what is shown
-abbrev link_shown : Option (List ℕ) → Tree
+abbrev pub link_shown : Option (List ℕ) → Tree
 link_shown None = null
 link_shown (Some b) = link b
 

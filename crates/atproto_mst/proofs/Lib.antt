@@ -5,6 +5,7 @@ pub mod Written
 pub mod Shown
 pub mod Naming
 pub mod ShownCommits
+pub mod StoredCommits
 pub mod Building
 pub mod Orders
 pub mod Comparing

@@ -100,3 +100,10 @@ other_commit b s c (t, spelled, shows, need) h other d k =
     let tree : t ≡ commit_shown (commit_meaning d) = one_tree b t (commit_shown (commit_meaning d)) spelled read in
     let view : commit_meaning d ≡ commit_meaning c = view_back (commit_meaning d) (commit_meaning c) (sym (ap commit_shape.view tree) ∙ shows) in
     other ((commit_spelled c s h).is ∙ sym (ap (λ v. spelling (commit_shown v)) view) ∙ sym read.is)
+
+-- commits of one block name one tree
+pub one_root : (b : List ℕ) (c d : Commit) → AreSpellingOf (commit_tree c) b → AreSpellingOf (commit_tree d) b → cid_bytes c.data ≡ cid_bytes d.data
+one_root b c d p q =
+    let same : commit_shown (commit_meaning c) ≡ commit_shown (commit_meaning d) =
+    one_tree b (commit_shown (commit_meaning c)) (commit_shown (commit_meaning d)) (commit_spelled c b p) (commit_spelled d b q) in
+    cc same

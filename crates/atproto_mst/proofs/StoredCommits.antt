@@ -1,17 +1,21 @@
 -- Commits that are stored, and why one is not read.
-use Rattle.std.proofs.Common.{◌≡◌, ◌≢◌, ℕ, ◌^◌, ◌<◌, List, Some, None, Result, refl, sym, ap, ◌∙◌, subst, arith, IfErr}
+use Rattle.std.proofs.Common.{◌≡◌, ◌≢◌, ℕ, ◌^◌, ◌<◌, ◌≤◌, List, Some, None, Result, refl, sym, ap, ◌∙◌, subst, arith, inr, IfErr}
 use Rattle.std.proofs.lemmas.Result.{IfErr-weaker}
-use Rattle.ipld_tree.specs.Cid.{CidParts}
+use Rattle.sha2.proofs.Facts256.{length-sha256}
+use Rattle.ipld_tree.specs.Cid.{CidParts, AreCidParts}
+use Rattle.ipld_tree.proofs.Cids.{cid_unique}
 use Rattle.dagcbor_write.specs.Answers.{AreSpellingOf}
 use Rattle.ipld_links.specs.Names.{block_name}
 use Rattle.ipld_links.specs.Reaching.{Stored}
+use Rattle.atproto_mst.specs.Keys.{Entry}
+use Rattle.atproto_mst.specs.Entries.{IsMst}
 use Rattle.atproto_mst.specs.Commits.{commit_tree}
 use Rattle.atproto_mst.specs.UnreadCommits.{UnreadCommit}
-use Rattle.atproto_mst.specs.Repos.{IsBlockAt, IsStoredCommit, CommitRefused}
+use Rattle.atproto_mst.specs.Repos.{IsBlockAt, IsStoredCommit, CommitRefused, RepoRefused}
 use Rattle.atproto_mst.specs.declared.commit.Commit.{Commit}
 use Rattle.atproto_mst.specs.declared.repo_error.RepoError.{RepoError}
 use Rattle.atproto_mst.specs.declared.repo_error.RepoError.TheVariants as error
-use Rattle.atproto_mst.proofs.ShownCommits.{no_commit, one_commit}
+use Rattle.atproto_mst.proofs.ShownCommits.{no_commit, one_commit, one_root}
 
 -- the block under the name is no commit
 pub unread_refused : (stored : Stored) (name : CidParts) (b : List ℕ) (e : RepoError) → IsBlockAt stored name b → UnreadCommit b e → CommitRefused stored name e
@@ -43,3 +47,26 @@ only_memory stored name c (error.Tree e) s h = absurd h
 pub whole_commit : {T : Type 0} (stored : Stored) (name : CidParts) (r : Result T RepoError) → IfErr r (CommitRefused stored name)
     → (c : Commit) → IsStoredCommit stored name c → IfErr r (λ e. e ≡ error.OutOfMemory)
 whole_commit stored name r h c s = IfErr-weaker r (CommitRefused stored name) (λ e. e ≡ error.OutOfMemory) (λ e k. only_memory stored name c e s k) h
+
+-- ---- repositories
+
+pub commit_unread : (stored : Stored) (name : CidParts) (e : RepoError) → CommitRefused stored name e → RepoRefused stored name e
+commit_unread stored name error.OutOfMemory h = h
+commit_unread stored name error.Missing h = h
+commit_unread stored name error.OtherBytes h = h
+commit_unread stored name (error.NoCommit e) h = h
+commit_unread stored name error.OtherFields h = h
+commit_unread stored name (error.OtherVersion n) h = h
+commit_unread stored name (error.Tree e) h = absurd h
+
+name_is_cid : (b : List ℕ) → AreCidParts (block_name b)
+name_is_cid b = inr (refl, omega arith, omega arith, omega (arith, length-sha256 b))
+
+-- commits under one name name one root, where a tree has it
+pub same_root : (stored : Stored) (name : CidParts) (c d : Commit) (es : List Entry) → AreCidParts c.data → IsStoredCommit stored name c → IsStoredCommit stored name d
+    → IsMst stored d.data es → IsMst stored c.data es
+same_root stored name c d es valid (v, (b, at, spelled)) (w, (o, there, read)) m =
+    let block : o ≡ b = one_block stored name o b there.0 at.0 in
+    let forms = one_root b c d spelled (subst (AreSpellingOf (commit_tree d)) block read) in
+    let same : c.data ≡ d.data = cid_unique c.data d.data valid (subst AreCidParts (sym m.root_is) (name_is_cid _)) forms in
+    subst (λ root. IsMst stored root es) (sym same) m

@@ -10,7 +10,7 @@ use Rattle.atproto_mst.specs.Entries.{entries, IsMst}
 use Rattle.atproto_mst.specs.Stops.{MstRefused}
 use Rattle.atproto_mst.specs.declared.commit.Commit.{Commit}
 use Rattle.atproto_mst.specs.declared.entries.MstEntry.{MstEntry}
-use Rattle.atproto_mst.specs.declared.error.MstError.{MstError}
+use Rattle.atproto_mst.specs.declared.error.MstError.TheVariants as tree
 use Rattle.atproto_mst.specs.declared.repo_error.RepoError.{RepoError}
 use Rattle.atproto_mst.specs.declared.repo_error.RepoError.TheVariants as error
 
@@ -44,5 +44,6 @@ CommitRefused stored name _ = ⊥
 
 -- why no repository is read
 abbrev pub RepoRefused : Stored → CidParts → RepoError → Type 0
-RepoRefused stored name (error.Tree e) = (c : Commit) × IsStoredCommit stored name c × MstRefused stored c.data e
+RepoRefused stored name (error.Tree e) = (e ≢ tree.OutOfMemory)
+    × ((c : Commit) × IsStoredCommit stored name c × MstRefused stored c.data e)
 RepoRefused stored name e = CommitRefused stored name e

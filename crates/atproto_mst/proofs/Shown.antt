@@ -1,7 +1,6 @@
 -- What the block of a node shows.
-use Rattle.std.proofs.Common.{◌≡◌, ℕ, ◌+◌, ◌^◌, ◌<◌, ◌≤◌, List, [], ◌∷◌, ◌++◌, map, codes, pos, refl, sym, ap, ap₂, ◌∙◌, subst, arith, lt-ltb, Option, Some, None, option_map}
-use Rattle.std.specs.Prelude.{max, if◌then◌else◌, MatchOption}
-use Rattle.std.specs.List.{AllByRecursion}
+use Rattle.std.proofs.Common.{◌≡◌, ℕ, ◌^◌, ◌<◌, ◌≤◌, List, [], ◌∷◌, ◌++◌, map, codes, pos, refl, sym, ap, ap₂, ◌∙◌, subst, arith, lt-ltb, Option, Some, None, option_map}
+use Rattle.std.specs.Prelude.{if◌then◌else◌, MatchOption}
 use Rattle.dagcbor_heads.specs.Reading.{default_steps}
 use Rattle.ipld_tree.specs.Cid.{CidParts, cid_bytes}
 use Rattle.ipld_tree.specs.Tree.{Tree, null, integer, bytes, list, mapping, link, no_entries, entry, items_of}
@@ -26,7 +25,7 @@ one_tree b t u p q = (spelling_unique t u [] [] p.spellable q.spellable (ap (λ 
 abbrev pub row_view : NodeRow → RowView
 row_view r = (r.rest, (r.shared, (option_map cid_bytes r.after, (cid_bytes r.value, tt))))
 
-below : (n bound : ℕ) → n < bound → natural_below bound (pos n) ≡ Some n
+pub below : (n bound : ℕ) → n < bound → natural_below bound (pos n) ≡ Some n
 below n bound h = ap (λ b. if b then Some n else None) (lt-ltb n bound h)
 
 row_of_parts : (p : ℕ) (k : List ℕ) (v : CidParts) (t : Option CidParts) → p < 2 ^ 64

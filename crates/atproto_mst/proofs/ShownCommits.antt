@@ -1,10 +1,10 @@
 -- What the block of a commit shows.
-use Rattle.std.proofs.Common.{◌≡◌, ℕ, ◌^◌, ◌<◌, ◌≤◌, List, [], ◌∷◌, codes, pos, refl, sym, ap, ◌∙◌, subst, arith, lt-ltb, le-ltb, Option, Some, None, option_map, string_bytes, inl, inr}
+use Rattle.std.proofs.Common.{◌≡◌, ℕ, ◌^◌, ◌<◌, ◌≤◌, List, [], ◌∷◌, codes, pos, refl, sym, ap, ◌∙◌, subst, arith, le-ltb, Option, Some, None, option_map, string_bytes, inl, inr}
 use Rattle.std.specs.Prelude.{if◌then◌else◌}
 use Rattle.std.proofs.lemmas.Bool.{cases_lt}
 use Rattle.dagcbor_heads.specs.Reading.{default_steps}
 use Rattle.ipld_tree.specs.Cid.{CidParts, cid_bytes}
-use Rattle.ipld_tree.specs.Tree.{Tree, null, integer, text, bytes, mapping, link, no_entries, entry, entries_tree}
+use Rattle.ipld_tree.specs.Tree.{Tree, integer, text, bytes, mapping, link, no_entries, entry, entries_tree}
 use Rattle.ipld_tree.specs.Spelling.{spelling, IsSpelling}
 use Rattle.dagcbor_items.specs.Shapes.{natural_below}
 use Rattle.dagcbor_read.specs.Whole.{IsWhole, HoldsNoValue}
@@ -13,7 +13,7 @@ use Rattle.dagcbor_write.specs.Answers.{AreSpellingOf}
 use Rattle.atproto_mst.specs.CommitShapes.{CommitView, commit_shape}
 use Rattle.atproto_mst.specs.Commits.{commit_tree}
 use Rattle.atproto_mst.specs.declared.commit.Commit.{Commit}
-use Rattle.atproto_mst.proofs.Shown.{one_tree, link_shown}
+use Rattle.atproto_mst.proofs.Shown.{one_tree, below, link_shown}
 
 abbrev pub commit_meaning : Commit → CommitView
 commit_meaning c = (string_bytes c.did, (c.version, (cid_bytes c.data, (string_bytes c.rev, (option_map cid_bytes c.prev, (c.sig.0.items, tt))))))
@@ -43,9 +43,6 @@ commit_spelled c b h = subst (λ o. AreSpellingOf o b) (commit_written c) h
 
 -- ---- what it shows
 
-below : (n bound : ℕ) → n < bound → natural_below bound (pos n) ≡ Some n
-below n bound h = ap (λ b. if b then Some n else None) (lt-ltb n bound h)
-
 beyond : (n bound : ℕ) → bound ≤ n → natural_below bound (pos n) ≡ None
 beyond n bound h = ap (λ b. if b then Some n else None) (le-ltb n bound h)
 
@@ -67,14 +64,14 @@ parts_need did version root rev (Some p) sig = omega arith
 same_shown : (v w : CommitView) → Some v ≡ Some w → v ≡ w
 same_shown v w h = cc h
 
-none_shown : (w : CommitView) → None ≡ Some w → ⊥
-none_shown w h = absurd (cc h)
+never_shown : (w : CommitView) → None ≡ Some w → ⊥
+never_shown w h = absurd (cc h)
 
 -- what is shown is what the tree was made of
 view_back : (v w : CommitView) → commit_shape.view (commit_shown v) ≡ Some w → v ≡ w
 view_back v w h = elim (cases_lt v.1.0 (2 ^ 8)) [
   | inl less ↦ same_shown v w (sym (parts_view v.0 v.1.0 v.1.1.0 v.1.1.1.0 v.1.1.1.1.0 v.1.1.1.1.1.0 less) ∙ h)
-  | inr more ↦ absurd (none_shown w (sym (parts_unseen v.0 v.1.0 v.1.1.0 v.1.1.1.0 v.1.1.1.1.0 v.1.1.1.1.1.0 more) ∙ h))
+  | inr more ↦ absurd (never_shown w (sym (parts_unseen v.0 v.1.0 v.1.1.0 v.1.1.1.0 v.1.1.1.1.0 v.1.1.1.1.1.0 more) ∙ h))
 ]
 
 -- ---- commits and blocks
@@ -101,9 +98,9 @@ other_commit b s c (t, spelled, shows, need) h other d k =
     let view : commit_meaning d ≡ commit_meaning c = view_back (commit_meaning d) (commit_meaning c) (sym (ap commit_shape.view tree) ∙ shows) in
     other ((commit_spelled c s h).is ∙ sym (ap (λ v. spelling (commit_shown v)) view) ∙ sym read.is)
 
--- commits of one block name one tree
-pub one_root : (b : List ℕ) (c d : Commit) → AreSpellingOf (commit_tree c) b → AreSpellingOf (commit_tree d) b → cid_bytes c.data ≡ cid_bytes d.data
-one_root b c d p q =
+-- commits of one block have one root
+pub one_data : (b : List ℕ) (c d : Commit) → AreSpellingOf (commit_tree c) b → AreSpellingOf (commit_tree d) b → cid_bytes c.data ≡ cid_bytes d.data
+one_data b c d p q =
     let same : commit_shown (commit_meaning c) ≡ commit_shown (commit_meaning d) =
     one_tree b (commit_shown (commit_meaning c)) (commit_shown (commit_meaning d)) (commit_spelled c b p) (commit_spelled d b q) in
     cc same

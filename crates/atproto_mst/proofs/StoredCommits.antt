@@ -1,5 +1,5 @@
 -- Commits that are stored, and why one is not read.
-use Rattle.std.proofs.Common.{◌≡◌, ◌≢◌, ℕ, ◌^◌, ◌<◌, ◌≤◌, List, Some, None, Result, refl, sym, ap, ◌∙◌, subst, arith, inr, IfErr}
+use Rattle.std.proofs.Common.{◌≡◌, ℕ, List, Some, Result, refl, sym, ap, ◌∙◌, subst, arith, inr, IfErr}
 use Rattle.std.proofs.lemmas.Result.{IfErr-weaker}
 use Rattle.sha2.proofs.Facts256.{length-sha256}
 use Rattle.ipld_tree.specs.Cid.{CidParts, AreCidParts}
@@ -15,7 +15,7 @@ use Rattle.atproto_mst.specs.Repos.{IsBlockAt, IsStoredCommit, CommitRefused, Re
 use Rattle.atproto_mst.specs.declared.commit.Commit.{Commit}
 use Rattle.atproto_mst.specs.declared.repo_error.RepoError.{RepoError}
 use Rattle.atproto_mst.specs.declared.repo_error.RepoError.TheVariants as error
-use Rattle.atproto_mst.proofs.ShownCommits.{no_commit, one_commit, one_root}
+use Rattle.atproto_mst.proofs.ShownCommits.{no_commit, one_commit, one_data}
 
 -- the block under the name is no commit
 pub unread_refused : (stored : Stored) (name : CidParts) (b : List ℕ) (e : RepoError) → IsBlockAt stored name b → UnreadCommit b e → CommitRefused stored name e
@@ -67,6 +67,6 @@ pub same_root : (stored : Stored) (name : CidParts) (c d : Commit) (es : List En
     → IsMst stored d.data es → IsMst stored c.data es
 same_root stored name c d es valid (v, (b, at, spelled)) (w, (o, there, read)) m =
     let block : o ≡ b = one_block stored name o b there.0 at.0 in
-    let forms = one_root b c d spelled (subst (AreSpellingOf (commit_tree d)) block read) in
+    let forms = one_data b c d spelled (subst (AreSpellingOf (commit_tree d)) block read) in
     let same : c.data ≡ d.data = cid_unique c.data d.data valid (subst AreCidParts (sym m.root_is) (name_is_cid _)) forms in
     subst (λ root. IsMst stored root es) (sym same) m

@@ -42,7 +42,7 @@ CommitRefused stored name (error.OtherVersion n) = (b : List ℕ) × (c : Commit
     × AreSpellingOf (commit_tree c) b × (c.version ≡ n) × (n ≢ 3)
 CommitRefused stored name _ = ⊥
 
--- why no repository is read
+-- why no repository is read: want of memory below the commit is want of memory
 abbrev pub RepoRefused : Stored → CidParts → RepoError → Type 0
 RepoRefused stored name (error.Tree e) = (e ≢ tree.OutOfMemory)
     × ((c : Commit) × IsStoredCommit stored name c × MstRefused stored c.data e)

@@ -1,4 +1,4 @@
-use Rattle.std.proofs.Common.{None, refl, sym, ◌∙◌, subst, inr}
+use Rattle.std.proofs.Common.{refl, sym, ◌∙◌, subst, inr}
 use Rattle.std.specs.Prelude.{MatchOption}
 use Rattle.atproto_mst.specs.Nodes.{NodeParts, IsNode, node_told}
 use Rattle.atproto_mst.proofs.Comparing.{same_name}

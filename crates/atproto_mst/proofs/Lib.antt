@@ -6,3 +6,4 @@ pub mod Building
 pub mod Orders
 pub mod Comparing
 pub mod Whole
+pub mod Nodes

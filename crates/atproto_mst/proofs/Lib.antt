@@ -7,3 +7,6 @@ pub mod Orders
 pub mod Comparing
 pub mod Whole
 pub mod Nodes
+pub mod Agreeing
+pub mod Rising
+pub mod Stopping

@@ -10,3 +10,4 @@ pub mod Nodes
 pub mod Agreeing
 pub mod Rising
 pub mod Stopping
+pub mod Gathering

@@ -11,3 +11,4 @@ pub mod Agreeing
 pub mod Rising
 pub mod Stopping
 pub mod Gathering
+pub mod Listings

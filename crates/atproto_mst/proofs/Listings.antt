@@ -1,5 +1,5 @@
 -- The entries of a stored tree, and why it is refused.
-use Rattle.std.proofs.Common.{◌≡◌, ◌⊎◌, inl, inr, ℕ, zero, suc, ◌^◌, ◌<◌, List, [], ◌∷◌, ◌++◌, map, length, refl, sym, ap, ◌∙◌, subst, arith, Option, Some, None}
+use Rattle.std.proofs.Common.{◌≡◌, ◌⊎◌, inl, inr, ℕ, zero, suc, List, [], ◌∷◌, ◌++◌, sym, ap, ◌∙◌, subst, arith, Option, Some, None}
 use Rattle.std.proofs.lemmas.List.{length-map}
 use Rattle.std.specs.List.{AllByRecursion}
 use Rattle.ipld_tree.specs.Cid.{CidParts, AreCidParts}
@@ -7,9 +7,9 @@ use Rattle.ipld_links.specs.Reaching.{Stored}
 use Rattle.atproto_mst.specs.Keys.{Entry, AreEntries}
 use Rattle.atproto_mst.specs.Trees.{root_of, nodes_of}
 use Rattle.atproto_mst.specs.Entries.{entry_of, entries, AreStored, IsMst}
-use Rattle.atproto_mst.specs.Nodes.{NodeRow, NodeParts, IsCidIfAny, IsNodeAt, key_of}
-use Rattle.atproto_mst.specs.Walks.{WalksLink, WalksRows, WalksNode, Walks, most_layers}
-use Rattle.atproto_mst.specs.Stops.{NodeFault, RowFault, StopsBehind, StopsInRows, StopsInNode, Stops, MstRefused, last_key}
+use Rattle.atproto_mst.specs.Nodes.{NodeRow, IsCidIfAny, key_of}
+use Rattle.atproto_mst.specs.Walks.{WalksLink, WalksRows, Walks, most_layers}
+use Rattle.atproto_mst.specs.Stops.{StopsBehind, StopsInRows, Stops, MstRefused, last_key}
 use Rattle.atproto_mst.specs.Gathering.{AreInOrder, Gathers}
 use Rattle.atproto_mst.specs.declared.entries.MstEntry.{MstEntry}
 use Rattle.atproto_mst.specs.declared.error.MstError.{MstError}
@@ -96,11 +96,11 @@ module _ (stored : Stored) (root : CidParts) (first : Found) (empty : first.item
     are_entries : AreEntries (entries found.items)
     are_entries =
         let order = g.in_order (subst (λ es. AreInOrder (entries es)) (sym empty) (tt, tt)) in record {
-      keys = order.0;
-      rise = order.1;
-      values = walk_values stored most_layers root (entries found.items) walks_found;
-      count = omega (arith, found.ok.0, found.ok.1, found.small, length-map found.items entry_of);
-    }
+          keys = order.0;
+          rise = order.1;
+          values = walk_values stored most_layers root (entries found.items) walks_found;
+          count = omega (arith, found.ok.0, found.ok.1, found.small, length-map found.items entry_of);
+        }
 
     pub found_all : (es : List Entry) → Walks most_layers stored root es → entries found.items ≡ es
     found_all es w = one_walk stored most_layers most_layers root (entries found.items) es walks_found w
@@ -115,9 +115,13 @@ module _ (stored : Stored) (root : CidParts) (first : Found) (empty : first.item
     pub refused_comparing : (all : List MstEntry) → all ≡ found.items → (e : MstError)
         → (e ≡ error.OutOfMemory) ⊎ ((e ≡ error.OtherTree) × (root ≡ root_of (entries all) → ¬ AreStored stored (nodes_of (entries all)))) → MstRefused stored root e
     refused_comparing all same e (inl m) = subst (MstRefused stored root) (sym m) tt
-    refused_comparing all same e (inr (o, other)) = subst (MstRefused stored root) (sym o)
-        (entries found.items, walks_found, are_entries, λ h. other (h.root_is ∙ ap (λ x. root_of (entries x)) (sym same))
-        (subst (λ x. AreStored stored (nodes_of (entries x))) (sym same) h.all))
+    refused_comparing all same e (inr (o, other)) = subst (MstRefused stored root) (sym o) (
+      entries found.items,
+      walks_found,
+      are_entries,
+      λ h. other (h.root_is ∙ ap (λ x. root_of (entries x)) (sym same))
+          (subst (λ x. AreStored stored (nodes_of (entries x))) (sym same) h.all),
+    )
 
     pub compares_for_memory : (all : List MstEntry) → all ≡ found.items → (e : MstError)
         → (e ≡ error.OutOfMemory) ⊎ ((e ≡ error.OtherTree) × (root ≡ root_of (entries all) → ¬ AreStored stored (nodes_of (entries all))))

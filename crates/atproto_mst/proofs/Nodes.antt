@@ -1,9 +1,8 @@
 -- A block is that of one node.
-use Rattle.std.proofs.Common.{◌≡◌, ℕ, List, [], ◌∷◌, ◌++◌, map, refl, sym, ap, ap₂, ◌∙◌, Option, Some, None, pos}
+use Rattle.std.proofs.Common.{◌≡◌, ℕ, List, [], ◌∷◌, ◌++◌, map, refl, sym, ap, ap₂, ◌∙◌, Option, Some, None}
 use Rattle.std.specs.List.{AllByRecursion}
 use Rattle.ipld_tree.specs.Cid.{CidParts, AreCidParts, cid_bytes}
-use Rattle.ipld_tree.specs.Tree.{Tree, null, integer, bytes, link, items_of}
-use Rattle.ipld_tree.specs.Spelling.{spelling}
+use Rattle.ipld_tree.specs.Tree.{link, items_of}
 use Rattle.ipld_tree.proofs.Cids.{cid_unique}
 use Rattle.ipld_tree.proofs.Unique.{spelling_unique}
 use Rattle.ipld_links.specs.Reaching.{Stored}

@@ -1,5 +1,5 @@
 -- A walk that stops at a fault reaches no end.
-use Rattle.std.proofs.Common.{◌≡◌, ◌⊎◌, inl, inr, ℕ, zero, suc, ◌≤◌, length, List, [], ◌∷◌, ◌++◌, refl, sym, ap, ◌∙◌, subst, arith, Option, Some, None}
+use Rattle.std.proofs.Common.{◌≡◌, inl, inr, ℕ, zero, suc, ◌≤◌, length, List, [], ◌∷◌, ◌++◌, sym, ap, ◌∙◌, subst, arith, Option, Some, None}
 use Rattle.ipld_tree.specs.Cid.{CidParts}
 use Rattle.ipld_links.specs.Names.{block_name}
 use Rattle.ipld_links.specs.Reaching.{Stored}

@@ -1,4 +1,4 @@
-use Rattle.std.proofs.Common.{◌≡◌, [], ◌∷◌, ◌+◌, suc, map, drop, arith, subst}
+use Rattle.std.proofs.Common.{◌≡◌, [], ◌+◌, suc, map, drop, arith, subst}
 use Rattle.std.proofs.lemmas.Result.{err_from_is_err_and, on_ok_weaker, IfErr-weaker}
 use Rattle.ipld_links.specs.Reaching.{stored_in}
 use Rattle.atproto_mst.specs.Entries.{entries}

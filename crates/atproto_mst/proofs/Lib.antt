@@ -9,3 +9,9 @@ pub mod Comparing
 pub mod Parts
 pub mod Layers
 pub mod Canonical
+pub mod Nodes
+pub mod Agreeing
+pub mod Rising
+pub mod Stopping
+pub mod Gathering
+pub mod Listings

@@ -2,6 +2,10 @@ pub mod Bits
 pub mod Runs
 pub mod Handing
 pub mod Written
+pub mod Shown
+pub mod Naming
+pub mod ShownCommits
+pub mod StoredCommits
 pub mod Building
 pub mod Orders
 pub mod Whole

@@ -67,10 +67,11 @@ pub fn find_record(
     let mut name = *root;
     for _layer in 0..MOST_LAYERS {
         let node = node_at(alloc, blocks, &name)?;
-        match seek(alloc, &node, key)? {
-            Sought::Record(value) => return Ok(Some(value)),
+        let sought = seek(alloc, &node, key)?;
+        match &sought {
+            Sought::Record(value) => return Ok(Some(*value)),
             Sought::Below(None) => return Ok(None),
-            Sought::Below(Some(next)) => name = next,
+            Sought::Below(Some(next)) => name = *next,
             Sought::KeyFront => return Err(MstError::KeyFront),
         }
     }

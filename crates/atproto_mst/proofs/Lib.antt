@@ -19,3 +19,5 @@ pub mod Rising
 pub mod Stopping
 pub mod Gathering
 pub mod Listings
+pub mod Seeking
+pub mod Searching

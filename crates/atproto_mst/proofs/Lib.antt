@@ -21,3 +21,5 @@ pub mod Gathering
 pub mod Listings
 pub mod Seeking
 pub mod Searching
+pub mod Binding
+pub mod Telling

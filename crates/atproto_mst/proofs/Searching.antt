@@ -1,10 +1,9 @@
 -- Searching a key from a root.
 use Rattle.std.proofs.Common.{◌≡◌, ◌⊎◌, inl, inr, ℕ, zero, suc, ◌+◌, ◌-◌, ◌<◌, ◌≤◌, List, Option, Some, None, refl, sym, ap, ◌∙◌, subst, arith}
 use Rattle.ipld_tree.specs.Cid.{CidParts}
-use Rattle.ipld_links.specs.Names.{block_name}
 use Rattle.ipld_links.specs.Reaching.{Stored}
 use Rattle.atproto_mst.specs.Keys.{Entry, Rise}
-use Rattle.atproto_mst.specs.Nodes.{NodeParts, IsNode, IsNodeAt}
+use Rattle.atproto_mst.specs.Nodes.{NodeParts, IsNodeAt}
 use Rattle.atproto_mst.specs.Walks.{Walks}
 use Rattle.atproto_mst.specs.Stops.{NodeFault}
 use Rattle.atproto_mst.specs.Finding.{lookup, seek_in, FindsBelow, Finds, FaultBelow, FindStops}
@@ -13,6 +12,8 @@ use Rattle.atproto_mst.specs.declared.error.MstError.TheVariants as error
 use Rattle.atproto_mst.specs.declared.find.Sought.{Sought}
 use Rattle.atproto_mst.specs.declared.find.Sought.TheVariants as sought
 use Rattle.atproto_mst.proofs.Nodes.{same_node_at}
+use Rattle.atproto_mst.proofs.Agreeing.{one_store}
+use Rattle.atproto_mst.proofs.Stopping.{no_fault}
 use Rattle.atproto_mst.proofs.Seeking.{finds_walked}
 
 -- ---- one answer
@@ -41,30 +42,13 @@ finds_agree (suc m) (suc n) stored others C key name found other same f g = elim
   | inr c ↦ inr c
 ]
 
-pub one_node : (stored : Stored) → NodesAgree stored stored ⊥
-one_node stored name p q h k = inl (same_node_at stored name p q h k)
-
 pub finds_one : (m n : ℕ) (stored : Stored) (key : List ℕ) (name : CidParts) (found other : Option CidParts) → Finds m stored key name found → Finds n stored key name other → found ≡ other
-finds_one m n stored key name found other f g = elim (finds_agree m n stored stored ⊥ key name found other (one_node stored) f g) [
+finds_one m n stored key name found other f g = elim (finds_agree m n stored stored ⊥ key name found other (one_store ⊥ stored) f g) [
   | inl e ↦ e
   | inr c ↦ absurd c
 ]
 
 -- ---- no fault where there is an answer
-
-other_block : (stored : Stored) (name : CidParts) (p : NodeParts) (b : List ℕ) → (h : IsNodeAt stored name p) → stored name ≡ Some b → h.block ≡ b
-other_block stored name p b h is = cc (sym h.is ∙ is)
-
-no_fault : (stored : Stored) (name : CidParts) (p : NodeParts) (e : MstError) → IsNodeAt stored name p → NodeFault stored name e → ⊥
-no_fault stored name p (error.MissingNode lost) h f = absurd (cc (sym h.is ∙ f.1))
-no_fault stored name p (error.OtherBytes other) h f = f.1.2 (subst (λ b. name ≡ block_name b) (other_block stored name p f.1.0 h f.1.1) h.named)
-no_fault stored name p (error.NoNode other) h f = f.1.3 p (subst (λ b. IsNode b p) (other_block stored name p f.1.0 h f.1.1) h.node)
-no_fault stored name p error.OutOfMemory h f = absurd f
-no_fault stored name p error.KeyLength h f = absurd f
-no_fault stored name p error.KeyOrder h f = absurd f
-no_fault stored name p error.KeyFront h f = absurd f
-no_fault stored name p (error.TooDeep other) h f = absurd f
-no_fault stored name p error.OtherTree h f = absurd f
 
 below_goes_on : (F : CidParts → Option CidParts → Type 0) (S : CidParts → MstError → Type 0) (s t : Sought) (found : Option CidParts) (e : MstError) → s ≡ t
     → ((next : CidParts) → F next found → S next e → ⊥) → FindsBelow F s found → FaultBelow S t e → ⊥
@@ -79,7 +63,7 @@ below_goes_on F S s t found e is h f g = by s f (subst (λ x. FaultBelow S x e) 
 pub finds_never_stops : (m : ℕ) (stored : Stored) (key : List ℕ) (name : CidParts) (found : Option CidParts) (e : MstError) → Finds m stored key name found → FindStops m stored key name e → ⊥
 finds_never_stops zero stored key name found e f g = absurd f
 finds_never_stops (suc m) stored key name found e f g = elim g [
-  | inl fault ↦ no_fault stored name f.0 e f.1 fault
+  | inl fault ↦ no_fault stored name e f.0 fault f.1
   | inr s ↦ below_goes_on (Finds m stored key) (FindStops m stored key) (seek_in key f.0) (seek_in key s.0) found e (ap (seek_in key) (same_node_at stored name f.0 s.0 f.1 s.1))
     (λ next a b. finds_never_stops m stored key next found e a b) f.2 s.2
 ]

@@ -17,6 +17,7 @@ use Rattle.atproto_mst.specs.Walks.{WalksLink, WalksRows, Walks}
 use Rattle.atproto_mst.specs.Finding.{lookup, by_order, seek, seek_in, FindsBelow, Finds}
 use Rattle.atproto_mst.specs.declared.find.Sought.{Sought}
 use Rattle.atproto_mst.specs.declared.find.Sought.TheVariants as sought
+use Rattle.atproto_mst.proofs.Rising.{rise_left, rise_right}
 
 -- ---- the order of keys
 
@@ -53,23 +54,14 @@ this_first : (key k : List ℕ) (v : CidParts) (es : List Entry) → k ≡ key �
 this_first key k v es is = ap (λ b. if b then Some v else lookup key es) ((bytes_eq-Decides k key).1 is)
 
 -- it has none before the first
-none_before : (key : List ℕ) (es : List Entry) → ComesBefore key es → Rise es → lookup key es ≡ None
-none_before key [] b r = refl
-none_before key (e ∷ []) b r = other_first key e.0 e.1 [] (λ is. not_same key e.0 b (sym is))
-none_before key (e ∷ f ∷ es) b r =
+no_record_before : (key : List ℕ) (es : List Entry) → ComesBefore key es → Rise es → lookup key es ≡ None
+no_record_before key [] b r = refl
+no_record_before key (e ∷ []) b r = other_first key e.0 e.1 [] (λ is. not_same key e.0 b (sym is))
+no_record_before key (e ∷ f ∷ es) b r =
     other_first key e.0 e.1 (f ∷ es) (λ is. not_same key e.0 b (sym is))
-    ∙ none_before key (f ∷ es) (below_trans key e.0 f.0 b r.0) r.1
+    ∙ no_record_before key (f ∷ es) (below_trans key e.0 f.0 b r.0) r.1
 
 -- entries before others
-rise_more : (es fs : List Entry) → Rise (es ++ fs) → Rise fs
-rise_more [] fs r = r
-rise_more (e ∷ es) fs r = rise_more es fs r.1
-
-rise_first : (es fs : List Entry) → Rise (es ++ fs) → Rise es
-rise_first [] fs r = tt
-rise_first (e ∷ []) fs r = (tt, tt)
-rise_first (e ∷ f ∷ es) fs r = (r.0, rise_first (f ∷ es) fs r.1)
-
 before_more : (e : Entry) (es fs : List Entry) → Rise (e ∷ (es ++ fs)) → ComesBefore e.0 fs
 before_more e [] fs r = r.0
 before_more e (f ∷ es) [] r = tt
@@ -84,7 +76,7 @@ none_in_front key k v (e ∷ es) fs r not =
 
 -- a key before what stands behind has its record in front
 record_in_front : (key : List ℕ) (es fs : List Entry) → ComesBefore key fs → Rise (es ++ fs) → lookup key (es ++ fs) ≡ lookup key es
-record_in_front key [] fs b r = none_before key fs b r
+record_in_front key [] fs b r = no_record_before key fs b r
 record_in_front key (e ∷ es) fs b r = ap (λ found. if bytes_eq e.0 key then Some e.1 else found) (record_in_front key es fs b r.1)
 
 -- ---- in a node
@@ -103,18 +95,18 @@ decides_more W key sought.KeyFront es fs e d = d
 -- at a row, where what stands behind it is decided
 row_decides : (W : CidParts → List Entry → Type 0) (key k : List ℕ) (v : CidParts) (before : Option CidParts) (more : Sought) (below rest : List Entry) (o : Ordering) → slice_cmp nat_cmp key k ≡ o
     → WalksLink W before below → Rise (below ++ (k, v) ∷ rest) → (Rise rest → Decides W key more rest) → Decides W key (by_order o (sought.Below before) (sought.Record v) more) (below ++ (k, v) ∷ rest)
-row_decides W key k v before more below rest Less e l r d = (below, l, rise_first below ((k, v) ∷ rest) r, record_in_front key below ((k, v) ∷ rest) e r)
+row_decides W key k v before more below rest Less e l r d = (below, l, rise_left below ((k, v) ∷ rest) r, record_in_front key below ((k, v) ∷ rest) e r)
 row_decides W key k v before more below rest Equal e l r d =
     none_in_front key k v below rest r (λ x. absurd (cc (x, e))) ∙ this_first key k v rest (sym (exact_bytes key k e))
 row_decides W key k v before more below rest Greater e l r d =
     decides_more W key more (below ++ (k, v) ∷ rest) rest
     (none_in_front key k v below rest r (λ x. absurd (cc (x, e))) ∙ other_first key k v rest (λ is. not_same k key (below_turned key k e) is))
-    (d (rise_more below ((k, v) ∷ rest) r).1)
+    (d (rise_right below ((k, v) ∷ rest) r).1)
 
 seek_decides : (W : CidParts → List Entry → Type 0) (key previous : List ℕ) (before : Option CidParts) (rows : List NodeRow) (below more : List Entry)
     → WalksLink W before below → WalksRows W previous rows more → Rise (below ++ more) → Decides W key (seek key previous before rows) (below ++ more)
 seek_decides W key previous before [] below more l w r =
-    (below, l, rise_first below more r, record_in_front key below more (subst (λ es. ComesBefore key es) (sym w) tt) r)
+    (below, l, rise_left below more r, record_in_front key below more (subst (λ es. ComesBefore key es) (sym w) tt) r)
 seek_decides W key previous before (row ∷ rows) below more l w r =
     subst (λ s. Decides W key s (below ++ more)) (ap (λ b. if b then sought.KeyFront else by_order (slice_cmp nat_cmp key (key_of previous row)) (sought.Below before) (sought.Record row.value) (seek key (key_of previous row) row.after rows)) (sym (le-ltb (length previous) row.shared w.0)))
     (subst (λ es. Decides W key (by_order (slice_cmp nat_cmp key (key_of previous row)) (sought.Below before) (sought.Record row.value) (seek key (key_of previous row) row.after rows)) (below ++ es)) (sym w.1.4)

@@ -70,8 +70,10 @@ pub fn find_record(
         let sought = seek(alloc, &node, key)?;
         match &sought {
             Sought::Record(value) => return Ok(Some(*value)),
-            Sought::Below(None) => return Ok(None),
-            Sought::Below(Some(next)) => name = *next,
+            Sought::Below(link) => match link {
+                Some(next) => name = *next,
+                None => return Ok(None),
+            },
             Sought::KeyFront => return Err(MstError::KeyFront),
         }
     }

@@ -8,13 +8,11 @@ pub fn one_root()
 {}
 
 /// A root binds the entries of its tree.
-#[tactic(auto, using(crate::proofs::Binding::root_binds))]
 pub fn root_binds()
     ensures { RootBinds }
 {}
 
 /// The nodes on the path to a key bind what its record is, and that there is none.
-#[tactic(auto, using(crate::proofs::Binding::records_bind))]
 pub fn records_bind()
     ensures { RecordsBind }
 {}

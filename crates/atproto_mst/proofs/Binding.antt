@@ -40,4 +40,4 @@ root_binds stored others root es fs h k = walks_agree Collides stored others (no
 
 pub records_bind : RecordsBind
 records_bind stored others root key es found h k = finds_agree most_layers most_layers stored others Collides key root found (lookup key es) (nodes_agree stored others) h
-  (finds_walked most_layers others root es key (mst_walked others root es k) k.valid.rise)
+    (finds_walked most_layers others root es key (mst_walked others root es k) k.valid.rise)

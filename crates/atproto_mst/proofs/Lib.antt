@@ -23,3 +23,4 @@ pub mod Seeking
 pub mod Searching
 pub mod Binding
 pub mod Telling
+pub mod Ways

@@ -38,7 +38,7 @@ finds_agree zero n stored others C key name found other same f g = absurd f
 finds_agree (suc m) zero stored others C key name found other same f g = absurd g
 finds_agree (suc m) (suc n) stored others C key name found other same f g = elim (same name f.0 g.0 f.1 g.1) [
   | inl e ↦ below_agrees (Finds m stored key) (Finds n others key) C (seek_in key f.0) (seek_in key g.0) found other (ap (seek_in key) e)
-    (λ next a b. finds_agree m n stored others C key next found other same a b) f.2 g.2
+      (λ next a b. finds_agree m n stored others C key next found other same a b) f.2 g.2
   | inr c ↦ inr c
 ]
 
@@ -65,7 +65,7 @@ finds_never_stops zero stored key name found e f g = absurd f
 finds_never_stops (suc m) stored key name found e f g = elim g [
   | inl fault ↦ no_fault stored name e f.0 fault f.1
   | inr s ↦ below_goes_on (Finds m stored key) (FindStops m stored key) (seek_in key f.0) (seek_in key s.0) found e (ap (seek_in key) (same_node_at stored name f.0 s.0 f.1 s.1))
-    (λ next a b. finds_never_stops m stored key next found e a b) f.2 s.2
+      (λ next a b. finds_never_stops m stored key next found e a b) f.2 s.2
 ]
 
 -- ---- the search, layer by layer
@@ -80,7 +80,7 @@ search_begins most stored key root =
     let all : most - 0 ≡ most = omega arith in
     record { found = λ x h. subst (λ m. Finds m stored key root x) all h; stops = λ e h. subst (λ m. FindStops m stored key root e) all h }
 
-layers_left : (most layer : ℕ) → layer < most → suc (most - (layer + 1)) ≡ most - layer
+pub layers_left : (most layer : ℕ) → layer < most → suc (most - (layer + 1)) ≡ most - layer
 layers_left most layer lt = omega (arith, lt)
 
 module _ (most : ℕ) (stored : Stored) (key : List ℕ) (root name : CidParts) (layer : ℕ) (lt : layer < most) (to : SearchedTo most stored key root layer name) where

@@ -125,7 +125,10 @@ found_below W F key sought.KeyFront es h d = absurd d
 -- what a walk finds is found from the root
 pub finds_walked : (m : ℕ) (stored : Stored) (name : CidParts) (es : List Entry) (key : List ℕ) → Walks m stored name es → Rise es → Finds m stored key name (lookup key es)
 finds_walked zero stored name es key w r = absurd w
-finds_walked (suc m) stored name es key w r =
-    (w.0, w.1, subst (λ x. FindsBelow (Finds m stored key) (seek_in key w.0) (lookup key x)) (sym w.2.4)
+finds_walked (suc m) stored name es key w r = (
+  w.0,
+  w.1,
+  subst (λ x. FindsBelow (Finds m stored key) (seek_in key w.0) (lookup key x)) (sym w.2.4)
       (found_below (Walks m stored) (Finds m stored key) key (seek_in key w.0) (w.2.0 ++ w.2.1) (λ next below v rise. finds_walked m stored next below key v rise)
-        (seek_decides (Walks m stored) key [] w.0.left w.0.rows w.2.0 w.2.1 w.2.2 w.2.3 (subst Rise w.2.4 r))))
+      (seek_decides (Walks m stored) key [] w.0.left w.0.rows w.2.0 w.2.1 w.2.2 w.2.3 (subst Rise w.2.4 r))),
+)

@@ -30,7 +30,7 @@ pub(crate) enum Sought {
 }
 
 /// What the node says of the key.
-fn seek(alloc: Global, node: &Node<'_>, key: &[u8]) -> Result<Sought, AllocError>
+pub(crate) fn seek(alloc: Global, node: &Node<'_>, key: &[u8]) -> Result<Sought, AllocError>
     ensures { IfOk result (λ s. s ≡ seek_in key.now (node_told node.now)) }
 {
     let mut before = node.left;

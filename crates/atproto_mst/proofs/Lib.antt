@@ -19,3 +19,8 @@ pub mod Rising
 pub mod Stopping
 pub mod Gathering
 pub mod Listings
+pub mod Seeking
+pub mod Searching
+pub mod Binding
+pub mod Telling
+pub mod Ways

@@ -38,7 +38,7 @@ follow_first before e es h = record { keys = h.keys.1; rise = h.rise.1; behind =
 
 -- ---- faults
 
-no_fault : (stored : Stored) (name : CidParts) (e : MstError) (p : NodeParts) → NodeFault stored name e → IsNodeAt stored name p → ⊥
+pub no_fault : (stored : Stored) (name : CidParts) (e : MstError) (p : NodeParts) → NodeFault stored name e → IsNodeAt stored name p → ⊥
 no_fault stored name (error.MissingNode lost) p h k = absurd (cc (h.1, k.is))
 no_fault stored name (error.OtherBytes other) p (o, (b, is, not)) k =
     let same : k.block ≡ b = cc (is, k.is) in

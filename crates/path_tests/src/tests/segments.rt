@@ -97,6 +97,15 @@ fn many_segments(_rt: HostRuntime) -> Result<(), Fail> {
     agree(place(&deep, &segments)?, None)
 }
 
+/// As the page of `find_segments` says.
+#[test]
+fn the_example(_rt: HostRuntime) -> Result<(), Fail> {
+    agree(
+        place(b"\xa1\x63a/b\x82\x01\x17", &["a/b", "1"])?,
+        Some((Kind::Integer, 7, 1)),
+    )
+}
+
 /// A text says nothing of what is empty, and a list of segments does.
 #[test]
 fn an_empty_segment_is_none_in_a_text(_rt: HostRuntime) -> Result<(), Fail> {

@@ -41,7 +41,7 @@ IsRefusedAs b code = (e : DecodeError Infallible) × SliceRefused e b × (e ≢ 
 abbrev pub IsNoText : List ℕ → ℤ → Type 0
 IsNoText text code = (¬ IsUtf8 text) × (code ≡ negsuc 36)
 
--- The text is one of these segments: the item to which they lead in the block; or the places stay, since
+-- The text stands for these segments: the item to which they lead in the block; or the places stay, since
 -- they lead nowhere, or the bytes are no block, or the text is none.
 abbrev pub IsFoundAnswer : List ℕ → List ℕ → List (List ℕ) → Places → Places → ℤ → Type 0
 IsFoundAnswer b text path old new code = (IsUtf8 text × IsFoundAt b path new code)
@@ -90,4 +90,4 @@ pub record IsFollowedTo (b path : List ℕ) (begin end count : ℕ) (code : ℤ)
 abbrev pub IsFollowAnswer : List ℕ → List ℕ → List ℕ → List ℕ → ℤ → Type 0
 IsFollowAnswer b path old new code =
     ((begin end count : ℕ) × (new ≡ begin ∷ end ∷ count ∷ []) × IsFollowedTo b path begin end count code)
-    ⊎ ((new ≡ old) × (IsRefusedAs b code ⊎ IsNoText path code))
+    ⊎ ((new ≡ old) × ((IsUtf8 path × IsRefusedAs b code) ⊎ IsNoText path code))

@@ -1,7 +1,8 @@
 """How far a path leads in a block, by a walk of its own over what `judge` reads.
 
 A path is segments between slashes; empty ones say nothing, and nothing is escaped. From a map a segment leads to the value of that key,
-and from a list to the item whose index it is, from 0, in decimal without a sign and without zeros in front."""
+and from a list to the item whose index it is, from 0, in decimal without a sign and without zeros in front. A list of segments is taken as
+it stands: each may have slashes, or be empty."""
 
 from judge import head, spell
 
@@ -25,6 +26,17 @@ def part_of(data, segment):
         place = len(head(5, len(data))) + sum(len(spell(key)) + len(spell(data[key])) for key in before)
         return data[segment], place + len(spell(segment))
     return None
+
+
+def reached(data, segments):
+    """The item to which the segments lead, each taken whole, and where it begins and ends; or none."""
+    place = 0
+    for segment in segments:
+        found = part_of(data, segment)
+        if found is None:
+            return None
+        data, place = found[0], place + found[1]
+    return data, place, place + len(spell(data))
 
 
 def follow(data, path):

@@ -1,5 +1,5 @@
-/* Calls each export for each row of its table: call TABLE SECTIONS TEXTS HEADERS SPANS PATHS. Prints
- * the number of rows, or the row that is answered otherwise. */
+/* Calls each export for each row of its table: call TABLE SECTIONS TEXTS HEADERS SPANS PATHS
+ * SEGMENTS. Prints the number of rows, or the row that is answered otherwise. */
 #include "dagcbor.h"
 #include <inttypes.h>
 #include <stdbool.h>
@@ -131,6 +131,25 @@ static int is_right_path(char *const field[6]) {
     return place == wanted[0] && end == wanted[1];
 }
 
+/* A call for each segment, in the bytes of the item to which those before it lead. Where one leads
+ * nowhere, or is refused, the places stay. */
+static int are_right_segments(char *const field[5]) {
+    static uint8_t block[MOST], text[MOST];
+    size_t length = from_hex(field[0], block, 0), begin = 0, end = length;
+    const uint8_t *bytes = dagcbor_from(block, length);
+    int code = dagcbor_check(bytes, length);
+    for (char *it = strtok(field[1], "/"); code >= 0 && it; it = strtok(NULL, "/")) {
+        size_t place = 99, behind = 98, count = from_hex(it, text, 0);
+        code = dagcbor_part(bytes + begin, end - begin, dagcbor_from(text, count), count, &place,
+                            &behind);
+        if (code < 0 && (place != 99 || behind != 98)) return 0;
+        if (code >= 0) end = begin + behind, begin += place;
+    }
+    if (code != atoi(field[2])) return 0;
+    if (code < 0) return 1;
+    return begin == strtoull(field[3], NULL, 10) && end == strtoull(field[4], NULL, 10);
+}
+
 /* Where no section begins the bytes, the places stay. */
 static int is_right_section(char *const field[3]) {
     static uint8_t bytes[MOST];
@@ -226,14 +245,15 @@ static int rows_of(const char *name, int words, int is_right(char *const *)) {
 }
 
 int main(int count, char **words) {
-    bool is_whole = count == 7;
+    bool is_whole = count == 8;
     int blocks = is_whole ? rows_of(words[1], 8, is_right_block) : 0;
     int sections = is_whole ? rows_of(words[2], 3, is_right_section) : 0;
     int texts = is_whole ? rows_of(words[3], 4, is_right_text) : 0;
     int headers = is_whole ? rows_of(words[4], 4, is_right_header) : 0;
     int spans = is_whole ? rows_of(words[5], 3, is_right_span) : 0;
     int paths = is_whole ? rows_of(words[6], 6, is_right_path) : 0;
-    printf("%d blocks, %d sections, %d texts, %d headers, %d spans, %d paths\n", blocks, sections,
-           texts, headers, spans, paths);
-    return !blocks || !sections || !texts || !headers || !spans || !paths;
+    int segments = is_whole ? rows_of(words[7], 5, are_right_segments) : 0;
+    printf("%d blocks, %d sections, %d texts, %d headers, %d spans, %d paths, %d of segments\n",
+           blocks, sections, texts, headers, spans, paths, segments);
+    return !blocks || !sections || !texts || !headers || !spans || !paths || !segments;
 }

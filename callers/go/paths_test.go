@@ -29,6 +29,30 @@ func TestPaths(t *testing.T) {
 	equal(t, len(all) > 1000, true)
 }
 
+func TestSegments(t *testing.T) {
+	all := rows(t, "segments")
+	for _, row := range all {
+		block, code := unhex(row[0]), number(row[2])
+		var segments []string
+		for _, it := range strings.FieldsFunc(row[1], func(it rune) bool { return it == '/' }) {
+			segments = append(segments, string(unhex(it)))
+		}
+		found, err := FindSegments(block, segments)
+		switch {
+		case code == -37:
+			isRefused(t, err, -8, -1)
+		case code == -36:
+			equal(t, err, ErrNoSuchPath)
+		case code < 0:
+			equal(t, errors.As(err, new(*Error)), true)
+		default:
+			equal(t, err, nil)
+			equal(t, found, block[number(row[3]):number(row[4])])
+		}
+	}
+	equal(t, len(all) > 1000, true)
+}
+
 // The block of a value, put under its name.
 func put(held map[CID][]byte, value any) CID {
 	block, err := Encode(value)
@@ -83,4 +107,35 @@ func TestResolve(t *testing.T) {
 	held[other] = []byte{5}
 	_, err = Resolve(get, other, "")
 	isRefused(t, err, -23, -1)
+}
+
+func TestResolveSegments(t *testing.T) {
+	held := map[CID][]byte{}
+	leaf := put(held, map[string]any{"b": []any{1, nil}, "": 3})
+	inner := put(held, map[string]any{"": map[string]any{"/": "found"}, "c/d": []any{leaf}})
+	lost := Name([]byte("none is held"))
+	root := put(held, map[string]any{"a/b": []any{inner, lost}, "": leaf})
+	get := func(cid CID) ([]byte, error) { return held[cid], nil }
+	for _, row := range []struct {
+		wanted   string
+		segments []string
+	}{
+		{string(held[root]), nil}, {"\xa1\x61/\x65found", []string{"a/b", "0", ""}},
+		{"\x65found", []string{"a/b", "0", "", "/"}}, {"\xf6", []string{"a/b", "0", "c/d", "0", "b", "1"}},
+		{"\x03", []string{"", ""}}, {"", []string{"a", "b", "0"}}, {"", []string{"a/b", "0", "/"}},
+		{"", []string{"a/b", "", "0"}}, {"", []string{"", "b", ""}}, {"", []string{"a/b/0"}}, {"", make([]string, 5000)},
+	} {
+		found, err := ResolveSegments(get, root, row.segments)
+		if row.wanted == "" {
+			equal(t, err, ErrNoSuchPath)
+		} else {
+			equal(t, err, nil)
+			equal(t, string(found), row.wanted)
+		}
+	}
+	_, err := ResolveSegments(get, root, []string{"a/b", "1", ""})
+	equal(t, errors.Is(err, ErrMissing), true)
+	held[inner] = []byte{5}
+	_, err = ResolveSegments(get, root, []string{"a/b", "0", ""})
+	isRefused(t, err, -22, -1)
 }

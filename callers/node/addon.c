@@ -280,6 +280,25 @@ static napi_value follow(napi_env env, napi_callback_info info) {
     return answer;
 }
 
+/* part(block, segment): a Float64Array of the kind of the part to which the segment leads, taken
+ * whole, and where it begins and ends. */
+static napi_value part(napi_env env, napi_callback_info info) {
+    size_t count = 2, length, segment_length, place, end;
+    napi_value given[2];
+    void *numbers;
+    TRY(napi_get_cb_info(env, info, &count, given, NULL, NULL));
+    const uint8_t *block = bytes_in(env, given[0], &length);
+    const uint8_t *segment = bytes_in(env, given[1], &segment_length);
+    if (!block || !segment) return no_bytes(env);
+    int32_t code = dagcbor_part(block, length, segment, segment_length, &place, &end);
+    if (code < 0) return number_of(env, code);
+    napi_value answer = new_array(env, napi_float64_array, 3, sizeof(double), &numbers);
+    double *told = numbers;
+    if (!answer) return NULL;
+    told[0] = code, told[1] = (double)place, told[2] = (double)end;
+    return answer;
+}
+
 /* tape(block): a BigUint64Array of three numbers for each token. */
 static napi_value tape(napi_env env, napi_callback_info info) {
     size_t length, count;
@@ -358,7 +377,7 @@ NAPI_MODULE_INIT() {
         const char *name;
         napi_callback call;
     } all[] = {{"reader", reader}, {"judge", judge}, {"place", place}, {"tape", tape},
-               {"follow", follow},
+               {"follow", follow}, {"part", part},
                {"links", links}, {"name", name}, {"cid_text", cid_text},
                {"cid_from_text", cid_from_text},
                {"car_open", car_open}, {"car_put", car_put}, {"car_go", car_go},

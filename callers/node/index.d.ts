@@ -138,11 +138,17 @@ export function check(block: Uint8Array): Kind;
 export function links(block: Uint8Array): CID[];
 
 /**
- * The data to which a path as `a/0/b` leads in a block; undefined where it leads nowhere. Segments
- * stand between slashes, and empty ones say nothing: each is a key of a map, or the index of an item
- * of a list in decimal. A link is an item, and nothing is in it.
+ * A text as `a/0/b`, whose segments stand between slashes, and empty ones say nothing; or an array
+ * of segments, each taken whole. A segment is a key of a map, or the index of an item of a list in
+ * decimal. A key that is empty or has a slash is reached by an array alone.
  */
-export function find<T = Data>(block: Uint8Array, path: string): T | undefined;
+export type Path = string | readonly string[];
+
+/**
+ * The data to which a path leads in a block; undefined where it leads nowhere. A link is an item,
+ * and nothing is in it.
+ */
+export function find<T = Data>(block: Uint8Array, path: Path): T | undefined;
 
 /** What holds blocks by their names: a call, or what has `get`, as a `CarReader` or a blockstore. */
 export type Blocks = Get | { get: Get };
@@ -156,7 +162,7 @@ export type Held = Uint8Array | { readonly bytes: Uint8Array } | undefined | nul
  * (`MissingBlock`), is of another codec (`NotRead`) or hash function (`NotVerified`), is not the one
  * that its name says (`OtherBytes`), or no block.
  */
-export function resolve<T = Data>(get: Blocks, cid: AnyCid, path: string): Promise<T | undefined>;
+export function resolve<T = Data>(get: Blocks, cid: AnyCid, path: Path): Promise<T | undefined>;
 
 /** The CID of any bytes as a block: version 1, DAG-CBOR, SHA-256. */
 export function name(block: Uint8Array): CID;

@@ -7,26 +7,46 @@ const { CID, binaryOf } = require('./cid.js');
 const { decode } = require('./decode.js');
 const { DagCborError, answered, refusal } = require('./errors.js');
 
-const [LINK, IDENTITY, NOT_READ, OTHER_BYTES, NOT_VERIFIED, NO_TEXT] = [7, 0, 9, -22, -23, -37];
+const [LINK, IDENTITY, NOT_READ, OTHER_BYTES, NOT_VERIFIED] = [7, 0, 9, -22, -23];
+const [NO_SUCH_PATH, NO_TEXT] = [-36, -37];
 const REFUSED = { 'not read': NOT_READ, 'other bytes': OTHER_BYTES, 'not verified': NOT_VERIFIED };
 
-const bytesOf = (path) => {
-  if (typeof path !== 'string') throw new TypeError('a path is a text');
-  if (/\p{Surrogate}/u.test(path)) throw refusal(NO_TEXT);
-  return new TextEncoder().encode(path);
+const bytesOf = (text) => {
+  if (typeof text !== 'string') throw new TypeError('a path is a text, or an array of texts');
+  if (/\p{Surrogate}/u.test(text)) throw refusal(NO_TEXT);
+  return new TextEncoder().encode(text);
 };
+
+// The bytes of a text, or an array of those of each segment.
+const pathOf = (path) => (Array.isArray(path) ? Array.from(path, bytesOf) : bytesOf(path));
 
 // The last item of the block to which a front of the path leads, whether it is a link, and what is
-// left of the path.
-const follow = (block, path) => {
+// left of the path, or null where nothing is.
+const followText = (block, path) => {
   const found = answered(native.follow(block, path), () => native.place(block));
   const [kind, begin, end, passed] = found;
-  return { item: view(block, begin, end), isLink: kind === LINK, left: path.subarray(passed) };
+  const left = passed < lengthOf.call(path) ? path.subarray(passed) : null;
+  return { item: view(block, begin, end), isLink: kind === LINK, left };
 };
 
+// The same, where each segment is taken whole.
+const followSegments = (block, segments) => {
+  let kind = answered(native.judge(block), () => native.place(block));
+  let item = block;
+  for (let at = 0; at < segments.length; at++) {
+    const found = native.part(item, segments[at]);
+    if (found === NO_SUCH_PATH) return { item, isLink: kind === LINK, left: segments.slice(at) };
+    kind = found[0];
+    item = view(item, found[1], found[2]);
+  }
+  return { item, isLink: kind === LINK, left: null };
+};
+
+const follow = (block, path) => (Array.isArray(path) ? followSegments : followText)(block, path);
+
 const find = (block, path) => {
-  const { item, left } = follow(block, bytesOf(path));
-  return lengthOf.call(left) === 0 ? decode(item) : undefined;
+  const { item, left } = follow(block, pathOf(path));
+  return left === null ? decode(item) : undefined;
 };
 
 // What is held under the name. A name by the identity holds its block itself.
@@ -48,12 +68,12 @@ const verified = (cid, block) => {
 };
 
 const resolve = async (get, cid, path) => {
-  let left = bytesOf(path);
+  let left = pathOf(path);
   let name = CID.asCID(cid);
   if (name === null) throw new TypeError('a CID is wanted');
   for (;;) {
     const found = follow(verified(name, await heldUnder(get, name)), left);
-    if (lengthOf.call(found.left) === 0) return decode(found.item);
+    if (found.left === null) return decode(found.item);
     if (!found.isLink) return undefined;
     name = decode(found.item);
     left = found.left;

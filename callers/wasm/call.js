@@ -1,5 +1,5 @@
 // node --experimental-wasm-memory64 call.js dagcbor_ffi.wasm TABLE TEXTS HEADERS SECTIONS SPANS PATHS
-// (later versions want no flag). Holds the module against each row of the tables.
+// SEGMENTS (later versions want no flag). Holds the module against each row of the tables.
 'use strict';
 const { readFileSync } = require('fs');
 
@@ -72,6 +72,20 @@ const isRightPath = ({ follow }, [block, path, code, begin, end, passed]) => {
   return `${found.kind} ${found.begin} ${found.end} ${found.passed}` === `${code} ${begin} ${end} ${passed}`;
 };
 
+// A call for each segment, in the bytes of the item to which those before it lead.
+const areRightSegments = ({ check, part }, [block, segments, code, begin, end]) => {
+  let item = Buffer.from(block === '-' ? '' : block, 'hex');
+  let found = { kind: check(item), begin: 0, end: item.length };
+  let place = 0;
+  for (const it of segments.split('/').filter(Boolean)) {
+    found = part(item, Buffer.from(it === '-' ? '' : it, 'hex'));
+    if (typeof found === 'number') return String(found) === code;
+    item = item.subarray(found.begin, found.end);
+    place += found.begin;
+  }
+  return `${found.kind} ${place} ${place + item.length}` === `${code} ${begin} ${end}`;
+};
+
 const rowsOf = (table) => {
   const lines = readFileSync(table, 'utf8').split('\n');
   return lines.filter((it) => it && !it.startsWith('#')).map((it) => it.split(' '));
@@ -80,7 +94,9 @@ const rowsOf = (table) => {
 const main = async () => {
   const module = await require('./dagcbor.js').load(readFileSync(process.argv[2]));
   const tables = process.argv.slice(3).map(rowsOf);
-  const holds = [isRight, isRightText, isRightHeader, isRightSection, isRightSpan, isRightPath];
+  const holds = [
+    isRight, isRightText, isRightHeader, isRightSection, isRightSpan, isRightPath, areRightSegments,
+  ];
   const wrong = tables.flatMap((rows, i) => rows.filter((it) => !holds[i](module, it)))[0];
   const counts = tables.map((rows) => rows.length);
   console.log(wrong ? `wrong: ${wrong[0]}` : `${counts.join(', ')} rows`);

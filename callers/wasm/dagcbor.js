@@ -1,6 +1,7 @@
 // The WebAssembly module for JavaScript, in Node and in a browser:
-// const { check, tape, tokens, follow, spell, links, name, cidText, cidFromText, carSpan, carHeader,
-// carSection, carSections } = await load(module), which is the module's bytes, or a WebAssembly.Module.
+// const { check, tape, tokens, follow, part, spell, links, name, cidText, cidFromText, carSpan,
+// carHeader, carSection, carSections } = await load(module), which is the module's bytes, or a
+// WebAssembly.Module.
 // It imports nothing, and has a 64-bit memory: addresses and lengths are BigInts.
 const PAGE = 65536;
 const FRONT = 64;
@@ -65,6 +66,13 @@ const unpacked = (packed) => {
   return found;
 };
 
+// The addresses and the lengths of both, the text behind the block.
+const putBoth = (room, block, text) => {
+  const given = room.put(block, text.length + 1);
+  new Uint8Array(room.memory.buffer).set(text, room.base + FRONT + block.length);
+  return [...given, room.address(block.length), BigInt(text.length)];
+};
+
 const judging = (calls, room) => ({
   check: (block) => calls.dagcbor_check(...room.put(block)),
   name: (block) => {
@@ -103,13 +111,16 @@ const judging = (calls, room) => ({
   // The number of a refusal; or the kind of the last item to which a front of the path leads, whose
   // UTF-8 it is, where the item begins and ends, and how many bytes of the path lead there.
   follow: (block, path) => {
-    const given = room.put(block, path.length + 1);
-    new Uint8Array(room.memory.buffer).set(path, room.base + FRONT + block.length);
-    const text = [room.address(block.length), BigInt(path.length)];
-    const kind = calls.dagcbor_follow(...given, ...text, room.front);
+    const kind = calls.dagcbor_follow(...putBoth(room, block, path), room.front);
     if (kind < 0) return kind;
     const [begin, end, passed] = [0, 1, 2].map((n) => room.number(n));
     return { kind, begin, end, passed };
+  },
+  // The number of a refusal, or -36 where the segment, whose UTF-8 it is, leads nowhere; or the kind
+  // of the part of the block's item to which it leads, taken whole, and where that begins and ends.
+  part: (block, segment) => {
+    const kind = calls.dagcbor_part(...putBoth(room, block, segment), room.front, room.front + 8n);
+    return kind < 0 ? kind : { kind, begin: room.number(0), end: room.number(1) };
   },
   // The number of a refusal, or CIDs: packed they are shorter than the block.
   links: (block) => {

@@ -23,6 +23,20 @@ test('the table', () => {
   assert.ok(rows.length > 1000);
 });
 
+test('the table of segments', () => {
+  const text = readFileSync(join(__dirname, '../../tables/segments.txt'), 'ascii');
+  const rows = text.trim().split('\n').map((it) => it.split(' '));
+  for (const [hex, of, kind, begin, end] of rows) {
+    const [block, path] = [bytesOf(hex), of.split('/').filter(Boolean).map((it) => bytesOf(it).toString())];
+    if (kind === '-37') continue; // no text
+    const ask = () => find(block, path);
+    if (kind === '-36') assert.strictEqual(ask(), undefined);
+    else if (Number(kind) < 0) assert.throws(ask, { name: 'DagCborError' });
+    else assert.deepStrictEqual(Buffer.from(encode(ask())), block.subarray(begin, end));
+  }
+  assert.ok(rows.length > 1000);
+});
+
 const leaf = { b: 'hi', list: [1, [2, null]] };
 const raw = Buffer.from('raw bytes');
 const sha256 = (bytes) => Buffer.concat([Buffer.of(0x12, 32), createHash('sha256').update(bytes).digest()]);
@@ -45,6 +59,29 @@ test('paths over links', async () => {
     assert.deepStrictEqual(await resolve(get, of(root), path), wanted, path.slice(0, 40));
     assert.deepStrictEqual(await resolve({ get: async (it) => get(it) }, of(root), path), wanted);
   }
+});
+
+test('segments over links, of which each is taken whole', async () => {
+  const inner = { '': { '/': 'found' }, 'c/d': [of(leaf)] };
+  const outer = { 'a/b': [of(inner)], '': of(leaf) };
+  const blocks = (cid) => [inner, outer, leaf].find((it) => of(it).equals(cid));
+  const ask = (path) => resolve((cid) => encode(blocks(cid)), of(outer), path);
+  const rows = [
+    [[], outer], [['a/b'], [of(inner)]], [['a/b', '0'], of(inner)], [['a/b', '0', ''], { '/': 'found' }],
+    [['a/b', '0', '', '/'], 'found'], [['a/b', '0', 'c/d', '0', 'list', '1', '0'], 2], [['', 'b'], 'hi'],
+    [['a/b', '0', '/'], undefined], [['a', 'b'], undefined], [['', 'b', ''], undefined],
+    [['a/b', '', '0'], undefined], [['a/b/0'], undefined], [Array(5000).fill(''), undefined],
+  ];
+  for (const [path, wanted] of rows) assert.deepStrictEqual(await ask(path), wanted, path.slice(0, 9).join());
+  for (const path of [['links', '0', 'none', ''], ['links', '0', 'none', 'x']]) {
+    await assert.rejects(resolve(get, of(root), path), { kind: 'MissingBlock' });
+  }
+  await assert.rejects(resolve(() => encode(1), of(root), ['a']), { kind: 'OtherBytes' });
+  assert.throws(() => find(encode(1), ['\ud800']), { kind: 'RequireUtf8' });
+  assert.throws(() => find(encode(1), [0]), TypeError);
+  assert.throws(() => find(encode([1]), Array(1)), TypeError);
+  assert.throws(() => find(Buffer.of(0x18, 0x17), []), { kind: 'NonMinimal', place: 1 });
+  assert.throws(() => find(Buffer.of(0x18, 0x17), ['a']), { kind: 'NonMinimal', place: 1 });
 });
 
 test('what is not the block of its name', async () => {

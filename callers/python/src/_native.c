@@ -725,6 +725,25 @@ static PyObject *follow(PyObject *module, PyObject *args) {
     return answer;
 }
 
+/* The bytes of the part of a block's item to which a segment leads; None where it leads nowhere. */
+static PyObject *part(PyObject *module, PyObject *args) {
+    PyObject *segment, *answer = NULL;
+    const char *text;
+    Py_ssize_t length;
+    size_t place, end;
+    PyObject *block = block_and_path(args, &segment, &text, &length);
+    if (!block) return NULL;
+    int32_t code = dagcbor_part(bytes_of(block), length_of(block), (const uint8_t *)text,
+                                (size_t)length, &place, &end);
+    if (code >= 0)
+        answer = PyBytes_FromStringAndSize((const char *)bytes_of(block) + place,
+                                           (Py_ssize_t)(end - place));
+    else if (code == DAGCBOR_NO_SUCH_PATH) answer = Py_NewRef(Py_None);
+    else refuse_block(PyModule_GetState(module), code, block);
+    Py_DECREF(block);
+    return answer;
+}
+
 PyObject *unpack(State *state, const uint8_t *packed, size_t length) {
     PyObject *found = PyList_New(0);
     for (size_t at = 0; found && at < length; at += 1 + packed[at]) {
@@ -792,10 +811,11 @@ static PyMethodDef methods[] = {
      "dumps(value, *, default=None): the one block of the data. Keys come in the order of blocks, "
      "whatever the dict's. What `default(it)` gives is written for what is no data."},
     {"check", check, METH_O, "check(block): the kind of a block."},
-    {"find", find, METH_VARARGS,
-     "find(block, path): the data to which a path as a/0/b leads in a block; else a KeyError."},
+    {"find", find, METH_VARARGS, "The data to which a text leads in a block; else a KeyError."},
     {"follow", follow, METH_VARARGS,
      "The data, whether the path leads to it or goes on at it, and the path that is left."},
+    {"part", part, METH_VARARGS,
+     "The bytes of the part to which one segment leads, taken whole; None where it leads nowhere."},
     {"links", links, METH_O,
      "links(block): the links of the first item, in their order. What follows it is not looked "
      "at."},

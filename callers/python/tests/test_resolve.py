@@ -50,8 +50,48 @@ def test_a_path(get, path):
         assert resolve(get, name(dumps(ROOT)), path) == wanted
 
 
+@pytest.mark.parametrize("path", PATHS, ids=lambda it: it[:30])
+def test_its_segments(path):
+    segments = [it for it in path.split("/") if it]
+    try:
+        wanted = walked(name(dumps(ROOT)), path)
+    except KeyError:
+        with pytest.raises(KeyError):
+            resolve(BLOCKS, name(dumps(ROOT)), segments)
+    else:
+        assert resolve(BLOCKS, name(dumps(ROOT)), segments) == wanted
+
+
+def test_segments_over_links():
+    """Keys that no text reaches, before a link and behind it."""
+    held = {"": {"/": "found"}, "c/d": [name(dumps(LEAF))]}
+    root = {"a/b": [name(dumps(held))], "": name(dumps(LEAF))}
+    blocks = BLOCKS | {name(dumps(it)): dumps(it) for it in (held, root)}
+    rows = [
+        ((), root), (("a/b",), root["a/b"]), (("a/b", "0"), name(dumps(held))), (("a/b", "0", ""), {"/": "found"}),
+        (("a/b", "0", "", "/"), "found"), (("a/b", "0", "c/d", "0", "list", "1", "0"), 2), (("", ""), 3), (("", "b"), "hi"),
+    ]
+    for segments, wanted in rows:
+        assert resolve(blocks, name(dumps(root)), list(segments)) == wanted
+        assert resolve(blocks.get, name(dumps(root)), segments) == wanted
+    for segments, end, left in [
+        (["a/b", "0", "/", ""], held, ["/", ""]), (["a", "b", "0"], root, ["a", "b", "0"]), (["", "b", ""], LEAF, [""]),
+        (["a/b", "", "0"], root, ["", "0"]), (["a/b", "0", "", "", "/"], held, ["", "/"]),
+    ]:
+        with pytest.raises(KeyError) as none:
+            resolve(blocks, name(dumps(root)), segments)
+        assert none.value.args == (name(dumps(end)), left)
+    with pytest.raises(MissingBlock) as missing:
+        resolve(blocks, name(dumps(ROOT)), ["links", "0", "none", ""])
+    assert missing.value.cid == MIDDLE["none"]
+    with pytest.raises(DagCborError) as refused:
+        resolve(blocks | {name(dumps(held)): dumps(1)}, name(dumps(root)), ["a/b", "0", ""])
+    assert refused.value.kind == "OtherBytes"
+
+
 def test_a_block_that_is_a_link():
     assert resolve(BLOCKS, name(dumps(ONLY)), "leaf/b") == "hi"
+    assert resolve(BLOCKS, name(dumps(ONLY)), ["leaf", "b"]) == "hi"
     assert resolve(BLOCKS, name(dumps(ONLY)), "") == ONLY
 
 

@@ -1,6 +1,7 @@
 use crate::answer::answer_of;
 use crate::item::{Cids, Items, Token};
 use crate::{Cid, Kind, Refusal, Refused};
+use core::ops::Range;
 #[cfg(feature = "alloc")]
 use {
     crate::item::{self, Item},
@@ -39,6 +40,14 @@ extern "C" {
         out: *mut u8,
         room: usize,
         needed: *mut usize,
+    ) -> i32;
+    fn dagcbor_part(
+        block: *const u8,
+        length: usize,
+        segment: *const u8,
+        segment_length: usize,
+        place: *mut usize,
+        end: *mut usize,
     ) -> i32;
     fn dagcbor_follow(
         block: *const u8,
@@ -83,6 +92,9 @@ pub const MOST_OF_CID: usize = 86;
 
 /// The greatest length of the text of a CID, as it is written.
 pub(crate) const MOST_OF_TEXT: usize = 139;
+
+/// What is answered where a path leads nowhere.
+const NO_SUCH_PATH: i32 = -36;
 
 /// Tokens are fewer than this.
 const MOST_TOKENS: usize = 1 << 58;
@@ -136,6 +148,31 @@ pub(crate) fn put_followed(
         dagcbor_follow(block.as_ptr(), block.len(), path.as_ptr(), path.len(), places)
     };
     answer_of(code, 0).map_err(|refusal| refusal.at(place_in(block)))
+}
+
+/// The kind of the part of the block's item to which the segment leads, taken whole, and where it
+/// stands; none where it leads nowhere.
+pub(crate) fn part_at(
+    block: &[u8],
+    segment: &str,
+) -> Result<Option<(Kind, Range<usize>)>, Refused> {
+    let (mut place, mut end) = (0, 0);
+    // SAFETY: see above.
+    let code = unsafe {
+        dagcbor_part(
+            block.as_ptr(),
+            block.len(),
+            segment.as_ptr(),
+            segment.len(),
+            &mut place,
+            &mut end,
+        )
+    };
+    if code == NO_SUCH_PATH {
+        return Ok(None);
+    }
+    let kind = answer_of(code, 0).map_err(|refusal| refusal.at(place_in(block)))?;
+    Ok(Some((kind, place..end)))
 }
 
 /// What the library answers of the front of a file of blocks.

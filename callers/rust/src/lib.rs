@@ -65,9 +65,9 @@ pub use error::Error;
 #[cfg(feature = "serde")]
 pub use ipld::Ipld;
 pub use item::{Cids, Item, Items, Token};
-pub use paths::find;
+pub use paths::{find, find_segments};
 #[cfg(feature = "alloc")]
-pub use paths::{resolve, Unresolved};
+pub use paths::{resolve, resolve_segments, Unresolved};
 #[cfg(feature = "serde")]
 pub use ser::to_vec;
 #[cfg(all(feature = "serde", feature = "std"))]

@@ -1,4 +1,4 @@
-use crate::calls::put_followed;
+use crate::calls::{check, part_at, put_followed};
 use crate::{Kind, Refused};
 #[cfg(feature = "alloc")]
 use {
@@ -16,6 +16,21 @@ fn follow<'b, 'p>(block: &'b [u8], path: &'p str) -> Result<(Kind, &'b [u8], &'p
     Ok((kind, &block[begin..end], &path[passed..]))
 }
 
+/// The same of segments, each taken whole.
+fn follow_segments<'b, 'p>(
+    block: &'b [u8],
+    segments: &'p [&'p str],
+) -> Result<(Kind, &'b [u8], &'p [&'p str]), Refused> {
+    let (mut kind, mut item, mut left) = (check(block)?, block, segments);
+    while let [segment, more @ ..] = left {
+        match part_at(item, segment)? {
+            Some((found, place)) => (kind, item, left) = (found, &item[place], more),
+            None => break,
+        }
+    }
+    Ok((kind, item, left))
+}
+
 /// The bytes of the item to which a path leads in a block, which are a block by themselves; none
 /// where it leads nowhere. Segments stand between slashes, and empty ones say nothing: each is a key
 /// of a map, or the index of an item of a list in decimal. A link is an item, and nothing is in it.
@@ -30,6 +45,21 @@ fn follow<'b, 'p>(block: &'b [u8], path: &'p str) -> Result<(Kind, &'b [u8], &'p
 /// ```
 pub fn find<'b>(block: &'b [u8], path: &str) -> Result<Option<&'b [u8]>, Refused> {
     let (_, item, left) = follow(block, path)?;
+    Ok(left.is_empty().then_some(item))
+}
+
+/// As [`find`], of a list of segments, each taken whole: it reaches keys that are empty or have
+/// slashes too.
+///
+/// ```
+/// use dagcbor::find_segments;
+///
+/// let block = b"\xa1\x63a/b\x82\x01\x17";
+/// assert_eq!(find_segments(block, &["a/b", "1"])?, Some(&b"\x17"[..]));
+/// # Ok::<(), dagcbor::Refused>(())
+/// ```
+pub fn find_segments<'b>(block: &'b [u8], segments: &[&str]) -> Result<Option<&'b [u8]>, Refused> {
+    let (_, item, left) = follow_segments(block, segments)?;
     Ok(left.is_empty().then_some(item))
 }
 
@@ -79,9 +109,52 @@ const IDENTITY: u64 = 0;
 /// ```
 #[cfg(feature = "alloc")]
 pub fn resolve<B: AsRef<[u8]>, E>(
-    mut get: impl FnMut(&Cid) -> Result<Option<B>, E>,
+    get: impl FnMut(&Cid) -> Result<Option<B>, E>,
     root: &Cid,
     path: &str,
+) -> Result<Option<Vec<u8>>, Unresolved<E>> {
+    resolve_path(get, root, Path::Text(path))
+}
+
+/// As [`resolve`], of a list of segments, each taken whole.
+#[cfg(feature = "alloc")]
+pub fn resolve_segments<B: AsRef<[u8]>, E>(
+    get: impl FnMut(&Cid) -> Result<Option<B>, E>,
+    root: &Cid,
+    segments: &[&str],
+) -> Result<Option<Vec<u8>>, Unresolved<E>> {
+    resolve_path(get, root, Path::Segments(segments))
+}
+
+#[cfg(feature = "alloc")]
+#[derive(Clone, Copy)]
+enum Path<'p> {
+    Text(&'p str),
+    Segments(&'p [&'p str]),
+}
+
+#[cfg(feature = "alloc")]
+impl<'p> Path<'p> {
+    /// The kind and the bytes of the last item to which a front leads, and what is left, if any is.
+    fn follow<'b>(self, block: &'b [u8]) -> Result<(Kind, &'b [u8], Option<Self>), Refused> {
+        Ok(match self {
+            Path::Text(text) => {
+                let (kind, item, left) = follow(block, text)?;
+                (kind, item, (!left.is_empty()).then_some(Path::Text(left)))
+            }
+            Path::Segments(segments) => {
+                let (kind, item, left) = follow_segments(block, segments)?;
+                (kind, item, (!left.is_empty()).then_some(Path::Segments(left)))
+            }
+        })
+    }
+}
+
+#[cfg(feature = "alloc")]
+fn resolve_path<B: AsRef<[u8]>, E>(
+    mut get: impl FnMut(&Cid) -> Result<Option<B>, E>,
+    root: &Cid,
+    path: Path<'_>,
 ) -> Result<Option<Vec<u8>>, Unresolved<E>> {
     let (mut cid, mut left) = (*root, path);
     loop {
@@ -91,13 +164,11 @@ pub fn resolve<B: AsRef<[u8]>, E>(
         };
         let block = held.as_ref().map_or(cid.digest(), AsRef::as_ref);
         let (kind, item, more) = follow_in(&cid, block, left)?;
-        if more.is_empty() {
-            return Ok(Some(item.to_vec()));
+        match more {
+            None => return Ok(Some(item.to_vec())),
+            Some(more) if kind == Kind::Link => (cid, left) = (link_of(item), more),
+            Some(_) => return Ok(None),
         }
-        if kind != Kind::Link {
-            return Ok(None);
-        }
-        (cid, left) = (link_of(item), more);
     }
 }
 
@@ -106,15 +177,15 @@ pub fn resolve<B: AsRef<[u8]>, E>(
 fn follow_in<'b, 'p, E>(
     cid: &Cid,
     block: &'b [u8],
-    path: &'p str,
-) -> Result<(Kind, &'b [u8], &'p str), Unresolved<E>> {
+    path: Path<'p>,
+) -> Result<(Kind, &'b [u8], Option<Path<'p>>), Unresolved<E>> {
     if name(block) != *cid {
         match verify(cid, block) {
             Verdict::Ok(_) => {}
             verdict => return Err(Unresolved::NoBlock(*cid, verdict)),
         }
     }
-    follow(block, path).map_err(|it| Unresolved::NoBlock(*cid, Verdict::Refused(it.refusal)))
+    path.follow(block).map_err(|it| Unresolved::NoBlock(*cid, Verdict::Refused(it.refusal)))
 }
 
 /// The CID of a link's bytes.

@@ -1,4 +1,5 @@
-use dagcbor::{find, name, resolve, spell, Cid, Item, Unresolved, Verdict};
+use dagcbor::{find, find_segments, name, resolve, resolve_segments, spell};
+use dagcbor::{Cid, Item, Unresolved, Verdict};
 use std::{collections::HashMap, convert::Infallible};
 
 fn from_hex(text: &str) -> Vec<u8> {
@@ -23,6 +24,32 @@ fn the_table_holds() {
         }
         let [begin, end, passed] = [3, 4, 5].map(|it: usize| row[it].parse::<usize>().unwrap());
         assert_eq!(found, Ok((passed == path.len()).then_some(&block[begin..end])), "{row:?}");
+    }
+    assert!(rows.len() > 1000);
+}
+
+#[test]
+fn the_table_of_segments_holds() {
+    let table = include_str!("../../tables/segments.txt");
+    let rows: Vec<Vec<&str>> = table.lines().map(|it| it.split(' ').collect()).collect();
+    for row in &rows {
+        let pieces = row[1].split('/').filter(|it| !it.is_empty());
+        let texts = pieces.map(|it| String::from_utf8(from_hex(it))).collect::<Result<Vec<_>, _>>();
+        let Ok(texts) = texts else {
+            assert_eq!(row[2], "-37");
+            continue;
+        };
+        let segments: Vec<&str> = texts.iter().map(|it| &it[..]).collect();
+        let block = from_hex(row[0]);
+        let found = find_segments(&block, &segments);
+        match row[2] {
+            "-36" => assert_eq!(found, Ok(None), "{row:?}"),
+            code if code.starts_with('-') => assert!(found.is_err(), "{row:?}"),
+            _ => {
+                let [begin, end] = [3, 4].map(|it: usize| row[it].parse::<usize>().unwrap());
+                assert_eq!(found, Ok(Some(&block[begin..end])), "{row:?}");
+            }
+        }
     }
     assert!(rows.len() > 1000);
 }
@@ -98,4 +125,36 @@ fn a_block_that_is_not_held_is_no_absence() {
     assert_eq!(found, Err(Unresolved::NoBlock(held.leaf, Verdict::OtherBytes)));
     let failed = resolve(|_| Err::<Option<Vec<u8>>, _>("a fault"), &held.root, "");
     assert_eq!(failed, Err(Unresolved::Get("a fault")));
+}
+
+#[test]
+fn segments_lead_over_links() {
+    let mut held = held();
+    let inner = held.put(&[
+        Item::Map(2), Item::Text(""), Item::Map(1), Item::Text("/"), Item::Integer(7),
+        Item::Text("c/d"), Item::List(1), Item::Link(held.leaf),
+    ]);
+    let root = held.put(&[
+        Item::Map(2), Item::Text(""), Item::Link(held.leaf),
+        Item::Text("a/b"), Item::List(2), Item::Link(inner), Item::Link(held.lost),
+    ]);
+    let get = |cid: &Cid| Ok::<_, Infallible>(held.blocks.get(cid));
+    let ask = |it: &[&str]| resolve_segments(get, &root, it);
+    let rows: [(&[&str], Option<&[u8]>); 9] = [
+        (&[], Some(&held.blocks[&root])),
+        (&["a/b", "0", ""], Some(b"\xa1\x61/\x07")),
+        (&["a/b", "0", "", "/"], Some(b"\x07")),
+        (&["a/b", "0", "c/d", "0", "b", "1"], Some(b"\xf6")),
+        (&["", "b", "0"], Some(b"\x01")),
+        (&["a", "b", "0"], None),
+        (&["a/b", "", "0"], None),
+        (&["", "b", "0", ""], None),
+        (&[""; 5000], None),
+    ];
+    for (segments, wanted) in rows {
+        assert_eq!(ask(segments).unwrap().as_deref(), wanted, "{:?}", segments.get(..6));
+    }
+    assert_eq!(ask(&["a/b", "1", ""]), Err(Unresolved::Missing(held.lost)));
+    let other = resolve_segments(|_| Ok::<_, Infallible>(Some(b"\x05")), &root, &["a/b"]);
+    assert_eq!(other, Err(Unresolved::NoBlock(root, Verdict::OtherBytes)));
 }

@@ -6,3 +6,4 @@ pub mod Spelling
 pub mod Naming
 pub mod Standing
 pub mod HeaderRoots
+pub mod Finding

@@ -1,5 +1,5 @@
 -- What callers in other languages are answered of a path.
-use Rattle.std.specs.Prelude.{◌≡◌, ◌≢◌, ◌⊎◌, ℕ, ◌+◌, ℤ, negsuc, List, [], ◌∷◌, ◌++◌, length, IsUtf8}
+use Rattle.std.specs.Prelude.{◌≡◌, ◌≢◌, ◌⊎◌, ℕ, ◌+◌, ℤ, negsuc, List, [], ◌∷◌, ◌++◌, length, IsUtf8, Option, None, Some, Result, Ok, Err}
 use Rattle.std.specs.declared.convert.Infallible.{Infallible}
 use Rattle.dagcbor_heads.specs.declared.error.DecodeError.{DecodeError}
 use Rattle.dagcbor_heads.specs.declared.error.DecodeError.TheVariants.{OutOfMemory}
@@ -8,20 +8,20 @@ use Rattle.dagcbor_items.specs.Slices.{IsBlock, SliceRefused}
 use Rattle.dagcbor_items.specs.TreeKinds.{kind_of}
 use Rattle.dagcbor_paths.specs.Paths.{segments, At}
 use Rattle.dagcbor_paths.specs.Finding.{StandAt, LeadsInto, StopsAt}
+use Rattle.dagcbor_paths.specs.declared.find.Item.{Item}
 use Rattle.dagcbor_calls.specs.Codes.{kind_code, refusal_code}
 
 -- where an item stands in a block: where it begins, and where it ends
 abbrev pub Places : Type 0
 Places = ℕ × ℕ
 
--- the path is a text, and leads from the block's tree to a tree, whose spelling stands at the places; the
--- number is its kind's
-pub record IsFoundAt (b path : List ℕ) (places : Places) (code : ℤ) : Type 0 where
-  pub text : IsUtf8 path
+-- the path leads from the block's tree to a tree, whose spelling stands at the places; the number is its
+-- kind's
+pub record IsFoundAt (b : List ℕ) (path : List (List ℕ)) (places : Places) (code : ℤ) : Type 0 where
   pub tree : Tree
   pub found : Tree
   pub block : IsBlock b tree
-  pub at : At (segments path) tree found
+  pub at : At path tree found
   pub part : List ℕ
   pub is_block : IsBlock part found
   pub stands : StandAt b places.0 part
@@ -29,20 +29,38 @@ pub record IsFoundAt (b path : List ℕ) (places : Places) (code : ℤ) : Type 0
   pub told : code ≡ kind_code (kind_of found)
 
 -- it leads nowhere in the block: -36
-abbrev pub IsNotFound : List ℕ → List ℕ → ℤ → Type 0
-IsNotFound b path code = IsUtf8 path × ((t : Tree) × IsBlock b t × ((u : Tree) → ¬ At (segments path) t u))
-    × (code ≡ negsuc 35)
+abbrev pub IsNotFound : List ℕ → List (List ℕ) → ℤ → Type 0
+IsNotFound b path code = ((t : Tree) × IsBlock b t × ((u : Tree) → ¬ At path t u)) × (code ≡ negsuc 35)
 
 -- the bytes are no block: the number of a refusal whose cause stands, never want of memory
 abbrev pub IsRefusedAs : List ℕ → ℤ → Type 0
 IsRefusedAs b code = (e : DecodeError Infallible) × SliceRefused e b × (e ≢ OutOfMemory)
     × (code ≡ refusal_code e)
 
--- the item to which the path leads in the block; or the places stay, since it leads nowhere, or the bytes
--- are no block, or the path is no text, -37
+-- the bytes are no text, -37
+abbrev pub IsNoText : List ℕ → ℤ → Type 0
+IsNoText text code = (¬ IsUtf8 text) × (code ≡ negsuc 36)
+
+-- The text stands for these segments: the item to which they lead in the block; or the places stay, since
+-- they lead nowhere, or the bytes are no block, or the text is none.
+abbrev pub IsFoundAnswer : List ℕ → List ℕ → List (List ℕ) → Places → Places → ℤ → Type 0
+IsFoundAnswer b text path old new code = (IsUtf8 text × IsFoundAt b path new code)
+    ⊎ ((new ≡ old) × ((IsUtf8 text × (IsNotFound b path code ⊎ IsRefusedAs b code)) ⊎ IsNoText text code))
+
+-- of a path that is a text
 abbrev pub IsFindAnswer : List ℕ → List ℕ → Places → Places → ℤ → Type 0
-IsFindAnswer b path old new code = IsFoundAt b path new code
-    ⊎ ((new ≡ old) × (IsNotFound b path code ⊎ (IsRefusedAs b code ⊎ ((¬ IsUtf8 path) × (code ≡ negsuc 36)))))
+IsFindAnswer b path = IsFoundAnswer b path (segments path)
+
+-- of one segment, taken whole
+abbrev pub IsPartAnswer : List ℕ → List ℕ → Places → Places → ℤ → Type 0
+IsPartAnswer b segment = IsFoundAnswer b segment (segment ∷ [])
+
+-- what is told of the item that was found, if one was
+abbrev pub TellsFound : Result (Option Item) (DecodeError Infallible) → Places → Places → ℤ → Type 0
+TellsFound (Ok (Some item)) old new code = (new ≡ (item.place, item.place + length item.bytes.now))
+    × (code ≡ kind_code item.kind)
+TellsFound (Ok None) old new code = (new ≡ old) × (code ≡ negsuc 35)
+TellsFound (Err e) old new code = (new ≡ old) × (code ≡ refusal_code e)
 
 -- ---- as far as it leads
 
@@ -72,4 +90,4 @@ pub record IsFollowedTo (b path : List ℕ) (begin end count : ℕ) (code : ℤ)
 abbrev pub IsFollowAnswer : List ℕ → List ℕ → List ℕ → List ℕ → ℤ → Type 0
 IsFollowAnswer b path old new code =
     ((begin end count : ℕ) × (new ≡ begin ∷ end ∷ count ∷ []) × IsFollowedTo b path begin end count code)
-    ⊎ ((new ≡ old) × (IsRefusedAs b code ⊎ ((¬ IsUtf8 path) × (code ≡ negsuc 36))))
+    ⊎ ((new ≡ old) × ((IsUtf8 path × IsRefusedAs b code) ⊎ IsNoText path code))

@@ -1,13 +1,16 @@
 //! What a path leads to in a block.
 
-ghost use Rattle.std.specs.Prelude.{◌≡◌, [], ◌∷◌, length};
+ghost use Rattle.std.specs.Prelude.{◌≡◌, [], ◌∷◌, length, IfOk, IfSome};
 ghost use Rattle.dagcbor_paths.specs.Paths.{segments};
 ghost use Rattle.dagcbor_paths.specs.Parts.{EndsWith};
-ghost use Rattle.dagcbor_paths.specs.Finding.{StopsIn};
-ghost use Rattle.dagcbor_calls.specs.Finds.{IsFindAnswer, IsFollowAnswer, IsPassed};
+ghost use Rattle.dagcbor_paths.specs.Finding.{StandAt, StopsIn};
+ghost use Rattle.dagcbor_calls.specs.Finds.{TellsFound, IsFindAnswer, IsPartAnswer};
+ghost use Rattle.dagcbor_calls.specs.Finds.{IsFollowAnswer, IsPassed};
 
 use crate::code::{kind_code, refusal_code};
-use dagcbor_paths::{Item, Stop, find_slice, follow_slice, next_segment};
+use dagcbor_heads::DecodeError;
+use dagcbor_paths::{Item, Stop, find_segments, find_slice, follow_slice, next_segment};
+use std::convert::Infallible;
 use std::str::from_utf8;
 
 /// What is answered where the path leads nowhere.
@@ -16,31 +19,50 @@ const NOTHING: i32 = -36;
 /// What is answered where the path is no text.
 const NO_TEXT: i32 = -37;
 
+/// Puts where the item that was found in the block stands, if one was; the number of its kind, or why
+/// there is none.
+#[tactic(auto, using(crate::proofs::Finding::ends_within))]
+fn put_item(
+    block: &[u8],
+    found: &Result<Option<Item<'_>>, DecodeError<Infallible>>,
+    place: &mut usize,
+    end: &mut usize,
+) -> i32
+    requires { IfOk found.now (λ o. IfSome o (λ item. StandAt block.now item.place item.bytes.now)) }
+    ensures { TellsFound found.now (place.old, end.old) (place.new, end.new) result }
+{
+    match found {
+        Ok(Some(item)) => {
+            *place = item.place;
+            *end = item.place + item.bytes.len();
+            kind_code(item.kind)
+        }
+        Ok(None) => NOTHING,
+        Err(refusal) => refusal_code(refusal),
+    }
+}
+
 /// The number of the kind of the item to which the path leads in the block, and where it begins and
 /// ends; or why there is none, and then both stay.
+#[tactic(auto, using(crate::proofs::Finding::found_answer, crate::proofs::Finding::stands_in))]
 pub fn put_found(block: &[u8], path: &[u8], place: &mut usize, end: &mut usize) -> i32
     ensures { IsFindAnswer block.now path.now (place.old, end.old) (place.new, end.new) result }
 {
     let Ok(text) = from_utf8(path) else {
         return NO_TEXT;
     };
-    match find_slice(block, text) {
-        Ok(
-            Some(
-                Item {
-                    kind,
-                    place: begin,
-                    bytes,
-                },
-            ),
-        ) => {
-            *place = begin;
-            *end = begin + bytes.len();
-            kind_code(kind)
-        }
-        Ok(None) => NOTHING,
-        Err(refusal) => refusal_code(&refusal),
-    }
+    put_item(block, &find_slice(block, text), place, end)
+}
+
+/// The same of the part of the block's item to which one segment leads, which is taken whole.
+#[tactic(auto, using(crate::proofs::Finding::found_answer, crate::proofs::Finding::stands_in))]
+pub fn put_part(block: &[u8], segment: &[u8], place: &mut usize, end: &mut usize) -> i32
+    ensures { IsPartAnswer block.now segment.now (place.old, end.old) (place.new, end.new) result }
+{
+    let Ok(text) = from_utf8(segment) else {
+        return NO_TEXT;
+    };
+    put_item(block, &find_segments(block, &[text]), place, end)
 }
 
 /// How many bytes of the path were passed, of which this is left.

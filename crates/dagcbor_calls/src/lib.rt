@@ -16,7 +16,7 @@ mod tape;
 
 pub use cid::{put_cid_of_text, put_cid_text};
 pub use code::code_of;
-pub use find::{put_followed, put_found};
+pub use find::{put_followed, put_found, put_part};
 pub use header::put_header;
 pub use links::put_links;
 pub use name::name_of;

@@ -112,11 +112,17 @@ enum dagcbor_path {
 
 /* The kind, from 0, of the item to which the path leads in the block, which is judged whole. The path is a text of
    segments between slashes; empty ones say nothing, and nothing is escaped, so a key that is empty or has a slash is
-   not reached. From a map a segment leads to the value of that key; from a list to the item whose index from 0 it is in
+   reached by dagcbor_part alone. From a map a segment leads to the value of that key; from a list to the item whose index from 0 it is in
    decimal, without a sign and without zeros in front; from a link, which is an item, nowhere. *place becomes where the item
    begins in the block, and *end where it ends: the bytes between are a block. Below 0 the refusal of dagcbor_check, or one
    of the above; then both stay. `path` may not be NULL either. */
 int32_t dagcbor_find(const uint8_t *block, size_t length, const uint8_t *path, size_t path_length, size_t *place,
+                     size_t *end);
+
+/* As dagcbor_find of a path that is this one segment, which is taken whole: from a map it leads to the value of that key, which
+   may be empty or have slashes. A list of segments is followed by one call for each, in the bytes of the part before. -36 and -37
+   are as of a path. `segment` may not be NULL either. */
+int32_t dagcbor_part(const uint8_t *block, size_t length, const uint8_t *segment, size_t segment_length, size_t *place,
                      size_t *end);
 
 /* As far as a path leads in the block: from 0 the kind of the last item to which a front of the path leads. places[0] and

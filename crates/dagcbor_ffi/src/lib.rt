@@ -13,12 +13,12 @@ ghost use Rattle.dagcbor_calls.specs.Answers.{IsSpellAnswer, IsTokensAnswer};
 ghost use Rattle.dagcbor_calls.specs.Headers.{IsHeaderAnswer};
 ghost use Rattle.dagcbor_calls.specs.Sections.{IsSectionAnswer};
 ghost use Rattle.dagcbor_calls.specs.Spans.{IsSpanAnswer};
-ghost use Rattle.dagcbor_calls.specs.Finds.{IsFindAnswer, IsFollowAnswer};
+ghost use Rattle.dagcbor_calls.specs.Finds.{IsFindAnswer, IsPartAnswer, IsFollowAnswer};
 ghost use Rattle.dagcbor_calls.specs.CidTexts.{IsCidTextAnswer, IsCidFromTextAnswer};
 
 use dagcbor_calls::{
     Token, code_of, judge_section, name_of, put_cid_of_text, put_cid_text, put_followed, put_found,
-    put_front_tape, put_header, put_links, put_span, put_tape, spell_tape,
+    put_front_tape, put_header, put_links, put_part, put_span, put_tape, spell_tape,
 };
 use dagcbor_items::check_slice;
 
@@ -93,6 +93,20 @@ pub extern "C" fn dagcbor_find(block: &[u8], path: &[u8], place: &mut usize, end
     ensures { IsFindAnswer block.now path.now (place.old, end.old) (place.new, end.new) result }
 {
     put_found(block, path, place, end)
+}
+
+/// The answer of `dagcbor_find` for a path that is this one segment, which is taken whole: from a map it
+/// leads to the value of that key, which may have slashes or be empty.
+#[unsafe(no_mangle)]
+pub extern "C" fn dagcbor_part(
+    block: &[u8],
+    segment: &[u8],
+    place: &mut usize,
+    end: &mut usize,
+) -> i32
+    ensures { IsPartAnswer block.now segment.now (place.old, end.old) (place.new, end.new) result }
+{
+    put_part(block, segment, place, end)
 }
 
 /// The number of the kind, from 0, of the last item to which a front of the path leads in the block.

@@ -23,7 +23,7 @@ use Rattle.dagcbor_items.specs.declared.kind.Kind.{Kind}
 use Rattle.dagcbor_items.proofs.SliceReads.{whole_front}
 use Rattle.dagcbor_paths.specs.Paths.{segments, At}
 use Rattle.dagcbor_paths.specs.Parts.{Begins, EndsWith, FindsPart}
-use Rattle.dagcbor_paths.specs.Finding.{IsItem, FindsItemIn, LeadsInto, LeadsNowhere, StopsAt, StopsIn, Walked, Follows, TellsItem}
+use Rattle.dagcbor_paths.specs.Finding.{IsItem, FindsItemIn, FindsAlong, LeadsInto, LeadsNowhere, StopsAt, StopsIn, Walked, Follows, TellsItem}
 use Rattle.dagcbor_paths.specs.declared.find.Item.{Item}
 use Rattle.dagcbor_paths.proofs.Leading.{at_then, at_behind}
 
@@ -186,6 +186,27 @@ pub ends_before : (b at segment : List ℕ) (path left more : List (List ℕ)) �
 ends_before b at segment path left more w is t h =
     let k = led_into b at path left w t h in
     nothing_found b path left t k.0 k.1 (nowhere left k.0 (some_left segment left more is) k.2)
+
+-- ---- all of a list
+
+pub along_all : {A : Type 0} (bytes_of : A → List ℕ) (a : A) (b : List ℕ) (path left : List (List ℕ)) → Walks b path (bytes_of a) left → left ≡ [] → FindsAlong bytes_of b path (Some a)
+along_all bytes_of a b path left w none = λ t k.
+    let x = w t k in
+    (x.0, subst (λ p. At p t x.0) (sym (x.1.whole ∙ ap (λ y. x.1.passed ++ y) none ∙ append-nil x.1.passed)) x.1.leads, x.1.begins)
+
+pub along_nowhere : {A : Type 0} (bytes_of : A → List ℕ) (b at segment : List ℕ) (path left more : List (List ℕ)) → Walks b path at left → left ≡ segment ∷ more → FindsPart {A = A} bytes_of at segment None → FindsAlong {A = A} bytes_of b path None
+along_nowhere bytes_of b at segment path left more w is none = λ t k u h.
+    let x = w t k in
+    let behind = at_behind x.1.passed left t x.0 u (k.1.well_formed, k.1.spellable) x.1.leads (subst (λ p. At p t u) x.1.whole h) in
+    let on = subst (λ p. At p x.0 u) is behind in
+    none x.0 x.1.begins on.0 on.1
+
+pub none_along : {A : Type 0} (bytes_of : A → List ℕ) (b : List ℕ) (path : List (List ℕ)) → FindsAlong {A = A} bytes_of b path None → (t : Tree) → IsBlock b t → FindsItemIn b path None
+none_along bytes_of b path none t h = (t, h, none t (block_begins b t h))
+
+pub item_along : {A : Type 0} (bytes_of : A → List ℕ) (a : A) (b : List ℕ) (path : List (List ℕ)) (o : Option Item) → FindsAlong bytes_of b path (Some a) → TellsItem b (bytes_of a) o → (t : Tree) → IsBlock b t → FindsItemIn b path o
+item_along bytes_of a b path None found told t h = let p = found t (block_begins b t h) in absurd (told p.0 p.2)
+item_along bytes_of a b path (Some item) found told t h = let p = found t (block_begins b t h) in (t, p.0, h, p.1, told p.0 p.2)
 
 -- ---- as far as it leads
 

@@ -5,7 +5,7 @@ use Rattle.ipld_tree.specs.Tree.{Tree, link}
 use Rattle.dagcbor_items.specs.Slices.{IsBlock}
 use Rattle.dagcbor_items.specs.TreeKinds.{kind_of}
 use Rattle.dagcbor_paths.specs.Paths.{segments, IsPart, At}
-use Rattle.dagcbor_paths.specs.Parts.{Begins, EndsWith}
+use Rattle.dagcbor_paths.specs.Parts.{Begins, EndsWith, GivesPart}
 use Rattle.dagcbor_paths.specs.declared.find.Item.{Item}
 use Rattle.dagcbor_paths.specs.declared.find.Stop.{Stop}
 use Rattle.dagcbor_paths.specs.declared.find.Found.{Found}
@@ -27,6 +27,10 @@ pub record IsItem (b : List ℕ) (t : Tree) (item : Item) : Type 0 where
 abbrev pub FindsItemIn : List ℕ → List (List ℕ) → Option Item → Type 0
 FindsItemIn b path None = (t : Tree) × IsBlock b t × ((u : Tree) → ¬ At path t u)
 FindsItemIn b path (Some item) = (t u : Tree) × IsBlock b t × At path t u × IsItem b u item
+
+-- the part to which the path leads of the tree with which the bytes begin, or none
+abbrev pub FindsAlong : {A : Type 0} → (A → List ℕ) → List ℕ → List (List ℕ) → Option A → Type 0
+FindsAlong bytes_of b path result = (t : Tree) → Begins b t → GivesPart bytes_of (At path t) result
 
 -- ---- as far as the path leads
 

@@ -1,12 +1,12 @@
 //! What a path leads to in a block.
 
-ghost use Rattle.std.specs.Prelude.{◌≡◌, ◌≢◌, Some, IfOk, IfErr};
+ghost use Rattle.std.specs.Prelude.{◌≡◌, ◌≢◌, map, Some, IfOk, IfErr, IfSome};
 ghost use Rattle.dagcbor_heads.specs.declared.error.DecodeError.TheVariants.{OutOfMemory};
 ghost use Rattle.ipld_tree.specs.Tree.{Tree};
 ghost use Rattle.dagcbor_items.specs.Slices.{IsBlock, SliceRefused};
 ghost use Rattle.dagcbor_paths.specs.Paths.{segments};
 ghost use Rattle.dagcbor_paths.specs.Parts.{EndsWith};
-ghost use Rattle.dagcbor_paths.specs.Finding.{Follows, TellsItem, TellsLink, TellsEnd};
+ghost use Rattle.dagcbor_paths.specs.Finding.{FindsAlong, Follows, TellsItem, TellsLink, TellsEnd};
 ghost use Rattle.dagcbor_paths.specs.Finding.{FindsItemIn, IsFoundIn, StopsIn};
 
 use crate::parts::part_at;
@@ -64,6 +64,18 @@ fn follow<'b, 'p>(bytes: &'b [u8], path: &'p str) -> (&'b [u8], &'p str)
         left = more;
     }
     (at, left)
+}
+
+/// The part of the item at the front to which the segments lead, one behind the other.
+fn part_along<'b>(bytes: &'b [u8], segments: &[&str]) -> Option<&'b [u8]>
+    ensures found { FindsAlong (λ s. s.now) bytes.now (map (λ s. s.now) segments.now) result }
+    ensures within { IfSome result (λ s. EndsWith bytes.now s.now) }
+{
+    let mut at = bytes;
+    for segment in segments {
+        at = part_at(at, segment)?;
+    }
+    Some(at)
 }
 
 /// The item at the front of these last bytes of the block.
@@ -152,6 +164,31 @@ pub fn find_slice<'b>(
     match next_segment(left) {
         Some(_) => Ok(None),
         None => Ok(item_in(block, at)),
+    }
+}
+
+/// The item of the block to which the segments lead, if they lead to one. Each is taken whole: from a
+/// map to the value of that key, which may have slashes or be empty, and from a list to the item of that
+/// index. The block is judged whole, and no memory is taken.
+///
+/// ```rust
+/// let Some(item) = find_segments(b"\xa1\x63a/b\x82\x01\x17", &["a/b", "1"])? else {
+///     return Err(Fail::new("nothing"));
+/// };
+/// agree((item.kind, item.place, item.bytes), (Kind::Integer, 7, b"\x17"))
+/// ```
+pub fn find_segments<'b>(
+    block: &'b [u8],
+    segments: &[&str],
+) -> Result<Option<Item<'b>>, DecodeError<Infallible>>
+    ensures found { IfOk result (FindsItemIn block.now (map (λ s. s.now) segments.now)) }
+    ensures refused { IfErr result (λ e. SliceRefused e block.now) }
+    ensures memory { IfErr result (λ e. e ≢ OutOfMemory) }
+{
+    check_slice(block)?;
+    match part_along(block, segments) {
+        Some(at) => Ok(item_in(block, at)),
+        None => Ok(None),
     }
 }
 

@@ -6,5 +6,7 @@ mod parts;
 mod segments;
 mod skip;
 
-pub use find::{Found, Item, Stop, find_in_block, find_judged, find_slice, follow_slice};
+pub use find::{
+    Found, Item, Stop, find_in_block, find_judged, find_segments, find_slice, follow_slice,
+};
 pub use segments::next_segment;

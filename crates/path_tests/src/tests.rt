@@ -1,2 +1,3 @@
 mod find;
 mod resolve;
+mod segments;

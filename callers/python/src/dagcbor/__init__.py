@@ -3,7 +3,8 @@
     loads(block)         the data of a block: None, bool, int, str, bytes, list, dict and CID
     dumps(value)         the one block of such data
     check(block)         the kind of a block
-    find(block, path)    the data to which a path as a/0/b leads in a block; else a KeyError
+    find(block, path)    the data to which a path as a/0/b leads in a block; else a KeyError. A list
+                         of segments is a path too, which reaches keys that have slashes
     links(block)         the links of the first item
     name(block)          the block's own CID
     verify(cid, block)   whether the bytes are those that the CID names
@@ -24,9 +25,9 @@ extension in C, and not proved."""
 from ._car import CarCheck, check_car, verify, write_car
 from ._errors import CarError, DagCborError
 from ._items import iter_loads
-from ._native import CID, CarReader, Section, check, dumps, find, links, loads, loads_first, name
+from ._native import CID, CarReader, Section, check, dumps, links, loads, loads_first, name
 from ._native import read_car
-from ._paths import MissingBlock, resolve
+from ._paths import MissingBlock, find, resolve
 
 __all__ = [
     "CID",

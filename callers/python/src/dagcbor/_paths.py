@@ -1,4 +1,4 @@
-"""Paths that lead over links, from block to block."""
+"""Paths in blocks, and over links from block to block."""
 
 from collections.abc import Mapping
 
@@ -7,6 +7,34 @@ from ._car import verify
 from ._errors import refused
 
 IDENTITY = 0
+
+
+def _follow(block, path):
+    """The data, whether the path leads to it or goes on at it, and the path that is left."""
+    if isinstance(path, str):
+        return _native.follow(block, path)
+    segments, item = list(path), block
+    for passed, segment in enumerate(segments):
+        part = _native.part(item, segment)
+        if part is None:
+            goes_on = _native.check(item) == "link"
+            return _native.loads(item) if goes_on else None, goes_on, segments[passed:]
+        item = part
+    return _native.loads(item), True, []
+
+
+def find(block, path, /):
+    """The data to which a path leads in a block; else a KeyError.
+
+    The path is a text as `a/0/b`, or a list of segments, each taken whole, so that it reaches keys
+    that are empty or have slashes too.
+    """
+    if isinstance(path, str):
+        return _native.find(block, path)
+    value, _, left = _follow(block, path)
+    if left:
+        raise KeyError(path)
+    return value
 
 
 class MissingBlock(LookupError):
@@ -33,16 +61,17 @@ def _block_of(get, cid):
 def resolve(get, cid, path):
     """The data to which the path leads from the block of the CID, over links, as `ipfs dag get`.
 
-    `get` is a mapping of blocks by their CIDs, or a call that gives the block of one, or None. Each
-    block on the way is verified, so what is answered, a KeyError too, holds of whoever has blocks
-    of these names: the KeyError says that the path leads nowhere, with the name of the block in
-    which it ends and the path that is left there. A block that is not held is a MissingBlock, and
-    bytes that are not the block of their name a DagCborError. A link at the end is the CID itself.
+    The path is a text or a list of segments, as of `find`. `get` is a mapping of blocks by their
+    CIDs, or a call that gives the block of one, or None. Each block on the way is verified, so what
+    is answered, a KeyError too, holds of whoever has blocks of these names: the KeyError says that
+    the path leads nowhere, with the name of the block in which it ends and the path that is left
+    there. A block that is not held is a MissingBlock, and bytes that are not the block of their
+    name a DagCborError. A link at the end is the CID itself.
     """
     get = get.get if isinstance(get, Mapping) else get
     left = path
     while True:
-        value, is_led, left = _native.follow(_block_of(get, cid), left)
+        value, is_led, left = _follow(_block_of(get, cid), left)
         if not is_led:
             raise KeyError(cid, left)
         if not left:

@@ -1,5 +1,4 @@
-use Rattle.std.proofs.Common.{subst}
-use Rattle.dagcbor_paths.proofs.Ends.{led_into, item_begins, stopped_in}
+use Rattle.dagcbor_paths.proofs.Ends.{item_begins, stopped_in}
 use Rattle.dagcbor_paths.proofs.find.follow_slice.Goals as goal
 
 pub unwrap-item-requires : goal.unwrap-item-requires

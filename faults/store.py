@@ -462,9 +462,17 @@ def words(program, at, draw):
         expect(f"put {word}", run(program, put, "put", *([word] if word else []), given=block), 0, f"{own}\n".encode())
         expect("has", run(program, put, "has", own), 0, b"")
         expect("get", run(program, put, "get", own), 0, block)
-    for block in (b"\x18\x17", b"", b"\x01\x01"):
-        expect("put of no DAG-CBOR", run(program, put, "put", given=block), 1, b"")
-        expect("put of no DAG-CBOR into no file", run(program, f"{at}/none.db", "put", given=block), 1, b"")
+    for block, place in ((b"\x18\x17", "NonMinimal at byte 1"), (b"", "Eof at byte 0"), (b"\x01\x01", "TrailingData at byte 1")):
+        told = f"dagstore: the block is no DAG-CBOR: {place}\n"
+        for file in (put, f"{at}/none.db"):
+            ran = run(program, file, "put", given=block)
+            if (ran.returncode, ran.stdout, ran.stderr) != (1, b"", told.encode()):
+                wrong.append(f"put of no DAG-CBOR: {ran.returncode} {ran.stdout} {ran.stderr}")
+        name = named(0x71, block)[0]
+        ran = run(program, put, "import", given=car_of({name: block}))
+        told = f"dagstore: behind 0 sections\ndagstore: of {text_of(name)}\n{told}"
+        if (ran.returncode, ran.stdout, ran.stderr) != (1, b"", told.encode()):
+            wrong.append(f"import of no DAG-CBOR: {ran.returncode} {ran.stdout} {ran.stderr}")
     for word in ("0x", "0x1z", "0x+1", "0x11111111111111111", "dag-pb"):
         expect(f"put {word}", run(program, put, "put", word), 2, b"")
     expect("count", run(program, put, "count"), 0, b"holds 4\n")

@@ -87,7 +87,7 @@ module _ {S : Type 0} (g : Ghosts S) where
   stops_at roots ss extent mid new before held after last e h quiet behind blame undone (inr p) =
       inr (inl (p.0, p.1, p.2, p.3, p.4, not_kept g roots ss p.0 before held after last p.2 h quiet behind blame undone p.5))
 
-  roots_not_kept : (roots : List CidParts) (before after last : S) (told : StoreRefusal) → Quiet g after last → g.blamed last ≡ g.blamed after → (IsClean (g.view last) → IsUndone (g.view after) (g.view last))
+  pub roots_not_kept : (roots : List CidParts) (before after last : S) (told : StoreRefusal) → Quiet g after last → g.blamed last ≡ g.blamed after → (IsClean (g.view last) → IsUndone (g.view after) (g.view last))
       → RootsRefused g roots before after told → RootsNotKept g roots before last told
   roots_not_kept roots before after last kind.EarlierVersion behind blame undone p = (p.0, p.1)
   roots_not_kept roots before after last kind.NoNumber behind blame undone p = λ clean.

@@ -1,6 +1,6 @@
 use super::*;
 use dagcbor_car::CarError;
-use dagcbor_heads::{BufWriter, Input, SliceReader};
+use dagcbor_heads::{BufWriter, DecodeError, Input, SliceReader};
 use ipld_links::name_of_block;
 use ipld_tree::Cid;
 use sqlite_wal::PageSize;
@@ -132,6 +132,16 @@ fn joined(alloc: Global, parts: &[&[u8]]) -> Result<Vec<u8>, Fail> {
     Ok(whole)
 }
 
+/// Why a block is not kept, in a word.
+fn cause_of(cause: &Unsound) -> &'static str {
+    match cause {
+        Unsound::OtherHash => "other hash",
+        Unsound::OtherBytes => "other bytes",
+        Unsound::NoBlock(DecodeError::UnorderedKey, 5) => "unordered at byte 5",
+        Unsound::NoBlock(_, _) => "no block",
+    }
+}
+
 /// What is answered of a file, in a word.
 fn word_of(answer: &Result<(Vec<Cid>, u64), ReadCarError<Infallible>>) -> &'static str {
     match answer {
@@ -139,9 +149,7 @@ fn word_of(answer: &Result<(Vec<Cid>, u64), ReadCarError<Infallible>>) -> &'stat
         Err(ReadCarError::Header(_)) => "no header",
         Err(ReadCarError::Section(1, CarError::Truncated)) => "cut",
         Err(ReadCarError::Section(_, _)) => "no section",
-        Err(ReadCarError::Block(1, _, StoreRefusal::Unsound(Unsound::OtherHash))) => "other hash",
-        Err(ReadCarError::Block(1, _, StoreRefusal::Unsound(Unsound::OtherBytes))) => "other bytes",
-        Err(ReadCarError::Block(1, _, StoreRefusal::Unsound(Unsound::NoBlock(_)))) => "no block",
+        Err(ReadCarError::Block(1, _, StoreRefusal::Unsound(cause))) => cause_of(cause),
         Err(ReadCarError::Store(StoreRefusal::EarlierVersion)) => "earlier version",
         Err(_) => "other",
     }
@@ -216,7 +224,7 @@ fn leads<S: Store>(
 const REFUSED: &[(&[u8], &str)] = &[
     (CHANGED, "other bytes"),
     (IDENTITY, "other hash"),
-    (UNORDERED, "no block"),
+    (UNORDERED, "unordered at byte 5"),
 ];
 
 /// The section of a list of a link to `RAW`, one to `NODE`, and one to the number 5.

@@ -1,11 +1,12 @@
 -- The roots that a store keeps: those that are meant, and how they change.
-use Rattle.std.proofs.Common.{◌≡◌, inl, inr, ℕ, ◌+◌, ◌≤◌, ◌<◌, List, [], ◌∷◌, ◌++◌, length, take, drop, get_or, take-suc, add-one, Bool, true, false, refl, sym, ap, ◌∙◌, subst, arith, IsTrue, ◌↔◌, Option, Result, Ok, Err}
+use Rattle.std.proofs.Common.{◌≡◌, inl, inr, ℕ, ◌+◌, ◌≤◌, ◌<◌, List, [], ◌∷◌, ◌++◌, length, take, get_or, take-suc, add-one, Bool, true, false, refl, sym, ap, ◌∙◌, subst, arith, IsTrue, ◌↔◌, Option, Result, Ok, Err}
 use Rattle.std.proofs.Math.Seq.{take-length}
-use Rattle.std.proofs.lemmas.List.{drop_more, take-append-drop}
 use mir.Val.{bool_byte}
 use Rattle.sqlite_trees.specs.Tree.{Trees}
 use Rattle.sqlite_trees.specs.View.{View, IsClean}
 use Rattle.sqlite_trees.specs.declared.store.Store.{Ghosts}
+use Rattle.sqlite_trees.specs.declared.error.StoreError.{StoreError}
+use Rattle.sqlite_trees.specs.declared.error.StoreError.TheVariants as stored
 use Rattle.ipld_tree.specs.Cid.{CidParts, cid_bytes}
 use Rattle.dagcbor_car.specs.Car.{Section}
 use Rattle.ipld_links.specs.Sets.{Among}
@@ -13,13 +14,15 @@ use Rattle.ipld_links.specs.Sound.{IsSound}
 use Rattle.dagcbor_store.specs.Rows.{name_tree, IsStored, IsListed}
 use Rattle.dagcbor_store.specs.RootRows.{LeavesOut}
 use Rattle.dagcbor_store.specs.Ends.{Quiet, KeepsOthers, IsOfBlocks}
-use Rattle.dagcbor_store.specs.Stored.{IsSame, IsUndone, IsCommitted}
-use Rattle.dagcbor_store.specs.Roots.{AddsName, IsRootAdded, RootRefused, IsRootTaken}
-use Rattle.dagcbor_store.specs.Cars.{IsSectionIn}
+use Rattle.dagcbor_store.specs.Stored.{IsSame, IsUndone, IsCommitted, Fails, TellsOfStore}
+use Rattle.dagcbor_store.specs.Roots.{AreRootsAdded, IsAnyTooLong, RootsRefused, IsRootTaken}
+use Rattle.dagcbor_store.specs.Cars.{IsSectionIn, RootsNotKept}
 use Rattle.dagcbor_store.specs.Walking.{AreBlocks, AreFirstBlocks}
 use Rattle.dagcbor_store.specs.Collecting.{KeepsReachable, TakesOut, IsCollected, CollectRefused, HoldsThose, IsLedForm}
 use Rattle.dagcbor_store.specs.Lost.{HoldsNoneSound}
 use Rattle.dagcbor_store.proofs.Adding.{KeepsLast, last_itself, last_same, last_then, last_undone, undone_then, fails_behind}
+use Rattle.dagcbor_store.proofs.ManyRoots.{last_rooted}
+use Rattle.dagcbor_store.proofs.Reading.{roots_not_kept}
 use Rattle.dagcbor_store.proofs.Trees.{shows_same}
 use Rattle.dagcbor_store.proofs.Walking.{same_then, walk_refused}
 use Rattle.dagcbor_store.specs.declared.error.StoreRefusal.{StoreRefusal}
@@ -27,7 +30,7 @@ use Rattle.dagcbor_store.specs.declared.error.StoreRefusal.TheVariants as refusa
 use Rattle.dagstore_lines.specs.Changes.{SaysCollected, SaysTaken}
 use Rattle.dagstore_lines.specs.Files.{Exports}
 use Rattle.dagstore_lines.specs.Lines.{no_root_line}
-use Rattle.dagstore_lines.specs.Roots.{AreMeant, Changes, Commits, AddsNames, AddsRoots, StopsAdding, DropsNames, DropsRoots, SaysDropped}
+use Rattle.dagstore_lines.specs.Roots.{AreMeant, Changes, Commits, DropsNames, DropsRoots, SaysDropped}
 use Rattle.dagstore_lines.specs.declared.fault.Fault.{Fault}
 use Rattle.dagstore_lines.specs.declared.fault.Fault.TheVariants as fault
 
@@ -125,9 +128,6 @@ committed_all Does old mid new h c = record {
   is_open = c.is_open;
 }
 
-last_changed : (Does : Trees → Trees → Type 0) (old new : View) → Changes Does old new → KeepsLast old new
-last_changed Does old new h = record { was_open = λ o. sym h.is_open ∙ o; committed = λ o. h.committed }
-
 longer : (names : List CidParts) (i : ℕ) (c : CidParts) → i < length names → c ≡ get_or names i c → take i names ++ c ∷ [] ≡ take (i + 1) names
 longer names i c within is = ap (λ y. take i names ++ y ∷ []) is ∙ sym (take-suc names i c within) ∙ ap (λ n. take n names) (sym (add-one i))
 
@@ -138,78 +138,44 @@ whole names i below end =
 
 -- ---- adding
 
-adds_push : (before names mid now : List CidParts) (c : CidParts) → AddsNames before names mid → AddsName mid c now → AddsNames before (names ++ c ∷ []) now
-adds_push before [] mid now c h k = (now, subst (λ b. AddsName b c now) h k, refl)
-adds_push before (x ∷ names) mid now c h k = (h.0, h.1, adds_push h.0 names mid now c h.2 k)
+tells_no_version : (e : StoreError) → TellsOfStore e refusal.EarlierVersion → ⊥
+tells_no_version stored.OutOfMemory t = cc t
+tells_no_version stored.Unstorable t = cc t
+tells_no_version e t = cc t
 
-pub none_added : (v : View) → Changes (AddsRoots []) v v
-none_added v = record {
-  trees = record { roots = λ before are. (before, are, refl); beside = λ t other. refl };
-  committed = refl;
-  is_open = refl;
-  broken = refl;
-}
+tells_no_number : (e : StoreError) → TellsOfStore e refusal.NoNumber → ⊥
+tells_no_number stored.OutOfMemory t = cc t
+tells_no_number stored.Unstorable t = cc t
+tells_no_number e t = cc t
 
-adds_more : (old mid new : View) (names : List CidParts) (c : CidParts) → Changes (AddsRoots names) old mid → IsRootAdded mid new c → Changes (AddsRoots (names ++ c ∷ [])) old new
-adds_more old mid new names c h t = record {
-  trees = record {
-    roots = λ before are.
-        let k = h.trees.roots before are in
-        let n = t.roots k.0 k.1 in
-        (n.0, n.1, adds_push before names k.0 n.0 c k.2 n.2);
-    beside = λ x other. t.beside x other ∙ h.trees.beside x other;
-  };
-  committed = t.committed ∙ h.committed;
-  is_open = opened ∙ h.is_open;
-  broken = t.broken ∙ h.broken;
-}
-  where
-    opened : new.is_open ≡ mid.is_open
-    opened = t.is_open ∙ sym t.was_open
+module _ {S : Type 0} (g : Ghosts S) (names : List CidParts) where
+  last_refused : (old new : S) (told : StoreRefusal) → IsClean (g.view new) → RootsRefused g names old new told → KeepsLast (g.view old) (g.view new)
+  last_refused old new refusal.EarlierVersion clean k = subst (λ (s : S). KeepsLast (g.view old) (g.view s)) (sym k.2) (last_itself (g.view old))
+  last_refused old new refusal.NoNumber clean p =
+      let k = p clean in
+      last_then (g.view old) k.2 (g.view new) (last_rooted (g.view old) k.2 k.0 k.4) (last_same k.2 (g.view new) k.6)
+  last_refused old new told clean k = last_undone (g.view old) (g.view new) (k.3 clean).1
 
-pub adds_next : (old mid new : View) (names : List CidParts) (i : ℕ) (c : CidParts) → i < length names → c ≡ get_or names i c → Changes (AddsRoots (take i names)) old mid → IsRootAdded mid new c → Changes (AddsRoots (take (i + 1) names)) old new
-adds_next old mid new names i c within is h t = subst (λ ns. Changes (AddsRoots ns) old new) (longer names i c within is) (adds_more old mid new (take i names) c h t)
+  -- a rollback behind names of which one was refused
+  pub adding_undone : (old failed new : S) (told : StoreRefusal) → Quiet g failed new → g.blamed new ≡ g.blamed failed → (IsClean (g.view new) → IsUndone (g.view failed) (g.view new)) → RootsRefused g names old failed told
+      → RootsNotKept g names old new told × (IsClean (g.view new) → IsUndone (g.view old) (g.view new))
+  adding_undone old failed new told quiet blame undone h = (
+    roots_not_kept g names old failed new told quiet blame undone h,
+    λ clean. undone_then (g.view old) (g.view failed) (g.view new) (last_refused old failed told (omega (arith, quiet.clean)) h) (undone clean),
+  )
 
-pub adds_all : (old new : View) (names : List CidParts) (i : ℕ) → i ≤ length names → length names ≤ i → Changes (AddsRoots (take i names)) old new → Changes (AddsRoots names) old new
-adds_all old new names i below end h = subst (λ ns. Changes (AddsRoots ns) old new) (whole names i below end) h
+  module _ (old mid new : S) (before : Quiet g old mid) (was : IsClean (g.view new) → IsClean (g.view mid)) (added : IsClean (g.view mid) → AreRootsAdded (g.view old) (g.view mid) names) where
+    failed_behind : (told : StoreRefusal) → Fails g ⊥ mid new told → Fails g (IsAnyTooLong (g.view old).reals names) old new told
+    failed_behind told f = fails_behind g ⊥ (IsAnyTooLong (g.view old).reals names) old mid new told before was (λ clean. let a = added clean in (a.broken, last_rooted (g.view old) (g.view mid) names a, λ u. absurd u)) f
 
-split : (names : List CidParts) (i : ℕ) (c : CidParts) → i < length names → c ≡ get_or names i c → names ≡ take i names ++ c ∷ drop (i + 1) names
-split names i c within is = sym (take-append-drop i names) ∙ ap (λ ys. take i names ++ ys) (drop_more names i c within ∙ ap (λ y. y ∷ drop (i + 1) names) (sym is))
+    not_kept : (told : StoreRefusal) → Fails g ⊥ mid new told → RootsNotKept g names old new told
+    not_kept refusal.EarlierVersion f = absurd (tells_no_version f.0 f.1)
+    not_kept refusal.NoNumber f = absurd (tells_no_number f.0 f.1)
+    not_kept told f = failed_behind told f
 
-module _ {S : Type 0} (g : Ghosts S) where
-  pub stops_at : (old mid new : S) (names : List CidParts) (i : ℕ) (c : CidParts) (told : StoreRefusal) → i < length names → c ≡ get_or names i c → Quiet g old mid → (IsClean (g.view mid) → Changes (AddsRoots (take i names)) (g.view old) (g.view mid)) → RootRefused g c mid new told → Quiet g mid new
-      → StopsAdding g names old new told
-  stops_at old mid new names i c told within is before added refused quiet = record {
-    done = take i names;
-    name = c;
-    more = drop (i + 1) names;
-    mid = mid;
-    is = split names i c within is;
-    added = added;
-    before = before;
-    refused = refused;
-    quiet = quiet;
-  }
-
-  last_refused : (name : CidParts) (old new : S) (told : StoreRefusal) → IsClean (g.view new) → RootRefused g name old new told → KeepsLast (g.view old) (g.view new)
-  last_refused name old new refusal.EarlierVersion clean k = subst (λ (s : S). KeepsLast (g.view old) (g.view s)) (sym k.1) (last_itself (g.view old))
-  last_refused name old new refusal.NoNumber clean k = last_same (g.view old) (g.view new) (k clean).1
-  last_refused name old new (refusal.Unsound e) clean k = last_undone (g.view old) (g.view new) (k.3 clean).1
-  last_refused name old new (refusal.Damaged n) clean k = last_undone (g.view old) (g.view new) (k.3 clean).1
-  last_refused name old new refusal.TooLong clean k = last_undone (g.view old) (g.view new) (k.3 clean).1
-  last_refused name old new refusal.NotAStore clean k = last_undone (g.view old) (g.view new) (k.3 clean).1
-  last_refused name old new refusal.Locked clean k = last_undone (g.view old) (g.view new) (k.3 clean).1
-  last_refused name old new refusal.CannotOpen clean k = last_undone (g.view old) (g.view new) (k.3 clean).1
-  last_refused name old new (refusal.Disk e) clean k = last_undone (g.view old) (g.view new) (k.3 clean).1
-  last_refused name old new refusal.OutOfMemory clean k = last_undone (g.view old) (g.view new) (k.3 clean).1
-
-  -- a rollback behind a name that was refused
-  pub undone_adding : (old failed new : S) (names : List CidParts) (told : StoreRefusal) → StopsAdding g names old failed told → Quiet g failed new → (IsClean (g.view new) → IsUndone (g.view failed) (g.view new)) → IsClean (g.view new) → IsUndone (g.view old) (g.view new)
-  undone_adding old failed new names told h quiet undone clean =
-      let then : IsClean (g.view failed) = omega (arith, quiet.clean) in
-      let was : IsClean (g.view h.mid) = omega (arith, then, h.quiet.clean) in
-      let last = last_then (g.view old) (g.view h.mid) (g.view failed) (last_changed (AddsRoots h.done) (g.view old) (g.view h.mid) (h.added was)) (last_refused h.name h.mid failed told then h.refused) in
-      undone_then (g.view old) (g.view failed) (g.view new) last (undone clean)
+    -- a commit that failed
+    pub adding_failed : (told : StoreRefusal) → Fails g ⊥ mid new told → RootsNotKept g names old new told × (IsClean (g.view new) → IsUndone (g.view old) (g.view new))
+    adding_failed told f = (not_kept told f, λ clean. ((failed_behind told f).3 clean).1)
 
 -- ---- taking out
 

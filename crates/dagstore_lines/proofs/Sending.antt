@@ -1,5 +1,5 @@
 -- How texts go out one behind the other.
-use Rattle.std.proofs.Common.{◌≡◌, inl, inr, ℕ, List, [], ◌∷◌, ◌++◌, refl, sym, ap, ◌∙◌, subst, append_assoc, codes, Option, Result, Ok, Err, IsErrAnd}
+use Rattle.std.proofs.Common.{◌≡◌, inl, inr, ℕ, List, [], ◌∷◌, ◌++◌, refl, sym, ap, ◌∙◌, subst, append_assoc, codes, decimal, Option, Result, Ok, Err, IsErrAnd}
 use Rattle.std.proofs.KnownBytes.{Appends-nil, Appends-trans}
 use Rattle.dagcbor_heads.specs.Written.{AppendsFront}
 use Rattle.ipld_tree.specs.Cid.{CidParts}
@@ -23,6 +23,19 @@ module _ {A : Type 0} where
   pub told_both : (before after : Option (List ℕ)) (first second a b : List ℕ) (r : Result A ToolError) → a ≡ first → b ≡ second → WritesFront before after r ((codes "dagstore: " ++ a) ++ (b ++ 10 ∷ [])) → WritesFront before after r (told_line (first ++ second))
   told_both before after first second a b r is other h =
       subst (λ t. WritesFront before after r (codes "dagstore: " ++ t)) (ap (λ z. z ++ (b ++ 10 ∷ [])) is ∙ ap (λ z. first ++ (z ++ 10 ∷ [])) other ∙ sym (append_assoc first second (10 ∷ []))) h
+
+  pub told_place : (before after : Option (List ℕ)) (first second a b d : List ℕ) (place : ℕ) (r : Result A ToolError) → a ≡ first → b ≡ second → d ≡ decimal place
+      → WritesFront before after r ((codes "dagstore: " ++ a) ++ ((b ++ codes " at byte ") ++ (d ++ 10 ∷ []))) → WritesFront before after r (told_line (first ++ (second ++ (codes " at byte " ++ decimal place))))
+  told_place before after first second a b d place r is other number h = subst (λ t. WritesFront before after r (codes "dagstore: " ++ t)) whole h
+    where
+      told : List ℕ
+      told = codes " at byte " ++ decimal place
+
+      spelled : a ++ ((b ++ codes " at byte ") ++ (d ++ 10 ∷ [])) ≡ first ++ ((second ++ codes " at byte ") ++ (decimal place ++ 10 ∷ []))
+      spelled = ap (λ z. z ++ ((b ++ codes " at byte ") ++ (d ++ 10 ∷ []))) is ∙ ap (λ z. first ++ ((z ++ codes " at byte ") ++ (d ++ 10 ∷ []))) other ∙ ap (λ z. first ++ ((second ++ codes " at byte ") ++ (z ++ 10 ∷ []))) number
+
+      whole : a ++ ((b ++ codes " at byte ") ++ (d ++ 10 ∷ [])) ≡ (first ++ (second ++ told)) ++ 10 ∷ []
+      whole = spelled ∙ ap (λ z. first ++ z) (append_assoc second (codes " at byte ") (decimal place ++ 10 ∷ []) ∙ sym (append_assoc second told (10 ∷ []))) ∙ sym (append_assoc first (second ++ told) (10 ∷ []))
 
 -- a line that is so broke off
 pub line_is : (IsLine : List ℕ → Type 0) (said : List ℕ) (before after : Option (List ℕ)) (e : ToolError) → IsLine said → BreaksLine (λ out. out ≡ said) before after e → BreaksLine IsLine before after e

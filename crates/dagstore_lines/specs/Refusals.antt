@@ -1,5 +1,5 @@
 -- What is told of a refusal, and the status of a run that ends so.
-use Rattle.std.specs.Prelude.{◌≡◌, ℕ, List, ◌++◌, codes, Bool, Option, Result, Ok, Err, if◌then◌else◌}
+use Rattle.std.specs.Prelude.{◌≡◌, ℕ, List, ◌++◌, codes, decimal, Bool, Option, Result, Ok, Err, if◌then◌else◌}
 use Rattle.sqlite_trees.specs.declared.error.StoreError.{StoreError}
 use Rattle.sqlite_trees.specs.declared.error.StoreError.TheVariants as disk
 use Rattle.dagcbor_heads.specs.Written.{AppendsFront}
@@ -23,11 +23,11 @@ disk_text disk.Full = codes "database or disk is full"
 disk_text disk.Broken = codes "the transaction must be rolled back"
 disk_text disk.Unstorable = codes "a row cannot be stored"
 
--- of a block that is not kept under its name
+-- of a block that is not kept under its name; of one that is no DAG-CBOR, with the byte by which it is none
 abbrev pub unsound_text : Unsound → List ℕ
 unsound_text unsound.OtherHash = codes "the block is named by another hash function than SHA-256"
 unsound_text unsound.OtherBytes = codes "the block has other bytes than its name says"
-unsound_text (unsound.NoBlock e) = codes "the block is no DAG-CBOR: " ++ variant_name e
+unsound_text (unsound.NoBlock e place) = codes "the block is no DAG-CBOR: " ++ (variant_name e ++ (codes " at byte " ++ decimal place))
 
 -- of a refusal of the store
 abbrev pub refusal_text : StoreRefusal → List ℕ

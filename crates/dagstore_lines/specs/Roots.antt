@@ -1,5 +1,5 @@
 -- What is said of the roots that a store keeps, and how they change.
-use Rattle.std.specs.Prelude.{◌≡◌, ◌≢◌, ◌⊎◌, ◌+◌, ℕ, List, [], ◌∷◌, ◌++◌, length, Bool, true, false, Option, Result, Ok, Err, MatchResult, IsTrue, flat_map}
+use Rattle.std.specs.Prelude.{◌≡◌, ◌≢◌, ◌⊎◌, ◌+◌, ℕ, List, [], ◌∷◌, length, Bool, true, false, Option, Result, Ok, Err, MatchResult, IsTrue, flat_map}
 use Rattle.std.specs.Io.KnownBytes.{Appends}
 use Rattle.sqlite_trees.specs.Tree.{Trees}
 use Rattle.sqlite_trees.specs.View.{View, IsClean}
@@ -8,9 +8,10 @@ use Rattle.ipld_tree.specs.Cid.{CidParts}
 use Rattle.dagcbor_items.specs.Walks.{forms}
 use Rattle.ipld_links.specs.Sets.{Among}
 use Rattle.dagcbor_store.specs.RootRows.{root_tree, AreRoots, LeavesOut}
-use Rattle.dagcbor_store.specs.Ends.{Quiet, KeepsOthers, IsOfRoots}
-use Rattle.dagcbor_store.specs.Stored.{IsSame, IsUndone, Fails}
-use Rattle.dagcbor_store.specs.Roots.{HasRoots, AddsName, RootRefused}
+use Rattle.dagcbor_store.specs.Cars.{RootsNotKept}
+use Rattle.dagcbor_store.specs.Ends.{KeepsOthers, IsOfRoots}
+use Rattle.dagcbor_store.specs.Stored.{IsSame, IsUndone, IsCommitted, Fails}
+use Rattle.dagcbor_store.specs.Roots.{HasRoots, AreRootsAdded, MayKeepRoots}
 use Rattle.dagcbor_store.specs.Collecting.{KeepsReachable}
 use Rattle.dagcbor_store.specs.declared.error.StoreRefusal.{StoreRefusal}
 use Rattle.dagstore_lines.specs.Changes.{name_line, SaysCollected, SaysTaken}
@@ -91,40 +92,16 @@ pub record Commits (Does : Trees → Trees → Type 0) (old new : View) : Type 0
 
 -- ---- add-root
 
--- each of the names is made a root in its turn
-abbrev pub AddsNames : List CidParts → List CidParts → List CidParts → Type 0
-AddsNames old [] new = new ≡ old
-AddsNames old (name ∷ names) new = (mid : List CidParts) × AddsName old name mid × AddsNames mid names new
+-- the names were added to the roots that there were, and so the trees stand
+abbrev pub HasAddedRoots : View → List CidParts → Trees → Type 0
+HasAddedRoots old names db = (added : View) × AreRootsAdded old added names × (db ≡ added.trees)
 
--- the roots are those, and each other tree is the same
-pub record AddsRoots (names : List CidParts) (old new : Trees) : Type 0 where
-  pub roots : (before : List CidParts) → AreRoots (old root_tree) before
-      → (now : List CidParts) × AreRoots (new root_tree) now × AddsNames before names now
-  pub beside : KeepsOthers IsOfRoots old new
-
--- one of the names was refused, behind those before it, which were added
-pub record StopsAdding {S : Type 0} (g : Ghosts S) (names : List CidParts) (old new : S) (told : StoreRefusal) : Type 0 where
-  pub done : List CidParts
-  pub name : CidParts
-  pub more : List CidParts
-  pub mid : S
-  pub is : names ≡ done ++ name ∷ more
-  pub added : IsClean (g.view mid) → Changes (AddsRoots done) (g.view old) (g.view mid)
-  pub before : Quiet g old mid
-  pub refused : RootRefused g name mid new told
-  pub quiet : Quiet g mid new
-
--- one of the names was refused, and what was not committed is undone; or the commit failed
-abbrev pub AddingRefused : {S : Type 0} → Ghosts S → List CidParts → S → S → StoreRefusal → Type 0
-AddingRefused {S = S} g names old new told = ((IsClean (g.view new) → IsUndone (g.view old) (g.view new))
-    × ((failed : S) × StopsAdding g names old failed told × Quiet g failed new))
-    ⊎ Fails g ⊥ old new told
-
--- each of the names is a root, which is committed; or the store refused
+-- each of the names is a root, which is committed; or the store refused, and what was not committed is undone
 abbrev pub AddsToRoots : {S : Type 0} → Ghosts S → List CidParts → S → Result Bool Fault → S → Type 0
-AddsToRoots g names old (Ok well) new = (well ≡ true)
-    × (IsClean (g.view new) → Commits (AddsRoots names) (g.view old) (g.view new))
-AddsToRoots g names old (Err (fault.Store told)) new = AddingRefused g names old new told
+AddsToRoots g names old (Ok well) new = (well ≡ true) × MayKeepRoots (g.view old) names
+    × (IsClean (g.view new) → (added : View) × AreRootsAdded (g.view old) added names × IsCommitted added (g.view new))
+AddsToRoots g names old (Err (fault.Store told)) new = RootsNotKept g names old new told
+    × (IsClean (g.view new) → IsUndone (g.view old) (g.view new))
 AddsToRoots g names old (Err (fault.Tool e)) new = ⊥
 
 -- ---- drop-root

@@ -10,7 +10,7 @@ ghost use Rattle.dagstore_lines.specs.Changes.{name_as, SaysPut, HoldsOthers, Sa
 ghost use Rattle.dagstore_lines.specs.Checks.{SaysCheck};
 ghost use Rattle.dagstore_lines.specs.Names.{IsListed, SaysNames};
 ghost use Rattle.dagstore_lines.specs.Refusals.{EndsSo};
-ghost use Rattle.dagstore_lines.specs.Roots.{SaysRoots, ExportsMeant, CollectsMeant, KeepsMeant, AddsRoots, AddsToRoots, DropsSome, SaysDropped};
+ghost use Rattle.dagstore_lines.specs.Roots.{SaysRoots, ExportsMeant, CollectsMeant, KeepsMeant, HasAddedRoots, AddsToRoots, DropsSome, SaysDropped};
 ghost use Rattle.dagstore_lines.specs.Said.{StoreFails, SaysAll};
 ghost use Rattle.dagstore_lines.specs.Trees.{SaysTree};
 ghost use Rattle.dagstore_lines.specs.Ways.{IsAnswerIn, WayFails};
@@ -249,7 +249,7 @@ pub fn answer_add_roots<S: Store, V: Write>(
         × EndsSo ended result (V.contents errors.old) (V.contents errors.new)
         × AddsToRoots S.Store names.now store.old ended store.new }
     ensures crash { (db : _) → S.Store.recovers store.new db → S.Store.recovers store.old db
-        ⊎ (IsClean (S.Store.view store.new) → AddsRoots names.now (S.Store.view store.old).trees db) }
+        ⊎ (IsClean (S.Store.view store.new) → HasAddedRoots (S.Store.view store.old) names.now db) }
     ensures kept { IsKeptBy S.Store store.old store.new }
 {
     end(add_roots(store, names), errors)

@@ -14,7 +14,7 @@ ghost use Rattle.std.specs.declared.io.Error.{Error};
 
 use crate::fault::Fault;
 use crate::refusal::{
-    end, refusal_status, refusal_words, tell_refusal, tell_tool, write_name, write_told,
+    end, refusal_status, tell_refusal, tell_tool, write_name, write_refusal, write_told,
 };
 use block_lines::{fault_name, line_of, root_lines, say};
 use dagcbor_car::CarError;
@@ -67,8 +67,7 @@ fn write_block<V: Write>(
         (told_line (codes "of " ++ cid_text name.now) ++ told_line (refusal_text refusal.now)) }
 {
     write_name(errors, name)?;
-    let (text, which) = refusal_words(refusal);
-    write_told(errors, text, which)
+    write_refusal(refusal, errors)
 }
 
 /// The line of how many sections stand before the place where a file stopped.

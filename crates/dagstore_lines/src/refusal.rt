@@ -1,6 +1,6 @@
 //! What is told of a refusal, and the status of a run that ends so.
 
-ghost use Rattle.std.specs.Prelude.{◌≡◌, ◌++◌, codes};
+ghost use Rattle.std.specs.Prelude.{◌≡◌, ◌++◌, codes, decimal, MatchOption};
 ghost use Rattle.cid_text.specs.Texts.{cid_text};
 ghost use Rattle.dagcbor_cli.specs.Writing.{WritesFront};
 ghost use Rattle.dagcbor_heads.specs.Written.{AppendsFront};
@@ -12,6 +12,7 @@ use dagcbor_cli::{ToolError, write_all};
 use dagcbor_items::variant_name;
 use dagcbor_store::{StoreRefusal, Unsound};
 use ipld_tree::Cid;
+use itoa::Buffer;
 use sqlite_trees::error::StoreError;
 use std::io::Write;
 
@@ -29,23 +30,35 @@ fn disk_text(error: &StoreError) -> &'static str
     }
 }
 
-/// What is told of a block that is not kept under its name, and the name of a variant.
-fn unsound_words(cause: &Unsound) -> (&'static str, &'static str)
-    ensures { result.0.now ++ result.1.now ≡ unsound_text cause.now }
+/// What is told of a refusal: a text, the name of a variant, and the byte that is named behind them.
+type Told = (&'static str, &'static str, Option<usize>);
+
+/// What is told of a block that is not kept under its name.
+fn unsound_words(cause: &Unsound) -> Told
+    ensures { MatchOption result.2 (result.0.now ++ result.1.now ≡ unsound_text cause.now)
+        (λ place. result.0.now ++ (result.1.now ++ (codes " at byte " ++ decimal place)) ≡ unsound_text cause.now) }
 {
     match cause {
         Unsound::OtherHash => (
             "the block is named by another hash function than SHA-256",
             "",
+            None,
         ),
-        Unsound::OtherBytes => ("the block has other bytes than its name says", ""),
-        Unsound::NoBlock(error) => ("the block is no DAG-CBOR: ", variant_name(error)),
+        Unsound::OtherBytes => ("the block has other bytes than its name says", "", None),
+        Unsound::NoBlock(error, place) => {
+            (
+                "the block is no DAG-CBOR: ",
+                variant_name(error),
+                Some(*place),
+            )
+        }
     }
 }
 
-/// What is told of a refusal of the store, and the name of a variant.
-pub fn refusal_words(refusal: &StoreRefusal) -> (&'static str, &'static str)
-    ensures { result.0.now ++ result.1.now ≡ refusal_text refusal.now }
+/// What is told of a refusal of the store.
+fn refusal_words(refusal: &StoreRefusal) -> Told
+    ensures { MatchOption result.2 (result.0.now ++ result.1.now ≡ refusal_text refusal.now)
+        (λ place. result.0.now ++ (result.1.now ++ (codes " at byte " ++ decimal place)) ≡ refusal_text refusal.now) }
 {
     match refusal {
         StoreRefusal::Unsound(cause) => unsound_words(cause),
@@ -53,19 +66,25 @@ pub fn refusal_words(refusal: &StoreRefusal) -> (&'static str, &'static str)
             (
                 "what is stored under the name has other bytes than it says",
                 "",
+                None,
             )
         }
-        StoreRefusal::NoNumber => ("no number is left for a row", ""),
-        StoreRefusal::TooLong => ("the block is too long for a row", ""),
-        StoreRefusal::NotAStore => ("the file is no store of blocks", ""),
+        StoreRefusal::NoNumber => ("no number is left for a row", "", None),
+        StoreRefusal::TooLong => ("the block is too long for a row", "", None),
+        StoreRefusal::NotAStore => ("the file is no store of blocks", "", None),
         StoreRefusal::EarlierVersion => (
             "the file is of an earlier version, which keeps no roots: export it, and import that into a new file",
             "",
+            None,
         ),
-        StoreRefusal::Locked => ("another process has the file open", ""),
-        StoreRefusal::CannotOpen => ("the file cannot be opened for reading and writing", ""),
-        StoreRefusal::Disk(error) => (disk_text(error), ""),
-        StoreRefusal::OutOfMemory => ("out of memory", ""),
+        StoreRefusal::Locked => ("another process has the file open", "", None),
+        StoreRefusal::CannotOpen => (
+            "the file cannot be opened for reading and writing",
+            "",
+            None,
+        ),
+        StoreRefusal::Disk(error) => (disk_text(error), "", None),
+        StoreRefusal::OutOfMemory => ("out of memory", "", None),
     }
 }
 
@@ -115,6 +134,34 @@ pub fn write_told<W: Write>(errors: &mut W, first: &str, second: &str) -> Result
     write_both(errors, second.as_bytes(), b"\n")
 }
 
+/// Writes a line under the program's name, and the number of a byte at its end.
+fn write_told_at<W: Write>(
+    errors: &mut W,
+    first: &str,
+    second: &str,
+    place: usize,
+) -> Result<(), ToolError>
+    ensures { WritesFront (W.contents errors.old) (W.contents errors.new) result
+        (told_line (first.now ++ (second.now ++ (codes " at byte " ++ decimal place)))) }
+{
+    let mut digits = Buffer::new();
+    write_both(errors, b"dagstore: ", first.as_bytes())?;
+    write_both(errors, second.as_bytes(), b" at byte ")?;
+    write_both(errors, digits.format(place).as_bytes(), b"\n")
+}
+
+/// Writes the line of a refusal of the store.
+pub fn write_refusal<W: Write>(refusal: &StoreRefusal, errors: &mut W) -> Result<(), ToolError>
+    ensures { WritesFront (W.contents errors.old) (W.contents errors.new) result
+        (told_line (refusal_text refusal.now)) }
+{
+    let (text, which, place) = refusal_words(refusal);
+    match place {
+        Some(place) => write_told_at(errors, text, which, place),
+        None => write_told(errors, text, which),
+    }
+}
+
 /// Writes the line of the name of a block.
 pub fn write_name<V: Write>(errors: &mut V, name: &Cid) -> Result<(), ToolError>
     ensures { WritesFront (V.contents errors.old) (V.contents errors.new) result
@@ -130,8 +177,7 @@ pub fn tell_refusal<W: Write>(refusal: &StoreRefusal, errors: &mut W) -> u8
     ensures told { AppendsFront (W.contents errors.old) (W.contents errors.new)
         (told_line (refusal_text refusal.now)) }
 {
-    let (text, which) = refusal_words(refusal);
-    let _ = write_told(errors, text, which);
+    let _ = write_refusal(refusal, errors);
     refusal_status(refusal)
 }
 

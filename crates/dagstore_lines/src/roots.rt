@@ -5,7 +5,7 @@ ghost use Rattle.sqlite_trees.specs.View.{IsClean};
 ghost use Rattle.dagcbor_store.specs.Ends.{Quiet};
 ghost use Rattle.dagcbor_store.specs.Stored.{IsKeptBy, StaysSame, Fails};
 ghost use Rattle.dagstore_lines.specs.Changes.{name_line};
-ghost use Rattle.dagstore_lines.specs.Roots.{SaysRoots, AreMeant, RootsUnread, Changes, Commits, AddsRoots, StopsAdding, AddsToRoots, DropsRoots, DropsSome, SaysDropped};
+ghost use Rattle.dagstore_lines.specs.Roots.{SaysRoots, AreMeant, RootsUnread, Changes, Commits, HasAddedRoots, AddsToRoots, DropsRoots, DropsSome, SaysDropped};
 ghost use Rattle.dagstore_lines.specs.Said.{StoreFails};
 
 use crate::change::say_taken;
@@ -70,28 +70,15 @@ pub fn meant_roots<S: Store>(
     }
 }
 
-/// Makes each of the names a root behind the others, unless it is one.
-fn add_each<S: Store>(store: &mut BlockStore<S>, names: &[Cid]) -> Result<(), StoreRefusal>
-    ensures ok { OnOk result (IsClean (S.Store.view store.new)
-        → Changes (AddsRoots names.now) (S.Store.view store.old) (S.Store.view store.new)) }
-    ensures refused { IfErr result (StopsAdding S.Store names.now store.old store.new) }
-    ensures quiet { Quiet S.Store store.old store.new }
-{
-    for name in names {
-        store.add_root(name)?;
-    }
-    Ok(())
-}
-
 /// Makes each of the names a root behind the others, unless it is one, and commits that; or none of
 /// them.
 pub fn add_roots<S: Store>(store: &mut BlockStore<S>, names: &[Cid]) -> Result<bool, Fault>
     ensures added { AddsToRoots S.Store names.now store.old result store.new }
     ensures crash { (db : _) → S.Store.recovers store.new db → S.Store.recovers store.old db
-        ⊎ (IsClean (S.Store.view store.new) → AddsRoots names.now (S.Store.view store.old).trees db) }
+        ⊎ (IsClean (S.Store.view store.new) → HasAddedRoots (S.Store.view store.old) names.now db) }
     ensures kept { IsKeptBy S.Store store.old store.new }
 {
-    match add_each(store, names) {
+    match store.add_roots(names) {
         Ok(()) => match store.commit() {
             Ok(()) => Ok(true),
             Err(refusal) => Err(Fault::Store(refusal)),

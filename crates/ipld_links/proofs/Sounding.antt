@@ -1,5 +1,5 @@
 -- Blocks that a store keeps, and those that it refuses.
-use Rattle.std.proofs.Common.{◌≡◌, inl, inr, ℕ, List, refl, sym, ap, ◌∙◌, arith}
+use Rattle.std.proofs.Common.{◌≡◌, inl, inr, ℕ, List, refl, arith}
 use Rattle.std.specs.declared.convert.Infallible.{Infallible}
 use Rattle.sha2.specs.Sha256.{sha256}
 use Rattle.sha2.proofs.Facts256.{length-sha256}
@@ -7,15 +7,15 @@ use Rattle.dagcbor_heads.specs.declared.error.DecodeError.{DecodeError}
 use Rattle.dagcbor_heads.specs.declared.error.DecodeError.TheVariants as unread
 use Rattle.ipld_tree.specs.Tree.{Tree}
 use Rattle.dagcbor_items.specs.Slices.{IsBlock, SliceRefused}
-use Rattle.ipld_links.specs.Names.{IsBySha256, IsInline, block_name}
+use Rattle.dagcbor_items.specs.Stops.{StandsAt}
+use Rattle.ipld_links.specs.Names.{IsBySha256, block_name}
 use Rattle.ipld_links.specs.Blocks.{NamedBlock}
 use Rattle.ipld_links.specs.Blocks.{HasBlock}
-use Rattle.ipld_links.specs.Verdicts.{IsVerified, IsDagCbor, IsVerdict}
+use Rattle.ipld_links.specs.Verdicts.{IsVerified, IsVerdict}
 use Rattle.ipld_links.specs.Sound.{IsSound, IsUnsound}
 use Rattle.ipld_links.specs.declared.sound.Unsound.{Unsound}
 use Rattle.ipld_links.specs.declared.sound.Unsound.TheVariants as unsound
-use Rattle.ipld_links.specs.declared.verdict.Verdict.{Verdict}
-use Rattle.ipld_links.specs.declared.verdict.Verdict.TheVariants.{Block, Refused, OtherBytes, NotRead, Unverified}
+use Rattle.ipld_links.specs.declared.verdict.Verdict.TheVariants.{Block, Refused, OtherBytes, NotRead}
 
 -- a name by SHA-256 is not by the identity
 by_sha256 : (s : NamedBlock) → s.0.hash_code ≡ 0x12 → IsVerified s → IsBySha256 s.0 × (s.0.digest ≡ sha256 s.1)
@@ -29,9 +29,12 @@ sound_read s kind by h = let v = by_sha256 s by h.0 in record { by_sha256 = v.0;
 pub sound_unread : (s : NamedBlock) → s.0.hash_code ≡ 0x12 → IsVerdict s NotRead → IsSound s
 sound_unread s by h = let v = by_sha256 s by h.0 in record { by_sha256 = v.0; digest = v.1; read = λ dag. absurd (h.1 dag) }
 
--- and of one that is not
-pub unsound_refused : (s : NamedBlock) (e : DecodeError Infallible) → s.0.hash_code ≡ 0x12 → IsVerdict s (Refused e) → IsUnsound s (unsound.NoBlock e)
-unsound_refused s e by h = let v = by_sha256 s by h.0 in (v.0, v.1, h.1, h.2, h.3)
+-- and of one that is not: it is judged again for its place
+pub sound_after : (s : NamedBlock) (e : DecodeError Infallible) (t : Tree) → s.0.hash_code ≡ 0x12 → IsVerdict s (Refused e) → IsBlock s.1 t → IsSound s
+sound_after s e t by h b = let v = by_sha256 s by h.0 in record { by_sha256 = v.0; digest = v.1; read = λ dag. (t, b) }
+
+pub unsound_refused : (s : NamedBlock) (said e : DecodeError Infallible) (place : ℕ) → s.0.hash_code ≡ 0x12 → IsVerdict s (Refused said) → SliceRefused e s.1 → (e ≡ unread.OutOfMemory → ⊥) → StandsAt e s.1 place → IsUnsound s (unsound.NoBlock e place)
+unsound_refused s said e place by h r n k = let v = by_sha256 s by h.0 in (v.0, v.1, h.1, r, n, k)
 
 pub unsound_bytes : (s : NamedBlock) → s.0.hash_code ≡ 0x12 → IsVerdict s OtherBytes → IsUnsound s unsound.OtherBytes
 unsound_bytes s by (inl h, not) = (h, λ e. not (inl (h, e)))
@@ -51,7 +54,7 @@ no_block e b r n t h = r.0 t h
 pub never_unsound : (s : NamedBlock) (e : Unsound) → IsSound s → IsUnsound s e → ⊥
 never_unsound s unsound.OtherHash h r = r h.by_sha256
 never_unsound s unsound.OtherBytes h r = r.1 h.digest
-never_unsound s (unsound.NoBlock e) h r = let block = h.read r.2 in no_block e s.1 r.3 r.4 block.0 block.1
+never_unsound s (unsound.NoBlock e place) h r = let block = h.read r.2 in no_block e s.1 r.3 r.4 block.0 block.1
 
 -- a block of DAG-CBOR is sound under its own name
 pub sound_own : (b : List ℕ) → HasBlock b → IsSound (block_name b, b)

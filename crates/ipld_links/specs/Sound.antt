@@ -2,8 +2,8 @@
 use Rattle.std.specs.Prelude.{◌≡◌, ◌≢◌}
 use Rattle.sha2.specs.Sha256.{sha256}
 use Rattle.dagcbor_heads.specs.declared.error.DecodeError.TheVariants as unread
-use Rattle.ipld_tree.specs.Cid.{CidParts}
 use Rattle.dagcbor_items.specs.Slices.{SliceRefused}
+use Rattle.dagcbor_items.specs.Stops.{StandsAt}
 use Rattle.ipld_links.specs.Names.{IsBySha256}
 use Rattle.ipld_links.specs.Blocks.{NamedBlock}
 use Rattle.ipld_links.specs.Blocks.{HasBlock}
@@ -18,9 +18,9 @@ pub record IsSound (s : NamedBlock) : Type 0 where
   pub digest : s.0.digest ≡ sha256 s.1
   pub read : IsDagCbor s.0 → HasBlock s.1
 
--- why bytes are not sound under a name
+-- why bytes are not sound under a name; of bytes that are no block, and at which byte
 abbrev pub IsUnsound : NamedBlock → Unsound → Type 0
 IsUnsound s OtherHash = ¬ IsBySha256 s.0
 IsUnsound s OtherBytes = IsBySha256 s.0 × (s.0.digest ≢ sha256 s.1)
-IsUnsound s (NoBlock e) = IsBySha256 s.0 × (s.0.digest ≡ sha256 s.1) × IsDagCbor s.0
-    × SliceRefused e s.1 × (e ≢ unread.OutOfMemory)
+IsUnsound s (NoBlock e place) = IsBySha256 s.0 × (s.0.digest ≡ sha256 s.1) × IsDagCbor s.0
+    × SliceRefused e s.1 × (e ≢ unread.OutOfMemory) × StandsAt e s.1 place

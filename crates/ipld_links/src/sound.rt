@@ -7,6 +7,7 @@ ghost use Rattle.ipld_links.specs.Sound.{IsSound, IsUnsound};
 use crate::name::{DAG_CBOR, SHA2_256};
 use crate::verdict::{Verdict, verify};
 use dagcbor_heads::DecodeError;
+use dagcbor_items::judge_slice;
 use ipld_tree::Cid;
 use std::convert::Infallible;
 use thiserror::Error;
@@ -21,14 +22,15 @@ pub enum Unsound {
     #[error("the block has other bytes than its name says")]
     OtherBytes,
     /// The block is the one that is named, of the codec DAG-CBOR, and is none that is read within
-    /// 256 steps.
-    #[error("the block is no DAG-CBOR: {0}")]
-    NoBlock(DecodeError<Infallible>),
+    /// 256 steps: for this cause, at this byte, counted from 0. Where it ends too early, that is its
+    /// length.
+    #[error("the block is no DAG-CBOR: {0} at byte {1}")]
+    NoBlock(DecodeError<Infallible>, usize),
 }
 
 /// Whether a store keeps the block under the name: its digest must be the SHA-256 of the block, of
 /// 32 bytes, and where its codec is DAG-CBOR, the block must be one that is read within 256 steps.
-#[tactic(auto, using(crate::proofs::Sounding::sound_read, crate::proofs::Sounding::sound_unread, crate::proofs::Sounding::unsound_refused, crate::proofs::Sounding::unsound_bytes))]
+#[tactic(auto, using(crate::proofs::Sounding::sound_read, crate::proofs::Sounding::sound_unread, crate::proofs::Sounding::sound_after, crate::proofs::Sounding::unsound_refused, crate::proofs::Sounding::unsound_bytes))]
 pub fn check_block(name: &Cid, block: &[u8]) -> Result<(), Unsound>
     ensures { MatchResult result (λ _. IsSound (name.now, block.now))
         (IsUnsound (name.now, block.now)) }
@@ -39,7 +41,10 @@ pub fn check_block(name: &Cid, block: &[u8]) -> Result<(), Unsound>
     match verify(name, block) {
         Verdict::Block(_) => Ok(()),
         Verdict::NotRead => Ok(()),
-        Verdict::Refused(error) => Err(Unsound::NoBlock(error)),
+        Verdict::Refused(_cause) => match judge_slice(block) {
+            Ok(_kind) => Ok(()),
+            Err(refused) => Err(Unsound::NoBlock(refused.cause, refused.place)),
+        },
         Verdict::OtherBytes => Err(Unsound::OtherBytes),
         Verdict::Unverified => Err(Unsound::OtherHash),
     }

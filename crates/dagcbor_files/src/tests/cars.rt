@@ -47,8 +47,8 @@ fn cause_of(cause: &Unsound) -> &'static str {
     match cause {
         Unsound::OtherHash => "other hash",
         Unsound::OtherBytes => "other bytes",
-        Unsound::NoBlock(DecodeError::UnorderedKey) => "unordered",
-        Unsound::NoBlock(_) => "no block",
+        Unsound::NoBlock(DecodeError::UnorderedKey, 5) => "unordered",
+        Unsound::NoBlock(_, _) => "no block",
     }
 }
 

@@ -29,7 +29,7 @@ fn name_in(section: &[u8], length: usize) -> Result<Cid, Fail> {
 const REFUSED: &[(&[u8], usize, &str)] = &[
     (CHANGED, 4, "Err(Unsound(OtherBytes))"),
     (IDENTITY, 1, "Err(Unsound(OtherHash))"),
-    (UNORDERED, 7, "Err(Unsound(NoBlock(UnorderedKey)))"),
+    (UNORDERED, 7, "Err(Unsound(NoBlock(UnorderedKey, 5)))"),
 ];
 
 /// Fails where the block is kept, or refused otherwise.

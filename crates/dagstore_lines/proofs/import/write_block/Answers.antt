@@ -1,6 +1,5 @@
-use Rattle.std.proofs.Common.{refl, Err, codes, ◌++◌, subst}
+use Rattle.std.proofs.Common.{refl, Err, codes, ◌++◌}
 use Rattle.cid_text.specs.Texts.{cid_text}
-use Rattle.dagcbor_cli.specs.Writing.{WritesFront}
 use Rattle.dagstore_lines.specs.Refusals.{told_line, refusal_text}
 use Rattle.dagstore_lines.proofs.Sending.{front_both, front_stopped}
 use Rattle.dagstore_lines.proofs.import.write_block.Goals as goal
@@ -11,5 +10,4 @@ returns-in_err-write_name g c =
 
 pub returns : goal.returns
 returns g c =
-    front_both _ _ _ (told_line (codes "of " ++ cid_text c.args.name.now)) (told_line (refusal_text c.args.refusal.now)) _ c.write_told.result _ refl c.in_ok-write_name.ensures
-    (subst (λ text. WritesFront (g.V.Write.contents c.write_name.new.errors) (g.V.Write.contents c.write_told.new.errors) c.write_told.result (told_line text)) c.refusal_words.ensures c.write_told.ensures)
+    front_both _ _ _ (told_line (codes "of " ++ cid_text c.args.name.now)) (told_line (refusal_text c.args.refusal.now)) _ c.write_refusal.result _ refl c.in_ok-write_name.ensures c.write_refusal.ensures

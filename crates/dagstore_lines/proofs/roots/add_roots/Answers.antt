@@ -1,13 +1,11 @@
-use Rattle.std.proofs.Common.{arith, inl, inr}
-use Rattle.dagcbor_store.proofs.Sweeping.{fails_swept}
-use Rattle.dagstore_lines.proofs.Rooting.{undone_adding}
+use Rattle.std.proofs.Common.{arith}
+use Rattle.dagstore_lines.proofs.Rooting.{adding_undone, adding_failed}
 use Rattle.dagstore_lines.proofs.roots.add_roots.Goals as goal
 
 pub returns-in-Err-commit-clause-added : goal.returns-in-Err-commit-clause-added
-returns-in-Err-commit-clause-added g c = inr (fails_swept g.S.Store c.args.store.now c.add_each.new.store c.commit.new.self c.in-Err-commit.refusal c.add_each.ensures.quiet (λ clean. omega (arith, c.commit.ensures.kept.clean)) (λ clean. let w = c.in-Ok.ensures.ok clean in (w.committed, w.is_open, w.broken)) c.in-Err-commit.ensures.refused)
+returns-in-Err-commit-clause-added g c =
+    adding_failed g.S.Store c.args.names.now c.args.store.now c.add_roots.new.self c.commit.new.self c.add_roots.ensures.quiet (λ clean. omega (arith, c.commit.ensures.kept.clean)) c.in-Ok.ensures.ok c.in-Err-commit.refusal c.in-Err-commit.ensures.refused
 
 pub returns-in-Err-clause-added : goal.returns-in-Err-clause-added
-returns-in-Err-clause-added g c = inl (
-  undone_adding g.S.Store c.args.store.now c.add_each.new.store c.rollback.new.self c.args.names.now c.in-Err.refusal c.in-Err.ensures.refused c.rollback.ensures.quiet c.rollback.ensures.undone,
-  (c.add_each.new.store, c.in-Err.ensures.refused, c.rollback.ensures.quiet),
-)
+returns-in-Err-clause-added g c =
+    adding_undone g.S.Store c.args.names.now c.args.store.now c.add_roots.new.self c.rollback.new.self c.in-Err.refusal c.rollback.ensures.quiet c.rollback.ensures.blame c.rollback.ensures.undone c.in-Err.ensures.refused

@@ -25,5 +25,6 @@ pub trait NodeSink {
         ensures taken { OnOk result
             (Takes holds self.old ((name, block.items) ∷ []) self.new) }
         ensures refused { IfErr result
-            (RefusesOne holds refuses self.old ((name, block.items) ∷ [])) };
+            (RefusesOne holds refuses self.old ((name, block.items) ∷ [])) }
+        ensures kept { IfErr result (λ _. Takes holds self.old [] self.new) };
 }

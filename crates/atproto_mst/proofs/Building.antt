@@ -11,7 +11,7 @@ use Rattle.ipld_tree.specs.Spelling.{spelling}
 use Rattle.ipld_links.specs.Names.{block_name}
 use Rattle.dagcbor_car.specs.Car.{Section}
 use Rattle.atproto_mst.specs.Trees.{Leaf, lower_run, row_tree, entry_tree, entry_trees, map_of, node_section, subtree, node, subtree_nodes, nodes, nodes_between}
-use Rattle.atproto_mst.specs.Rows.{tree_of_row}
+use Rattle.atproto_mst.specs.Nodes.{tree_of_row, row_told}
 use Rattle.atproto_mst.specs.Placed.{told, all_told, upper_rest}
 use Rattle.atproto_mst.specs.Sinks.{Takes, RefusesOne}
 use Rattle.atproto_mst.specs.declared.error.MstError.{MstError}
@@ -82,7 +82,7 @@ nodes_subtree n ps b h f e = nodes_below (n - 1) ps b f e ∙ ap (λ k. subtree_
 -- ---- a node
 
 pub node_made : (n : ℕ) (es lower rest : List Leaf) (left : Option CidParts) (rows : List Row) → lower ≡ lower_run n es → rest ≡ upper_rest n es
-    → left ≡ subtree n lower → map tree_of_row rows ≡ entry_trees (subtree n) n [] rest → map_of (map tree_of_row rows) left ≡ node n es
+    → left ≡ subtree n lower → map tree_of_row (map row_told rows) ≡ entry_trees (subtree n) n [] rest → map_of (map tree_of_row (map row_told rows)) left ≡ node n es
 unfolding node
 node_made n es lower rest left rows l r e k =
     ap (λ ts. map_of ts left) (k ∙ ap (entry_trees (subtree n) n []) r ∙ entries_skip (subtree n) n [] es)
@@ -96,19 +96,19 @@ nodes_are n es lower rest t l r e =
     ∙ ap (λ x. subtree_nodes n (lower_run n es) ++ (x ++ (node_section t ∷ []))) (ap (nodes_between (subtree_nodes n) n) r ∙ nodes_skip (subtree_nodes n) n es)
     ∙ ap (λ x. subtree_nodes n (lower_run n es) ++ (nodes_between (subtree_nodes n) n es ++ (node_section x ∷ []))) e
 
-pub left_refused : {S W : Type 0} (holds : S → W → List Section → Type 0) (refuses : W → Section → Type 0) (old : S) (n : ℕ) (es lower : List Leaf) (e : MstError) → lower ≡ lower_run n es
+pub left_refused : {S W : Type 0} (holds : S → W → List Section → Type 0) (refuses : W → Section → MstError → Type 0) (old : S) (n : ℕ) (es lower : List Leaf) (e : MstError) → lower ≡ lower_run n es
     → RefusesOne holds refuses old (subtree_nodes n lower) e → RefusesOne holds refuses old (nodes n es) e
 left_refused holds refuses old n es lower e l h =
     refuses_within holds refuses old old [] (subtree_nodes n lower) (nodes_between (subtree_nodes n) n (upper_rest n es) ++ (node_section (node n es) ∷ [])) (nodes n es) e
     (takes_none holds old) (nodes_are n es lower (upper_rest n es) (node n es) l refl refl) h
 
-pub rows_refused : {S W : Type 0} (holds : S → W → List Section → Type 0) (refuses : W → Section → Type 0) (old mid : S) (n : ℕ) (es lower rest : List Leaf) (e : MstError) → lower ≡ lower_run n es → rest ≡ upper_rest n es
+pub rows_refused : {S W : Type 0} (holds : S → W → List Section → Type 0) (refuses : W → Section → MstError → Type 0) (old mid : S) (n : ℕ) (es lower rest : List Leaf) (e : MstError) → lower ≡ lower_run n es → rest ≡ upper_rest n es
     → Takes holds old (subtree_nodes n lower) mid → RefusesOne holds refuses mid (nodes_between (subtree_nodes n) n rest) e → RefusesOne holds refuses old (nodes n es) e
 rows_refused holds refuses old mid n es lower rest e l r k h =
     refuses_within holds refuses old mid (subtree_nodes n lower) (nodes_between (subtree_nodes n) n rest) (node_section (node n es) ∷ []) (nodes n es) e
     k (nodes_are n es lower rest (node n es) l r refl) h
 
-pub last_refused : {S W : Type 0} (holds : S → W → List Section → Type 0) (refuses : W → Section → Type 0) (old mid late : S) (n : ℕ) (es lower rest : List Leaf) (t : Tree) (e : MstError) → lower ≡ lower_run n es → rest ≡ upper_rest n es → t ≡ node n es
+pub last_refused : {S W : Type 0} (holds : S → W → List Section → Type 0) (refuses : W → Section → MstError → Type 0) (old mid late : S) (n : ℕ) (es lower rest : List Leaf) (t : Tree) (e : MstError) → lower ≡ lower_run n es → rest ≡ upper_rest n es → t ≡ node n es
     → Takes holds old (subtree_nodes n lower) mid → Takes holds mid (nodes_between (subtree_nodes n) n rest) late → RefusesOne holds refuses late (node_section t ∷ []) e → RefusesOne holds refuses old (nodes n es) e
 last_refused holds refuses old mid late n es lower rest t e l r s k m h =
     refuses_within holds refuses old late (subtree_nodes n lower ++ nodes_between (subtree_nodes n) n rest) (node_section t ∷ []) [] (nodes n es) e
@@ -153,22 +153,22 @@ tops_next n at k ps e = ap (lower_run n) (rows_after n at k ps e) ∙ upper_tops
 
 pub rows_next : (sub : List Leaf → Option CidParts) (n at k : ℕ) (ps : List Placed) (top : Placed) (rows : List Row) (row : Row) (previous : List ℕ) (after : Option CidParts) (all : List Tree)
     → at < length ps → get_or ps at top ≡ top → k ≡ length (lower_run n (all_told (drop (at + 1) ps))) → lower_run n (all_told (drop at ps)) ≡ []
-    → tree_of_row row ≡ entry_tree previous (told top) after → after ≡ sub (all_told (take k (drop (at + 1) ps)))
-    → map tree_of_row rows ++ entry_trees sub n previous (all_told (drop at ps)) ≡ all
-    → map tree_of_row (rows ++ (row ∷ [])) ++ entry_trees sub n top.key.now (all_told (drop (at + (1 + k)) ps)) ≡ all
+    → tree_of_row (row_told row) ≡ entry_tree previous (told top) after → after ≡ sub (all_told (take k (drop (at + 1) ps)))
+    → map tree_of_row (map row_told rows) ++ entry_trees sub n previous (all_told (drop at ps)) ≡ all
+    → map tree_of_row (map row_told (rows ++ (row ∷ []))) ++ entry_trees sub n top.key.now (all_told (drop (at + (1 + k)) ps)) ≡ all
 rows_next sub n at k ps top rows row previous after all lt is e tops made named before =
     let split = rows_split at ps top lt is in
     let first : lower_run n (told top ∷ all_told (drop (at + 1) ps)) ≡ [] = ap (lower_run n) (sym split) ∙ tops in
-    let tree : entry_tree previous (told top) (sub (lower_run n (all_told (drop (at + 1) ps)))) ≡ tree_of_row row =
+    let tree : entry_tree previous (told top) (sub (lower_run n (all_told (drop (at + 1) ps)))) ≡ tree_of_row (row_told row) =
     ap (entry_tree previous (told top)) (ap sub (sym (rows_lower n at k ps e)) ∙ sym named) ∙ sym made in
-    let here : entry_trees sub n previous (all_told (drop at ps)) ≡ tree_of_row row ∷ entry_trees sub n top.key.now (all_told (drop (at + (1 + k)) ps)) =
+    let here : entry_trees sub n previous (all_told (drop at ps)) ≡ tree_of_row (row_told row) ∷ entry_trees sub n top.key.now (all_told (drop (at + (1 + k)) ps)) =
     ap (entry_trees sub n previous) split
     ∙ entries_next sub n previous (told top) (all_told (drop (at + 1) ps)) first
     ∙ ap (λ t. t ∷ entry_trees sub n top.key.now (upper_rest n (all_told (drop (at + 1) ps)))) tree
-    ∙ ap (λ x. tree_of_row row ∷ entry_trees sub n top.key.now x) (sym (rows_after n at k ps e)) in
-    ap (λ m. m ++ entry_trees sub n top.key.now (all_told (drop (at + (1 + k)) ps))) (map-append tree_of_row rows (row ∷ []))
-    ∙ append_assoc (map tree_of_row rows) (tree_of_row row ∷ []) (entry_trees sub n top.key.now (all_told (drop (at + (1 + k)) ps)))
-    ∙ ap (λ z. map tree_of_row rows ++ z) (sym here)
+    ∙ ap (λ x. tree_of_row (row_told row) ∷ entry_trees sub n top.key.now x) (sym (rows_after n at k ps e)) in
+    ap (λ m. m ++ entry_trees sub n top.key.now (all_told (drop (at + (1 + k)) ps))) (ap (map tree_of_row) (map-append row_told rows (row ∷ [])) ∙ map-append tree_of_row (map row_told rows) (row_told row ∷ []))
+    ∙ append_assoc (map tree_of_row (map row_told rows)) (tree_of_row (row_told row) ∷ []) (entry_trees sub n top.key.now (all_told (drop (at + (1 + k)) ps)))
+    ∙ ap (λ z. map tree_of_row (map row_told rows) ++ z) (sym here)
     ∙ before
 
 pub nodes_here : (below : List Leaf → List Section) (n at k : ℕ) (ps : List Placed) (top : Placed) (done all : List Section)

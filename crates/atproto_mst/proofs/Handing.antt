@@ -30,13 +30,13 @@ among_right s (x ∷ xs) b h = inr (among_right s xs b h)
 pub among_mid : (s : Section) (a b d all : List Section) → a ++ (b ++ d) ≡ all → Among s b → Among s all
 among_mid s a b d all e h = subst (λ xs. Among s xs) e (among_right s a (b ++ d) (among_left s b d h))
 
-pub refuses_within : {S W : Type 0} (holds : S → W → List Section → Type 0) (refuses : W → Section → Type 0) (old mid : S) (a b d all : List Section) (e : MstError)
+pub refuses_within : {S W : Type 0} (holds : S → W → List Section → Type 0) (refuses : W → Section → MstError → Type 0) (old mid : S) (a b d all : List Section) (e : MstError)
     → Takes holds old a mid → a ++ (b ++ d) ≡ all → RefusesOne holds refuses mid b e → RefusesOne holds refuses old all e
 refuses_within holds refuses old mid a b d all e h same k world before x = elim (k world (before ++ a) (h world before x)) [
   | inl m ↦ inl m
   | inr r ↦ inr (r.0, among_mid r.0 a b d all same r.1, r.2)
 ]
 
-pub wants_memory : {S W : Type 0} (holds : S → W → List Section → Type 0) (refuses : W → Section → Type 0) (old : S) (all : List Section) (e : MstError)
+pub wants_memory : {S W : Type 0} (holds : S → W → List Section → Type 0) (refuses : W → Section → MstError → Type 0) (old : S) (all : List Section) (e : MstError)
     → e ≡ OutOfMemory → RefusesOne holds refuses old all e
 wants_memory holds refuses old all e m world before x = inl m

@@ -4,8 +4,11 @@ pub mod Handing
 pub mod Written
 pub mod Building
 pub mod Orders
-pub mod Comparing
 pub mod Whole
+pub mod Comparing
+pub mod Parts
+pub mod Layers
+pub mod Canonical
 pub mod Nodes
 pub mod Agreeing
 pub mod Rising

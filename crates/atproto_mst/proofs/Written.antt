@@ -6,7 +6,7 @@ use Rattle.ipld_tree.specs.Spelling.{IsSpelling}
 use Rattle.dagcbor_write.specs.Trees.{field, option_tree}
 use Rattle.dagcbor_write.specs.Answers.{AreSpellingOf}
 use Rattle.atproto_mst.specs.Trees.{row_tree, map_of}
-use Rattle.atproto_mst.specs.Rows.{tree_of_row}
+use Rattle.atproto_mst.specs.Nodes.{tree_of_row, row_told}
 use Rattle.atproto_mst.specs.declared.rows.Row.{Row}
 
 abbrev pub link_written : Option CidParts → Option Tree
@@ -23,11 +23,11 @@ parts_are p k v (Some c) = refl
 abbrev pub row_written : Row → Option Tree
 row_written r = parts_written r.shared r.rest.now r.value r.after
 
-rows_are : (rs : List Row) → all_some (map row_written rs) ≡ Some (map tree_of_row rs)
+rows_are : (rs : List Row) → all_some (map row_written rs) ≡ Some (map tree_of_row (map row_told rs))
 rows_are [] = refl
 rows_are (r ∷ rs) =
     ap (λ o. all_some (o ∷ map row_written rs)) (parts_are r.shared r.rest.now r.value r.after)
-    ∙ ap (λ o. option_map (λ more. tree_of_row r ∷ more) o) (rows_are rs)
+    ∙ ap (λ o. option_map (λ more. tree_of_row (row_told r) ∷ more) o) (rows_are rs)
 
 abbrev pub node_written : List Row → Option CidParts → Option Tree
 node_written rs l = entries_tree (field (codes "e") (list_tree (map row_written rs)) ∷ field (codes "l") (link_written l) ∷ [])
@@ -36,10 +36,10 @@ map_written : (es : List Tree) (l : Option CidParts) → entries_tree (field (co
 map_written es None = refl
 map_written es (Some c) = refl
 
-node_is : (rs : List Row) (l : Option CidParts) → node_written rs l ≡ Some (map_of (map tree_of_row rs) l)
+node_is : (rs : List Row) (l : Option CidParts) → node_written rs l ≡ Some (map_of (map tree_of_row (map row_told rs)) l)
 node_is rs l =
     ap (λ o. entries_tree (field (codes "e") (option_map (λ found. list (items_of found)) o) ∷ field (codes "l") (link_written l) ∷ [])) (rows_are rs)
-    ∙ map_written (map tree_of_row rs) l
+    ∙ map_written (map tree_of_row (map row_told rs)) l
 
-pub node_spelled : (rs : List Row) (l : Option CidParts) (v : List ℕ) → AreSpellingOf (node_written rs l) v → IsSpelling v (map_of (map tree_of_row rs) l)
+pub node_spelled : (rs : List Row) (l : Option CidParts) (v : List ℕ) → AreSpellingOf (node_written rs l) v → IsSpelling v (map_of (map tree_of_row (map row_told rs)) l)
 node_spelled rs l v h = subst (λ o. AreSpellingOf o v) (node_is rs l) h

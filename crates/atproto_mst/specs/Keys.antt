@@ -30,6 +30,10 @@ abbrev pub HaveKeys : List Entry → Type 0
 HaveKeys [] = ⊤
 HaveKeys (e ∷ es) = IsKey e.0 × HaveKeys es
 
+-- each has a CID
+abbrev pub HaveCids : List Entry → Type 0
+HaveCids es = AllByRecursion (λ e. AreCidParts e.1) es
+
 -- the key comes before the first of the entries
 abbrev pub ComesBefore : List ℕ → List Entry → Type 0
 ComesBefore key [] = ⊤
@@ -44,5 +48,5 @@ Rise (e ∷ es) = ComesBefore e.0 es × Rise es
 pub record AreEntries (es : List Entry) : Type 0 where
   pub keys : HaveKeys es
   pub rise : Rise es
-  pub values : AllByRecursion (λ e. AreCidParts e.1) es
+  pub values : HaveCids es
   pub count : length es < 2 ^ 64

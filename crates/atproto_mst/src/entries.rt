@@ -1,7 +1,7 @@
 //! Entries, and the layers of their keys.
 
 ghost use Rattle.std.specs.Prelude.{◌≡◌, MatchResult, IfOk, ◌≤◌};
-ghost use Rattle.atproto_mst.specs.Keys.{HaveKeys, Rise, AreEntries};
+ghost use Rattle.atproto_mst.specs.Keys.{HaveKeys, HaveCids, Rise, AreEntries};
 ghost use Rattle.atproto_mst.specs.Trees.{leaves, top_layer};
 ghost use Rattle.atproto_mst.specs.Placed.{all_told};
 ghost use Rattle.atproto_mst.specs.Entries.{entries, EntriesRefused};
@@ -30,16 +30,20 @@ pub(crate) fn check_entries(all: &[MstEntry]) -> Result<(), MstError>
     ensures { MatchResult result (λ _. AreEntries (entries all.now))
         (λ e. EntriesRefused e (entries all.now)) }
 {
+    // What is counted is fewer than 2^64 entries.
+    let _count = all.len();
     check_lengths(all)?;
     check_order(all)
 }
 
 /// Whether each key has 1 to 1024 bytes.
 fn check_lengths(all: &[MstEntry]) -> Result<(), MstError>
-    ensures { MatchResult result (λ _. HaveKeys (entries all.now))
+    ensures { MatchResult result (λ _. HaveKeys (entries all.now) × HaveCids (entries all.now))
         (λ e. (e ≡ KeyLength) × ¬ HaveKeys (entries all.now)) }
 {
     for entry in all {
+        // What is known of a CID comes with its version.
+        let _version = entry.value.version();
         let length = entry.key.len();
         if length < 1 || length > LONGEST_KEY {
             return Err(MstError::KeyLength);

@@ -83,7 +83,7 @@ fn check_tree(
     ensures { MatchResult result
         (λ _. (root.now ≡ root_of (entries all.now)) × AreStored (stored_in blocks.now) (nodes_of (entries all.now)))
         (λ e. (e ≡ OutOfMemory) ⊎ ((e ≡ OtherTree) × ((root.now ≡ root_of (entries all.now))
-            → ¬ AreStored (stored_in blocks.now) (nodes_of (entries all.now))))) }
+        → ¬ AreStored (stored_in blocks.now) (nodes_of (entries all.now))))) }
 {
     let leaves = place(alloc, all)?;
     let name = name_node(alloc, &leaves, top_of(&leaves), &mut Compared { blocks })?;

@@ -4,7 +4,7 @@
 ghost use Rattle.std.specs.Prelude.{⊤};
 
 use atproto_mst::{
-    MstEntry, MstError, NodeSink, Repo, layer_of_key, mst_root, read_mst, read_repo,
+    MstEntry, MstError, NodeSink, Repo, RepoError, layer_of_key, mst_root, read_mst, read_repo,
     spell_unsigned, write_mst,
 };
 use cid_text::cid_from_text;
@@ -116,7 +116,7 @@ impl NodeSink for Kept {
 
     ghost holds = { λ s world nodes. ⊤ };
 
-    ghost refuses = { λ world node. ⊤ };
+    ghost refuses = { λ world node e. ⊤ };
 
     fn take(&mut self, name: Cid, block: Vec<u8>) -> Result<(), MstError> {
         match self.blocks.insert(name, block) {
@@ -214,7 +214,7 @@ fn a_lost_node_is_told(rt: HostRuntime) -> Result<(), Fail> {
     let root = write_mst(alloc, &all, &mut kept)?;
     let _ = kept.blocks.remove(&root);
     match read_mst(alloc, &kept.blocks, &root) {
-        Err(MstError::OtherNodes) => Ok(()),
+        Err(MstError::MissingNode(name)) => agree(name, root),
         _ => Err(Fail::from("a lost node was not told")),
     }
 }
@@ -264,7 +264,7 @@ fn is_the_repository(alloc: Global, kept: &Kept, name: &Cid, root: Cid) -> Resul
 /// A tree is no repository.
 fn is_no_repository(alloc: Global, kept: &Kept, root: &Cid) -> Result<(), Fail> {
     match read_repo(alloc, &kept.blocks, root) {
-        Err(MstError::NoCommit) => Ok(()),
+        Err(RepoError::NoCommit(_)) => Ok(()),
         _ => Err(Fail::from("a tree was read as a repository")),
     }
 }

@@ -4,7 +4,7 @@ use Rattle.std.proofs.lemmas.Result.{err_from_is_err_and, IfErr-weaker}
 use Rattle.ipld_tree.specs.Spelling.{spelling}
 use Rattle.ipld_links.specs.Names.{block_name}
 use Rattle.atproto_mst.specs.Trees.{lower_run, entry_trees, subtree, subtree_nodes, nodes, nodes_between, node_section, map_of}
-use Rattle.atproto_mst.specs.Rows.{tree_of_row}
+use Rattle.atproto_mst.specs.Nodes.{tree_of_row, row_told}
 use Rattle.atproto_mst.specs.Placed.{all_told}
 use Rattle.atproto_mst.specs.Sinks.{Takes, RefusesOne}
 use Rattle.atproto_mst.proofs.Runs.{upper_tops}
@@ -36,7 +36,7 @@ pub name_node-returns-clause-taken : goal.name_node-returns-clause-taken
 name_node-returns-clause-taken g t c =
     on_ok_more c.hand_over.result
     (node_taken g.S.NodeSink.holds c.args.sink.now c.name_subtree.new.sink c.name_rows.new.sink c.hand_over.new.sink c.args.layer (all_told c.args.leaves.now) (all_told c.split_lower.result.0.now) (all_told c.split_lower.result.1.now)
-    (map_of (map tree_of_row c.in_ok-rows.rows.items) c.in_ok-left.left) c.split_lower.ensures.lower c.split_lower.ensures.rest
+    (map_of (map tree_of_row (map row_told c.in_ok-rows.rows.items)) c.in_ok-left.left) c.split_lower.ensures.lower c.split_lower.ensures.rest
     (node_made c.args.layer (all_told c.args.leaves.now) (all_told c.split_lower.result.0.now) (all_told c.split_lower.result.1.now) c.in_ok-left.left c.in_ok-rows.rows.items c.split_lower.ensures.lower c.split_lower.ensures.rest c.in_ok-left.ensures.name c.in_ok-rows.ensures.rows)
     c.in_ok-left.ensures.taken c.in_ok-rows.ensures.taken)
     c.hand_over.ensures.taken
@@ -44,10 +44,10 @@ name_node-returns-clause-taken g t c =
 pub name_node-returns-clause-refused : goal.name_node-returns-clause-refused
 name_node-returns-clause-refused g t c =
     IfErr-weaker c.hand_over.result
-    (RefusesOne g.S.NodeSink.holds g.S.NodeSink.refuses c.name_rows.new.sink (node_section (map_of (map tree_of_row c.in_ok-rows.rows.items) c.in_ok-left.left) ∷ []))
+    (RefusesOne g.S.NodeSink.holds g.S.NodeSink.refuses c.name_rows.new.sink (node_section (map_of (map tree_of_row (map row_told c.in_ok-rows.rows.items)) c.in_ok-left.left) ∷ []))
     (RefusesOne g.S.NodeSink.holds g.S.NodeSink.refuses c.args.sink.now (nodes c.args.layer (all_told c.args.leaves.now)))
     (λ e h. last_refused g.S.NodeSink.holds g.S.NodeSink.refuses c.args.sink.now c.name_subtree.new.sink c.name_rows.new.sink c.args.layer (all_told c.args.leaves.now) (all_told c.split_lower.result.0.now) (all_told c.split_lower.result.1.now)
-    (map_of (map tree_of_row c.in_ok-rows.rows.items) c.in_ok-left.left) e c.split_lower.ensures.lower c.split_lower.ensures.rest
+    (map_of (map tree_of_row (map row_told c.in_ok-rows.rows.items)) c.in_ok-left.left) e c.split_lower.ensures.lower c.split_lower.ensures.rest
     (node_made c.args.layer (all_told c.args.leaves.now) (all_told c.split_lower.result.0.now) (all_told c.split_lower.result.1.now) c.in_ok-left.left c.in_ok-rows.rows.items c.split_lower.ensures.lower c.split_lower.ensures.rest c.in_ok-left.ensures.name c.in_ok-rows.ensures.rows)
     c.in_ok-left.ensures.taken c.in_ok-rows.ensures.taken h)
     c.hand_over.ensures.refused
@@ -69,7 +69,7 @@ name_rows-loop-at-preserved g t c =
     let k = c.loop-at.invariant.taken in
     record {
       bound = bound_next c.loop-at.at c.count_lower-count.result c.args.leaves.now (omega arith) c.count_lower-count.ensures.bound;
-      rows = ap (λ rs. map tree_of_row rs ++ entry_trees (subtree c.args.layer) c.args.layer c.index-leaves-at.result.key.now (all_told (drop (c.loop-at.at + (1 + c.count_lower-count.result)) c.args.leaves.now))) (c.push_reserved.ensures.items ∙ ap (λ rs. rs ++ (c.row_of-row.result ∷ [])) c.in_ok-reserve.ensures.items)
+      rows = ap (λ rs. map tree_of_row (map row_told rs) ++ entry_trees (subtree c.args.layer) c.args.layer c.index-leaves-at.result.key.now (all_told (drop (c.loop-at.at + (1 + c.count_lower-count.result)) c.args.leaves.now))) (c.push_reserved.ensures.items ∙ ap (λ rs. rs ++ (c.row_of-row.result ∷ [])) c.in_ok-reserve.ensures.items)
           ∙ rows_next (subtree c.args.layer) c.args.layer c.loop-at.at c.count_lower-count.result c.args.leaves.now c.index-leaves-at.result c.loop-at.rows.items c.row_of-row.result c.loop-at.previous.now c.in_ok-after.after (entry_trees (subtree c.args.layer) c.args.layer [] (all_told c.args.leaves.now))
           (omega arith) (sym c.index-leaves-at.is) count c.loop-at.invariant.tops c.row_of-row.ensures (c.in_ok-after.ensures.name ∙ ap (λ x. subtree c.args.layer (all_told (take c.count_lower-count.result x))) b) c.loop-at.invariant.rows;
       tops = tops_next c.args.layer c.loop-at.at c.count_lower-count.result c.args.leaves.now count;

@@ -1,6 +1,5 @@
 use Rattle.std.proofs.Common.{◌≡◌, Some, None, sym, ap, ◌∙◌}
 use Rattle.ipld_links.specs.Reaching.{stored_in}
-use Rattle.atproto_mst.specs.declared.error.MstError.TheVariants.{OtherTree}
 use Rattle.atproto_mst.proofs.Comparing.{stored_more, other_stored, bytes_same, bytes_other, some_same}
 use Rattle.atproto_mst.proofs.read.ComparedNodeSink.take.Goals as goal
 
@@ -11,8 +10,8 @@ returns-then-eq-clause-taken c world before h =
 
 pub returns-in-Some-clause-refused : goal.returns-in-Some-clause-refused
 returns-in-Some-clause-refused c world before h =
-    other_stored world (stored_in c.args.self.now.blocks.now) (c.args.name, c.args.block.items) (Some c.in-Some.bytes.now) OtherTree h.0 c.in-Some.ensures (λ same. bytes_other c.in-Some.bytes.now c.as_slice.result.now c.eq.result c.if-eq.false c.eq.ensures (some_same c.in-Some.bytes.now c.args.block.items same ∙ sym c.as_slice.ensures.value))
+    other_stored world (stored_in c.args.self.now.blocks.now) (c.args.name, c.args.block.items) (Some c.in-Some.bytes.now) h.0 c.in-Some.ensures (λ same. bytes_other c.in-Some.bytes.now c.as_slice.result.now c.eq.result c.if-eq.false c.eq.ensures (some_same c.in-Some.bytes.now c.args.block.items same ∙ sym c.as_slice.ensures.value))
 
 pub returns-clause-refused : goal.returns-clause-refused
 returns-clause-refused c world before h =
-    other_stored world (stored_in c.args.self.now.blocks.now) (c.args.name, c.args.block.items) None OtherTree h.0 c.in-None.ensures (λ same. absurd (cc same))
+    other_stored world (stored_in c.args.self.now.blocks.now) (c.args.name, c.args.block.items) None h.0 c.in-None.ensures (λ same. absurd (cc same))

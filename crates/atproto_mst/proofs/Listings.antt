@@ -4,7 +4,7 @@ use Rattle.std.proofs.lemmas.List.{length-map}
 use Rattle.std.specs.List.{AllByRecursion}
 use Rattle.ipld_tree.specs.Cid.{CidParts, AreCidParts}
 use Rattle.ipld_links.specs.Reaching.{Stored}
-use Rattle.atproto_mst.specs.Keys.{Entry, AreEntries}
+use Rattle.atproto_mst.specs.Keys.{Entry, HaveCids, AreEntries}
 use Rattle.atproto_mst.specs.Trees.{root_of, nodes_of}
 use Rattle.atproto_mst.specs.Entries.{entry_of, entries, AreStored, IsMst}
 use Rattle.atproto_mst.specs.Nodes.{NodeRow, IsCidIfAny, key_of}
@@ -19,33 +19,30 @@ use Rattle.atproto_mst.proofs.Gathering.{Found}
 use Rattle.atproto_mst.proofs.Rising.{none_before}
 use Rattle.atproto_mst.proofs.Stopping.{stops_never_walks}
 
--- ---- the values of a walk are CIDs
+-- ---- the values of what is walked are CIDs
 
-abbrev HaveValues : List Entry → Type 0
-HaveValues es = AllByRecursion (λ e. AreCidParts e.1) es
+abbrev GivesCids : (CidParts → List Entry → Type 0) → Type 0
+GivesCids W = (name : CidParts) (es : List Entry) → W name es → HaveCids es
 
-abbrev GivesValues : (CidParts → List Entry → Type 0) → Type 0
-GivesValues W = (name : CidParts) (es : List Entry) → W name es → HaveValues es
+cids_joined : (es fs : List Entry) → HaveCids es → HaveCids fs → HaveCids (es ++ fs)
+cids_joined [] fs h k = k
+cids_joined (e ∷ es) fs h k = (h.0, cids_joined es fs h.1 k)
 
-values_joined : (es fs : List Entry) → HaveValues es → HaveValues fs → HaveValues (es ++ fs)
-values_joined [] fs h k = k
-values_joined (e ∷ es) fs h k = (h.0, values_joined es fs h.1 k)
+cids_behind : (W : CidParts → List Entry → Type 0) → GivesCids W → (l : Option CidParts) (es : List Entry) → WalksLink W l es → HaveCids es
+cids_behind W give None es w = subst HaveCids (sym w) tt
+cids_behind W give (Some name) es w = give name es w
 
-values_behind : (W : CidParts → List Entry → Type 0) → GivesValues W → (l : Option CidParts) (es : List Entry) → WalksLink W l es → HaveValues es
-values_behind W give None es w = subst HaveValues (sym w) tt
-values_behind W give (Some name) es w = give name es w
+cids_of_rows : (W : CidParts → List Entry → Type 0) → GivesCids W → (rows : List NodeRow) → AllByRecursion (λ r. AreCidParts r.value × IsCidIfAny r.after) rows
+    → (previous : List ℕ) (es : List Entry) → WalksRows W previous rows es → HaveCids es
+cids_of_rows W give [] k previous es w = subst HaveCids (sym w) tt
+cids_of_rows W give (r ∷ rs) k previous es (shares, (below, more, link, rows, is)) =
+    subst HaveCids (sym is) (k.0.0, cids_joined below more (cids_behind W give r.after below link) (cids_of_rows W give rs k.1 (key_of previous r) more rows))
 
-values_of_rows : (W : CidParts → List Entry → Type 0) → GivesValues W → (rows : List NodeRow) → AllByRecursion (λ r. AreCidParts r.value × IsCidIfAny r.after) rows
-    → (previous : List ℕ) (es : List Entry) → WalksRows W previous rows es → HaveValues es
-values_of_rows W give [] k previous es w = subst HaveValues (sym w) tt
-values_of_rows W give (r ∷ rs) k previous es (shares, (below, more, link, rows, is)) =
-    subst HaveValues (sym is) (k.0.0, values_joined below more (values_behind W give r.after below link) (values_of_rows W give rs k.1 (key_of previous r) more rows))
-
-pub walk_values : (stored : Stored) (m : ℕ) → GivesValues (Walks m stored)
-walk_values stored zero name es w = absurd w
-walk_values stored (suc m) name es (p, at, (below, more, link, rows, is)) =
-    subst HaveValues (sym is) (values_joined below more (values_behind (Walks m stored) (walk_values stored m) p.left below link)
-    (values_of_rows (Walks m stored) (walk_values stored m) p.rows at.node.rows [] more rows))
+pub walk_cids : (stored : Stored) (m : ℕ) → GivesCids (Walks m stored)
+walk_cids stored zero name es w = absurd w
+walk_cids stored (suc m) name es (p, at, (below, more, link, rows, is)) =
+    subst HaveCids (sym is) (cids_joined below more (cids_behind (Walks m stored) (walk_cids stored m) p.left below link)
+    (cids_of_rows (Walks m stored) (walk_cids stored m) p.rows at.node.rows [] more rows))
 
 -- ---- where a walk stops, the tree is not another
 
@@ -98,7 +95,7 @@ module _ (stored : Stored) (root : CidParts) (first : Found) (empty : first.item
         let order = g.in_order (subst (λ es. AreInOrder (entries es)) (sym empty) (tt, tt)) in record {
           keys = order.0;
           rise = order.1;
-          values = walk_values stored most_layers root (entries found.items) walks_found;
+          values = walk_cids stored most_layers root (entries found.items) walks_found;
           count = omega (arith, found.ok.0, found.ok.1, found.small, length-map found.items entry_of);
         }
 

@@ -1,7 +1,10 @@
 -- What is taken of a file, section by section, whatever takes a section.
-use Rattle.std.specs.Prelude.{◌≡◌, ◌⊎◌, ◌∷◌, ◌++◌, ℕ, List, [], ⊤, Option, Some, Result, Ok, Err, IfOk, MatchResult}
+use Rattle.std.specs.Prelude.{◌≡◌, ◌⊎◌, ◌∷◌, ◌++◌, ℕ, List, [], ⊤, Option, Some, Result, Ok, Err, IfOk, MatchResult, Vec}
+use Rattle.std.specs.declared.alloc.Global.{Global}
 use Rattle.std.specs.declared.convert.Infallible.{Infallible}
 use Rattle.dagcbor_heads.specs.Reading.{Reading}
+use Rattle.ipld_tree.specs.Cid.{CidParts}
+use Rattle.dagcbor_items.specs.Walks.{forms}
 use Rattle.dagcbor_car.specs.Car.{Section}
 use Rattle.dagcbor_car.specs.Each.{Takes}
 use Rattle.dagcbor_car.specs.Sources.{RefusesStart, RefusesSection, TakesStart}
@@ -12,8 +15,8 @@ use Rattle.dagcbor_car.specs.declared.error.CarError.TheVariants as faults
 use Rattle.block_lines.specs.Lines.{refused_line}
 use Rattle.dagcbor_car.specs.declared.each.ReadCarError.{ReadCarError}
 use Rattle.dagcbor_car.specs.declared.each.ReadCarError.TheVariants as stop
-use Rattle.dagcar_lines.specs.declared.take.Ended.{Ended}
-use Rattle.dagcar_lines.specs.declared.take.Ended.TheVariants as ended
+use Rattle.held_lines.specs.declared.take.Ended.{Ended}
+use Rattle.held_lines.specs.declared.take.Ended.TheVariants as ended
 use Rattle.dagcbor_cli.specs.declared.fault.ToolError.{ToolError}
 
 -- the refusal is one of the bytes
@@ -97,13 +100,15 @@ NotBegun b (ended.Fault line) = (e : CarError Infallible) × IsNoFile b × Refus
     × (line.items ≡ refused_line e)
 NotBegun b _ = ⊥
 
--- How far the bytes were taken as a file: not at all, or so far behind a header.
-abbrev pub TakesAll : {S Stop : Type 0} → Takes S Stop → List ℕ → S → Ended Stop → S → Type 0
-TakesAll takes b old ended new = (NotBegun b ended × (new ≡ old))
-    ⊎ ((roots : List (List ℕ)) × EndsAt takes roots b old ended new)
+-- How far the bytes were taken as a file, and of which roots: not at all, and of none; or so far behind
+-- a header.
+abbrev pub TakesAll : {S Stop : Type 0} → Takes S Stop → List ℕ → S → Vec CidParts Global × Ended Stop
+    → S → Type 0
+TakesAll takes b old p new = (NotBegun b p.1 × (p.0.items ≡ []) × (new ≡ old))
+    ⊎ EndsAt takes (forms p.0.items) b old p.1 new
 
 -- the same of the bytes that are left, where the source tells them
 abbrev pub TakesFile : {S Stop : Type 0} → Takes S Stop → Reading → S
-    → Result (Ended Stop) ToolError → S → Type 0
-TakesFile takes source old result new = IfOk result (λ ended. (b : List ℕ)
-    → source.left ≡ Some b → TakesAll takes b old ended new)
+    → Result (Vec CidParts Global × Ended Stop) ToolError → S → Type 0
+TakesFile takes source old result new = IfOk result (λ p. (b : List ℕ)
+    → source.left ≡ Some b → TakesAll takes b old p new)

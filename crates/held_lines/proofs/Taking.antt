@@ -1,6 +1,8 @@
 -- A file that is taken section by section.
 use Rattle.std.proofs.Common.{◌≡◌, inl, inr, ℕ, List, [], ◌∷◌, ◌++◌, length, append_assoc, append-nil, refl, sym, ap, ◌∙◌, subst, Option, Some, Result, Ok, Err, IfOk, MatchResult, Vec, Global}
 use Rattle.dagcbor_heads.specs.Reading.{Reading}
+use Rattle.ipld_tree.specs.Cid.{CidParts}
+use Rattle.dagcbor_items.specs.Walks.{forms}
 use Rattle.dagcbor_car.specs.Car.{Section}
 use Rattle.dagcbor_car.specs.Each.{Takes, TakesEach, StopsEach, RunsEach}
 use Rattle.dagcbor_car.specs.Extents.{within, wanting, EndsThere}
@@ -13,9 +15,9 @@ use Rattle.dagcbor_car.proofs.Places.{IsPlace, no_file, place_begun, place_more,
 use Rattle.std.specs.declared.convert.Infallible.{Infallible}
 use Rattle.dagcbor_cli.specs.declared.fault.ToolError.{ToolError}
 use Rattle.block_lines.specs.Lines.{refused_line}
-use Rattle.dagcar_lines.specs.Taking.{IsOfBytes, TookEach, TakesFront, TakesWhole, StopsAt, EndsAt, EndsBy, EndsByFault, TakesBehind, TakesAll, TakesFile}
-use Rattle.dagcar_lines.specs.declared.take.Ended.{Ended}
-use Rattle.dagcar_lines.specs.declared.take.Ended.TheVariants as ended
+use Rattle.held_lines.specs.Taking.{IsOfBytes, TookEach, TakesFront, TakesWhole, StopsAt, EndsAt, EndsBy, EndsByFault, TakesBehind, TakesAll, TakesFile}
+use Rattle.held_lines.specs.declared.take.Ended.{Ended}
+use Rattle.held_lines.specs.declared.take.Ended.TheVariants as ended
 
 -- ---- refusals of the bytes
 
@@ -185,14 +187,13 @@ module _ {S Stop : Type 0} (takes : Takes S Stop) (roots : List (List ℕ)) (b :
 -- ---- the whole
 
 -- all behind a header, where a header was taken
-pub behind_header : {S Stop : Type 0} (takes : Takes S Stop) (extent : Option ℕ) (start source : Reading) (roots : List (List ℕ)) (old new : S) (r : Result (Ended Stop) ToolError) → TakesStart start roots extent source → TakesBehind takes extent source old r new → TakesFile takes start old r new
-behind_header takes extent start source roots old new (Ok w) h k = λ b l. inr (roots, k start roots h b l)
-behind_header takes extent start source roots old new (Err e) h k = tt
+pub behind_header : {S Stop : Type 0} (takes : Takes S Stop) (extent : Option ℕ) (start source : Reading) (roots : Vec CidParts Global) (old new : S) (w : Ended Stop) → TakesStart start (forms roots.items) extent source → TakesBehind takes extent source old (Ok w) new → TakesFile takes start old (Ok (roots, w)) new
+behind_header takes extent start source roots old new w h k = λ b l. inr (k start (forms roots.items) h b l)
 
-pub not_begun : {S Stop E : Type 0} (takes : Takes S Stop) (start source : Reading) (it : S) (error : CarError E) (v : Vec ℕ Global) → CarRefuses RefusesStart start error source → IsOfBytes error → v.items ≡ refused_line error → (b : List ℕ) → start.left ≡ Some b → TakesAll takes b it (ended.Fault v) it
-not_begun takes start source it error v h is told b l =
+pub not_begun : {S Stop E : Type 0} (takes : Takes S Stop) (start source : Reading) (it : S) (error : CarError E) (v : Vec ℕ Global) (none : Vec CidParts Global) → CarRefuses RefusesStart start error source → IsOfBytes error → v.items ≡ refused_line error → none.items ≡ [] → (b : List ℕ) → start.left ≡ Some b → TakesAll takes b it (none, ended.Fault v) it
+not_begun takes start source it error v none h is told free b l =
     let refused = header_alone start source error is h b l in
-    inl ((alone error, no_file (alone error) b refused, refused, told ∙ alone_line error is), refl)
+    inl ((alone error, no_file (alone error) b refused, refused, told ∙ alone_line error is), free, refl)
 
 -- where the bytes are known, what holds of an `Ok` for all bytes holds of it for these
 pub of_known : {A E : Type 0} (P : List ℕ → A → Type 0) (r : Result A E) (known : Option (List ℕ)) → IfOk r (λ x. (b : List ℕ) → known ≡ Some b → P b x) → (b : List ℕ) → known ≡ Some b → IfOk r (P b)

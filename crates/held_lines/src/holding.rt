@@ -1,9 +1,8 @@
 //! The blocks of a file, held in memory.
 
-ghost use Rattle.std.specs.Prelude.{◌≡◌, ◌++◌, ◌∷◌, [], List, is_some, IfOk, IfSome, OnOk};
-ghost use Rattle.dagcbor_car.specs.Car.{Section as CarSection};
+ghost use Rattle.std.specs.Prelude.{◌≡◌, is_some, IfOk, IfSome};
 ghost use Rattle.ipld_links.specs.Reaching.{stored_in};
-ghost use Rattle.dagcar_lines.specs.Finding.{StoresSound, Keeps, HoldsFile};
+ghost use Rattle.held_lines.specs.Holding.{StoresSound, Keeps, HoldsFile};
 
 use crate::take::{Ended, take_input};
 use dagcbor_car::{Section, SectionSink};
@@ -19,6 +18,13 @@ use std::io::BufRead;
 struct Holding {
     alloc: Global,
     blocks: BTreeMap<Cid, Vec<u8>>,
+}
+
+/// A file in memory: its roots, and its sound blocks, each under its name.
+#[derive(Drop)]
+pub struct Held {
+    pub roots: Vec<Cid>,
+    pub blocks: BTreeMap<Cid, Vec<u8>>,
 }
 
 /// Whether a block is held under the name.
@@ -62,21 +68,23 @@ impl SectionSink for Holding {
     }
 }
 
-/// The sound blocks of the file that the input is, or the line that tells why it is none.
-pub fn held_of<R: BufRead>(
-    alloc: Global,
-    input: &mut R,
-) -> Result<Result<BTreeMap<Cid, Vec<u8>>, Vec<u8>>, ToolError>
-    ensures { IfSome (R.remaining input.old) (λ b. IfOk result (HoldsFile stored_in b)) }
+/// The roots and the sound blocks of the file that the input is, or the line that tells why it is none.
+pub fn held_of<R: BufRead>(alloc: Global, input: &mut R) -> Result<Result<Held, Vec<u8>>, ToolError>
+    ensures { IfSome (R.remaining input.old) (λ b. IfOk result (HoldsFile b)) }
 {
     let mut holding = Holding {
         alloc,
         blocks: BTreeMap::new(alloc),
     };
     match take_input(alloc, &mut holding, input) {
-        Ok(Ended::Whole) => Ok(Ok(holding.blocks)),
-        Ok(Ended::Stopped(_)) => Err(ToolError::OutOfMemory),
-        Ok(Ended::Fault(line)) => Ok(Err(line)),
+        Ok((roots, ended)) => match ended {
+            Ended::Whole => Ok(Ok(Held {
+                roots,
+                blocks: holding.blocks,
+            })),
+            Ended::Stopped(_) => Err(ToolError::OutOfMemory),
+            Ended::Fault(line) => Ok(Err(line)),
+        },
         Err(fault) => Err(fault),
     }
 }

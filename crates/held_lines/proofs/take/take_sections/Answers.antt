@@ -1,6 +1,6 @@
 use Rattle.dagcbor_heads.specs.Inputs.{input_reading}
-use Rattle.dagcar_lines.proofs.Taking.{left_begun, all_taken, some_taken}
-use Rattle.dagcar_lines.proofs.take.take_sections.Goals as goal
+use Rattle.held_lines.proofs.Taking.{left_begun, all_taken, some_taken}
+use Rattle.held_lines.proofs.take.take_sections.Goals as goal
 
 pub returns-in-Ok : goal.returns-in-Ok
 returns-in-Ok g c = λ start roots h b l.

@@ -1,8 +1,8 @@
 use Rattle.std.proofs.Common.{rules, sym, ◌∙◌}
 use Rattle.ipld_links.specs.Reaching.{stored_in}
 use Rattle.ipld_links.proofs.Sounding.{never_unsound}
-use Rattle.dagcar_lines.proofs.Finding.{sound_held, sound_other, sound_put}
-use Rattle.dagcar_lines.proofs.holding.hold.Goals as goal
+use Rattle.held_lines.proofs.Keeping.{sound_held, sound_other, sound_put}
+use Rattle.held_lines.proofs.holding.hold.Goals as goal
 
 pub returns-then-is_there : goal.returns-then-is_there
 returns-then-is_there c = λ sections h. sound_held (stored_in c.args.blocks.now) sections (c.args.section.now.cid, c.args.section.now.block.now) (sym c.is_there.ensures ∙ c.if-is_there.true) h

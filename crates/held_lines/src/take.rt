@@ -2,16 +2,16 @@
 //! it.
 
 ghost use Rattle.std.specs.Prelude.{IfOk, IfSome, ◌≡◌};
-ghost use Rattle.dagcbor_heads.specs.Inputs.{input_reading};
+ghost use Rattle.dagcbor_heads.specs.Inputs.{input_reading, not_lending};
 ghost use Rattle.block_lines.specs.Lines.{refused_line};
-ghost use Rattle.dagcar_lines.specs.Taking.{IsOfBytes, TakesBehind, TakesFile, TakesAll};
-ghost use Rattle.dagcar_lines.specs.Taking.{EndsBy, EndsByFault};
+ghost use Rattle.held_lines.specs.Taking.{IsOfBytes, TakesBehind, TakesFile, TakesAll};
+ghost use Rattle.held_lines.specs.Taking.{EndsBy, EndsByFault};
 
-use crate::command::input_over;
 use block_lines::refused_line;
 use dagcbor_car::{CarError, ReadCarError, SectionSink, each_section, pull_header};
 use dagcbor_cli::ToolError;
 use dagcbor_heads::{Input, IoRefReader, Read};
+use ipld_tree::Cid;
 use std::alloc::Global;
 use std::io::BufRead;
 
@@ -82,31 +82,42 @@ pub fn take_sections<'de, S: SectionSink, R: Read>(
     }
 }
 
-/// Takes the file that a source has.
+/// Takes the file that a source has, and answers its roots.
 fn take_file<'de, S: SectionSink, R: Read>(
     alloc: Global,
     sink: &mut S,
     input: &mut Input<'de, R>,
-) -> Result<Ended<S::Stop>, ToolError>
+) -> Result<(Vec<Cid>, Ended<S::Stop>), ToolError>
     ensures { TakesFile S.takes (input_reading R.reading input.old) sink.old result sink.new }
 {
     match pull_header(alloc, input) {
-        Ok((_roots, extent)) => take_sections(alloc, sink, input, extent),
+        Ok((roots, extent)) => match take_sections(alloc, sink, input, extent) {
+            Ok(ended) => Ok((roots, ended)),
+            Err(fault) => Err(fault),
+        },
         Err(error) => match fault_line(alloc, error) {
-            Ok(line) => Ok(Ended::Fault(line)),
+            Ok(line) => Ok((Vec::new(alloc), Ended::Fault(line))),
             Err(fault) => Err(fault),
         },
     }
 }
 
-/// Takes the file that the input is. One section is in memory at a time, beside what the sink keeps.
+/// An input that does not lend.
+pub fn input_over<'de, R: Read>(reader: R) -> Input<'de, R>
+    ensures { input_reading R.reading result ≡ not_lending (R.reading reader) }
+{
+    Input::Reader(reader)
+}
+
+/// Takes the file that the input is, and answers its roots, of which there are none where no file
+/// begins. One section is in memory at a time, beside what the sink keeps.
 pub fn take_input<S: SectionSink, R: BufRead>(
     alloc: Global,
     sink: &mut S,
     input: &mut R,
-) -> Result<Ended<S::Stop>, ToolError>
-    ensures { IfSome (R.remaining input.old) (λ b. IfOk result (λ ended.
-        TakesAll S.takes b sink.old ended sink.new)) }
+) -> Result<(Vec<Cid>, Ended<S::Stop>), ToolError>
+    ensures { IfSome (R.remaining input.old) (λ b. IfOk result (λ p.
+        TakesAll S.takes b sink.old p sink.new)) }
 {
     let mut source = input_over(IoRefReader::new(input));
     let result = take_file(alloc, sink, &mut source);

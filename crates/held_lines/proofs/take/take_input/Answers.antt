@@ -1,10 +1,10 @@
 use Rattle.std.proofs.Common.{ap, ◌∙◌}
 use Rattle.dagcbor_heads.specs.Reading.{Reading}
 use Rattle.dagcbor_heads.specs.Inputs.{not_lending}
-use Rattle.dagcar_lines.specs.Taking.{TakesAll}
-use Rattle.dagcar_lines.proofs.Running.{if_known}
-use Rattle.dagcar_lines.proofs.Taking.{of_known}
-use Rattle.dagcar_lines.proofs.take.take_input.Goals as goal
+use Rattle.held_lines.specs.Taking.{TakesAll}
+use Rattle.held_lines.proofs.Known.{if_known}
+use Rattle.held_lines.proofs.Taking.{of_known}
+use Rattle.held_lines.proofs.take.take_input.Goals as goal
 
 pub returns-in-Some : goal.returns-in-Some
 returns-in-Some g c = if_known (g.R.Read.remaining c.args.input.now) (λ b l.

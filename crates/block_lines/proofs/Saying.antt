@@ -27,6 +27,12 @@ both_said IsSaid lines text well old heard (Err e) new after is (inl none) = inl
 both_said IsSaid lines text well old heard (Err e) new after is (inr k) =
     inr (k.0, k.1, k.2, k.3, k.4, subst (λ x. x) (λ i. IsSaid (sym k.5.0 i) (sym k.5.1 i) (sym k.5.2 i)) is, k.6, k.7, k.8)
 
+-- what is said of the one is said of the other
+pub both_of : (P Q : Bool → List ℕ → List ℕ → Type 0) (old heard : Option (List ℕ)) (r : Result Bool ToolError) (new after : Option (List ℕ)) → ((well : Bool) (said told : List ℕ) → P well said told → Q well said told) → SaysBoth P old heard r new after → SaysBoth Q old heard r new after
+both_of P Q old heard (Ok w) new after f k = (k.0, k.1, f w k.0 k.1 k.2, k.3, k.4)
+both_of P Q old heard (Err e) new after f (inl none) = inl none
+both_of P Q old heard (Err e) new after f (inr k) = inr (k.0, k.1, k.2, k.3, k.4, f k.0 (k.1 ++ k.2) (k.3 ++ k.4) k.5, k.6, k.7, k.8)
+
 -- where the first of the two broke off, nothing is told
 pub first_broken : (lines text bytes : List ℕ) (well : Bool) (old heard : Option (List ℕ)) (r : Result Bool ToolError) (new : Option (List ℕ)) (x : ToolError) → bytes ≡ lines → IsErrAnd r (λ e. e ≡ x) → x ≡ Output
     → ((front back : List ℕ) × (bytes ≡ front ++ back) × Appends old new front) → SaysBoth (λ w said told. (w ≡ well) × (said ≡ lines) × (told ≡ text)) old heard r new heard

@@ -1,3 +1,4 @@
 pub mod Names
 pub mod Codecs
 pub mod Lines
+pub mod Shown

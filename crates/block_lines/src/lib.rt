@@ -2,11 +2,13 @@
 #![tactic(auto)]
 
 mod codec;
+mod data;
 mod line;
 mod names;
 mod verdict;
 
 pub use codec::codec_name;
+pub use data::{Answer, no_block_answer, place_line, say_shown, shown};
 pub use line::{
     Said, line_of, listed_line, missing_line, missing_lines, named_line, refused_line, root_lines,
     say, say_both,

@@ -6,7 +6,7 @@ use Rattle.ipld_links.proofs.Sounding.{no_block}
 use Rattle.dagcbor_resolve.specs.Laws.{Leads, GivesItem}
 use Rattle.dagcbor_resolve.proofs.Binding.{block_unique}
 use Rattle.dagcbor_resolve.specs.declared.resolution.End.{End}
-use Rattle.dagcar_lines.specs.Answers.{IsShown}
+use Rattle.block_lines.specs.Shown.{IsShown}
 use Rattle.path_lines.proofs.Ending.{item_led}
 use Rattle.dagcar_lines.specs.Paths.{IsAtOf}
 

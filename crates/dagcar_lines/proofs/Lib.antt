@@ -3,5 +3,4 @@ pub mod Summing
 pub mod Running
 pub mod Ending
 pub mod Proving
-pub mod Taking
 pub mod Finding

@@ -14,7 +14,7 @@ use Rattle.dagcbor_resolve.proofs.Deciding.{ends_decided, items_decided}
 use Rattle.path_lines.specs.Ends.{IsToldAt}
 use Rattle.path_lines.specs.Raw.{IsRawOf}
 use Rattle.path_lines.specs.Proof.{IsProofFile, IsProofOf}
-use Rattle.dagcar_lines.specs.Finding.{StoresSound}
+use Rattle.held_lines.specs.Holding.{StoresSound}
 use Rattle.dagcar_lines.specs.Paths.{IsAtOf, IsAnswerOf, IsAnswer, ProofsDecide}
 use Rattle.dagcar_lines.specs.declared.at.Asked.{Asked}
 use Rattle.dagcar_lines.specs.declared.at.Asked.TheVariants as asks

@@ -1,5 +1,5 @@
 -- What a run of a command says, where its input tells its bytes.
-use Rattle.std.proofs.Common.{◌≡◌, ◌≢◌, ◌⊎◌, inl, inr, ℕ, List, [], ◌∷◌, length, take, drop, ◌+◌, Bool, true, false, arith, length-drop, map, ◌<◌, ◌≤◌, ap₂, refl, sym, ap, ◌∙◌, subst, get_or, Option, None, Some, IfSome, MatchOption, codes, if◌then◌else◌, ◌==◌}
+use Rattle.std.proofs.Common.{◌≡◌, ◌≢◌, ◌⊎◌, inl, inr, ℕ, List, [], ◌∷◌, length, take, drop, ◌+◌, Bool, true, false, arith, length-drop, map, ◌<◌, ◌≤◌, ap₂, refl, sym, ap, ◌∙◌, subst, get_or, Option, None, Some, MatchOption, codes, if◌then◌else◌, ◌==◌}
 use Rattle.std.specs.Prelude.{⊤}
 use Rattle.std.specs.List.{position_or_len}
 use Rattle.std.specs.Str.{bytes_eq}
@@ -10,14 +10,6 @@ use Rattle.cid_text.specs.Texts.{IsTextOf, TextsTellCids}
 use Rattle.dagcar_lines.specs.Commands.{command_name, name_part, path_part, IsWordOf, IsRootOf, IsCommand, IsCommandOn}
 use Rattle.dagcar_lines.specs.declared.command.Command.{Command}
 use Rattle.dagcar_lines.specs.declared.command.Command.TheVariants as commands
-
-pub if_known : {P : List ℕ → Type 0} (known : Option (List ℕ)) → ((b : List ℕ) → known ≡ Some b → P b) → IfSome known P
-if_known None h = tt
-if_known (Some b) h = h b refl
-
-pub if_some : {P Q : List ℕ → Type 0} (known : Option (List ℕ)) → IfSome known P → ((b : List ℕ) → P b → Q b) → IfSome known Q
-if_some None h f = tt
-if_some (Some b) h f = f b h
 
 -- the command of one word whose name begins with this letter
 abbrev by_letter : ℕ → ℕ → Command

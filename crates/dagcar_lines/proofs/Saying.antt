@@ -20,10 +20,10 @@ use Rattle.dagcbor_cli.specs.Writing.{WritesFront}
 use Rattle.dagcar_lines.specs.Answers.{check_speech}
 use Rattle.dagcar_lines.specs.Speeches.{Speech, beside, IsSaidSoFar, IsSaidOf, AreFirstLines, AreLines, BreaksOff, SaysBytes, SaysFile}
 use Rattle.dagcar_lines.specs.Steps.{Knowing, TellsEnd, Work, SaysSection, SaysRest}
-use Rattle.dagcar_lines.specs.Taking.{IsOfBytes, TookEach, TakesFront, TakesWhole, FaultBehind, EndsAt}
-use Rattle.dagcar_lines.proofs.Taking.{took_knows, left_begun, alone, alone_line, header_alone}
-use Rattle.dagcar_lines.specs.declared.take.Ended.{Ended}
-use Rattle.dagcar_lines.specs.declared.take.Ended.TheVariants as ended
+use Rattle.held_lines.specs.Taking.{IsOfBytes, TookEach, TakesFront, TakesWhole, FaultBehind, EndsAt}
+use Rattle.held_lines.proofs.Taking.{took_knows, left_begun, alone, alone_line, header_alone}
+use Rattle.held_lines.specs.declared.take.Ended.{Ended}
+use Rattle.held_lines.specs.declared.take.Ended.TheVariants as ended
 use Rattle.dagcbor_cli.specs.declared.fault.ToolError.{ToolError}
 use Rattle.dagcbor_cli.specs.declared.fault.ToolError.TheVariants.{Output}
 

@@ -3,15 +3,13 @@ use Rattle.std.specs.Prelude.{◌≡◌, ◌≢◌, ◌⊎◌, ◌↔◌, ℕ, c
 use Rattle.std.specs.declared.alloc.Global.{Global}
 use Rattle.std.specs.declared.convert.Infallible.{Infallible}
 use Rattle.dagcbor_heads.specs.declared.error.DecodeError.{DecodeError}
-use Rattle.dagcbor_heads.specs.declared.error.DecodeError.TheVariants as unread
 use Rattle.ipld_tree.specs.Tree.{Tree}
 use Rattle.ipld_tree.specs.Spelling.{IsSpelling}
 use Rattle.ipld_tree.specs.Cid.{CidParts}
 use Rattle.cid_text.specs.Texts.{cid_text}
-use Rattle.dag_json.specs.DagJson.{dag_json, has_reserved_key}
 use Rattle.dag_json.specs.Reading.{ReadsText}
 use Rattle.dag_json.specs.declared.error.DagJsonError.{DagJsonError}
-use Rattle.dagcbor_items.specs.Slices.{IsBlock, SliceRefused}
+use Rattle.dagcbor_items.specs.Slices.{IsBlock}
 use Rattle.dagcbor_items.specs.Stops.{StandsAt}
 use Rattle.dagcbor_items.specs.TreeKinds.{kind_of}
 use Rattle.dagcbor_car.specs.Car.{Section}
@@ -21,9 +19,10 @@ use Rattle.ipld_links.specs.Verdicts.{IsVerdict}
 use Rattle.dagcbor_car.specs.Checks.{ListsMissing}
 use Rattle.ipld_links.specs.declared.verdict.Verdict.{Verdict}
 use Rattle.ipld_links.specs.declared.verdict.Verdict.TheVariants.{Refused}
-use Rattle.dagcbor_items.specs.PrintedNames.{kind_name, variant_name}
+use Rattle.dagcbor_items.specs.PrintedNames.{kind_name}
 use Rattle.block_lines.specs.Lines.{line, told_line, listed_line, missing_line, root_line, is_well, Says, SaysBoth}
-use Rattle.dagcar_lines.specs.Lines.{cause_line, place_line, section_place_line, reserved_line}
+use Rattle.block_lines.specs.Shown.{IsSaidOfNoBlock, IsShown}
+use Rattle.dagcar_lines.specs.Lines.{cause_line, section_place_line}
 use Rattle.dagcar_lines.specs.Speeches.{Speech, beside, SaysBytes}
 use Rattle.dagcar_lines.specs.Summary.{IsSummary}
 use Rattle.dagcar_lines.specs.Help.{help_text, version_text}
@@ -93,23 +92,10 @@ list_speech = record {
 
 -- ---- one block
 
--- what is said of bytes that are no block, and what is told: by which byte they are none
-abbrev pub IsSaidOfNoBlock : List ℕ → Bool → List ℕ → List ℕ → Type 0
-IsSaidOfNoBlock b well out told = (e : DecodeError Infallible) × (place : ℕ) × SliceRefused e b
-    × (e ≢ unread.OutOfMemory) × StandsAt e b place × (well ≡ false)
-    × (out ≡ line (codes "refused " ++ variant_name e)) × (told ≡ place_line e place)
-
 -- what `one` says of bytes: the kind of the block, or why they are none
 abbrev pub IsJudged : List ℕ → Bool → List ℕ → List ℕ → Type 0
 IsJudged b well out told = ((t : Tree) × IsBlock b t × (well ≡ true)
     × (out ≡ line (codes "ok " ++ kind_name (kind_of t))) × (told ≡ []))
-    ⊎ IsSaidOfNoBlock b well out told
-
--- what `show` says of bytes: the data of the block as DAG-JSON, or why they are none; and what it
--- tells: a line where a map in the data has the key `/`
-abbrev pub IsShown : List ℕ → Bool → List ℕ → List ℕ → Type 0
-IsShown b well out told = ((t : Tree) × IsBlock b t × (well ≡ true) × (out ≡ line (dag_json t))
-    × (told ≡ (if has_reserved_key t then reserved_line else [])))
     ⊎ IsSaidOfNoBlock b well out told
 
 -- what `make` gives of a text: the block of the data that it is; or nothing, and a line that tells

@@ -1,35 +1,19 @@
 -- What is found in a file: one block, or those that links lead to.
-use Rattle.std.specs.Prelude.{◌≡◌, ◌⊎◌, ◌↔◌, ℕ, List, [], ◌∷◌, ◌++◌, Bool, true, false, IsTrue, Option, Some, ⊤, Result, Ok, Err, MatchResult, OnOk, Vec, flat_map}
+use Rattle.std.specs.Prelude.{◌≡◌, ◌⊎◌, ◌↔◌, ℕ, List, [], ◌∷◌, ◌++◌, Bool, true, false, IsTrue, Option, ⊤, Result, Ok, Err, MatchResult, flat_map}
 use Rattle.std.specs.Io.KnownBytes.{Appends}
-use Rattle.std.specs.declared.alloc.Global.{Global}
-use Rattle.std.specs.declared.convert.Infallible.{Infallible}
 use Rattle.ipld_tree.specs.Cid.{CidParts, cid_bytes}
 use Rattle.dagcbor_car.specs.Car.{Section, car_bytes}
-use Rattle.ipld_links.specs.Sound.{IsSound}
-use Rattle.dagcbor_car.specs.Sources.{RefusesStart, RefusesSection}
 use Rattle.dagcbor_car.specs.Versions.{IsFile}
 use Rattle.ipld_links.specs.Verdicts.{IsVerified}
-use Rattle.ipld_links.specs.Sets.{Among}
-use Rattle.dagcbor_car.specs.Checks.{IsFileFront, IsNoFile, IsHeld}
-use Rattle.ipld_links.specs.Reaching.{Stored, IsThere, IsLost, ListsReachable, ListsLost}
+use Rattle.dagcbor_car.specs.Checks.{IsFileFront, IsHeld}
+use Rattle.ipld_links.specs.Reaching.{Stored, IsLost, ListsReachable, ListsLost}
 use Rattle.dagcbor_car.specs.Reached.{sections_at}
-use Rattle.dagcbor_car.specs.declared.error.CarError.{CarError}
-use Rattle.block_lines.specs.Lines.{missing_line, refused_line, BreaksLine}
+use Rattle.block_lines.specs.Lines.{missing_line, BreaksLine}
 use Rattle.dagcbor_cli.specs.declared.fault.ToolError.{ToolError}
+use Rattle.held_lines.specs.Holding.{StoresSound, TellsFault}
 use Rattle.dagcar_lines.specs.declared.get.Search.{Search}
 use Rattle.dagcar_lines.specs.declared.get.Stop.{Stop}
 use Rattle.dagcar_lines.specs.declared.get.Stop.TheVariants as stops
-
--- the bytes are no file for this cause: no file begins; or behind the sections of which this is so
--- no section stands, though bytes do, or are wanting
-abbrev pub IsFault : (List Section → Type 0) → CarError Infallible → List ℕ → Type 0
-IsFault IsSo e b = IsNoFile b × (RefusesStart e b
-    ⊎ ((roots : List (List ℕ)) × (sections : List Section) × (n : ℕ) × (rest : List ℕ)
-    × IsFileFront b roots sections n rest × IsSo sections × RefusesSection n e rest))
-
--- the bytes are no file for some cause, behind sections of which this is so, and a line tells it
-abbrev pub TellsFault : (List Section → Type 0) → List ℕ → List ℕ → Type 0
-TellsFault IsSo b told = (e : CarError Infallible) × IsFault IsSo e b × (told ≡ refused_line e)
 
 -- ---- one block
 
@@ -52,24 +36,6 @@ Seeks s old (Err stops.Enough) new = (s.0 ≡ old.name) × IsVerified s × (new.
 Seeks s old (Err stops.OutOfMemory) new = ⊤
 
 -- ---- the blocks that links lead to
-
--- under each name of a sound section stand the bytes of such a section, and no others
-pub record StoresSound (sections : List Section) (stored : Stored) : Type 0 where
-  pub some : (q : CidParts) (b : List ℕ) → stored q ≡ Some b
-      → Among (q, b) sections × IsSound (q, b)
-  pub all : (s : Section) → Among s sections → IsSound s → IsThere stored s.0
-
--- a section is kept, if it is sound and none is kept under its name
-abbrev pub Keeps : {E : Type 0} → Section → Stored → Result (Unit {0}) E → Stored → Type 0
-Keeps s old result new = OnOk result ((sections : List Section) → StoresSound sections old
-    → StoresSound (sections ++ s ∷ []) new)
-
--- the sound sections of a file are kept; or the bytes are no file, of which a line tells
-abbrev pub HoldsFile : {M : Type 0} → (M → Stored) → List ℕ → Result M (Vec ℕ Global) → Type 0
-HoldsFile stored_in b held = MatchResult held
-    (λ blocks. (roots : List (List ℕ)) × (sections : List Section) × IsFile b roots sections
-    × StoresSound sections (stored_in blocks))
-    (λ line. TellsFault (λ sections. ⊤) b line.items)
 
 -- the file of the root, and of the stored blocks of these names; nothing where the root names none
 abbrev pub IsTreeFile : Stored → CidParts → List CidParts → List ℕ → Type 0

@@ -3,7 +3,6 @@ pub mod Lines
 pub mod Speeches
 pub mod Commands
 pub mod Steps
-pub mod Taking
 pub mod Finding
 pub mod Paths
 pub mod Summary

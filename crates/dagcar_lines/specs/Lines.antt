@@ -3,23 +3,15 @@ use Rattle.std.specs.Prelude.{ℕ, List, ◌∷◌, ◌++◌, codes, decimal}
 use Rattle.ipld_tree.specs.Cid.{CidParts}
 use Rattle.cid_text.specs.Texts.{cid_text}
 use Rattle.block_lines.specs.Lines.{line}
+use Rattle.block_lines.specs.Shown.{place_line}
 use Rattle.dagcar_lines.specs.Names.{cause_name}
 use Rattle.dag_json.specs.declared.error.DagJsonError.{DagJsonError}
 use Rattle.dagcbor_heads.specs.declared.error.DecodeError.{DecodeError}
-use Rattle.dagcbor_items.specs.PrintedNames.{variant_name}
 
 -- of a text that is refused, at this byte
 abbrev pub cause_line : DagJsonError → ℕ → List ℕ
 cause_line e offset = line (codes "refused " ++ (cause_name e ++ (32 ∷ decimal offset)))
 
--- of bytes that are no block, and by which byte
-abbrev pub place_line : {E : Type 0} → DecodeError E → ℕ → List ℕ
-place_line e place = line (codes "refused " ++ (variant_name e ++ (codes " at byte " ++ decimal place)))
-
 -- of a section whose block is refused, and by which byte of it
 abbrev pub section_place_line : {E : Type 0} → CidParts → DecodeError E → ℕ → List ℕ
 section_place_line name e place = cid_text name ++ (58 ∷ (32 ∷ place_line e place))
-
--- of data with a map that has the key `/`
-abbrev pub reserved_line : List ℕ
-reserved_line = line (codes "dagcar: a map with the key / looks like a link or like bytes")

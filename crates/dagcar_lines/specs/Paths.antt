@@ -11,8 +11,8 @@ use Rattle.block_lines.specs.Lines.{line}
 use Rattle.path_lines.specs.Ends.{IsToldAt}
 use Rattle.path_lines.specs.Raw.{IsRawOf}
 use Rattle.path_lines.specs.Proof.{IsProofOf}
-use Rattle.dagcar_lines.specs.Lines.{reserved_line}
-use Rattle.dagcar_lines.specs.Finding.{StoresSound, TellsFault}
+use Rattle.block_lines.specs.Shown.{reserved_line}
+use Rattle.held_lines.specs.Holding.{StoresSound, TellsFault}
 use Rattle.dagcar_lines.specs.declared.at.Asked.{Asked}
 use Rattle.dagcar_lines.specs.declared.at.Asked.TheVariants as asks
 

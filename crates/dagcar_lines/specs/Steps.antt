@@ -7,8 +7,8 @@ use Rattle.dagcbor_car.specs.Car.{Section}
 use Rattle.dagcbor_car.specs.Sources.{TakesStart}
 use Rattle.block_lines.specs.Lines.{BreaksLine, Says}
 use Rattle.dagcar_lines.specs.Speeches.{Speech, SaysFile}
-use Rattle.dagcar_lines.specs.declared.take.Ended.{Ended}
-use Rattle.dagcar_lines.specs.declared.take.Ended.TheVariants as ended
+use Rattle.held_lines.specs.declared.take.Ended.{Ended}
+use Rattle.held_lines.specs.declared.take.Ended.TheVariants as ended
 use Rattle.dagcar_lines.specs.declared.walk.Telling.{Telling}
 use Rattle.dagcbor_cli.specs.declared.fault.ToolError.{ToolError}
 

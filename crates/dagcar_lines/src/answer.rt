@@ -3,13 +3,10 @@
 ghost use Rattle.std.specs.Prelude.{◌≡◌, Bool, List, ℕ, IfOk, IfSome};
 ghost use Rattle.block_lines.specs.Lines.{SaysBoth};
 
-use block_lines::{Said, say_both};
+use block_lines::{Answer, say_both};
 use dagcbor_cli::ToolError;
 use std::alloc::Global;
 use std::io::{BufRead, ErrorKind, Write};
-
-/// What is said, and what is told beside that.
-pub type Answer = (Said, Vec<u8>);
 
 /// A command on bytes as a whole.
 pub trait Answering {

@@ -3,15 +3,13 @@
 ghost use Rattle.std.specs.Prelude.{IfSome};
 ghost use Rattle.dagcbor_paths.specs.Paths.{segments};
 ghost use Rattle.ipld_links.specs.Reaching.{stored_in};
-ghost use Rattle.dagcar_lines.specs.Answers.{IsShown};
 ghost use Rattle.block_lines.specs.Lines.{SaysBoth};
 ghost use Rattle.dagcar_lines.specs.Paths.{IsAtOf, IsAnswerOf, IsAnswer};
 
-use crate::block::shown;
-use crate::holding::held_of;
-use block_lines::say_both;
+use block_lines::{say_both, say_shown};
 use dagcbor_cli::ToolError;
 use dagcbor_resolve::{item_bytes, resolve};
+use held_lines::held_of;
 use ipld_tree::Cid;
 use path_lines::{say_end, say_proof, say_raw};
 use std::alloc::Global;
@@ -29,22 +27,6 @@ pub enum Asked {
     Proof,
 }
 
-/// Writes the data of the item.
-fn say_item<W: Write, V: Write>(
-    alloc: Global,
-    item: &[u8],
-    output: &mut W,
-    errors: &mut V,
-) -> Result<bool, ToolError>
-    ensures { SaysBoth (IsShown item.now) (W.contents output.old) (V.contents errors.old) result
-        (W.contents output.new) (V.contents errors.new) }
-{
-    match shown(alloc, item) {
-        Ok((said, told)) => say_both(said, &told, output, errors),
-        Err(_) => Err(ToolError::OutOfMemory),
-    }
-}
-
 /// Writes what the path leads to from the root, or tells why it leads to nothing. Whether it does.
 fn say_at<W: Write, V: Write>(
     alloc: Global,
@@ -60,7 +42,7 @@ fn say_at<W: Write, V: Write>(
 {
     let resolved = resolve(blocks, root, path);
     match item_bytes(blocks, &resolved) {
-        Some(item) => say_item(alloc, item, output, errors),
+        Some(item) => say_shown(alloc, item, output, errors),
         None => say_end(alloc, &resolved, output, errors),
     }
 }
@@ -103,7 +85,7 @@ pub fn write_asked<R: BufRead, W: Write, V: Write>(
         (V.contents errors.old) result (W.contents output.new) (V.contents errors.new)) }
 {
     match held_of(alloc, input) {
-        Ok(Ok(held)) => say_asked(alloc, asked, root, path, &held, output, errors),
+        Ok(Ok(held)) => say_asked(alloc, asked, root, path, &held.blocks, output, errors),
         Ok(Err(line)) => say_both((Vec::new(alloc), false), &line, output, errors),
         Err(fault) => Err(fault),
     }

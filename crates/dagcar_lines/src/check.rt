@@ -9,10 +9,8 @@ ghost use Rattle.dagcar_lines.specs.Answers.{IsVerdictLine, TellsPlace, check_sp
 ghost use Rattle.dagcar_lines.specs.Lines.{section_place_line};
 ghost use Rattle.dagcar_lines.specs.Steps.{TellsEnd};
 
-use crate::answer::Answer;
-use crate::block::place_line;
 use crate::walk::Teller;
-use block_lines::{Said, is_none, missing_lines, told_line};
+use block_lines::{Answer, Said, is_none, missing_lines, place_line, told_line};
 use cid_text::cid_text;
 use dagcbor_car::{CarCheck, Section};
 use dagcbor_items::{Refused, judge_slice};

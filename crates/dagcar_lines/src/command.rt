@@ -1,7 +1,6 @@
 //! The program's words, and what it answers to them.
 
 ghost use Rattle.std.specs.Prelude.{◌≡◌, ◌≢◌, [], ◌∷◌, ◌++◌, codes, true, map, string_bytes, IfSome, MatchOption, Result, Bool, Option, None, Some, List, ℕ};
-ghost use Rattle.dagcbor_heads.specs.Inputs.{input_reading, not_lending};
 ghost use Rattle.dagcar_lines.specs.Answers.{RunsCommand, EndsSo, IsQuiet};
 ghost use Rattle.dagcar_lines.specs.Speeches.{beside, SaysBytes};
 ghost use Rattle.block_lines.specs.Lines.{no_cid_line, Says};
@@ -29,7 +28,8 @@ use block_lines::no_cid_line;
 use cid_text::{CidTextError, cid_from_text, laws};
 use dagcbor_car::CarCheck;
 use dagcbor_cli::{ToolError, give_up, write_all};
-use dagcbor_heads::{Input, IoRefReader, Read};
+use dagcbor_heads::IoRefReader;
+use held_lines::input_over;
 use ipld_tree::Cid;
 use std::alloc::Global;
 use std::io;
@@ -292,13 +292,6 @@ fn status_of<V: Write>(ended: Result<bool, ToolError>, errors: &mut V) -> u8
         Err(ToolError::Output) => give_up(errors, "dagcar: output failed\n", 2),
         Err(ToolError::OutOfMemory) => give_up(errors, OUT_OF_MEMORY, 2),
     }
-}
-
-/// An input that does not lend.
-pub fn input_over<'de, R: Read>(reader: R) -> Input<'de, R>
-    ensures { input_reading R.reading result ≡ not_lending (R.reading reader) }
-{
-    Input::Reader(reader)
 }
 
 /// Says what the teller says of the file that the input is, and tells what it tells beside that.

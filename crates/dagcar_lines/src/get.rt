@@ -5,11 +5,10 @@ ghost use Rattle.ipld_links.specs.Verdicts.{IsVerified};
 ghost use Rattle.dagcar_lines.specs.Finding.{IsGot, Seeks};
 ghost use Rattle.block_lines.specs.Lines.{SaysBoth};
 
-use crate::answer::Answer;
-use crate::take::{Ended, take_input};
-use block_lines::{missing_lines, say_both};
+use block_lines::{Answer, missing_lines, say_both};
 use dagcbor_car::{Section, SectionSink};
 use dagcbor_cli::ToolError;
+use held_lines::{Ended, take_input};
 use ipld_links::{Verdict, verify};
 use ipld_tree::Cid;
 use std::alloc::Global;
@@ -77,13 +76,17 @@ fn got<R: BufRead>(alloc: Global, name: &Cid, input: &mut R) -> Result<Answer, T
         block: Vec::new(alloc),
     };
     match take_input(alloc, &mut search, input) {
-        Ok(Ended::Stopped(Stop::Enough)) => Ok(((search.block, true), Vec::new(alloc))),
-        Ok(Ended::Stopped(Stop::OutOfMemory)) => Err(ToolError::OutOfMemory),
-        Ok(Ended::Whole) => {
-            let line = missing_lines(alloc, &[*name])?;
-            Ok(((Vec::new(alloc), false), line))
-        }
-        Ok(Ended::Fault(line)) => Ok(((Vec::new(alloc), false), line)),
+        Ok((_roots, ended)) => match ended {
+            Ended::Stopped(stop) => match stop {
+                Stop::Enough => Ok(((search.block, true), Vec::new(alloc))),
+                Stop::OutOfMemory => Err(ToolError::OutOfMemory),
+            },
+            Ended::Whole => {
+                let line = missing_lines(alloc, &[*name])?;
+                Ok(((Vec::new(alloc), false), line))
+            }
+            Ended::Fault(line) => Ok(((Vec::new(alloc), false), line)),
+        },
         Err(fault) => Err(fault),
     }
 }

@@ -3,9 +3,8 @@
 ghost use Rattle.std.specs.Prelude.{◌≡◌, [], ⊤, refl};
 ghost use Rattle.dagcar_lines.specs.Answers.{list_speech};
 
-use crate::answer::Answer;
 use crate::walk::Teller;
-use block_lines::{Said, listed_line, root_lines};
+use block_lines::{Answer, Said, listed_line, root_lines};
 use dagcbor_car::Section;
 use ipld_tree::Cid;
 use std::alloc::{AllocError, Global};

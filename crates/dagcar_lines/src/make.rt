@@ -5,8 +5,9 @@ ghost use Rattle.ipld_tree.specs.Ipld.{tree_of};
 ghost use Rattle.ipld_tree.specs.Spelling.{IsSpelling};
 ghost use Rattle.dagcar_lines.specs.Answers.{IsMade};
 
-use crate::answer::{Answer, Answering};
+use crate::answer::Answering;
 use crate::names::cause_line;
+use block_lines::Answer;
 use dag_json::{DagJsonError, data_from_json};
 use dagcbor_cli::ToolError;
 use dagcbor_write::to_vec;

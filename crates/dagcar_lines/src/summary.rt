@@ -8,10 +8,9 @@ ghost use Rattle.dagcar_lines.specs.Answers.{IsVerdictLine, TellsPlace, summary_
 ghost use Rattle.dagcar_lines.specs.Summary.{CountsOne, CountsSection, AreCounts, KnowsCounts};
 ghost use Rattle.dagcar_lines.specs.Summary.{count_line, counts_lines};
 
-use crate::answer::Answer;
 use crate::check::section_answer;
 use crate::walk::Teller;
-use block_lines::{Said, is_none, missing_lines};
+use block_lines::{Answer, Said, is_none, missing_lines};
 use dagcbor_car::{CarCheck, Section};
 use ipld_links::Verdict;
 use ipld_tree::Cid;

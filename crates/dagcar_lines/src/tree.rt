@@ -8,11 +8,11 @@ ghost use Rattle.dagcbor_car.specs.Reached.{sections_at};
 ghost use Rattle.dagcar_lines.specs.Finding.{IsTreeOf, IsTree, Sends, SendsTree};
 ghost use Rattle.block_lines.specs.Lines.{SaysBoth};
 
-use crate::holding::{held_of, is_there};
 use block_lines::{is_none, missing_lines, say_both};
 use dagcbor_car::push_tree;
 use dagcbor_cli::{ToolError, write_all};
 use dagcbor_heads::{EncodeError, IoRefWriter};
+use held_lines::{held_of, is_there};
 use ipld_links::{IDENTITY, Reached, reach_from};
 use ipld_tree::Cid;
 use std::alloc::Global;
@@ -107,7 +107,7 @@ pub fn write_tree<R: BufRead, W: Write, V: Write>(
         (W.contents output.new) (V.contents errors.new)) }
 {
     match held_of(alloc, input) {
-        Ok(Ok(held)) => say_tree(alloc, root, &held, output, errors),
+        Ok(Ok(held)) => say_tree(alloc, root, &held.blocks, output, errors),
         Ok(Err(line)) => say_both((Vec::new(alloc), false), &line, output, errors),
         Err(fault) => Err(fault),
     }

@@ -3,10 +3,9 @@
 ghost use Rattle.std.specs.Prelude.{⊤, refl};
 ghost use Rattle.dagcar_lines.specs.Answers.{TellsPlace, verify_speech};
 
-use crate::answer::Answer;
 use crate::check::section_answer;
 use crate::walk::Teller;
-use block_lines::Said;
+use block_lines::{Answer, Said};
 use dagcbor_car::Section;
 use ipld_links::verify;
 use ipld_tree::Cid;

@@ -1,7 +1,7 @@
 //! A file of blocks, section by section: what a teller says of it goes out as it comes.
 
 ghost use Rattle.std.specs.Prelude.{◌≡◌, [], List, ℕ, true, Ok, IfOk, OnOk};
-ghost use Rattle.dagcar_lines.specs.declared.take.Ended.TheVariants.{Whole};
+ghost use Rattle.held_lines.specs.declared.take.Ended.TheVariants.{Whole};
 ghost use Rattle.dagcbor_heads.specs.Inputs.{input_reading};
 ghost use Rattle.dagcbor_items.specs.Walks.{forms};
 ghost use Rattle.dagcbor_car.specs.Car.{Section as CarSection};
@@ -9,12 +9,11 @@ ghost use Rattle.dagcar_lines.specs.Speeches.{Speech, beside, SaysFile};
 ghost use Rattle.dagcar_lines.specs.Steps.{KnowsMore, TellsEnd, work_of, beside_of, SaysSection, SaysRest};
 ghost use Rattle.dagcar_lines.specs.Steps.{SaysSections, SaysHeader};
 
-use crate::answer::Answer;
-use crate::take::{Ended, fault_line, take_sections};
-use block_lines::{Said, say, say_both};
+use block_lines::{Answer, Said, say, say_both};
 use dagcbor_car::{Section, SectionSink, pull_header};
 use dagcbor_cli::{ToolError, write_all};
 use dagcbor_heads::{Input, Read};
+use held_lines::{Ended, fault_line, take_sections};
 use ipld_tree::Cid;
 use std::alloc::{AllocError, Global};
 use std::io::Write;

@@ -18,12 +18,6 @@ use Rattle.path_lines.specs.Ends.{end_line, IsNoItem, IsToldAt}
 use Rattle.path_lines.specs.Raw.{IsRawOf}
 use Rattle.path_lines.specs.Proof.{IsDecided, IsProofFile, IsProofOf}
 
--- what is said of the one is said of the other
-pub both_of : (P Q : Bool → List ℕ → List ℕ → Type 0) (old heard : Option (List ℕ)) (r : Result Bool ToolError) (new after : Option (List ℕ)) → ((well : Bool) (said told : List ℕ) → P well said told → Q well said told) → SaysBoth P old heard r new after → SaysBoth Q old heard r new after
-both_of P Q old heard (Ok w) new after f k = (k.0, k.1, f w k.0 k.1 k.2, k.3, k.4)
-both_of P Q old heard (Err e) new after f (inl none) = inl none
-both_of P Q old heard (Err e) new after f (inr k) = inr (k.0, k.1, k.2, k.3, k.4, f k.0 (k.1 ++ k.2) (k.3 ++ k.4) k.5, k.6, k.7, k.8)
-
 -- ---- an item, or none
 
 pub item_led : {A : Type 0} (bytes_of : A → List ℕ) (stored : Stored) (root : CidParts) (path : List (List ℕ)) (end : End) (a : A) → GivesItem bytes_of stored root path end (Some a) → (n : ℕ) × (u : Tree) × Leads n stored root path (Some u) × IsBlock (bytes_of a) u

@@ -1,5 +1,5 @@
 use Rattle.std.proofs.Common.{◌∙◌, subst, sym}
-use Rattle.dagcar_lines.proofs.Running.{if_some}
+use Rattle.held_lines.proofs.Known.{if_some}
 use Rattle.block_lines.proofs.Saying.{both_said}
 use Rattle.dagcar_lines.proofs.answer.say_answer.Goals as goal
 

@@ -1,6 +1,7 @@
 use Rattle.std.proofs.Common.{subst, ap, sym, ◌∙◌}
 use Rattle.dagcar_lines.specs.Answers.{RunsCommand, IsQuiet}
-use Rattle.dagcar_lines.proofs.Running.{if_some, same_command}
+use Rattle.held_lines.proofs.Known.{if_some}
+use Rattle.dagcar_lines.proofs.Running.{same_command}
 use Rattle.dagcar_lines.proofs.command.run_command.Goals as goal
 
 pub returns-clause-answered : goal.returns-clause-answered

@@ -1,7 +1,7 @@
 use Rattle.std.proofs.Common.{ap, ◌∙◌}
 use Rattle.dagcbor_heads.specs.Reading.{Reading}
 use Rattle.dagcbor_heads.specs.Inputs.{not_lending}
-use Rattle.dagcar_lines.proofs.Running.{if_known}
+use Rattle.held_lines.proofs.Known.{if_known}
 use Rattle.dagcar_lines.proofs.command.say_input.Goals as goal
 
 pub returns-in-Some-clause-said : goal.returns-in-Some-clause-said

@@ -2,7 +2,7 @@ use Rattle.std.proofs.Common.{rules, ◌≡◌, [], sym, ◌∙◌, subst}
 use Rattle.std.specs.Io.KnownBytes.{Appends}
 use Rattle.dagcar_lines.specs.Speeches.{beside, SaysBytes}
 use Rattle.dagcar_lines.specs.Steps.{work_of, beside_of}
-use Rattle.dagcar_lines.proofs.Taking.{ends_as, ends_same}
+use Rattle.held_lines.proofs.Taking.{ends_as, ends_same}
 use Rattle.dagcar_lines.proofs.Saying.{Tells, none_told, rest_said, rest_silent}
 use Rattle.dagcar_lines.proofs.walk.say_sections.Goals as goal
 

@@ -3,9 +3,9 @@ use Rattle.std.proofs.lemmas.Result.{err_from_is_err_and}
 use Rattle.dagcbor_paths.specs.Paths.{segments}
 use Rattle.ipld_links.specs.Reaching.{stored_in}
 use Rattle.dagcar_lines.specs.Paths.{IsAnswerOf}
-use Rattle.path_lines.proofs.Ending.{both_of}
 use Rattle.dagstore_lines.specs.Ways.{IsAnswerIn}
 use Rattle.dagstore_lines.proofs.Gathering.{answered}
+use Rattle.block_lines.proofs.Saying.{both_of}
 use Rattle.dagstore_lines.proofs.at.write_at.Goals as goal
 
 pub returns-in_err-well-clause-says : goal.returns-in_err-well-clause-says

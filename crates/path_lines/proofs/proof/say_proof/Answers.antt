@@ -2,9 +2,9 @@ use Rattle.std.proofs.Common.{[], true, sym, subst}
 use Rattle.ipld_links.specs.Reaching.{stored_in}
 use Rattle.dagcbor_paths.specs.Paths.{segments}
 use Rattle.dagcbor_resolve.specs.Resolving.{AreOnTheWay}
-use Rattle.block_lines.proofs.Saying.{both_said}
+use Rattle.block_lines.proofs.Saying.{both_said, both_of}
 use Rattle.path_lines.specs.Proof.{IsProofOf}
-use Rattle.path_lines.proofs.Ending.{both_of, proof_given, undecided_told}
+use Rattle.path_lines.proofs.Ending.{proof_given, undecided_told}
 use Rattle.path_lines.proofs.proof.say_proof.Goals as goal
 
 pub returns-then-not-is_decided : goal.returns-then-not-is_decided

@@ -1,8 +1,8 @@
 use Rattle.std.proofs.Common.{Bor, List, ℕ, inr, refl}
 use Rattle.ipld_links.specs.Reaching.{stored_in}
 use Rattle.dagcbor_paths.specs.Paths.{segments}
-use Rattle.block_lines.proofs.Saying.{line_whole}
-use Rattle.path_lines.proofs.Ending.{both_of, end_told, raw_written, raw_broken}
+use Rattle.block_lines.proofs.Saying.{line_whole, both_of}
+use Rattle.path_lines.proofs.Ending.{end_told, raw_written, raw_broken}
 use Rattle.path_lines.proofs.raw.say_raw.Goals as goal
 
 pub returns-in-None : goal.returns-in-None

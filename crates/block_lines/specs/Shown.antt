@@ -1,0 +1,32 @@
+-- What is said of bytes as a block: its data, or why they are none.
+use Rattle.std.specs.Prelude.{◌≡◌, ◌≢◌, ◌⊎◌, ℕ, List, [], ◌++◌, codes, Bool, true, false, decimal, if◌then◌else◌}
+use Rattle.std.specs.declared.convert.Infallible.{Infallible}
+use Rattle.dagcbor_heads.specs.declared.error.DecodeError.{DecodeError}
+use Rattle.dagcbor_heads.specs.declared.error.DecodeError.TheVariants as unread
+use Rattle.ipld_tree.specs.Tree.{Tree}
+use Rattle.dag_json.specs.DagJson.{dag_json, has_reserved_key}
+use Rattle.dagcbor_items.specs.Slices.{IsBlock, SliceRefused}
+use Rattle.dagcbor_items.specs.Stops.{StandsAt}
+use Rattle.dagcbor_items.specs.PrintedNames.{variant_name}
+use Rattle.block_lines.specs.Lines.{line}
+
+-- of bytes that are no block, and by which byte
+abbrev pub place_line : {E : Type 0} → DecodeError E → ℕ → List ℕ
+place_line e place = line (codes "refused " ++ (variant_name e ++ (codes " at byte " ++ decimal place)))
+
+-- of data with a map that has the key `/`
+abbrev pub reserved_line : List ℕ
+reserved_line = line (codes "dagcar: a map with the key / looks like a link or like bytes")
+
+-- what is said of bytes that are no block, and what is told: by which byte they are none
+abbrev pub IsSaidOfNoBlock : List ℕ → Bool → List ℕ → List ℕ → Type 0
+IsSaidOfNoBlock b well out told = (e : DecodeError Infallible) × (place : ℕ) × SliceRefused e b
+    × (e ≢ unread.OutOfMemory) × StandsAt e b place × (well ≡ false)
+    × (out ≡ line (codes "refused " ++ variant_name e)) × (told ≡ place_line e place)
+
+-- what `show` says of bytes: the data of the block as DAG-JSON, or why they are none; and what it
+-- tells: a line where a map in the data has the key `/`
+abbrev pub IsShown : List ℕ → Bool → List ℕ → List ℕ → Type 0
+IsShown b well out told = ((t : Tree) × IsBlock b t × (well ≡ true) × (out ≡ line (dag_json t))
+    × (told ≡ (if has_reserved_key t then reserved_line else [])))
+    ⊎ IsSaidOfNoBlock b well out told

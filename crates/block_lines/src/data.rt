@@ -1,0 +1,103 @@
+//! The data of a block as DAG-JSON, or why bytes are no block.
+
+ghost use Rattle.std.specs.Prelude.{◌≡◌, ◌++◌, [], codes, true, false, IfOk, if◌then◌else◌};
+ghost use Rattle.dagcbor_items.specs.PrintedNames.{variant_name};
+ghost use Rattle.ipld_tree.specs.Ipld.{tree_of};
+ghost use Rattle.dag_json.specs.DagJson.{dag_json, has_reserved_key};
+ghost use Rattle.block_lines.specs.Lines.{line, SaysBoth};
+ghost use Rattle.block_lines.specs.Shown.{place_line, reserved_line, IsShown};
+
+use crate::line::{Said, line_of, say_both};
+use dag_json::{dag_json, has_reserved_key};
+use dagcbor_cli::ToolError;
+use dagcbor_items::{Refused, any_from_slice, judge_slice, variant_name};
+use ipld_tree::Ipld;
+use std::alloc::{AllocError, Global};
+use std::io::Write;
+
+/// What is said, and what is told beside that.
+pub type Answer = (Said, Vec<u8>);
+
+/// The line of bytes that are no block, with the byte by which they are none.
+pub fn place_line(alloc: Global, refused: &Refused) -> Result<Vec<u8>, AllocError>
+    ensures { IfOk result (λ v. v.items ≡ place_line refused.now.cause refused.now.place) }
+{
+    let place = format!(in alloc; " at byte {}", refused.place)?;
+    let name = variant_name(&refused.cause);
+    line_of(alloc, b"refused ", name.as_bytes(), place.as_bytes())
+}
+
+/// What is said of bytes that are no block, and by which byte they are none, which is told.
+pub fn no_block_answer(alloc: Global, refused: &Refused) -> Result<Answer, AllocError>
+    ensures { IfOk result (λ p. (p.0.1 ≡ false)
+        × (p.0.0.items ≡ line (codes "refused " ++ variant_name refused.now.cause))
+        × (p.1.items ≡ place_line refused.now.cause refused.now.place)) }
+{
+    let name = variant_name(&refused.cause);
+    let line = line_of(alloc, b"refused ", name.as_bytes(), b"")?;
+    let told = place_line(alloc, refused)?;
+    Ok(((line, false), told))
+}
+
+/// The line of the data.
+fn data_line(alloc: Global, value: &Ipld) -> Result<Vec<u8>, AllocError>
+    ensures { IfOk result (λ v. v.items ≡ line (dag_json (tree_of value.now))) }
+{
+    let text = dag_json(alloc, value)?;
+    line_of(alloc, &text, b"", b"")
+}
+
+/// What is told of data in which a map has the key `/`.
+const RESERVED_LINE: &[u8] = b"dagcar: a map with the key / looks like a link or like bytes\n";
+
+/// What is told of the data.
+fn told_of(alloc: Global, value: &Ipld) -> Result<Vec<u8>, AllocError>
+    ensures { IfOk result (λ v. v.items
+        ≡ (if has_reserved_key (tree_of value.now) then reserved_line else [])) }
+{
+    if has_reserved_key(value) {
+        RESERVED_LINE.to_vec(alloc)
+    } else {
+        Ok(Vec::new(alloc))
+    }
+}
+
+/// What is said of the data, and what is told of it.
+fn data_of(alloc: Global, value: &Ipld) -> Result<Answer, AllocError>
+    ensures { IfOk result (λ p. (p.0.1 ≡ true) × (p.0.0.items ≡ line (dag_json (tree_of value.now)))
+        × (p.1.items ≡ (if has_reserved_key (tree_of value.now) then reserved_line else []))) }
+{
+    let line = data_line(alloc, value)?;
+    let told = told_of(alloc, value)?;
+    Ok(((line, true), told))
+}
+
+/// The data of the block, or why the bytes are none; and what is told of it. The bytes are judged
+/// first: for a tree of what is no block no memory is taken, and a block lacks nothing but memory.
+pub fn shown(alloc: Global, block: &[u8]) -> Result<Answer, AllocError>
+    ensures { IfOk result (λ p. IsShown block.now p.0.1 p.0.0.items p.1.items) }
+{
+    if let Err(refused) = judge_slice(block) {
+        return no_block_answer(alloc, &refused);
+    }
+    match any_from_slice(alloc, block) {
+        Ok(data) => data_of(alloc, &data),
+        Err(_) => Err(AllocError),
+    }
+}
+
+/// Writes the data of the block, or why the bytes are none. Whether they are one.
+pub fn say_shown<W: Write, V: Write>(
+    alloc: Global,
+    block: &[u8],
+    output: &mut W,
+    errors: &mut V,
+) -> Result<bool, ToolError>
+    ensures { SaysBoth (IsShown block.now) (W.contents output.old) (V.contents errors.old) result
+        (W.contents output.new) (V.contents errors.new) }
+{
+    match shown(alloc, block) {
+        Ok((said, told)) => say_both(said, &told, output, errors),
+        Err(_) => Err(ToolError::OutOfMemory),
+    }
+}

@@ -1,0 +1,114 @@
+-- What is taken of a file, section by section, whatever takes a section.
+use Rattle.std.specs.Prelude.{◌≡◌, ◌⊎◌, ◌∷◌, ◌++◌, ℕ, List, [], ⊤, Option, Some, Result, Ok, Err, IfOk, MatchResult, Vec}
+use Rattle.std.specs.declared.alloc.Global.{Global}
+use Rattle.std.specs.declared.convert.Infallible.{Infallible}
+use Rattle.dagcbor_heads.specs.Reading.{Reading}
+use Rattle.ipld_tree.specs.Cid.{CidParts}
+use Rattle.dagcbor_items.specs.Walks.{forms}
+use Rattle.dagcbor_car.specs.Car.{Section}
+use Rattle.dagcbor_car.specs.Each.{Takes}
+use Rattle.dagcbor_car.specs.Sources.{RefusesStart, RefusesSection, TakesStart}
+use Rattle.dagcbor_car.specs.Checks.{IsFileFront, IsNoFile}
+use Rattle.dagcbor_car.specs.Versions.{IsFile}
+use Rattle.dagcbor_car.specs.declared.error.CarError.{CarError}
+use Rattle.dagcbor_car.specs.declared.error.CarError.TheVariants as faults
+use Rattle.block_lines.specs.Lines.{refused_line}
+use Rattle.dagcbor_car.specs.declared.each.ReadCarError.{ReadCarError}
+use Rattle.dagcbor_car.specs.declared.each.ReadCarError.TheVariants as stop
+use Rattle.held_lines.specs.declared.take.Ended.{Ended}
+use Rattle.held_lines.specs.declared.take.Ended.TheVariants as ended
+use Rattle.dagcbor_cli.specs.declared.fault.ToolError.{ToolError}
+
+-- the refusal is one of the bytes
+abbrev pub IsOfBytes : {E : Type 0} → CarError E → Type 0
+IsOfBytes (faults.Read f) = ⊥
+IsOfBytes faults.OutOfMemory = ⊥
+IsOfBytes _ = ⊤
+
+-- each of the sections was taken, one behind the other
+abbrev pub TookEach : {S Stop : Type 0} → Takes S Stop → S → List Section → S → Type 0
+TookEach takes old [] new = new ≡ old
+TookEach {S} takes old (s ∷ ss) new = (it : S) × takes s old (Ok tt) it × TookEach takes it ss new
+
+-- the bytes begin with a file of these roots, and its first sections were taken, which are these
+pub record TakesFront {S Stop : Type 0} (takes : Takes S Stop) (roots : List (List ℕ)) (b : List ℕ) (old new : S) : Type 0 where
+  pub sections : List Section
+  pub wanting : ℕ
+  pub rest : List ℕ
+  pub front : IsFileFront b roots sections wanting rest
+  pub took : TookEach takes old sections new
+
+-- they are that file, and all of its sections were taken
+pub record TakesWhole {S Stop : Type 0} (takes : Takes S Stop) (roots : List (List ℕ)) (b : List ℕ) (old new : S) : Type 0 where
+  pub sections : List Section
+  pub file : IsFile b roots sections
+  pub took : TookEach takes old sections new
+
+-- behind such sections stands one that was refused
+pub record StopsAt {S Stop : Type 0} (takes : Takes S Stop) (roots : List (List ℕ)) (b : List ℕ) (old : S) (stop : Stop) (new : S) : Type 0 where
+  pub it : S
+  pub first : TakesFront takes roots b old it
+  pub section : Section
+  pub wanting : ℕ
+  pub rest : List ℕ
+  pub front : IsFileFront b roots (first.sections ++ section ∷ []) wanting rest
+  pub refused : takes section it (Err stop) new
+
+-- behind such sections stands none, though bytes do, or are wanting, for this cause
+pub record FaultBehind {S Stop : Type 0} (takes : Takes S Stop) (roots : List (List ℕ)) (b : List ℕ) (old : S) (e : CarError Infallible) (new : S) : Type 0 where
+  pub first : TakesFront takes roots b old new
+  pub none : IsNoFile b
+  pub refuses : RefusesSection first.wanting e first.rest
+
+-- how far a file was taken behind its header of these roots
+abbrev pub EndsAt : {S Stop : Type 0} → Takes S Stop → List (List ℕ) → List ℕ → S → Ended Stop → S
+    → Type 0
+EndsAt takes roots b old ended.Whole new = TakesWhole takes roots b old new
+EndsAt takes roots b old (ended.Stopped stop) new = StopsAt takes roots b old stop new
+EndsAt takes roots b old (ended.Fault line) new = (e : CarError Infallible)
+    × FaultBehind takes roots b old e new × (line.items ≡ refused_line e)
+
+-- All sections behind the header were taken, or some of the first.
+abbrev pub TakesBehind : {S Stop : Type 0} → Takes S Stop → Option ℕ → Reading → S
+    → Result (Ended Stop) ToolError → S → Type 0
+TakesBehind takes extent source old result new = (start : Reading) (roots : List (List ℕ))
+    → TakesStart start roots extent source → (b : List ℕ) → start.left ≡ Some b → MatchResult result
+    (λ ended. EndsAt takes roots b old ended new) (λ _. TakesFront takes roots b old new)
+
+-- ---- refusals
+
+-- the line is that of a refusal
+abbrev pub IsFaultLine : {Stop : Type 0} → Ended Stop → List ℕ → Type 0
+IsFaultLine (ended.Fault line) text = line.items ≡ text
+IsFaultLine _ text = ⊥
+
+-- a refusal of the bytes is told in a line
+abbrev pub EndsByFault : {E Stop : Type 0} → CarError E → Result (Ended Stop) ToolError → Type 0
+EndsByFault e result = IfOk result (λ ended. IsFaultLine ended (refused_line e) × IsOfBytes e)
+
+-- the refusal of a run is told: one of the bytes in a line, and one of a section as it is
+abbrev pub EndsBy : {E Stop : Type 0} → ReadCarError E Stop → Result (Ended Stop) ToolError → Type 0
+EndsBy (stop.Header e) result = EndsByFault e result
+EndsBy (stop.Section count e) result = EndsByFault e result
+EndsBy (stop.Block count name why) result = result ≡ Ok (ended.Stopped why)
+
+-- ---- the whole
+
+-- no file begins, of which a line tells
+abbrev pub NotBegun : {Stop : Type 0} → List ℕ → Ended Stop → Type 0
+NotBegun b (ended.Fault line) = (e : CarError Infallible) × IsNoFile b × RefusesStart e b
+    × (line.items ≡ refused_line e)
+NotBegun b _ = ⊥
+
+-- How far the bytes were taken as a file, and of which roots: not at all, and of none; or so far behind
+-- a header.
+abbrev pub TakesAll : {S Stop : Type 0} → Takes S Stop → List ℕ → S → Vec CidParts Global × Ended Stop
+    → S → Type 0
+TakesAll takes b old p new = (NotBegun b p.1 × (p.0.items ≡ []) × (new ≡ old))
+    ⊎ EndsAt takes (forms p.0.items) b old p.1 new
+
+-- the same of the bytes that are left, where the source tells them
+abbrev pub TakesFile : {S Stop : Type 0} → Takes S Stop → Reading → S
+    → Result (Vec CidParts Global × Ended Stop) ToolError → S → Type 0
+TakesFile takes source old result new = IfOk result (λ p. (b : List ℕ)
+    → source.left ≡ Some b → TakesAll takes b old p new)

@@ -1,0 +1,128 @@
+//! A file of blocks that is taken section by section, until it ends, or what takes a section refuses
+//! it.
+
+ghost use Rattle.std.specs.Prelude.{IfOk, IfSome, ◌≡◌};
+ghost use Rattle.dagcbor_heads.specs.Inputs.{input_reading, not_lending};
+ghost use Rattle.block_lines.specs.Lines.{refused_line};
+ghost use Rattle.held_lines.specs.Taking.{IsOfBytes, TakesBehind, TakesFile, TakesAll};
+ghost use Rattle.held_lines.specs.Taking.{EndsBy, EndsByFault};
+
+use block_lines::refused_line;
+use dagcbor_car::{CarError, ReadCarError, SectionSink, each_section, pull_header};
+use dagcbor_cli::ToolError;
+use dagcbor_heads::{Input, IoRefReader, Read};
+use ipld_tree::Cid;
+use std::alloc::Global;
+use std::io::BufRead;
+
+/// How far a file was taken.
+#[derive(Drop)]
+pub enum Ended<T> {
+    /// All of it.
+    Whole,
+    /// Up to a section that was refused, for this cause.
+    Stopped(T),
+    /// Up to where no section stands, though bytes do: a line tells why.
+    Fault(Vec<u8>),
+}
+
+/// Why a file is refused, in a line. A fault of the source and want of memory are told in another
+/// way.
+pub fn fault_line<E: Drop>(alloc: Global, error: CarError<E>) -> Result<Vec<u8>, ToolError>
+    ensures { IfOk result (λ v. IsOfBytes error × (v.items ≡ refused_line error)) }
+{
+    match error {
+        CarError::Read(_) => Err(ToolError::Input),
+        CarError::OutOfMemory => Err(ToolError::OutOfMemory),
+        of_bytes => {
+            let line = refused_line(alloc, &of_bytes)?;
+            Ok(line)
+        }
+    }
+}
+
+/// How a run ended by this fault.
+fn fault_of<E: Drop, T: Drop>(alloc: Global, error: CarError<E>) -> Result<Ended<T>, ToolError>
+    ensures { EndsByFault error result }
+{
+    match fault_line(alloc, error) {
+        Ok(line) => Ok(Ended::Fault(line)),
+        Err(fault) => Err(fault),
+    }
+}
+
+/// How a run ended that did not take all sections.
+fn ended_by<E: Drop, T: Drop>(
+    alloc: Global,
+    error: ReadCarError<E, T>,
+) -> Result<Ended<T>, ToolError>
+    ensures { EndsBy error result }
+{
+    match error {
+        ReadCarError::Header(error) => fault_of(alloc, error),
+        ReadCarError::Section(_count, error) => fault_of(alloc, error),
+        ReadCarError::Block(_count, _name, stop) => Ok(Ended::Stopped(stop)),
+    }
+}
+
+/// Takes what is behind the header, of so much of the file.
+pub fn take_sections<'de, S: SectionSink, R: Read>(
+    alloc: Global,
+    sink: &mut S,
+    input: &mut Input<'de, R>,
+    extent: Option<u64>,
+) -> Result<Ended<S::Stop>, ToolError>
+    ensures { TakesBehind S.takes extent (input_reading R.reading input.old) sink.old result
+        sink.new }
+{
+    let mut left = extent;
+    match each_section(alloc, input, &mut left, sink) {
+        Ok(_count) => Ok(Ended::Whole),
+        Err(error) => ended_by(alloc, error),
+    }
+}
+
+/// Takes the file that a source has, and answers its roots.
+fn take_file<'de, S: SectionSink, R: Read>(
+    alloc: Global,
+    sink: &mut S,
+    input: &mut Input<'de, R>,
+) -> Result<(Vec<Cid>, Ended<S::Stop>), ToolError>
+    ensures { TakesFile S.takes (input_reading R.reading input.old) sink.old result sink.new }
+{
+    match pull_header(alloc, input) {
+        Ok((roots, extent)) => match take_sections(alloc, sink, input, extent) {
+            Ok(ended) => Ok((roots, ended)),
+            Err(fault) => Err(fault),
+        },
+        Err(error) => match fault_line(alloc, error) {
+            Ok(line) => Ok((Vec::new(alloc), Ended::Fault(line))),
+            Err(fault) => Err(fault),
+        },
+    }
+}
+
+/// An input that does not lend.
+pub fn input_over<'de, R: Read>(reader: R) -> Input<'de, R>
+    ensures { input_reading R.reading result ≡ not_lending (R.reading reader) }
+{
+    Input::Reader(reader)
+}
+
+/// Takes the file that the input is, and answers its roots, of which there are none where no file
+/// begins. One section is in memory at a time, beside what the sink keeps.
+pub fn take_input<S: SectionSink, R: BufRead>(
+    alloc: Global,
+    sink: &mut S,
+    input: &mut R,
+) -> Result<(Vec<Cid>, Ended<S::Stop>), ToolError>
+    ensures { IfSome (R.remaining input.old) (λ b. IfOk result (λ p.
+        TakesAll S.takes b sink.old p sink.new)) }
+{
+    let mut source = input_over(IoRefReader::new(input));
+    let result = take_file(alloc, sink, &mut source);
+    if let Some(lent) = source.into_reader() {
+        let _source = lent.into_inner();
+    }
+    result
+}

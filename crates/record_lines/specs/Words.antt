@@ -1,0 +1,54 @@
+-- The lines that tell why a repository is not read. Want of memory is not told so.
+use Rattle.std.specs.Prelude.{ℕ, List, [], ◌++◌, codes, decimal, ⊤}
+use Rattle.ipld_tree.specs.Cid.{CidParts}
+use Rattle.cid_text.specs.Texts.{cid_text}
+use Rattle.dagcbor_items.specs.PrintedNames.{variant_name}
+use Rattle.block_lines.specs.Lines.{line, missing_line}
+use Rattle.atproto_mst.specs.declared.error.MstError.{MstError}
+use Rattle.atproto_mst.specs.declared.error.MstError.TheVariants as unread
+use Rattle.atproto_mst.specs.declared.repo_error.RepoError.{RepoError}
+use Rattle.atproto_mst.specs.declared.repo_error.RepoError.TheVariants as error
+
+-- memory was not wanted
+abbrev pub IsOfTree : MstError → Type 0
+IsOfTree unread.OutOfMemory = ⊥
+IsOfTree _ = ⊤
+
+abbrev pub IsOfRepo : RepoError → Type 0
+IsOfRepo error.OutOfMemory = ⊥
+IsOfRepo (error.Tree e) = IsOfTree e
+IsOfRepo _ = ⊤
+
+-- a name, and what is told of it
+abbrev pub name_line : CidParts → List ℕ → List ℕ
+name_line name words = line (cid_text name ++ words)
+
+-- of a tree
+abbrev pub tree_line : MstError → List ℕ
+tree_line unread.OutOfMemory = []
+tree_line unread.KeyLength = line (codes "a key has no byte, or more than 1024")
+tree_line unread.KeyOrder = line (codes "the keys do not rise")
+tree_line unread.KeyFront = line (codes "an entry shares more bytes with the key before it than that has")
+tree_line (unread.MissingNode name) = missing_line name
+tree_line (unread.OtherBytes name) = name_line name (codes " other bytes")
+tree_line (unread.NoNode name) = name_line name (codes " is no node")
+tree_line (unread.TooDeep name) = name_line name (codes " stands below 129 nodes")
+tree_line unread.OtherTree = line (codes "the nodes are not those of the tree of their entries")
+
+-- of a repository whose commit has this name
+abbrev pub repo_line : CidParts → RepoError → List ℕ
+repo_line name error.OutOfMemory = []
+repo_line name error.Missing = missing_line name
+repo_line name error.OtherBytes = name_line name (codes " other bytes")
+repo_line name (error.NoCommit e) = name_line name (codes " is no commit: " ++ variant_name e)
+repo_line name error.OtherFields = name_line name (codes " has other fields than a commit of version 3")
+repo_line name (error.OtherVersion n) = name_line name (codes " is a commit of version " ++ decimal n)
+repo_line name (error.Tree e) = tree_line e
+
+-- of a file of so many roots, which are not one
+abbrev pub roots_line : ℕ → List ℕ
+roots_line n = line (codes "the file has no commit: it has " ++ (decimal n ++ codes " roots"))
+
+-- of a tree that has no record of the key
+abbrev pub no_record_line : List ℕ
+no_record_line = line (codes "no record has the key")

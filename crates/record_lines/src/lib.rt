@@ -1,0 +1,13 @@
+//! The lines that programs write of a repository's records (AT Protocol).
+#![tactic(auto)]
+
+mod file;
+mod key;
+mod record;
+mod records;
+mod words;
+
+pub use file::{write_record, write_records};
+pub use key::key_text;
+pub use record::say_record;
+pub use records::say_records;

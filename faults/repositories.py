@@ -186,11 +186,11 @@ WORDS = {
     "front": "an entry shares more bytes with the key before it than that has",
     "length": "a key has no byte, or more than 1024",
     "order": "the keys do not rise",
-    "deep": "nodes stand below each other more deeply than there are layers",
+    "deep": "stands below 129 nodes",
     "node": "is no node",
-    "commit": "the block is no commit",
-    "version": "and not of version 3",
-    "fields": "the commit has other fields than one of version 3",
+    "commit": "is no commit: ",
+    "version": "is a commit of version",
+    "fields": "has other fields than a commit of version 3",
     "roots": "roots",
 }
 
@@ -255,7 +255,17 @@ def one_record(path, rng, pool, count):
                 yield f"record {number}: {key!r}: {status}, {out!r}, {told!r}"
 
 
-def run(path, report, count=RANDOM_TREES):
+def small():
+    """A file of three records, two of which it has, and what is said of it."""
+    note, link_to = fields((b"text", spelled(3, b"hi"))), spelled(2, b"away")
+    records = {b"app.bsky.feed.post/self": named(note), b"app.bsky.feed.like/1": named(link_to), b"a": record(b"b")}
+    tree = tree_of(records)
+    file = file_of(commit(tree.name()), tree.all()) + section(note) + section(b"\x41b")
+    lines = lines_of(records).encode()
+    return file, {"records": (0, lines), "record app.bsky.feed.post/self": (0, b'{"text":"hi"}\n'), "record none": (1, b"")}
+
+
+def sweep(path, report, count=RANDOM_TREES):
     """Everything, of the program that is built there."""
     rng = random.Random(20261127)
     pool = Pool(rng)

@@ -262,7 +262,7 @@ def small():
     tree = tree_of(records)
     file = file_of(commit(tree.name()), tree.all()) + section(note) + section(b"\x41b")
     lines = lines_of(records).encode()
-    return file, {"records": (0, lines), "record app.bsky.feed.post/self": (0, b'{"text":"hi"}\n'), "record none": (1, b"")}
+    return file, {"records": (0, lines), "record app.bsky.feed.post/self": (0, b'{"text":"hi"}\n')}
 
 
 def sweep(path, report, count=RANDOM_TREES):

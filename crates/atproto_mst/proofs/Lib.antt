@@ -2,6 +2,10 @@ pub mod Bits
 pub mod Runs
 pub mod Handing
 pub mod Written
+pub mod Shown
+pub mod Naming
+pub mod ShownCommits
+pub mod StoredCommits
 pub mod Building
 pub mod Orders
 pub mod Whole
@@ -15,3 +19,8 @@ pub mod Rising
 pub mod Stopping
 pub mod Gathering
 pub mod Listings
+pub mod Seeking
+pub mod Searching
+pub mod Binding
+pub mod Telling
+pub mod Ways

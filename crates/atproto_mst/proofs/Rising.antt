@@ -8,27 +8,27 @@ use Rattle.atproto_mst.specs.Entries.{entries}
 use Rattle.atproto_mst.specs.Stops.{last_key, ComeBehind}
 use Rattle.atproto_mst.specs.declared.entries.MstEntry.{MstEntry}
 
-keys_left : (es fs : List Entry) → HaveKeys (es ++ fs) → HaveKeys es
+pub keys_left : (es fs : List Entry) → HaveKeys (es ++ fs) → HaveKeys es
 keys_left [] fs h = tt
 keys_left (e ∷ es) fs h = (h.0, keys_left es fs h.1)
 
-keys_right : (es fs : List Entry) → HaveKeys (es ++ fs) → HaveKeys fs
+pub keys_right : (es fs : List Entry) → HaveKeys (es ++ fs) → HaveKeys fs
 keys_right [] fs h = h
 keys_right (e ∷ es) fs h = keys_right es fs h.1
 
-before_left : (key : List ℕ) (es fs : List Entry) → ComesBefore key (es ++ fs) → ComesBefore key es
+pub before_left : (key : List ℕ) (es fs : List Entry) → ComesBefore key (es ++ fs) → ComesBefore key es
 before_left key [] fs h = tt
 before_left key (e ∷ es) fs h = h
 
-rise_left : (es fs : List Entry) → Rise (es ++ fs) → Rise es
+pub rise_left : (es fs : List Entry) → Rise (es ++ fs) → Rise es
 rise_left [] fs h = tt
 rise_left (e ∷ es) fs h = (before_left e.0 es fs h.0, rise_left es fs h.1)
 
-rise_right : (es fs : List Entry) → Rise (es ++ fs) → Rise fs
+pub rise_right : (es fs : List Entry) → Rise (es ++ fs) → Rise fs
 rise_right [] fs h = h
 rise_right (e ∷ es) fs h = rise_right es fs h.1
 
-before_right : (key : List ℕ) (es fs : List Entry) → ComesBefore key (es ++ fs) → Rise (es ++ fs) → ComesBefore (last_key key es) fs
+pub before_right : (key : List ℕ) (es fs : List Entry) → ComesBefore key (es ++ fs) → Rise (es ++ fs) → ComesBefore (last_key key es) fs
 before_right key [] fs h r = h
 before_right key (e ∷ es) fs h r = before_right e.0 es fs r.0 r.1
 

@@ -15,7 +15,7 @@ use Rattle.atproto_mst.proofs.Rising.{behind_left, behind_right, behind_first}
 
 -- ---- faults
 
-no_fault : (stored : Stored) (name : CidParts) (e : MstError) (p : NodeParts) → NodeFault stored name e → IsNodeAt stored name p → ⊥
+pub no_fault : (stored : Stored) (name : CidParts) (e : MstError) (p : NodeParts) → NodeFault stored name e → IsNodeAt stored name p → ⊥
 no_fault stored name (error.MissingNode lost) p h k = absurd (cc (h.1, k.is))
 no_fault stored name (error.OtherBytes other) p (o, (b, is, not)) k =
     let same : k.block ≡ b = cc (is, k.is) in

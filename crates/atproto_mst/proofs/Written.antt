@@ -6,8 +6,9 @@ use Rattle.ipld_tree.specs.Spelling.{IsSpelling}
 use Rattle.dagcbor_write.specs.Trees.{field, option_tree}
 use Rattle.dagcbor_write.specs.Answers.{AreSpellingOf}
 use Rattle.atproto_mst.specs.Trees.{row_tree, map_of}
-use Rattle.atproto_mst.specs.Nodes.{tree_of_row, row_told}
+use Rattle.atproto_mst.specs.Nodes.{tree_of_row, tree_of_node, row_told, node_told}
 use Rattle.atproto_mst.specs.declared.rows.Row.{Row}
+use Rattle.atproto_mst.specs.declared.rows.Node.{Node}
 
 abbrev pub link_written : Option CidParts → Option Tree
 link_written t = option_tree (λ c. Some (link (cid_bytes c))) t
@@ -36,10 +37,10 @@ map_written : (es : List Tree) (l : Option CidParts) → entries_tree (field (co
 map_written es None = refl
 map_written es (Some c) = refl
 
-node_is : (rs : List Row) (l : Option CidParts) → node_written rs l ≡ Some (map_of (map tree_of_row (map row_told rs)) l)
-node_is rs l =
-    ap (λ o. entries_tree (field (codes "e") (option_map (λ found. list (items_of found)) o) ∷ field (codes "l") (link_written l) ∷ [])) (rows_are rs)
-    ∙ map_written (map tree_of_row (map row_told rs)) l
+node_is : (n : Node) → node_written n.rows.items n.left ≡ Some (tree_of_node (node_told n))
+node_is n =
+    ap (λ o. entries_tree (field (codes "e") (option_map (λ found. list (items_of found)) o) ∷ field (codes "l") (link_written n.left) ∷ [])) (rows_are n.rows.items)
+    ∙ map_written (map tree_of_row (map row_told n.rows.items)) n.left
 
-pub node_spelled : (rs : List Row) (l : Option CidParts) (v : List ℕ) → AreSpellingOf (node_written rs l) v → IsSpelling v (map_of (map tree_of_row (map row_told rs)) l)
-node_spelled rs l v h = subst (λ o. AreSpellingOf o v) (node_is rs l) h
+pub node_spelled : (n : Node) (v : List ℕ) → AreSpellingOf (node_written n.rows.items n.left) v → IsSpelling v (tree_of_node (node_told n))
+node_spelled n v h = subst (λ o. AreSpellingOf o v) (node_is n) h

@@ -66,3 +66,18 @@ abbrev pub FindStops : ℕ → Stored → List ℕ → CidParts → MstError →
 FindStops zero stored key name e = e ≡ error.TooDeep name
 FindStops (suc m) stored key name e = NodeFault stored name e
     ⊎ ((p : NodeParts) × IsNodeAt stored name p × FaultBelow (FindStops m stored key) (seek_in key p) e)
+
+-- ---- the way
+
+-- where a node says that the key is in a tree below it, these are the names from there on; else there
+-- are none
+abbrev pub WayBelow : (CidParts → List CidParts → Type 0) → Sought → List CidParts → Type 0
+WayBelow F (sought.Below (Some next)) names = F next names
+WayBelow F sought.KeyFront names = ⊥
+WayBelow F _ names = names ≡ []
+
+-- the names of the nodes that say what is found, from the root of this name on, over at most so many
+abbrev pub IsWay : ℕ → Stored → List ℕ → CidParts → List CidParts → Type 0
+IsWay zero stored key name names = ⊥
+IsWay (suc m) stored key name names = (p : NodeParts) × IsNodeAt stored name p
+    × ((more : List CidParts) × (names ≡ name ∷ more) × WayBelow (IsWay m stored key) (seek_in key p) more)

@@ -1,13 +1,15 @@
 -- What holds of all trees.
-use Rattle.std.specs.Prelude.{◌≡◌, ◌≢◌, ◌⊎◌, ℕ, List, Option}
+use Rattle.std.specs.Prelude.{◌≡◌, ◌≢◌, ◌⊎◌, ◌↔◌, ℕ, List, Option}
 use Rattle.sha2.specs.Sha256.{sha256}
 use Rattle.ipld_tree.specs.Cid.{CidParts}
+use Rattle.ipld_links.specs.Sets.{Among}
 use Rattle.ipld_links.specs.Reaching.{Stored}
 use Rattle.atproto_mst.specs.Keys.{Entry}
 use Rattle.atproto_mst.specs.Trees.{root_of}
 use Rattle.atproto_mst.specs.Entries.{IsMst}
 use Rattle.atproto_mst.specs.Walks.{most_layers}
-use Rattle.atproto_mst.specs.Finding.{lookup, Finds}
+use Rattle.atproto_mst.specs.Finding.{lookup, Finds, FindStops, IsWay}
+use Rattle.atproto_mst.specs.declared.error.MstError.{MstError}
 
 -- two different byte strings have one SHA-256
 abbrev pub Collides : Type 0
@@ -29,3 +31,23 @@ abbrev pub RecordsBind : Type 0
 RecordsBind = (stored others : Stored) (root : CidParts) (key : List ℕ) (es : List Entry)
     (found : Option CidParts) → Finds most_layers stored key root found → IsMst others root es
     → (found ≡ lookup key es) ⊎ Collides
+
+-- ---- what the nodes on the way of a key decide
+
+-- both stores have the same bytes under each of the names, or both have none
+abbrev pub AgreeOn : List CidParts → Stored → Stored → Type 0
+AgreeOn names stored other = (q : CidParts) → Among q names → stored q ≡ other q
+
+-- A store that agrees with another on the names of a key's way has the same answers.
+abbrev pub WaysDecideRecords : Type 0
+WaysDecideRecords = (stored other : Stored) (root : CidParts) (key : List ℕ) (names : List CidParts)
+    → IsWay most_layers stored key root names → AgreeOn names stored other
+    → (found : Option CidParts)
+    → Finds most_layers stored key root found ↔ Finds most_layers other key root found
+
+-- It has one, and no fault stops the search.
+abbrev pub WaysLead : Type 0
+WaysLead = (stored other : Stored) (root : CidParts) (key : List ℕ) (names : List CidParts)
+    → IsWay most_layers stored key root names → AgreeOn names stored other
+    → ((found : Option CidParts) × Finds most_layers other key root found)
+    × ((e : MstError) → ¬ FindStops most_layers other key root e)

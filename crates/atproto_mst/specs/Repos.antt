@@ -10,7 +10,7 @@ use Rattle.atproto_mst.specs.Entries.{entries, IsMst}
 use Rattle.atproto_mst.specs.Stops.{MstRefused}
 use Rattle.atproto_mst.specs.declared.commit.Commit.{Commit}
 use Rattle.atproto_mst.specs.declared.entries.MstEntry.{MstEntry}
-use Rattle.atproto_mst.specs.declared.error.MstError.{MstError}
+use Rattle.atproto_mst.specs.declared.error.MstError.TheVariants as tree
 use Rattle.atproto_mst.specs.declared.repo_error.RepoError.{RepoError}
 use Rattle.atproto_mst.specs.declared.repo_error.RepoError.TheVariants as error
 
@@ -42,7 +42,8 @@ CommitRefused stored name (error.OtherVersion n) = (b : List ℕ) × (c : Commit
     × AreSpellingOf (commit_tree c) b × (c.version ≡ n) × (n ≢ 3)
 CommitRefused stored name _ = ⊥
 
--- why no repository is read
+-- why no repository is read: want of memory below the commit is want of memory
 abbrev pub RepoRefused : Stored → CidParts → RepoError → Type 0
-RepoRefused stored name (error.Tree e) = (c : Commit) × IsStoredCommit stored name c × MstRefused stored c.data e
+RepoRefused stored name (error.Tree e) = (e ≢ tree.OutOfMemory)
+    × ((c : Commit) × IsStoredCommit stored name c × MstRefused stored c.data e)
 RepoRefused stored name e = CommitRefused stored name e

@@ -30,7 +30,7 @@ pub(crate) enum Sought {
 }
 
 /// What the node says of the key.
-fn seek(alloc: Global, node: &Node<'_>, key: &[u8]) -> Result<Sought, AllocError>
+pub(crate) fn seek(alloc: Global, node: &Node<'_>, key: &[u8]) -> Result<Sought, AllocError>
     ensures { IfOk result (λ s. s ≡ seek_in key.now (node_told node.now)) }
 {
     let mut before = node.left;
@@ -67,10 +67,13 @@ pub fn find_record(
     let mut name = *root;
     for _layer in 0..MOST_LAYERS {
         let node = node_at(alloc, blocks, &name)?;
-        match seek(alloc, &node, key)? {
-            Sought::Record(value) => return Ok(Some(value)),
-            Sought::Below(None) => return Ok(None),
-            Sought::Below(Some(next)) => name = next,
+        let sought = seek(alloc, &node, key)?;
+        match &sought {
+            Sought::Record(value) => return Ok(Some(*value)),
+            Sought::Below(link) => match link {
+                Some(next) => name = *next,
+                None => return Ok(None),
+            },
             Sought::KeyFront => return Err(MstError::KeyFront),
         }
     }

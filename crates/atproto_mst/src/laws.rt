@@ -1,6 +1,6 @@
 //! Laws of the definitions, each the contract of a function that does nothing.
 
-ghost use Rattle.atproto_mst.specs.Laws.{OneRoot, RootBinds, RecordsBind};
+ghost use Rattle.atproto_mst.specs.Laws.{OneRoot, RootBinds, RecordsBind, WaysDecideRecords, WaysLead};
 ghost use Rattle.atproto_mst.specs.Stops.{OneReason};
 
 /// Equal entries have an equal root.
@@ -15,13 +15,18 @@ pub fn one_reason()
 {}
 
 /// A root binds the entries of its tree.
-#[tactic(auto, using(crate::proofs::Binding::root_binds))]
 pub fn root_binds()
     ensures { RootBinds }
 {}
 
 /// The nodes on the path to a key bind what its record is, and that there is none.
-#[tactic(auto, using(crate::proofs::Binding::records_bind))]
 pub fn records_bind()
     ensures { RecordsBind }
+{}
+
+/// The nodes on the way of a key decide what its record is, and that there is none: who has these
+/// alone has an answer, and the same one.
+pub fn ways_decide_records()
+    ensures same { WaysDecideRecords }
+    ensures answered { WaysLead }
 {}

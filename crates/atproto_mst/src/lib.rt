@@ -15,6 +15,7 @@ mod repo_error;
 mod rows;
 mod sink;
 mod stored;
+mod way;
 mod write;
 
 pub use commit::{Commit, spell_unsigned};
@@ -26,4 +27,5 @@ pub use read::read_mst;
 pub use repo::{Repo, read_repo, stored_commit};
 pub use repo_error::RepoError;
 pub use sink::NodeSink;
+pub use way::record_way;
 pub use write::{mst_root, write_mst};

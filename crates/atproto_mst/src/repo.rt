@@ -9,6 +9,7 @@ ghost use Rattle.atproto_mst.specs.declared.repo_error.RepoError.TheVariants.{Ou
 
 use crate::commit::{Commit, read_commit};
 use crate::entries::MstEntry;
+use crate::error::MstError;
 use crate::read::read_mst;
 use crate::repo_error::RepoError;
 use ipld_links::{name_of_block, stored_bytes};
@@ -40,9 +41,14 @@ pub fn read_repo(
         → IfErr result (λ e. e ≡ OutOfMemory) }
 {
     let commit = stored_commit(alloc, blocks, root)?;
+    // What is known of a CID comes with its version.
+    let _version = commit.data.version();
     match read_mst(alloc, blocks, &commit.data) {
         Ok(records) => Ok(Repo { commit, records }),
-        Err(error) => Err(RepoError::Tree(error)),
+        Err(error) => match error {
+            MstError::OutOfMemory => Err(RepoError::OutOfMemory),
+            _ => Err(RepoError::Tree(error)),
+        },
     }
 }
 

@@ -1,11 +1,12 @@
 //! A node as it stands in a block.
 
-ghost use Rattle.std.specs.Prelude.{◌≡◌, [], ◌∷◌, Some, codes, pos, true, IfOk, MatchOption};
-ghost use Rattle.ipld_tree.specs.Cid.{cid_bytes};
+ghost use Rattle.std.specs.Prelude.{◌≡◌, [], ◌∷◌, map, Some, codes, pos, true, IfOk, MatchOption};
+ghost use Rattle.std.specs.List.{AllByRecursion};
+ghost use Rattle.ipld_tree.specs.Cid.{AreCidParts, cid_bytes};
 ghost use Rattle.ipld_tree.specs.Tree.{bytes, integer, link, entries_tree};
 ghost use Rattle.ipld_tree.specs.Spelling.{IsSpelling};
 ghost use Rattle.dagcbor_write.specs.Trees.{field};
-ghost use Rattle.atproto_mst.specs.Nodes.{NodeParts, IsNode, tree_of_node, node_told};
+ghost use Rattle.atproto_mst.specs.Nodes.{NodeParts, IsCidIfAny, IsNode, tree_of_node, row_told, node_told};
 ghost use Rattle.atproto_mst.specs.RowShapes.{RowView, row_shape, NodeView, node_shape};
 ghost use Rattle.dagcbor_heads.specs.Reading.{default_steps};
 ghost use Rattle.dagcbor_read.specs.Whole.{IsWhole, HoldsNoValue};
@@ -127,10 +128,31 @@ pub(crate) fn read_node(alloc: Global, block: &[u8]) -> Result<Option<Node<'_>>,
         return Ok(None);
     };
     let spelled = spell_node(alloc, &node)?;
+    has_cid(&node.left);
+    have_cids(&node.rows);
     if spelled.as_slice() == block {
         Ok(Some(node))
     } else {
         Ok(None)
+    }
+}
+
+/// Does nothing. What is known of a CID comes with its version.
+fn has_cid(link: &Option<Cid>)
+    ensures { IsCidIfAny link.now }
+{
+    if let Some(cid) = link {
+        let _version = cid.version();
+    }
+}
+
+/// The same of the CIDs of entries.
+fn have_cids(rows: &[Row<'_>])
+    ensures { AllByRecursion (λ r. AreCidParts r.value × IsCidIfAny r.after) (map row_told rows.now) }
+{
+    for row in rows {
+        let _version = row.value.version();
+        has_cid(&row.after);
     }
 }
 

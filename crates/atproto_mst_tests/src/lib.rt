@@ -2,4 +2,6 @@
 #![tactic(auto)]
 
 #[cfg(test)]
+mod searches;
+#[cfg(test)]
 mod tests;

@@ -1,0 +1,43 @@
+-- A root binds the entries of its tree, and what is found of a key.
+use Rattle.std.proofs.Common.{◌≡◌, ◌≢◌, ◌⊎◌, inl, inr, ℕ, List, Bool, true, false, refl, sym, ap, ◌∙◌, subst, Option}
+use Rattle.std.proofs.lemmas.Slice.Eq.{bytes_eq-Decides}
+use Rattle.std.specs.Str.{bytes_eq}
+use Rattle.sha2.specs.Sha256.{sha256}
+use Rattle.ipld_tree.specs.Cid.{CidParts}
+use Rattle.ipld_links.specs.Names.{block_name}
+use Rattle.ipld_links.specs.Reaching.{Stored}
+use Rattle.atproto_mst.specs.Keys.{Entry}
+use Rattle.atproto_mst.specs.Entries.{IsMst}
+use Rattle.atproto_mst.specs.Nodes.{NodeParts, IsNode, IsNodeAt}
+use Rattle.atproto_mst.specs.Walks.{Walks, most_layers}
+use Rattle.atproto_mst.specs.Finding.{lookup, Finds}
+use Rattle.atproto_mst.specs.Laws.{Collides, RootBinds, RecordsBind}
+use Rattle.atproto_mst.proofs.Nodes.{same_node}
+use Rattle.atproto_mst.proofs.Agreeing.{walks_agree}
+use Rattle.atproto_mst.proofs.Canonical.{mst_walked}
+use Rattle.atproto_mst.proofs.Seeking.{finds_walked}
+use Rattle.atproto_mst.proofs.Searching.{NodesAgree, finds_agree}
+
+of_one_hash : (x y : List ℕ) → sha256 x ≡ sha256 y → (x ≡ y) ⊎ Collides
+of_one_hash x y e = by (bytes_eq x y) refl
+  where
+    by : (t : Bool) → bytes_eq x y ≡ t → (x ≡ y) ⊎ Collides
+    by true is = inl ((bytes_eq-Decides x y).0 is)
+    by false is = inr (x, y, (λ same. (let yes = (bytes_eq-Decides x y).1 same in cc)), e)
+
+one_digest : (x y : List ℕ) → block_name x ≡ block_name y → sha256 x ≡ sha256 y
+one_digest x y e = ap (λ q. q.digest) e
+
+-- under one name two stores have one node
+nodes_agree : (stored others : Stored) → NodesAgree stored others Collides
+nodes_agree stored others name p q h k = elim (of_one_hash h.block k.block (one_digest h.block k.block (sym h.named ∙ k.named))) [
+  | inl is ↦ inl (same_node k.block p q (subst (λ b. IsNode b p) is h.node) k.node)
+  | inr c ↦ inr c
+]
+
+pub root_binds : RootBinds
+root_binds stored others root es fs h k = walks_agree Collides stored others (nodes_agree stored others) most_layers most_layers root es fs (mst_walked stored root es h) (mst_walked others root fs k)
+
+pub records_bind : RecordsBind
+records_bind stored others root key es found h k = finds_agree most_layers most_layers stored others Collides key root found (lookup key es) (nodes_agree stored others) h
+    (finds_walked most_layers others root es key (mst_walked others root es k) k.valid.rise)

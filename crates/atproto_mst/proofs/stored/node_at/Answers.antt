@@ -1,0 +1,23 @@
+use Rattle.std.proofs.Common.{refl, sym, ◌∙◌, subst, inr}
+use Rattle.std.specs.Prelude.{MatchOption}
+use Rattle.atproto_mst.specs.Nodes.{NodeParts, IsNode, node_told}
+use Rattle.atproto_mst.proofs.Comparing.{same_name}
+use Rattle.atproto_mst.proofs.Naming.{other_name}
+use Rattle.atproto_mst.proofs.stored.node_at.Goals as goal
+
+pub returns-then-ne : goal.returns-then-ne
+returns-then-ne c = inr (refl, (c.in-Some.block.now, sym c.in-Some.ensures,
+    λ named. other_name c.name_of_block.result c.args.name.now c.ne.result c.if-ne.true c.ne.ensures (c.name_of_block.ensures ∙ sym named)))
+
+pub returns-in-Some-2 : goal.returns-in-Some-2
+returns-in-Some-2 c = record {
+  block = c.in-Some.block.now;
+  is = sym c.in-Some.ensures;
+  named = sym (same_name c.name_of_block.result c.args.name.now c.ne.result c.if-ne.false c.ne.ensures) ∙ c.name_of_block.ensures;
+  node = subst (λ o. MatchOption o ((p : NodeParts) → ¬ IsNode c.in-Some.block.now p) (λ n. IsNode c.in-Some.block.now (node_told n))) c.in-Some-2.is c.in_ok-node.ensures;
+}
+
+pub returns-in-None : goal.returns-in-None
+returns-in-None c = inr (refl, (c.in-Some.block.now, sym c.in-Some.ensures,
+    sym (same_name c.name_of_block.result c.args.name.now c.ne.result c.if-ne.false c.ne.ensures) ∙ c.name_of_block.ensures,
+    subst (λ o. MatchOption o ((p : NodeParts) → ¬ IsNode c.in-Some.block.now p) (λ n. IsNode c.in-Some.block.now (node_told n))) c.in-None.is c.in_ok-node.ensures))

@@ -1,0 +1,236 @@
+//! Records that are found, and the nodes on their ways, which a program in another language told.
+
+use crate::tests::{Kept, agree, is_named, numbered, numbered_all};
+use atproto_mst::{MstError, NodeSink, find_record, record_way, write_mst};
+use ipld_links::name_of_block;
+use ipld_tree::Cid;
+use std::alloc::Global;
+use std::collections::BTreeMap;
+use std::test::Fail;
+
+/// Of the 200 records of `SETS`: a number, whether it is that of a record, and the nodes on the way.
+const WAYS: &[(u32, bool, &[&[u8]])] = &[
+    (
+        2189,
+        true,
+        &[b"bafyreiaykn4fatdtpdduw4bbdxkpikkdzegbikx4uuvqjlxe2wfwvylpse"],
+    ),
+    (
+        440,
+        true,
+        &[
+            b"bafyreiaykn4fatdtpdduw4bbdxkpikkdzegbikx4uuvqjlxe2wfwvylpse",
+            b"bafyreidndt477x64h3f43xaovvg53ozipmlkwy2drdq66noha7zilc554y",
+        ],
+    ),
+    (
+        253,
+        true,
+        &[
+            b"bafyreiaykn4fatdtpdduw4bbdxkpikkdzegbikx4uuvqjlxe2wfwvylpse",
+            b"bafyreidndt477x64h3f43xaovvg53ozipmlkwy2drdq66noha7zilc554y",
+            b"bafyreibn6bhsj2uvfxpo2gjwpnghx5w4zkxn5pympx46iahui6woayugc4",
+        ],
+    ),
+    (
+        33,
+        true,
+        &[
+            b"bafyreiaykn4fatdtpdduw4bbdxkpikkdzegbikx4uuvqjlxe2wfwvylpse",
+            b"bafyreidndt477x64h3f43xaovvg53ozipmlkwy2drdq66noha7zilc554y",
+            b"bafyreibn6bhsj2uvfxpo2gjwpnghx5w4zkxn5pympx46iahui6woayugc4",
+            b"bafyreihsa2vtrg4mfntzburkbdivwwp3kabxgaigk7ch4vg6kxfhiy5ya4",
+            b"bafyreiebmwcb6ygui3yibplwfyal2djwvdwo7dvpqvqdzsi2xymppcooae",
+        ],
+    ),
+    (
+        2195,
+        false,
+        &[b"bafyreiaykn4fatdtpdduw4bbdxkpikkdzegbikx4uuvqjlxe2wfwvylpse"],
+    ),
+    (
+        243,
+        false,
+        &[
+            b"bafyreiaykn4fatdtpdduw4bbdxkpikkdzegbikx4uuvqjlxe2wfwvylpse",
+            b"bafyreidndt477x64h3f43xaovvg53ozipmlkwy2drdq66noha7zilc554y",
+            b"bafyreibn6bhsj2uvfxpo2gjwpnghx5w4zkxn5pympx46iahui6woayugc4",
+            b"bafyreihsa2vtrg4mfntzburkbdivwwp3kabxgaigk7ch4vg6kxfhiy5ya4",
+        ],
+    ),
+    (
+        5,
+        false,
+        &[
+            b"bafyreiaykn4fatdtpdduw4bbdxkpikkdzegbikx4uuvqjlxe2wfwvylpse",
+            b"bafyreidndt477x64h3f43xaovvg53ozipmlkwy2drdq66noha7zilc554y",
+            b"bafyreibn6bhsj2uvfxpo2gjwpnghx5w4zkxn5pympx46iahui6woayugc4",
+            b"bafyreihsa2vtrg4mfntzburkbdivwwp3kabxgaigk7ch4vg6kxfhiy5ya4",
+            b"bafyreif7behiksxlktm4kwnz7loua2kewy57lv4pzu24xq7xjamfje7lfu",
+        ],
+    ),
+];
+
+/// A node whose first entry shares a byte with no key.
+const FRONT: &[u8] =
+    b"\xa2\x61\x65\x81\xa4\x61\x6b\x41\x61\x61\x70\x01\x61\x74\xf6\x61\x76\xd8\x2a\x58\x25\x00\x01\x71\x12\x20\x2d\x71\x16\x42\xb7\x26\xb0\x44\x01\x62\x7c\xa9\xfb\xac\x32\xf5\xc8\x53\x0f\xb1\x90\x3c\xc4\xdb\x02\x25\x87\x17\x92\x1a\x48\x81\x61\x6c\xf6";
+
+/// A node with the key `b`, and then an entry that shares two bytes with it.
+const FRONTS: &[u8] =
+    b"\xa2\x61\x65\x82\xa4\x61\x6b\x41\x62\x61\x70\x00\x61\x74\xf6\x61\x76\xd8\x2a\x58\x25\x00\x01\x71\x12\x20\x2d\x71\x16\x42\xb7\x26\xb0\x44\x01\x62\x7c\xa9\xfb\xac\x32\xf5\xc8\x53\x0f\xb1\x90\x3c\xc4\xdb\x02\x25\x87\x17\x92\x1a\x48\x81\xa4\x61\x6b\x41\x61\x61\x70\x02\x61\x74\xf6\x61\x76\xd8\x2a\x58\x25\x00\x01\x71\x12\x20\x2d\x71\x16\x42\xb7\x26\xb0\x44\x01\x62\x7c\xa9\xfb\xac\x32\xf5\xc8\x53\x0f\xb1\x90\x3c\xc4\xdb\x02\x25\x87\x17\x92\x1a\x48\x81\x61\x6c\xf6";
+
+/// A node with no key and no node below it.
+const LOWEST: &[u8] = b"\xa2\x61\x65\x80\x61\x6c\xf6";
+
+/// The front of a node with no key, before the digest of the node below it.
+const ABOVE: &[u8] = b"\xa2\x61\x65\x80\x61\x6c\xd8\x2a\x58\x25\x00\x01\x71\x12\x20";
+
+/// The last of 129 nodes that stand above each other, and of 130.
+const CHAINS: &[(usize, &[u8])] = &[
+    (
+        129,
+        b"bafyreifmf4qubytiiw6o64efy7dpugwdesm7s3euul3sytyojctwx6udw4",
+    ),
+    (
+        130,
+        b"bafyreigy2vjzndb2uklrwtoapieh67j3xrps5atw6mu25l7zoh3bvyb5zu",
+    ),
+];
+
+fn kept(alloc: Global) -> Kept {
+    Kept {
+        blocks: BTreeMap::new(alloc),
+    }
+}
+
+/// The nodes of these names alone.
+fn those_of(alloc: Global, all: &Kept, names: &[Cid]) -> Result<Kept, Fail> {
+    let mut some = kept(alloc);
+    for name in names {
+        match all.blocks.get(name) {
+            Some(block) => some.take(*name, block.to_vec(alloc)?)?,
+            None => return Err(Fail::from("a name of no node")),
+        }
+    }
+    Ok(some)
+}
+
+#[test]
+fn each_record_is_found(rt: HostRuntime) -> Result<(), Fail> {
+    let alloc = rt.alloc();
+    let all = numbered_all(alloc, 200, 11)?;
+    let mut nodes = kept(alloc);
+    let root = write_mst(alloc, &all, &mut nodes)?;
+    for record in &all {
+        let found = find_record(alloc, &nodes.blocks, &root, &record.key)?;
+        agree(found, Some(record.value))?;
+    }
+    for index in 0..200 {
+        let other = numbered(alloc, 11 * index + 1)?;
+        let found = find_record(alloc, &nodes.blocks, &root, &other.key)?;
+        agree(found, None)?;
+    }
+    let found = find_record(alloc, &nodes.blocks, &root, b"")?;
+    agree(found, None)
+}
+
+#[test]
+fn ways_are_told_and_suffice(rt: HostRuntime) -> Result<(), Fail> {
+    let alloc = rt.alloc();
+    let all = numbered_all(alloc, 200, 11)?;
+    let mut nodes = kept(alloc);
+    let root = write_mst(alloc, &all, &mut nodes)?;
+    for row in WAYS {
+        let record = numbered(alloc, row.0)?;
+        let names = record_way(alloc, &nodes.blocks, &root, &record.key)?;
+        agree(names.len(), row.2.len())?;
+        for (name, text) in names.iter().zip(row.2.iter()) {
+            agree(is_named(name, *text), true)?;
+        }
+        let mut few = those_of(alloc, &nodes, &names)?;
+        let found = find_record(alloc, &few.blocks, &root, &record.key)?;
+        agree(found, if row.1 { Some(record.value) } else { None })?;
+        each_is_needed(alloc, &mut few, &root, &record.key, &names)?;
+    }
+    Ok(())
+}
+
+/// Where the last node is missing, that is told.
+fn each_is_needed(
+    alloc: Global,
+    few: &mut Kept,
+    root: &Cid,
+    key: &[u8],
+    names: &[Cid],
+) -> Result<(), Fail> {
+    let Some(last) = names.last() else {
+        return Err(Fail::from("a way of no node"));
+    };
+    let _ = few.blocks.remove(last);
+    match find_record(alloc, &few.blocks, root, key) {
+        Err(MstError::MissingNode(lost)) => agree(lost, *last),
+        _ => Err(Fail::from("a lost node was not told")),
+    }
+}
+
+#[test]
+fn entries_share_no_more_than_there_is(rt: HostRuntime) -> Result<(), Fail> {
+    let alloc = rt.alloc();
+    let mut nodes = kept(alloc);
+    let front = name_of_block(FRONT);
+    nodes.take(front, FRONT.to_vec(alloc)?)?;
+    let fronts = name_of_block(FRONTS);
+    nodes.take(fronts, FRONTS.to_vec(alloc)?)?;
+    is_refused_for_its_front(alloc, &nodes, &front, b"a")?;
+    is_refused_for_its_front(alloc, &nodes, &fronts, b"c")?;
+    let found = find_record(alloc, &nodes.blocks, &fronts, b"a")?;
+    agree(found, None)?;
+    let found = find_record(alloc, &nodes.blocks, &fronts, b"b")?;
+    agree(found, Some(name_of_block(b"x")))
+}
+
+fn is_refused_for_its_front(
+    alloc: Global,
+    nodes: &Kept,
+    root: &Cid,
+    key: &[u8],
+) -> Result<(), Fail> {
+    match find_record(alloc, &nodes.blocks, root, key) {
+        Err(MstError::KeyFront) => {}
+        _ => return Err(Fail::from("a front was not told")),
+    }
+    match record_way(alloc, &nodes.blocks, root, key) {
+        Err(MstError::KeyFront) => Ok(()),
+        _ => Err(Fail::from("a front on the way was not told")),
+    }
+}
+
+#[test]
+fn the_layers_are_counted(rt: HostRuntime) -> Result<(), Fail> {
+    let alloc = rt.alloc();
+    let mut nodes = kept(alloc);
+    let lowest = name_of_block(LOWEST);
+    nodes.take(lowest, LOWEST.to_vec(alloc)?)?;
+    let mut name = lowest;
+    for row in CHAINS {
+        while nodes.blocks.len() < row.0 {
+            let mut block = ABOVE.to_vec(alloc)?;
+            block.extend_from_slice(name.digest())?;
+            name = name_of_block(&block);
+            nodes.take(name, block)?;
+        }
+        agree(is_named(&name, row.1), true)?;
+        match find_record(alloc, &nodes.blocks, &name, b"a") {
+            Ok(found) => {
+                agree(row.0, 129)?;
+                agree(found, None)?;
+            }
+            Err(MstError::TooDeep(deepest)) => {
+                agree(row.0, 130)?;
+                agree(deepest, lowest)?;
+            }
+            Err(_) => return Err(Fail::from("another refusal")),
+        }
+    }
+    Ok(())
+}

@@ -1,5 +1,5 @@
 -- The entries of a stored tree, and why it is refused.
-use Rattle.std.proofs.Common.{◌≡◌, ◌⊎◌, inl, inr, ℕ, zero, suc, List, [], ◌∷◌, ◌++◌, sym, ap, ◌∙◌, subst, arith, Option, Some, None}
+use Rattle.std.proofs.Common.{◌≡◌, ◌⊎◌, inl, inr, ℕ, zero, suc, List, [], ◌∷◌, ◌++◌, refl, sym, ap, ◌∙◌, subst, arith, Option, Some, None}
 use Rattle.std.proofs.lemmas.List.{length-map}
 use Rattle.std.specs.List.{AllByRecursion}
 use Rattle.ipld_tree.specs.Cid.{CidParts, AreCidParts}
@@ -9,15 +9,15 @@ use Rattle.atproto_mst.specs.Trees.{root_of, nodes_of}
 use Rattle.atproto_mst.specs.Entries.{entry_of, entries, AreStored, IsMst}
 use Rattle.atproto_mst.specs.Nodes.{NodeRow, IsCidIfAny, key_of}
 use Rattle.atproto_mst.specs.Walks.{WalksLink, WalksRows, Walks, most_layers}
-use Rattle.atproto_mst.specs.Stops.{StopsBehind, StopsInRows, Stops, MstRefused, last_key}
-use Rattle.atproto_mst.specs.Gathering.{AreInOrder, Gathers}
+use Rattle.atproto_mst.specs.Stops.{ComeBehind, StopsBehind, StopsInRows, Stops, MstRefused, OneReason, last_key}
+use Rattle.atproto_mst.specs.Gathering.{Gathers}
 use Rattle.atproto_mst.specs.declared.entries.MstEntry.{MstEntry}
 use Rattle.atproto_mst.specs.declared.error.MstError.{MstError}
 use Rattle.atproto_mst.specs.declared.error.MstError.TheVariants as error
 use Rattle.atproto_mst.proofs.Agreeing.{one_walk}
 use Rattle.atproto_mst.proofs.Gathering.{Found}
-use Rattle.atproto_mst.proofs.Rising.{none_before}
-use Rattle.atproto_mst.proofs.Stopping.{stops_never_walks}
+use Rattle.atproto_mst.proofs.Rising.{all_behind}
+use Rattle.atproto_mst.proofs.Stopping.{stops_never_walks, one_fault}
 
 -- ---- the values of what is walked are CIDs
 
@@ -57,15 +57,15 @@ no_other_in_rows : (W : CidParts → List Entry → Type 0) (S : List ℕ → Ci
     → (rows : List NodeRow) (before previous : List ℕ) → StopsInRows W S before previous rows error.OtherTree → ⊥
 no_other_in_rows W S never [] before previous h = absurd h
 no_other_in_rows W S never (r ∷ rs) before previous (inl fault) = absurd fault
-no_other_in_rows W S never (r ∷ rs) before previous (inr (shares, inl stop)) = no_other_behind S never (key_of previous r) r.after stop
-no_other_in_rows W S never (r ∷ rs) before previous (inr (shares, inr (below, link, stop))) =
+no_other_in_rows W S never (r ∷ rs) before previous (inr (row, inl stop)) = no_other_behind S never (key_of previous r) r.after stop
+no_other_in_rows W S never (r ∷ rs) before previous (inr (row, inr (below, link, behind, stop))) =
     no_other_in_rows W S never rs (last_key (key_of previous r) below) (key_of previous r) stop
 
 no_other : (stored : Stored) (m : ℕ) → NoOther (Stops m stored)
 no_other stored zero before name h = absurd (cc h)
 no_other stored (suc m) before name (inl fault) = absurd fault
 no_other stored (suc m) before name (inr (p, at, inl stop)) = no_other_behind (Stops m stored) (no_other stored m) before p.left stop
-no_other stored (suc m) before name (inr (p, at, inr (below, link, stop))) =
+no_other stored (suc m) before name (inr (p, at, inr (below, link, behind, stop))) =
     no_other_in_rows (Walks m stored) (Stops m stored) (no_other stored m) p.rows (last_key before below) [] stop
 
 refused_by_stop : (stored : Stored) (root : CidParts) (e : MstError) → Stops most_layers stored [] root e → MstRefused stored root e
@@ -84,17 +84,20 @@ module _ (stored : Stored) (root : CidParts) (first : Found) (empty : first.item
       → (es : List Entry) → IsMst stored root es → Walks most_layers stored root es → e ≡ error.OutOfMemory
   stops_for_memory e (inl m) es h w = m
   stops_for_memory e (inr s) es h w = absurd (stops_never_walks stored most_layers [] root e es
-      (subst (λ fs. Stops most_layers stored (last_key [] (entries fs)) root e) empty s) w h.valid.keys h.valid.rise (none_before es h.valid.keys))
+      (subst (λ fs. Stops most_layers stored (last_key [] (entries fs)) root e) empty s) w (all_behind es h.valid.keys h.valid.rise))
 
   module _ (found : Found) (g : Gathers (Walks most_layers stored root) first found) where
+    found_is : entries found.items ≡ g.found
+    found_is = g.all ∙ ap (λ es. entries es ++ g.found) empty
+
     walks_found : Walks most_layers stored root (entries found.items)
-    walks_found = subst (Walks most_layers stored root) (sym (g.all ∙ ap (λ es. entries es ++ g.found) empty)) g.walked
+    walks_found = subst (Walks most_layers stored root) (sym found_is) g.walked
 
     are_entries : AreEntries (entries found.items)
     are_entries =
-        let order = g.in_order (subst (λ es. AreInOrder (entries es)) (sym empty) (tt, tt)) in record {
-          keys = order.0;
-          rise = order.1;
+        let order = subst (ComeBehind []) (sym found_is) (subst (λ es. ComeBehind (last_key [] (entries es)) g.found) empty g.behind) in record {
+          keys = order.keys;
+          rise = order.rise;
           values = walk_cids stored most_layers root (entries found.items) walks_found;
           count = omega (arith, found.ok.0, found.ok.1, found.small, length-map found.items entry_of);
         }
@@ -127,3 +130,17 @@ module _ (stored : Stored) (root : CidParts) (first : Found) (empty : first.item
     compares_for_memory all same e (inr (o, other)) es h w =
         let is : es ≡ entries all = sym (found_all es w) ∙ ap entries (sym same) in
         absurd (other (h.root_is ∙ ap root_of is) (subst (λ x. AreStored stored (nodes_of x)) is h.all))
+
+-- ---- there is one reason, beside memory
+
+walked_or_stopped : (stored : Stored) (root : CidParts) (e : MstError) → Stops most_layers stored [] root e → MstRefused stored root error.OtherTree → ⊥
+walked_or_stopped stored root e s (es, w, valid, other) = stops_never_walks stored most_layers [] root e es s w (all_behind es valid.keys valid.rise)
+
+pub one_reason : OneReason
+one_reason stored root error.OutOfMemory f h k = inl refl
+one_reason stored root error.OtherTree error.OutOfMemory h k = inr (inl refl)
+one_reason stored root error.OtherTree error.OtherTree h k = inr (inr refl)
+one_reason stored root error.OtherTree f h k = absurd (walked_or_stopped stored root f k h)
+one_reason stored root e error.OutOfMemory h k = inr (inl refl)
+one_reason stored root e error.OtherTree h k = absurd (walked_or_stopped stored root e h k)
+one_reason stored root e f h k = inr (inr (one_fault stored most_layers [] root e f h k))

@@ -13,12 +13,12 @@ use Rattle.dagcbor_car.specs.Car.{Section}
 use Rattle.atproto_mst.specs.Trees.{Leaf, lower_run, row_tree, entry_tree, entry_trees, map_of, node_section, subtree, node, subtree_nodes, nodes, nodes_between}
 use Rattle.atproto_mst.specs.Nodes.{tree_of_row, row_told}
 use Rattle.atproto_mst.specs.Placed.{told, all_told, upper_rest}
-use Rattle.atproto_mst.specs.Sinks.{Takes, RefusesOne}
+use Rattle.atproto_mst.specs.Sinks.{Takes, TakesFirst, RefusesOne}
 use Rattle.atproto_mst.specs.declared.error.MstError.{MstError}
 use Rattle.atproto_mst.specs.declared.leaves.Placed.{Placed}
 use Rattle.atproto_mst.specs.declared.rows.Row.{Row}
 use Rattle.atproto_mst.proofs.Runs.{lower_taken, upper_dropped, upper_tops, entries_skip, nodes_skip, entries_next, nodes_next}
-use Rattle.atproto_mst.proofs.Handing.{takes_none, takes_then, refuses_within}
+use Rattle.atproto_mst.proofs.Handing.{takes_none, takes_then, refuses_within, first_within}
 
 pub on_ok_more : {T E P Q : Type 0} (r : Result T E) → (P → Q) → OnOk r P → OnOk r Q
 on_ok_more (Ok x) f h = f h
@@ -101,6 +101,25 @@ pub left_refused : {S W : Type 0} (holds : S → W → List Section → Type 0) 
 left_refused holds refuses old n es lower e l h =
     refuses_within holds refuses old old [] (subtree_nodes n lower) (nodes_between (subtree_nodes n) n (upper_rest n es) ++ (node_section (node n es) ∷ [])) (nodes n es) e
     (takes_none holds old) (nodes_are n es lower (upper_rest n es) (node n es) l refl refl) h
+
+pub left_begun : {S W : Type 0} (holds : S → W → List Section → Type 0) (old new : S) (n : ℕ) (es lower : List Leaf) → lower ≡ lower_run n es
+    → TakesFirst holds old (subtree_nodes n lower) new → TakesFirst holds old (nodes n es) new
+left_begun holds old new n es lower l h =
+    first_within holds old old new [] (subtree_nodes n lower) (nodes_between (subtree_nodes n) n (upper_rest n es) ++ (node_section (node n es) ∷ [])) (nodes n es)
+    (takes_none holds old) (nodes_are n es lower (upper_rest n es) (node n es) l refl refl) h
+
+pub rows_begun : {S W : Type 0} (holds : S → W → List Section → Type 0) (old mid new : S) (n : ℕ) (es lower rest : List Leaf) → lower ≡ lower_run n es → rest ≡ upper_rest n es
+    → Takes holds old (subtree_nodes n lower) mid → TakesFirst holds mid (nodes_between (subtree_nodes n) n rest) new → TakesFirst holds old (nodes n es) new
+rows_begun holds old mid new n es lower rest l r k h =
+    first_within holds old mid new (subtree_nodes n lower) (nodes_between (subtree_nodes n) n rest) (node_section (node n es) ∷ []) (nodes n es)
+    k (nodes_are n es lower rest (node n es) l r refl) h
+
+pub last_begun : {S W : Type 0} (holds : S → W → List Section → Type 0) (old mid late new : S) (n : ℕ) (es lower rest : List Leaf) (t : Tree) → lower ≡ lower_run n es → rest ≡ upper_rest n es → t ≡ node n es
+    → Takes holds old (subtree_nodes n lower) mid → Takes holds mid (nodes_between (subtree_nodes n) n rest) late → TakesFirst holds late (node_section t ∷ []) new → TakesFirst holds old (nodes n es) new
+last_begun holds old mid late new n es lower rest t l r s k m h =
+    first_within holds old late new (subtree_nodes n lower ++ nodes_between (subtree_nodes n) n rest) (node_section t ∷ []) [] (nodes n es)
+    (takes_then holds old mid late (subtree_nodes n lower) (nodes_between (subtree_nodes n) n rest) k m)
+    (append_assoc (subtree_nodes n lower) (nodes_between (subtree_nodes n) n rest) (node_section t ∷ []) ∙ nodes_are n es lower rest t l r s) h
 
 pub rows_refused : {S W : Type 0} (holds : S → W → List Section → Type 0) (refuses : W → Section → MstError → Type 0) (old mid : S) (n : ℕ) (es lower rest : List Leaf) (e : MstError) → lower ≡ lower_run n es → rest ≡ upper_rest n es
     → Takes holds old (subtree_nodes n lower) mid → RefusesOne holds refuses mid (nodes_between (subtree_nodes n) n rest) e → RefusesOne holds refuses old (nodes n es) e

@@ -1,11 +1,11 @@
 -- What was handed over, one part behind the other.
-use Rattle.std.proofs.Common.{◌≡◌, List, [], ◌∷◌, ◌++◌, refl, sym, ap, subst, inl, inr}
+use Rattle.std.proofs.Common.{◌≡◌, List, [], ◌∷◌, ◌++◌, refl, sym, ap, ◌∙◌, subst, inl, inr}
 use Rattle.std.proofs.lemmas.List.{append_assoc}
 use Rattle.dagcbor_car.specs.Car.{Section}
 use Rattle.ipld_links.specs.Sets.{Among}
 use Rattle.atproto_mst.specs.declared.error.MstError.{MstError}
 use Rattle.atproto_mst.specs.declared.error.MstError.TheVariants.{OutOfMemory}
-use Rattle.atproto_mst.specs.Sinks.{Takes, RefusesOne}
+use Rattle.atproto_mst.specs.Sinks.{Takes, TakesFirst, RefusesOne}
 
 append_none : (xs : List Section) → xs ++ [] ≡ xs
 append_none [] = refl
@@ -40,3 +40,19 @@ refuses_within holds refuses old mid a b d all e h same k world before x = elim 
 pub wants_memory : {S W : Type 0} (holds : S → W → List Section → Type 0) (refuses : W → Section → MstError → Type 0) (old : S) (all : List Section) (e : MstError)
     → e ≡ OutOfMemory → RefusesOne holds refuses old all e
 wants_memory holds refuses old all e m world before x = inl m
+
+pub first_none : {S W : Type 0} (holds : S → W → List Section → Type 0) (s : S) (all : List Section) → TakesFirst holds s all s
+first_none holds s all = ([], all, refl, takes_none holds s)
+
+pub first_kept : {S W : Type 0} (holds : S → W → List Section → Type 0) (old new : S) (all : List Section) → Takes holds old [] new → TakesFirst holds old all new
+first_kept holds old new all h = ([], all, refl, h)
+
+-- the first of a part, behind another part
+pub first_within : {S W : Type 0} (holds : S → W → List Section → Type 0) (old mid new : S) (a b d all : List Section)
+    → Takes holds old a mid → a ++ (b ++ d) ≡ all → TakesFirst holds mid b new → TakesFirst holds old all new
+first_within holds old mid new a b d all h same k = (
+  a ++ k.0,
+  k.1 ++ d,
+  sym same ∙ ap (λ x. a ++ (x ++ d)) k.2 ∙ ap (λ x. a ++ x) (append_assoc k.0 k.1 d) ∙ sym (append_assoc a k.0 (k.1 ++ d)),
+  takes_then holds old mid new a k.0 h k.3,
+)

@@ -17,9 +17,9 @@ entry_of e = (e.key.items, e.value)
 abbrev pub entries : List MstEntry → List Entry
 entries es = map entry_of es
 
--- why entries are refused
+-- why entries are refused; memory is wanted of good ones alone
 abbrev pub EntriesRefused : MstError → List Entry → Type 0
-EntriesRefused OutOfMemory es = ⊤
+EntriesRefused OutOfMemory es = AreEntries es
 EntriesRefused KeyLength es = ¬ HaveKeys es
 EntriesRefused KeyOrder es = ¬ Rise es
 EntriesRefused _ es = ⊥

@@ -10,6 +10,11 @@ abbrev pub Takes : {S W : Type 0} → (S → W → List Section → Type 0) → 
 Takes {S} {W} holds old taken new = (world : W) (before : List Section) → holds old world before
     → holds new world (before ++ taken)
 
+-- of these the first were handed over, and no others
+abbrev pub TakesFirst : {S W : Type 0} → (S → W → List Section → Type 0) → S → List Section → S → Type 0
+TakesFirst holds old nodes new = (first rest : List Section) × (nodes ≡ first ++ rest)
+    × Takes holds old first new
+
 -- memory was wanted, or one of the nodes was refused, for this
 abbrev pub RefusesOne : {S W : Type 0} → (S → W → List Section → Type 0) → (W → Section → MstError → Type 0)
     → S → List Section → MstError → Type 0

@@ -7,7 +7,7 @@ ghost use Rattle.atproto_mst.specs.Trees.{lower_run, entry_tree, entry_trees, no
 ghost use Rattle.atproto_mst.specs.Trees.{subtree, node, subtree_nodes, nodes, nodes_between};
 ghost use Rattle.atproto_mst.specs.Nodes.{tree_of_row, tree_of_node, row_told, node_told};
 ghost use Rattle.atproto_mst.specs.Placed.{told, all_told};
-ghost use Rattle.atproto_mst.specs.Sinks.{Takes, RefusesOne};
+ghost use Rattle.atproto_mst.specs.Sinks.{Takes, TakesFirst, RefusesOne};
 
 use crate::error::MstError;
 use crate::keys::shared_front;
@@ -32,6 +32,8 @@ fn name_subtree<S: NodeSink>(
         (Takes S.holds sink.old (subtree_nodes layer (all_told leaves.now)) sink.new) }
     ensures refused { IfErr result
         (RefusesOne S.holds S.refuses sink.old (subtree_nodes layer (all_told leaves.now))) }
+    ensures begun { IfErr result
+        (λ _. TakesFirst S.holds sink.old (subtree_nodes layer (all_told leaves.now)) sink.new) }
 {
     if layer == 0 || leaves.is_empty() {
         return Ok(None);
@@ -55,6 +57,8 @@ pub(crate) fn name_node<S: NodeSink>(
         (Takes S.holds sink.old (nodes layer (all_told leaves.now)) sink.new) }
     ensures refused { IfErr result
         (RefusesOne S.holds S.refuses sink.old (nodes layer (all_told leaves.now))) }
+    ensures begun { IfErr result
+        (λ _. TakesFirst S.holds sink.old (nodes layer (all_told leaves.now)) sink.new) }
 {
     let (lower, rest) = split_lower(leaves, layer);
     let left = name_subtree(alloc, lower, layer, sink)?;
@@ -78,6 +82,8 @@ fn name_rows<'a, S: NodeSink>(
         (nodes_between (subtree_nodes layer) layer (all_told leaves.now)) sink.new) }
     ensures refused { IfErr result (RefusesOne S.holds S.refuses sink.old
         (nodes_between (subtree_nodes layer) layer (all_told leaves.now))) }
+    ensures begun { IfErr result (λ _. TakesFirst S.holds sink.old
+        (nodes_between (subtree_nodes layer) layer (all_told leaves.now)) sink.new) }
 {
     let mut rows = Vec::new(alloc);
     let mut previous: &[u8] = &[];
@@ -117,6 +123,8 @@ fn hand_over<S: NodeSink>(alloc: Global, node: &Node<'_>, sink: &mut S) -> Resul
         (tree_of_node (node_told node.now)) ∷ []) sink.new) }
     ensures refused { IfErr result (RefusesOne S.holds S.refuses sink.old (node_section
         (tree_of_node (node_told node.now)) ∷ [])) }
+    ensures begun { IfErr result (λ _. TakesFirst S.holds sink.old (node_section
+        (tree_of_node (node_told node.now)) ∷ []) sink.new) }
 {
     let block = spell_node(alloc, node)?;
     let name = name_of_block(&block);

@@ -20,10 +20,12 @@ pub trait NodeSink {
     /// Whether it may refuse a node for this, by that, but for want of memory.
     ghost refuses: { World → Section → MstError → Type 0 };
 
-    /// Hands it the name and the block of the next node.
+    /// Hands it the name and the block of the next node. One that it refuses changes nothing of
+    /// what it holds.
     fn take(&mut self, name: Cid, block: Vec<u8>) -> Result<(), MstError>
         ensures taken { OnOk result
             (Takes holds self.old ((name, block.items) ∷ []) self.new) }
         ensures refused { IfErr result
-            (RefusesOne holds refuses self.old ((name, block.items) ∷ [])) };
+            (RefusesOne holds refuses self.old ((name, block.items) ∷ [])) }
+        ensures kept { IfErr result (λ _. Takes holds self.old [] self.new) };
 }

@@ -4,7 +4,7 @@ ghost use Rattle.std.specs.Prelude.{◌≡◌, ◌⊎◌, ⊤, MatchResult, IfOk
 ghost use Rattle.atproto_mst.specs.Keys.{AreEntries};
 ghost use Rattle.atproto_mst.specs.Trees.{root_of, nodes_of};
 ghost use Rattle.atproto_mst.specs.Entries.{entries, EntriesRefused};
-ghost use Rattle.atproto_mst.specs.Sinks.{Takes, RefusesOne};
+ghost use Rattle.atproto_mst.specs.Sinks.{Takes, TakesFirst, RefusesOne};
 
 use crate::build::name_node;
 use crate::entries::{MstEntry, check_entries, place, top_of};
@@ -14,7 +14,8 @@ use ipld_tree::Cid;
 use std::alloc::Global;
 
 /// Hands over the nodes of the tree of these entries, each once and behind those below it, and
-/// answers the name of the root, which is the last. Where entries are refused none is handed over.
+/// answers the name of the root, which is the last. Where entries are refused none is handed over;
+/// where memory is wanted or a node refused, the first of them were, and no others.
 pub fn write_mst<S: NodeSink>(
     alloc: Global,
     all: &[MstEntry],
@@ -27,8 +28,10 @@ pub fn write_mst<S: NodeSink>(
         (nodes_of (entries all.now)) sink.new) }
     ensures refused { IfErr result
         (λ e. (EntriesRefused e (entries all.now) × (sink.new ≡ sink.old))
-        ⊎ RefusesOne S.holds S.refuses sink.old
-        (nodes_of (entries all.now)) e) }
+        ⊎ (AreEntries (entries all.now) × RefusesOne S.holds S.refuses sink.old
+        (nodes_of (entries all.now)) e)) }
+    ensures begun { IfErr result (λ _. TakesFirst S.holds sink.old
+        (nodes_of (entries all.now)) sink.new) }
 {
     check_entries(all)?;
     let leaves = place(alloc, all)?;

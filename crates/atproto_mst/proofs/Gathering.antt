@@ -1,19 +1,22 @@
 -- What is gathered, and where a walk stops, part by part.
-use Rattle.std.proofs.Common.{◌≡◌, ◌⊎◌, inl, inr, ℕ, suc, ◌+◌, ◌<◌, ◌≤◌, add-one, get_or, length, drop, drop-cons, map, List, [], ◌∷◌, ◌++◌, append_assoc, append-nil, refl, sym, ap, ◌∙◌, subst, Vec}
+use Rattle.std.proofs.Common.{◌≡◌, ◌⊎◌, inl, inr, ℕ, suc, ◌+◌, ◌<◌, ◌≤◌, add-one, get_or, length, drop, drop-cons, map, List, [], ◌∷◌, ◌++◌, append_assoc, append-nil, refl, sym, ap, ◌∙◌, subst, Option, None, Vec}
 use Rattle.std.proofs.lemmas.List.{drop_all}
 use Rattle.std.specs.declared.alloc.Global.{Global}
+use Rattle.std.specs.declared.cmp.Ordering.TheVariants.{Less}
+use Rattle.std.specs.Ordering.{nat_cmp}
+use Rattle.std.specs.Cmp.Lexicographic.{slice_cmp}
 use Rattle.ipld_tree.specs.Cid.{CidParts}
 use Rattle.ipld_links.specs.Reaching.{Stored}
-use Rattle.atproto_mst.specs.Keys.{Entry}
+use Rattle.atproto_mst.specs.Keys.{Entry, IsKey}
 use Rattle.atproto_mst.specs.Entries.{entries}
 use Rattle.atproto_mst.specs.Nodes.{NodeRow, NodeParts, IsNodeAt, key_of, row_told}
 use Rattle.atproto_mst.specs.Walks.{WalksLink, WalksRows, Walks}
-use Rattle.atproto_mst.specs.Stops.{NodeFault, RowFault, last_key, StopsBehind, StopsInRows, Stops}
-use Rattle.atproto_mst.specs.Gathering.{AreInOrder, Gathers, AddsRow}
+use Rattle.atproto_mst.specs.Stops.{NodeFault, RowFault, IsRow, ComeBehind, last_key, StopsBehind, StopsInRows, Stops}
+use Rattle.atproto_mst.specs.Gathering.{Gathers, AddsRow}
 use Rattle.atproto_mst.specs.declared.entries.MstEntry.{MstEntry}
 use Rattle.atproto_mst.specs.declared.error.MstError.{MstError}
 use Rattle.atproto_mst.specs.declared.rows.Row.{Row}
-use Rattle.atproto_mst.proofs.Rising.{keys_more, rise_more, last_joined}
+use Rattle.atproto_mst.proofs.Rising.{first_behind, joined_behind, last_joined}
 
 abbrev pub Found : Type 0
 Found = Vec MstEntry Global
@@ -24,20 +27,26 @@ or_more f (inr b) = inr (f b)
 
 -- ---- a row
 
-row_in_order : (r : NodeRow) (previous key : List ℕ) (old new : Found) → AddsRow r previous old key new → AreInOrder (entries old.items) → AreInOrder (entries new.items)
-row_in_order r previous key old new a h =
-    subst AreInOrder (sym a.all) (keys_more (entries old.items) (key, r.value) h.0 a.is_key, rise_more [] (entries old.items) (key, r.value) h.1 a.behind)
+last_of_row : (r : NodeRow) (previous key : List ℕ) (old new : Found) → AddsRow r previous old key new → last_key [] (entries new.items) ≡ key
+last_of_row r previous key old new a = ap (last_key []) a.all ∙ last_joined [] (entries old.items) ((key, r.value) ∷ [])
 
-last_of_row : (r : NodeRow) (previous key : List ℕ) (old new : Found) → AddsRow r previous old key new → last_key [] (entries new.items) ≡ key_of previous r
-last_of_row r previous key old new a = ap (last_key []) a.all ∙ last_joined [] (entries old.items) ((key, r.value) ∷ []) ∙ a.is
+is_row : (r : NodeRow) (previous key : List ℕ) (old new : Found) → AddsRow r previous old key new → IsRow previous (last_key [] (entries old.items)) r
+is_row r previous key old new a = record {
+  shares = a.shares;
+  is_key = subst IsKey a.is a.is_key;
+  behind = subst (λ k. slice_cmp nat_cmp (last_key [] (entries old.items)) k ≡ Less) a.is a.behind;
+}
 
 last_of_gathered : (W : List Entry → Type 0) (old new : Found) (g : Gathers W old new) → last_key [] (entries new.items) ≡ last_key (last_key [] (entries old.items)) g.found
 last_of_gathered W old new g = ap (last_key []) g.all ∙ last_joined [] (entries old.items) g.found
 
 -- ---- rows
 
-pub gathers_none : (W : List Entry → Type 0) (v : Found) → W [] → Gathers W v v
-gathers_none W v h = record { found = []; walked = h; all = sym (append-nil (entries v.items)); in_order = λ h. h }
+gathers_none : (W : List Entry → Type 0) (v : Found) → W [] → Gathers W v v
+gathers_none W v h = record { found = []; walked = h; behind = record { keys = tt; rise = tt; behind = tt }; all = sym (append-nil (entries v.items)) }
+
+pub gathers_no_link : (W : CidParts → List Entry → Type 0) (l : Option CidParts) → l ≡ None → (v : Found) → Gathers (WalksLink W l) v v
+gathers_no_link W l h v = subst (λ x. Gathers (WalksLink W x) v v) (sym h) (gathers_none (WalksLink W None) v refl)
 
 in_row : (a : List Entry) (e : Entry) (b c : List Entry) → ((a ++ (e ∷ [])) ++ b) ++ c ≡ a ++ (e ∷ (b ++ c))
 in_row a e b c = simp append_assoc
@@ -47,8 +56,12 @@ gathers_row : (W : CidParts → List Entry → Type 0) (r : NodeRow) (rs : List 
 gathers_row W r rs previous key old mid late new a g h = record {
   found = (key, r.value) ∷ (g.found ++ h.found);
   walked = (a.shares, (g.found, h.found, g.walked, subst (λ k. WalksRows W k rs h.found) a.is h.walked, ap (λ k. (k, r.value) ∷ (g.found ++ h.found)) a.is));
+  behind =
+      let row = last_of_row r previous key old mid a in
+      let below = last_of_gathered (WalksLink W r.after) mid late g ∙ ap (λ k. last_key k g.found) row in
+      first_behind (last_key [] (entries old.items)) (key, r.value) (g.found ++ h.found) a.is_key a.behind
+      (joined_behind key g.found h.found (subst (λ k. ComeBehind k g.found) row g.behind) (subst (λ k. ComeBehind k h.found) below h.behind));
   all = h.all ∙ ap (λ x. x ++ h.found) (g.all ∙ ap (λ x. x ++ g.found) a.all) ∙ in_row (entries old.items) (key, r.value) g.found h.found;
-  in_order = λ k. h.in_order (g.in_order (row_in_order r previous key old mid a k));
 }
 
 -- From these rows on it goes as it does from the first: what they walk, and where they stop.
@@ -67,13 +80,14 @@ module _ (W : CidParts → List Entry → Type 0) (S : List ℕ → CidParts →
 
     module _ (key : List ℕ) (mid : Found) (a : AddsRow r previous old key mid) where
       pub stops_behind_row : (e : MstError) → StopsBehind S (last_key [] (entries mid.items)) r.after e → StopsInRows W S (last_key [] (entries first.items)) [] all e
-      stops_behind_row e h = go.stops e (inr (a.shares, inl (subst (λ k. StopsBehind S k r.after e) (last_of_row r previous key old mid a) h)))
+      stops_behind_row e h = go.stops e (inr (is_row r previous key old mid a, inl (subst (λ k. StopsBehind S k r.after e) (last_of_row r previous key old mid a ∙ a.is) h)))
 
       stops_later : (late : Found) → Gathers (WalksLink W r.after) mid late → (e : MstError) → StopsInRows W S (last_key [] (entries late.items)) key rs e
           → StopsInRows W S (last_key [] (entries old.items)) previous (r ∷ rs) e
       stops_later late g e h =
-          let behind = last_of_gathered (WalksLink W r.after) mid late g ∙ ap (λ k. last_key k g.found) (last_of_row r previous key old mid a) in
-          inr (a.shares, inr (g.found, g.walked, subst (λ k. StopsInRows W S (last_key (key_of previous r) g.found) k rs e) a.is (subst (λ k. StopsInRows W S k key rs e) behind h)))
+          let row = last_of_row r previous key old mid a ∙ a.is in
+          let behind = last_of_gathered (WalksLink W r.after) mid late g ∙ ap (λ k. last_key k g.found) row in
+          inr (is_row r previous key old mid a, inr (g.found, g.walked, subst (λ k. ComeBehind k g.found) row g.behind, subst (λ k. StopsInRows W S (last_key (key_of previous r) g.found) k rs e) a.is (subst (λ k. StopsInRows W S k key rs e) behind h)))
 
       pub goes_behind_row : (late : Found) → Gathers (WalksLink W r.after) mid late → GoesOn W S first all late key rs
       goes_behind_row late g = record {
@@ -98,14 +112,15 @@ module _ (stored : Stored) (name : CidParts) (m : ℕ) (p : NodeParts) (at : IsN
   gathers_node layers e new h = subst (λ k. Gathers (Walks k stored name) old new) e (record {
     found = g.found ++ h.found;
     walked = (p, at, (g.found, h.found, g.walked, h.walked, refl));
+    behind = joined_behind (last_key [] (entries old.items)) g.found h.found g.behind
+        (subst (λ k. ComeBehind k h.found) (last_of_gathered (WalksLink (Walks m stored) p.left) old mid g) h.behind);
     all = h.all ∙ ap (λ x. x ++ h.found) g.all ∙ append_assoc (entries old.items) g.found h.found;
-    in_order = λ k. h.in_order (g.in_order k);
   })
 
   pub stops_in_node : (layers : ℕ) → suc m ≡ layers → (e : MstError) → StopsInRows (Walks m stored) (Stops m stored) (last_key [] (entries mid.items)) [] p.rows e
       → Stops layers stored (last_key [] (entries old.items)) name e
   stops_in_node layers same e h = subst (λ k. Stops k stored (last_key [] (entries old.items)) name e) same
-      (inr (p, at, inr (g.found, g.walked, subst (λ k. StopsInRows (Walks m stored) (Stops m stored) k [] p.rows e) (last_of_gathered (WalksLink (Walks m stored) p.left) old mid g) h)))
+      (inr (p, at, inr (g.found, g.walked, g.behind, subst (λ k. StopsInRows (Walks m stored) (Stops m stored) k [] p.rows e) (last_of_gathered (WalksLink (Walks m stored) p.left) old mid g) h)))
 
 pub stops_before_node : (stored : Stored) (name : CidParts) (m : ℕ) (p : NodeParts) → IsNodeAt stored name p → (layers : ℕ) → suc m ≡ layers → (before : List ℕ) (e : MstError)
     → StopsBehind (Stops m stored) before p.left e → Stops layers stored before name e

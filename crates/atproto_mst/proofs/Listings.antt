@@ -1,51 +1,48 @@
 -- The entries of a stored tree, and why it is refused.
-use Rattle.std.proofs.Common.{◌≡◌, ◌⊎◌, inl, inr, ℕ, zero, suc, List, [], ◌∷◌, ◌++◌, sym, ap, ◌∙◌, subst, arith, Option, Some, None}
+use Rattle.std.proofs.Common.{◌≡◌, ◌⊎◌, inl, inr, ℕ, zero, suc, List, [], ◌∷◌, ◌++◌, refl, sym, ap, ◌∙◌, subst, arith, Option, Some, None}
 use Rattle.std.proofs.lemmas.List.{length-map}
 use Rattle.std.specs.List.{AllByRecursion}
 use Rattle.ipld_tree.specs.Cid.{CidParts, AreCidParts}
 use Rattle.ipld_links.specs.Reaching.{Stored}
-use Rattle.atproto_mst.specs.Keys.{Entry, AreEntries}
+use Rattle.atproto_mst.specs.Keys.{Entry, HaveCids, AreEntries}
 use Rattle.atproto_mst.specs.Trees.{root_of, nodes_of}
 use Rattle.atproto_mst.specs.Entries.{entry_of, entries, AreStored, IsMst}
 use Rattle.atproto_mst.specs.Nodes.{NodeRow, IsCidIfAny, key_of}
 use Rattle.atproto_mst.specs.Walks.{WalksLink, WalksRows, Walks, most_layers}
-use Rattle.atproto_mst.specs.Stops.{StopsBehind, StopsInRows, Stops, MstRefused, last_key}
-use Rattle.atproto_mst.specs.Gathering.{AreInOrder, Gathers}
+use Rattle.atproto_mst.specs.Stops.{ComeBehind, StopsBehind, StopsInRows, Stops, MstRefused, OneReason, last_key}
+use Rattle.atproto_mst.specs.Gathering.{Gathers}
 use Rattle.atproto_mst.specs.declared.entries.MstEntry.{MstEntry}
 use Rattle.atproto_mst.specs.declared.error.MstError.{MstError}
 use Rattle.atproto_mst.specs.declared.error.MstError.TheVariants as error
 use Rattle.atproto_mst.proofs.Agreeing.{one_walk}
 use Rattle.atproto_mst.proofs.Gathering.{Found}
-use Rattle.atproto_mst.proofs.Rising.{none_before}
-use Rattle.atproto_mst.proofs.Stopping.{stops_never_walks}
+use Rattle.atproto_mst.proofs.Rising.{all_behind}
+use Rattle.atproto_mst.proofs.Stopping.{stops_never_walks, one_fault}
 
--- ---- the values of a walk are CIDs
+-- ---- the values of what is walked are CIDs
 
-abbrev HaveValues : List Entry → Type 0
-HaveValues es = AllByRecursion (λ e. AreCidParts e.1) es
+abbrev GivesCids : (CidParts → List Entry → Type 0) → Type 0
+GivesCids W = (name : CidParts) (es : List Entry) → W name es → HaveCids es
 
-abbrev GivesValues : (CidParts → List Entry → Type 0) → Type 0
-GivesValues W = (name : CidParts) (es : List Entry) → W name es → HaveValues es
+cids_joined : (es fs : List Entry) → HaveCids es → HaveCids fs → HaveCids (es ++ fs)
+cids_joined [] fs h k = k
+cids_joined (e ∷ es) fs h k = (h.0, cids_joined es fs h.1 k)
 
-values_joined : (es fs : List Entry) → HaveValues es → HaveValues fs → HaveValues (es ++ fs)
-values_joined [] fs h k = k
-values_joined (e ∷ es) fs h k = (h.0, values_joined es fs h.1 k)
+cids_behind : (W : CidParts → List Entry → Type 0) → GivesCids W → (l : Option CidParts) (es : List Entry) → WalksLink W l es → HaveCids es
+cids_behind W give None es w = subst HaveCids (sym w) tt
+cids_behind W give (Some name) es w = give name es w
 
-values_behind : (W : CidParts → List Entry → Type 0) → GivesValues W → (l : Option CidParts) (es : List Entry) → WalksLink W l es → HaveValues es
-values_behind W give None es w = subst HaveValues (sym w) tt
-values_behind W give (Some name) es w = give name es w
+cids_of_rows : (W : CidParts → List Entry → Type 0) → GivesCids W → (rows : List NodeRow) → AllByRecursion (λ r. AreCidParts r.value × IsCidIfAny r.after) rows
+    → (previous : List ℕ) (es : List Entry) → WalksRows W previous rows es → HaveCids es
+cids_of_rows W give [] k previous es w = subst HaveCids (sym w) tt
+cids_of_rows W give (r ∷ rs) k previous es (shares, (below, more, link, rows, is)) =
+    subst HaveCids (sym is) (k.0.0, cids_joined below more (cids_behind W give r.after below link) (cids_of_rows W give rs k.1 (key_of previous r) more rows))
 
-values_of_rows : (W : CidParts → List Entry → Type 0) → GivesValues W → (rows : List NodeRow) → AllByRecursion (λ r. AreCidParts r.value × IsCidIfAny r.after) rows
-    → (previous : List ℕ) (es : List Entry) → WalksRows W previous rows es → HaveValues es
-values_of_rows W give [] k previous es w = subst HaveValues (sym w) tt
-values_of_rows W give (r ∷ rs) k previous es (shares, (below, more, link, rows, is)) =
-    subst HaveValues (sym is) (k.0.0, values_joined below more (values_behind W give r.after below link) (values_of_rows W give rs k.1 (key_of previous r) more rows))
-
-pub walk_values : (stored : Stored) (m : ℕ) → GivesValues (Walks m stored)
-walk_values stored zero name es w = absurd w
-walk_values stored (suc m) name es (p, at, (below, more, link, rows, is)) =
-    subst HaveValues (sym is) (values_joined below more (values_behind (Walks m stored) (walk_values stored m) p.left below link)
-    (values_of_rows (Walks m stored) (walk_values stored m) p.rows at.node.rows [] more rows))
+pub walk_cids : (stored : Stored) (m : ℕ) → GivesCids (Walks m stored)
+walk_cids stored zero name es w = absurd w
+walk_cids stored (suc m) name es (p, at, (below, more, link, rows, is)) =
+    subst HaveCids (sym is) (cids_joined below more (cids_behind (Walks m stored) (walk_cids stored m) p.left below link)
+    (cids_of_rows (Walks m stored) (walk_cids stored m) p.rows at.node.rows [] more rows))
 
 -- ---- where a walk stops, the tree is not another
 
@@ -60,15 +57,15 @@ no_other_in_rows : (W : CidParts → List Entry → Type 0) (S : List ℕ → Ci
     → (rows : List NodeRow) (before previous : List ℕ) → StopsInRows W S before previous rows error.OtherTree → ⊥
 no_other_in_rows W S never [] before previous h = absurd h
 no_other_in_rows W S never (r ∷ rs) before previous (inl fault) = absurd fault
-no_other_in_rows W S never (r ∷ rs) before previous (inr (shares, inl stop)) = no_other_behind S never (key_of previous r) r.after stop
-no_other_in_rows W S never (r ∷ rs) before previous (inr (shares, inr (below, link, stop))) =
+no_other_in_rows W S never (r ∷ rs) before previous (inr (row, inl stop)) = no_other_behind S never (key_of previous r) r.after stop
+no_other_in_rows W S never (r ∷ rs) before previous (inr (row, inr (below, link, behind, stop))) =
     no_other_in_rows W S never rs (last_key (key_of previous r) below) (key_of previous r) stop
 
 no_other : (stored : Stored) (m : ℕ) → NoOther (Stops m stored)
 no_other stored zero before name h = absurd (cc h)
 no_other stored (suc m) before name (inl fault) = absurd fault
 no_other stored (suc m) before name (inr (p, at, inl stop)) = no_other_behind (Stops m stored) (no_other stored m) before p.left stop
-no_other stored (suc m) before name (inr (p, at, inr (below, link, stop))) =
+no_other stored (suc m) before name (inr (p, at, inr (below, link, behind, stop))) =
     no_other_in_rows (Walks m stored) (Stops m stored) (no_other stored m) p.rows (last_key before below) [] stop
 
 refused_by_stop : (stored : Stored) (root : CidParts) (e : MstError) → Stops most_layers stored [] root e → MstRefused stored root e
@@ -87,18 +84,21 @@ module _ (stored : Stored) (root : CidParts) (first : Found) (empty : first.item
       → (es : List Entry) → IsMst stored root es → Walks most_layers stored root es → e ≡ error.OutOfMemory
   stops_for_memory e (inl m) es h w = m
   stops_for_memory e (inr s) es h w = absurd (stops_never_walks stored most_layers [] root e es
-      (subst (λ fs. Stops most_layers stored (last_key [] (entries fs)) root e) empty s) w h.valid.keys h.valid.rise (none_before es h.valid.keys))
+      (subst (λ fs. Stops most_layers stored (last_key [] (entries fs)) root e) empty s) w (all_behind es h.valid.keys h.valid.rise))
 
   module _ (found : Found) (g : Gathers (Walks most_layers stored root) first found) where
+    found_is : entries found.items ≡ g.found
+    found_is = g.all ∙ ap (λ es. entries es ++ g.found) empty
+
     walks_found : Walks most_layers stored root (entries found.items)
-    walks_found = subst (Walks most_layers stored root) (sym (g.all ∙ ap (λ es. entries es ++ g.found) empty)) g.walked
+    walks_found = subst (Walks most_layers stored root) (sym found_is) g.walked
 
     are_entries : AreEntries (entries found.items)
     are_entries =
-        let order = g.in_order (subst (λ es. AreInOrder (entries es)) (sym empty) (tt, tt)) in record {
-          keys = order.0;
-          rise = order.1;
-          values = walk_values stored most_layers root (entries found.items) walks_found;
+        let order = subst (ComeBehind []) (sym found_is) (subst (λ es. ComeBehind (last_key [] (entries es)) g.found) empty g.behind) in record {
+          keys = order.keys;
+          rise = order.rise;
+          values = walk_cids stored most_layers root (entries found.items) walks_found;
           count = omega (arith, found.ok.0, found.ok.1, found.small, length-map found.items entry_of);
         }
 
@@ -130,3 +130,17 @@ module _ (stored : Stored) (root : CidParts) (first : Found) (empty : first.item
     compares_for_memory all same e (inr (o, other)) es h w =
         let is : es ≡ entries all = sym (found_all es w) ∙ ap entries (sym same) in
         absurd (other (h.root_is ∙ ap root_of is) (subst (λ x. AreStored stored (nodes_of x)) is h.all))
+
+-- ---- there is one reason, beside memory
+
+walked_or_stopped : (stored : Stored) (root : CidParts) (e : MstError) → Stops most_layers stored [] root e → MstRefused stored root error.OtherTree → ⊥
+walked_or_stopped stored root e s (es, w, valid, other) = stops_never_walks stored most_layers [] root e es s w (all_behind es valid.keys valid.rise)
+
+pub one_reason : OneReason
+one_reason stored root error.OutOfMemory f h k = inl refl
+one_reason stored root error.OtherTree error.OutOfMemory h k = inr (inl refl)
+one_reason stored root error.OtherTree error.OtherTree h k = inr (inr refl)
+one_reason stored root error.OtherTree f h k = absurd (walked_or_stopped stored root f k h)
+one_reason stored root e error.OutOfMemory h k = inr (inl refl)
+one_reason stored root e error.OtherTree h k = absurd (walked_or_stopped stored root e h k)
+one_reason stored root e f h k = inr (inr (one_fault stored most_layers [] root e f h k))

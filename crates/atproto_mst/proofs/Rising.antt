@@ -5,7 +5,7 @@ use Rattle.std.specs.Ordering.{nat_cmp}
 use Rattle.std.specs.Cmp.Lexicographic.{slice_cmp}
 use Rattle.atproto_mst.specs.Keys.{Entry, IsKey, HaveKeys, ComesBefore, Rise}
 use Rattle.atproto_mst.specs.Entries.{entries}
-use Rattle.atproto_mst.specs.Stops.{last_key}
+use Rattle.atproto_mst.specs.Stops.{last_key, ComeBehind}
 use Rattle.atproto_mst.specs.declared.entries.MstEntry.{MstEntry}
 
 pub keys_left : (es fs : List Entry) → HaveKeys (es ++ fs) → HaveKeys es
@@ -15,10 +15,6 @@ keys_left (e ∷ es) fs h = (h.0, keys_left es fs h.1)
 pub keys_right : (es fs : List Entry) → HaveKeys (es ++ fs) → HaveKeys fs
 keys_right [] fs h = h
 keys_right (e ∷ es) fs h = keys_right es fs h.1
-
-pub keys_more : (es : List Entry) (e : Entry) → HaveKeys es → IsKey e.0 → HaveKeys (es ++ (e ∷ []))
-keys_more [] e h k = (k, tt)
-keys_more (f ∷ es) e h k = (h.0, keys_more es e h.1 k)
 
 pub before_left : (key : List ℕ) (es fs : List Entry) → ComesBefore key (es ++ fs) → ComesBefore key es
 before_left key [] fs h = tt
@@ -36,16 +32,38 @@ pub before_right : (key : List ℕ) (es fs : List Entry) → ComesBefore key (es
 before_right key [] fs h r = h
 before_right key (e ∷ es) fs h r = before_right e.0 es fs r.0 r.1
 
+pub behind_left : (before : List ℕ) (es fs : List Entry) → ComeBehind before (es ++ fs) → ComeBehind before es
+behind_left before es fs h = record {
+  keys = keys_left es fs h.keys;
+  rise = rise_left es fs h.rise;
+  behind = before_left before es fs h.behind;
+}
+
+pub behind_right : (before : List ℕ) (es fs : List Entry) → ComeBehind before (es ++ fs) → ComeBehind (last_key before es) fs
+behind_right before es fs h = record {
+  keys = keys_right es fs h.keys;
+  rise = rise_right es fs h.rise;
+  behind = before_right before es fs h.behind h.rise;
+}
+
+pub behind_first : (before : List ℕ) (e : Entry) (es : List Entry) → ComeBehind before (e ∷ es) → ComeBehind e.0 es
+behind_first before e es h = record { keys = h.keys.1; rise = h.rise.1; behind = h.rise.0 }
+
+pub first_behind : (before : List ℕ) (e : Entry) (es : List Entry) → IsKey e.0 → slice_cmp nat_cmp before e.0 ≡ Less → ComeBehind e.0 es → ComeBehind before (e ∷ es)
+first_behind before e es k b h = record { keys = (k, h.keys); rise = (h.behind, h.rise); behind = b }
+
+pub joined_behind : (before : List ℕ) (es fs : List Entry) → ComeBehind before es → ComeBehind (last_key before es) fs → ComeBehind before (es ++ fs)
+joined_behind before [] fs h k = k
+joined_behind before (e ∷ es) fs h k = first_behind before e (es ++ fs) h.keys.0 h.behind (joined_behind e.0 es fs (behind_first before e es h) k)
+
 -- the empty list of bytes comes before each key
-pub none_before : (es : List Entry) → HaveKeys es → ComesBefore [] es
+none_before : (es : List Entry) → HaveKeys es → ComesBefore [] es
 none_before [] h = tt
 none_before (([], value) ∷ es) h = absurd (omega (arith, h.0.0))
 none_before ((b ∷ key, value) ∷ es) h = refl
 
-pub rise_more : (key : List ℕ) (es : List Entry) (e : Entry) → Rise es → slice_cmp nat_cmp (last_key key es) e.0 ≡ Less → Rise (es ++ (e ∷ []))
-rise_more key [] e h b = (tt, tt)
-rise_more key (f ∷ []) e h b = (b, (tt, tt))
-rise_more key (f ∷ (g ∷ es)) e h b = (h.0, rise_more f.0 (g ∷ es) e h.1 b)
+pub all_behind : (es : List Entry) → HaveKeys es → Rise es → ComeBehind [] es
+all_behind es k r = record { keys = k; rise = r; behind = none_before es k }
 
 pub last_joined : (key : List ℕ) (es fs : List Entry) → last_key key (es ++ fs) ≡ last_key (last_key key es) fs
 last_joined key [] fs = refl

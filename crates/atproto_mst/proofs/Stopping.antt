@@ -1,40 +1,17 @@
 -- A walk that stops at a fault reaches no end.
-use Rattle.std.proofs.Common.{◌≡◌, inl, inr, ℕ, zero, suc, ◌≤◌, length, List, [], ◌∷◌, ◌++◌, sym, ap, ◌∙◌, subst, arith, Option, Some, None}
+use Rattle.std.proofs.Common.{◌≡◌, inl, inr, ℕ, zero, suc, ◌≤◌, length, List, [], ◌∷◌, ◌++◌, refl, sym, ap, ◌∙◌, subst, arith, Option, Some, None}
 use Rattle.ipld_tree.specs.Cid.{CidParts}
 use Rattle.ipld_links.specs.Names.{block_name}
 use Rattle.ipld_links.specs.Reaching.{Stored}
-use Rattle.atproto_mst.specs.Keys.{Entry, HaveKeys, ComesBefore, Rise}
+use Rattle.atproto_mst.specs.Keys.{Entry}
 use Rattle.atproto_mst.specs.Nodes.{NodeRow, NodeParts, IsNode, IsNodeAt, key_of}
 use Rattle.atproto_mst.specs.Walks.{WalksLink, WalksRows, WalksNode, Walks}
-use Rattle.atproto_mst.specs.Stops.{NodeFault, RowFault, last_key, StopsBehind, StopsInRows, StopsInNode, Stops}
+use Rattle.atproto_mst.specs.Stops.{NodeFault, RowFault, IsRow, ComeBehind, last_key, StopsBehind, StopsInRows, StopsInNode, Stops}
 use Rattle.atproto_mst.specs.declared.error.MstError.{MstError}
 use Rattle.atproto_mst.specs.declared.error.MstError.TheVariants as error
 use Rattle.atproto_mst.proofs.Nodes.{same_node_at}
 use Rattle.atproto_mst.proofs.Agreeing.{one_walk}
-use Rattle.atproto_mst.proofs.Rising.{keys_left, keys_right, before_left, rise_left, rise_right, before_right}
-
--- entries that are keys and rise, behind this key
-record FollowOn (before : List ℕ) (es : List Entry) : Type 0 where
-  keys : HaveKeys es
-  rise : Rise es
-  behind : ComesBefore before es
-
-follow_left : (before : List ℕ) (es fs : List Entry) → FollowOn before (es ++ fs) → FollowOn before es
-follow_left before es fs h = record {
-  keys = keys_left es fs h.keys;
-  rise = rise_left es fs h.rise;
-  behind = before_left before es fs h.behind;
-}
-
-follow_right : (before : List ℕ) (es fs : List Entry) → FollowOn before (es ++ fs) → FollowOn (last_key before es) fs
-follow_right before es fs h = record {
-  keys = keys_right es fs h.keys;
-  rise = rise_right es fs h.rise;
-  behind = before_right before es fs h.behind h.rise;
-}
-
-follow_first : (before : List ℕ) (e : Entry) (es : List Entry) → FollowOn before (e ∷ es) → FollowOn e.0 es
-follow_first before e es h = record { keys = h.keys.1; rise = h.rise.1; behind = h.rise.0 }
+use Rattle.atproto_mst.proofs.Rising.{behind_left, behind_right, behind_first}
 
 -- ---- faults
 
@@ -49,7 +26,7 @@ no_fault stored name (error.NoNode other) p (o, (b, is, named, not)) k =
 no_fault stored name _ p h k = absurd h
 
 no_row_fault : (previous before : List ℕ) (r : NodeRow) (es : List Entry) (e : MstError) → RowFault previous before r e → r.shared ≤ length previous
-    → FollowOn before ((key_of previous r, r.value) ∷ es) → ⊥
+    → ComeBehind before ((key_of previous r, r.value) ∷ es) → ⊥
 no_row_fault previous before r es error.KeyFront h k f = omega arith
 no_row_fault previous before r es error.KeyLength h k f = h.1 f.keys.0
 no_row_fault previous before r es error.KeyOrder h k f = h.2 f.behind
@@ -61,38 +38,38 @@ abbrev OneListing : (CidParts → List Entry → Type 0) → Type 0
 OneListing W = (name : CidParts) (es fs : List Entry) → W name es → W name fs → es ≡ fs
 
 abbrev NeverWalks : (CidParts → List Entry → Type 0) → (List ℕ → CidParts → MstError → Type 0) → Type 0
-NeverWalks W S = (before : List ℕ) (name : CidParts) (e : MstError) (es : List Entry) → S before name e → W name es → FollowOn before es → ⊥
+NeverWalks W S = (before : List ℕ) (name : CidParts) (e : MstError) (es : List Entry) → S before name e → W name es → ComeBehind before es → ⊥
 
 one_behind : (W : CidParts → List Entry → Type 0) → OneListing W → (l : Option CidParts) (es fs : List Entry) → WalksLink W l es → WalksLink W l fs → es ≡ fs
 one_behind W one None es fs v w = v ∙ sym w
 one_behind W one (Some name) es fs v w = one name es fs v w
 
 never_behind : (W : CidParts → List Entry → Type 0) (S : List ℕ → CidParts → MstError → Type 0) → NeverWalks W S
-    → (before : List ℕ) (l : Option CidParts) (e : MstError) (es : List Entry) → StopsBehind S before l e → WalksLink W l es → FollowOn before es → ⊥
+    → (before : List ℕ) (l : Option CidParts) (e : MstError) (es : List Entry) → StopsBehind S before l e → WalksLink W l es → ComeBehind before es → ⊥
 never_behind W S never before None e es s w f = absurd s
 never_behind W S never before (Some name) e es s w f = never before name e es s w f
 
 never_in_rows : (W : CidParts → List Entry → Type 0) (S : List ℕ → CidParts → MstError → Type 0) → OneListing W → NeverWalks W S
-    → (rows : List NodeRow) (before previous : List ℕ) (e : MstError) (es : List Entry) → StopsInRows W S before previous rows e → WalksRows W previous rows es → FollowOn before es → ⊥
+    → (rows : List NodeRow) (before previous : List ℕ) (e : MstError) (es : List Entry) → StopsInRows W S before previous rows e → WalksRows W previous rows es → ComeBehind before es → ⊥
 never_in_rows W S one never [] before previous e es s w f = absurd s
 never_in_rows W S one never (r ∷ rs) before previous e es (inl fault) (shares, (below, more, link, rows, is)) f =
-    no_row_fault previous before r (below ++ more) e fault shares (subst (FollowOn before) is f)
+    no_row_fault previous before r (below ++ more) e fault shares (subst (ComeBehind before) is f)
 never_in_rows W S one never (r ∷ rs) before previous e es (inr (s, inl stop)) (shares, (below, more, link, rows, is)) f =
     never_behind W S never (key_of previous r) r.after e below stop link
-    (follow_left (key_of previous r) below more (follow_first before (key_of previous r, r.value) (below ++ more) (subst (FollowOn before) is f)))
-never_in_rows W S one never (r ∷ rs) before previous e es (inr (s, inr (other, to, stop))) (shares, (below, more, link, rows, is)) f =
+    (behind_left (key_of previous r) below more (behind_first before (key_of previous r, r.value) (below ++ more) (subst (ComeBehind before) is f)))
+never_in_rows W S one never (r ∷ rs) before previous e es (inr (s, inr (other, to, behind, stop))) (shares, (below, more, link, rows, is)) f =
     never_in_rows W S one never rs (last_key (key_of previous r) below) (key_of previous r) e more
     (subst (λ x. StopsInRows W S (last_key (key_of previous r) x) (key_of previous r) rs e) (one_behind W one r.after other below to link) stop) rows
-    (follow_right (key_of previous r) below more (follow_first before (key_of previous r, r.value) (below ++ more) (subst (FollowOn before) is f)))
+    (behind_right (key_of previous r) below more (behind_first before (key_of previous r, r.value) (below ++ more) (subst (ComeBehind before) is f)))
 
 never_in_node : (W : CidParts → List Entry → Type 0) (S : List ℕ → CidParts → MstError → Type 0) → OneListing W → NeverWalks W S
-    → (p : NodeParts) (before : List ℕ) (e : MstError) (es : List Entry) → StopsInNode W S before p e → WalksNode W p es → FollowOn before es → ⊥
+    → (p : NodeParts) (before : List ℕ) (e : MstError) (es : List Entry) → StopsInNode W S before p e → WalksNode W p es → ComeBehind before es → ⊥
 never_in_node W S one never p before e es (inl stop) (below, more, link, rows, is) f =
-    never_behind W S never before p.left e below stop link (follow_left before below more (subst (FollowOn before) is f))
-never_in_node W S one never p before e es (inr (other, to, stop)) (below, more, link, rows, is) f =
+    never_behind W S never before p.left e below stop link (behind_left before below more (subst (ComeBehind before) is f))
+never_in_node W S one never p before e es (inr (other, to, behind, stop)) (below, more, link, rows, is) f =
     never_in_rows W S one never p.rows (last_key before below) [] e more
     (subst (λ x. StopsInRows W S (last_key before x) [] p.rows e) (one_behind W one p.left other below to link) stop) rows
-    (follow_right before below more (subst (FollowOn before) is f))
+    (behind_right before below more (subst (ComeBehind before) is f))
 
 never : (stored : Stored) (m : ℕ) → NeverWalks (Walks m stored) (Stops m stored)
 never stored zero before name e es s w f = absurd w
@@ -102,5 +79,86 @@ never stored (suc m) before name e es (inr (p, at, s)) (q, is, w) f =
     (subst (λ x. StopsInNode (Walks m stored) (Stops m stored) before x e) (same_node_at stored name p q at is) s) w f
 
 pub stops_never_walks : (stored : Stored) (m : ℕ) (before : List ℕ) (name : CidParts) (e : MstError) (es : List Entry)
-    → Stops m stored before name e → Walks m stored name es → HaveKeys es → Rise es → ComesBefore before es → ⊥
-stops_never_walks stored m before name e es s w k r b = never stored m before name e es s w (record { keys = k; rise = r; behind = b })
+    → Stops m stored before name e → Walks m stored name es → ComeBehind before es → ⊥
+stops_never_walks stored m = never stored m
+
+-- ---- there is one first fault
+
+one_node_fault : (stored : Stored) (name : CidParts) (e f : MstError) → NodeFault stored name e → NodeFault stored name f → e ≡ f
+one_node_fault stored name (error.MissingNode lost) (error.MissingNode other) h k = ap (λ x. error.MissingNode x) (h.0 ∙ sym k.0)
+one_node_fault stored name (error.MissingNode lost) (error.OtherBytes other) h (o, (b, is, not)) = absurd (cc (h.1, is))
+one_node_fault stored name (error.MissingNode lost) (error.NoNode other) h (o, (b, is, named, not)) = absurd (cc (h.1, is))
+one_node_fault stored name (error.MissingNode lost) _ h k = absurd k
+one_node_fault stored name (error.OtherBytes lost) (error.MissingNode other) (o, (b, is, not)) k = absurd (cc (k.1, is))
+one_node_fault stored name (error.OtherBytes lost) (error.OtherBytes other) h k = ap (λ x. error.OtherBytes x) (h.0 ∙ sym k.0)
+one_node_fault stored name (error.OtherBytes lost) (error.NoNode other) (o, (b, is, not)) (p, (c, there, named, no_node)) =
+    let same : c ≡ b = cc (is, there) in
+    absurd (not (named ∙ ap block_name same))
+one_node_fault stored name (error.OtherBytes lost) _ h k = absurd k
+one_node_fault stored name (error.NoNode lost) (error.MissingNode other) (o, (b, is, named, not)) k = absurd (cc (k.1, is))
+one_node_fault stored name (error.NoNode lost) (error.OtherBytes other) (o, (b, is, named, no_node)) (p, (c, there, not)) =
+    let same : b ≡ c = cc (is, there) in
+    absurd (not (named ∙ ap block_name same))
+one_node_fault stored name (error.NoNode lost) (error.NoNode other) h k = ap (λ x. error.NoNode x) (h.0 ∙ sym k.0)
+one_node_fault stored name (error.NoNode lost) _ h k = absurd k
+one_node_fault stored name _ f h k = absurd h
+
+one_row_fault : (previous before : List ℕ) (r : NodeRow) (e f : MstError) → RowFault previous before r e → RowFault previous before r f → e ≡ f
+one_row_fault previous before r error.KeyFront error.KeyFront h k = refl
+one_row_fault previous before r error.KeyFront error.KeyLength h k = absurd (omega (arith, h, k.0))
+one_row_fault previous before r error.KeyFront error.KeyOrder h k = absurd (omega (arith, h, k.0))
+one_row_fault previous before r error.KeyFront _ h k = absurd k
+one_row_fault previous before r error.KeyLength error.KeyFront h k = absurd (omega (arith, k, h.0))
+one_row_fault previous before r error.KeyLength error.KeyLength h k = refl
+one_row_fault previous before r error.KeyLength error.KeyOrder h k = absurd (h.1 k.1)
+one_row_fault previous before r error.KeyLength _ h k = absurd k
+one_row_fault previous before r error.KeyOrder error.KeyFront h k = absurd (omega (arith, k, h.0))
+one_row_fault previous before r error.KeyOrder error.KeyLength h k = absurd (k.1 h.1)
+one_row_fault previous before r error.KeyOrder error.KeyOrder h k = refl
+one_row_fault previous before r error.KeyOrder _ h k = absurd k
+one_row_fault previous before r _ f h k = absurd h
+
+row_or_fault : (previous before : List ℕ) (r : NodeRow) (e : MstError) → RowFault previous before r e → IsRow previous before r → ⊥
+row_or_fault previous before r error.KeyFront h k = omega (arith, h, k.shares)
+row_or_fault previous before r error.KeyLength h k = h.1 k.is_key
+row_or_fault previous before r error.KeyOrder h k = h.2 k.behind
+row_or_fault previous before r _ h k = absurd h
+
+abbrev OneFault : (List ℕ → CidParts → MstError → Type 0) → Type 0
+OneFault S = (before : List ℕ) (name : CidParts) (e f : MstError) → S before name e → S before name f → e ≡ f
+
+module _ (W : CidParts → List Entry → Type 0) (S : List ℕ → CidParts → MstError → Type 0) (listing : OneListing W) (never_walks : NeverWalks W S) (one : OneFault S) where
+  one_fault_behind : (before : List ℕ) (l : Option CidParts) (e f : MstError) → StopsBehind S before l e → StopsBehind S before l f → e ≡ f
+  one_fault_behind before None e f s t = absurd s
+  one_fault_behind before (Some name) e f s t = one before name e f s t
+
+  one_fault_in_rows : (rows : List NodeRow) (before previous : List ℕ) (e f : MstError) → StopsInRows W S before previous rows e → StopsInRows W S before previous rows f → e ≡ f
+  one_fault_in_rows [] before previous e f s t = absurd s
+  one_fault_in_rows (r ∷ rs) before previous e f (inl a) (inl b) = one_row_fault previous before r e f a b
+  one_fault_in_rows (r ∷ rs) before previous e f (inl a) (inr (row, t)) = absurd (row_or_fault previous before r e a row)
+  one_fault_in_rows (r ∷ rs) before previous e f (inr (row, s)) (inl b) = absurd (row_or_fault previous before r f b row)
+  one_fault_in_rows (r ∷ rs) before previous e f (inr (row, inl a)) (inr (k, inl b)) = one_fault_behind (key_of previous r) r.after e f a b
+  one_fault_in_rows (r ∷ rs) before previous e f (inr (row, inl a)) (inr (k, inr (below, link, behind, t))) =
+      absurd (never_behind W S never_walks (key_of previous r) r.after e below a link behind)
+  one_fault_in_rows (r ∷ rs) before previous e f (inr (row, inr (below, link, behind, s))) (inr (k, inl b)) =
+      absurd (never_behind W S never_walks (key_of previous r) r.after f below b link behind)
+  one_fault_in_rows (r ∷ rs) before previous e f (inr (row, inr (below, link, behind, s))) (inr (k, inr (other, to, h, t))) =
+      one_fault_in_rows rs (last_key (key_of previous r) below) (key_of previous r) e f s
+      (subst (λ x. StopsInRows W S (last_key (key_of previous r) x) (key_of previous r) rs f) (one_behind W listing r.after other below to link) t)
+
+  one_fault_in_node : (p : NodeParts) (before : List ℕ) (e f : MstError) → StopsInNode W S before p e → StopsInNode W S before p f → e ≡ f
+  one_fault_in_node p before e f (inl a) (inl b) = one_fault_behind before p.left e f a b
+  one_fault_in_node p before e f (inl a) (inr (below, link, behind, t)) = absurd (never_behind W S never_walks before p.left e below a link behind)
+  one_fault_in_node p before e f (inr (below, link, behind, s)) (inl b) = absurd (never_behind W S never_walks before p.left f below b link behind)
+  one_fault_in_node p before e f (inr (below, link, behind, s)) (inr (other, to, h, t)) =
+      one_fault_in_rows p.rows (last_key before below) [] e f s
+      (subst (λ x. StopsInRows W S (last_key before x) [] p.rows f) (one_behind W listing p.left other below to link) t)
+
+pub one_fault : (stored : Stored) (m : ℕ) → OneFault (Stops m stored)
+one_fault stored zero before name e f s t = s ∙ sym t
+one_fault stored (suc m) before name e f (inl a) (inl b) = one_node_fault stored name e f a b
+one_fault stored (suc m) before name e f (inl a) (inr (p, at, t)) = absurd (no_fault stored name e p a at)
+one_fault stored (suc m) before name e f (inr (p, at, s)) (inl b) = absurd (no_fault stored name f p b at)
+one_fault stored (suc m) before name e f (inr (p, at, s)) (inr (q, is, t)) =
+    one_fault_in_node (Walks m stored) (Stops m stored) (one_walk stored m m) (never stored m) (one_fault stored m) p before e f s
+    (subst (λ x. StopsInNode (Walks m stored) (Stops m stored) before x f) (same_node_at stored name q p is at) t)

@@ -4,22 +4,18 @@ use Rattle.std.specs.declared.alloc.Global.{Global}
 use Rattle.std.specs.declared.cmp.Ordering.TheVariants.{Less}
 use Rattle.std.specs.Ordering.{nat_cmp}
 use Rattle.std.specs.Cmp.Lexicographic.{slice_cmp}
-use Rattle.atproto_mst.specs.Keys.{Entry, IsKey, HaveKeys, Rise}
+use Rattle.atproto_mst.specs.Keys.{Entry, IsKey}
 use Rattle.atproto_mst.specs.Entries.{entries}
 use Rattle.atproto_mst.specs.Nodes.{NodeRow, key_of}
-use Rattle.atproto_mst.specs.Stops.{last_key}
+use Rattle.atproto_mst.specs.Stops.{last_key, ComeBehind}
 use Rattle.atproto_mst.specs.declared.entries.MstEntry.{MstEntry}
 
--- they are keys, and rise
-abbrev pub AreInOrder : List Entry → Type 0
-AreInOrder es = HaveKeys es × Rise es
-
--- entries that are so stand behind those that there were; where those were in order, all are
+-- entries that are so stand behind those that there were, and their keys come behind the last key
 pub record Gathers (W : List Entry → Type 0) (old new : Vec MstEntry Global) : Type 0 where
   pub found : List Entry
   pub walked : W found
+  pub behind : ComeBehind (last_key [] (entries old.items)) found
   pub all : entries new.items ≡ entries old.items ++ found
-  pub in_order : AreInOrder (entries old.items) → AreInOrder (entries new.items)
 
 -- the row's key is made of the one before it, and its entry stands behind those that there were
 pub record AddsRow (r : NodeRow) (previous : List ℕ) (old : Vec MstEntry Global) (key : List ℕ)

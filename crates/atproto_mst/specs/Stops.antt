@@ -6,7 +6,7 @@ use Rattle.std.specs.Cmp.Lexicographic.{slice_cmp}
 use Rattle.ipld_tree.specs.Cid.{CidParts}
 use Rattle.ipld_links.specs.Names.{block_name}
 use Rattle.ipld_links.specs.Reaching.{Stored}
-use Rattle.atproto_mst.specs.Keys.{Entry, IsKey, AreEntries}
+use Rattle.atproto_mst.specs.Keys.{Entry, IsKey, HaveKeys, ComesBefore, Rise, AreEntries}
 use Rattle.atproto_mst.specs.Entries.{IsMst}
 use Rattle.atproto_mst.specs.Nodes.{NodeRow, NodeParts, IsNode, IsNodeAt, key_of}
 use Rattle.atproto_mst.specs.Walks.{WalksLink, Walks, most_layers}
@@ -30,6 +30,18 @@ RowFault previous before r error.KeyOrder = (r.shared ≤ length previous) × Is
     × (slice_cmp nat_cmp before (key_of previous r) ≢ Less)
 RowFault previous before r _ = ⊥
 
+-- nothing is
+pub record IsRow (previous before : List ℕ) (r : NodeRow) : Type 0 where
+  pub shares : r.shared ≤ length previous
+  pub is_key : IsKey (key_of previous r)
+  pub behind : slice_cmp nat_cmp before (key_of previous r) ≡ Less
+
+-- the entries have keys, which rise, and come behind this key
+pub record ComeBehind (before : List ℕ) (es : List Entry) : Type 0 where
+  pub keys : HaveKeys es
+  pub rise : Rise es
+  pub behind : ComesBefore before es
+
 -- the last key of the entries, or this one, where there are none
 abbrev pub last_key : List ℕ → List Entry → List ℕ
 last_key before [] = before
@@ -42,20 +54,20 @@ abbrev pub StopsBehind : (List ℕ → CidParts → MstError → Type 0) → Lis
 StopsBehind S before None e = ⊥
 StopsBehind S before (Some name) e = S before name e
 
--- At a row, or in the tree behind it; or it goes on behind that tree.
+-- At a row; else in the tree behind it; else, behind that tree, at a later row.
 abbrev pub StopsInRows : (CidParts → List Entry → Type 0) → (List ℕ → CidParts → MstError → Type 0)
     → List ℕ → List ℕ → List NodeRow → MstError → Type 0
 StopsInRows W S before previous [] e = ⊥
 StopsInRows W S before previous (r ∷ rs) e = RowFault previous before r e
-    ⊎ ((r.shared ≤ length previous) × (StopsBehind S (key_of previous r) r.after e
-    ⊎ ((below : List Entry) × WalksLink W r.after below
+    ⊎ (IsRow previous before r × (StopsBehind S (key_of previous r) r.after e
+    ⊎ ((below : List Entry) × WalksLink W r.after below × ComeBehind (key_of previous r) below
     × StopsInRows W S (last_key (key_of previous r) below) (key_of previous r) rs e)))
 
--- in the tree before the first key, or behind it
+-- In the tree before the first key; else behind it.
 abbrev pub StopsInNode : (CidParts → List Entry → Type 0) → (List ℕ → CidParts → MstError → Type 0)
     → List ℕ → NodeParts → MstError → Type 0
 StopsInNode W S before p e = StopsBehind S before p.left e
-    ⊎ ((below : List Entry) × WalksLink W p.left below
+    ⊎ ((below : List Entry) × WalksLink W p.left below × ComeBehind before below
     × StopsInRows W S (last_key before below) [] p.rows e)
 
 -- From the root of this name, behind this key, where at most so many nodes stand below each other.
@@ -73,3 +85,8 @@ MstRefused stored root error.OutOfMemory = ⊤
 MstRefused stored root error.OtherTree = (es : List Entry) × Walks most_layers stored root es
     × AreEntries es × ¬ IsMst stored root es
 MstRefused stored root e = Stops most_layers stored [] root e
+
+-- of a tree that is refused there is one reason, beside memory
+abbrev pub OneReason : Type 0
+OneReason = (stored : Stored) (root : CidParts) (e f : MstError) → MstRefused stored root e
+    → MstRefused stored root f → (e ≡ error.OutOfMemory) ⊎ ((f ≡ error.OutOfMemory) ⊎ (e ≡ f))

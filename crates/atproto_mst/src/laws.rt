@@ -1,10 +1,17 @@
 //! Laws of the definitions, each the contract of a function that does nothing.
 
 ghost use Rattle.atproto_mst.specs.Laws.{OneRoot, RootBinds, RecordsBind, WaysDecideRecords, WaysLead};
+ghost use Rattle.atproto_mst.specs.Stops.{OneReason};
 
 /// Equal entries have an equal root.
 pub fn one_root()
     ensures { OneRoot }
+{}
+
+/// A tree that is refused is so for one reason, beside want of memory: the first on the way.
+#[tactic(auto, using(crate::proofs::Listings::one_reason))]
+pub fn one_reason()
+    ensures { OneReason }
 {}
 
 /// A root binds the entries of its tree.

@@ -6,7 +6,7 @@ use Rattle.atproto_mst.specs.Nodes.{row_told, node_told}
 use Rattle.atproto_mst.specs.Walks.{Walks, WalksRows}
 use Rattle.atproto_mst.specs.Stops.{Stops, StopsInRows, last_key}
 use Rattle.atproto_mst.specs.Gathering.{Gathers}
-use Rattle.atproto_mst.proofs.Gathering.{GoesOn, or_more, gathers_node, stops_in_node, stops_before_node, row_next, no_row_left, stops_at_row, stops_behind_row, goes_behind_row, goes_to_end}
+use Rattle.atproto_mst.proofs.Gathering.{GoesOn, or_more, gathers_no_link, gathers_node, stops_in_node, stops_before_node, row_next, no_row_left, stops_at_row, stops_behind_row, goes_behind_row, goes_to_end}
 use Rattle.atproto_mst.proofs.read.+gather.Goals as goal
 
 pub gather-returns-in_err-gather_below-clause-stopped :
@@ -34,6 +34,9 @@ gather-returns-clause-stopped t c =
     c.in_ok-gather_below.ensures.walked c.args.layers layers e
     (subst (λ rows. StopsInRows (Walks c.in-Some.lower (stored_in c.args.blocks.now)) (Stops c.in-Some.lower (stored_in c.args.blocks.now)) (last_key [] (entries c.gather_below.new.found.items)) [] (map row_told rows) e) c.deref.ensures.value h)))
     c.gather_rows.ensures.stopped
+
+pub gather_below-returns-in-None-clause-walked : goal.gather_below-returns-in-None-clause-walked
+gather_below-returns-in-None-clause-walked t c = gathers_no_link (Walks c.args.layers (stored_in c.args.blocks.now)) c.args.link.now c.in-None.is c.args.found.now
 
 pub gather_rows-returns-in_err-add_row-clause-stopped :
     goal.gather_rows-returns-in_err-add_row-clause-stopped

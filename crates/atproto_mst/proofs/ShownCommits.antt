@@ -85,9 +85,12 @@ one_commit b c d p q =
 
 -- a block that shows nothing is no commit of a version of a byte
 pub no_commit : (b : List ℕ) (c : Commit) → HoldsNoValue commit_shape default_steps b → c.version < 2 ^ 8 → ¬ AreSpellingOf (commit_tree c) b
-no_commit b c h small p = h (commit_meaning c) (commit_shown (commit_meaning c), commit_spelled c b p,
-    parts_view (string_bytes c.did) c.version (cid_bytes c.data) (string_bytes c.rev) (option_map cid_bytes c.prev) c.sig.0.items small,
-    parts_need (string_bytes c.did) c.version (cid_bytes c.data) (string_bytes c.rev) (option_map cid_bytes c.prev) c.sig.0.items)
+no_commit b c h small p = h (commit_meaning c) (
+  commit_shown (commit_meaning c),
+  commit_spelled c b p,
+  parts_view (string_bytes c.did) c.version (cid_bytes c.data) (string_bytes c.rev) (option_map cid_bytes c.prev) c.sig.0.items small,
+  parts_need (string_bytes c.did) c.version (cid_bytes c.data) (string_bytes c.rev) (option_map cid_bytes c.prev) c.sig.0.items,
+)
 
 -- a block that shows a commit is its spelling, or no commit's
 pub other_commit : (b s : List ℕ) (c : Commit) → IsWhole commit_shape default_steps b (commit_meaning c) → AreSpellingOf (commit_tree c) s

@@ -13,8 +13,8 @@ use Rattle.atproto_mst.specs.declared.repo_error.RepoError.TheVariants as error
 -- it shows no commit; where one stands first in it, the cause is what stands behind
 abbrev pub UnparsedCommit : List ℕ → RepoError → Type 0
 UnparsedCommit b error.OutOfMemory = ⊤
-UnparsedCommit b (error.NoCommit e) = HoldsNoValue commit_shape default_steps b × (e ≢ unread.OutOfMemory)
-    × OfWhole e × IsForBehind commit_shape default_steps b e
+UnparsedCommit b (error.NoCommit e) = HoldsNoValue commit_shape default_steps b
+    × (e ≢ unread.OutOfMemory) × OfWhole e × IsForBehind commit_shape default_steps b e
 UnparsedCommit b _ = ⊥
 
 -- or it shows one, and has other fields besides

@@ -1,6 +1,7 @@
 //! A repository's commit.
 
-ghost use Rattle.std.specs.Prelude.{◌≡◌, [], ◌∷◌, Some, codes, pos, true, string_bytes, IfOk, MatchResult};
+ghost use Rattle.std.specs.Prelude.{◌≡◌, [], ◌∷◌, Some, codes, pos, true, string_bytes};
+ghost use Rattle.std.specs.Prelude.{IfOk, MatchResult};
 ghost use Rattle.ipld_tree.specs.Cid.{cid_bytes};
 ghost use Rattle.ipld_tree.specs.Tree.{bytes, integer, link, text, entries_tree};
 ghost use Rattle.dagcbor_write.specs.Trees.{field};
@@ -159,7 +160,8 @@ pub(crate) fn read_commit(alloc: Global, block: &[u8]) -> Result<Commit, RepoErr
 /// The commit in the block, where other fields are skipped.
 fn parse_commit(alloc: Global, block: &[u8]) -> Result<Commit, RepoError>
     ensures { MatchResult result
-        (λ commit. IsWhole commit_shape default_steps block.now (⟦<Commit as Shown>⟧.meaning commit))
+        (λ commit. IsWhole commit_shape default_steps block.now
+        (⟦<Commit as Shown>⟧.meaning commit))
         (UnparsedCommit block.now) }
 {
     match from_slice(alloc, block) {

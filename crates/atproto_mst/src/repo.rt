@@ -37,8 +37,8 @@ pub fn read_repo(
     ensures read { IfOk result
         (λ r. IsRepo (stored_in blocks.now) root.now r.commit r.records.items) }
     ensures refused { IfErr result (RepoRefused (stored_in blocks.now) root.now) }
-    ensures whole { (c : Commit) (records : List MstEntry) → IsRepo (stored_in blocks.now) root.now c records
-        → IfErr result (λ e. e ≡ OutOfMemory) }
+    ensures whole { (c : Commit) (records : List MstEntry)
+        → IsRepo (stored_in blocks.now) root.now c records → IfErr result (λ e. e ≡ OutOfMemory) }
 {
     let commit = stored_commit(alloc, blocks, root)?;
     // What is known of a CID comes with its version.

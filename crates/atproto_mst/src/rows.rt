@@ -6,7 +6,8 @@ ghost use Rattle.ipld_tree.specs.Cid.{AreCidParts, cid_bytes};
 ghost use Rattle.ipld_tree.specs.Tree.{bytes, integer, link, entries_tree};
 ghost use Rattle.ipld_tree.specs.Spelling.{IsSpelling};
 ghost use Rattle.dagcbor_write.specs.Trees.{field};
-ghost use Rattle.atproto_mst.specs.Nodes.{NodeParts, IsCidIfAny, IsNode, tree_of_node, row_told, node_told};
+ghost use Rattle.atproto_mst.specs.Nodes.{NodeParts, IsCidIfAny, IsNode, tree_of_node};
+ghost use Rattle.atproto_mst.specs.Nodes.{row_told, node_told};
 ghost use Rattle.atproto_mst.specs.RowShapes.{RowView, row_shape, NodeView, node_shape};
 ghost use Rattle.dagcbor_heads.specs.Reading.{default_steps};
 ghost use Rattle.dagcbor_read.specs.Whole.{IsWhole, HoldsNoValue};
@@ -148,7 +149,8 @@ fn has_cid(link: &Option<Cid>)
 
 /// The same of the CIDs of entries.
 fn have_cids(rows: &[Row<'_>])
-    ensures { AllByRecursion (λ r. AreCidParts r.value × IsCidIfAny r.after) (map row_told rows.now) }
+    ensures { AllByRecursion (λ r. AreCidParts r.value × IsCidIfAny r.after)
+        (map row_told rows.now) }
 {
     for row in rows {
         let _version = row.value.version();
@@ -158,7 +160,8 @@ fn have_cids(rows: &[Row<'_>])
 
 /// The node in the block, where other fields are skipped.
 fn parse_node<'a>(alloc: Global, block: &'a [u8]) -> Result<Option<Node<'a>>, AllocError>
-    ensures { IfOk result (λ found. MatchOption found (HoldsNoValue node_shape default_steps block.now)
+    ensures { IfOk result (λ found. MatchOption found
+        (HoldsNoValue node_shape default_steps block.now)
         (λ node. IsWhole node_shape default_steps block.now (⟦<Node<'a> as Shown>⟧.meaning node))) }
 {
     match from_slice(alloc, block) {

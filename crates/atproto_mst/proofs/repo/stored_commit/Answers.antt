@@ -18,12 +18,18 @@ returns-clause-read c = (
 )
 
 pub returns-then-ne-clause-refused : goal.returns-then-ne-clause-refused
-returns-then-ne-clause-refused c = (c.in-Some.block.now, sym c.in-Some.ensures,
-    λ named. other_name c.name_of_block.result c.args.name.now c.ne.result c.if-ne.true c.ne.ensures (c.name_of_block.ensures ∙ sym named))
+returns-then-ne-clause-refused c = (
+  c.in-Some.block.now,
+  sym c.in-Some.ensures,
+  λ named. other_name c.name_of_block.result c.args.name.now c.ne.result c.if-ne.true c.ne.ensures (c.name_of_block.ensures ∙ sym named),
+)
 
 pub returns-then-ne-clause-whole : goal.returns-then-ne-clause-whole
-returns-then-ne-clause-whole c k s = only_memory (stored_in c.args.blocks.now) c.args.name.now k OtherBytes s (c.in-Some.block.now, sym c.in-Some.ensures,
-    λ named. other_name c.name_of_block.result c.args.name.now c.ne.result c.if-ne.true c.ne.ensures (c.name_of_block.ensures ∙ sym named))
+returns-then-ne-clause-whole c k s = only_memory (stored_in c.args.blocks.now) c.args.name.now k OtherBytes s (
+  c.in-Some.block.now,
+  sym c.in-Some.ensures,
+  λ named. other_name c.name_of_block.result c.args.name.now c.ne.result c.if-ne.true c.ne.ensures (c.name_of_block.ensures ∙ sym named),
+)
 
 pub returns-in_err-commit-clause-refused : goal.returns-in_err-commit-clause-refused
 returns-in_err-commit-clause-refused c =
@@ -35,9 +41,14 @@ pub returns-in_err-commit-clause-whole : goal.returns-in_err-commit-clause-whole
 returns-in_err-commit-clause-whole c = whole_commit (stored_in c.args.blocks.now) c.args.name.now c.from_residual.result (returns-in_err-commit-clause-refused c)
 
 pub returns-then-commit-ne-VERSION-clause-refused : goal.returns-then-commit-ne-VERSION-clause-refused
-returns-then-commit-ne-VERSION-clause-refused c = (c.in-Some.block.now, c.in_ok-commit.commit,
-    (sym c.in-Some.ensures, sym (same_name c.name_of_block.result c.args.name.now c.ne.result c.if-ne.false c.ne.ensures) ∙ c.name_of_block.ensures),
-    c.in_ok-commit.ensures, refl, c.if-commit-ne-VERSION.true)
+returns-then-commit-ne-VERSION-clause-refused c = (
+  c.in-Some.block.now,
+  c.in_ok-commit.commit,
+  (sym c.in-Some.ensures, sym (same_name c.name_of_block.result c.args.name.now c.ne.result c.if-ne.false c.ne.ensures) ∙ c.name_of_block.ensures),
+  c.in_ok-commit.ensures,
+  refl,
+  c.if-commit-ne-VERSION.true,
+)
 
 pub returns-then-commit-ne-VERSION-clause-whole : goal.returns-then-commit-ne-VERSION-clause-whole
 returns-then-commit-ne-VERSION-clause-whole c k s = only_memory (stored_in c.args.blocks.now) c.args.name.now k (OtherVersion c.in_ok-commit.commit.version) s

@@ -6,8 +6,14 @@ use Rattle.atproto_mst.proofs.Naming.{other_name}
 use Rattle.atproto_mst.proofs.stored.node_at.Goals as goal
 
 pub returns-then-ne : goal.returns-then-ne
-returns-then-ne c = inr (refl, (c.in-Some.block.now, sym c.in-Some.ensures,
-    λ named. other_name c.name_of_block.result c.args.name.now c.ne.result c.if-ne.true c.ne.ensures (c.name_of_block.ensures ∙ sym named)))
+returns-then-ne c = inr (
+  refl,
+  (
+    c.in-Some.block.now,
+    sym c.in-Some.ensures,
+    λ named. other_name c.name_of_block.result c.args.name.now c.ne.result c.if-ne.true c.ne.ensures (c.name_of_block.ensures ∙ sym named),
+  ),
+)
 
 pub returns-in-Some-2 : goal.returns-in-Some-2
 returns-in-Some-2 c = record {
@@ -18,6 +24,12 @@ returns-in-Some-2 c = record {
 }
 
 pub returns-in-None : goal.returns-in-None
-returns-in-None c = inr (refl, (c.in-Some.block.now, sym c.in-Some.ensures,
+returns-in-None c = inr (
+  refl,
+  (
+    c.in-Some.block.now,
+    sym c.in-Some.ensures,
     sym (same_name c.name_of_block.result c.args.name.now c.ne.result c.if-ne.false c.ne.ensures) ∙ c.name_of_block.ensures,
-    subst (λ o. MatchOption o ((p : NodeParts) → ¬ IsNode c.in-Some.block.now p) (λ n. IsNode c.in-Some.block.now (node_told n))) c.in-None.is c.in_ok-node.ensures))
+    subst (λ o. MatchOption o ((p : NodeParts) → ¬ IsNode c.in-Some.block.now p) (λ n. IsNode c.in-Some.block.now (node_told n))) c.in-None.is c.in_ok-node.ensures,
+  ),
+)

@@ -85,17 +85,11 @@ const LOWEST: &[u8] = b"\xa2\x61\x65\x80\x61\x6c\xf6";
 /// The front of a node with no key, before the digest of the node below it.
 const ABOVE: &[u8] = b"\xa2\x61\x65\x80\x61\x6c\xd8\x2a\x58\x25\x00\x01\x71\x12\x20";
 
-/// The last of 129 nodes that stand above each other, and of 130.
-const CHAINS: &[(usize, &[u8])] = &[
-    (
-        129,
-        b"bafyreifmf4qubytiiw6o64efy7dpugwdesm7s3euul3sytyojctwx6udw4",
-    ),
-    (
-        130,
-        b"bafyreigy2vjzndb2uklrwtoapieh67j3xrps5atw6mu25l7zoh3bvyb5zu",
-    ),
-];
+/// The last of 129 nodes that stand above each other.
+const OF_129: &[u8] = b"bafyreifmf4qubytiiw6o64efy7dpugwdesm7s3euul3sytyojctwx6udw4";
+
+/// The node above it.
+const OF_130: &[u8] = b"bafyreigy2vjzndb2uklrwtoapieh67j3xrps5atw6mu25l7zoh3bvyb5zu";
 
 fn kept(alloc: Global) -> Kept {
     Kept {
@@ -142,33 +136,51 @@ fn ways_are_told_and_suffice(rt: HostRuntime) -> Result<(), Fail> {
     let root = write_mst(alloc, &all, &mut nodes)?;
     for row in WAYS {
         let record = numbered(alloc, row.0)?;
+        let wanted = if row.1 { Some(record.value) } else { None };
         let names = record_way(alloc, &nodes.blocks, &root, &record.key)?;
-        agree(names.len(), row.2.len())?;
-        for (name, text) in names.iter().zip(row.2.iter()) {
-            agree(is_named(name, *text), true)?;
-        }
-        let mut few = those_of(alloc, &nodes, &names)?;
-        let found = find_record(alloc, &few.blocks, &root, &record.key)?;
-        agree(found, if row.1 { Some(record.value) } else { None })?;
-        each_is_needed(alloc, &mut few, &root, &record.key, &names)?;
+        are_named(&names, row.2)?;
+        they_suffice(alloc, &nodes, &root, &record.key, &names, wanted)?;
+        the_last_is_needed(alloc, &nodes, &root, &record.key, &names)?;
     }
     Ok(())
 }
 
-/// Where the last node is missing, that is told.
-fn each_is_needed(
+/// Over these nodes alone this is found.
+fn they_suffice(
     alloc: Global,
-    few: &mut Kept,
+    nodes: &Kept,
+    root: &Cid,
+    key: &[u8],
+    names: &[Cid],
+    wanted: Option<Cid>,
+) -> Result<(), Fail> {
+    let few = those_of(alloc, nodes, names)?;
+    let found = find_record(alloc, &few.blocks, root, key)?;
+    agree(found, wanted)
+}
+
+fn are_named(names: &[Cid], texts: &[&[u8]]) -> Result<(), Fail> {
+    agree(names.len(), texts.len())?;
+    for (name, text) in names.iter().zip(texts.iter()) {
+        agree(is_named(name, *text), true)?;
+    }
+    Ok(())
+}
+
+/// Where the last node of the way is missing, that is told.
+fn the_last_is_needed(
+    alloc: Global,
+    nodes: &Kept,
     root: &Cid,
     key: &[u8],
     names: &[Cid],
 ) -> Result<(), Fail> {
-    let Some(last) = names.last() else {
+    let Some((last, before)) = names.split_last() else {
         return Err(Fail::from("a way of no node"));
     };
-    let _ = few.blocks.remove(last);
-    match find_record(alloc, &few.blocks, root, key) {
-        Err(MstError::MissingNode(lost)) => agree(lost, *last),
+    let few = those_of(alloc, nodes, before)?;
+    match &find_record(alloc, &few.blocks, root, key) {
+        Err(MstError::MissingNode(lost)) => agree(*lost, *last),
         _ => Err(Fail::from("a lost node was not told")),
     }
 }
@@ -212,25 +224,25 @@ fn the_layers_are_counted(rt: HostRuntime) -> Result<(), Fail> {
     let lowest = name_of_block(LOWEST);
     nodes.take(lowest, LOWEST.to_vec(alloc)?)?;
     let mut name = lowest;
-    for row in CHAINS {
-        while nodes.blocks.len() < row.0 {
-            let mut block = ABOVE.to_vec(alloc)?;
-            block.extend_from_slice(name.digest())?;
-            name = name_of_block(&block);
-            nodes.take(name, block)?;
-        }
-        agree(is_named(&name, row.1), true)?;
-        match find_record(alloc, &nodes.blocks, &name, b"a") {
-            Ok(found) => {
-                agree(row.0, 129)?;
-                agree(found, None)?;
-            }
-            Err(MstError::TooDeep(deepest)) => {
-                agree(row.0, 130)?;
-                agree(deepest, lowest)?;
-            }
-            Err(_) => return Err(Fail::from("another refusal")),
-        }
+    for _layer in 1..129 {
+        name = add_above(alloc, &mut nodes, &name)?;
     }
-    Ok(())
+    agree(is_named(&name, OF_129), true)?;
+    let found = find_record(alloc, &nodes.blocks, &name, b"a")?;
+    agree(found, None)?;
+    name = add_above(alloc, &mut nodes, &name)?;
+    agree(is_named(&name, OF_130), true)?;
+    match &find_record(alloc, &nodes.blocks, &name, b"a") {
+        Err(MstError::TooDeep(deepest)) => agree(*deepest, lowest),
+        _ => Err(Fail::from("a depth was not told")),
+    }
+}
+
+/// The name of a node with no key, above this one.
+fn add_above(alloc: Global, nodes: &mut Kept, below: &Cid) -> Result<Cid, Fail> {
+    let mut block = ABOVE.to_vec(alloc)?;
+    block.extend_from_slice(below.digest())?;
+    let name = name_of_block(&block);
+    nodes.take(name, block)?;
+    Ok(name)
 }

@@ -18,7 +18,8 @@ PAGE = ROOT / "docs" / "PROVED.md"
 # The crates with public calls; the part of the page that has each one's, where that is not under its own name.
 PARTS = {name: f"`{name}`" for name in ["dagcbor_heads", "ipld_tree", "dagcbor_write", "dagcbor_items", "dagcbor_read",
                                         "serde_ipld_dagcbor", "dagcbor_blocks", "dagcbor_store", "ipld_links",
-                                        "dagcbor_car", "dagcbor_schema", "dagcbor_serde", "block_lines", "path_lines"]}
+                                        "dagcbor_car", "dagcbor_schema", "dagcbor_serde", "block_lines", "path_lines",
+                                        "held_lines", "record_lines"]}
 PARTS["dagcbor_ffi"] = "`dagcbor_calls`, `dagcbor_ffi`"
 PARTS |= {name: "CIDs as text, and data as DAG-JSON" for name in ["cid_text", "dag_json"]}
 

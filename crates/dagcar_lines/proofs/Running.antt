@@ -13,7 +13,7 @@ use Rattle.dagcar_lines.specs.declared.command.Command.TheVariants as commands
 
 -- the command of one word whose name begins with this letter
 abbrev by_letter : ℕ → ℕ → Command
-by_letter letter third = if letter == 99 then commands.Check else (if letter == 118 then commands.Verify else (if letter == 108 then commands.List else (if letter == 110 then commands.Name else (if letter == 111 then commands.One else (if letter == 115 then commands.Show else (if letter == 109 then commands.Make else (if third == 104 then commands.Help else commands.Version)))))))
+by_letter letter third = if letter == 99 then commands.Check else (if letter == 118 then commands.Verify else (if letter == 108 then commands.List else (if letter == 110 then commands.Name else (if letter == 111 then commands.One else (if letter == 115 then commands.Show else (if letter == 109 then commands.Make else (if letter == 114 then commands.Records else (if third == 104 then commands.Help else commands.Version))))))))
 
 abbrev first_letter : List (List ℕ) → ℕ
 first_letter words = get_or (get_or words 0 []) 0 0
@@ -28,6 +28,7 @@ IsPlain (commands.Tree name) = ⊥
 IsPlain (commands.At name) = ⊥
 IsPlain (commands.Raw name) = ⊥
 IsPlain (commands.Prove name) = ⊥
+IsPlain commands.Record = ⊥
 IsPlain commands.Summary = ⊥
 IsPlain _ = ⊤
 
@@ -41,12 +42,14 @@ by_name commands.Name p = refl
 by_name commands.One p = refl
 by_name commands.Show p = refl
 by_name commands.Make p = refl
+by_name commands.Records p = refl
 by_name (commands.Get name) p = absurd p
 by_name (commands.Tree name) p = absurd p
 by_name (commands.At name) p = absurd p
 by_name (commands.Raw name) p = absurd p
 by_name (commands.Prove name) p = absurd p
 by_name commands.Summary p = absurd p
+by_name commands.Record p = absurd p
 
 same_name : TextsTellCids → (words : List (List ℕ)) (word other : List ℕ) (n m : CidParts) → IsWordOf words word n → IsWordOf words other m → n ≡ m
 same_name law words word other n m h k = law h.0 n m h.2 (subst (λ t. IsTextOf t m) (ap (λ ws. get_or ws 1 []) (sym k.1 ∙ h.1)) k.2)
@@ -66,6 +69,7 @@ count_of (commands.At name) = 2
 count_of (commands.Prove name) = 2
 count_of (commands.Raw name) = 3
 count_of commands.Summary = 2
+count_of commands.Record = 2
 count_of _ = 1
 
 abbrev letter_of : Command → ℕ
@@ -78,6 +82,7 @@ counted words (commands.At name) h = (ap length h.1, ap first_letter h.1)
 counted words (commands.Prove name) h = (ap length h.1, ap first_letter h.1)
 counted words (commands.Raw name) h = (ap length h.1, ap first_letter h.1)
 counted words commands.Summary h = (ap length h, ap first_letter h)
+counted words commands.Record h = (ap length h.1, ap first_letter h.1)
 counted words c h = (ap length h, ap first_letter h)
 
 -- two commands of one text have as many words and one letter
@@ -98,30 +103,34 @@ same_command law words (commands.At n) (commands.At m) h k = ap commands.At (sam
 same_command law words (commands.Prove n) (commands.Prove m) h k = ap commands.Prove (same_root law words (codes "prove") n m h k)
 same_command law words (commands.Raw n) (commands.Raw m) h k = ap commands.Raw (same_raw law words n m h k)
 same_command law words commands.Summary commands.Summary h k = refl
+same_command law words commands.Record commands.Record h k = refl
 same_command law words (commands.Get n) d h k = absurd (never_both words (commands.Get n) d (λ e f. omega (arith, e, f)) h k)
 same_command law words (commands.Tree n) d h k = absurd (never_both words (commands.Tree n) d (λ e f. omega (arith, e, f)) h k)
 same_command law words (commands.At n) d h k = absurd (never_both words (commands.At n) d (λ e f. omega (arith, e, f)) h k)
 same_command law words (commands.Prove n) d h k = absurd (never_both words (commands.Prove n) d (λ e f. omega (arith, e, f)) h k)
 same_command law words (commands.Raw n) d h k = absurd (never_both words (commands.Raw n) d (λ e f. omega (arith, e, f)) h k)
 same_command law words commands.Summary d h k = absurd (never_both words commands.Summary d (λ e f. omega (arith, e, f)) h k)
+same_command law words commands.Record d h k = absurd (never_both words commands.Record d (λ e f. omega (arith, e, f)) h k)
 same_command law words c (commands.Get m) h k = absurd (never_both words c (commands.Get m) (λ e f. omega (arith, e, f)) h k)
 same_command law words c (commands.Tree m) h k = absurd (never_both words c (commands.Tree m) (λ e f. omega (arith, e, f)) h k)
 same_command law words c (commands.At m) h k = absurd (never_both words c (commands.At m) (λ e f. omega (arith, e, f)) h k)
 same_command law words c (commands.Prove m) h k = absurd (never_both words c (commands.Prove m) (λ e f. omega (arith, e, f)) h k)
 same_command law words c (commands.Raw m) h k = absurd (never_both words c (commands.Raw m) (λ e f. omega (arith, e, f)) h k)
 same_command law words c commands.Summary h k = absurd (never_both words c commands.Summary (λ e f. omega (arith, e, f)) h k)
+same_command law words c commands.Record h k = absurd (never_both words c commands.Record (λ e f. omega (arith, e, f)) h k)
 same_command law words c d h k = sym (by_name c tt) ∙ ap by_words (sym h ∙ k) ∙ by_name d tt
 
 -- ---- which words are none
 
 -- a word and a text
-pub no_word : (word text : List ℕ) → word ≢ codes "at" → word ≢ codes "prove" → word ≢ codes "check" → ((n : CidParts) → ((word ≡ codes "get") ⊎ (word ≡ codes "tree")) → IsTextOf text n → ⊥) → (c : Command) → IsCommand (word ∷ text ∷ []) c → ⊥
-no_word word text no_at no_prove no_check other (commands.Get n) h = other n (inl (ap (λ ws. get_or ws 0 []) h.1)) (subst (λ t. IsTextOf t n) (sym (ap (λ ws. get_or ws 1 []) h.1)) h.2)
-no_word word text no_at no_prove no_check other (commands.Tree n) h = other n (inr (ap (λ ws. get_or ws 0 []) h.1)) (subst (λ t. IsTextOf t n) (sym (ap (λ ws. get_or ws 1 []) h.1)) h.2)
-no_word word text no_at no_prove no_check other (commands.At n) h = no_at (ap (λ ws. get_or ws 0 []) h.1)
-no_word word text no_at no_prove no_check other (commands.Prove n) h = no_prove (ap (λ ws. get_or ws 0 []) h.1)
-no_word word text no_at no_prove no_check other commands.Summary h = no_check (ap (λ ws. get_or ws 0 []) h)
-no_word word text no_at no_prove no_check other c h = let two = (counted (word ∷ text ∷ []) c h).0 in absurd (omega (arith, two))
+pub no_word : (word text : List ℕ) → word ≢ codes "at" → word ≢ codes "prove" → word ≢ codes "check" → word ≢ codes "record" → ((n : CidParts) → ((word ≡ codes "get") ⊎ (word ≡ codes "tree")) → IsTextOf text n → ⊥) → (c : Command) → IsCommand (word ∷ text ∷ []) c → ⊥
+no_word word text no_at no_prove no_check no_record other (commands.Get n) h = other n (inl (ap (λ ws. get_or ws 0 []) h.1)) (subst (λ t. IsTextOf t n) (sym (ap (λ ws. get_or ws 1 []) h.1)) h.2)
+no_word word text no_at no_prove no_check no_record other (commands.Tree n) h = other n (inr (ap (λ ws. get_or ws 0 []) h.1)) (subst (λ t. IsTextOf t n) (sym (ap (λ ws. get_or ws 1 []) h.1)) h.2)
+no_word word text no_at no_prove no_check no_record other (commands.At n) h = no_at (ap (λ ws. get_or ws 0 []) h.1)
+no_word word text no_at no_prove no_check no_record other (commands.Prove n) h = no_prove (ap (λ ws. get_or ws 0 []) h.1)
+no_word word text no_at no_prove no_check no_record other commands.Summary h = no_check (ap (λ ws. get_or ws 0 []) h)
+no_word word text no_at no_prove no_check no_record other commands.Record h = no_record (ap (λ ws. get_or ws 0 []) h.1)
+no_word word text no_at no_prove no_check no_record other c h = let two = (counted (word ∷ text ∷ []) c h).0 in absurd (omega (arith, two))
 
 pub word_on : (word text : List ℕ) (n : CidParts) (c : Command) → IsTextOf text n → IsCommandOn word n c → IsCommand (word ∷ text ∷ []) c
 word_on word text n c is (inl k) = subst (IsCommand (word ∷ text ∷ [])) (sym k.1) (text, ap (λ w. w ∷ text ∷ []) k.0, is)
@@ -132,9 +141,9 @@ abbrev pub IsCommandOf : List (List ℕ) → Option Command → Type 0
 IsCommandOf words o = MatchOption o ((c : Command) → IsCommand words c → ⊥) (λ c. IsCommand words c)
 
 -- what a word and a text are
-pub words_on : (word text : List ℕ) (n : CidParts) (o : Option Command) → word ≢ codes "at" → word ≢ codes "prove" → word ≢ codes "check" → IsTextOf text n → MatchOption o ((word ≢ codes "get") × (word ≢ codes "tree")) (IsCommandOn word n) → IsCommandOf (word ∷ text ∷ []) o
-words_on word text n None no_at no_prove no_check is h = no_word word text no_at no_prove no_check (λ m w t. elim w [ inl g ↦ h.0 g | inr r ↦ h.1 r ])
-words_on word text n (Some c) no_at no_prove no_check is h = word_on word text n c is h
+pub words_on : (word text : List ℕ) (n : CidParts) (o : Option Command) → word ≢ codes "at" → word ≢ codes "prove" → word ≢ codes "check" → word ≢ codes "record" → IsTextOf text n → MatchOption o ((word ≢ codes "get") × (word ≢ codes "tree")) (IsCommandOn word n) → IsCommandOf (word ∷ text ∷ []) o
+words_on word text n None no_at no_prove no_check no_record is h = no_word word text no_at no_prove no_check no_record (λ m w t. elim w [ inl g ↦ h.0 g | inr r ↦ h.1 r ])
+words_on word text n (Some c) no_at no_prove no_check no_record is h = word_on word text n c is h
 
 -- the word `at` and a text
 pub at_root : (word text : List ℕ) (n : CidParts) → word ≡ codes "at" → IsTextOf (name_part text) n → IsCommand (word ∷ text ∷ []) (commands.At n)
@@ -143,6 +152,10 @@ at_root word text n at is = (text, ap (λ w. w ∷ text ∷ []) at, is)
 -- the word `prove` and a text
 pub prove_root : (word text : List ℕ) (n : CidParts) → word ≡ codes "prove" → IsTextOf (name_part text) n → IsCommand (word ∷ text ∷ []) (commands.Prove n)
 prove_root word text n prove is = (text, ap (λ w. w ∷ text ∷ []) prove, is)
+
+-- the word `record` and a key
+pub record_key : (word text : List ℕ) → word ≡ codes "record" → IsCommand (word ∷ text ∷ []) commands.Record
+record_key word text is = (text, ap (λ w. w ∷ text ∷ []) is)
 
 -- the word `check` and an option
 pub check_words : (word text : List ℕ) (o : Option Command) → word ≡ codes "check" → MatchOption o (text ≢ codes "--summary") (λ c. (c ≡ commands.Summary) × (text ≡ codes "--summary")) → IsCommandOf (word ∷ text ∷ []) o

@@ -29,6 +29,8 @@ use Rattle.dagcar_lines.specs.Help.{help_text, version_text}
 use Rattle.dagcbor_paths.specs.Paths.{segments}
 use Rattle.dagcar_lines.specs.Finding.{IsGot, IsTree}
 use Rattle.dagcar_lines.specs.Paths.{IsAnswer}
+use Rattle.dagcar_lines.specs.Commands.{path_part}
+use Rattle.record_lines.specs.Records.{IsRecords, IsRecord}
 use Rattle.dagcar_lines.specs.declared.at.Asked.TheVariants as asks
 use Rattle.dagcar_lines.specs.declared.command.Command.{Command}
 use Rattle.dagcar_lines.specs.declared.command.Command.TheVariants as commands
@@ -126,24 +128,27 @@ abbrev pub SaysWithPlaces : Speech → List ℕ → Option (List ℕ) → Option
 SaysWithPlaces speech b old heard ended new after = SaysBytes speech b old ended new
     × SaysBytes (beside TellsPlace) b heard ended after
 
--- a run of a command on these bytes, and on the path in the words, by what the output and the errors hold
+-- a run of a command on these bytes, and on the text behind its words, by what the output and the errors
+-- hold
 abbrev pub RunsCommand : Command → List ℕ → List ℕ → Option (List ℕ) → Option (List ℕ)
     → Result Bool ToolError → Option (List ℕ) → Option (List ℕ) → Type 0
-RunsCommand commands.Check path b old heard ended new after = SaysWithPlaces check_speech b old heard ended new after
-RunsCommand commands.Verify path b old heard ended new after = SaysWithPlaces verify_speech b old heard ended new after
-RunsCommand commands.Summary path b old heard ended new after = SaysWithPlaces summary_speech b old heard ended new after
-RunsCommand commands.Help path b old heard ended new after = Says (λ well out. (well ≡ true) × (out ≡ help_text)) old ended new
-RunsCommand commands.Version path b old heard ended new after = Says (λ well out. (well ≡ true) × (out ≡ version_text)) old ended new
-RunsCommand commands.List path b old heard ended new after = SaysBytes list_speech b old ended new
-RunsCommand commands.Name path b old heard ended new after = SaysBoth (IsNamed b) old heard ended new after
-RunsCommand commands.One path b old heard ended new after = SaysBoth (IsJudged b) old heard ended new after
-RunsCommand commands.Show path b old heard ended new after = SaysBoth (IsShown b) old heard ended new after
-RunsCommand commands.Make path b old heard ended new after = SaysBoth (IsMade b) old heard ended new after
-RunsCommand (commands.Get name) path b old heard ended new after = SaysBoth (IsGot name b) old heard ended new after
-RunsCommand (commands.Tree root) path b old heard ended new after = SaysBoth (IsTree root b) old heard ended new after
-RunsCommand (commands.At root) path b old heard ended new after = SaysBoth (IsAnswer asks.Data root (segments path) b) old heard ended new after
-RunsCommand (commands.Raw root) path b old heard ended new after = SaysBoth (IsAnswer asks.Bytes root (segments path) b) old heard ended new after
-RunsCommand (commands.Prove root) path b old heard ended new after = SaysBoth (IsAnswer asks.Proof root (segments path) b) old heard ended new after
+RunsCommand commands.Check text b old heard ended new after = SaysWithPlaces check_speech b old heard ended new after
+RunsCommand commands.Verify text b old heard ended new after = SaysWithPlaces verify_speech b old heard ended new after
+RunsCommand commands.Summary text b old heard ended new after = SaysWithPlaces summary_speech b old heard ended new after
+RunsCommand commands.Help text b old heard ended new after = Says (λ well out. (well ≡ true) × (out ≡ help_text)) old ended new
+RunsCommand commands.Version text b old heard ended new after = Says (λ well out. (well ≡ true) × (out ≡ version_text)) old ended new
+RunsCommand commands.List text b old heard ended new after = SaysBytes list_speech b old ended new
+RunsCommand commands.Name text b old heard ended new after = SaysBoth (IsNamed b) old heard ended new after
+RunsCommand commands.One text b old heard ended new after = SaysBoth (IsJudged b) old heard ended new after
+RunsCommand commands.Show text b old heard ended new after = SaysBoth (IsShown b) old heard ended new after
+RunsCommand commands.Make text b old heard ended new after = SaysBoth (IsMade b) old heard ended new after
+RunsCommand (commands.Get name) text b old heard ended new after = SaysBoth (IsGot name b) old heard ended new after
+RunsCommand (commands.Tree root) text b old heard ended new after = SaysBoth (IsTree root b) old heard ended new after
+RunsCommand (commands.At root) text b old heard ended new after = SaysBoth (IsAnswer asks.Data root (segments (path_part text)) b) old heard ended new after
+RunsCommand (commands.Raw root) text b old heard ended new after = SaysBoth (IsAnswer asks.Bytes root (segments (path_part text)) b) old heard ended new after
+RunsCommand (commands.Prove root) text b old heard ended new after = SaysBoth (IsAnswer asks.Proof root (segments (path_part text)) b) old heard ended new after
+RunsCommand commands.Records text b old heard ended new after = SaysBoth (IsRecords b) old heard ended new after
+RunsCommand commands.Record text b old heard ended new after = SaysBoth (IsRecord text b) old heard ended new after
 
 -- the commands that tell of nothing but of faults
 abbrev pub IsQuiet : Command → Type 0
@@ -159,4 +164,6 @@ IsQuiet (commands.Tree root) = ⊥
 IsQuiet (commands.At root) = ⊥
 IsQuiet (commands.Raw root) = ⊥
 IsQuiet (commands.Prove root) = ⊥
+IsQuiet commands.Records = ⊥
+IsQuiet commands.Record = ⊥
 IsQuiet _ = ⊤

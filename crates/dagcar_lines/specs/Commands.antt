@@ -24,6 +24,8 @@ command_name (commands.Tree name) = codes "tree"
 command_name (commands.At name) = codes "at"
 command_name (commands.Raw name) = codes "at"
 command_name (commands.Prove name) = codes "prove"
+command_name commands.Records = codes "records"
+command_name commands.Record = codes "record"
 
 -- a name and a path: what stands before the first slash of a text, and behind it
 abbrev pub name_part : List ℕ → List ℕ
@@ -32,11 +34,11 @@ name_part text = before_first (λ b. b == 0x2f) text
 abbrev pub path_part : List ℕ → List ℕ
 path_part text = after_first (λ b. b == 0x2f) text
 
--- the path in the last of two or three words
-abbrev pub path_of : List (List ℕ) → List ℕ
-path_of (word ∷ text ∷ []) = path_part text
-path_of (word ∷ option ∷ text ∷ []) = path_part text
-path_of _ = []
+-- the last of two or three words
+abbrev pub text_of : List (List ℕ) → List ℕ
+text_of (word ∷ text ∷ []) = text
+text_of (word ∷ option ∷ text ∷ []) = text
+text_of _ = []
 
 -- this word, and the name as text
 abbrev pub IsWordOf : List (List ℕ) → List ℕ → CidParts → Type 0
@@ -47,7 +49,8 @@ abbrev pub IsRootOf : List (List ℕ) → List ℕ → CidParts → Type 0
 IsRootOf words word name = (text : List ℕ) × (words ≡ word ∷ text ∷ []) × IsTextOf (name_part text) name
 
 -- the words are the command: the one that names it; of `get` and `tree` also a CID; of `at` and `prove`
--- also one before a path; of `at` also `--raw` before that; and `check` with `--summary`
+-- also one before a path; of `at` also `--raw` before that; of `record` any text, the key; and `check`
+-- with `--summary`
 abbrev pub IsCommand : List (List ℕ) → Command → Type 0
 IsCommand words (commands.Get name) = IsWordOf words (codes "get") name
 IsCommand words (commands.Tree name) = IsWordOf words (codes "tree") name
@@ -55,6 +58,7 @@ IsCommand words (commands.At name) = IsRootOf words (codes "at") name
 IsCommand words (commands.Prove name) = IsRootOf words (codes "prove") name
 IsCommand words (commands.Raw name) = (text : List ℕ)
     × (words ≡ codes "at" ∷ codes "--raw" ∷ text ∷ []) × IsTextOf (name_part text) name
+IsCommand words commands.Record = (text : List ℕ) × (words ≡ codes "record" ∷ text ∷ [])
 IsCommand words commands.Summary = words ≡ codes "check" ∷ codes "--summary" ∷ []
 IsCommand words command = words ≡ command_name command ∷ []
 

@@ -3,10 +3,12 @@
 ghost use Rattle.std.specs.Prelude.{◌≡◌, ◌≢◌, [], ◌∷◌, ◌++◌, codes, true, map, string_bytes, IfSome, MatchOption, Result, Bool, Option, None, Some, List, ℕ};
 ghost use Rattle.dagcar_lines.specs.Answers.{RunsCommand, EndsSo, IsQuiet};
 ghost use Rattle.dagcar_lines.specs.Speeches.{beside, SaysBytes};
-ghost use Rattle.block_lines.specs.Lines.{no_cid_line, Says};
+ghost use Rattle.block_lines.specs.Lines.{no_cid_line, Says, SaysBoth};
 ghost use Rattle.dagcbor_cli.specs.declared.fault.ToolError.{ToolError};
 ghost use Rattle.dagcar_lines.specs.Commands.{IsCommand, IsCommandOn, IsMistyped};
-ghost use Rattle.dagcar_lines.specs.Commands.{name_part, path_part, path_of};
+ghost use Rattle.dagcar_lines.specs.Commands.{name_part, path_part, text_of};
+ghost use Rattle.dagcar_lines.specs.Paths.{IsAnswer};
+ghost use Rattle.dagcbor_paths.specs.Paths.{segments};
 ghost use Rattle.dagcar_lines.specs.declared.command.Command.TheVariants.{Summary};
 ghost use Rattle.ipld_tree.specs.Cid.{CidParts};
 ghost use Rattle.cid_text.specs.Texts.{IsTextFault, IsTextOf};
@@ -31,6 +33,7 @@ use dagcbor_cli::{ToolError, give_up, write_all};
 use dagcbor_heads::IoRefReader;
 use held_lines::input_over;
 use ipld_tree::Cid;
+use record_lines::{write_record, write_records};
 use std::alloc::Global;
 use std::io;
 use std::io::{BufRead, Write};
@@ -38,7 +41,7 @@ use std::io::{BufRead, Write};
 /// What is told of wrong words.
 pub const USAGE: &str =
     "usage: dagcar check [--summary]|verify|list|name|one|show|make|get CID|tree CID\
-    |at [--raw] CID/PATH|prove CID/PATH\n";
+    |at [--raw] CID/PATH|prove CID/PATH|records|record KEY\n";
 
 /// What is told of want of memory.
 pub const OUT_OF_MEMORY: &str = "dagcar: out of memory\n";
@@ -76,6 +79,10 @@ pub enum Command {
     Raw(Cid),
     /// To write the file that proves what a path leads to from this root.
     Prove(Cid),
+    /// To list the records of a repository.
+    Records,
+    /// To show one record of a repository.
+    Record,
 }
 
 /// The command of this one word.
@@ -93,6 +100,7 @@ fn command_named(name: &str) -> Option<Command>
         "one" => Some(Command::One),
         "show" => Some(Command::Show),
         "make" => Some(Command::Make),
+        "records" => Some(Command::Records),
         _ => None,
     }
 }
@@ -152,18 +160,19 @@ fn check_with(option: &str) -> Option<Command>
     }
 }
 
-/// The path in the words.
-fn path_of(args: &[String]) -> &str
-    ensures { result.now ≡ path_of (map string_bytes args.now) }
+/// The text behind the word of a command, and behind an option.
+fn text_of(args: &[String]) -> &str
+    ensures { result.now ≡ text_of (map string_bytes args.now) }
 {
     match args {
-        [_word, text] => split_path(text.as_str()).1,
-        [_word, _option, text] => split_path(text.as_str()).1,
+        [_word, text] => text.as_str(),
+        [_word, _option, text] => text.as_str(),
         _ => "",
     }
 }
 
-/// The command of a word and a CID as text, with a path behind it where the word is `at` or `prove`.
+/// The command of a word and a text: a CID, with a path behind it where the word is `at` or `prove`;
+/// or what stands behind `check` or `record`.
 fn command_on_text(word: &str, text: &str) -> Option<Command>
     ensures { MatchOption result ((c : Command) → ¬ IsCommand (word.now ∷ text.now ∷ []) c)
         (λ c. IsCommand (word.now ∷ text.now ∷ []) c) }
@@ -176,6 +185,9 @@ fn command_on_text(word: &str, text: &str) -> Option<Command>
     }
     if word == "check" {
         return check_with(text);
+    }
+    if word == "record" {
+        return Some(Command::Record);
     }
     match cid_from_text(text.as_bytes()) {
         Ok(name) => command_on(word, name),
@@ -324,17 +336,36 @@ fn say_text<W: Write>(text: &str, output: &mut W) -> Result<bool, ToolError>
     Ok(true)
 }
 
+/// Says what is asked of the path in the text, from this root. Whether nothing is wrong.
+fn say_path<R: BufRead, W: Write, V: Write>(
+    alloc: Global,
+    asked: Asked,
+    root: &Cid,
+    text: &str,
+    input: &mut R,
+    output: &mut W,
+    errors: &mut V,
+) -> Result<bool, ToolError>
+    ensures { IfSome (R.remaining input.old) (λ b.
+        SaysBoth (IsAnswer asked root.now (segments (path_part text.now)) b)
+        (W.contents output.old) (V.contents errors.old) result (W.contents output.new)
+        (V.contents errors.new)) }
+{
+    let (_name, path) = split_path(text);
+    write_asked(alloc, asked, root, path, input, output, errors)
+}
+
 /// Says of the input what the command asks, and answers whether nothing is wrong.
 pub fn run<R: BufRead, W: Write, V: Write>(
     alloc: Global,
     command: Command,
-    path: &str,
+    text: &str,
     input: &mut R,
     output: &mut W,
     errors: &mut V,
 ) -> Result<bool, ToolError>
     ensures runs { IfSome (R.remaining input.old) (λ b.
-        RunsCommand command path.now b (W.contents output.old) (V.contents errors.old) result
+        RunsCommand command text.now b (W.contents output.old) (V.contents errors.old) result
         (W.contents output.new) (V.contents errors.new)) }
     ensures quiet { IsQuiet command → errors.new ≡ errors.old }
 {
@@ -356,11 +387,11 @@ pub fn run<R: BufRead, W: Write, V: Write>(
         Command::Make => say_answer::<Making, R, W, V>(alloc, input, output, errors),
         Command::Get(name) => get_block(alloc, &name, input, output, errors),
         Command::Tree(root) => write_tree(alloc, &root, input, output, errors),
-        Command::At(root) => write_asked(alloc, Asked::Data, &root, path, input, output, errors),
-        Command::Raw(root) => write_asked(alloc, Asked::Bytes, &root, path, input, output, errors),
-        Command::Prove(root) => {
-            write_asked(alloc, Asked::Proof, &root, path, input, output, errors)
-        }
+        Command::At(root) => say_path(alloc, Asked::Data, &root, text, input, output, errors),
+        Command::Raw(root) => say_path(alloc, Asked::Bytes, &root, text, input, output, errors),
+        Command::Prove(root) => say_path(alloc, Asked::Proof, &root, text, input, output, errors),
+        Command::Records => write_records(alloc, input, output, errors),
+        Command::Record => write_record(alloc, text, input, output, errors),
     }
 }
 
@@ -381,7 +412,7 @@ pub fn run_command<R: BufRead, W: Write, V: Write>(
     ensures answered { (c : Command) → IsCommand (map string_bytes args.now) c
         → IfSome (R.remaining input.old) (λ b. (ended : Result Bool ToolError)
         × (after : Option (List ℕ)) × EndsSo ended result
-        × RunsCommand c (path_of (map string_bytes args.now)) b (W.contents output.old)
+        × RunsCommand c (text_of (map string_bytes args.now)) b (W.contents output.old)
         (V.contents errors.old) ended (W.contents output.new) after
         × (result ≢ 2 → V.contents errors.new ≡ after)) }
     ensures quiet { (c : Command) → IsCommand (map string_bytes args.now) c → IsQuiet c
@@ -391,6 +422,6 @@ pub fn run_command<R: BufRead, W: Write, V: Write>(
     let Some(command) = command_of(args) else {
         return tell_wrong(args, errors);
     };
-    let ended = run(alloc, command, path_of(args), input, output, errors);
+    let ended = run(alloc, command, text_of(args), input, output, errors);
     status_of(ended, errors)
 }

@@ -9,6 +9,8 @@ const HELP: &str = "usage: dagcar check [--summary] [FILE]
        dagcar get|tree CID [FILE]
        dagcar at [--raw] CID/PATH [FILE]
        dagcar prove CID/PATH [FILE]
+       dagcar records [FILE]
+       dagcar record KEY [FILE]
 
 Of a file of blocks (CAR, version 1 or 2); without FILE, or with -, standard input:
   check    the verdict on each block, and which links lead nowhere; --summary counts them
@@ -18,6 +20,8 @@ Of a file of blocks (CAR, version 1 or 2); without FILE, or with -, standard inp
   tree     the file of the blocks that links lead to
   at       the data that a path leads to, as DAG-JSON; --raw writes its bytes
   prove    the file of the blocks on a path, over which at answers the same
+  records  the keys of a repository's records (AT Protocol), and their CIDs
+  record   the record of a key, as DAG-JSON
 
 Of a block of DAG-CBOR:
   name     its CID
@@ -30,6 +34,7 @@ For example:
   dagcar prove CID/a/0 blocks.car > proof.car
   dagcar at CID/a/0 proof.car
   dagcar at --raw CID/a/0 proof.car | dagcar one
+  dagcar records repo.car
 
 The status is 0 where nothing is wrong, 1 where something is, 2 where it could not be told.
 ";

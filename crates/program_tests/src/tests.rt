@@ -5,3 +5,4 @@ mod found;
 mod make;
 mod paths;
 mod proofs;
+mod records;

@@ -1,5 +1,5 @@
 -- What is said of a repository's records.
-use Rattle.std.proofs.Common.{◌≡◌, inl, inr, ℕ, List, [], ◌∷◌, length, ◌≤◌, ◌<◌, arith, Bool, sym, ap, refl, ◌∙◌, subst, get_or, Result, Ok, Err, IfOk}
+use Rattle.std.proofs.Common.{◌≡◌, inr, ℕ, List, [], ◌∷◌, length, ◌≤◌, ◌<◌, arith, Bool, sym, ap, refl, ◌∙◌, subst, get_or, Result, Ok, Err, IfOk}
 use Rattle.ipld_tree.specs.Cid.{CidParts}
 use Rattle.ipld_links.specs.Reaching.{Stored}
 use Rattle.atproto_mst.specs.Repos.{IsRepo, RepoRefused, IsStoredCommit, CommitRefused}

@@ -1,3 +1,4 @@
 pub mod Keys
 pub mod Words
 pub mod Records
+pub mod Laws

@@ -3,6 +3,7 @@
 
 mod file;
 mod key;
+pub mod laws;
 mod record;
 mod records;
 mod words;

@@ -371,6 +371,9 @@ const CALLS: &[(&[&str], usize, Option<&str>)] = &[
     (&["at", "--raw", "none/a", "b"], 3, Some("b")),
     (&["prove", "bafkrgaly/a"], 2, None),
     (&["prove", "bafkrgaly/a", "-"], 2, Some("-")),
+    (&["records", "repo.car"], 1, Some("repo.car")),
+    (&["record", "a/b"], 2, None),
+    (&["record", "a/b", "repo.car"], 2, Some("repo.car")),
     // A word that is no CID is told before the file is asked for.
     (&["get", "none", "blocks.car"], 2, Some("blocks.car")),
     (&["look", "blocks.car"], 2, None),
@@ -391,7 +394,7 @@ fn a_file_stands_behind_the_words(rt: HostRuntime) -> Result<(), Fail> {
 #[test]
 fn other_words_are_refused(rt: HostRuntime) -> Result<(), Fail> {
     let line = b"usage: dagcar check [--summary]|verify|list|name|one|show|make|get CID|tree CID\
-        |at [--raw] CID/PATH|prove CID/PATH\n";
+        |at [--raw] CID/PATH|prove CID/PATH|records|record KEY\n";
     gives(rt.alloc(), "links", GOOD, 2, b"", line)
 }
 

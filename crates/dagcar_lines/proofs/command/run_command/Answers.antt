@@ -9,8 +9,8 @@ returns-clause-answered g c d is = if_some (g.R.Read.remaining c.args.input.now)
   c.run-ended.result,
   g.V.Write.contents c.run-ended.new.errors,
   c.status_of.ensures.status,
-  subst (λ path. RunsCommand d path b (g.W.Write.contents c.args.output.now) (g.V.Write.contents c.args.errors.now) c.run-ended.result (g.W.Write.contents c.run-ended.new.output) (g.V.Write.contents c.run-ended.new.errors)) c.path_of.ensures
-      (subst (λ command. RunsCommand command c.path_of.result.now b (g.W.Write.contents c.args.output.now) (g.V.Write.contents c.args.errors.now) c.run-ended.result (g.W.Write.contents c.run-ended.new.output) (g.V.Write.contents c.run-ended.new.errors)) (same_command c.texts_tell_cids.ensures _ _ _ c.in-Some.ensures is) k),
+  subst (λ text. RunsCommand d text b (g.W.Write.contents c.args.output.now) (g.V.Write.contents c.args.errors.now) c.run-ended.result (g.W.Write.contents c.run-ended.new.output) (g.V.Write.contents c.run-ended.new.errors)) c.text_of.ensures
+      (subst (λ command. RunsCommand command c.text_of.result.now b (g.W.Write.contents c.args.output.now) (g.V.Write.contents c.args.errors.now) c.run-ended.result (g.W.Write.contents c.run-ended.new.output) (g.V.Write.contents c.run-ended.new.errors)) (same_command c.texts_tell_cids.ensures _ _ _ c.in-Some.ensures is) k),
   (λ n. ap g.V.Write.contents (c.status_of.ensures.quiet n)),
 ))
 

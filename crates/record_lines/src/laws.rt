@@ -1,0 +1,15 @@
+//! Laws of the definitions, each the contract of a function that does nothing.
+
+ghost use Rattle.record_lines.specs.Laws.{KeysAreWords, KeysDiffer};
+
+/// The text of a key is one word, so that no key can end its line.
+#[tactic(auto, using(crate::proofs::Wording::keys_are_words))]
+pub fn keys_are_words()
+    ensures { KeysAreWords }
+{}
+
+/// The text of a key is that of no other.
+#[tactic(auto, using(crate::proofs::Wording::keys_differ))]
+pub fn keys_differ()
+    ensures { KeysDiffer }
+{}

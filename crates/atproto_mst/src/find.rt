@@ -62,7 +62,7 @@ pub fn find_record(
     ensures found { IfOk result (Finds most_layers (stored_in blocks.now) key.now root.now) }
     ensures refused { IfErr result
         (λ e. ((e ≡ OutOfMemory) × IsNamed (stored_in blocks.now) root.now)
-            ⊎ FindStops most_layers (stored_in blocks.now) key.now root.now e) }
+        ⊎ FindStops most_layers (stored_in blocks.now) key.now root.now e) }
     ensures whole { (es : List Entry) → IsMst (stored_in blocks.now) root.now es →
         MatchResult result (λ found. found ≡ lookup key.now es) (λ e. e ≡ OutOfMemory) }
 {

@@ -22,7 +22,7 @@ pub(crate) fn node_at<'b>(
     ensures { MatchResult result
         (λ node. IsNodeAt (stored_in blocks.now) name.now (node_told node))
         (λ e. ((e ≡ OutOfMemory) × IsNamed (stored_in blocks.now) name.now)
-            ⊎ NodeFault (stored_in blocks.now) name.now e) }
+        ⊎ NodeFault (stored_in blocks.now) name.now e) }
 {
     let Some(block) = stored_bytes(blocks, name) else {
         return Err(MstError::MissingNode(*name));

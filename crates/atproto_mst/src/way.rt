@@ -29,7 +29,7 @@ pub fn record_way(
         (λ v. IsWay most_layers (stored_in blocks.now) key.now root.now v.items) }
     ensures refused { IfErr result
         (λ e. ((e ≡ OutOfMemory) × IsNamed (stored_in blocks.now) root.now)
-            ⊎ FindStops most_layers (stored_in blocks.now) key.now root.now e) }
+        ⊎ FindStops most_layers (stored_in blocks.now) key.now root.now e) }
     ensures whole { (es : List Entry) → IsMst (stored_in blocks.now) root.now es →
         IfErr result (λ e. e ≡ OutOfMemory) }
 {

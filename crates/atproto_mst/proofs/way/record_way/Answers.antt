@@ -1,4 +1,4 @@
-use Rattle.std.proofs.Common.{◌⊎◌, ◌≡◌, inl, inr, sym, ap, ◌∙◌, arith, Some, None, ◌++◌, ◌∷◌, []}
+use Rattle.std.proofs.Common.{◌⊎◌, ◌≡◌, inl, inr, ap, ◌∙◌, arith, Some, None, ◌++◌, ◌∷◌, []}
 use Rattle.ipld_links.specs.Reaching.{stored_in}
 use Rattle.atproto_mst.specs.Nodes.{node_told}
 use Rattle.atproto_mst.specs.Walks.{most_layers}

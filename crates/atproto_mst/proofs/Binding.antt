@@ -1,16 +1,13 @@
 -- A root binds the entries of its tree, and what is found of a key.
-use Rattle.std.proofs.Common.{◌≡◌, ◌≢◌, ◌⊎◌, inl, inr, ℕ, List, Bool, true, false, refl, sym, ap, ◌∙◌, subst, Option}
+use Rattle.std.proofs.Common.{◌≡◌, ◌⊎◌, inl, inr, ℕ, List, Bool, true, false, refl, sym, ap, ◌∙◌, subst}
 use Rattle.std.proofs.lemmas.Slice.Eq.{bytes_eq-Decides}
 use Rattle.std.specs.Str.{bytes_eq}
 use Rattle.sha2.specs.Sha256.{sha256}
-use Rattle.ipld_tree.specs.Cid.{CidParts}
 use Rattle.ipld_links.specs.Names.{block_name}
 use Rattle.ipld_links.specs.Reaching.{Stored}
-use Rattle.atproto_mst.specs.Keys.{Entry}
-use Rattle.atproto_mst.specs.Entries.{IsMst}
-use Rattle.atproto_mst.specs.Nodes.{NodeParts, IsNode, IsNodeAt}
-use Rattle.atproto_mst.specs.Walks.{Walks, most_layers}
-use Rattle.atproto_mst.specs.Finding.{lookup, Finds}
+use Rattle.atproto_mst.specs.Nodes.{IsNode}
+use Rattle.atproto_mst.specs.Walks.{most_layers}
+use Rattle.atproto_mst.specs.Finding.{lookup}
 use Rattle.atproto_mst.specs.Laws.{Collides, RootBinds, RecordsBind}
 use Rattle.atproto_mst.proofs.Nodes.{same_node}
 use Rattle.atproto_mst.proofs.Agreeing.{walks_agree}

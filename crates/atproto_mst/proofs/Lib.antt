@@ -24,3 +24,4 @@ pub mod Searching
 pub mod Binding
 pub mod Telling
 pub mod Ways
+pub mod Refusals

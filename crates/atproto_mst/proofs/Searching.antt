@@ -5,7 +5,7 @@ use Rattle.ipld_links.specs.Reaching.{Stored}
 use Rattle.atproto_mst.specs.Keys.{Entry, Rise}
 use Rattle.atproto_mst.specs.Nodes.{NodeParts, IsNodeAt}
 use Rattle.atproto_mst.specs.Walks.{Walks}
-use Rattle.atproto_mst.specs.Stops.{NodeFault}
+use Rattle.atproto_mst.specs.Stops.{IsNamed, NodeFault}
 use Rattle.atproto_mst.specs.Finding.{lookup, seek_in, FindsBelow, Finds, FaultBelow, FindStops}
 use Rattle.atproto_mst.specs.declared.error.MstError.{MstError}
 use Rattle.atproto_mst.specs.declared.error.MstError.TheVariants as error
@@ -70,15 +70,17 @@ finds_never_stops (suc m) stored key name found e f g = elim g [
 
 -- ---- the search, layer by layer
 
--- what is found, and what stops it, from this node over the layers that are left, is so from the root
+-- what is found, and what stops it, from this node over the layers that are left, is so from the root;
+-- and where bytes are named at it, they are at the root
 pub record SearchedTo (most : ℕ) (stored : Stored) (key : List ℕ) (root : CidParts) (layer : ℕ) (name : CidParts) : Type 0 where
   pub found : (x : Option CidParts) → Finds (most - layer) stored key name x → Finds most stored key root x
   pub stops : (e : MstError) → FindStops (most - layer) stored key name e → FindStops most stored key root e
+  pub named : IsNamed stored name → IsNamed stored root
 
 pub search_begins : (most : ℕ) (stored : Stored) (key : List ℕ) (root : CidParts) → SearchedTo most stored key root 0 root
 search_begins most stored key root =
     let all : most - 0 ≡ most = omega arith in
-    record { found = λ x h. subst (λ m. Finds m stored key root x) all h; stops = λ e h. subst (λ m. FindStops m stored key root e) all h }
+    record { found = λ x h. subst (λ m. Finds m stored key root x) all h; stops = λ e h. subst (λ m. FindStops m stored key root e) all h; named = λ h. h }
 
 pub layers_left : (most layer : ℕ) → layer < most → suc (most - (layer + 1)) ≡ most - layer
 layers_left most layer lt = omega (arith, lt)
@@ -103,10 +105,14 @@ module _ (most : ℕ) (stored : Stored) (key : List ℕ) (root name : CidParts) 
     pub front_stops : s ≡ sought.KeyFront → FindStops most stored key root error.KeyFront
     front_stops is = stops_here error.KeyFront (subst (λ y. FaultBelow (FindStops (most - (layer + 1)) stored key) y error.KeyFront) (sym is) refl)
 
+    pub root_named : IsNamed stored root
+    root_named = to.named (at.block, at.is, at.named)
+
     pub search_goes_on : (next : CidParts) → s ≡ sought.Below (Some next) → SearchedTo most stored key root (layer + 1) next
     search_goes_on next is = record {
       found = λ x h. finds_here x (subst (λ y. FindsBelow (Finds (most - (layer + 1)) stored key) y x) (sym is) h);
       stops = λ e h. stops_here e (subst (λ y. FaultBelow (FindStops (most - (layer + 1)) stored key) y e) (sym is) h);
+      named = λ h. root_named;
     }
 
 pub depth_stops : (most : ℕ) (stored : Stored) (key : List ℕ) (root name : CidParts) (layer : ℕ) → most ≤ layer → SearchedTo most stored key root layer name → FindStops most stored key root (error.TooDeep name)

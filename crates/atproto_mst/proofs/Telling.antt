@@ -1,12 +1,11 @@
 -- What a search tells of a tree that is stored whole.
-use Rattle.std.proofs.Common.{◌≡◌, ◌⊎◌, ℕ, List, Option, subst, sym, Result, Ok, Err, IfErr}
-use Rattle.std.specs.Prelude.{MatchResult}
-use Rattle.std.specs.Result.{IsErrAnd}
+use Rattle.std.proofs.Common.{◌≡◌, ◌⊎◌, inl, inr, ℕ, List, Option}
 use Rattle.ipld_tree.specs.Cid.{CidParts}
 use Rattle.ipld_links.specs.Reaching.{Stored}
 use Rattle.atproto_mst.specs.Keys.{Entry}
 use Rattle.atproto_mst.specs.Entries.{IsMst}
 use Rattle.atproto_mst.specs.Walks.{most_layers}
+use Rattle.atproto_mst.specs.Stops.{IsNamed}
 use Rattle.atproto_mst.specs.Finding.{lookup, Finds, FindStops}
 use Rattle.atproto_mst.specs.declared.error.MstError.{MstError}
 use Rattle.atproto_mst.specs.declared.error.MstError.TheVariants.{OutOfMemory}
@@ -16,14 +15,6 @@ use Rattle.atproto_mst.proofs.Searching.{found_of_walked, refused_of_walked}
 pub found_whole : (stored : Stored) (root : CidParts) (key : List ℕ) (found : Option CidParts) → Finds most_layers stored key root found → (es : List Entry) → IsMst stored root es → found ≡ lookup key es
 found_whole stored root key found f es h = found_of_walked most_layers stored root key es found (mst_walked stored root es h) h.valid.rise f
 
-pub refused_whole : (stored : Stored) (root : CidParts) (key : List ℕ) (e : MstError) → (e ≡ OutOfMemory) ⊎ FindStops most_layers stored key root e → (es : List Entry) → IsMst stored root es → e ≡ OutOfMemory
-refused_whole stored root key e r es h = refused_of_walked most_layers stored root key es e (mst_walked stored root es h) h.valid.rise r
-
--- what holds of a refusal that `?` hands on
-pub handed_on : {T E : Type 0} (P : T → Type 0) (Q : E → Type 0) (r : Result T E) (e : E) → IsErrAnd r (λ y. y ≡ e) → Q e → MatchResult r P Q
-handed_on P Q (Ok x) e h q = absurd h
-handed_on P Q (Err y) e h q = subst Q (sym h) q
-
-pub handed_on_err : {T E : Type 0} (Q : E → Type 0) (r : Result T E) (e : E) → IsErrAnd r (λ y. y ≡ e) → Q e → IfErr r Q
-handed_on_err Q (Ok x) e h q = tt
-handed_on_err Q (Err y) e h q = subst Q (sym h) q
+pub refused_whole : (stored : Stored) (root : CidParts) (key : List ℕ) (e : MstError) → ((e ≡ OutOfMemory) × IsNamed stored root) ⊎ FindStops most_layers stored key root e → (es : List Entry) → IsMst stored root es → e ≡ OutOfMemory
+refused_whole stored root key e (inl m) es h = m.0
+refused_whole stored root key e (inr s) es h = refused_of_walked most_layers stored root key es e (mst_walked stored root es h) h.valid.rise (inr s)

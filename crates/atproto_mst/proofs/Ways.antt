@@ -1,13 +1,11 @@
 -- The way of a key over nodes.
-use Rattle.std.proofs.Common.{◌≡◌, ◌⊎◌, ◌↔◌, inl, inr, ℕ, zero, suc, ◌+◌, ◌-◌, ◌<◌, List, [], ◌∷◌, ◌++◌, Option, Some, None, refl, sym, ap, ◌∙◌, subst, append_assoc, arith}
+use Rattle.std.proofs.Common.{◌≡◌, inl, inr, ℕ, zero, suc, ◌+◌, ◌-◌, ◌<◌, List, [], ◌∷◌, ◌++◌, Option, Some, None, refl, sym, ap, ◌∙◌, subst, append_assoc, arith}
 use Rattle.ipld_tree.specs.Cid.{CidParts}
-use Rattle.ipld_links.specs.Sets.{Among}
 use Rattle.ipld_links.specs.Reaching.{Stored}
 use Rattle.atproto_mst.specs.Nodes.{NodeParts, IsNodeAt}
 use Rattle.atproto_mst.specs.Walks.{most_layers}
-use Rattle.atproto_mst.specs.Finding.{seek_in, FindsBelow, Finds, FindStops, WayBelow, IsWay}
+use Rattle.atproto_mst.specs.Finding.{seek_in, FindsBelow, Finds, WayBelow, IsWay}
 use Rattle.atproto_mst.specs.Laws.{AgreeOn, WaysDecideRecords, WaysLead}
-use Rattle.atproto_mst.specs.declared.error.MstError.{MstError}
 use Rattle.atproto_mst.specs.declared.find.Sought.{Sought}
 use Rattle.atproto_mst.specs.declared.find.Sought.TheVariants as sought
 use Rattle.atproto_mst.proofs.Nodes.{same_node_at}

@@ -13,6 +13,10 @@ use Rattle.atproto_mst.specs.Walks.{WalksLink, Walks, most_layers}
 use Rattle.atproto_mst.specs.declared.error.MstError.{MstError}
 use Rattle.atproto_mst.specs.declared.error.MstError.TheVariants as error
 
+-- bytes are stored under the name, of which it is the name as a block's
+abbrev pub IsNamed : Stored → CidParts → Type 0
+IsNamed stored name = (b : List ℕ) × (stored name ≡ Some b) × (name ≡ block_name b)
+
 -- no node of this name is there, and why
 abbrev pub NodeFault : Stored → CidParts → MstError → Type 0
 NodeFault stored name (error.MissingNode lost) = (lost ≡ name) × (stored name ≡ None)

@@ -1,8 +1,12 @@
-use Rattle.std.proofs.Common.{refl, sym, ◌∙◌, subst, inr}
+use Rattle.std.proofs.Common.{◌≡◌, ◌⊎◌, refl, sym, ◌∙◌, subst, inl, inr}
 use Rattle.std.specs.Prelude.{MatchOption}
-use Rattle.atproto_mst.specs.Nodes.{NodeParts, IsNode, node_told}
+use Rattle.ipld_links.specs.Reaching.{stored_in}
+use Rattle.atproto_mst.specs.Nodes.{NodeParts, IsNode, IsNodeAt, node_told}
+use Rattle.atproto_mst.specs.Stops.{IsNamed, NodeFault}
+use Rattle.atproto_mst.specs.declared.error.MstError.TheVariants.{OutOfMemory}
 use Rattle.atproto_mst.proofs.Comparing.{same_name}
 use Rattle.atproto_mst.proofs.Naming.{other_name}
+use Rattle.atproto_mst.proofs.Refusals.{handed_on}
 use Rattle.atproto_mst.proofs.stored.node_at.Goals as goal
 
 pub returns-then-ne : goal.returns-then-ne
@@ -14,6 +18,13 @@ returns-then-ne c = inr (
     λ named. other_name c.name_of_block.result c.args.name.now c.ne.result c.if-ne.true c.ne.ensures (c.name_of_block.ensures ∙ sym named),
   ),
 )
+
+pub returns-in_err-node : goal.returns-in_err-node
+returns-in_err-node c =
+    let same = same_name c.name_of_block.result c.args.name.now c.ne.result c.if-ne.false c.ne.ensures in
+    handed_on (λ node. IsNodeAt (stored_in c.args.blocks.now) c.args.name.now (node_told node))
+    (λ e. ((e ≡ OutOfMemory) × IsNamed (stored_in c.args.blocks.now) c.args.name.now) ⊎ NodeFault (stored_in c.args.blocks.now) c.args.name.now e)
+    c.from_residual.result OutOfMemory c.from_residual.ensures.1 (inl (refl, (c.in-Some.block.now, sym c.in-Some.ensures, sym same ∙ c.name_of_block.ensures)))
 
 pub returns-in-Some-2 : goal.returns-in-Some-2
 returns-in-Some-2 c = record {

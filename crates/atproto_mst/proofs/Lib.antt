@@ -24,3 +24,6 @@ pub mod Searching
 pub mod Binding
 pub mod Telling
 pub mod Ways
+pub mod Changing
+pub mod Merging
+pub mod Singling

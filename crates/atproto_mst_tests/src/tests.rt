@@ -107,8 +107,8 @@ const SIGNED: &[u8] =
 
 /// Nodes in a map.
 #[derive(Drop)]
-struct Kept {
-    blocks: BTreeMap<Cid, Vec<u8>>,
+pub(crate) struct Kept {
+    pub blocks: BTreeMap<Cid, Vec<u8>>,
 }
 
 impl NodeSink for Kept {
@@ -126,7 +126,7 @@ impl NodeSink for Kept {
     }
 }
 
-fn agree<T: PartialEq + Drop>(found: T, wanted: T) -> Result<(), Fail> {
+pub(crate) fn agree<T: PartialEq + Drop>(found: T, wanted: T) -> Result<(), Fail> {
     if found == wanted {
         Ok(())
     } else {
@@ -134,12 +134,12 @@ fn agree<T: PartialEq + Drop>(found: T, wanted: T) -> Result<(), Fail> {
     }
 }
 
-fn entry(alloc: Global, key: &[u8], value: Cid) -> Result<MstEntry, AllocError> {
+pub(crate) fn entry(alloc: Global, key: &[u8], value: Cid) -> Result<MstEntry, AllocError> {
     let key = key.to_vec(alloc)?;
     Ok(MstEntry { key, value })
 }
 
-fn is_named(name: &Cid, text: &[u8]) -> bool {
+pub(crate) fn is_named(name: &Cid, text: &[u8]) -> bool {
     match cid_from_text(text) {
         Ok(wanted) => *name == wanted,
         Err(_) => false,
@@ -152,7 +152,11 @@ fn numbered(alloc: Global, number: u32) -> Result<MstEntry, AllocError> {
     entry(alloc, text.as_bytes(), name_of_block(text.as_bytes()))
 }
 
-fn numbered_all(alloc: Global, count: u32, step: u32) -> Result<Vec<MstEntry>, AllocError> {
+pub(crate) fn numbered_all(
+    alloc: Global,
+    count: u32,
+    step: u32,
+) -> Result<Vec<MstEntry>, AllocError> {
     let mut all = Vec::new(alloc);
     for index in 0..count {
         all.push(numbered(alloc, index.saturating_mul(step))?)?;

@@ -21,13 +21,13 @@ use Rattle.atproto_mst.proofs.Rising.{rise_left, rise_right}
 
 -- ---- the order of keys
 
-abbrev Below : List ℕ → List ℕ → Type 0
+abbrev pub Below : List ℕ → List ℕ → Type 0
 Below k l = slice_cmp nat_cmp k l ≡ Less
 
-below_trans : (k l m : List ℕ) → Below k l → Below l m → Below k m
+pub below_trans : (k l m : List ℕ) → Below k l → Below l m → Below k m
 below_trans k l m a b = nat_list_cmp_total.trans k l m a b
 
-same_keys : (k : List ℕ) → slice_cmp nat_cmp k k ≡ Equal
+pub same_keys : (k : List ℕ) → slice_cmp nat_cmp k k ≡ Equal
 same_keys k = by (slice_cmp nat_cmp k k) refl
   where
     by : (o : Ordering) → slice_cmp nat_cmp k k ≡ o → o ≡ Equal
@@ -35,26 +35,26 @@ same_keys k = by (slice_cmp nat_cmp k k) refl
     by Equal e = refl
     by Greater e = let r : slice_cmp nat_cmp k k ≡ ordering_reverse (slice_cmp nat_cmp k k) = nat_list_cmp_total.antisymm k k in absurd (cc (e, r, ap ordering_reverse e))
 
-below_turned : (k l : List ℕ) → slice_cmp nat_cmp k l ≡ Greater → Below l k
+pub below_turned : (k l : List ℕ) → slice_cmp nat_cmp k l ≡ Greater → Below l k
 below_turned k l e = nat_list_cmp_total.antisymm l k ∙ ap ordering_reverse e
 
-not_same : (k l : List ℕ) → Below k l → k ≡ l → ⊥
+pub not_same : (k l : List ℕ) → Below k l → k ≡ l → ⊥
 not_same k l b e = let s : slice_cmp nat_cmp k l ≡ Equal = subst (λ x. slice_cmp nat_cmp k x ≡ Equal) e (same_keys k) in absurd (cc (b, s))
 
 -- ---- a record among entries
 
-other_first : (key k : List ℕ) (v : CidParts) (es : List Entry) → (k ≡ key → ⊥) → lookup key ((k, v) ∷ es) ≡ lookup key es
+pub other_first : (key k : List ℕ) (v : CidParts) (es : List Entry) → (k ≡ key → ⊥) → lookup key ((k, v) ∷ es) ≡ lookup key es
 other_first key k v es not = by (bytes_eq k key) refl
   where
     by : (b : Bool) → bytes_eq k key ≡ b → lookup key ((k, v) ∷ es) ≡ lookup key es
     by true e = absurd (not ((bytes_eq-Decides k key).0 e))
     by false e = ap (λ b. if b then Some v else lookup key es) e
 
-this_first : (key k : List ℕ) (v : CidParts) (es : List Entry) → k ≡ key → lookup key ((k, v) ∷ es) ≡ Some v
+pub this_first : (key k : List ℕ) (v : CidParts) (es : List Entry) → k ≡ key → lookup key ((k, v) ∷ es) ≡ Some v
 this_first key k v es is = ap (λ b. if b then Some v else lookup key es) ((bytes_eq-Decides k key).1 is)
 
 -- it has none before the first
-no_record_before : (key : List ℕ) (es : List Entry) → ComesBefore key es → Rise es → lookup key es ≡ None
+pub no_record_before : (key : List ℕ) (es : List Entry) → ComesBefore key es → Rise es → lookup key es ≡ None
 no_record_before key [] b r = refl
 no_record_before key (e ∷ []) b r = other_first key e.0 e.1 [] (λ is. not_same key e.0 b (sym is))
 no_record_before key (e ∷ f ∷ es) b r =

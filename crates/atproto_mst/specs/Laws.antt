@@ -1,13 +1,15 @@
 -- What holds of all trees.
-use Rattle.std.specs.Prelude.{◌≡◌, ◌≢◌, ◌⊎◌, ◌↔◌, ℕ, List, Option}
+use Rattle.std.specs.Prelude.{◌≡◌, ◌≢◌, ◌⊎◌, ◌↔◌, ℕ, List, Option, None, Some}
 use Rattle.sha2.specs.Sha256.{sha256}
 use Rattle.ipld_tree.specs.Cid.{CidParts}
 use Rattle.ipld_links.specs.Sets.{Among}
 use Rattle.ipld_links.specs.Reaching.{Stored}
-use Rattle.atproto_mst.specs.Keys.{Entry}
+use Rattle.atproto_mst.specs.Keys.{Entry, IsKey, Rise}
 use Rattle.atproto_mst.specs.Trees.{root_of}
 use Rattle.atproto_mst.specs.Entries.{IsMst}
 use Rattle.atproto_mst.specs.Walks.{most_layers}
+use Rattle.atproto_mst.specs.Gathering.{AreInOrder}
+use Rattle.atproto_mst.specs.Changes.{set_entry, unset_entry, Changed, AreChanges}
 use Rattle.atproto_mst.specs.Finding.{lookup, Finds, FindStops, IsWay}
 use Rattle.atproto_mst.specs.declared.error.MstError.{MstError}
 
@@ -51,3 +53,23 @@ WaysLead = (stored other : Stored) (root : CidParts) (key : List ℕ) (names : L
     → IsWay most_layers stored key root names → AgreeOn names stored other
     → ((found : Option CidParts) × Finds most_layers other key root found)
     × ((e : MstError) → ¬ FindStops most_layers other key root e)
+
+-- ---- changes
+
+-- A key that is set has the record, and each other key the one that it had. What was in order is.
+pub record SetsOne : Type 0 where
+  pub this : (key : List ℕ) (value : CidParts) (es : List Entry) → lookup key (set_entry key value es) ≡ Some value
+  pub others : (key k : List ℕ) (value : CidParts) (es : List Entry) → k ≢ key
+      → lookup k (set_entry key value es) ≡ lookup k es
+  pub in_order : (key : List ℕ) (value : CidParts) (es : List Entry) → IsKey key → AreInOrder es
+      → AreInOrder (set_entry key value es)
+
+-- A key that is unset has no record, and each other key the one that it had. What was in order is.
+pub record UnsetsOne : Type 0 where
+  pub this : (key : List ℕ) (es : List Entry) → Rise es → lookup key (unset_entry key es) ≡ None
+  pub others : (key k : List ℕ) (es : List Entry) → k ≢ key → lookup k (unset_entry key es) ≡ lookup k es
+  pub in_order : (key : List ℕ) (es : List Entry) → AreInOrder es → AreInOrder (unset_entry key es)
+
+-- The changes between entries are told in one way alone.
+abbrev pub OneDiff : Type 0
+OneDiff = (old new : List Entry) (cs ds : List Changed) → AreChanges old new cs → AreChanges old new ds → cs ≡ ds

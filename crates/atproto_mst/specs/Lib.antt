@@ -10,6 +10,8 @@ pub mod Stops
 pub mod Gathering
 pub mod Finding
 pub mod Laws
+pub mod Changes
+pub mod Merging
 pub mod CommitShapes
 pub mod Commits
 pub mod UnreadCommits

@@ -1,7 +1,11 @@
 //! Laws of the definitions, each the contract of a function that does nothing.
 
 ghost use Rattle.atproto_mst.specs.Laws.{OneRoot, RootBinds, RecordsBind, WaysDecideRecords, WaysLead};
+<<<<<<< HEAD
 ghost use Rattle.atproto_mst.specs.Stops.{OneReason};
+=======
+ghost use Rattle.atproto_mst.specs.Laws.{SetsOne, UnsetsOne, OneDiff};
+>>>>>>> 915f8276e42bb76957ccd204ac8f7b3c5f15dc47
 
 /// Equal entries have an equal root.
 pub fn one_root()
@@ -29,4 +33,15 @@ pub fn records_bind()
 pub fn ways_decide_records()
     ensures same { WaysDecideRecords }
     ensures answered { WaysLead }
+{}
+
+/// One key is set or unset, and each other stays as it is.
+pub fn one_changes()
+    ensures set { SetsOne }
+    ensures unset { UnsetsOne }
+{}
+
+/// What differs between entries is told in one way.
+pub fn one_diff()
+    ensures { OneDiff }
 {}

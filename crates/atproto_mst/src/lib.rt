@@ -2,7 +2,9 @@
 #![tactic(auto)]
 
 mod build;
+mod change;
 mod commit;
+mod diffs;
 mod entries;
 mod error;
 mod find;
@@ -18,7 +20,9 @@ mod stored;
 mod way;
 mod write;
 
+pub use change::{put_entry, remove_entry};
 pub use commit::{Commit, spell_unsigned};
+pub use diffs::{Change, diff, diff_entries};
 pub use entries::MstEntry;
 pub use error::MstError;
 pub use find::find_record;

@@ -134,7 +134,7 @@ pub(crate) fn agree<T: PartialEq + Drop>(found: T, wanted: T) -> Result<(), Fail
     }
 }
 
-fn entry(alloc: Global, key: &[u8], value: Cid) -> Result<MstEntry, AllocError> {
+pub(crate) fn entry(alloc: Global, key: &[u8], value: Cid) -> Result<MstEntry, AllocError> {
     let key = key.to_vec(alloc)?;
     Ok(MstEntry { key, value })
 }

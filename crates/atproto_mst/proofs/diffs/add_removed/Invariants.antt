@@ -1,0 +1,8 @@
+use Rattle.std.proofs.Common.{◌≡◌, ◌++◌, drop}
+use Rattle.atproto_mst.specs.Entries.{entries}
+use Rattle.atproto_mst.specs.Changes.{changes}
+use Rattle.atproto_mst.specs.Merging.{removed}
+use Rattle.atproto_mst.proofs.diffs.add_removed.Given as goal
+
+abbrev pub invariant-loop-entry : goal.invariant-loop-entry
+invariant-loop-entry l = changes l.fn.found.items ++ removed (entries l.rest) ≡ changes l.found.items ++ removed (entries (drop l.entry-index l.rest))

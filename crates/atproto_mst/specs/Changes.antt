@@ -1,0 +1,80 @@
+-- Entries that are changed, and what differs between the entries of two trees.
+use Rattle.std.specs.Prelude.{◌≡◌, ◌≢◌, ◌⊎◌, ℕ, zero, suc, List, [], ◌∷◌, map, Option, None, if◌then◌else◌, bytes_eq, ⊤}
+use Rattle.std.specs.List.{AllByRecursion}
+use Rattle.std.specs.declared.cmp.Ordering.TheVariants.{Less}
+use Rattle.std.specs.Ordering.{nat_cmp}
+use Rattle.std.specs.Cmp.Lexicographic.{slice_cmp}
+use Rattle.ipld_tree.specs.Cid.{CidParts}
+use Rattle.atproto_mst.specs.Keys.{Entry, IsKey, ComesBefore, Rise}
+use Rattle.atproto_mst.specs.Finding.{lookup, by_order}
+use Rattle.atproto_mst.specs.declared.diffs.Change.{Change}
+use Rattle.atproto_mst.specs.declared.error.MstError.{MstError}
+use Rattle.atproto_mst.specs.declared.error.MstError.TheVariants.{OutOfMemory, KeyLength}
+
+-- ---- one record
+
+-- the entries with this record of the key, at its place among keys that rise
+abbrev pub set_entry : List ℕ → CidParts → List Entry → List Entry
+set_entry key value [] = (key, value) ∷ []
+set_entry key value (e ∷ es) = by_order (slice_cmp nat_cmp key e.0) ((key, value) ∷ (e ∷ es))
+    ((key, value) ∷ es) (e ∷ set_entry key value es)
+
+-- the entries without the key
+abbrev pub unset_entry : List ℕ → List Entry → List Entry
+unset_entry key [] = []
+unset_entry key (e ∷ es) = if bytes_eq e.0 key then es else e ∷ unset_entry key es
+
+-- why a record is not put: the key is none; or memory is wanted, for a key that has no record yet
+abbrev pub PutRefused : List ℕ → List Entry → MstError → Type 0
+PutRefused key es KeyLength = ¬ IsKey key
+PutRefused key es OutOfMemory = IsKey key × (Rise es → lookup key es ≡ None)
+PutRefused key es _ = ⊥
+
+-- the first keys, so many, come before this key; the next is it
+abbrev pub StandsAt : List ℕ → ℕ → List Entry → Type 0
+StandsAt key i [] = ⊥
+StandsAt key zero (e ∷ es) = e.0 ≡ key
+StandsAt key (suc i) (e ∷ es) = (slice_cmp nat_cmp e.0 key ≡ Less) × StandsAt key i es
+
+-- the first keys, so many, come before this key, and it before the others
+abbrev pub WouldStandAt : List ℕ → ℕ → List Entry → Type 0
+WouldStandAt key zero es = ComesBefore key es
+WouldStandAt key (suc i) [] = ⊥
+WouldStandAt key (suc i) (e ∷ es) = (slice_cmp nat_cmp e.0 key ≡ Less) × WouldStandAt key i es
+
+-- ---- all that differs
+
+-- a key, its record in the one, and its record in the other
+abbrev pub Changed : Type 0
+Changed = List ℕ × (Option CidParts × Option CidParts)
+
+abbrev pub change_of : Change → Changed
+change_of c = (c.key.items, (c.old, c.new))
+
+abbrev pub changes : List Change → List Changed
+changes cs = map change_of cs
+
+-- the key comes before the first of the changes
+abbrev pub ComesBeforeChanges : List ℕ → List Changed → Type 0
+ComesBeforeChanges key [] = ⊤
+ComesBeforeChanges key (c ∷ cs) = slice_cmp nat_cmp key c.0 ≡ Less
+
+-- the keys rise in the order of bytes
+abbrev pub ChangesRise : List Changed → Type 0
+ChangesRise [] = ⊤
+ChangesRise (c ∷ cs) = ComesBeforeChanges c.0 cs × ChangesRise cs
+
+-- one of the changes is of the key
+abbrev pub HasChange : List ℕ → List Changed → Type 0
+HasChange key [] = ⊥
+HasChange key (c ∷ cs) = (c.0 ≡ key) ⊎ HasChange key cs
+
+-- its records are those of its key, and they differ
+abbrev pub IsChange : List Entry → List Entry → Changed → Type 0
+IsChange old new c = (c.1.0 ≡ lookup c.0 old) × (c.1.1 ≡ lookup c.0 new) × (c.1.0 ≢ c.1.1)
+
+-- the changes of exactly the keys whose records differ, in the order of the keys
+pub record AreChanges (old new : List Entry) (cs : List Changed) : Type 0 where
+  pub rise : ChangesRise cs
+  pub each : AllByRecursion (IsChange old new) cs
+  pub all : (key : List ℕ) → lookup key old ≢ lookup key new → HasChange key cs

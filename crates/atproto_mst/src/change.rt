@@ -1,0 +1,83 @@
+//! Entries in order, of which one is changed.
+
+ghost use Rattle.std.specs.Prelude.{◌≡◌, MatchResult, IfOk, OnOk, IfErr, OnErr, length};
+ghost use Rattle.std.specs.List.Sorted.{IsSearchInRange};
+ghost use Rattle.std.specs.Ordering.{nat_cmp};
+ghost use Rattle.std.specs.Cmp.Lexicographic.{slice_cmp};
+ghost use Rattle.atproto_mst.specs.Keys.{IsKey, Rise};
+ghost use Rattle.atproto_mst.specs.Entries.{entries};
+ghost use Rattle.atproto_mst.specs.Finding.{lookup};
+ghost use Rattle.atproto_mst.specs.Changes.{set_entry, unset_entry, PutRefused, StandsAt, WouldStandAt};
+
+use crate::entries::{LONGEST_KEY, MstEntry};
+use crate::error::MstError;
+use ipld_tree::Cid;
+use std::alloc::{AllocError, Global};
+use std::cmp::Ordering;
+use std::mem::replace;
+
+/// Gives the key this record among entries whose keys rise, and answers the record that it had.
+/// Where it is refused the entries stay as they are. Takes memory for a new key alone.
+pub fn put_entry(
+    alloc: Global,
+    all: &mut Vec<MstEntry>,
+    key: &[u8],
+    value: Cid,
+) -> Result<Option<Cid>, MstError>
+    ensures put { Rise (entries all.old.items) → OnOk result
+        (entries all.new.items ≡ set_entry key.now value (entries all.old.items)) }
+    ensures before { Rise (entries all.old.items) → IfOk result
+        (λ before. before ≡ lookup key.now (entries all.old.items)) }
+    ensures key { OnOk result (IsKey key.now) }
+    ensures refused { IfErr result (PutRefused key.now (entries all.old.items)) }
+    ensures kept { OnErr result (all.new.items ≡ all.old.items) }
+{
+    let length = key.len();
+    if length < 1 || length > LONGEST_KEY {
+        return Err(MstError::KeyLength);
+    }
+    match find_place(all, key) {
+        Ok(at) => Ok(Some(replace(&mut all[at].value, value))),
+        Err(at) => {
+            let entry = new_entry(alloc, key, value)?;
+            match all.insert(at, entry) {
+                Ok(()) => Ok(None),
+                Err(_) => Err(MstError::OutOfMemory),
+            }
+        }
+    }
+}
+
+/// Takes the key away from entries whose keys rise, and answers the record that it had.
+pub fn remove_entry(all: &mut Vec<MstEntry>, key: &[u8]) -> Option<Cid>
+    ensures removed { Rise (entries all.old.items) →
+        entries all.new.items ≡ unset_entry key.now (entries all.old.items) }
+    ensures before { Rise (entries all.old.items) →
+        result ≡ lookup key.now (entries all.old.items) }
+{
+    match find_place(all, key) {
+        Ok(at) => Some(all.remove(at).value),
+        Err(_) => None,
+    }
+}
+
+/// An entry of this key.
+fn new_entry(alloc: Global, key: &[u8], value: Cid) -> Result<MstEntry, AllocError>
+    ensures { IfOk result (λ e. (e.key.items ≡ key.now) × (e.value ≡ value)) }
+{
+    let key = key.to_vec(alloc)?;
+    Ok(MstEntry { key, value })
+}
+
+/// Where the key stands, or else where it would.
+fn find_place(all: &[MstEntry], key: &[u8]) -> Result<usize, usize>
+    ensures bound { IsSearchInRange result (length all.now) }
+    ensures place { Rise (entries all.now) → MatchResult result
+        (λ i. StandsAt key.now i (entries all.now)) (λ i. WouldStandAt key.now i (entries all.now)) }
+{
+    all.binary_search_by(
+        |entry: &MstEntry| -> Ordering
+            ensures { result ≡ slice_cmp nat_cmp entry.now.key.items key.entry.now }
+        { entry.key.as_slice().cmp(key) },
+    )
+}

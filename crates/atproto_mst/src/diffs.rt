@@ -1,0 +1,144 @@
+//! What differs between the entries of two trees.
+
+ghost use Rattle.std.specs.Prelude.{◌≡◌, ◌⊎◌, [], ◌∷◌, ◌++◌, List, None, Some, MatchResult, IfOk, OnOk, IfErr};
+ghost use Rattle.ipld_links.specs.Reaching.{stored_in};
+ghost use Rattle.atproto_mst.specs.Keys.{Entry, Rise};
+ghost use Rattle.atproto_mst.specs.Entries.{entries, IsMst};
+ghost use Rattle.atproto_mst.specs.Stops.{MstRefused};
+ghost use Rattle.atproto_mst.specs.Changes.{changes, AreChanges};
+ghost use Rattle.atproto_mst.specs.Merging.{removed, added, noted};
+ghost use Rattle.atproto_mst.specs.declared.error.MstError.TheVariants.{OutOfMemory};
+
+use crate::entries::MstEntry;
+use crate::error::MstError;
+use crate::read::read_mst;
+use ipld_tree::Cid;
+use std::alloc::{AllocError, Global};
+use std::cmp::Ordering;
+use std::collections::BTreeMap;
+
+/// A key whose records differ.
+#[derive(Debug, Drop)]
+pub struct Change {
+    pub key: Vec<u8>,
+    /// Its record before, if it had one.
+    pub old: Option<Cid>,
+    /// Its record after, if it has one.
+    pub new: Option<Cid>,
+}
+
+/// The keys whose records differ between the trees that are stored with these roots, in their order.
+/// Of two equal roots the tree is read once.
+pub fn diff(
+    alloc: Global,
+    blocks: &BTreeMap<Cid, Vec<u8>>,
+    old: &Cid,
+    new: &Cid,
+) -> Result<Vec<Change>, MstError>
+    ensures read { IfOk result (λ v. (es fs : List Entry) × IsMst (stored_in blocks.now) old.now es
+        × IsMst (stored_in blocks.now) new.now fs × AreChanges es fs (changes v.items)) }
+    ensures refused { IfErr result (λ e. MstRefused (stored_in blocks.now) old.now e
+        ⊎ MstRefused (stored_in blocks.now) new.now e) }
+    ensures whole { (es fs : List Entry) → IsMst (stored_in blocks.now) old.now es
+        → IsMst (stored_in blocks.now) new.now fs
+        → MatchResult result (λ v. AreChanges es fs (changes v.items)) (λ e. e ≡ OutOfMemory) }
+{
+    let before = read_mst(alloc, blocks, old)?;
+    if old == new {
+        return Ok(Vec::new(alloc));
+    }
+    let after = read_mst(alloc, blocks, new)?;
+    let found = diff_entries(alloc, &before, &after)?;
+    Ok(found)
+}
+
+/// The keys whose records differ between entries whose keys rise, in their order.
+pub fn diff_entries(
+    alloc: Global,
+    old: &[MstEntry],
+    new: &[MstEntry],
+) -> Result<Vec<Change>, AllocError>
+    ensures { Rise (entries old.now) → Rise (entries new.now)
+        → IfOk result (λ v. AreChanges (entries old.now) (entries new.now) (changes v.items)) }
+{
+    let mut found = Vec::new(alloc);
+    let mut at = 0;
+    let mut next = 0;
+    while at < old.len() && next < new.len() {
+        let one = &old[at];
+        let other = &new[next];
+        match one.key.as_slice().cmp(other.key.as_slice()) {
+            Ordering::Less => {
+                add_change(alloc, &one.key, Some(one.value), None, &mut found)?;
+                at += 1;
+            }
+            Ordering::Equal => {
+                add_if_changed(alloc, one, other, &mut found)?;
+                at += 1;
+                next += 1;
+            }
+            Ordering::Greater => {
+                add_change(alloc, &other.key, None, Some(other.value), &mut found)?;
+                next += 1;
+            }
+        }
+    }
+    add_removed(alloc, &old[at..], &mut found)?;
+    add_added(alloc, &new[next..], &mut found)?;
+    Ok(found)
+}
+
+/// Appends a change.
+fn add_change(
+    alloc: Global,
+    key: &[u8],
+    old: Option<Cid>,
+    new: Option<Cid>,
+    found: &mut Vec<Change>,
+) -> Result<(), AllocError>
+    ensures { OnOk result
+        (changes found.new.items ≡ changes found.old.items ++ (key.now, (old, new)) ∷ []) }
+{
+    let key = key.to_vec(alloc)?;
+    found.reserve(1)?;
+    found.push_reserved(Change { key, old, new });
+    Ok(())
+}
+
+/// Appends the change between two entries of a key, if their records differ.
+fn add_if_changed(
+    alloc: Global,
+    one: &MstEntry,
+    other: &MstEntry,
+    found: &mut Vec<Change>,
+) -> Result<(), AllocError>
+    ensures { OnOk result (changes found.new.items ≡ changes found.old.items
+        ++ noted one.now.key.items (Some one.now.value) (Some other.now.value)) }
+{
+    if one.value == other.value {
+        return Ok(());
+    }
+    add_change(alloc, &one.key, Some(one.value), Some(other.value), found)
+}
+
+/// Appends the changes of entries that are in the one alone.
+fn add_removed(alloc: Global, rest: &[MstEntry], found: &mut Vec<Change>) -> Result<(), AllocError>
+    ensures { OnOk result
+        (changes found.new.items ≡ changes found.old.items ++ removed (entries rest.now)) }
+{
+    for entry in rest {
+        add_change(alloc, &entry.key, Some(entry.value), None, found)?;
+    }
+    Ok(())
+}
+
+/// Appends the changes of entries that are in the other alone.
+fn add_added(alloc: Global, rest: &[MstEntry], found: &mut Vec<Change>) -> Result<(), AllocError>
+    ensures { OnOk result
+        (changes found.new.items ≡ changes found.old.items ++ added (entries rest.now)) }
+{
+    for entry in rest {
+        add_change(alloc, &entry.key, None, Some(entry.value), found)?;
+    }
+    Ok(())
+}

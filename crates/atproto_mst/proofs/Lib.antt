@@ -24,10 +24,7 @@ pub mod Searching
 pub mod Binding
 pub mod Telling
 pub mod Ways
-<<<<<<< HEAD
 pub mod Refusals
-=======
 pub mod Changing
 pub mod Merging
 pub mod Singling
->>>>>>> 915f8276e42bb76957ccd204ac8f7b3c5f15dc47

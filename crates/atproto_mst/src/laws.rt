@@ -1,11 +1,8 @@
 //! Laws of the definitions, each the contract of a function that does nothing.
 
 ghost use Rattle.atproto_mst.specs.Laws.{OneRoot, RootBinds, RecordsBind, WaysDecideRecords, WaysLead};
-<<<<<<< HEAD
-ghost use Rattle.atproto_mst.specs.Stops.{OneReason};
-=======
 ghost use Rattle.atproto_mst.specs.Laws.{SetsOne, UnsetsOne, OneDiff};
->>>>>>> 915f8276e42bb76957ccd204ac8f7b3c5f15dc47
+ghost use Rattle.atproto_mst.specs.Stops.{OneReason};
 
 /// Equal entries have an equal root.
 pub fn one_root()

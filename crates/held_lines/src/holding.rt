@@ -68,7 +68,8 @@ impl SectionSink for Holding {
     }
 }
 
-/// The roots and the sound blocks of the file that the input is, or the line that tells why it is none.
+/// The roots and the sound blocks of the file that the input is, or the line that tells why it is
+/// none.
 pub fn held_of<R: BufRead>(alloc: Global, input: &mut R) -> Result<Result<Held, Vec<u8>>, ToolError>
     ensures { IfSome (R.remaining input.old) (λ b. IfOk result (HoldsFile b)) }
 {

@@ -12,8 +12,8 @@ use held_lines::held_of;
 use std::alloc::Global;
 use std::io::{BufRead, Write};
 
-/// Writes a line for each record of the file that the input is, or tells why there is none. The blocks
-/// of the input are in memory.
+/// Writes a line for each record of the file that the input is, or tells why there is none. The
+/// blocks of the input are in memory.
 pub fn write_records<R: BufRead, W: Write, V: Write>(
     alloc: Global,
     input: &mut R,
@@ -31,8 +31,8 @@ pub fn write_records<R: BufRead, W: Write, V: Write>(
     }
 }
 
-/// Writes the data of the record of the key in the file that the input is, or tells why there is none.
-/// The blocks of the input are in memory.
+/// Writes the data of the record of the key in the file that the input is, or tells why there is
+/// none. The blocks of the input are in memory.
 pub fn write_record<R: BufRead, W: Write, V: Write>(
     alloc: Global,
     key: &str,

@@ -31,7 +31,8 @@ fn push_byte(byte: u8, out: &mut Vec<u8>) -> Result<(), AllocError>
     }
 }
 
-/// A key in one word of a line: a byte that is none of 0x21 to 0x7e, or is `%`, as `%` and two digits.
+/// A key in one word of a line: a byte that is none of 0x21 to 0x7e, or is `%`, as `%` and two
+/// digits.
 pub fn key_text(alloc: Global, key: &[u8]) -> Result<Vec<u8>, AllocError>
     ensures { IfOk result (λ v. v.items ≡ key_text key.now) }
 {

@@ -97,8 +97,8 @@ fn record_of(
 }
 
 /// Writes the data of the record of the key, in the tree of the commit that the one root names; or
-/// writes nothing, and tells why there is none. Whether there is one. The commit, the nodes on the way
-/// to the key and the record need be stored, and no others.
+/// tells why there is none. Whether there is one. The commit, the nodes on the way to the key and the
+/// record need be stored, and no others.
 pub fn say_record<W: Write, V: Write>(
     alloc: Global,
     roots: &[Cid],

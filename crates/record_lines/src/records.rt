@@ -78,8 +78,8 @@ fn records_of(
 }
 
 /// Writes a line for each record of the repository whose commit the one root names, in the order of
-/// keys: the key, in which `%` and two digits stand for a byte that would not stand for itself, a space,
-/// and the CID of the record. Or writes nothing, and tells why there is none. Whether there is one.
+/// keys: the key, in which `%` and two digits stand for a byte that could end a word, a space, and
+/// the CID of the record. Or writes nothing, and tells why there is none. Whether there is one.
 /// Records themselves need not be stored.
 pub fn say_records<W: Write, V: Write>(
     alloc: Global,

@@ -27,3 +27,4 @@ pub mod Ways
 pub mod Changing
 pub mod Merging
 pub mod Singling
+pub mod Keeping

@@ -218,8 +218,8 @@ fn a_lost_node_is_told(rt: HostRuntime) -> Result<(), Fail> {
     let root = write_mst(alloc, &all, &mut kept)?;
     let _ = kept.blocks.remove(&root);
     match read_mst(alloc, &kept.blocks, &root) {
-        Err(MstError::MissingNode(name)) => agree(name, root),
-        _ => Err(Fail::from("a lost node was not told")),
+        Err(error) => agree(error, MstError::MissingNode(root)),
+        Ok(_) => Err(Fail::from("a lost node was not told")),
     }
 }
 

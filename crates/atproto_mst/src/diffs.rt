@@ -38,7 +38,8 @@ pub fn diff(
     ensures read { IfOk result (λ v. (es fs : List Entry) × IsMst (stored_in blocks.now) old.now es
         × IsMst (stored_in blocks.now) new.now fs × AreChanges es fs (changes v.items)) }
     ensures refused { IfErr result (λ e. MstRefused (stored_in blocks.now) old.now e
-        ⊎ MstRefused (stored_in blocks.now) new.now e) }
+        ⊎ ((es : List Entry) × IsMst (stored_in blocks.now) old.now es
+        × MstRefused (stored_in blocks.now) new.now e)) }
     ensures whole { (es fs : List Entry) → IsMst (stored_in blocks.now) old.now es
         → IsMst (stored_in blocks.now) new.now fs
         → MatchResult result (λ v. AreChanges es fs (changes v.items)) (λ e. e ≡ OutOfMemory) }

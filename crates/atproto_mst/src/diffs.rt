@@ -27,8 +27,8 @@ pub struct Change {
     pub new: Option<Cid>,
 }
 
-/// The keys whose records differ between the trees that are stored with these roots, in their order.
-/// Of two equal roots the tree is read once.
+/// The keys whose records differ between the trees that are stored with these roots, in their
+/// order. Both trees are read whole; of two equal roots the one.
 pub fn diff(
     alloc: Global,
     blocks: &BTreeMap<Cid, Vec<u8>>,

@@ -28,3 +28,4 @@ pub mod Refusals
 pub mod Changing
 pub mod Merging
 pub mod Singling
+pub mod Keeping

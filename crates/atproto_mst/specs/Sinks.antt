@@ -1,7 +1,8 @@
 -- What nodes are handed to.
-use Rattle.std.specs.Prelude.{◌≡◌, ◌⊎◌, List, ◌++◌}
+use Rattle.std.specs.Prelude.{◌≡◌, ◌⊎◌, List, [], ◌∷◌, ◌++◌, is_some, if◌then◌else◌}
 use Rattle.dagcbor_car.specs.Car.{Section}
 use Rattle.ipld_links.specs.Sets.{Among}
+use Rattle.ipld_links.specs.Reaching.{Stored}
 use Rattle.atproto_mst.specs.declared.error.MstError.{MstError}
 use Rattle.atproto_mst.specs.declared.error.MstError.TheVariants.{OutOfMemory}
 
@@ -21,3 +22,8 @@ abbrev pub RefusesOne : {S W : Type 0} → (S → W → List Section → Type 0)
 RefusesOne {S} {W} holds refuses old nodes e = (world : W) (before : List Section)
     → holds old world before
     → (e ≡ OutOfMemory) ⊎ ((s : Section) × Among s nodes × refuses world s e)
+
+-- the nodes under whose names nothing is stored
+abbrev pub not_stored : Stored → List Section → List Section
+not_stored stored [] = []
+not_stored stored (s ∷ ss) = if is_some (stored s.0) then not_stored stored ss else s ∷ not_stored stored ss

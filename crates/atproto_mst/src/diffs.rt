@@ -27,8 +27,8 @@ pub struct Change {
     pub new: Option<Cid>,
 }
 
-/// The keys whose records differ between the trees that are stored with these roots, in their order.
-/// Of two equal roots the tree is read once.
+/// The keys whose records differ between the trees that are stored with these roots, in their
+/// order. Both trees are read whole; of two equal roots the one.
 pub fn diff(
     alloc: Global,
     blocks: &BTreeMap<Cid, Vec<u8>>,
@@ -38,7 +38,8 @@ pub fn diff(
     ensures read { IfOk result (λ v. (es fs : List Entry) × IsMst (stored_in blocks.now) old.now es
         × IsMst (stored_in blocks.now) new.now fs × AreChanges es fs (changes v.items)) }
     ensures refused { IfErr result (λ e. MstRefused (stored_in blocks.now) old.now e
-        ⊎ MstRefused (stored_in blocks.now) new.now e) }
+        ⊎ ((es : List Entry) × IsMst (stored_in blocks.now) old.now es
+        × MstRefused (stored_in blocks.now) new.now e)) }
     ensures whole { (es fs : List Entry) → IsMst (stored_in blocks.now) old.now es
         → IsMst (stored_in blocks.now) new.now fs
         → MatchResult result (λ v. AreChanges es fs (changes v.items)) (λ e. e ≡ OutOfMemory) }

@@ -17,6 +17,7 @@ mod repo_error;
 mod rows;
 mod sink;
 mod stored;
+mod unstored;
 mod way;
 mod write;
 
@@ -31,5 +32,6 @@ pub use read::read_mst;
 pub use repo::{Repo, read_repo, stored_commit};
 pub use repo_error::RepoError;
 pub use sink::NodeSink;
+pub use unstored::write_changes;
 pub use way::record_way;
 pub use write::{mst_root, write_mst};

@@ -2,7 +2,8 @@
 
 use crate::tests::{Kept, agree, entry, is_named, numbered_all};
 use atproto_mst::{
-    Change, MstEntry, MstError, diff, diff_entries, mst_root, put_entry, remove_entry, write_mst,
+    Change, MstEntry, MstError, diff, diff_entries, mst_root, put_entry, read_mst, remove_entry,
+    write_changes, write_mst,
 };
 use ipld_links::name_of_block;
 use ipld_tree::Cid;
@@ -141,6 +142,29 @@ const OLD_ROOT: &[u8] = b"bafyreibclx4qhxowyor7zcqxlekik5mt74ufzlthctc6s4rmthwqa
 
 const NEW_ROOT: &[u8] = b"bafyreihqvev4flgcdj25y4ppb4qltcyowatuaouwt5hhghievecmlpnpsy";
 
+/// Of 200 records with the step 11: the number of a key, the number of its new record or none, how
+/// many nodes are new, and the root then.
+const FRESH: &[(u32, Option<u32>, usize, &[u8])] = &[
+    (
+        3,
+        Some(3),
+        4,
+        b"bafyreiavlwzlomrkotktneyqot6c3alm7laarkk5vaszffpfuchbsjb2mm",
+    ),
+    (
+        110,
+        None,
+        5,
+        b"bafyreibglowlgvjseyjbksabcp7kw4isorcz6mlzpu3vz2zqoy4aoa67r4",
+    ),
+    (
+        2189,
+        Some(5),
+        1,
+        b"bafyreiemdpsmxooij76mecl7mi2ieuiyzvblth7xpo4prj2xvckalmy2uu",
+    ),
+];
+
 fn key_of(alloc: Global, number: u32) -> Result<Vec<u8>, AllocError> {
     let text = format!(in alloc; "com.example.record/{number:06}")?;
     text.as_bytes().to_vec(alloc)
@@ -257,7 +281,32 @@ fn what_differs_between_trees_is_told(rt: HostRuntime) -> Result<(), Fail> {
     are_told(alloc, &diff(alloc, &kept.blocks, &new, &new)?, &[])?;
     let _ = kept.blocks.remove(&new);
     match diff(alloc, &kept.blocks, &old, &new) {
-        Err(MstError::MissingNode(name)) => agree(name, new),
-        _ => Err(Fail::from("a lost node was not told")),
+        Err(error) => agree(error, MstError::MissingNode(new)),
+        Ok(_) => Err(Fail::from("a lost node was not told")),
     }
+}
+
+#[test]
+fn new_nodes_are_handed_out(rt: HostRuntime) -> Result<(), Fail> {
+    let alloc = rt.alloc();
+    let mut all = numbered_all(alloc, 200, 11)?;
+    let mut kept = Kept {
+        blocks: BTreeMap::new(alloc),
+    };
+    write_mst(alloc, &all, &mut kept)?;
+    for row in FRESH {
+        change_one(alloc, &mut all, row.0, row.1)?;
+        let none = Kept {
+            blocks: BTreeMap::new(alloc),
+        };
+        let (fresh, root) = write_changes(alloc, &kept.blocks, &all, none);
+        let root = root?;
+        agree(is_named(&root, row.3), true)?;
+        agree(fresh.blocks.len(), row.2)?;
+        for (name, block) in fresh.blocks {
+            kept.blocks.insert(name, block)?;
+        }
+        agree(read_mst(alloc, &kept.blocks, &root)?.len(), all.len())?;
+    }
+    Ok(())
 }

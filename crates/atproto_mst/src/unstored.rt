@@ -1,0 +1,65 @@
+//! The nodes of a tree that are not stored yet.
+
+ghost use Rattle.std.specs.Prelude.{◌≡◌, ◌⊎◌, List, ◌++◌, None, IfOk, OnOk, IfErr};
+ghost use Rattle.dagcbor_car.specs.Car.{Section};
+ghost use Rattle.ipld_links.specs.Reaching.{stored_in, Stored};
+ghost use Rattle.atproto_mst.specs.Keys.{AreEntries};
+ghost use Rattle.atproto_mst.specs.Trees.{root_of, nodes_of};
+ghost use Rattle.atproto_mst.specs.Entries.{entries, EntriesRefused};
+ghost use Rattle.atproto_mst.specs.Sinks.{Takes, RefusesOne, not_stored};
+
+use crate::entries::MstEntry;
+use crate::error::MstError;
+use crate::sink::NodeSink;
+use crate::write::write_mst;
+use ipld_links::stored_bytes;
+use ipld_tree::Cid;
+use std::alloc::Global;
+use std::collections::BTreeMap;
+
+/// Nodes that are not stored are handed on.
+#[derive(Drop)]
+struct Unstored<'a, S> {
+    blocks: &'a BTreeMap<Cid, Vec<u8>>,
+    sink: S,
+}
+
+impl<S: NodeSink> NodeSink for Unstored<'_, S> {
+    ghost World = { Stored × (S.World × List Section) };
+
+    ghost holds = { λ s world nodes. (world.0 ≡ stored_in s.blocks.now)
+        × S.holds s.sink world.1.0 (world.1.1 ++ not_stored world.0 nodes) };
+
+    ghost refuses = { λ world node e. (world.0 node.0 ≡ None) × S.refuses world.1.0 node e };
+
+    fn take(&mut self, name: Cid, block: Vec<u8>) -> Result<(), MstError> {
+        match stored_bytes(self.blocks, &name) {
+            Some(_) => Ok(()),
+            None => self.sink.take(name, block),
+        }
+    }
+}
+
+/// As `write_mst`, but hands over only those nodes under whose names nothing is stored: after a
+/// change of entries, the new ones. Answers the sink besides.
+pub fn write_changes<S: NodeSink>(
+    alloc: Global,
+    blocks: &BTreeMap<Cid, Vec<u8>>,
+    all: &[MstEntry],
+    sink: S,
+) -> (S, Result<Cid, MstError>)
+    ensures root { IfOk result.1
+        (λ root. root ≡ root_of (entries all.now)) }
+    ensures valid { OnOk result.1 (AreEntries (entries all.now)) }
+    ensures taken { OnOk result.1 (Takes S.holds sink
+        (not_stored (stored_in blocks.now) (nodes_of (entries all.now))) result.0) }
+    ensures refused { IfErr result.1
+        (λ e. (EntriesRefused e (entries all.now) × (result.0 ≡ sink))
+        ⊎ RefusesOne S.holds S.refuses sink
+        (not_stored (stored_in blocks.now) (nodes_of (entries all.now))) e) }
+{
+    let mut unstored = Unstored { blocks, sink };
+    let root = write_mst(alloc, all, &mut unstored);
+    let Unstored { sink, .. } = unstored;
+    (sink, root)
+}

@@ -51,3 +51,13 @@ among_kept stored x (s ∷ ss) none (inr m) = by (among_kept stored x ss none m)
     by : Among x (not_stored stored ss) → (b : Bool) → is_some (stored s.0) ≡ b → Among x (not_stored stored (s ∷ ss))
     by more true e = subst (Among x) (sym (one_kept stored s ss true e)) more
     by more false e = subst (Among x) (sym (one_kept stored s ss false e)) (inr more)
+
+-- of nodes one behind the other, those of the first that are not stored stand before those of the others
+pub kept_of_both : (stored : Stored) (a b : List Section) → not_stored stored (a ++ b) ≡ not_stored stored a ++ not_stored stored b
+kept_of_both stored [] b = refl
+kept_of_both stored (x ∷ a) b = by (kept_of_both stored a b) (is_some (stored x.0)) refl
+  where
+    by : not_stored stored (a ++ b) ≡ not_stored stored a ++ not_stored stored b → (y : Bool) → is_some (stored x.0) ≡ y
+        → not_stored stored (x ∷ (a ++ b)) ≡ not_stored stored (x ∷ a) ++ not_stored stored b
+    by more true y = one_kept stored x (a ++ b) true y ∙ more ∙ ap (λ l. l ++ not_stored stored b) (sym (one_kept stored x a true y))
+    by more false y = one_kept stored x (a ++ b) false y ∙ ap (λ l. x ∷ l) more ∙ ap (λ l. l ++ not_stored stored b) (sym (one_kept stored x a false y))

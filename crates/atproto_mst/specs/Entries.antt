@@ -1,5 +1,5 @@
 -- Entries as they are held, and why they are none.
-use Rattle.std.specs.Prelude.{◌≡◌, List, map, Some, ⊤}
+use Rattle.std.specs.Prelude.{◌≡◌, List, map, Some}
 use Rattle.std.specs.List.{AllByRecursion}
 use Rattle.ipld_tree.specs.Cid.{CidParts}
 use Rattle.dagcbor_car.specs.Car.{Section}

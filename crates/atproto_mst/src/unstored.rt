@@ -6,7 +6,7 @@ ghost use Rattle.ipld_links.specs.Reaching.{stored_in, Stored};
 ghost use Rattle.atproto_mst.specs.Keys.{AreEntries};
 ghost use Rattle.atproto_mst.specs.Trees.{root_of, nodes_of};
 ghost use Rattle.atproto_mst.specs.Entries.{entries, EntriesRefused};
-ghost use Rattle.atproto_mst.specs.Sinks.{Takes, RefusesOne, not_stored};
+ghost use Rattle.atproto_mst.specs.Sinks.{Takes, TakesFirst, RefusesOne, not_stored};
 
 use crate::entries::MstEntry;
 use crate::error::MstError;
@@ -55,8 +55,10 @@ pub fn write_changes<S: NodeSink>(
         (not_stored (stored_in blocks.now) (nodes_of (entries all.now))) result.0) }
     ensures refused { IfErr result.1
         (λ e. (EntriesRefused e (entries all.now) × (result.0 ≡ sink))
-        ⊎ RefusesOne S.holds S.refuses sink
-        (not_stored (stored_in blocks.now) (nodes_of (entries all.now))) e) }
+        ⊎ (AreEntries (entries all.now) × RefusesOne S.holds S.refuses sink
+        (not_stored (stored_in blocks.now) (nodes_of (entries all.now))) e)) }
+    ensures begun { IfErr result.1 (λ _. TakesFirst S.holds sink
+        (not_stored (stored_in blocks.now) (nodes_of (entries all.now))) result.0) }
 {
     let mut unstored = Unstored { blocks, sink };
     let root = write_mst(alloc, all, &mut unstored);

@@ -3,6 +3,8 @@
 No row is copied from a run: trees are those of `signed_trees`."""
 
 import base64
+import os
+import pathlib
 import random
 import subprocess
 
@@ -218,6 +220,81 @@ def whole(path, rng, pool, count):
             yield f"tree {number}, of {len(records)} records: {found[0]}, {found[2]!r}"
 
 
+def changed_lines(old, new):
+    """A line for each key whose records differ, in the order of keys."""
+    lines = []
+    for key in sorted({**old, **new}):
+        before, after = old.get(key), new.get(key)
+        if before != after:
+            word = "added" if before is None else "removed" if after is None else "changed"
+            lines.append(" ".join([word, key_text(key), *(text_of(name) for name in (before, after) if name)]))
+    return "".join(f"{line}\n" for line in lines)
+
+
+def later(rng, pool, records):
+    """Records that share most with these."""
+    kept = {key: value for key, value in records.items() if rng.random() < 0.9}
+    changed = {key: record(rng.randbytes(4)) for key in kept if rng.random() < 0.1}
+    fresh = pool.take(rng)
+    some_new = rng.sample(sorted(fresh), min(len(fresh), rng.choice((0, 1, 5))))
+    return {**kept, **changed, **{key: fresh[key] for key in some_new}}
+
+
+def ran_on_two(path, folder, old, new, which):
+    """`changes` of two files. The one of that number, if it is one of the two, is standard input."""
+    words, data = ["changes"], b""
+    for at, file in enumerate((old, new)):
+        if at == which:
+            data = file
+            words.append("-")
+        else:
+            name = os.path.join(folder, f"{at}.car")
+            pathlib.Path(name).write_bytes(file)
+            words.append(name)
+    return ran(path, words, data)
+
+
+def differing(path, folder, rng, pool, count):
+    """Two repositories that share most records; each third pair is one of equal records."""
+    for number in range(count):
+        old = pool.take(rng)
+        new = old if number % 3 == 2 else later(rng, pool, old)
+        found = ran_on_two(path, folder, over(tree_of(old)), over(tree_of(new)), number % 4)
+        if found != (0, changed_lines(old, new), ""):
+            yield f"changes {number}, of {len(old)} and {len(new)} records: {found[0]}, {found[2]!r}"
+
+
+def differing_damaged(path, folder, rng, pool, count):
+    """One of the two files damaged, or both: of the old one is told what `records` tells of it, else of the new one."""
+    for number in range(count):
+        damage = DAMAGES[number % len(DAMAGES)]
+        bad, wanted = damage(rng, pool)
+        sound = over(tree_of(pool.take(rng)))
+        old, new, front = ((bad, sound, "old: "), (sound, bad, "new: "), (bad, pick_other(rng, pool), "old: "))[number // len(DAMAGES) % 3]
+        found = ran_on_two(path, folder, old, new, number % 4)
+        told = ran(path, ["records"], bad)[2]
+        if found != (1, "", front + told) or WORDS.get(wanted, wanted) not in told:
+            yield f"changes, {damage.__name__}, {number}: {found!r}"
+
+
+def pick_other(rng, pool):
+    return rng.choice(DAMAGES)(rng, pool)[0]
+
+
+def not_told(path, folder):
+    """Words and files that are none, of which the status is 2."""
+    file = over(tree_of({b"a/b": record(b"1")}))
+    away, here = os.path.join(folder, "away.car"), os.path.join(folder, "here.car")
+    pathlib.Path(here).write_bytes(file)
+    usage = ["changes"], ["changes", here], ["changes", "-", "-"], ["changes", here, here, here]
+    closed = ["changes", away, here], ["changes", here, away], ["changes", "-", away], ["changes", away, "-"], ["changes", away, away]
+    for line, calls in ("usage: dagcar ", usage), ("dagcar: the file cannot be opened\n", closed):
+        for words in calls:
+            status, out, told = ran(path, words, file)
+            if status != 2 or out or not told.startswith(line) or told.count("\n") != 1:
+                yield f"{words[:1]} and {len(words) - 1} files: {status}, {told!r}"
+
+
 def damaged(path, rng, pool, count):
     for number in range(count):
         damage = DAMAGES[number % len(DAMAGES)]
@@ -255,21 +332,28 @@ def one_record(path, rng, pool, count):
                 yield f"record {number}: {key!r}: {status}, {out!r}, {told!r}"
 
 
-def small():
-    """A file of three records, two of which it has, and what is said of it."""
+def small(folder):
+    """A file of three records, two of which it has, and what is said of it, and of it and another one."""
     note, link_to = fields((b"text", spelled(3, b"hi"))), spelled(2, b"away")
     records = {b"app.bsky.feed.post/self": named(note), b"app.bsky.feed.like/1": named(link_to), b"a": record(b"b")}
     tree = tree_of(records)
     file = file_of(commit(tree.name()), tree.all()) + section(note) + section(b"\x41b")
     lines = lines_of(records).encode()
-    return file, {"records": (0, lines), "record app.bsky.feed.post/self": (0, b'{"text":"hi"}\n')}
+    later_records = {b"a": record(b"c"), b"b/c": record(b"d")}
+    newer = os.path.join(folder, "newer.car")
+    pathlib.Path(newer).write_bytes(over(tree_of(later_records)))
+    changed = changed_lines(records, later_records).encode()
+    return file, {"records": (0, lines), "record app.bsky.feed.post/self": (0, b'{"text":"hi"}\n'), f"changes - {newer}": (0, changed)}
 
 
-def sweep(path, report, count=RANDOM_TREES):
-    """Everything, of the program that is built there."""
+def sweep(path, folder, report, count=RANDOM_TREES):
+    """Everything, of the program that is built there. Files lie in the folder."""
     rng = random.Random(20261127)
     pool = Pool(rng)
     report("repositories, roots of the reference", len(ROOTS), list(reference()))
     report("repositories, random trees", count, list(whole(path, rng, pool, count)))
     report("repositories, damaged", count // 4, list(damaged(path, rng, pool, count // 4)))
     report("repositories, one record", 2 * (count // 8), list(one_record(path, rng, pool, count // 8)))
+    report("repositories, two random ones", count // 4, list(differing(path, folder, rng, pool, count // 4)))
+    report("repositories, two, damaged", count // 8, list(differing_damaged(path, folder, rng, pool, count // 8)))
+    report("repositories, two, not told", 9, list(not_told(path, folder)))

@@ -1,11 +1,24 @@
 //! The program `dagcar`: judges files of blocks (CAR, versions 1 and 2), and blocks.
 #![tactic(auto)]
 
-use dagcar_lines::{OUT_OF_MEMORY, OneFault, USAGE, run_command, split_words};
+use dagcar_lines::{
+    OUT_OF_MEMORY, OneFault, USAGE, changes_of, run_changes, run_command, split_words,
+};
 use dagcbor_cli::{arguments, give_up};
 use std::io::{BufReader, BufWriter, ErrorKind, Read, Write};
 use std::process::ExitCode;
 use std::{fs, io};
+
+/// What is told of a file that cannot be opened.
+const NOT_OPENED: &str = "dagcar: the file cannot be opened\n";
+
+/// The status of a run whose output is gathered, and goes out at last.
+fn end_output<W: Write, V: Write>(output: &mut W, errors: &mut V, status: u8) -> u8 {
+    match output.flush() {
+        Err(_) if status != 2 => give_up(errors, "dagcar: output failed\n", 2),
+        _ => status,
+    }
+}
 
 /// Does what the words say of the source, and answers the exit status. Lines are gathered, and go out
 /// many a call.
@@ -19,14 +32,55 @@ fn run_over<S: Read + Drop, V: Write>(
     let mut input = BufReader::new(rt.alloc(), source)?;
     let mut output = BufWriter::new(rt.alloc(), OneFault::new(rt.stdout().lock()))?;
     let status = run_command(rt.alloc(), words, &mut input, &mut output, errors);
-    match output.flush() {
-        Err(_) if status != 2 => Ok(give_up(errors, "dagcar: output failed\n", 2)),
-        _ => Ok(status),
+    Ok(end_output(&mut output, errors, status))
+}
+
+/// Says what differs between the two sources, in the same way.
+fn run_between<R: Read + Drop, S: Read + Drop, V: Write>(
+    rt: &HostRuntime,
+    old: R,
+    new: S,
+    errors: &mut V,
+) -> io::Result<u8> {
+    let mut old = BufReader::new(rt.alloc(), old)?;
+    let mut new = BufReader::new(rt.alloc(), new)?;
+    let mut output = BufWriter::new(rt.alloc(), OneFault::new(rt.stdout().lock()))?;
+    let status = run_changes(rt.alloc(), &mut old, &mut new, &mut output, errors);
+    Ok(end_output(&mut output, errors, status))
+}
+
+/// The same of a source and the new file, or standard input.
+fn run_before<R: Read + Drop, V: Write>(
+    rt: &HostRuntime,
+    old: R,
+    new: &str,
+    errors: &mut V,
+) -> io::Result<u8> {
+    if new == "-" {
+        return run_between(rt, old, rt.reader(), errors);
+    }
+    match fs::open(rt, new) {
+        Ok(new) => run_between(rt, old, new, errors),
+        Err(_) => Ok(give_up(errors, NOT_OPENED, 2)),
     }
 }
 
-/// The same of the file that the words name, or of standard input.
+/// The same of two files, of which standard input can be one.
+fn run_files<V: Write>(rt: &HostRuntime, old: &str, new: &str, errors: &mut V) -> io::Result<u8> {
+    if old == "-" {
+        return run_before(rt, rt.reader(), new, errors);
+    }
+    match fs::open(rt, old) {
+        Ok(old) => run_before(rt, old, new, errors),
+        Err(_) => Ok(give_up(errors, NOT_OPENED, 2)),
+    }
+}
+
+/// Does what the words say of the files that they name, or of standard input.
 fn run_words<V: Write>(rt: &HostRuntime, args: &[String], errors: &mut V) -> io::Result<u8> {
+    if let Some((old, new)) = changes_of(args) {
+        return run_files(rt, old, new, errors);
+    }
     let (words, file) = split_words(args);
     let path = match file {
         None | Some("-") => return run_over(rt, words, rt.reader(), errors),
@@ -34,7 +88,7 @@ fn run_words<V: Write>(rt: &HostRuntime, args: &[String], errors: &mut V) -> io:
     };
     match fs::open(rt, path) {
         Ok(source) => run_over(rt, words, source, errors),
-        Err(_) => Ok(give_up(errors, "dagcar: the file cannot be opened\n", 2)),
+        Err(_) => Ok(give_up(errors, NOT_OPENED, 2)),
     }
 }
 

@@ -7,7 +7,7 @@ use Rattle.std.proofs.Math.Seq.{take-length}
 use Rattle.std.proofs.lemmas.Slice.Eq.{bytes_eq-Decides}
 use Rattle.ipld_tree.specs.Cid.{CidParts}
 use Rattle.cid_text.specs.Texts.{IsTextOf, TextsTellCids}
-use Rattle.dagcar_lines.specs.Commands.{command_name, name_part, path_part, IsWordOf, IsRootOf, IsCommand, IsCommandOn}
+use Rattle.dagcar_lines.specs.Commands.{command_name, name_part, path_part, IsWordOf, IsRootOf, IsCommand, IsCommandOn, IsChanges}
 use Rattle.dagcar_lines.specs.declared.command.Command.{Command}
 use Rattle.dagcar_lines.specs.declared.command.Command.TheVariants as commands
 
@@ -119,6 +119,14 @@ same_command law words c (commands.Raw m) h k = absurd (never_both words c (comm
 same_command law words c commands.Summary h k = absurd (never_both words c commands.Summary (λ e f. omega (arith, e, f)) h k)
 same_command law words c commands.Record h k = absurd (never_both words c commands.Record (λ e f. omega (arith, e, f)) h k)
 same_command law words c d h k = sym (by_name c tt) ∙ ap by_words (sym h ∙ k) ∙ by_name d tt
+
+three_of_changes : (c : Command) → 3 ≡ count_of c → 99 ≡ letter_of c → ⊥
+three_of_changes (commands.Raw n) e f = omega (arith, f)
+three_of_changes c e f = omega (arith, e)
+
+-- the words of `changes` are no command
+pub changes_apart : (words : List (List ℕ)) (old new : List ℕ) (c : Command) → IsChanges words old new → IsCommand words c → ⊥
+changes_apart words old new c h k = three_of_changes c (sym (ap length h.0) ∙ (counted words c k).0) (sym (ap first_letter h.0) ∙ (counted words c k).1)
 
 -- ---- which words are none
 

@@ -79,3 +79,12 @@ IsMistyped _ e = ⊥
 abbrev pub IsCommandOn : List ℕ → CidParts → Command → Type 0
 IsCommandOn word name command = ((word ≡ codes "get") × (command ≡ commands.Get name))
     ⊎ ((word ≡ codes "tree") × (command ≡ commands.Tree name))
+
+-- `changes` and two files, of which at most one is standard input
+abbrev pub IsChanges : List (List ℕ) → List ℕ → List ℕ → Type 0
+IsChanges words old new = (words ≡ codes "changes" ∷ old ∷ new ∷ []) × (old ≡ codes "-" → new ≢ codes "-")
+
+-- its words are no command
+abbrev pub ChangesAreNoCommand : Type 0
+ChangesAreNoCommand = (words : List (List ℕ)) (old new : List ℕ) (c : Command) → IsChanges words old new
+    → ¬ IsCommand words c

@@ -41,7 +41,7 @@ use std::io::{BufRead, Write};
 /// What is told of wrong words.
 pub const USAGE: &str =
     "usage: dagcar check [--summary]|verify|list|name|one|show|make|get CID|tree CID\
-    |at [--raw] CID/PATH|prove CID/PATH|records|record KEY\n";
+    |at [--raw] CID/PATH|prove CID/PATH|records|record KEY|changes OLD NEW\n";
 
 /// What is told of want of memory.
 pub const OUT_OF_MEMORY: &str = "dagcar: out of memory\n";
@@ -293,7 +293,7 @@ pub fn split_words(args: &[String]) -> (&[String], Option<&str>)
 }
 
 /// The status of a run that ended so. A fault is told on `errors`.
-fn status_of<V: Write>(ended: Result<bool, ToolError>, errors: &mut V) -> u8
+pub fn status_of<V: Write>(ended: Result<bool, ToolError>, errors: &mut V) -> u8
     ensures status { EndsSo ended result }
     ensures quiet { result ≢ 2 → errors.new ≡ errors.old }
 {

@@ -11,6 +11,7 @@ const HELP: &str = "usage: dagcar check [--summary] [FILE]
        dagcar prove CID/PATH [FILE]
        dagcar records [FILE]
        dagcar record KEY [FILE]
+       dagcar changes OLD NEW
 
 Of a file of blocks (CAR, version 1 or 2); without FILE, or with -, standard input:
   check    the verdict on each block, and which links lead nowhere; --summary counts them
@@ -22,6 +23,7 @@ Of a file of blocks (CAR, version 1 or 2); without FILE, or with -, standard inp
   prove    the file of the blocks on a path, over which at answers the same
   records  the keys of a repository's records (AT Protocol), and their CIDs
   record   the record of a key, as DAG-JSON
+  changes  the keys whose records differ between two repositories, and their CIDs
 
 Of a block of DAG-CBOR:
   name     its CID

@@ -1,5 +1,6 @@
 //! Laws of what the program answers, each the contract of a function that does nothing.
 
+ghost use Rattle.dagcar_lines.specs.Commands.{ChangesAreNoCommand};
 ghost use Rattle.dagcar_lines.specs.Paths.{ProofsDecide};
 ghost use Rattle.dagcar_lines.specs.declared.at.Asked.TheVariants.{Data, Bytes};
 
@@ -8,4 +9,10 @@ ghost use Rattle.dagcar_lines.specs.declared.at.Asked.TheVariants.{Data, Bytes};
 pub fn proofs_decide()
     ensures data { ProofsDecide Data }
     ensures bytes { ProofsDecide Bytes }
+{}
+
+/// The words of `changes_of` are none of `run_command`.
+#[tactic(auto, using(crate::proofs::Running::changes_apart))]
+pub fn changes_are_no_command()
+    ensures { ChangesAreNoCommand }
 {}

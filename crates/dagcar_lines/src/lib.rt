@@ -5,6 +5,7 @@
 mod answer;
 mod at;
 mod block;
+mod changes;
 mod check;
 mod command;
 mod device;
@@ -20,5 +21,6 @@ mod verify;
 mod walk;
 
 pub use at::{Asked, say_asked};
+pub use changes::{changes_of, run_changes};
 pub use command::{Command, OUT_OF_MEMORY, USAGE, run_command, split_path, split_words};
 pub use device::OneFault;

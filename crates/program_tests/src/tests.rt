@@ -1,4 +1,5 @@
 mod calls;
+mod changes;
 mod dagcar;
 mod dagcbor;
 mod found;

@@ -1,4 +1,5 @@
 pub mod Keys
 pub mod Words
 pub mod Records
+pub mod Differing
 pub mod Laws

@@ -394,7 +394,7 @@ fn a_file_stands_behind_the_words(rt: HostRuntime) -> Result<(), Fail> {
 #[test]
 fn other_words_are_refused(rt: HostRuntime) -> Result<(), Fail> {
     let line = b"usage: dagcar check [--summary]|verify|list|name|one|show|make|get CID|tree CID\
-        |at [--raw] CID/PATH|prove CID/PATH|records|record KEY\n";
+        |at [--raw] CID/PATH|prove CID/PATH|records|record KEY|changes OLD NEW\n";
     gives(rt.alloc(), "links", GOOD, 2, b"", line)
 }
 

@@ -323,7 +323,7 @@ fn hostile_paths(rt: HostRuntime) -> Result<(), Fail> {
 fn words_of_proofs(rt: HostRuntime) -> Result<(), Fail> {
     let alloc = rt.alloc();
     let usage = b"usage: dagcar check [--summary]|verify|list|name|one|show|make|get CID|tree CID\
-        |at [--raw] CID/PATH|prove CID/PATH|records|record KEY\n";
+        |at [--raw] CID/PATH|prove CID/PATH|records|record KEY|changes OLD NEW\n";
     for words in [
         ["prove"].as_slice(),
         &["at", "--raw"],

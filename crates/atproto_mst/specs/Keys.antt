@@ -44,6 +44,10 @@ abbrev pub Rise : List Entry → Type 0
 Rise [] = ⊤
 Rise (e ∷ es) = ComesBefore e.0 es × Rise es
 
+-- they have keys, which rise
+abbrev pub AreInOrder : List Entry → Type 0
+AreInOrder es = HaveKeys es × Rise es
+
 -- the entries of a repository: keys of 1 to 1024 bytes, which rise, and CIDs; fewer than 2 ^ 64 of them
 pub record AreEntries (es : List Entry) : Type 0 where
   pub keys : HaveKeys es

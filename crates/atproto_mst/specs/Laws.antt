@@ -4,11 +4,10 @@ use Rattle.sha2.specs.Sha256.{sha256}
 use Rattle.ipld_tree.specs.Cid.{CidParts}
 use Rattle.ipld_links.specs.Sets.{Among}
 use Rattle.ipld_links.specs.Reaching.{Stored}
-use Rattle.atproto_mst.specs.Keys.{Entry, IsKey, Rise}
+use Rattle.atproto_mst.specs.Keys.{Entry, IsKey, Rise, AreInOrder}
 use Rattle.atproto_mst.specs.Trees.{root_of}
 use Rattle.atproto_mst.specs.Entries.{IsMst}
 use Rattle.atproto_mst.specs.Walks.{most_layers}
-use Rattle.atproto_mst.specs.Gathering.{AreInOrder}
 use Rattle.atproto_mst.specs.Changes.{set_entry, unset_entry, Changed, AreChanges}
 use Rattle.atproto_mst.specs.Finding.{lookup, Finds, FindStops, IsWay}
 use Rattle.atproto_mst.specs.declared.error.MstError.{MstError}

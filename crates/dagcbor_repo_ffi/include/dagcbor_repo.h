@@ -1,16 +1,16 @@
 /* Repositories of signed records (AT Protocol) for C: what one holds, verified, or why it is none.
 
    Link with libdagcbor_repo_ffi.a, and with functions of the heap, as callers/c/heap.c has them over malloc,
-   realloc and free. One call takes as much as the file, its blocks, the records and the answer.
+   realloc and free. A call holds the file's blocks, the records and the answer at once, beside the file.
 
    What a caller owes, which nothing checks:
    - `file` is not NULL, also where `length` is 0; `length` bytes stand there, and nobody writes them during the
      call, no other thread either; `length` is below 2^63.
    - `out` likewise, also where `room` is 0, for `room` bytes that nobody else reads or writes during the call;
      `needed` for one number. None of these overlaps another.
-   - The functions of the heap are of one allocator, and its memory is aligned as malloc's is: to each power of two
-     up to 16 that divides a size. What is not there is told, never a pointer to less. They may be called by several
-     threads at once, where the call is.
+   - The functions of the heap are of one allocator. They align memory as malloc does, to each power of two up to 16
+     that divides its size; they say where there is none; and several threads may call them at once, where several
+     make the call.
    - No signal handler calls it, nor the child that a process with threads forked.
    - The thread has 1 MB of stack left; the CPU is an x86-64-v2.
    Calls on different threads need no lock: nothing is shared between them but the heap. */

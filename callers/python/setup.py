@@ -1,7 +1,8 @@
-"""Builds the extension with the proved library inside. Nothing is left in this folder.
+"""Builds the two extensions, each with its proved library inside. Nothing is left in this folder.
 
-The library is that of the environment variable DAGCBOR_LIBRARY; else that of this repository, which
-is proved and built first where it is not there and the toolchain's `rt` is."""
+The libraries are those of the environment variables DAGCBOR_LIBRARY and DAGCBOR_REPO_LIBRARY; else
+those of this repository, which are proved and built first where they are not there and the
+toolchain's `rt` is."""
 
 import os
 import shutil
@@ -14,7 +15,7 @@ from setuptools.errors import ModuleError
 
 HERE = os.path.dirname(os.path.abspath(__file__))
 CALLERS = os.path.dirname(HERE)
-CRATE = os.path.join(os.path.dirname(CALLERS), "crates", "dagcbor_ffi")
+CRATES = os.path.join(os.path.dirname(CALLERS), "crates")
 
 
 def demand_wheel():
@@ -25,37 +26,55 @@ def demand_wheel():
         sys.exit("dagcbor: this Python's setuptools makes no wheels: 70.1 does, or an older one with the package `wheel`")
 
 
-def library():
-    """The library's path."""
-    named = os.environ.get("DAGCBOR_LIBRARY")
-    path = named or os.path.join(CRATE, "out", "libdagcbor_ffi.a")
+def library(crate, variable):
+    """The path of a crate's library."""
+    named = os.environ.get(variable)
+    path = named or os.path.join(CRATES, crate, "out", f"lib{crate}.a")
     if not os.path.exists(path) and not named and shutil.which("rt"):
-        print("dagcbor: proving and building the library: some minutes", file=sys.stderr)
-        subprocess.run(["rt", "lib"], cwd=CRATE, stdin=subprocess.DEVNULL, check=True)
+        print(f"dagcbor: proving and building {crate}: some minutes", file=sys.stderr)
+        folder = os.path.join(CRATES, crate)
+        subprocess.run(["rt", "lib"], cwd=folder, stdin=subprocess.DEVNULL, check=True)
     if not os.path.exists(path):
-        sys.exit(f"dagcbor: there is no {path}: `rt lib` in crates/dagcbor_ffi makes it")
+        sys.exit(f"dagcbor: there is no {path}: `rt lib` in crates/{crate} makes it")
     return os.path.abspath(path)
+
+
+def extension(name, crate, variable, sources, depends):
+    """An extension over a crate's library, of which it shows nothing: so what two have alike is two."""
+    return Extension(
+        name,
+        sources=sources,
+        depends=depends,
+        include_dirs=[os.path.join(CRATES, crate, "include"), os.path.join(CALLERS, "c")],
+        extra_objects=[library(crate, variable)],
+        extra_compile_args=["-std=c11", "-Wall", "-Wextra", "-fvisibility=hidden"],
+        extra_link_args=["-Wl,--exclude-libs,ALL"],
+        py_limited_api=True,
+    )
 
 
 os.chdir(HERE)
 demand_wheel()
-archive, include = library(), os.path.join(CRATE, "include")
 made = tempfile.TemporaryDirectory(prefix="dagcbor-")  # it is there until this process ends
-native = Extension(
+native = extension(
     "dagcbor._native",
+    "dagcbor_ffi",
+    "DAGCBOR_LIBRARY",
     sources=["src/_native.c", "src/_car.c"],
     depends=["src/native.h", *(os.path.join(CALLERS, "c", it) for it in ("car.h", "writer.h"))],
-    include_dirs=[include, os.path.join(CALLERS, "c")],
-    extra_objects=[archive],
-    extra_compile_args=["-std=c11", "-Wall", "-Wextra", "-fvisibility=hidden"],
-    extra_link_args=["-Wl,--exclude-libs,ALL"],
-    py_limited_api=True,
+)
+native_repo = extension(
+    "dagcbor._native_repo",
+    "dagcbor_repo_ffi",
+    "DAGCBOR_REPO_LIBRARY",
+    sources=["src/_native_repo.c"],
+    depends=[os.path.join(CALLERS, "c", "heap.c")],
 )
 setup(
     packages=["dagcbor"],
     package_dir={"": "src"},
     package_data={"dagcbor": ["*.pyi", "py.typed"]},
-    ext_modules=[native],
+    ext_modules=[native, native_repo],
     zip_safe=False,
     options={
         "bdist_wheel": {"py_limited_api": "cp311"},

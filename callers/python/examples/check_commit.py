@@ -1,11 +1,11 @@
 #!/usr/bin/env python3
-"""Whether the commit of a repository (AT Protocol) is signed by a key.
+"""Whether a repository (AT Protocol) is whole, and its commit is signed by a key.
 
     check_commit.py REPO.CAR DID_KEY
 
 The key is what the account's DID document says, as `did:key:z..`: of P-256, or of K-256 (secp256k1). What is signed is SHA-256 of
 the commit's other fields as DAG-CBOR; the signature is two numbers of 32 bytes, the second of which is at most half of the curve's
-order. The arithmetic is that of the package `cryptography`. Whether the records are those of the commit is told by `dagcar records`.
+order. The arithmetic is that of the package `cryptography`. That the records are those of the commit is verified by `read_repo`.
 The status is 0 where it is signed."""
 
 import sys
@@ -13,7 +13,7 @@ import sys
 from cryptography.exceptions import InvalidSignature
 from cryptography.hazmat.primitives.asymmetric import ec, utils
 from cryptography.hazmat.primitives.hashes import SHA256
-from dagcbor import dumps, loads, read_car
+from dagcbor import DagCborError, read_repo
 
 # The curve and its order, by what stands before a key's point (multicodec table).
 CURVES = {
@@ -38,28 +38,29 @@ def key_of(did):
     return ec.EllipticCurvePublicKey.from_encoded_point(curve, data[2:]), order
 
 
-def is_signed(block, did):
-    """Whether the block is a commit that this key signed."""
-    commit = loads(block)
-    signature = commit.pop("sig")
+def is_signed(repo, did):
+    """Whether this key signed the repository's commit."""
     key, order = key_of(did)
-    r, s = int.from_bytes(signature[:32], "big"), int.from_bytes(signature[32:], "big")
-    if len(signature) != 64 or s > order // 2:
+    r, s = int.from_bytes(repo.sig[:32], "big"), int.from_bytes(repo.sig[32:], "big")
+    if len(repo.sig) != 64 or s > order // 2:
         return False
     try:
-        key.verify(utils.encode_dss_signature(r, s), dumps(commit), ec.ECDSA(SHA256()))
+        key.verify(utils.encode_dss_signature(r, s), repo.signed, ec.ECDSA(SHA256()))
         return True
     except InvalidSignature:
         return False
 
 
 def main(path, did):
-    with open(path, "rb") as file:
-        car = read_car(file)
-        (root,) = car.roots
-        block = next(section.block for section in car if section.cid == root and section.verdict == "ok map")
-    print("signed" if is_signed(block, did) else "not signed")
-    return not is_signed(block, did)
+    try:
+        with open(path, "rb") as file:
+            repo = read_repo(file)
+    except DagCborError as error:
+        print(f"no repository: {error}")
+        return 1
+    well = is_signed(repo, did)
+    print("signed" if well else "not signed")
+    return not well
 
 
 if __name__ == "__main__":

@@ -25,8 +25,8 @@ fn text_fault_code(fault: &CidTextError) -> i32
     }
 }
 
-/// Puts the bytes at the front of `out`, where there is room for them.
-fn put_front(bytes: &[u8], out: &mut [u8], needed: &mut usize) -> i32
+/// Puts the bytes at the front of `out`, where there is room for them: 0, and else -21.
+pub fn put_front(bytes: &[u8], out: &mut [u8], needed: &mut usize) -> i32
     ensures { IsPut bytes.now out.old out.new needed.new result }
 {
     *needed = bytes.len();

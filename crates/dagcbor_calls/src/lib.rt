@@ -14,7 +14,7 @@ mod span;
 mod spell;
 mod tape;
 
-pub use cid::{put_cid_of_text, put_cid_text};
+pub use cid::{put_cid_of_text, put_cid_text, put_front};
 pub use code::code_of;
 pub use find::{put_followed, put_found, put_part};
 pub use header::put_header;

@@ -14,3 +14,4 @@ pub use file::{write_record, write_records};
 pub use key::key_text;
 pub use record::say_record;
 pub use records::say_records;
+pub use words::{repo_line, roots_line};

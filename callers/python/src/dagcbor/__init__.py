@@ -18,9 +18,11 @@
     check_car(source)               its verdicts, and what is missing
     write_car(file, roots, blocks)  writes one
 
-Whether bytes are a block or a file of blocks is the library's judgement, which is proved. The rest,
-which makes objects from what the library tells and tells it what the objects are, is a small
-extension in C, and not proved."""
+    read_repo(source)    a repository of signed records (AT Protocol): its commit, and its records
+
+Whether bytes are a block or a file of blocks is the library's judgement, which is proved. So
+is whether a file is a whole repository. The rest, which makes objects from what the library tells
+and tells it what the objects are, is two small extensions in C, and not proved."""
 
 from ._car import CarCheck, check_car, verify, write_car
 from ._errors import CarError, DagCborError
@@ -28,6 +30,7 @@ from ._items import iter_loads
 from ._native import CID, CarReader, Section, check, dumps, links, loads, loads_first, name
 from ._native import read_car
 from ._paths import MissingBlock, find, resolve
+from ._repo import Repository, read_repo
 
 __all__ = [
     "CID",
@@ -36,6 +39,7 @@ __all__ = [
     "CarReader",
     "DagCborError",
     "MissingBlock",
+    "Repository",
     "Section",
     "check",
     "check_car",
@@ -47,6 +51,7 @@ __all__ = [
     "loads_first",
     "name",
     "read_car",
+    "read_repo",
     "resolve",
     "verify",
     "write_car",

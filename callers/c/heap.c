@@ -1,0 +1,25 @@
+/* The heap of libdagcbor_repo_ffi.a, over that of C. A program whose heap is another defines these three over it. */
+#include <stdlib.h>
+
+/* Whether there is memory, and where; where there is none, a pointer to anything but NULL. */
+struct room {
+    size_t is_there;
+    void *at;
+};
+
+static struct room room_at(void *at) {
+    static char none[16];
+    return (struct room){at != NULL, at ? at : none};
+}
+
+struct room rattle_alloc(size_t size, size_t align) {
+    return room_at(malloc(size ? size : align));
+}
+
+/* `kept` bytes of the old memory are kept; where there is no room, it stays as it was. */
+struct room rattle_realloc(void *old, size_t kept, size_t size, size_t align) {
+    (void)kept;
+    return room_at(realloc(old, size ? size : align));
+}
+
+void rattle_dealloc(void *old) { free(old); }

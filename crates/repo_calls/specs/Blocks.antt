@@ -1,0 +1,39 @@
+-- The block that tells of a repository.
+use Rattle.std.specs.Prelude.{ℕ, List, [], ◌∷◌, map, codes, string_bytes, Option, Some}
+use Rattle.ipld_tree.specs.Cid.{CidParts, cid_bytes}
+use Rattle.ipld_tree.specs.Tree.{Tree, bytes, link, list, text, entries_tree, items_of}
+use Rattle.ipld_tree.specs.declared.bytes.ByteSlice.{ByteSlice}
+use Rattle.dagcbor_write.specs.Trees.{field, option_tree}
+use Rattle.dagcbor_write.specs.Answers.{AreSpellingOf}
+use Rattle.atproto_mst.specs.Keys.{Entry}
+use Rattle.atproto_mst.specs.Commits.{unsigned_tree}
+use Rattle.atproto_mst.specs.Entries.{entries}
+use Rattle.atproto_mst.specs.declared.commit.Commit.{Commit}
+use Rattle.atproto_mst.specs.declared.entries.MstEntry.{MstEntry}
+
+-- a record: a list of its key and of a link to it
+abbrev pub record_tree : Entry → Tree
+record_tree e = list (items_of (bytes e.0 ∷ link (cid_bytes e.1) ∷ []))
+
+-- a map of the commit's fields, of the bytes that its signature is of, and of the records in the order
+-- of their keys
+abbrev pub repo_tree : Commit → List ℕ → List Entry → Option Tree
+repo_tree c signed es = entries_tree (
+    field (codes "did") (Some (text (string_bytes c.did)))
+    ∷ field (codes "rev") (Some (text (string_bytes c.rev)))
+    ∷ field (codes "sig") (Some (bytes c.sig.0.items))
+    ∷ field (codes "data") (Some (link (cid_bytes c.data)))
+    ∷ field (codes "prev") (option_tree (λ p. Some (link (cid_bytes p))) c.prev)
+    ∷ field (codes "signed") (Some (bytes signed))
+    ∷ field (codes "records") (Some (list (items_of (map record_tree es)))) ∷ [])
+
+-- the block is the spelling of that map
+abbrev pub IsBlockOf : Commit → List MstEntry → List ℕ → Type 0
+IsBlockOf c records block = (signed : List ℕ) × AreSpellingOf (unsigned_tree c) signed
+    × AreSpellingOf (repo_tree c signed (entries records)) block
+
+-- ---- as records are held
+
+-- a key that is lent, beside a CID
+abbrev pub entry_of_row : ByteSlice × CidParts → Entry
+entry_of_row r = (r.0.0.now, r.1)

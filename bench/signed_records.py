@@ -68,7 +68,7 @@ def main(words):
         put(given, RECORDS)
         put_string(string, given)
         size = os.path.getsize(given)
-        tell(f"Measured {machine()}, {busy}, processor time, the least of {runs} runs.\n")
+        tell(f"Measured {machine()}, {busy},\nprocessor time, the least of {runs} runs.\n")
         tell(f"| {RECORDS:,} records of {SIZE} bytes, a file of {size / 1e6:.0f} MB | s | user alone, s | by SHA-256 alone |")
         tell("|---|---|---|---|")
         env = {**os.environ, **python_package(folder)}

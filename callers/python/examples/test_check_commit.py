@@ -3,11 +3,11 @@
 import io
 
 import pytest
+
+pytest.importorskip("cryptography")
+
 from check_commit import CURVES, DIGITS, is_signed, main
 from dagcbor import dumps, name, read_repo, write_car
-
-cryptography = pytest.importorskip("cryptography")
-
 from cryptography.hazmat.primitives import hashes
 from cryptography.hazmat.primitives.asymmetric import ec, utils
 from cryptography.hazmat.primitives.serialization import Encoding, PublicFormat

@@ -2,13 +2,16 @@
 """The quotations of the pages: contracts and definitions as they stand in the sources.
 
     docs/quotes.py page      puts each quotation into its page anew
-    docs/quotes.py check     fails where a page has another text, or a block of Rust that stands in no source
+    docs/quotes.py check     fails where a page has another text, or a block of Rust that stands in no source, or README
+                             another logic than that of `rt version`
 
 A quotation follows a line `<!-- quotes FILE NAME.. -->`: of src/ the heads of these functions, with their contracts; of specs/
 these definitions, with their comments; of a schema in schemas/examples these types, with their comments."""
 
 import pathlib
 import re
+import shutil
+import subprocess
 import sys
 
 from definitions import ROOT, Specs
@@ -68,6 +71,15 @@ def strangers(text, all_sources):
                 yield paragraph
 
 
+def other_logic():
+    """The logic that README names, where `rt version` names another."""
+    named = re.search(r"logic `(\w+)`", (ROOT / "README.md").read_text(encoding="utf-8"))[1]
+    if not shutil.which("rt"):
+        return None
+    is_now = subprocess.run(["rt", "version"], capture_output=True, text=True, check=True).stdout.split()[-1]
+    return None if named == is_now else named
+
+
 def main(words):
     all_sources = list(sources())
     status = 0
@@ -83,6 +95,9 @@ def main(words):
         for paragraph in strangers(made, all_sources) if page.name != "OTHER_LANGUAGES.md" else []:
             print(f"{page.name}: stands in no source:\n{paragraph}\n")
             status = 1
+    if logic := other_logic():
+        print(f"README names the logic {logic}")
+        status = 1
     return status
 
 

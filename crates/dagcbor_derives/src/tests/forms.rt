@@ -1,5 +1,5 @@
 //! The forms of a derive, with the bytes that serde_ipld_dagcbor 0.7.0 writes of them in Rust, where
-//! docs/DERIVES.md says no other. An encoder apart made them.
+//! docs/TYPES.md says no other. An encoder apart made them.
 
 use super::{goes_both_ways, is_read, is_refused, link};
 use crate::types::Shape;

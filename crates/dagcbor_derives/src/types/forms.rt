@@ -1,4 +1,4 @@
-//! One type for each form that a derive knows, as docs/DERIVES.md lists them.
+//! One type for each form that a derive knows, as docs/TYPES.md lists them.
 
 use dagcbor_serde::{ByteBuf, Link};
 use serde::{Deserialize, Serialize};

@@ -81,7 +81,8 @@ Says IsSaid old result new = MatchResult result
     (λ well. (out : List ℕ) × IsSaid well out × Appends old new out)
     (λ e. BreaksLine (λ out. (well : Bool) × IsSaid well out) old new e)
 
--- the same of these lines
+-- these lines went out, and whether all is well is answered; or nothing more of them went out, or
+-- the device failed, and a front did
 abbrev pub SaysLines : List ℕ → Bool → Option (List ℕ) → Result Bool ToolError
     → Option (List ℕ) → Type 0
 SaysLines said well old result new = MatchResult result

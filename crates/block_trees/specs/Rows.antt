@@ -128,7 +128,8 @@ abbrev pub ClearsRow : List Row → List Row → ℤ → List ℕ → Type 0
 ClearsRow old new id name = (IsRowOf old id name × (new ≡ without_rowid id old))
     ⊎ ((IsRowOf old id name → ⊥) × ((b : List ℕ) → Among (block_row id name b) old → ⊥) × (new ≡ old))
 
--- the same of a database, whose index is not changed
+-- in a database, whose index is not changed, the row with the number is taken out where it is of
+-- the name; or nothing is changed
 abbrev pub TakesRow : Trees → Trees → ℤ → List ℕ → Type 0
 TakesRow old new id name = (new name_tree ≡ old name_tree) × ClearsRow (old block_tree) (new block_tree) id name
 

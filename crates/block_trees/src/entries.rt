@@ -279,7 +279,7 @@ pub fn add<S: Store>(
     }
 }
 
-/// The same of a name that is not listed.
+/// Keeps the bytes in a row of their own, and lists the name, which was not listed.
 fn append<S: Store>(
     store: &mut S,
     row: &mut Row,
@@ -302,7 +302,7 @@ fn append<S: Store>(
     Ok(Added::New)
 }
 
-/// The same of a name whose entry has this number.
+/// Puts the bytes into the place of what is listed under the name, whose entry has this number.
 fn renew<S: Store>(
     store: &mut S,
     row: &mut Row,

@@ -153,7 +153,7 @@ abbrev pub within_steps : Read Tree → Read Tree
 within_steps (Ok t) = if nat_le (any_need t) 256 then Ok t else Err TooDeep
 within_steps (Err e) = Err e
 
--- the same of a JSON value that is a whole text
+-- what a JSON value that is a whole text tells, of which an untyped read takes 256 steps at most
 abbrev pub ReadsWhole : Json → Read Tree → Type 0
 ReadsWhole j r = (found : Read Tree) × ReadsData j found × (r ≡ within_steps found)
 

@@ -200,7 +200,7 @@ pub fn data_of(alloc: Global, value: &Value<'_>, place: &mut usize) -> Result<Ip
     Ok(found)
 }
 
-/// The same, but for the last token.
+/// What the value is, whose last token is still to be passed.
 #[cycle(data)]
 fn part_of(alloc: Global, value: &Value<'_>, place: &mut usize) -> Result<Ipld, DagJsonError>
     ensures data { IfOk result (λ v. ReadsData (value_view value.now) (Ok (tree_of v))) }

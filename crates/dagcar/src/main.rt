@@ -49,7 +49,7 @@ fn run_between<R: Read + Drop, S: Read + Drop, V: Write>(
     Ok(end_output(&mut output, errors, status))
 }
 
-/// The same of a source and the new file, or standard input.
+/// Says what differs between a source and the new file, or standard input.
 fn run_before<R: Read + Drop, V: Write>(
     rt: &HostRuntime,
     old: R,
@@ -65,7 +65,7 @@ fn run_before<R: Read + Drop, V: Write>(
     }
 }
 
-/// The same of two files, of which standard input can be one.
+/// Says what differs between two files, of which standard input can be one.
 fn run_files<V: Write>(rt: &HostRuntime, old: &str, new: &str, errors: &mut V) -> io::Result<u8> {
     if old == "-" {
         return run_before(rt, rt.reader(), new, errors);

@@ -186,7 +186,7 @@ header_said speech old now before after e line r h is same says b l =
     as_last (Err x) (inl none) = inl none
     as_last (Err x) (inr k) = inr (k.0, k.1, (false, (refl, k.2)), k.3, k.4)
 
--- the same, of which nothing is told beside
+-- no file begins, and nothing is told beside the line
 pub header_silent : {E : Type 0} (TellsOf : Section → List ℕ → Type 0) (old now : Reading) (heard before after : Option (List ℕ)) (e : CarError E) (line : List ℕ) (r : Result Bool ToolError) → CarRefuses RefusesStart old e now → IsOfBytes e → SaysLines line false before r after → SaysFile (beside TellsOf) old heard r heard
 header_silent TellsOf old now heard before after e line r h is says =
     header_said (beside TellsOf) old now heard heard e [] r h is refl (as_nothing r says)

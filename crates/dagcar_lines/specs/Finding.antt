@@ -68,7 +68,8 @@ abbrev pub Sends : List ℕ → Option (List ℕ) → Result (Unit {0}) ToolErro
 Sends text old result new = MatchResult result (λ _. Appends old new text)
     (λ e. BreaksLine (λ out. out ≡ text) old new e)
 
--- the same of the file of these names
+-- the file of the root and of these names went out; or nothing did; or the device failed, and a
+-- front did
 abbrev pub SendsTree : Stored → CidParts → List CidParts → Option (List ℕ)
     → Result (Unit {0}) ToolError → Option (List ℕ) → Type 0
 SendsTree stored root names old result new = (out : List ℕ) × IsTreeFile stored root names out

@@ -100,7 +100,7 @@ SaysBytes speech b old result new = MatchResult result
     (λ well. (out : List ℕ) × IsSaidOf speech b well out × Appends old new out)
     (λ e. BreaksOff speech b old new e)
 
--- the same of the bytes that are left, where the source tells them
+-- where the source tells the bytes that are left, all is said of these, or the run broke off
 abbrev pub SaysFile : Speech → Reading → Option (List ℕ) → Result Bool ToolError
     → Option (List ℕ) → Type 0
 SaysFile speech source old result new = (b : List ℕ) → source.left ≡ Some b

@@ -48,7 +48,7 @@ work_of contents t = record {
   through = t.output.ghost_name;
 }
 
--- the same, of whose errors the bytes are told so
+-- what contracts see of a teller at work, of whose errors the bytes are told so
 abbrev pub beside_of : {T W V : Type 0} → (V → Option (List ℕ)) → Telling T W V → Work T
 beside_of contents t = record {
   teller = t.teller;
@@ -63,7 +63,7 @@ TellsSection speech knows s old new = (well : Bool) × (text : List ℕ)
     × speech.of_section s well text × KnowsMore knows s old.teller new.teller
     × (new.well ≡ (old.well && well)) × Appends old.written new.written text
 
--- the same, or its lines broke off
+-- a section was told, and its lines went out, or broke off
 abbrev pub SaysSection : {T : Type 0} → Speech → Knowing T → Section → Work T
     → Result (Unit {0}) ToolError → Work T → Type 0
 SaysSection speech knows s old result new = (new.through ≡ old.through) × MatchResult result
@@ -95,7 +95,7 @@ SaysSections speech knows extent source teller before result after =
     → TakesStart start roots extent source → knows teller roots [] → Appends old before (speech.of_roots roots)
     → SaysFile speech start old result after
 
--- the same, where nothing was said of its roots yet
+-- all is said of a file behind its header, of whose roots nothing was said yet
 abbrev pub SaysHeader : {T : Type 0} → Speech → Knowing T → Option ℕ → Reading → List ℕ → T
     → Option (List ℕ) → Result Bool ToolError → Option (List ℕ) → Type 0
 SaysHeader speech knows extent source text teller old result new =

@@ -55,7 +55,8 @@ fn is_lost(name: &Cid, blocks: &BTreeMap<Cid, Vec<u8>>) -> bool
     !is_there(blocks, name)
 }
 
-/// The same, where the root leads somewhere: else nothing is written.
+/// Writes the file of the root and of what it leads to, if it leads somewhere: else nothing is
+/// written.
 fn send_tree<W: Write>(
     alloc: Global,
     root: &Cid,

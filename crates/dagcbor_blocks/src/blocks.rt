@@ -101,7 +101,7 @@ impl Blocks {
         self.missing_of_some()
     }
 
-    /// The same, whatever it holds.
+    /// What `missing` answers, of whatever is held.
     fn missing_of_some(&self) -> Result<Vec<Cid>, BlockError>
         ensures { ListsMissing (held_blocks self.now) result }
     {

@@ -72,7 +72,7 @@ pub record IsAt {S : Type 0} (holds : S → List Told → Type 0) (b rest : List
   pub tells : TellsAll holds old told new
   pub after : IsAfter check roots (sections_of told)
 
--- the same of an input, of whose source nothing failed yet
+-- of an input so many sections were gone through, and told, and its source has not failed
 pub record SoFarOf {S : Type 0} (holds : S → List Told → Type 0) (old now : Reading) (extent : Option ℕ) (check : CarCheck) (before after : S) : Type 0 where
   pub known : (b : List ℕ) → old.left ≡ Some b → (rest : List ℕ) × (now.left ≡ Some rest) × IsAt holds b rest extent check before after
   pub same : Stays old now

@@ -32,7 +32,8 @@ refused_behind stands stands' front old mid new (Read e) t f r = omega (arith, t
 refused_behind stands stands' front old mid new OutOfMemory t f r = r ∙ t.same.faults
 refused_behind stands stands' front old mid new e t f r = (r.0 ∙ t.same.faults, λ b l. let w = t.taken b l in subst (stands' e) (sym w.1) (f w.0 (r.1 w.0 w.2)))
 
--- the same within a file
+-- a call that took these bytes within a file, and goes on with a part, refuses what the part
+-- refuses
 pub refused_off : {E : Type 0} (stands stands' : CarError E → List ℕ → Type 0) {x y : Option ℕ} {front : List ℕ} {old mid : Reading} (new : Reading) (e : CarError E) → TakesOff x old front y mid → ((rest : List ℕ) → stands e rest → stands' e (front ++ rest)) → CarRefuses stands (of_file y mid) e new → CarRefuses stands' (of_file x old) e new
 refused_off stands stands' {x} {y} {front} {old} {mid} new (Read e) t f r = omega (arith, t.takes.same.faults, r)
 refused_off stands stands' {x} {y} {front} {old} {mid} new OutOfMemory t f r = r ∙ t.takes.same.faults

@@ -8,7 +8,7 @@ abbrev pub CarsAreUnique : Type 0
 CarsAreUnique = (b : List ℕ) (roots others : List (List ℕ)) (sections more : List Section)
     → IsCar b roots sections → IsCar b others more → (roots ≡ others) × (sections ≡ more)
 
--- The same of files of either version.
+-- Bytes are the file, of either version, of one list of roots and one list of sections at most.
 abbrev pub FilesAreUnique : Type 0
 FilesAreUnique = (b : List ℕ) (roots others : List (List ℕ)) (sections more : List Section)
     → IsFile b roots sections → IsFile b others more → (roots ≡ others) × (sections ≡ more)

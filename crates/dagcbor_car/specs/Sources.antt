@@ -38,7 +38,7 @@ LacksMemoryIf lacks (Ok v) = ⊤
 abbrev pub HeaderLacks : Reading → Type 0
 HeaderLacks old = old.lends ≡ true → (b : List ℕ) → old.left ≡ Some b → CountsBlock b
 
--- the same where a file of either version begins
+-- where memory may be wanting for the header of a file of either version
 abbrev pub FileLacks : Reading → Type 0
 FileLacks old = old.lends ≡ true → (b : List ℕ) → old.left ≡ Some b
     → (car : List ℕ) × (n : ℕ) × HoldsCar b car n × CountsBlock car
@@ -71,7 +71,8 @@ RefusesStart e b = SpanFault e b
 abbrev pub RefusesSection : {E : Type 0} → ℕ → CarError E → List ℕ → Type 0
 RefusesSection n e b = (0 < length b + n) × BeginsNoSection b × SectionFault e b
 
--- the same of what is left of a file
+-- of what is left of a file some bytes are there, or are wanting, and no section stands first, for
+-- this cause
 abbrev pub RefusesNext : {E : Type 0} → Option ℕ → CarError E → List ℕ → Type 0
 RefusesNext extent e b = RefusesSection (wanting extent b) e (within extent b)
 

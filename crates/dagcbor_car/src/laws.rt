@@ -11,7 +11,7 @@ pub fn cars_are_unique()
     ensures { CarsAreUnique }
 {}
 
-/// The same of files of either version.
+/// Bytes are the file, of either version, of one list of roots and one list of sections at most.
 pub fn files_are_unique()
     ensures { FilesAreUnique }
 {}

@@ -28,7 +28,7 @@ no_step_refused lacks borrows stands (DepthOverflow n) k h some cause =
     (ap (λ (r : Reading). r.faults) h.same ∙ k.faults, λ x. omega (arith, h.none, k.steps, some x), λ b l. cause n h.named b l, ap (λ (r : Reading). r.steps) h.same ∙ h.none)
 no_step_refused lacks borrows stands _ k h some cause = absurd h.named
 
--- the same causes seen from further up
+-- what is a cause of a byte, of a head or of a payload is one of what these begin
 pub byte_in_head : {E : Type 0} (e : DecodeError E) (b : List ℕ) → ByteCause e b → HeadCause e b
 byte_in_head (Eof n expect) b h = rw h.1 h.0
 byte_in_head _ b h = absurd h

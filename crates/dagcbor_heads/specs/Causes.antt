@@ -66,7 +66,7 @@ IsEndNamed text (Eof name expect) = Names name text
 IsEndNamed text (Read e) = ⊤
 IsEndNamed text _ = ⊥
 
--- the same of a payload that may be gathered in memory
+-- of missing bytes of a payload that may be gathered in memory, or a fault of the source
 abbrev pub IsPayloadNamed : {E : Type 0} → List ℕ → DecodeError E → Type 0
 IsPayloadNamed text OutOfMemory = ⊤
 IsPayloadNamed text e = IsEndNamed text e

@@ -22,7 +22,8 @@ pub record LooksAtTaken (times before : ℕ) (old new : Reading) : Type 0 where
       × (before + new.looked ≤ old.looked + times * n)
   pub none_shown : new.shown ≡ []
 
--- the same where n may be 0: where none was shown before, none is shown then
+-- n bytes were taken, where n may be 0, and at most so many times n looked at; where none was shown
+-- before, none is shown then
 pub record LooksAtSome (times : ℕ) (old new : Reading) : Type 0 where
   pub grows : old.looked ≤ new.looked
   pub most : (b : List ℕ) → old.left ≡ Some b
@@ -36,7 +37,7 @@ pub record LooksAtLeft (times before : ℕ) (old new : Reading) : Type 0 where
   pub grows : old.looked ≤ new.looked
   pub most : (b : List ℕ) → old.left ≡ Some b → before + new.looked ≤ old.looked + times * length b
 
--- the same of either result
+-- whether it is answered or refused, at most so many times as many were looked at as were left
 abbrev pub LooksBehind : {T E : Type 0} → (times before : ℕ) → Reading → Result T E → Reading
     → Type 0
 LooksBehind times before old result new = MatchResult result (λ _. LooksAtTaken times before old new) (λ _. LooksAtLeft times before old new)
@@ -46,6 +47,7 @@ LooksBehind times before old result new = MatchResult result (λ _. LooksAtTaken
 abbrev pub Looks : {T E : Type 0} → (times : ℕ) → Reading → Result T E → Reading → Type 0
 Looks times = LooksBehind times 0
 
--- the same where an answer may have taken no byte
+-- An answer, which may have taken no byte, looks at most so many times at each that it takes, a
+-- refusal at each that was left.
 abbrev pub LooksSome : {T E : Type 0} → (times : ℕ) → Reading → Result T E → Reading → Type 0
 LooksSome times old result new = MatchResult result (λ _. LooksAtSome times old new) (λ _. LooksAtLeft times 0 old new)

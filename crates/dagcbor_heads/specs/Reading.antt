@@ -68,7 +68,7 @@ pub record KeepsSteps (old new : Reading) : Type 0 where
   pub lends : new.lends ≡ old.lends
   pub through : new.through ≡ old.through
 
--- the same, and no byte was taken
+-- all is as before that a call keeps, and no byte was taken
 pub record TakesNothing (old new : Reading) : Type 0 where
   pub kept : Keeps old new
   pub same : KeepsSteps old new
@@ -107,7 +107,7 @@ pub record Advances (old : Reading) (n : ℕ) (new : Reading) : Type 0 where
   pub looked : new.looked ≡ old.looked + n
   pub same : Stays old new
 
--- the same reader with so many steps left
+-- a reader with so many steps left, and all else as it is
 abbrev pub with_steps : ℕ → Reading → Reading
 with_steps n r = record r { steps = n }
 

@@ -27,12 +27,12 @@ abbrev pub RefusesPlainly : {E : Type 0} → (could : Type 0) → (DecodeError E
     → Reading → DecodeError E → Reading → Type 0
 RefusesPlainly could = Refuses could ⊥ ⊥
 
--- the same of a call that may lack memory
+-- what a call refuses that may lack memory and wants no loan
 abbrev pub RefusesOrLacksMemory : {E : Type 0} → (could : Type 0)
     → (DecodeError E → List ℕ → Type 0) → Reading → DecodeError E → Reading → Type 0
 RefusesOrLacksMemory could = Refuses could ⊤ ⊥
 
--- the same of a call that may lack memory where the reader does not lend
+-- what a call refuses that wants no loan, and may lack memory where the reader does not lend
 abbrev pub RefusesOrLacksMemoryUnlent : {E : Type 0} → (could : Type 0)
     → (DecodeError E → List ℕ → Type 0) → Reading → DecodeError E → Reading → Type 0
 RefusesOrLacksMemoryUnlent could stands old = Refuses could (old.lends ≡ false) ⊥ stands old

@@ -117,6 +117,6 @@ head_of {old} {mid} {m} {n} expected starts h = record {
 
 -- ---- behind a byte that was shown
 
--- the same tree in another form
+-- an item that was taken as one tree was taken as an equal one
 pub as_tree : {spent : ℕ} {old new : Reading} (t u : Tree) → u ≡ t → TakesItem spent old t new → TakesItem spent old u new
 as_tree {spent} {old} {new} t u e h = subst (λ x. TakesItem spent old x new) (sym e) h

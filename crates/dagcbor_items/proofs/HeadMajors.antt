@@ -23,7 +23,7 @@ use Rattle.dagcbor_items.specs.Untyped.{StartsWithMajor}
 use Rattle.dagcbor_items.proofs.Fronts.{head_of, major_at}
 use Rattle.dagcbor_items.specs.Shapes.{Shape}
 
--- the same value in another form
+-- a value that was taken as one was taken as an equal one
 pub as_value : {V : Type 0} {shape : Shape Tree V} {old new : Reading} (v w : V) → w ≡ v → TakesFront shape old v new → TakesFront shape old w new
 as_value {V} {shape} {old} {new} v w e h = subst (λ x. TakesFront shape old x new) (sym e) h
 

@@ -63,7 +63,7 @@ no_key_refused {E} previous {old} {new} b UnorderedKey h t other =
     unordered_refused E previous b (text_taken b (text_string_taken b b refl h t)) (other h)
 no_key_refused previous b _ h t other = absurd h
 
--- the same of what was found in place of a key
+-- what was found in place of a key is refused as no key
 pub found_refused : {E : Type 0} (previous : Option (List ℕ)) (old new : Reading)
     (found : Result (Bor (List ℕ)) (Bor (List ℕ))) (b : Bor (List ℕ)) (e : DecodeError E)
     → found ≡ Err b → TakesKey previous old found new → IsNoKey b.now e

@@ -22,7 +22,7 @@ abbrev pub ReadsSigned : {E : Type 0} → List ℕ → ℕ → Reading → Resul
     → Type 0
 ReadsSigned name bound = Reads (λ n. n) (leaf (view_signed bound)) ⊥ ⊥ (NumberCause name (within bound))
 
--- The same for a type in which each number of the format has room, but none that a tag announces.
+-- A number is read where one stands from 0 to 2^128 - 1, and announced by no tag.
 abbrev pub ReadsU128 : {E : Type 0} → Reading → Result ℕ (DecodeError E) → Reading → Type 0
 ReadsU128 = Reads (λ n. n) (leaf (view_unsigned (2 ^ 128))) ⊥ ⊥ (BigNumberCause (codes "u128") (natural_below (2 ^ 128)))
 

@@ -34,15 +34,15 @@ unless_lent false = true
 abbrev pub leaf : {V : Type 0} → (Tree → Option V) → Shape Tree V
 leaf view = record { view = view; need = λ t. 0; wants_loan = false; memory = takes_none }
 
--- The same, in memory of its own.
+-- Reading it takes no step, wants no loan, and takes memory for the value.
 abbrev pub owned_leaf : {V : Type 0} → (Tree → Option V) → Shape Tree V
 owned_leaf view = record { view = view; need = λ t. 0; wants_loan = false; memory = takes_some }
 
--- The same, read without memory where the input lends.
+-- Reading it takes no step, wants no loan, and takes memory where the input does not lend.
 abbrev pub cow_leaf : {V : Type 0} → (Tree → Option V) → Shape Tree V
 cow_leaf view = record { view = view; need = λ t. 0; wants_loan = false; memory = unless_lent }
 
--- The same, lent by the input.
+-- Reading it takes no step and no memory, and wants a loan.
 abbrev pub lent_leaf : {V : Type 0} → (Tree → Option V) → Shape Tree V
 lent_leaf view = record { view = view; need = λ t. 0; wants_loan = true; memory = unless_lent }
 

@@ -32,7 +32,7 @@ pub record TakesItem (spent : ℕ) (old : Reading) (t : Tree) (new : Reading) : 
       × (any_need t ≤ old.steps + spent) × (new.left ≡ Some rest)
   pub same : Stays old new
 
--- the same of an item that was entered: one of its steps is spent
+-- an item that was entered, so that one of its steps is spent, stood at the front
 abbrev pub HasEnteredItem : Reading → Type 0
 HasEnteredItem = HasItem 1
 
@@ -48,7 +48,8 @@ ReadsItemAs meaning spent old result new = MatchResult result
     (λ v. TakesItem spent old (meaning v) new)
     (λ e. RefusesOrLacksMemory (HasItem spent old) (CauseInside (old.steps + spent)) old e new)
 
--- the same as a tree
+-- An item of unknown kind is read, as an `Ipld`, exactly where one stands within the steps, of
+-- which so many are already spent on it.
 abbrev pub ReadsItemSpent : {E : Type 0} → ℕ → Reading → Result Ipld (DecodeError E) → Reading
     → Type 0
 ReadsItemSpent = ReadsItemAs tree_of
@@ -66,7 +67,8 @@ abbrev pub PutsItem : {E : Type 0} → Ipld → Reading → Result (Unit {0}) (D
     → Type 0
 PutsItem place = ReadsItemAs (λ _. tree_of place) 0
 
--- the same, on which a step was spent before
+-- an item is read into a place, by what stands there after the call, on which a step was spent
+-- before
 abbrev pub PutsEnteredItem : {E : Type 0} → Ipld → Reading → Result (Unit {0}) (DecodeError E)
     → Reading → Type 0
 PutsEnteredItem place = ReadsItemAs (λ _. tree_of place) 1

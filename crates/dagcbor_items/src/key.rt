@@ -188,7 +188,7 @@ pub fn read_key<'de, R: Read>(
     }
 }
 
-/// The same, where no slice has all of the text.
+/// A key, where no slice has all of its text.
 #[tactic(auto, using(crate::proofs::PartRefusals::text_key))]
 #[inline(always)]
 fn read_key_slowly<'de, R: Read>(

@@ -34,7 +34,7 @@ pub(crate) fn peek_major<R: Read>(
     Ok(first)
 }
 
-/// The same byte by byte: a refusal names its cause.
+/// The next byte, where its major type lies so, asked for on its own: a refusal names its cause.
 #[tactic(auto, using(crate::proofs::PartRefusals::named_kind, crate::proofs::PartRefusals::byte_kind))]
 #[cold]
 #[inline(never)]

@@ -149,7 +149,7 @@ fn pull_peeked_lent_text<'de>(
     }
 }
 
-/// The same byte by byte: a refusal names its cause.
+/// A text, read byte by byte: a refusal names its cause.
 #[tactic(auto, using(crate::proofs::PartRefusals::byte_text))]
 #[cold]
 #[inline(never)]

@@ -191,7 +191,7 @@ pub(crate) fn behind_refused_item(
     bytes.len().saturating_sub(seen_of_leaf(bytes))
 }
 
-/// The same of a key.
+/// How many bytes are behind those that were seen, where a key is refused.
 pub(crate) fn behind_refused_key(cause: &DecodeError<Infallible>, bytes: &[u8]) -> usize
     ensures { (previous : Option (List ℕ)) → KeyCause previous cause.now bytes.now
         → StopsInKey previous cause.now result bytes.now }

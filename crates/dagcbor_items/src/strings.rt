@@ -138,7 +138,7 @@ pub(crate) fn no_text<E>(name: &str) -> DecodeError<E>
     }
 }
 
-/// The same byte by byte: a refusal names its cause.
+/// What refuses a payload that is no text, read byte by byte: a refusal names its cause.
 #[tactic(auto, using(crate::proofs::PartRefusals::byte_text))]
 #[cold]
 #[inline(never)]

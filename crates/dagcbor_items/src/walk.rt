@@ -63,7 +63,7 @@ pub fn walk_any<I: PayloadReader, S: LinkSink>(
     walk_by_bytes(alloc, input, links)
 }
 
-/// The same byte by byte: a refusal names its cause.
+/// Goes through an item, byte by byte: a refusal names its cause.
 #[tactic(auto, using(crate::proofs::PartRefusals::depth_item))]
 #[cycle(walk)]
 fn walk_by_bytes<I: PayloadReader, S: LinkSink>(

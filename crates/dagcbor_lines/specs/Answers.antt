@@ -52,7 +52,7 @@ abbrev pub IsAnswer : Command → List ℕ → List ℕ → Type 0
 IsAnswer command line said = MatchResult (decode_of line) (λ block. IsSaid command block said)
     (λ _. said ≡ codes "refused hex")
 
--- the same of the block whose text a line is, or of none where it is no text
+-- what a command says of the block whose text a line is, or of none where it is no text
 abbrev pub IsSaidOf : {A : Type 0} → (A → List ℕ) → Command → Option A → List ℕ → Type 0
 IsSaidOf bytes_of command None said = said ≡ codes "refused hex"
 IsSaidOf bytes_of command (Some block) said = IsSaid command (bytes_of block) said

@@ -204,7 +204,7 @@ module _ {S : Type 0} (shape : FieldShape S) where
         refusal_carried Anything Anything old.input mid.input new.input e record { faults = k.2.2.takes.same.faults; lends = k.2.2.takes.same.lends }
         (λ x. subst (λ l. HasFields shape start l a.left mid.input) (sym none) (map_has_fields k.2.2 x)) (lacks_before (fields_memory shape) k.2.2.takes.same.lends) (λ x. x) (λ b l g. tt) r
 
-    -- the same of a map that a variant holds
+    -- all that is left is read of a map that a variant holds
     pub held_entries_read : {T E : Type 0} (meaning : T → S) (name : List ℕ) (e : EnumState) (old mid new : DeState) (a : Accessor) (result : Result T (DecodeError E)) → Call (BeginsHeld {E = E} 5 name e) old (Ok a) mid
         → ReadsEntriesLeft meaning shape start (accessor_state a) mid result new → ReadsFieldsHeld meaning (fields_of shape start) e old result new
     held_entries_read {T} {E} meaning name e old mid new a result h r f = by e.in_map refl (call_answered (BeginsHeld 5 name e) old mid a h).2 result r

@@ -143,7 +143,7 @@ abbrev pub after_key : {E : Type 0} → Result (Option (CowStr Global)) (DecodeE
 after_key (Ok (Some k)) c = with_key (cow_str_bytes k) c
 after_key _ c = c
 
--- the same, where no value is owed
+-- an accessor that owes no value
 abbrev pub with_value : AccessorState → AccessorState
 with_value c = record c { owes_value = false }
 

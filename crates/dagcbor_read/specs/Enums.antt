@@ -128,8 +128,8 @@ ReadsHeld meaning shape e old result new = MatchResult result
     (λ v. (e.in_map ≡ true) × ((now : Reading) × TakesFront shape old (meaning v) now × (new ≡ with_steps (now.steps + e.steps) now)))
     (λ r. MatchBool e.in_map (Refuses (HasFront shape old) (MayLack shape.memory old) (shape.wants_loan ≡ true) Anything old r new) (IsOtherForm e r × (new ≡ old)))
 
--- The same for the fields that a variant holds, where nothing had failed. After an answer nothing
--- has failed.
+-- The fields that a variant holds are read as the law of their type says, where nothing had failed.
+-- After an answer nothing has failed.
 abbrev pub ReadsFieldsHeld : {T V E : Type 0} → (T → V) → Shape Tree V → EnumState → DeState
     → Result T (DecodeError E) → DeState → Type 0
 ReadsFieldsHeld meaning shape e old result new = old.failed ≡ false → IfOk result (λ v. new.failed ≡ false) × ReadsHeld meaning shape e old.input result new.input

@@ -27,7 +27,8 @@ ReadsAs held answers old result new = MatchResult result
     (λ a. answers old (Ok (held a)) new)
     (λ e. answers old (Err e) new)
 
--- The same; or it was read, and there is no memory to hold it.
+-- What another type answers, whose value is held; or it was read, and there is no memory to hold
+-- it.
 abbrev pub ReadsInMemory : {A T E : Type 0} → (A → T)
     → (DeState → Result T (DecodeError E) → DeState → Type 0) → DeState
     → Result A (DecodeError E) → DeState → Type 0
@@ -64,7 +65,7 @@ HandsOn answers old result new = old.failed ≡ false → MatchResult result
     (λ v. answers old (Ok v) new)
     (λ e. IsPartsRefusal answers old e new)
 
--- the same where there is a part
+-- where there is a part, its answer, on what had not failed
 abbrev pub HandsSomeOn : {T E : Type 0} → (DeState → Result T (DecodeError E) → DeState → Type 0)
     → DeState → Result (Option T) (DecodeError E) → DeState → Type 0
 HandsSomeOn answers old result new = old.failed ≡ false → MatchResult result
@@ -128,7 +129,8 @@ HandsWholeOn {T} answers left steps lends result = (start now : DeState)
     (λ v. answers start (Ok v) now)
     (λ e. answers start (Err e) now ⊎ (IsNoEnd e × ((v : T) × answers start (Ok v) now)))
 
--- The same of the first value, behind which no end is looked for.
+-- The first value's answer from a start on these bytes, with so many steps; no end is looked for
+-- behind it.
 abbrev pub HandsFirstOn : {T E : Type 0} → (DeState → Result T (DecodeError E) → DeState → Type 0)
     → Option (List ℕ) → ℕ → Bool → Result T (DecodeError E) → Type 0
 HandsFirstOn answers left steps lends result = (start now : DeState)

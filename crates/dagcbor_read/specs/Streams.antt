@@ -109,7 +109,8 @@ GivesUp shape lends OutOfMemory = shape.memory lends ≡ true
 GivesUp shape lends (RequireBorrowed name) = (shape.wants_loan ≡ true) × (lends ≡ false)
 GivesUp shape lends _ = ⊥
 
--- the same in the place of the first of these items: but for a fault there is one
+-- an error that says nothing of the bytes stands in the place of the first of these items: but for
+-- a fault there is one
 abbrev pub GivesUpAt : {V E : Type 0} → Shape Tree V → Bool → List (Option V) → DecodeError E
     → Type 0
 GivesUpAt shape lends items (Read e) = ⊤

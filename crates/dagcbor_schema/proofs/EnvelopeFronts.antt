@@ -404,7 +404,7 @@ module _ {V W : Type 0} (shape : EnumShape V) (f : W → V) (own : Shape Tree W)
       (λ i. front_as f own (part_of shape name) same much (subst (λ x. HasFront (part_of shape x) old.input) is i)) (may old.input.lends) lent (λ b l g. tt)
       (call_told (ReadsPart meaning own) old new (Err r) sound h).1
 
--- the same by what was shown, and by what was refused, where the type's meaning is not named
+-- by what was shown, and by what was refused, where the type's meaning is not named
 module _ {V W : Type 0} (shape : EnumShape V) (f : W → V) (own : Shape Tree W) (E T : Type 0) where
   pub content_shown : (old new : DeState) {k : List ℕ} (name : List ℕ) (w : T) (shown : W) → k ≡ name → ((t : Tree) → shape.part name t ≡ option_map f (own.view t)) → ((t : Tree) → shape.need name t ≡ own.need t)
       → old.failed ≡ false → Call {E = E} (λ old r new. MatchResult r (λ v. TakesFront own old shown new) (λ e. ⊤)) old (Ok w) new

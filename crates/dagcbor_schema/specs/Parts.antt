@@ -29,7 +29,7 @@ is_gap None (other ∷ others) = true
 abbrev pub IsGapMessage : List ℕ → Type 0
 IsGapMessage m = m ≡ codes "a part is absent before another"
 
--- the same of a part that may be absent
+-- the message of a part that may be absent
 abbrev pub optional_message : {A : Type 0} → (A → Option Tree) → (A → List ℕ → Type 0)
     → List (Option Tree) → (List ℕ → Type 0) → Option A → List ℕ → Type 0
 optional_message tree message trees others (Some x) m = part_message tree message others x m

@@ -49,7 +49,7 @@ sorted_order place b c ss sorted order within count is ps h =
 pub rest_from : (n : ℕ) (xs ys : List Span) → xs ≡ ys → take (length xs - n) (drop n xs) ≡ drop n ys
 rest_from n xs ys is = take_all (length xs - n) (drop n xs) (omega (arith, length-drop n xs)) ∙ ap (drop n) is
 
--- the same of what a call was handed
+-- the spans that a call was handed are within the bytes, and in order
 pub kept_by : (place : ℕ) (b x : List ℕ) (ss given : List Span) → x ≡ b → given ≡ ss → (All (IsWithin (length x)) given → AreInOrder (map (entry_at x) given)) → PutsEach place b ss b (length ss)
 kept_by place b x ss given is same order =
     let P : List ℕ → List Span → Type 0 = λ y ts. All (IsWithin (length y)) ts → AreInOrder (map (entry_at y) ts) in

@@ -38,7 +38,7 @@ first Failed old new b l s r = r
 first {E} (DepthOverflow n) old new b l s r = (λ t rest f n. r.1 (first_item old b rest t l s f n), at_steps {E = E} (DepthOverflow n) b _ 256 (omega (arith, s)) (r.2 b l))
 first {E} e old new b l s r = (λ t rest f n. r.1 (first_item old b rest t l s f n), at_steps {E = E} e b _ 256 (omega (arith, s)) (r.2 b l))
 
--- the same where the source tells its bytes
+-- where the source tells its bytes, a whole block is refused for a cause that stands in them
 pub whole_refused : {E : Type 0} (o : Option (List ℕ)) (e : DecodeError E) (old new : Reading) → old.left ≡ o → old.steps ≡ 256 → OfItem e → RefusesOrLacksMemory (HasItem 0 old) (CauseInside (old.steps + 0)) old e new → IfSome o (SourceRefused e)
 whole_refused None e old new l s v r = tt
 whole_refused (Some b) e old new l s v r = whole e old new b l s v r

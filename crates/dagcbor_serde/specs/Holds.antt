@@ -131,7 +131,7 @@ pub record Begins (s : Stage) (old new : Sink) : Type 0 where
 abbrev pub Follows : Log → Sink → Type 0
 Follows log sink = IsSomeAnd log (λ es. (s : State) × (steps es start ≡ Some s) × HoldsAll s sink)
 
--- the same, until a call is refused
+-- what was sent makes a state that is held, until a call is refused
 abbrev pub FollowsUnless : Bool → Log → Sink → Type 0
 FollowsUnless true log sink = ⊤
 FollowsUnless false log sink = Follows log sink

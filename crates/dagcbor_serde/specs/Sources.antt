@@ -64,7 +64,7 @@ FirstRefused Failed b = ⊥
 FirstRefused e b = ((t : Tree) (rest : List ℕ) → IsFront b t rest → ¬ (any_need t ≤ default_steps))
     × CauseInside default_steps e b
 
--- the same; or a block was taken, and the type does not accept it
+-- why no first block is read; or one was taken, and the type does not accept it
 abbrev pub IsFirstMisfit : {E : Type 0} → Error E → List ℕ → Option (List ℕ) → Type 0
 IsFirstMisfit (NoBlock e) b left = FirstRefused e b
 IsFirstMisfit (Misfit m at) b left = (v : List ℕ) × TakesBlock b v left × (at ≤ length v)

@@ -31,7 +31,7 @@ pub(crate) struct Block<'r> {
     rest: &'r [u8],
     /// How many items or entries of the innermost list or map are not read yet.
     left: u64,
-    /// The same of those around it, the outermost first.
+    /// How many are not read yet of those around it, the outermost first.
     around: Counts,
     link: LinkStage,
 }

@@ -227,7 +227,7 @@ pub(crate) fn set_head(
     insert_head(out, room, place, major, count)
 }
 
-/// The same of a head of more bytes: what is behind its place is copied.
+/// Puts a head of more bytes into the place of the byte there: what is behind is moved.
 #[inline(never)]
 fn insert_head(
     out: &mut Vec<u8>,

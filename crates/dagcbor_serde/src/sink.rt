@@ -360,7 +360,7 @@ impl Sink {
     }
 }
 
-// The same, by a name or a text that is made here.
+// Calls by a name or a text that is made here.
 impl Sink {
     pub(crate) fn char(&mut self, v: char) -> Result<(), Refusal>
         ensures moved { OnOk result (MovesTop (put (text (encode_utf8 v))) self.old self.new) }
@@ -563,7 +563,7 @@ impl Sink {
         Ok(count)
     }
 
-    /// The same of entries that do not stand in their order.
+    /// Puts entries in order that do not stand so.
     #[inline(never)]
     fn sort_entries(&mut self, place: usize, first: usize) -> Result<(), Refusal>
         requires { first ≤ length self.old.spans.items }

@@ -54,7 +54,7 @@ pub record HoldsSections (old new : Trees) (sections : List Section) : Type 0 wh
       ↔ (IsNameIn sections q ⊎ IsListed (old name_tree) q)
   pub beside : KeepsOthers IsOfStore old new
 
--- the same, and all of it is committed
+-- the sections' blocks are stored, all else is as it was, and all of it is committed
 pub record IsFilled (old new : View) (sections : List Section) : Type 0 where
   pub trees : HoldsSections old.trees new.trees sections
   pub committed : new.committed ≡ new.trees
@@ -174,7 +174,7 @@ pub record IsAddedAll (old new : View) (roots : List CidParts) (sections : List 
   pub is_open : new.is_open ≡ old.is_open
   pub broken : new.is_broken ≡ old.is_broken
 
--- the same, and no fault is forgotten
+-- these roots and sections were added, and no fault is forgotten
 pub record Adds {S : Type 0} (g : Ghosts S) (roots : List CidParts) (sections : List Section) (old new : S) : Type 0 where
   pub keeps : MayKeepRoots (g.view old) roots
   pub added : IsClean (g.view new) → IsAddedAll (g.view old) (g.view new) roots sections

@@ -44,7 +44,8 @@ abbrev pub TakesOut : Trees → Trees → ℕ → Type 0
 TakesOut old new count = (names : List (List ℕ)) × NoneTwice names × (count ≡ length names)
     × ((q : List ℕ) → Among q names ↔ (IsListed (old name_tree) q × ¬ IsListed (new name_tree) q))
 
--- the same, and all is committed; each other tree than those of blocks is the same
+-- just what the roots lead to is kept, so many names are no more, and all is committed; each other
+-- tree than those of blocks is as it was
 pub record IsCollected (old new : View) (roots : List CidParts) (count : ℕ) : Type 0 where
   pub trees : KeepsReachable old roots new.trees
   pub beside : KeepsOthers IsOfBlocks old.trees new.trees
@@ -106,7 +107,7 @@ Marks v roots kept = OfStored v (λ stored. (name : CidParts)
     → (Among name kept.keys ↔ (IsThere stored name × IsLedTo stored roots name))
     × (IsLedTo stored roots name → ¬ HoldsNoneSound v name))
 
--- the same of one root more
+-- the set has what one root more leads to, too
 abbrev pub MarksMore : View → CidParts → BTreeSet CidParts → BTreeSet CidParts → Type 0
 MarksMore v root old new = (roots : List CidParts) → Marks v roots old → Marks v (roots ++ root ∷ []) new
 

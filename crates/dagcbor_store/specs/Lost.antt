@@ -65,11 +65,12 @@ abbrev pub AddsLost : View → List ℕ → BTreeSet CidParts → BTreeSet CidPa
 AddsLost v b old new = (q : CidParts) → Among q new.keys
     ↔ (Among q old.keys ⊎ (IsReachedIn b q × ¬ Lists v q))
 
--- the same of the next block, where it is of DAG-CBOR
+-- where the next block is of DAG-CBOR, the names that its links lead to, and that are not listed,
+-- are put into the set
 abbrev pub AddsOf : View → CidParts → List ℕ → BTreeSet CidParts → BTreeSet CidParts → Type 0
 AddsOf v c b old new = (IsDagCbor c × AddsLost v b old new) ⊎ ((¬ IsDagCbor c) × (new ≡ old))
 
--- the same of the next block; or none comes behind the last name
+-- such names of the block behind the last name are put into the set; or none comes behind it
 abbrev pub AddsLinks : View → Option CidParts → BTreeSet CidParts → Option CidParts → BTreeSet CidParts → Type 0
 AddsLinks v last old None new = GivesNext v last None × (new ≡ old)
 AddsLinks v last old (Some c) new = IsNext (v.trees name_tree) last c

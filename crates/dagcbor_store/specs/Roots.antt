@@ -56,7 +56,7 @@ GainsRoots old new added = (names : List CidParts) → AreRoots (old root_tree) 
 abbrev pub KeepsRoots : View → Type 0
 KeepsRoots v = v.shape root_tree ≢ shape.Absent
 
--- the same, or there are none to keep
+-- the file is not of the earlier version, or there are no roots to keep
 abbrev pub MayKeepRoots : View → List CidParts → Type 0
 MayKeepRoots v names = (names ≡ []) ⊎ KeepsRoots v
 

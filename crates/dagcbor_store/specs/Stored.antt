@@ -85,7 +85,8 @@ pub record IsSame (old new : View) : Type 0 where
   pub is_open : new.is_open ≡ old.is_open
   pub broken : new.is_broken ≡ old.is_broken
 
--- the same, where no wrong answer of the disk was taken as true
+-- unless a wrong answer of the disk was taken as true, neither what the transaction sees has
+-- changed, nor what was committed
 abbrev pub StaysSame : {S : Type 0} → Ghosts S → S → S → Type 0
 StaysSame g old new = IsClean (g.view new) → IsSame (g.view old) (g.view new)
 
@@ -175,7 +176,7 @@ pub record IsAddedTo (old new : Trees) (name : CidParts) (b : List ℕ) : Type 0
   pub same : IsStored old (cid_bytes name) b → new ≡ old
   pub beside : KeepsOthers IsOfBlocks old new
 
--- the same, and what was committed stands
+-- the block is stored under its name, all else is as it was, and what was committed stands
 pub record IsAdded (old new : View) (name : CidParts) (b : List ℕ) : Type 0 where
   pub trees : IsAddedTo old.trees new.trees name b
   pub committed : new.committed ≡ old.committed
@@ -185,7 +186,7 @@ pub record IsAdded (old new : View) (name : CidParts) (b : List ℕ) : Type 0 wh
   pub is_open : IsTrue new.is_open
   pub sound : new.is_broken ≡ false
 
--- the same, and all of it is committed
+-- the block is stored under its name, all else is as it was, and all of it is committed
 pub record IsPut (old new : View) (name : CidParts) (b : List ℕ) : Type 0 where
   pub trees : IsAddedTo old.trees new.trees name b
   pub committed : new.committed ≡ new.trees

@@ -97,7 +97,8 @@ NamedRefused g name old new (refusal.Damaged n) = (n ≡ name)
     × (IsClean (g.view new) → IsSame (g.view old) (g.view new) × (Lists (g.view old) n → IsDamaged (g.view old) n))
 NamedRefused g name old new told = Fails g ⊥ old new told
 
--- the same of one of the names
+-- under one of the names is no block, or a damaged one, and nothing has changed; or the store
+-- failed
 abbrev pub NamesRefused : {S : Type 0} → Ghosts S → List CidParts → S → S → StoreRefusal → Type 0
 NamesRefused g names old new (refusal.Damaged n) = Among n names
     × (IsClean (g.view new) → IsSame (g.view old) (g.view new) × (Lists (g.view old) n → IsDamaged (g.view old) n))

@@ -186,7 +186,7 @@ pub(crate) fn over_files<D: Disk + Drop>(
     }
 }
 
-/// The same files, with the schema of the earlier version where they list no third object.
+/// These files, with the schema of the earlier version where they list no third object.
 fn as_listed<D: Disk + Drop>(
     alloc: Global,
     mut found: Unopened<D>,

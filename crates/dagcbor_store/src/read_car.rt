@@ -66,7 +66,7 @@ impl<S: Store> BlockStore<S> {
         }
     }
 
-    /// The same, without the commit, and with nothing undone.
+    /// Adds the blocks and the roots of the file, without a commit, and with nothing undone.
     fn add_car<'de, R: Read>(
         &mut self,
         input: &mut Input<'de, R>,

@@ -49,8 +49,8 @@ impl<S: Store> BlockStore<S> {
         }
     }
 
-    /// The same of many names, one behind the other. Those before one that is refused are roots with
-    /// what is committed next, where the store did not fail.
+    /// Makes each of the names a root, one behind the other. Those before one that is refused are
+    /// roots with what is committed next, where the store did not fail.
     pub fn add_roots(&mut self, names: &[Cid]) -> Result<(), StoreRefusal>
         ensures ok { OnOk result (IsClean (S.Store.view self.new) → AreRootsAdded (S.Store.view self.old) (S.Store.view self.new) names.now) }
         ensures table { OnOk result (MayKeepRoots (S.Store.view self.old) names.now) }

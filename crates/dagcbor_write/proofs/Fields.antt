@@ -186,7 +186,7 @@ exit_key {T} {E} {X} {R} {whole} {left} {p} {old} w s t r e refused is same =
 
 -- ---- the end of a map
 
--- the same of the state under other names
+-- what was written between two states was written between these under other names
 pub Writes_from : {T E : Type 0} (whole : Option (List ℕ)) (s t u v : Written) (r : Result T (EncodeError E)) → t ≡ s → u ≡ v → Writes whole t u r → Writes whole s v r
 Writes_from {T} {E} whole s t u v r e f w =
     let P : Written → Type 0 = λ x. Writes whole x u r in let Q : Written → Type 0 = λ x. Writes whole s x r in subst Q f (subst P e w)
@@ -197,7 +197,7 @@ pub end_map : {T E : Type 0} {whole : List Pair} {held : List Texts} (announced 
 end_map {T} {E} {whole} {held} announced w none s t u v r told e f =
     let P : Option ℕ → Type 0 = λ a. Writes (map_rest (is_some a) whole) t u r in Writes_from (map_rest false whole) s t u v r e f (subst P none (told whole (all_given w)))
 
--- the same behind a head that went out at the beginning
+-- the end of a map whose head went out at the beginning
 pub end_struct : {T E : Type 0} {W h : Option (List ℕ)} (n : ℕ) {whole : List Pair} {held : List Texts} {start s : Written} (announced : Option ℕ) → Written-but W (h ∷ map_rest true whole ∷ []) start start → WroteAll h start s → Given-but IsSpellingOf whole [] held → announced ≡ Some n → (t u v : Written) (r : Result T (EncodeError E))
     → ((given : List Pair) → AreSpellingsOf given held → Writes (map_rest (is_some announced) given) t u r) → t ≡ s → u ≡ v → Writes W start v r
 end_struct {T} {E} {W} {h} n {whole} {held} {start} {s} announced begun out w is t u v r told e f =

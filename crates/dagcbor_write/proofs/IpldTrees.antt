@@ -35,7 +35,7 @@ map_kind j m is sorted =
     ∙ ap (λ b. cond b None (Some (mapping (ordered_entries (pairs_of m.entries))))) (test_from_distinct (pairs_of m.entries) (distinct_entries m.entries sorted))
     ∙ ap Some (sym (tree_of_Map m) ∙ ap tree_of (sym is))
 
--- the same of a tree under another name
+-- what is the spelling of a tree is that of the tree under another name
 pub Writes_tree : {T E : Type 0} (a : Option Tree) (t : Tree) (s u : Written) (r : Result T (EncodeError E)) → a ≡ Some t → Writes (spelled_tree a) s u r → Writes (spelled t) s u r
 Writes_tree {T} {E} a t s u r e w = let P : Option Tree → Type 0 = λ x. Writes (spelled_tree x) s u r in subst P e w
 

@@ -55,7 +55,7 @@ module _ (o : Option Tree) (old new : List ℕ) (start : ℕ) (b : Bool) (at : s
   pub refused_key : b ≡ false → option_and_then key_of o ≡ None
   refused_key x = key_no_text o (drop start new) b stands g.1 begins x
 
-  -- the same of the range that ends with the bytes
+  -- what begins as a text in the range that ends with the bytes is the spelling of a key
   pub held_range : (end : ℕ) → end ≡ length new → b ≡ true → HoldsKey o (Some (slice_range new start end))
   held_range end e x =
       let whole : slice_range new start end ≡ drop start new = ap (slice_range new start) e ∙ take_all (length new - start) (drop start new) (omega (arith, length-drop start new)) in

@@ -56,7 +56,7 @@ each_joined (o ∷ os) = ap (λ (x : Option (List ℕ)). spelled_tree o ++? x) (
 pub begin_list : (os : List (Option Tree)) (s : Written) → Written-but (spelled_tree (list_tree os)) (spelled_head 4 (length os) ∷ map spelled_tree os) s s
 begin_list os s = begin_writing (spelled_tree (list_tree os)) (spelled_head 4 (length os) ∷ map spelled_tree os) s (spelled_list os ∙ ap (λ (x : Option (List ℕ)). spelled_head 4 (length os) ++? x) (each_joined os))
 
--- the same of four lists of trees, n in all
+-- the spelling of each item of two lists, one behind the other, is that of the one and of the other
 each_append : (xs ys : List (Option Tree)) → spelled_each (xs ++ ys) ≡ spelled_each xs ++? spelled_each ys
 each_append [] ys = sym (Some_append (spelled_each ys))
 each_append (x ∷ xs) ys = ap (λ (t : Option (List ℕ)). spelled_tree x ++? t) (each_append xs ys) ∙ sym (joined_assoc (spelled_tree x) (spelled_each xs) (spelled_each ys))
@@ -67,7 +67,7 @@ begin_parts a b c d n s e =
     each_append a (b ++ (c ++ d)) ∙ ap (λ (x : Option (List ℕ)). spelled_each a ++? x) (each_append b (c ++ d) ∙ ap (λ (x : Option (List ℕ)). spelled_each b ++? x) (each_append c d ∙ ap (λ (x : Option (List ℕ)). spelled_each c ++? x) (sym (append_Some (spelled_each d))))) in
     begin_writing _ _ s (spelled_list (in_turn a b c d) ∙ ap₂ (λ k (x : Option (List ℕ)). spelled_head 4 k ++? x) (sym e) parts)
 
--- the same of the values xs, whose number is n
+-- a list of the values xs, whose number is n, begins with its head
 pub begin_items : {A : Type 0} (tree : A → Option Tree) (xs : List A) (n : ℕ) (s : Written) → n ≡ length xs → Written-but (spelled_tree (list_tree (map tree xs))) (spelled_head 4 n ∷ map spelled_tree (map tree xs)) s s
 begin_items tree xs n s e =
     let P : ℕ → Type 0 = λ k. Written-but (spelled_tree (list_tree (map tree xs))) (spelled_head 4 k ∷ map spelled_tree (map tree xs)) s s in

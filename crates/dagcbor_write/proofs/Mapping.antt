@@ -199,12 +199,12 @@ record IsRow (ps : List Pair) (names : List Named) : Type 0 where
   pub count : length names ≡ length ps
   pub good : ArePairs ps → EachPair IsGoodPair names
 
--- the same, where each value has a tree
+-- these are the names of the pairs, and their trees, where each value has one
 abbrev NamesRow : List Pair → Option (List Named) → Type 0
 NamesRow ps None = spelled_pairs ps ≡ None
 NamesRow ps (Some names) = IsRow ps names
 
--- the same, behind a name
+-- these are the names of the pairs, and their trees, all behind a name
 abbrev NamesBehind : List ℕ → List Pair → Option (List Named) → Type 0
 NamesBehind last ps None = spelled_pairs ps ≡ None
 NamesBehind last ps (Some names) = AllByRecursion (λ y. key_cmp last y ≡ Less) (keys_of names) × IsRow ps names

@@ -190,7 +190,7 @@ refilled es fs e =
     ap (λ n. take n (fs ++ drop (length fs) es)) (sym e)
     ∙ take-append_seam fs (drop (length fs) es)
 
--- the same where they were sorted through a loan
+-- places that were listed and then sorted through a loan, in which their names rise
 pub sorted_order : (ps : List Pair) (old es lent fs seen : List Place) → old ≡ []
     → ListsPlaces ps old es → lent ≡ es → IsPermutation lent fs → length fs ≡ length lent
     → seen ≡ refill (length es) es fs → names_rise [] seen ≡ true

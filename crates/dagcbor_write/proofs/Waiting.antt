@@ -91,7 +91,7 @@ texts_more {A} tree xs i x h e =
     let last : take i xs ++ x ∷ [] ≡ take (i + 1) xs = ap (λ (y : A). take i xs ++ y ∷ []) e ∙ sym (take_more xs i x h) in
     sym (map_more spelled_tree (map tree (take i xs)) (tree x)) ∙ ap (λ (os : List (Option Tree)). map spelled_tree os) (sym (map_more tree (take i xs) x) ∙ ap (λ (ys : List A). map tree ys) last)
 
--- the same, of a loop that goes over the items
+-- a loop that goes over the items holds one more
 pub Holds_next : {E : Type 0} {A : Type 0} (tree : A → Option Tree) (xs : List A) (i : ℕ) (x : A) (items : ListState) (start s : Written) (left : ListState) (t : Written) (r : Result (Unit {0}) (EncodeError E)) → i < length xs → x ≡ get_or xs i x → Holds items (map spelled_tree (map tree (take i xs))) → WroteAll (Some []) start s → IsOk r → TakesElement (tree x) items s left t r → Holds left (map spelled_tree (map tree (take (i + 1) xs))) × WroteAll (Some []) start t
 Holds_next tree xs i x items start s left t r h e holds nothing k p =
     let P : List (Option (List ℕ)) → Type 0 = λ texts. Holds left texts in

@@ -158,7 +158,7 @@ RefusesAnyKey ps m = Any (λ p. RefusesKey p.0 m) ps
 abbrev pub RefusesEntries : List Pair → List ℕ → Type 0
 RefusesEntries ps m = (RefusesAnyKey ps m ⊎ RefusesKeys (keys_alone ps) m) ⊎ RefusesAnyValue ps m
 
--- the same, where nothing went out before a message of the keys
+-- the causes of a map's message, where nothing went out before one of its keys
 abbrev pub RefusesMap : {A : Type 0} → A → A → List Pair → List ℕ → Type 0
 RefusesMap old new ps m = ((RefusesAnyKey ps m ⊎ RefusesKeys (keys_alone ps) m) × (new ≡ old))
     ⊎ RefusesAnyValue ps m

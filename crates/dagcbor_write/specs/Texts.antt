@@ -9,7 +9,7 @@ use Rattle.dagcbor_write.specs.Trees.{Pair, field}
 abbrev pub text_pair : {V : Type 0} → (V → Option Tree) → TextEntry V → Pair
 text_pair tree e = field e.key.now (tree e.value.now)
 
--- the same of each entry
+-- the trees of the key and of the value of each entry
 abbrev pub text_pairs : {V : Type 0} → (V → Option Tree) → List (TextEntry V) → List Pair
 text_pairs tree row = map (text_pair tree) row
 

@@ -377,7 +377,7 @@ impl<W: Write> Serializer<W> {
         self.serialize_str(name)
     }
 
-    /// The same, and the head of what the variant holds.
+    /// The head of a map of one entry, its key, and the head of what the variant holds.
     pub(crate) fn push_variant_of(
         &mut self,
         variant: &'static str,

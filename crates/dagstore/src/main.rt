@@ -188,7 +188,8 @@ fn run_at<W: Write>(
     flushed(output, status, errors)
 }
 
-/// The same over a file that is there.
+/// Writes what the path leads to from the root, over a file that is there, or tells why it leads to
+/// nothing.
 fn run_at_file<W: Write>(
     rt: &HostRuntime,
     file: &str,

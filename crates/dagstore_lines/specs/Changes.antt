@@ -84,7 +84,8 @@ SaysCollected g roots old before heard (Err (fault.Tool e)) new after told = (co
 abbrev pub HoldsOthers : List CidParts → Trees → Trees → Type 0
 HoldsOthers names = HoldsThose (λ q. ¬ Among q (forms names))
 
--- the same, so many of the names were listed, and what was committed stands
+-- what is stored is what was, without these names, so many of them were listed, and what was
+-- committed stands
 pub record TakesNames (old new : View) (names : List CidParts) (count : ℕ) : Type 0 where
   pub trees : HoldsOthers names old.trees new.trees
   pub taken : TakesOut old.trees new.trees count
@@ -92,14 +93,16 @@ pub record TakesNames (old new : View) (names : List CidParts) (count : ℕ) : T
   pub is_open : new.is_open ≡ old.is_open
   pub broken : new.is_broken ≡ old.is_broken
 
--- the same, and all is committed
+-- what is stored is what was, without these names, so many of them were listed, and all is
+-- committed
 pub record IsRemoved (old new : View) (names : List CidParts) (count : ℕ) : Type 0 where
   pub trees : HoldsOthers names old.trees new.trees
   pub taken : TakesOut old.trees new.trees count
   pub committed : new.committed ≡ new.trees
   pub is_open : IsTrue new.is_open
 
--- the same, unless a wrong answer of the disk was taken as true
+-- unless a wrong answer of the disk was taken as true, these names are removed, so many were
+-- listed, and all is committed
 abbrev pub Removes : {S : Type 0} → Ghosts S → List CidParts → S → S → ℕ → Type 0
 Removes g names old new count = IsClean (g.view new) → IsRemoved (g.view old) (g.view new) names count
 

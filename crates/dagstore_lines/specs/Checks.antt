@@ -77,7 +77,7 @@ Leads v c q = IsDagCbor c × ((b : List ℕ) × Holds v c b × IsNamed c b × Is
 abbrev pub AddsMissing : View → CidParts → BTreeSet CidParts → BTreeSet CidParts → Type 0
 AddsMissing v c old new = (q : CidParts) → Among q new.keys ↔ (Among q old.keys ⊎ (Leads v c q × ¬ Lists v q))
 
--- the same of the next name, if there is one
+-- such names of the next block, if there is one, are put into the set
 abbrev pub AddsOfNext : View → Option (CidParts × Bool) → BTreeSet CidParts → BTreeSet CidParts → Type 0
 AddsOfNext v None old new = new ≡ old
 AddsOfNext v (Some p) old new = AddsMissing v p.0 old new

@@ -84,7 +84,7 @@ pub record Changes (Does : Trees → Trees → Type 0) (old new : View) : Type 0
   pub is_open : new.is_open ≡ old.is_open
   pub broken : new.is_broken ≡ old.is_broken
 
--- the same, and all is committed
+-- the trees are so changed, and all is committed
 pub record Commits (Does : Trees → Trees → Type 0) (old new : View) : Type 0 where
   pub trees : Does old.trees new.trees
   pub committed : new.committed ≡ new.trees

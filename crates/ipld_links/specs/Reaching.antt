@@ -149,7 +149,7 @@ Sorts name is_there found lost more others =
     ⊎ ((is_there ≡ false) × (IsInline name) × (more ≡ found) × (others ≡ lost))
     ⊎ ((is_there ≡ false) × (¬ IsInline name) × (more ≡ found) × (others ≡ lost ++ name ∷ []))
 
--- the same of a walk, of which all else stays
+-- a walk has sorted the name out, and all else of it stays
 pub record SortsOut (name : CidParts) (is_there : Bool) (old new : Walk) : Type 0 where
   pub seen : new.seen ≡ old.seen
   pub waiting : new.waiting ≡ old.waiting

@@ -40,7 +40,7 @@ module _ {V : Type 0} (shape : Shape Tree V) where
   alike_for_behind b TrailingData f h k = λ v rest first. inr h
   alike_for_behind b _ f h k = λ v rest first. elim (k v rest first) [ inl i ↦ absurd i | inr i ↦ absurd (cc i) ]
 
--- the same refusal lacks memory only where the first may
+-- a refusal that is alike lacks memory only where the first may
 pub alike_in_memory : {E F : Type 0} (may : Bool) (e : DecodeError E) (f : DecodeError F) → AreAlike e f → LacksMemoryIf may e → LacksMemoryIf may f
 alike_in_memory may (Read x) f h k = absurd h
 alike_in_memory may _ f h k = subst (LacksMemoryIf may) (sym h) k

@@ -52,7 +52,7 @@ abbrev pub DecodeRefused : {T V : Type 0} → Shape Tree V → Option (List ℕ)
     → Type 0
 DecodeRefused shape left result = IfErr result (NotDecoded shape left)
 
--- the same refusal, of no source's fault
+-- the two refusals are of one variant and say the same, and neither is a fault of the source
 abbrev pub AreAlike : {E F : Type 0} → DecodeError E → DecodeError F → Type 0
 AreAlike (unread.Msg name) f = f ≡ unread.Msg name
 AreAlike (unread.Read e) f = ⊥

@@ -18,8 +18,8 @@ pub fn read_then_written()
     ensures { ReadThenWritten }
 {}
 
-/// The same for a value of any type whose tree is the one that it was read from. Not each is:
-/// `Some(None)` is null, which is read as `None`.
+/// A value of any type whose tree is the one that it was read from is written as the bytes that it
+/// was read from. Not each is: `Some(None)` is null, which is read as `None`.
 pub fn typed_read_then_written<'de, T: Deserialize<'de> + Serialize>()
     ensures { TypedReadThenWritten T.meaning T.shape T.tree }
 {}
@@ -30,7 +30,7 @@ pub fn written_then_read()
     ensures { WrittenThenRead }
 {}
 
-/// The same for a value of any type: it is read as what its tree shows to the type.
+/// What `to_vec` writes of a value of any type is read as what its tree shows to the type.
 pub fn typed_written_then_read<'de, T: Deserialize<'de> + Serialize>()
     ensures { TypedWrittenThenRead T.meaning T.shape T.tree }
 {}

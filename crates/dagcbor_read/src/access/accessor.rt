@@ -33,7 +33,7 @@ pub struct Accessor<'de> {
     ghost within: { left ≤ announced },
 }
 
-/// The same key once more, with no memory where it is lent.
+/// A copy of the key, with no memory where it is lent.
 pub(crate) fn copied<'de>(alloc: Global, key: &CowStr<'de>) -> Result<CowStr<'de>, AllocError>
     ensures same { IfOk result (λ c. cow_str_bytes c ≡ cow_str_bytes key.now) }
     ensures lent { IfErr result (λ _. ¬ IsBorrowedStr key.now) }

@@ -50,7 +50,7 @@ fn pull_form<R: Read>(reader: &mut R) -> ReadResult<EnumAccessor, R>
     })
 }
 
-/// The same, for a step.
+/// The form of the enum that begins here, for a step.
 #[tactic(auto, using(crate::proofs::Entering::depth_form, crate::proofs::Entering::byte_form))]
 pub(crate) fn spend_form<R: Read>(name: &str, reader: &mut R) -> ReadResult<EnumAccessor, R>
     ensures form { SpendsEnum name.now (R.reading reader.old) result (R.reading reader.new) }

@@ -37,8 +37,8 @@ pub fn from_slice<'a, T: Deserialize<'a>>(
     from_slice_with_depth(alloc, bytes, DEFAULT_STEPS)
 }
 
-/// Reads a whole slice within a budget of so many steps, at most 1,024: each list or map takes a step
-/// or two, and needs stack (README).
+/// Reads a whole slice within a budget of so many steps, at most 1,024: each list or map takes a
+/// step or two, and needs stack (README).
 ///
 /// ```rust
 /// let nested = b"\x81\x81\x01";

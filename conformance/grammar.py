@@ -6,9 +6,9 @@ from judge import WIDTHS, Link, head, spell
 
 NAMES = ("unsigned", "negative", "bytes", "text", "list", "map", "tag", "simple")
 EDGES = (0, 1, 23, 24, 255, 256, 65535, 65536, 2**32 - 1, 2**32, 2**63 - 1, 2**63, 2**64 - 1)
-HEADS, STRICT = "RFC 8949, 3", "DAG-CBOR, Strictness"
+HEADS, STRICT = "RFC 8949, 3", "DAG-CBOR, Strictness 2"
 LINKS, CID, VARINT = "DAG-CBOR, Links", "CID, Binary format", "unsigned-varint"
-UTF8, MAPS = "RFC 3629, 3", "DAG-CBOR, Strictness (map keys)"
+UTF8, MAPS = "RFC 3629, 3", "DAG-CBOR, Strictness 2; DAG-CBOR, Map Keys"
 SHA = bytes(range(32))
 V1 = b"\x01\x71\x12\x20" + SHA
 V0 = b"\x12\x20" + SHA
@@ -338,7 +338,7 @@ def cids():
 
 
 def tags():
-    section = "DAG-CBOR, Tags"
+    section = "DAG-CBOR, Strictness 1"
     for number in (*range(0, 7), 21, 22, 23, 24, 30, 32, 33, 36, 37, 41, 43, 255, 256, 258, 55799, 65535, 2**32 - 1, 2**64 - 1):
         yield f"{number}-on-integer", head(6, number) + b"\x01", f"tag {number}", section
         yield f"{number}-on-bytes", head(6, number) + b"\x41\x01", f"tag {number}", section
@@ -359,7 +359,7 @@ def tags():
 
 
 def simples():
-    section = "DAG-CBOR, Simple values"
+    section = "DAG-CBOR, Strictness 3"
     for number in range(24):
         yield f"{number}", head(7, number), {20: "false", 21: "true", 22: "null", 23: "undefined"}.get(number, "unassigned"), section
     for number in (0, 19, 20, 21, 22, 23, 24, 31):
@@ -384,7 +384,7 @@ def indefinites():
 
 
 def floats():
-    section = "DAG-CBOR, Floating point"
+    section = "DAG-CBOR, Strictness 3"
     rows = {
         "zero": "fb0000000000000000", "minus-zero": "fb8000000000000000", "one-and-a-half": "fb3ff8000000000000",
         "one": "fb3ff0000000000000", "tenth": "fb3fb999999999999a", "least": "fb0000000000000001", "greatest": "fb7fefffffffffffff",
@@ -403,7 +403,7 @@ def floats():
 
 
 def depths():
-    section = "no standard bounds depth; an answer must come"
+    section = "RFC 8949, 10"
     for count in (1, 2, 16, 31, 32, 33, 63, 64, 65, 100, 126, 127):
         yield f"lists-{count}", b"\x81" * count + b"\x80", f"{count} lists around a list", "RFC 8949, 3.1"
         yield f"maps-{count}", b"\xa1\x61a" * count + b"\xa0", f"{count} maps around a map", "RFC 8949, 3.1"
@@ -418,7 +418,7 @@ def depths():
 
 
 def announced():
-    section = "RFC 8949, 3.1; nothing may be reserved from a length alone"
+    section = "RFC 8949, 3.1; RFC 8949, 10"
     for major in range(2, 6):
         for bits in (16, 24, 28, 30, 31, 32, 40, 48, 53, 61, 62, 63, 64):
             number = 2**bits - 1
@@ -434,7 +434,7 @@ def announced():
 
 
 def trailing():
-    section = "DAG-CBOR, Strictness (one item)"
+    section = "DAG-CBOR, Strictness 4"
     rows = {"null": b"\xf6", "integer": b"\x18\x18", "text": b"\x61a", "list": b"\x81\x00", "map": b"\xa0", "link": link(b"\0" + V1), "empty": b"\x80"}
     behinds = {"null": b"\xf6", "zero": b"\0", "break": b"\xff", "newline": b"\n", "same": None, "bad": b"\x1c", "cut": b"\x19"}
     for slug, block in rows.items():

@@ -15,6 +15,8 @@ import cidtexts
 import dagjson
 import forms
 import grammar
+import paths
+import standards
 from judge import CAUSES, KINDS, PROFILES, TOKENS, VARIANTS, Link, causes, head, judge, links_of, parts_of, spell, tokens
 
 HERE = os.path.dirname(os.path.abspath(__file__))
@@ -49,11 +51,12 @@ FIELDS = {
 }
 FORM_FIELDS = {
     "text": "the bytes as text, where they are one",
+    "path": "a path in the block, as a text; or `segments`, of which each is taken whole",
+    "span": "where the item to which it leads begins and ends; of a text that leads to none the last item on the way, behind `passed` bytes of the text; of a file of version 2 that of version 1 in it",
     "cid": "of a text the binary CID, in hexadecimal; `written` is how it is written by default",
     "block": "of DAG-JSON the block of its data, in hexadecimal; `written` is its one spelling",
     "dag_json": "for writers: what is to be written as a block; `loose` is the same as CBOR that DAG-CBOR forbids, for a codec that reads such",
-    "cause": "the first fault, a key of the group's `causes`; of a file `at` is where what is faulty begins, and `block_cause` why a header is no block",
-    "span": "of a file of version 2 where that of version 1 begins and ends",
+    "cause": "the first fault, a key of the group's `causes`; of a file `at` is where what is faulty begins, and `block_cause` why a header is no block; of a path why its block is none, told at `at`",
     "roots": "the roots; `behind` is where the first section begins",
     "sections": "those before a fault: where each begins, its CID, where its block begins, where it ends, and what is said of the block",
     "missing": "of a whole file the roots and links that lead to no verified block, in the order of their binary forms; a CID by the identity holds its block",
@@ -189,6 +192,8 @@ def made():
 
 # What stands around blocks: its rows, what judges it, and what it is.
 FORMS = {
+    "paths": (forms.paths, paths, "what a path leads to in a block, as a text"),
+    "segments": (forms.segments, paths, "the same, of a list of segments, of which each is taken whole"),
     "cid-texts": (forms.cid_texts, cidtexts, "CIDs as text: bases, letters, padding bits"),
     "files": (forms.files, cars, "files of blocks (CAR) of both versions: headers, offsets, cuts, other bytes"),
     "dag-json": (forms.json_texts, dagjson, "DAG-JSON, to be read"),
@@ -199,10 +204,26 @@ def made_forms():
     """All vectors of these, anew."""
     for group, (rows, judged, _) in FORMS.items():
         for slug, given, why, section in rows():
-            is_text = isinstance(given, str)
-            data = given.encode() if is_text else given
-            said = {"id": f"{group}/{slug}", "group": group, **packed(data)} | ({"text": given} if is_text else {})
-            yield said | judged.expected(given if group == "cid-texts" else data) | {"why": why, "section": section}
+            yield {"id": f"{group}/{slug}", "group": group, **of_given(given), **judged.expected(given), "why": why, "section": section}
+
+
+def of_given(given):
+    """The bytes of a row; and the text, the path or the segments."""
+    if isinstance(given, tuple):
+        return packed(given[0]) | {"path" if isinstance(given[1], str) else "segments": given[1]}
+    return packed(given.encode()) | {"text": given} if isinstance(given, str) else packed(given)
+
+
+# In each list, map and link of the other groups so many paths are asked for, and one in each that is refused.
+FEW_PATHS = {"paths": ("", "0", "1/0", "a", "a/a"), "segments": ([], [""], ["0"], ["1", "0"], ["a"], ["a", "a"], ["", ""])}
+
+
+def paths_in(vectors, name):
+    for it in vectors:
+        block, is_block = block_of(it), it["verdict"] == "ok"
+        are_asked = FEW_PATHS[name] if not is_block or it["kind"] in ("list", "map", "link") else ()
+        for number, path in enumerate(are_asked if is_block else are_asked[2:3]):
+            yield {"id": f"{name}/{it['id'].replace('/', '-')}-{number}", "group": name, **of_given((block, path)), **paths.expected((block, path))}
 
 
 @functools.cache
@@ -213,7 +234,20 @@ def subjects(name):
         return [*kept, *truncations(kept), *load_short()]
     if name == "to-dag-json":
         return [{**it, "id": f"{name}/{it['id'].replace('/', '-')}", "group": name} for it in load() if "dag_json" in it]
-    return list(load([name]))
+    kept = list(load([name]))
+    return [*kept, *paths_in((it for it in load() if "tokens" in it), name)] if name in FEW_PATHS else kept
+
+
+def line_of(vector):
+    """The line that asks it."""
+    if vector["group"] == "writing":
+        return vector.get("line", vector["dag_json"])
+    block = block_of(vector).hex()
+    if "path" in vector:
+        return f"{block or '-'} {vector['path'].encode().hex() or '-'}"
+    if "segments" in vector:
+        return f"{block or '-'} {'/'.join(it.encode().hex() or '-' for it in vector['segments']) or '/'}"
+    return block
 
 
 def for_writers(vectors, is_loose, cannot):
@@ -227,7 +261,7 @@ def for_writers(vectors, is_loose, cannot):
 # What a peer may be held to, and a line that each answers with `ok`.
 SUBJECTS = {
     "blocks": "f6", "writing": "null", "cid-texts": b"bafkqaaa".hex(), "files": "19a265726f6f747381d82a4500015500006776657273696f6e01",
-    "dag-json": b"null".hex(), "to-dag-json": "f6",
+    "dag-json": b"null".hex(), "to-dag-json": "f6", "paths": "f6 -", "segments": "f6 /",
 }  # fmt: skip
 
 
@@ -323,9 +357,9 @@ def files(kept):
     index = {
         "groups": {group: why for group, (_, why) in grammar.GROUPS.items()},
         "counts": {group: sum(it["group"] == group for it in kept) for group in grammar.GROUPS},
-        "fields": FIELDS, "causes": worded(CAUSES),
+        "fields": FIELDS, "standards": standards.index(), "causes": standards.worded(CAUSES),
         "variants": VARIANTS, "profiles": PROFILES, "tokens": TOKENS, "open": OPEN, "levels": LEVELS,
-        "forms": {group: {"what": why, "causes": worded(judged.CAUSES), "variants": judged.VARIANTS, "open": judged.OPEN} for group, (_, judged, why) in FORMS.items()},
+        "forms": {group: {"what": why, "causes": standards.worded(judged.CAUSES), "variants": judged.VARIANTS, "open": judged.OPEN} for group, (_, judged, why) in FORMS.items()},
         "form_fields": FORM_FIELDS,
     }  # fmt: skip
     return texts | {
@@ -333,10 +367,6 @@ def files(kept):
         "short.json": json.dumps(short()).replace(" [[", "\n[[").replace(" [", "\n[") + "\n",
         "index.json": json.dumps(index, indent=1, ensure_ascii=False) + "\n",
     }
-
-
-def worded(causes):
-    return {name: {"is": words, "by": rule} for name, (words, rule) in causes.items()}
 
 
 def lines(vectors):

@@ -5,6 +5,7 @@ import base64
 
 from cars import FIRST, PRAGMA, RAW, counted, header, name, second, section, written_varint
 from cidtexts import BASE32, BASE58, MOST, base32, base58
+from dagjson import unpadded
 from grammar import SHA, V0, V1, cid, varint
 from judge import Link, spell
 
@@ -262,3 +263,35 @@ def segments():
         yield f"slashes-{number}", (spell(SLASHES), list(them)), "segments, each of which is taken whole", PATHING
     for number, path in enumerate(PATHS):
         yield f"tree-{number}", (spell(TREE), [it for it in path.split("/") if it]), "the segments of a text", PATHING
+
+
+def writing():
+    """Data for writers, as DAG-JSON."""
+    orders, shortest, none = "DAG-CBOR, Strictness 2", "DAG-CBOR, Strictness 2; RFC 8949, 4.2.1", "RFC 8949, 3.1; DAG-CBOR, Strictness 1"
+    for slug, text, why in (
+        ("rising", '{"a":0,"b":1}', "in order"), ("falling", '{"b":1,"a":0}', "by bytes"), ("by-length", '{"aa":0,"b":1}', "the shorter first"),
+        ("numerals", '{"10":0,"9":1,"a":2}', "numerals are texts"), ("empty-last", '{"a":0,"":1}', "the empty key is the shortest"),
+        ("accents", '{"水":0,"é":1,"zz":2}', "lengths in bytes"), ("beyond-16-bits", '{"\U00010000":0,"\ue000a":1}', "not as in UTF-16"),
+        ("nested", '{"b":{"d":0,"c":[{"f":0,"e":1}]},"a":1}', "on each level"), ("signed", '{"é":0,"zz":1}', "bytes are not signed"),
+        ("proto", '{"__proto__":{"b":0,"a":1},"z":2}', "a key that is special in JavaScript"),
+        ("long", '{"' + "z" * 24 + '":0,"' + "a" * 255 + '":1,"' + "b" * 23 + '":2}', "of 23, 24 and 255 bytes"),
+        ("many", "{" + ",".join(f'"k{n * 37 % 100}":{n}' for n in range(100)) + "}", "a hundred"),
+    ):  # fmt: skip
+        yield slug, text, f"keys in another order, or in their own: {why}", orders
+    yield "links", '{"/a":{"/":"QmdfTbBqBPQ7VNxZEYEj14VmRuZBkqFbiwReogJgS1zR1n"},"b":{"/":{"bytes":"AAEC"}}}', "a link and bytes", "DAG-CBOR, Links"
+    yield "leaves", "[null,false,true,[],{}]", "what has no argument", "DAG-CBOR, Strictness 3"
+    lists = "[" + ",".join(f"[{','.join('0' * n)}]" for n in (23, 24)) + "]"
+    strings = ",".join(f'{{"/":{{"bytes":"{unpadded(bytes(n))}"}}}}' for n in (23, 24))
+    for slug, text in {
+        "integers": "[0,23,24,255,256,65535,65536,4294967295,4294967296,18446744073709551615,-1,-24,-25,-18446744073709551616]",
+        "texts": '["","\\u0000","é","水","\U00010151","\\ud800\\udd51"]', "heads-of-texts": "[" + ",".join(f'"{"a" * n}"' for n in (23, 24, 255, 256)) + "]",
+        "heads-of-lists": lists, "heads-of-bytes": f"[{strings}]",
+    }.items():  # fmt: skip
+        yield slug, text, "heads of each width, each the shortest", shortest
+    yield "beyond", "[18446744073709551616]", "2^64, which has no spelling", none
+    yield "below", "[-18446744073709551617]", "-2^64 - 1, which has no spelling", none
+    yield "repeated", '{"a":0,"a":1}', "a key twice", "DAG-JSON, Maps; RFC 8949, 3.1"
+    yield "repeated-apart", '{"a":0,"b":0,"a":0}', "a key twice, another between", "DAG-JSON, Maps; RFC 8949, 3.1"
+    yield "half-a-pair", '["\\ud800"]', "half of a surrogate pair, which has no UTF-8", "RFC 8259, 8.2; RFC 3629, 3"
+    for slug, text in {"float": "[1.5]", "floats": "[0.1,-2.5,1e300,5e-324]", "float-in-map": '{"b":1.5,"a":2}'}.items():
+        yield slug, text, "floats, which are of 64 bits", "DAG-CBOR, Strictness 3"

@@ -5,6 +5,9 @@ import os
 import subprocess
 import sys
 
+MANY = ("all", "ours")  # in the place of names
+# The version of this repository.
+OURS = "sed -n '/^## /{s/^## //p;q}' $REPO/CHANGELOG.md"
 HERE = os.path.dirname(os.path.abspath(__file__))
 ROOT, OUT = os.path.dirname(HERE), os.environ.get("CONFORMANCE_OUT", f"{HERE}/out")
 
@@ -30,11 +33,15 @@ def environment():
 
 
 def peers(names):
-    """What is told of each, and its command for each subject that it has: `run` is that of blocks, `write` that of writing."""
+    """What is told of each, and its command for each subject that it has: `run`, which is of blocks, and behind it the subject's word. Who
+    has no word for writing is handed the loose form of data."""
     with open(f"{HERE}/peers/peers.json", encoding="utf-8") as file:
         all_peers = json.load(file)
     os.makedirs(OUT, exist_ok=True)
-    wanted = names.split(",")
+    wanted = names.split(",") if names not in MANY else []
+    for name in set(wanted) - {it["name"] for it in all_peers}:
+        print(f"{name}: no such peer", flush=True)
+        yield {"name": name, "promises": "nothing"}, {}
     for peer in all_peers:
         is_ours = names == "ours" and peer["name"].startswith(("dagcbor", "dagcar"))
         if peer["name"] not in wanted and names != "all" and not is_ours:
@@ -43,10 +50,12 @@ def peers(names):
         if built.returncode:
             said = built.stderr.strip().split("\n")[-1]
             print(f"{peer['name']}: not here: {peer['get']}{f' ({said})' if said else ''}", flush=True)
+            yield peer, {}
             continue
         os.environ.update(environment())
-        peer["version"] = ran(peer["version"]).stdout.strip() if "version" in peer else ""
-        words = {"blocks": peer.get("run"), "writing": peer.get("write", peer.get("run")), **peer.get("around", {})}
-        peer["is_loose"] = "write" not in peer
-        peer["commands"] = [f"{subject}: {it}" for subject, it in words.items() if it]
-        yield peer, {subject: ["sh", "-c", f"exec {it}"] for subject, it in words.items() if it}
+        peer["version"] = ran(peer.get("version", OURS)).stdout.strip()
+        subjects = peer.get("subjects", ["blocks"])
+        peer["is_loose"] = "writing" not in subjects
+        words = {it: peer["run"] if it == "blocks" else f"{peer['run']} {it}" for it in subjects}
+        words |= {"writing": peer["run"]} if peer["is_loose"] else {}
+        yield peer, {subject: ["sh", "-c", f"exec {it}"] for subject, it in words.items()}

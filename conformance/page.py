@@ -3,6 +3,7 @@ peer, or kept it from answering, is counted there, and not shown."""
 
 from html import escape
 
+import vectors
 from verdicts import NO_ANSWER, OUTCOMES, is_wrong, table
 
 STYLE = """
@@ -78,14 +79,15 @@ def peer(number, result):
     commands = "<br>".join(f"<code>{escape(it)}</code>" for it in result.about.get("commands", ()))
     said = ", ".join(f"{counts[it]:,} {it}" for it in OUTCOMES if counts[it])
     about = result.about
+    got = f" To have it: {escape(about['get'])}; and <code>conformance/run --known {escape(about['name'])}</code>." if "get" in about else ""
     return (
         f'<details id="peer-{number}"><summary><h2>{escape(about["name"])}</h2><span>{escape(said)}</span></summary>'
-        f'<p>{escape(about.get("language", ""))} {escape(about.get("version", ""))}. It promises {escape(about["promises"])}.'
+        f'<p>{escape(about.get("language", ""))} {escape(about.get("version", ""))}. It promises {escape(about["promises"])}.{got}'
         f"</p><p>{commands}</p>{failures(result)}</details>\n"
     )
 
 
-def page(results, command="conformance/run --known all --page page.html"):
+def page(results, command):
     most = max((len(it.judged) for it in results), default=0)
     return f"""<!DOCTYPE html>
 <html lang="en"><head><meta charset="utf-8"><meta name="viewport" content="width=device-width, initial-scale=1">
@@ -97,6 +99,7 @@ colour of its own.</p>
 <p class="key"><span class="held">&#10003; all held</span><span class="loose">takes or writes what DAG-CBOR forbids</span>
 <span class="wrong">not as RFC 8949 either, or no answer</span><span class="none">&ndash; not asked</span></p>
 {matrix(results)}
-<p>Counted down a column are the vectors of a group. Made by <code>{escape(command)}</code>, with what Debian 12 has of each codec, in its strictest form.</p>
+<p>Counted down a column are the vectors of a group. Made by <code>{escape(command)}</code>
+over the vectors <code>{vectors.digest()}</code>, with each codec in its strictest form.</p>
 {"".join(peer(number, it) for number, it in enumerate(results))}</body></html>
 """

@@ -1,6 +1,7 @@
 """The vectors: the bytes of grammar.py with what the judge says of them, as lines of JSON; and those that are made of them."""
 
 import functools
+import hashlib
 import itertools
 import json
 import math
@@ -267,27 +268,13 @@ SUBJECTS = {
 
 def written():
     """For writers: data as DAG-JSON, with the keys of maps in other orders, and its one spelling; or what has none."""
-    rows = {
-        "rising": '{"a":0,"b":1}', "falling": '{"b":1,"a":0}', "by-length": '{"aa":0,"b":1}', "numerals": '{"10":0,"9":1,"a":2}',
-        "empty-last": '{"a":0,"":1}', "accents": '{"水":0,"é":1,"zz":2}', "beyond-16-bits": '{"\U00010000":0,"\ue000a":1}',
-        "nested": '{"b":{"d":0,"c":[{"f":0,"e":1}]},"a":1}', "signed": '{"é":0,"zz":1}', "proto": '{"__proto__":{"b":0,"a":1},"z":2}',
-        "long": '{"' + "z" * 24 + '":0,"' + "a" * 255 + '":1,"' + "b" * 23 + '":2}',
-        "links": '{"/a":{"/":"QmdfTbBqBPQ7VNxZEYEj14VmRuZBkqFbiwReogJgS1zR1n"},"b":{"/":{"bytes":"AAEC"}}}',
-        "integers": "[0,23,24,255,256,65535,65536,4294967295,4294967296,18446744073709551615,-1,-24,-25,-18446744073709551616]",
-        "texts": '["","\\u0000","é","水","\U00010151","\\ud800\\udd51"]', "leaves": "[null,false,true,[],{}]",
-        "many": "{" + ",".join(f'"k{n * 37 % 100}":{n}' for n in range(100)) + "}",
-        "heads-of-texts": "[" + ",".join(f'"{"a" * n}"' for n in (23, 24, 255, 256)) + "]", "heads-of-lists": "[" + ",".join(f"[{','.join('0' * n)}]" for n in (23, 24)) + "]",
-        "heads-of-bytes": "[" + ",".join(f'{{"/":{{"bytes":"{dagjson.unpadded(bytes(n))}"}}}}' for n in (23, 24)) + "]", "beyond": "[18446744073709551616]",
-        "below": "[-18446744073709551617]", "repeated": '{"a":0,"a":1}', "repeated-apart": '{"a":0,"b":0,"a":0}', "half-a-pair": '["\\ud800"]',
-        "float": "[1.5]", "floats": "[0.1,-2.5,1e300,5e-324]", "float-in-map": '{"b":1.5,"a":2}',
-    }  # fmt: skip
-    for slug, text in rows.items():
-        said = dagjson.expected(text.encode())
+    for slug, text, why, section in forms.writing():
+        said = dagjson.expected(text)
         said.pop("written", None)  # the data counts here, and not how it is told
         if said.get("open") == "spelling":
             del said["open"]
         said |= {"loose": loose(dagjson.json_of(text), slug in WIDE).hex()} if "block" in said.get("with_floats", said) else {}
-        yield {"id": f"writing/{slug}", "group": "writing", "dag_json": text, **said}
+        yield {"id": f"writing/{slug}", "group": "writing", "dag_json": text, **said, "why": why, "section": section}
 
 
 # Those whose heads are wide in the loose form; of the others the keys' order is at stake.
@@ -351,19 +338,21 @@ def expected_short(block, floats):
 
 def files(kept):
     """What stands in the folder, of these vectors: the name of each file, and its text."""
-    around = list(made_forms())
-    assert len({it["id"] for it in [*kept, *around]}) == len(kept) + len(around)
-    texts = {f"{group}.jsonl": lines(it for it in [*kept, *around] if it["group"] == group) for group in (*grammar.GROUPS, *FORMS)}
+    every = [*kept, *made_forms(), *written()]
+    assert len({it["id"] for it in every}) == len(every) and all(standards.places(it["section"]) is not None for it in every)
+    texts = {f"{group}.jsonl": lines(it for it in every if it["group"] == group) for group in (*grammar.GROUPS, *FORMS, "writing")}
     index = {
         "groups": {group: why for group, (_, why) in grammar.GROUPS.items()},
         "counts": {group: sum(it["group"] == group for it in kept) for group in grammar.GROUPS},
         "fields": FIELDS, "standards": standards.index(), "causes": standards.worded(CAUSES),
         "variants": VARIANTS, "profiles": PROFILES, "tokens": TOKENS, "open": OPEN, "levels": LEVELS,
-        "forms": {group: {"what": why, "causes": standards.worded(judged.CAUSES), "variants": judged.VARIANTS, "open": judged.OPEN} for group, (_, judged, why) in FORMS.items()},
+        "forms": {
+            group: {"what": why, "causes": standards.worded(judged.CAUSES), "variants": judged.VARIANTS, "open": judged.OPEN}
+            for group, (_, judged, why) in {**FORMS, "writing": (None, dagjson, "data for writers, as DAG-JSON")}.items()
+        },
         "form_fields": FORM_FIELDS,
     }  # fmt: skip
     return texts | {
-        "writing.jsonl": lines(written()),
         "short.json": json.dumps(short()).replace(" [[", "\n[[").replace(" [", "\n[") + "\n",
         "index.json": json.dumps(index, indent=1, ensure_ascii=False) + "\n",
     }
@@ -378,6 +367,23 @@ def load(groups=grammar.GROUPS):
     for group in groups:
         with open(f"{FOLDER}/{group}.jsonl", encoding="utf-8") as file:
             yield from map(json.loads, file)
+
+
+@functools.cache
+def index():
+    """What is told of all vectors: groups, causes and the rules that they break, and more."""
+    with open(f"{FOLDER}/index.json", encoding="utf-8") as file:
+        return json.load(file)
+
+
+@functools.cache
+def digest():
+    """Which data this is: the first 12 digits of the SHA-256 of its files, one behind another in the order of their names."""
+    found = hashlib.sha256()
+    for name in sorted(os.listdir(FOLDER)):
+        with open(f"{FOLDER}/{name}", "rb") as file:
+            found.update(file.read())
+    return found.hexdigest()[:12]
 
 
 def load_short():

@@ -442,7 +442,41 @@ def trailing():
             yield f"{name}-behind-{slug}", block + (block if behind is None else behind), "bytes behind the item", section
 
 
+ONE_TO_25 = "".join(head(0, number).hex() for number in range(1, 26))
+# RFC 8949, appendix A: those that DAG-CBOR has too, as Python tells them, and those that it has not; and appendix F, of what is not
+# well-formed.
+SOUND = {
+    "00": 0, "01": 1, "0a": 10, "17": 23, "1818": 24, "1819": 25, "1864": 100, "1903e8": 1000, "1a000f4240": 1000000, "1b000000e8d4a51000": 1000000000000,
+    "1bffffffffffffffff": 18446744073709551615, "3bffffffffffffffff": -18446744073709551616, "20": -1, "29": -10, "3863": -100, "3903e7": -1000,
+    "f4": False, "f5": True, "f6": None, "40": b"", "4401020304": b"\1\2\3\4", "60": "", "6161": "a", "6449455446": "IETF", "62225c": '"\\', "62c3bc": "\u00fc",
+    "63e6b0b4": "\u6c34", "64f0908591": "\U00010151", "80": [], "83010203": [1, 2, 3], "8301820203820405": [1, [2, 3], [4, 5]], "9819" + ONE_TO_25: [*range(1, 26)],
+    "a0": {}, "a26161016162820203": {"a": 1, "b": [2, 3]}, "826161a161626163": ["a", {"b": "c"}],
+    "a56161614161626142616361436164614461656145": {"a": "A", "b": "B", "c": "C", "d": "D", "e": "E"},
+}  # fmt: skip
+FORBIDDEN = (
+    "c249010000000000000000 c349010000000000000000 f90000 f98000 f93c00 fb3ff199999999999a f93e00 f97bff fa47c35000 fa7f7fffff fb7e37e43c8800759c f90001 f90400 f9c400 "
+    "fbc010666666666666 f97c00 f97e00 f9fc00 fa7f800000 fa7fc00000 faff800000 fb7ff0000000000000 fb7ff8000000000000 fbfff0000000000000 f7 f0 f8ff "
+    "c074323031332d30332d32315432303a30343a30305a c11a514b67b0 c1fb41d452d9ec200000 d74401020304 d818456449455446 d82076687474703a2f2f7777772e6578616d706c652e636f6d "
+    "a201020304 5f42010243030405ff 7f657374726561646d696e67ff 9fff 9f018202039f0405ffff 9f01820203820405ff 83018202039f0405ff 83019f0203ff820405 "
+    f"9f{ONE_TO_25}ff bf61610161629f0203ffff 826161bf61626163ff bf6346756ef563416d7421ff"
+).split()
+MALFORMED = (
+    "18 19 1a 1b 1901 1a0102 1b01020304050607 38 58 78 98 9a01ff00 b8 d8 f8 f900 fa0000 fb000000 41 61 5affffffff00 5bffffffffffffffff010203 7affffffff00 "
+    "7b7fffffffffffffff010203 81 818181818181818181 8200 a1 a20102 a100 a2000000 c0 5f4100 7f6100 9f 9f0102 bf bf01020102 819f 9f8000 9f9f9f9f9fffffffff 9f819f819f9fffffff "
+    "1c 1d 1e 3c 3d 3e 5c 5d 5e 7c 7d 7e 9c 9d 9e bc bd be dc dd de fc fd fe f800 f801 f818 f81f 5f00ff 5f21ff 5f6100ff 5f80ff 5fa0ff 5fc000ff 5fe0ff 7f4100ff 5f5f4100ffff "
+    "7f7f6100ffff ff 81ff 8200ff a1ff a1ff00 a100ff a20000ff 9f81ff 9f829f819f9fffffffff bf00ff bf000000ff 1f 3f df"
+).split()
+
+
+def examples():
+    for name, them, why in (("a", [*SOUND, *FORBIDDEN], "an example of CBOR"), ("f", MALFORMED, "an example of what is not well-formed")):
+        for digits in them:
+            slug = digits if len(digits) < 40 else f"{digits[:16]}-of-{len(digits) // 2}"
+            yield f"{name}-{slug}", bytes.fromhex(digits), why, f"RFC 8949, appendix {name.upper()}"
+
+
 GROUPS = {
+    "examples": (examples, "the examples of RFC 8949: of CBOR, and of what is not well-formed"),
     "heads": (heads, "heads of every major type at every width, around every boundary"),
     "integers": (integers, "integers at the ends of types"),
     "texts": (texts, "UTF-8 of every class, as a text and as a key"),

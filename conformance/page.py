@@ -80,7 +80,7 @@ def failures(result):
             text += f"<h3>{len(found):,} {kind}: {OUTCOMES[kind][1]}</h3><ul>"
             text += "".join(f"<li><code>{escape(it.line())}</code></li>" for it in found[:MOST])
             text += f"<li>and {len(found) - MOST:,} more</li></ul>" if len(found) > MOST else "</ul>"
-    return text or "<p>Everything held.</p>"
+    return text or f"<p>{'Everything held' if result.judged else escape(result.about.get('lack', 'Not asked'))}.</p>"
 
 
 def peer(number, result):

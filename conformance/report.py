@@ -72,7 +72,8 @@ def as_table(results):
         counts["cut blocks taken"] = sum(it.vector["group"] == "truncations" and it.outcome != "held" for it in result.judged)
         loose = sum(counts[it] for it in OUTCOMES if it != "held" and not is_wrong(it))
         wrong = [f"{counts[it]:,} {it}" for it in counts if counts[it] and (it not in OUTCOMES or is_wrong(it))]
-        lines.append(f"| {result.about['name']} {result.about.get('version', '')} | {loose} | {', '.join(wrong) or 'none'} |")
+        said = f"{loose} | {', '.join(wrong) or 'none'}" if result.judged else f"{result.about.get('lack', 'not asked')} | "
+        lines.append(f"| {result.about['name']} {result.about.get('version', '')} | {said} |")
     return "\n".join(lines) + "\n"
 
 

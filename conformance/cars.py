@@ -10,12 +10,12 @@ from judge import VARIANTS as OF_BLOCKS
 PRAGMA = bytes.fromhex("0aa16776657273696f6e02")  # of version 2: a header of version 1 that says version 2
 FIRST = 51  # bytes before the file of version 1, at least: the pragma, 16 of characteristics, three numbers
 CAUSES = {
-    "truncated": ("the bytes end before what is announced", "CARv1, Format, and CARv2, Header: as many bytes follow as are announced"),
-    "length": ("a length is no varint in shortest form below 2^64", "unsigned-varint: the shortest form; its standard ends at 63 bits"),
+    "truncated": ("the bytes end before what is announced", "CARv1, Data: as many bytes follow as a length announces", "CARv2, Header: the file of version 1 has as many bytes as are announced"),
+    "length": ("a length is no varint in shortest form below 2^64", "unsigned-varint, Specification: the shortest form, of at most 63 bits"),
     "no CID": ("no binary CID stands before a block, or it goes on behind its section", "CARv1, Data: a section is a length, a CID and bytes"),
-    "no block": ("the header is no block of DAG-CBOR", "CARv1, Header: a single DAG-CBOR block"),
-    "other header": ("the header is another map than that of roots and of version 1", "CARv1, Header: `version`, which is 1, and `roots`, CIDs"),
-    "offset": ("of version 2: the file of version 1 begins before byte 51, or ends at 2^64 or behind it", "CARv2, Header: offset and size, of which the offset is counted from the file's first byte"),
+    "no block": ("the header is no block of DAG-CBOR", "CARv1, Header: one block of DAG-CBOR"),
+    "other header": ("the header is another map than that of roots and of version 1", "CARv1, Header: `version`, which is 1, and `roots`, a list of CIDs"),
+    "offset": ("of version 2: the file of version 1 begins before byte 51, or ends at 2^64 or behind it", "CARv2, Header: the offset is counted from the file's first byte, and the pragma and the header are 51 bytes"),
 }  # fmt: skip
 VARIANTS = {
     "truncated": "Truncated", "length": "InvalidLength", "no CID": "InvalidCid", "no block": "NoBlock", "other header": "OtherHeader", "offset": "InvalidOffset",

@@ -11,16 +11,16 @@ import cidtexts
 from judge import DEEPEST, Link, parts_of, spell
 
 CAUSES = {
-    "no UTF-8": ("the bytes are not UTF-8", "RFC 8259, 8.1"),
-    "no JSON": ("it is no JSON; half of a surrogate pair, or a byte order mark, is none here", "RFC 8259, 2 to 8"),
+    "no UTF-8": ("the bytes are not UTF-8", "RFC 8259, 8.1: a text is encoded in UTF-8"),
+    "no JSON": ("it is no JSON; half of a surrogate pair, or a byte order mark, is none here", "RFC 8259, 2: the grammar of JSON", "RFC 8259, 8.1: no byte order mark is added", "RFC 8259, 8.2: what half of a pair means is not predictable"),
     "trailing data": ("more stands behind the value", "RFC 8259, 2: a text is one value"),
     "too deep": ("an item with 128 or more lists and maps around it", "no standard bounds depth; this codec does"),
-    "float": ("a number with a fraction or an exponent", "DAG-JSON, Floats: with a point it is a float; a codec may have none"),
-    "range": ("an integer below -2^64, or above 2^64 - 1", "DAG-CBOR, Kinds: it has no such integer"),
+    "float": ("a number with a fraction or an exponent", "DAG-JSON, Floats: with a point it is a float", "no standard has DAG-JSON without floats; a codec may have none"),
+    "range": ("an integer below -2^64, or above 2^64 - 1", "RFC 8949, 3.1: major types 0 and 1 hold -2^64 to 2^64 - 1", "DAG-CBOR, Strictness 1: no tags, and so no bignums"),
     "repeated key": ("a key that is there twice, compared behind its escapes", "DAG-JSON, Maps: keys are unique"),
     "reserved key": ("a map that has the key `/`, and is neither a link nor bytes", "DAG-JSON, Reserved namespace: no other map has that key"),
     "no CID": ("the text of a link that is of no CID", "DAG-JSON, Links: the text of a CID"),
-    "no base64": ("the text of bytes that is not base64, or has padding", "DAG-JSON, Bytes: base64 without padding, RFC 4648, 4"),
+    "no base64": ("the text of bytes that is not base64, or has padding", "DAG-JSON, Bytes: base64 without padding", "RFC 4648, 4: its alphabet"),
 }  # fmt: skip
 VARIANTS = {
     "no UTF-8": "NoText", "no JSON": "NoJson", "trailing data": "TrailingData", "too deep": "TooDeep", "float": "Float", "range": "OutOfRange",
@@ -149,8 +149,9 @@ def reserved(members):
     return data
 
 
-def expected(text):
+def expected(given):
     """What is right of a text, in the words of a vector: without floats, and with them where that is something else."""
+    text = given.encode() if isinstance(given, str) else given
     said, other = expected_in(text, False), expected_in(text, True)
     is_open = said["verdict"] != other["verdict"]
     return said | ({"open": "floats"} if is_open else {}) | ({} if said == other else {"with_floats": other})

@@ -5,6 +5,7 @@ import base64
 
 from cars import FIRST, PRAGMA, RAW, counted, header, name, second, section, written_varint
 from cidtexts import BASE32, BASE58, MOST, base32, base58
+from dagjson import unpadded
 from grammar import SHA, V0, V1, cid, varint
 from judge import Link, spell
 
@@ -26,7 +27,7 @@ def bases(data):
 
 
 def cid_texts():
-    decoding, multibase, bits = "CID, Decoding algorithm", "multibase", "RFC 4648, 3.5 and 6"
+    decoding, multibase, bits = "CID, Decoding algorithm", "multibase", "RFC 4648, 3.5; RFC 4648, 6"
     kinds = {"v1": NULL, "raw": RAW, "dag-pb": cid(b"\x70"), "longest": LONGEST, "digest-64": cid(digest=b"d" * 64), "digest-65": cid(digest=b"d" * 65), "digest-200": cid(digest=b"d" * 200), "v0": V0}
     for slug, data in kinds.items():
         for base, text in bases(data):
@@ -50,7 +51,7 @@ def cid_texts():
     for letter in "0189Ol=!":
         yield f"character-{ord(letter):x}", text[:-1] + letter, "a last character that is none of base32, or other bits", multibase
     for letter in "0OIl":
-        yield f"base58-{letter}", base58(V0)[:9] + letter + base58(V0)[10:], "a character that base58btc leaves out", "base58btc"
+        yield f"base58-{letter}", base58(V0)[:9] + letter + base58(V0)[10:], "a character that base58btc leaves out", "base58btc, 4"
     yield "space", " " + text, "a space before it", multibase
     yield "newline", text + "\n", "a line end behind it", multibase
     yield "padded", text + "==", "with padding, which multibase has not", bits
@@ -62,7 +63,7 @@ def cid_texts():
         yield f"bits-{step}", text[:-1] + last, "bits behind the last byte, which are not zero", bits
     yield "short-length", "ba", "a character that begins a byte", bits
     yield "short-bits", "bab", "a byte, and bits that are not zero", bits
-    yield "leading-zero", "z1" + base58(NULL), "a zero byte before it", "base58btc"
+    yield "leading-zero", "z1" + base58(NULL), "a zero byte before it", "base58btc, 4"
     yield "version-2", "b" + base32(b"\x02" + NULL[1:]), "a version 2", decoding
     yield "version-0", "b" + base32(b"\0" + NULL[1:]), "a version 0 in the form of version 1", decoding
     yield "cut", "b" + base32(NULL[:20]), "the digest is cut", decoding
@@ -140,15 +141,15 @@ def sections():
     yield "header-alone", away, "no sections", data
     yield "plain", PLAIN, "two blocks; one link leads away", data
     yield "root-missing", header(AWAY, name(ROOT)) + section(ROOT), "a root that no section has", data
-    yield "identity", header(name(SMALL, code=0)) + section(WITHIN) + section(b"\xf6"), "CIDs by the identity hold their blocks, and links in those lead on", "CID, and multihash (identity)"
-    yield "identity-as-section", away + section(WITHIN) + section(SMALL, name(SMALL, code=0)), "a section under a CID by the identity", "multihash (identity)"
-    yield "identity-torn", away + section(TORN), "a CID by the identity whose bytes begin with a link and are no block", "multihash (identity)"
+    yield "identity", header(name(SMALL, code=0)) + section(WITHIN) + section(b"\xf6"), "CIDs by the identity hold their blocks, and links in those lead on", "CID, Binary format; multihash, Identity"
+    yield "identity-as-section", away + section(WITHIN) + section(SMALL, name(SMALL, code=0)), "a section under a CID by the identity", "multihash, Identity"
+    yield "identity-torn", away + section(TORN), "a CID by the identity whose bytes begin with a link and are no block", "multihash, Identity"
     for slug, block in (("unordered", b"\xa2\x61b\x01\x61a\x02"), ("float", b"\xfb" + bytes(8)), ("empty", b""), ("undefined", b"\xf7"), ("cut", b"\x82\0"), ("trailing", b"\xf6\xf6")):
-        yield f"block-{slug}", away + section(block) + section(b"\xf5"), "a section whose bytes are named, and are no block of DAG-CBOR", "CARv1, Data; DAG-CBOR, Strictness"
+        yield f"block-{slug}", away + section(block) + section(b"\xf5"), "a section whose bytes are named, and are no block of DAG-CBOR", "CARv1, Data; DAG-CBOR, Strictness 2"
     yield "other-bytes", away + section(NUMBERS, AWAY), "a block that its CID does not name", data
     yield "other-hash", away + section(ROOT, name(ROOT, code=0x13)) + section(b"\x05"), "a CID by another hash function", data
     yield "short-digest", away + section(b"\x05", b"\x01\x71\x12\x01\x05") + section(NUMBERS), "a digest of SHA-256 that is cut", data
-    yield "identity-other", away + section(b"\x06", b"\x01\x71\x00\x01\x05"), "a CID by the identity of other bytes", "multihash (identity)"
+    yield "identity-other", away + section(b"\x06", b"\x01\x71\x00\x01\x05"), "a CID by the identity of other bytes", "multihash, Identity"
     yield "raw", away + section(b"foo", name(b"foo", 0x55)) + section(b"foo", name(b"foo")[2:]), "raw bytes, under version 1 and version 0", data
     yield "raw-empty", away + section(b"", name(b"", 0x55)) * 3 + section(b"", b"\x01\x71\0\0"), "sections without a byte behind their CIDs, and one three times", data
     yield "raw-other", away + section(b"\0", name(b"", 0x55)), "raw bytes that are not those that are named", data
@@ -193,7 +194,7 @@ def json_texts():
     for slug, text in {"ascii": '"a b"', "escapes": '"\\"\\\\\\/\\b\\f\\n\\r\\t"', "hex": '"\\u0041"', "hex-control": '"\\u0000\\u001f"', "pair": '"\\ud800\\udd51"', "plain": '"\U00010151"', "delete": '"\x7f"', "line-separator": '"\u2028"'}.items():
         yield f"string-{slug}", text, "a text, with and without escapes", f"{json}, 7"
     for slug, text in {"half": '"\\ud800"', "half-low": '"\\udd51"', "turned": '"\\udd51\\ud800"', "half-key": '{"\\ud800":0}', "short": '"\\u41"', "unknown": '"\\x41"', "newline": '"\n"', "tab": '"\t"', "control": '"\x01"'}.items():
-        yield f"string-bad-{slug}", text, "no text of JSON, or half of a surrogate pair", f"{json}, 7 and 8.2"
+        yield f"string-bad-{slug}", text, "no text of JSON, or half of a surrogate pair", f"{json}, 7; {json}, 8.2"
     for slug, digits in {"latin-1": "22e922", "overlong": "22c08022", "surrogate": "22eda08022", "cut": "22e6b022", "in-key": "7b22ff223a307d", "outside": "31ff"}.items():
         yield f"utf8-{slug}", bytes.fromhex(digits), "bytes that are not UTF-8", f"{json}, 8.1"
     for slug, text in {"rising": '{"a":0,"b":1}', "falling": '{"b":0,"a":1}', "by-length": '{"b":0,"aa":1}', "by-bytes": '{"aa":1,"b":0}', "empty": '{"":0,"a":1}', "spaces": '{ "a" : [ 1 , 2 ] }', "lines": '[\r\n\t1\n]', "utf-16": '{"\U00010000":0,"\ue000":1}', "proto": '{"__proto__":{}}'}.items():
@@ -208,14 +209,89 @@ def json_texts():
     for slug, text in {"empty": "", "one": "AA", "two": "AAE", "three": "AAEC", "all": "+/+/"}.items():
         yield f"bytes-{slug}", f'{{"/":{{"bytes":"{text}"}}}}', "bytes", "DAG-JSON, Bytes"
     for slug, text in {"padded": "AA==", "padded-one": "AAE=", "length": "A", "length-five": "AAECA", "bits": "AB", "bits-two": "AAF", "url": "-_-_", "space": "AA EC", "newline": "AAEC\\n", "multibase": "mAAEC"}.items():
-        yield f"bytes-bad-{slug}", f'{{"/":{{"bytes":"{text}"}}}}', "no base64 without padding", "DAG-JSON, Bytes; RFC 4648, 3 and 4"
+        yield f"bytes-bad-{slug}", f'{{"/":{{"bytes":"{text}"}}}}', "no base64 without padding", "DAG-JSON, Bytes; RFC 4648, 3; RFC 4648, 4"
     for slug, text in {"integer": '{"/":1}', "null": '{"/":null}', "list": '{"/":[]}', "map": '{"/":{}}', "other": '{"/":{"a":1}}', "bytes-integer": '{"/":{"bytes":1}}', "bytes-more": '{"/":{"bytes":"","a":1}}', "bytes-twice": '{"/":{"bytes":"","bytes":""}}', "and-more": f'{{"/":"{link}","a":1}}', "more-first": f'{{"a":1,"/":"{link}"}}', "twice": f'{{"/":"{link}","/":"{link}"}}', "nested": f'{{"/":{{"/":"{link}"}}}}', "within": '{"a":{"/":0}}'}.items():
         yield f"reserved-{slug}", text, "a map with the key `/` that is neither a link nor bytes", reserved
     for slug, text in {"two-slashes": '{"//":1}', "slash-a": '{"/a":1}', "bytes-alone": '{"bytes":"AA"}'}.items():
         yield f"near-{slug}", text, "a key that is not reserved", reserved
     for count in (1, 31, 32, 33, 126, 127, 128, 200):
-        yield f"lists-{count}", "[" * count + "[]" + "]" * count, f"{count} lists around a list", "no standard bounds depth; an answer must come"
-        yield f"maps-{count}", '{"a":' * count + "0" + "}" * count, f"{count} maps around an integer", "no standard bounds depth; an answer must come"
-    yield "bytes-in-127", "[" * 127 + '{"/":{"bytes":""}}' + "]" * 127, "bytes in 127 lists", "no standard bounds depth; an answer must come"
+        yield f"lists-{count}", "[" * count + "[]" + "]" * count, f"{count} lists around a list", "RFC 8949, 10"
+        yield f"maps-{count}", '{"a":' * count + "0" + "}" * count, f"{count} maps around an integer", "RFC 8949, 10"
+    yield "bytes-in-127", "[" * 127 + '{"/":{"bytes":""}}' + "]" * 127, "bytes in 127 lists", "RFC 8949, 10"
     yield "first-fault", '[1.5,{"a":0,"a":0}]', "two faults: a number, and behind it a key", json
     yield "first-no-json", '[1.5,', "no JSON, and before its end a number with a fraction", json
+
+
+# What a path is of, and paths in it: of each kind of segment, those that are near one, and those that are long.
+TREE = {
+    "a": [{"b": "hi", "": 7, "0": "zero"}, [1, [2, -3]], None, True, b"xy", Link(bytes.fromhex("01711220") + bytes(32))],
+    "0": "key", "a/b": 1, "\u00e9": [False], "aa": {"x": {}}, "": "empty", "link": [Link(bytes.fromhex("01550000"))], "many": [0] * 30 + [[5]],
+}  # fmt: skip
+PATHS = (
+    *("", "/", "//", "a", "a/0", "/a/0/", "a//0//b", "a/0/b", "a/0/b/0", "a/0/0", "a/1/1/1", "a/1/1/2", "a/2", "a/2/x", "a/3", "a/4", "a/5"),
+    *("a/5/", "a/5/x", "a/5/x/y/", "a/6", "a/00", "a/01", "a/+1", "a/-0", "a/ 1", "a/1.0", "a/1/", "a/1//", "link/0/0", "link/0//", "many/30/0"),
+    *("many/29", "many/31", "a/18446744073709551615", "a/18446744073709551616", "a/" + "9" * 99, "0", "00", "a/b", "a%2Fb", "\u00e9/0", "e\u0301/0"),
+    *("e", "aa/x", "aa/x/y", "ab", "b", "zz", "a\0", "a/\u0661", "a/" * 99, "/" * 99, "/" * 99 + "a/1" + "/" * 9, "x" * 900, "aa/" + "x" * 900),
+)
+
+# Keys that no text reaches, and lists of segments.
+SLASHES = {
+    "": {"": 1, "a": [{"": "x"}]}, "/": 2, "0": [3, {"0/0": None}], "a/b": {"/": {"c/": 4}}, "a//b": 5, "\u00e9/": [[True]], "a": {"b": 6},
+}  # fmt: skip
+SEGMENTS = (
+    *((), ("",), ("", ""), ("", "", ""), ("", "a", "0", ""), ("/",), ("//",), ("/", ""), ("0", "0"), ("0/0",), ("0", "1", "0/0"), ("0", "", "0")),
+    *(("0", "0", "x"), ("0", "00"), ("0", "+1"), ("0", "18446744073709551616"), ("0", "2"), ("a/b",), ("a/b", "/"), ("a/b", "/", "c/"), ("a/b/",)),
+    *(("a/b", "/", "c"), ("a/b", "/", "c", ""), ("/a/b",), ("a//b",), ("a", "", "b"), ("a", "b"), ("a", "b", ""), ("\u00e9/", "0", "0"), ("\u00e9",)),
+    *(("a",), ("x" * 900,), ("0",) * 900, ("",) * 900),
+)
+
+
+PATHING = "IPLD, Pathing"
+
+
+def paths():
+    """A block, and a path in it as a text."""
+    for number, path in enumerate(PATHS):
+        yield f"tree-{number}", (spell(TREE), path), "a text whose segments stand between slashes", PATHING
+    for slug, block in (("cut", b"\xa1\x61a"), ("non-minimal", b"\x82\x01\x18\x17"), ("trailing", b"\xf6\x00"), ("tag", b"\x82\x01\xc1\x00")):
+        yield f"no-block-{slug}", (block, "a" if block[0] == 0xA1 else "0"), "a fault behind the item on the way", PATHING
+
+
+def segments():
+    """A block, and a list of segments."""
+    for number, them in enumerate(SEGMENTS):
+        yield f"slashes-{number}", (spell(SLASHES), list(them)), "segments, each of which is taken whole", PATHING
+    for number, path in enumerate(PATHS):
+        yield f"tree-{number}", (spell(TREE), [it for it in path.split("/") if it]), "the segments of a text", PATHING
+
+
+def writing():
+    """Data for writers, as DAG-JSON."""
+    orders, shortest, none = "DAG-CBOR, Strictness 2", "DAG-CBOR, Strictness 2; RFC 8949, 4.2.1", "RFC 8949, 3.1; DAG-CBOR, Strictness 1"
+    for slug, text, why in (
+        ("rising", '{"a":0,"b":1}', "in order"), ("falling", '{"b":1,"a":0}', "by bytes"), ("by-length", '{"aa":0,"b":1}', "the shorter first"),
+        ("numerals", '{"10":0,"9":1,"a":2}', "numerals are texts"), ("empty-last", '{"a":0,"":1}', "the empty key is the shortest"),
+        ("accents", '{"水":0,"é":1,"zz":2}', "lengths in bytes"), ("beyond-16-bits", '{"\U00010000":0,"\ue000a":1}', "not as in UTF-16"),
+        ("nested", '{"b":{"d":0,"c":[{"f":0,"e":1}]},"a":1}', "on each level"), ("signed", '{"é":0,"zz":1}', "bytes are not signed"),
+        ("proto", '{"__proto__":{"b":0,"a":1},"z":2}', "a key that is special in JavaScript"),
+        ("long", '{"' + "z" * 24 + '":0,"' + "a" * 255 + '":1,"' + "b" * 23 + '":2}', "of 23, 24 and 255 bytes"),
+        ("many", "{" + ",".join(f'"k{n * 37 % 100}":{n}' for n in range(100)) + "}", "a hundred"),
+    ):  # fmt: skip
+        yield slug, text, f"keys in another order, or in their own: {why}", orders
+    yield "links", '{"/a":{"/":"QmdfTbBqBPQ7VNxZEYEj14VmRuZBkqFbiwReogJgS1zR1n"},"b":{"/":{"bytes":"AAEC"}}}', "a link and bytes", "DAG-CBOR, Links"
+    yield "leaves", "[null,false,true,[],{}]", "what has no argument", "DAG-CBOR, Strictness 3"
+    lists = "[" + ",".join(f"[{','.join('0' * n)}]" for n in (23, 24)) + "]"
+    strings = ",".join(f'{{"/":{{"bytes":"{unpadded(bytes(n))}"}}}}' for n in (23, 24))
+    for slug, text in {
+        "integers": "[0,23,24,255,256,65535,65536,4294967295,4294967296,18446744073709551615,-1,-24,-25,-18446744073709551616]",
+        "texts": '["","\\u0000","é","水","\U00010151","\\ud800\\udd51"]', "heads-of-texts": "[" + ",".join(f'"{"a" * n}"' for n in (23, 24, 255, 256)) + "]",
+        "heads-of-lists": lists, "heads-of-bytes": f"[{strings}]",
+    }.items():  # fmt: skip
+        yield slug, text, "heads of each width, each the shortest", shortest
+    yield "beyond", "[18446744073709551616]", "2^64, which has no spelling", none
+    yield "below", "[-18446744073709551617]", "-2^64 - 1, which has no spelling", none
+    yield "repeated", '{"a":0,"a":1}', "a key twice", "DAG-JSON, Maps; RFC 8949, 3.1"
+    yield "repeated-apart", '{"a":0,"b":0,"a":0}', "a key twice, another between", "DAG-JSON, Maps; RFC 8949, 3.1"
+    yield "half-a-pair", '["\\ud800"]', "half of a surrogate pair, which has no UTF-8", "RFC 8259, 8.2; RFC 3629, 3"
+    for slug, text in {"float": "[1.5]", "floats": "[0.1,-2.5,1e300,5e-324]", "float-in-map": '{"b":1.5,"a":2}'}.items():
+        yield slug, text, "floats, which are of 64 bits", "DAG-CBOR, Strictness 3"

@@ -6,9 +6,9 @@ from judge import WIDTHS, Link, head, spell
 
 NAMES = ("unsigned", "negative", "bytes", "text", "list", "map", "tag", "simple")
 EDGES = (0, 1, 23, 24, 255, 256, 65535, 65536, 2**32 - 1, 2**32, 2**63 - 1, 2**63, 2**64 - 1)
-HEADS, STRICT = "RFC 8949, 3", "DAG-CBOR, Strictness"
+HEADS, STRICT = "RFC 8949, 3", "DAG-CBOR, Strictness 2"
 LINKS, CID, VARINT = "DAG-CBOR, Links", "CID, Binary format", "unsigned-varint"
-UTF8, MAPS = "RFC 3629, 3", "DAG-CBOR, Strictness (map keys)"
+UTF8, MAPS = "RFC 3629, 3", "DAG-CBOR, Strictness 2; DAG-CBOR, Map Keys"
 SHA = bytes(range(32))
 V1 = b"\x01\x71\x12\x20" + SHA
 V0 = b"\x12\x20" + SHA
@@ -338,7 +338,7 @@ def cids():
 
 
 def tags():
-    section = "DAG-CBOR, Tags"
+    section = "DAG-CBOR, Strictness 1"
     for number in (*range(0, 7), 21, 22, 23, 24, 30, 32, 33, 36, 37, 41, 43, 255, 256, 258, 55799, 65535, 2**32 - 1, 2**64 - 1):
         yield f"{number}-on-integer", head(6, number) + b"\x01", f"tag {number}", section
         yield f"{number}-on-bytes", head(6, number) + b"\x41\x01", f"tag {number}", section
@@ -359,7 +359,7 @@ def tags():
 
 
 def simples():
-    section = "DAG-CBOR, Simple values"
+    section = "DAG-CBOR, Strictness 3"
     for number in range(24):
         yield f"{number}", head(7, number), {20: "false", 21: "true", 22: "null", 23: "undefined"}.get(number, "unassigned"), section
     for number in (0, 19, 20, 21, 22, 23, 24, 31):
@@ -384,7 +384,7 @@ def indefinites():
 
 
 def floats():
-    section = "DAG-CBOR, Floating point"
+    section = "DAG-CBOR, Strictness 3"
     rows = {
         "zero": "fb0000000000000000", "minus-zero": "fb8000000000000000", "one-and-a-half": "fb3ff8000000000000",
         "one": "fb3ff0000000000000", "tenth": "fb3fb999999999999a", "least": "fb0000000000000001", "greatest": "fb7fefffffffffffff",
@@ -403,7 +403,7 @@ def floats():
 
 
 def depths():
-    section = "no standard bounds depth; an answer must come"
+    section = "RFC 8949, 10"
     for count in (1, 2, 16, 31, 32, 33, 63, 64, 65, 100, 126, 127):
         yield f"lists-{count}", b"\x81" * count + b"\x80", f"{count} lists around a list", "RFC 8949, 3.1"
         yield f"maps-{count}", b"\xa1\x61a" * count + b"\xa0", f"{count} maps around a map", "RFC 8949, 3.1"
@@ -418,7 +418,7 @@ def depths():
 
 
 def announced():
-    section = "RFC 8949, 3.1; nothing may be reserved from a length alone"
+    section = "RFC 8949, 3.1; RFC 8949, 10"
     for major in range(2, 6):
         for bits in (16, 24, 28, 30, 31, 32, 40, 48, 53, 61, 62, 63, 64):
             number = 2**bits - 1
@@ -434,7 +434,7 @@ def announced():
 
 
 def trailing():
-    section = "DAG-CBOR, Strictness (one item)"
+    section = "DAG-CBOR, Strictness 4"
     rows = {"null": b"\xf6", "integer": b"\x18\x18", "text": b"\x61a", "list": b"\x81\x00", "map": b"\xa0", "link": link(b"\0" + V1), "empty": b"\x80"}
     behinds = {"null": b"\xf6", "zero": b"\0", "break": b"\xff", "newline": b"\n", "same": None, "bad": b"\x1c", "cut": b"\x19"}
     for slug, block in rows.items():
@@ -442,7 +442,41 @@ def trailing():
             yield f"{name}-behind-{slug}", block + (block if behind is None else behind), "bytes behind the item", section
 
 
+ONE_TO_25 = "".join(head(0, number).hex() for number in range(1, 26))
+# RFC 8949, appendix A: those that DAG-CBOR has too, as Python tells them, and those that it has not; and appendix F, of what is not
+# well-formed.
+SOUND = {
+    "00": 0, "01": 1, "0a": 10, "17": 23, "1818": 24, "1819": 25, "1864": 100, "1903e8": 1000, "1a000f4240": 1000000, "1b000000e8d4a51000": 1000000000000,
+    "1bffffffffffffffff": 18446744073709551615, "3bffffffffffffffff": -18446744073709551616, "20": -1, "29": -10, "3863": -100, "3903e7": -1000,
+    "f4": False, "f5": True, "f6": None, "40": b"", "4401020304": b"\1\2\3\4", "60": "", "6161": "a", "6449455446": "IETF", "62225c": '"\\', "62c3bc": "\u00fc",
+    "63e6b0b4": "\u6c34", "64f0908591": "\U00010151", "80": [], "83010203": [1, 2, 3], "8301820203820405": [1, [2, 3], [4, 5]], "9819" + ONE_TO_25: [*range(1, 26)],
+    "a0": {}, "a26161016162820203": {"a": 1, "b": [2, 3]}, "826161a161626163": ["a", {"b": "c"}],
+    "a56161614161626142616361436164614461656145": {"a": "A", "b": "B", "c": "C", "d": "D", "e": "E"},
+}  # fmt: skip
+FORBIDDEN = (
+    "c249010000000000000000 c349010000000000000000 f90000 f98000 f93c00 fb3ff199999999999a f93e00 f97bff fa47c35000 fa7f7fffff fb7e37e43c8800759c f90001 f90400 f9c400 "
+    "fbc010666666666666 f97c00 f97e00 f9fc00 fa7f800000 fa7fc00000 faff800000 fb7ff0000000000000 fb7ff8000000000000 fbfff0000000000000 f7 f0 f8ff "
+    "c074323031332d30332d32315432303a30343a30305a c11a514b67b0 c1fb41d452d9ec200000 d74401020304 d818456449455446 d82076687474703a2f2f7777772e6578616d706c652e636f6d "
+    "a201020304 5f42010243030405ff 7f657374726561646d696e67ff 9fff 9f018202039f0405ffff 9f01820203820405ff 83018202039f0405ff 83019f0203ff820405 "
+    f"9f{ONE_TO_25}ff bf61610161629f0203ffff 826161bf61626163ff bf6346756ef563416d7421ff"
+).split()
+MALFORMED = (
+    "18 19 1a 1b 1901 1a0102 1b01020304050607 38 58 78 98 9a01ff00 b8 d8 f8 f900 fa0000 fb000000 41 61 5affffffff00 5bffffffffffffffff010203 7affffffff00 "
+    "7b7fffffffffffffff010203 81 818181818181818181 8200 a1 a20102 a100 a2000000 c0 5f4100 7f6100 9f 9f0102 bf bf01020102 819f 9f8000 9f9f9f9f9fffffffff 9f819f819f9fffffff "
+    "1c 1d 1e 3c 3d 3e 5c 5d 5e 7c 7d 7e 9c 9d 9e bc bd be dc dd de fc fd fe f800 f801 f818 f81f 5f00ff 5f21ff 5f6100ff 5f80ff 5fa0ff 5fc000ff 5fe0ff 7f4100ff 5f5f4100ffff "
+    "7f7f6100ffff ff 81ff 8200ff a1ff a1ff00 a100ff a20000ff 9f81ff 9f829f819f9fffffffff bf00ff bf000000ff 1f 3f df"
+).split()
+
+
+def examples():
+    for name, them, why in (("a", [*SOUND, *FORBIDDEN], "an example of CBOR"), ("f", MALFORMED, "an example of what is not well-formed")):
+        for digits in them:
+            slug = digits if len(digits) < 40 else f"{digits[:16]}-of-{len(digits) // 2}"
+            yield f"{name}-{slug}", bytes.fromhex(digits), why, f"RFC 8949, appendix {name.upper()}"
+
+
 GROUPS = {
+    "examples": (examples, "the examples of RFC 8949: of CBOR, and of what is not well-formed"),
     "heads": (heads, "heads of every major type at every width, around every boundary"),
     "integers": (integers, "integers at the ends of types"),
     "texts": (texts, "UTF-8 of every class, as a text and as a key"),

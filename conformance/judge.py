@@ -8,24 +8,26 @@ import math
 import struct
 from dataclasses import dataclass, field
 
-# Each cause, what it says, and the rule that it breaks.
+# Each cause, what it is, and the rules that it breaks, as standards.py has them. What a reader `should` refuse by the standard, it may be
+# lenient in; a block it is not.
+SHORTEST = "DAG-CBOR, Strictness 2: integers, and lengths in major types 2 to 5, are as short as possible; a decoder should refuse others"
 CAUSES = {
     "truncated": ("the bytes end before the item does", "RFC 8949, appendix F: too little data is not well-formed"),
-    "trailing data": ("a byte is left behind the item", "RFC 8949, appendix F: too much data; DAG-CBOR, Strictness: a block is one item"),
-    "reserved": ("additional information 28 to 30", "RFC 8949, 3: 28 to 30 are reserved, and an item with them is not well-formed"),
-    "indefinite length": ("additional information 31, save in a break", "DAG-CBOR, Strictness: no indefinite lengths; RFC 8949, 3: with the major types 0, 1 and 6 not well-formed"),
-    "break": ("a break, which ends an indefinite length", "DAG-CBOR, Strictness: no break; RFC 8949, 3.2.1: not well-formed elsewhere than at the end of such an item"),
-    "non-minimal": ("an argument in more bytes than it needs", "DAG-CBOR, Strictness: integers and lengths are as short as possible; tag 42 is d8 2a"),
-    "invalid UTF-8": ("a text that is not UTF-8", "RFC 8949, 3.1 and 5.3.1: a text that is not UTF-8 is not valid"),
-    "key no text": ("a map's key of another kind than text", "DAG-CBOR, Kinds: the keys of maps are strings"),
-    "unordered key": ("a key before which a longer one stands, or one of its length with greater bytes", "DAG-CBOR, Strictness: keys are sorted, the shorter first, then by their bytes"),
-    "repeated key": ("a key that is there twice, one behind the other", "RFC 8949, 5.6, and DAG-CBOR, Strictness: keys are unique"),
-    "other tag": ("a head of major type 6 that is not the tag 42 as d8 2a", "DAG-CBOR, Tags: 42 is the only one"),
-    "tag without bytes": ("tag 42 on something else than a byte string", "DAG-CBOR, Links: a link is tag 42 on a byte string"),
-    "no CID": ("tag 42 on a byte string that is not a zero and a binary CID", "DAG-CBOR, Links: behind a zero byte, the multibase prefix, stands a binary CID"),
-    "simple value": ("a simple value other than false, true and null", "DAG-CBOR, Simple values: no others, undefined neither"),
-    "float": ("a floating-point number: any, or with floats one that is not of 64 bits, or NaN, or infinite", "DAG-CBOR, Floating point: 64 bits, and neither NaN nor an infinity; a codec may have none"),
-    "too deep": ("an item with 128 or more lists and maps around it", "no standard bounds depth; this codec does"),
+    "trailing data": ("a byte is left behind the item", "DAG-CBOR, Strictness 4: a single top-level object alone; what stands behind it must be refused", "RFC 8949, appendix F: too much data, where one item is wanted"),
+    "reserved": ("additional information 28 to 30", "RFC 8949, 3: the values 28 to 30 are reserved, and the item is not well-formed"),
+    "indefinite length": ("additional information 31, save in a break", "DAG-CBOR, Strictness 2: only items of definite length are usable; a decoder should refuse others", "RFC 8949, 3: with the major types 0, 1 and 6 the item is not well-formed"),
+    "break": ("a break, which ends an indefinite length", "DAG-CBOR, Strictness 2: the break is not supported either", "RFC 8949, 3.2.1: elsewhere than directly in an item of indefinite length the enclosing item is not well-formed"),
+    "non-minimal": ("an argument in more bytes than it needs", SHORTEST, "RFC 8949, 4.2.1: the argument of a head, that of a tag too, is as short as possible"),
+    "invalid UTF-8": ("a text that is not UTF-8", "RFC 8949, 3.1: a text that holds an invalid UTF-8 sequence is well-formed but invalid"),
+    "key no text": ("a map's key of another kind than text", "DAG-CBOR, Map Keys: the keys of maps must be strings; others should be refused"),
+    "unordered key": ("a key before which a longer one stands, or one of its length with greater bytes", "DAG-CBOR, Strictness 2: keys are sorted, the shorter first, then by their bytes; a decoder should refuse others"),
+    "repeated key": ("a key that is there twice, one behind the other", "RFC 8949, 3.1: a map that has duplicate keys is not valid", "DAG-CBOR, Strictness 2: of two keys one sorts earlier"),
+    "other tag": ("a head of major type 6 that is not the tag 42 as d8 2a", "DAG-CBOR, Strictness 1: no tags other than 42; a decoder must refuse others"),
+    "tag without bytes": ("tag 42 on something else than a byte string", "DAG-CBOR, Links: a link is a byte string (major type 2) under tag 42"),
+    "no CID": ("tag 42 on a byte string that is not a zero and a binary CID", "DAG-CBOR, Links: the identity prefix of multibase, 00, which must not be omitted, and behind it the binary form of a CID"),
+    "simple value": ("a simple value other than false, true and null", "DAG-CBOR, Strictness 3: other simple values are not supported, undefined neither", "RFC 8949, 3.3: a value below 32 in two bytes is not well-formed"),
+    "float": ("a floating-point number: any, or with floats one that is not of 64 bits, or NaN, or infinite", "DAG-CBOR, Strictness 3: floats are always of 64 bits, and NaN and the infinities must not be accepted", "no standard has DAG-CBOR without floats; a codec may have none, and names that profile"),
+    "too deep": ("an item with 128 or more lists and maps around it", "no standard bounds depth; this codec does, as RFC 8949, 10 wants of a decoder whose stack is bounded"),
 }  # fmt: skip
 # The library's name of each cause.
 VARIANTS = {
@@ -191,7 +193,7 @@ class Reader:
             yield self.item(around)
 
     def float(self):
-        """64 bits, and neither NaN nor an infinity (DAG-CBOR, Floating point)."""
+        """64 bits, and neither NaN nor an infinity (DAG-CBOR, Strictness 3)."""
         (number,) = struct.unpack(">d", self.take(9)[1:])
         if not math.isfinite(number):
             raise Refused("float", self.at - 1)

@@ -1,10 +1,14 @@
 """The peers of peers/peers.json: builds them in out/, and says what stands here."""
 
+import functools
 import json
 import os
 import subprocess
 import sys
 
+MANY = ("all", "ours")  # in the place of names
+# The version of this repository.
+OURS = "sed -n '/^## /{s/^## //p;q}' $REPO/CHANGELOG.md"
 HERE = os.path.dirname(os.path.abspath(__file__))
 ROOT, OUT = os.path.dirname(HERE), os.environ.get("CONFORMANCE_OUT", f"{HERE}/out")
 
@@ -14,6 +18,7 @@ def ran(words):
     return subprocess.run(words, shell=True, cwd=OUT, env=environment(), **quiet)
 
 
+@functools.cache
 def python():
     """A Python that makes wheels."""
     found = [it for it in (os.environ.get("PYTHON"), sys.executable, "/usr/bin/python3") if it]
@@ -30,23 +35,26 @@ def environment():
 
 
 def peers(names):
-    """What is told of each, and its command for each subject that it has: `run` is that of blocks, `write` that of writing."""
+    """What is told of each."""
     with open(f"{HERE}/peers/peers.json", encoding="utf-8") as file:
-        all_peers = json.load(file)
+        kept = {it["name"]: it for it in json.load(file)}
+    if names == "ours":
+        return [it for name, it in kept.items() if name.startswith(("dagcbor", "dagcar"))]
+    none = lambda name: {"name": name, "promises": "nothing", "build": "false", "get": "there is no such peer"}
+    return list(kept.values()) if names == "all" else [kept.get(it) or none(it) for it in names.split(",")]
+
+
+def built(peer):
+    """What is told of it, where it is built, and its command for each subject that it has: `run`, which is of blocks, and behind it the
+    subject's word. Who has no word for writing is handed the loose form of data. Where it is not here, why, and no command."""
     os.makedirs(OUT, exist_ok=True)
-    wanted = names.split(",")
-    for peer in all_peers:
-        is_ours = names == "ours" and peer["name"].startswith(("dagcbor", "dagcar"))
-        if peer["name"] not in wanted and names != "all" and not is_ours:
-            continue
-        built = ran(peer.get("build", "true"))
-        if built.returncode:
-            said = built.stderr.strip().split("\n")[-1]
-            print(f"{peer['name']}: not here: {peer['get']}{f' ({said})' if said else ''}", flush=True)
-            continue
-        os.environ.update(environment())
-        peer["version"] = ran(peer["version"]).stdout.strip() if "version" in peer else ""
-        words = {"blocks": peer.get("run"), "writing": peer.get("write", peer.get("run")), **peer.get("around", {})}
-        peer["is_loose"] = "write" not in peer
-        peer["commands"] = [f"{subject}: {it}" for subject, it in words.items() if it]
-        yield peer, {subject: ["sh", "-c", f"exec {it}"] for subject, it in words.items() if it}
+    made = ran(peer.get("build", "true"))
+    if made.returncode:
+        said = made.stderr.strip().split("\n")[-1]
+        return {**peer, "lack": f"not here: {peer['get']}{f' ({said})' if said else ''}"}, {}
+    subjects = peer.get("subjects", ["blocks"])
+    words = {it: peer["run"] if it == "blocks" else f"{peer['run']} {it}" for it in subjects}
+    words |= {"writing": peer["run"]} if "writing" not in subjects else {}
+    version, commands = ran(peer.get("version", OURS)).stdout.strip(), [f"{subject}: {it}" for subject, it in words.items()]
+    told = {**peer, "version": version, "is_loose": "writing" not in subjects, "commands": commands}
+    return told, {subject: ["sh", "-c", f"exec {it}"] for subject, it in words.items()}

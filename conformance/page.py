@@ -1,8 +1,15 @@
 """What was found of all peers, as one page: a matrix of peers and groups, and below it what did not hold, peer by peer. What ended a
-peer, or kept it from answering, is counted there, and not shown."""
+peer, or kept it from answering, is counted there, and not shown.
+
+The picture in docs/CONFORMANCE.md is of its top, by Debian's chromium and cwebp:
+
+    conformance/run --known all --page page.html
+    chromium --headless --no-sandbox --hide-scrollbars --window-size=1180,1240 --screenshot=page.png page.html
+    cwebp -q 85 page.png -o docs/pictures/conformance.webp"""
 
 from html import escape
 
+import vectors
 from verdicts import NO_ANSWER, OUTCOMES, is_wrong, table
 
 STYLE = """
@@ -22,6 +29,7 @@ thead small { display: inline; }
 thead th { writing-mode: vertical-rl; transform: rotate(180deg); padding: .2rem; color: var(--soft); vertical-align: top; }
 thead th:first-child { writing-mode: horizontal-tb; transform: none; vertical-align: bottom; }
 td { text-align: center; min-width: 2.6rem; padding: .3rem .25rem; border-radius: 5px; }
+td small { display: block; font-size: .68rem; font-weight: 400; white-space: nowrap; line-height: 1.1; }
 th small { display: block; font-size: .72rem; color: var(--soft); font-weight: 400; }
 .held { background: var(--held); color: var(--held-ink); } .loose { background: var(--loose); color: var(--loose-ink); }
 .wrong { background: var(--wrong); color: var(--wrong-ink); font-weight: 600; } .none { color: var(--soft); }
@@ -36,14 +44,16 @@ MOST = 60
 
 
 def cell(row):
-    """Of a group: how many did not hold; the worst gives the colour."""
+    """Of a group: how many did not hold; the worst kind gives the colour, and the other stands small below it."""
     if not row:
         return '<td class="none">&ndash;</td>'
     others = {it: row[it] for it in OUTCOMES if row[it] and it != "held"}
-    colour = "wrong" if any(map(is_wrong, others)) else "loose" if others else "held"
+    wrong, loose = (sum(count for it, count in others.items() if is_wrong(it) == kind) for kind in (True, False))
+    colour = "wrong" if wrong else "loose" if loose else "held"
     said = ", ".join(f"{count:,} {it}" for it, count in others.items()) or "all held"
-    shown = f"{sum(others.values()):,}" if others else "&#10003;"
-    return f'<td class="{colour}" title="{escape(said)}; of {sum(row.values()):,}">{shown}</td>'
+    shown = f"{wrong or loose:,}" if others else "&#10003;"
+    below = f"<small>and {loose:,}</small>" if wrong and loose else ""
+    return f'<td class="{colour}" title="{escape(said)}; of {sum(row.values()):,}">{shown}{below}</td>'
 
 
 def matrix(results):
@@ -70,7 +80,7 @@ def failures(result):
             text += f"<h3>{len(found):,} {kind}: {OUTCOMES[kind][1]}</h3><ul>"
             text += "".join(f"<li><code>{escape(it.line())}</code></li>" for it in found[:MOST])
             text += f"<li>and {len(found) - MOST:,} more</li></ul>" if len(found) > MOST else "</ul>"
-    return text or "<p>Everything held.</p>"
+    return text or f"<p>{'Everything held' if result.judged else escape(result.about.get('lack', 'Not asked'))}.</p>"
 
 
 def peer(number, result):
@@ -78,25 +88,27 @@ def peer(number, result):
     commands = "<br>".join(f"<code>{escape(it)}</code>" for it in result.about.get("commands", ()))
     said = ", ".join(f"{counts[it]:,} {it}" for it in OUTCOMES if counts[it])
     about = result.about
+    got = f" To have it: {escape(about['get'])}; and <code>conformance/run --known {escape(about['name'])}</code>." if "get" in about else ""
     return (
         f'<details id="peer-{number}"><summary><h2>{escape(about["name"])}</h2><span>{escape(said)}</span></summary>'
-        f'<p>{escape(about.get("language", ""))} {escape(about.get("version", ""))}. It promises {escape(about["promises"])}.'
+        f'<p>{escape(about.get("language", ""))} {escape(about.get("version", ""))}. It promises {escape(about["promises"])}.{got}'
         f"</p><p>{commands}</p>{failures(result)}</details>\n"
     )
 
 
-def page(results, command="conformance/run --known all --page page.html"):
+def page(results, command):
     most = max((len(it.judged) for it in results), default=0)
     return f"""<!DOCTYPE html>
 <html lang="en"><head><meta charset="utf-8"><meta name="viewport" content="width=device-width, initial-scale=1">
 <title>DAG-CBOR conformance</title><style>{STYLE}</style></head><body>
 <h1>DAG-CBOR conformance</h1>
-<p>Up to {most:,} vectors a codec, each with a verdict on which a second specification and a proved codec agree. A cell says how many did
-not hold; a tick that all did. Who promises CBOR, and takes what DAG-CBOR forbids, keeps the promise: what RFC 8949 says otherwise has a
-colour of its own.</p>
+<p>Up to {most:,} vectors a codec, each with a verdict that a sentence of a standard argues, and on which a second specification and a
+proved codec agree. A cell says how many did not hold; a tick that all did. Who promises CBOR, and takes what DAG-CBOR forbids, keeps the
+promise: what RFC 8949 says otherwise has a colour of its own.</p>
 <p class="key"><span class="held">&#10003; all held</span><span class="loose">takes or writes what DAG-CBOR forbids</span>
-<span class="wrong">not as RFC 8949 either, or no answer</span><span class="none">&ndash; not asked</span></p>
+<span class="wrong">not as RFC 8949 either, or no answer</span> and small, what DAG-CBOR alone forbids<span class="none">&ndash; not asked</span></p>
 {matrix(results)}
-<p>Counted down a column are the vectors of a group. Made by <code>{escape(command)}</code>, with what Debian 12 has of each codec, in its strictest form.</p>
+<p>Beside a group stands how many vectors it has. Made by <code>{escape(command)}</code>
+over the vectors <code>{vectors.digest()}</code>, with each codec in its strictest form.</p>
 {"".join(peer(number, it) for number, it in enumerate(results))}</body></html>
 """

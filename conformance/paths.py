@@ -1,10 +1,20 @@
-"""How far a path leads in a block, by a walk of its own over what `judge` reads.
+"""How far a path leads in a block, by a walk of its own over what `judge` reads: a path as a text, or as a list of segments.
 
 A path is segments between slashes; empty ones say nothing, and nothing is escaped. From a map a segment leads to the value of that key,
 and from a list to the item whose index it is, from 0, in decimal without a sign and without zeros in front. A list of segments is taken as
 it stands: each may have slashes, or be empty."""
 
-from judge import head, spell
+from judge import KINDS, Refused, head, judge, spell
+
+CAUSES = {
+    "no block": ("the bytes are no block, for the cause `block_cause`, which is told at `at`", "DAG-CBOR, Strictness 1: a decoder must refuse what is invalid"),
+    "no such item": ("a segment is no key of the map, or no index of the list, or stands behind an item of another kind", "IPLD, Pathing: a segment is a key of a map, or an index of a list"),
+}  # fmt: skip
+VARIANTS = {"no such item": "NoSuchPath"}
+OPEN = {
+    "numerals": "no standard says whether an index may have a sign, or zeros in front; here it is none then",
+    "slashes": "no standard says what an empty segment of a text means; here it says nothing",
+}
 
 
 def index_of(segment, count):
@@ -28,28 +38,48 @@ def part_of(data, segment):
     return None
 
 
-def reached(data, segments):
-    """The item to which the segments lead, each taken whole, and where it begins and ends; or none."""
+def way(data, segments):
+    """The last item to which segments from the front lead, where it begins, and how many lead there."""
     place = 0
-    for segment in segments:
+    for number, segment in enumerate(segments):
         found = part_of(data, segment)
         if found is None:
-            return None
+            return data, place, number
         data, place = found[0], place + found[1]
-    return data, place, place + len(spell(data))
+    return data, place, len(segments)
 
 
-def follow(data, path):
-    """The last item to which a front of the path leads, where it begins and ends, and how many bytes of the path lead there: all where no
-    segment is left."""
-    place, passed = 0, 0
-    pieces = path.split("/")
-    for number, segment in enumerate(pieces):
-        if segment == "":
-            continue
-        found = part_of(data, segment)
-        if found is None:
-            return data, place, place + len(spell(data)), passed
-        data, place = found[0], place + found[1]
-        passed = len("/".join(pieces[: number + 1]).encode()) + (number + 1 < len(pieces))
-    return data, place, place + len(spell(data)), len(path.encode())
+def passed_by(path, count):
+    """How many bytes of a text its first segments are, so many, with the slash behind them."""
+    if count == 0:
+        return 0
+    pieces, seen = path.split("/"), 0
+    for number, it in enumerate(pieces, 1):
+        seen += it != ""
+        if seen == count:
+            return len("/".join(pieces[:number]).encode()) + (number < len(pieces))
+
+
+def expected(given):
+    """What is right of a block and a path, in the words of a vector."""
+    block, path = given
+    try:
+        data = judge(block)
+    except Refused as refused:
+        return {"verdict": "refused", "cause": "no block", "block_cause": refused.cause, "at": refused.place}
+    is_text = isinstance(path, str)
+    segments = [it for it in path.split("/") if it] if is_text else path
+    last, begin, count = way(data, segments)
+    said = {"kind": KINDS[type(last)], "span": [begin, begin + len(spell(last))]}
+    told = {"open": "slashes"} if is_text and path and "" in path.split("/") else {}
+    if count == len(segments):
+        return {"verdict": "ok", **said, **told}
+    if isinstance(last, list) and is_numeral(segments[count]):
+        told = {"open": "numerals"}
+    return {"verdict": "refused", "cause": "no such item", **(said | {"passed": passed_by(path, count)} if is_text else {}), **told}
+
+
+def is_numeral(segment):
+    """Whether some read it as an index, and others not."""
+    digits = segment.strip().removeprefix("+").removeprefix("-")
+    return digits.isascii() and digits.isdigit() and segment != str(int(digits))

@@ -68,10 +68,14 @@ def by_places(vectors, library):
             yield f"{vector['id']}: the judge says {wanted[:80]}, the library {answer[:80]}"
 
 
-def run(word, given):
+class Front(bytes):
+    """How a refusal begins."""
+
+
+def run(words, given):
     """What `dagcar` writes, or its refusal."""
-    ran = subprocess.run([program("dagcar"), word], input=given, capture_output=True)
-    if word == "check":  # it tells what is missing in the order of the file
+    ran = subprocess.run([program("dagcar"), *words.split(" ", 2)], input=given, capture_output=True)
+    if words == "check":  # it tells what is missing in the order of the file
         lines = ran.stdout.splitlines(True)
         return b"".join(sorted(lines, key=lambda it: (it.startswith(b"missing"), it if it.startswith(b"missing") else b"")))
     return ran.stdout or ran.stderr.split(b"\n")[0].rpartition(b"dagcar: ")[2]
@@ -91,21 +95,36 @@ def of_block(vector):
 
 
 def by_forms(vectors):
-    """Where `dagcar` says something else of data for writers, of a CID as text, of a file of blocks or of DAG-JSON."""
-    yield from differing([{"files": of_file, "cid-texts": of_cid_text}.get(it["group"], of_json)(it) for it in vectors])
+    """Where `dagcar` says something else of data for writers, of a CID as text, of a file of blocks, of DAG-JSON or of a path."""
+    judged = {"files": of_file, "cid-texts": of_cid_text, "paths": of_path}
+    yield from differing([judged.get(it["group"], of_json)(it) for it in vectors if it["group"] != "segments" and not is_beyond(it)])
+
+
+def is_beyond(vector):
+    """Whether it is a path that no word of a command line is, or that leads on from a link, or whose block is none."""
+    is_path = vector["group"] == "paths"
+    return is_path and ("\0" in vector["path"] or vector["verdict"] == "refused" and vector.get("kind", "link") == "link")
+
+
+def of_path(vector):
+    """In a file of the block alone."""
+    block = block_of(vector)
+    name, given = cidtexts.written(cars.name(block)), cars.header() + cars.section(block)
+    wanted = block[slice(*vector["span"])] if vector["verdict"] == "ok" else Front(f"{name} has nothing at ".encode())
+    return vector["id"], f"at --raw {name}/{vector['path']}", given, wanted
 
 
 def of_json(vector):
     given = vector["dag_json"].encode() if vector["group"] == "writing" else block_of(vector)
     if vector["verdict"] == "ok":
         return vector["id"], "make", given, bytes.fromhex(vector["block"])
-    return vector["id"], "make", given, f"refused {dagjson.VARIANTS[vector['cause']]} ".encode()
+    return vector["id"], "make", given, Front(f"refused {dagjson.VARIANTS[vector['cause']]} ".encode())
 
 
 def of_cid_text(vector):
     """Within a link."""
     given = json.dumps({"/": vector["text"]}).encode()
-    wanted = spell(Link(bytes.fromhex(vector["cid"]))) if vector["verdict"] == "ok" else b"refused NoCid "
+    wanted = spell(Link(bytes.fromhex(vector["cid"]))) if vector["verdict"] == "ok" else Front(b"refused NoCid ")
     return vector["id"], "make", given, wanted
 
 
@@ -129,9 +148,9 @@ def of_file(vector):
 
 
 def differing(asked):
-    """Of a name, a word of `dagcar`, what it is given and what it is to write, or how its refusal is to begin."""
+    """Of a name, the words of `dagcar`, what it is given and what it is to write, or the Front of that."""
     with ThreadPoolExecutor(os.cpu_count()) as pool:
         answers = pool.map(lambda row: run(row[1], row[2]), asked)
     for (name, word, _, wanted), answer in zip(asked, answers):
-        if answer != wanted and not (wanted.startswith(b"refused ") and answer.startswith(wanted)):
+        if answer != wanted and not (isinstance(wanted, Front) and answer.startswith(wanted)):
             yield f"{name}: the judge has {wanted[:60]}, dagcar {word} {answer[:60]}"

@@ -4,19 +4,26 @@ import json
 from collections import Counter
 from dataclasses import dataclass, field
 
+import vectors
 from verdicts import OUTCOMES, is_wrong, table
 
 
 @dataclass
 class Result:
-    """What is told of the peer, a Judged for each vector, and of a random run the smallest cases."""
+    """What is told of the peer, a Judged for each vector, of a random run the smallest cases, and of a vector's name what came of it
+    in an earlier run that may come again."""
 
     about: dict
     judged: list = field(default_factory=list)
     smallest: list = field(default_factory=list)
+    before: dict = field(default_factory=dict)
+
+    def others(self):
+        """What did not hold, and did not come so before."""
+        return [it for it in self.judged if it.outcome not in ("held", self.before.get(it.vector["id"]))]
 
     def is_well(self):
-        return bool(self.judged) and all(it.outcome == "held" for it in self.judged)
+        return bool(self.judged) and not self.others()
 
     def counts(self):
         return Counter(it.outcome for it in self.judged)
@@ -30,13 +37,28 @@ def text(result, most=20):
         if set(row) != {"held"}:
             rest = ", ".join(f"{row[it]} {it}" for it in OUTCOMES if row[it] and it != "held")
             lines.append(f"  {group:12} {row['held']} of {sum(row.values())} held; {rest}")
+    if result.before:
+        held = sum(it.outcome == "held" and it.vector["id"] in result.before for it in result.judged)
+        lines.append(f"  {len(result.others())} other than before; {held} that did not hold before do now")
     for kind in reversed(OUTCOMES):
-        if kind != "held":
-            found = [it for it in result.judged if it.outcome == kind]
-            lines += [f"    {it.line()}" for it in found[:most]]
-            lines += [f"    .. and {len(found) - most} more {kind}"] if len(found) > most else []
+        found = [it for it in result.others() if it.outcome == kind]
+        lines += [f"    {it.line()}" for it in found[:most]]
+        lines += [f"    .. and {len(found) - most} more {kind}"] if len(found) > most else []
     lines += ["  the smallest cases, each near one of these:"] if result.smallest else []
-    return "\n".join([*lines, *(f"    {it.line()}" for it in result.smallest)])
+    lines += [f"    {it.line()}" for it in result.smallest]
+    lines += [f"  {cause}: {'; '.join(rules)}" for cause, rules in broken(result.others()).items()]
+    return "\n".join(lines)
+
+
+def broken(judged):
+    """Of each cause in these what it says, by which standard."""
+    index = vectors.index()
+    found = {}
+    for vector in (it.vector for it in reversed(judged) if "cause" in it.vector):
+        causes = index["forms"].get(vector["group"], {"causes": index["causes"]})["causes"]
+        rules = causes[vector["cause"]]["by"]
+        found[vector["cause"]] = [" ".join([*([f"{it['standard']}, {it['section']}:"] if "standard" in it else []), it["says"]]) for it in rules]
+    return found
 
 
 MADE = ("short", "truncations", "random")
@@ -50,7 +72,8 @@ def as_table(results):
         counts["cut blocks taken"] = sum(it.vector["group"] == "truncations" and it.outcome != "held" for it in result.judged)
         loose = sum(counts[it] for it in OUTCOMES if it != "held" and not is_wrong(it))
         wrong = [f"{counts[it]:,} {it}" for it in counts if counts[it] and (it not in OUTCOMES or is_wrong(it))]
-        lines.append(f"| {result.about['name']} {result.about.get('version', '')} | {loose} | {', '.join(wrong) or 'none'} |")
+        said = f"{loose} | {', '.join(wrong) or 'none'}" if result.judged else f"{result.about.get('lack', 'not asked')} | "
+        lines.append(f"| {result.about['name']} {result.about.get('version', '')} | {said} |")
     return "\n".join(lines) + "\n"
 
 
@@ -58,9 +81,16 @@ def as_json(results):
     return json.dumps([peer_json(it) for it in results], indent=1, ensure_ascii=False) + "\n"
 
 
+def earlier(path):
+    """Of such a file, by the peer's name, what came of each vector that did not hold."""
+    with open(path, encoding="utf-8") as file:
+        return {peer["name"]: {it["id"]: it["outcome"] for it in peer["failures"]} for peer in json.load(file)}
+
+
 def peer_json(result):
     return {
         **{key: it for key, it in result.about.items() if key != "commands"},
+        "vectors": vectors.digest(),
         "counts": result.counts(),
         "groups": table(result.judged),
         "failures": [failure(it) for it in result.judged if it.outcome != "held"],

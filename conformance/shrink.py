@@ -9,8 +9,8 @@ AT_ONCE = 500
 
 
 def smaller(block):
-    """Blocks near it: its items alone; an item that is a zero, or an empty text; one part of a list or a map fewer, or a string of half the bytes, or of one fewer; and where
-    it is short any bytes left out, and any byte smaller. The smallest come first."""
+    """Blocks near it: its items alone; an item that is a zero, or an empty text; one part of a list or a map fewer, or a string of half
+    the bytes, or of one fewer; some bytes left out; and where it is short any byte smaller. The smallest come first."""
     found, whole = set(), []
     try:
         note(block, 0, whole)
@@ -23,12 +23,20 @@ def smaller(block):
             found |= {block[:at] + fewer(block[at:behind], end - behind - size) + block[behind : behind + size] + block[end:] for size in sizes}
         else:
             found |= {block[:at] + fewer(block[at:behind], 1) + block[behind:one] + block[other:] for one, other in parts}
-    if len(block) <= (MOST if whole else 3 * MOST):
-        cuts = [(at, behind) for at in range(len(block)) for behind in range(at + 1, len(block) + 1)]
-        found |= {it for at, behind in cuts for it in (block[at:behind], block[:at] + block[behind:])}
+    is_short = len(block) <= (MOST if whole else 3 * MOST)
+    found |= {it for at, behind in cuts(len(block), is_short) for it in (block[at:behind], block[:at] + block[behind:])}
+    if is_short:
         lower = [(at, less) for at, byte in enumerate(block) for less in {0, 0x60, byte // 2, byte - 1} if 0 <= less < byte]
         found |= {block[:at] + bytes([less]) + block[at + 1 :] for at, less in lower}
     return sorted((it for it in found if (len(it), it) < (len(block), block)), key=lambda it: (len(it), it))
+
+
+def cuts(length, is_short):
+    """Where bytes that are left out begin and end: anywhere in a short block; in another the halves, the quarters and so on."""
+    if is_short:
+        return [(at, behind) for at in range(length) for behind in range(at + 1, length + 1)]
+    sizes = [length >> halved for halved in range(1, length.bit_length())]
+    return [(at, at + size) for size in sizes for at in range(0, length, size)]
 
 
 def fewer(head, count):
@@ -52,7 +60,7 @@ def note(block, at, whole):
         for _ in range(2 if major == 5 else 1):
             end = note(block, end, whole)
         parts.append((one, end))
-    end += argument is None
+    end += argument is None and major < 6  # its break; another is taken for an item
     whole.append((at, end, behind, [] if is_tag else parts))
     return end
 

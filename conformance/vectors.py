@@ -1,6 +1,7 @@
 """The vectors: the bytes of grammar.py with what the judge says of them, as lines of JSON; and those that are made of them."""
 
 import functools
+import hashlib
 import itertools
 import json
 import math
@@ -15,6 +16,8 @@ import cidtexts
 import dagjson
 import forms
 import grammar
+import paths
+import standards
 from judge import CAUSES, KINDS, PROFILES, TOKENS, VARIANTS, Link, causes, head, judge, links_of, parts_of, spell, tokens
 
 HERE = os.path.dirname(os.path.abspath(__file__))
@@ -49,11 +52,12 @@ FIELDS = {
 }
 FORM_FIELDS = {
     "text": "the bytes as text, where they are one",
+    "path": "a path in the block, as a text; or `segments`, of which each is taken whole",
+    "span": "where the item to which it leads begins and ends; of a text that leads to none the last item on the way, behind `passed` bytes of the text; of a file of version 2 that of version 1 in it",
     "cid": "of a text the binary CID, in hexadecimal; `written` is how it is written by default",
     "block": "of DAG-JSON the block of its data, in hexadecimal; `written` is its one spelling",
     "dag_json": "for writers: what is to be written as a block; `loose` is the same as CBOR that DAG-CBOR forbids, for a codec that reads such",
-    "cause": "the first fault, a key of the group's `causes`; of a file `at` is where what is faulty begins, and `block_cause` why a header is no block",
-    "span": "of a file of version 2 where that of version 1 begins and ends",
+    "cause": "the first fault, a key of the group's `causes`; of a file `at` is where what is faulty begins, and `block_cause` why a header is no block; of a path why its block is none, told at `at`",
     "roots": "the roots; `behind` is where the first section begins",
     "sections": "those before a fault: where each begins, its CID, where its block begins, where it ends, and what is said of the block",
     "missing": "of a whole file the roots and links that lead to no verified block, in the order of their binary forms; a CID by the identity holds its block",
@@ -189,6 +193,8 @@ def made():
 
 # What stands around blocks: its rows, what judges it, and what it is.
 FORMS = {
+    "paths": (forms.paths, paths, "what a path leads to in a block, as a text"),
+    "segments": (forms.segments, paths, "the same, of a list of segments, of which each is taken whole"),
     "cid-texts": (forms.cid_texts, cidtexts, "CIDs as text: bases, letters, padding bits"),
     "files": (forms.files, cars, "files of blocks (CAR) of both versions: headers, offsets, cuts, other bytes"),
     "dag-json": (forms.json_texts, dagjson, "DAG-JSON, to be read"),
@@ -199,10 +205,26 @@ def made_forms():
     """All vectors of these, anew."""
     for group, (rows, judged, _) in FORMS.items():
         for slug, given, why, section in rows():
-            is_text = isinstance(given, str)
-            data = given.encode() if is_text else given
-            said = {"id": f"{group}/{slug}", "group": group, **packed(data)} | ({"text": given} if is_text else {})
-            yield said | judged.expected(given if group == "cid-texts" else data) | {"why": why, "section": section}
+            yield {"id": f"{group}/{slug}", "group": group, **of_given(given), **judged.expected(given), "why": why, "section": section}
+
+
+def of_given(given):
+    """The bytes of a row; and the text, the path or the segments."""
+    if isinstance(given, tuple):
+        return packed(given[0]) | {"path" if isinstance(given[1], str) else "segments": given[1]}
+    return packed(given.encode()) | {"text": given} if isinstance(given, str) else packed(given)
+
+
+# In each list, map and link of the other groups so many paths are asked for, and one in each that is refused.
+FEW_PATHS = {"paths": ("", "0", "1/0", "a", "a/a"), "segments": ([], [""], ["0"], ["1", "0"], ["a"], ["a", "a"], ["", ""])}
+
+
+def paths_in(vectors, name):
+    for it in vectors:
+        block, is_block = block_of(it), it["verdict"] == "ok"
+        are_asked = FEW_PATHS[name] if not is_block or it["kind"] in ("list", "map", "link") else ()
+        for number, path in enumerate(are_asked if is_block else are_asked[2:3]):
+            yield {"id": f"{name}/{it['id'].replace('/', '-')}-{number}", "group": name, **of_given((block, path)), **paths.expected((block, path))}
 
 
 @functools.cache
@@ -213,7 +235,20 @@ def subjects(name):
         return [*kept, *truncations(kept), *load_short()]
     if name == "to-dag-json":
         return [{**it, "id": f"{name}/{it['id'].replace('/', '-')}", "group": name} for it in load() if "dag_json" in it]
-    return list(load([name]))
+    kept = list(load([name]))
+    return [*kept, *paths_in((it for it in load() if "tokens" in it), name)] if name in FEW_PATHS else kept
+
+
+def line_of(vector):
+    """The line that asks it."""
+    if vector["group"] == "writing":
+        return vector.get("line", vector["dag_json"])
+    block = block_of(vector).hex()
+    if "path" in vector:
+        return f"{block or '-'} {vector['path'].encode().hex() or '-'}"
+    if "segments" in vector:
+        return f"{block or '-'} {'/'.join(it.encode().hex() or '-' for it in vector['segments']) or '/'}"
+    return block
 
 
 def for_writers(vectors, is_loose, cannot):
@@ -227,33 +262,19 @@ def for_writers(vectors, is_loose, cannot):
 # What a peer may be held to, and a line that each answers with `ok`.
 SUBJECTS = {
     "blocks": "f6", "writing": "null", "cid-texts": b"bafkqaaa".hex(), "files": "19a265726f6f747381d82a4500015500006776657273696f6e01",
-    "dag-json": b"null".hex(), "to-dag-json": "f6",
+    "dag-json": b"null".hex(), "to-dag-json": "f6", "paths": "f6 -", "segments": "f6 /",
 }  # fmt: skip
 
 
 def written():
     """For writers: data as DAG-JSON, with the keys of maps in other orders, and its one spelling; or what has none."""
-    rows = {
-        "rising": '{"a":0,"b":1}', "falling": '{"b":1,"a":0}', "by-length": '{"aa":0,"b":1}', "numerals": '{"10":0,"9":1,"a":2}',
-        "empty-last": '{"a":0,"":1}', "accents": '{"水":0,"é":1,"zz":2}', "beyond-16-bits": '{"\U00010000":0,"\ue000a":1}',
-        "nested": '{"b":{"d":0,"c":[{"f":0,"e":1}]},"a":1}', "signed": '{"é":0,"zz":1}', "proto": '{"__proto__":{"b":0,"a":1},"z":2}',
-        "long": '{"' + "z" * 24 + '":0,"' + "a" * 255 + '":1,"' + "b" * 23 + '":2}',
-        "links": '{"/a":{"/":"QmdfTbBqBPQ7VNxZEYEj14VmRuZBkqFbiwReogJgS1zR1n"},"b":{"/":{"bytes":"AAEC"}}}',
-        "integers": "[0,23,24,255,256,65535,65536,4294967295,4294967296,18446744073709551615,-1,-24,-25,-18446744073709551616]",
-        "texts": '["","\\u0000","é","水","\U00010151","\\ud800\\udd51"]', "leaves": "[null,false,true,[],{}]",
-        "many": "{" + ",".join(f'"k{n * 37 % 100}":{n}' for n in range(100)) + "}",
-        "heads-of-texts": "[" + ",".join(f'"{"a" * n}"' for n in (23, 24, 255, 256)) + "]", "heads-of-lists": "[" + ",".join(f"[{','.join('0' * n)}]" for n in (23, 24)) + "]",
-        "heads-of-bytes": "[" + ",".join(f'{{"/":{{"bytes":"{dagjson.unpadded(bytes(n))}"}}}}' for n in (23, 24)) + "]", "beyond": "[18446744073709551616]",
-        "below": "[-18446744073709551617]", "repeated": '{"a":0,"a":1}', "repeated-apart": '{"a":0,"b":0,"a":0}', "half-a-pair": '["\\ud800"]',
-        "float": "[1.5]", "floats": "[0.1,-2.5,1e300,5e-324]", "float-in-map": '{"b":1.5,"a":2}',
-    }  # fmt: skip
-    for slug, text in rows.items():
-        said = dagjson.expected(text.encode())
+    for slug, text, why, section in forms.writing():
+        said = dagjson.expected(text)
         said.pop("written", None)  # the data counts here, and not how it is told
         if said.get("open") == "spelling":
             del said["open"]
         said |= {"loose": loose(dagjson.json_of(text), slug in WIDE).hex()} if "block" in said.get("with_floats", said) else {}
-        yield {"id": f"writing/{slug}", "group": "writing", "dag_json": text, **said}
+        yield {"id": f"writing/{slug}", "group": "writing", "dag_json": text, **said, "why": why, "section": section}
 
 
 # Those whose heads are wide in the loose form; of the others the keys' order is at stake.
@@ -317,26 +338,24 @@ def expected_short(block, floats):
 
 def files(kept):
     """What stands in the folder, of these vectors: the name of each file, and its text."""
-    around = list(made_forms())
-    assert len({it["id"] for it in [*kept, *around]}) == len(kept) + len(around)
-    texts = {f"{group}.jsonl": lines(it for it in [*kept, *around] if it["group"] == group) for group in (*grammar.GROUPS, *FORMS)}
+    every = [*kept, *made_forms(), *written()]
+    assert len({it["id"] for it in every}) == len(every) and all(standards.places(it["section"]) is not None for it in every)
+    texts = {f"{group}.jsonl": lines(it for it in every if it["group"] == group) for group in (*grammar.GROUPS, *FORMS, "writing")}
     index = {
         "groups": {group: why for group, (_, why) in grammar.GROUPS.items()},
         "counts": {group: sum(it["group"] == group for it in kept) for group in grammar.GROUPS},
-        "fields": FIELDS, "causes": worded(CAUSES),
+        "fields": FIELDS, "standards": standards.index(), "causes": standards.worded(CAUSES),
         "variants": VARIANTS, "profiles": PROFILES, "tokens": TOKENS, "open": OPEN, "levels": LEVELS,
-        "forms": {group: {"what": why, "causes": worded(judged.CAUSES), "variants": judged.VARIANTS, "open": judged.OPEN} for group, (_, judged, why) in FORMS.items()},
+        "forms": {
+            group: {"what": why, "causes": standards.worded(judged.CAUSES), "variants": judged.VARIANTS, "open": judged.OPEN}
+            for group, (_, judged, why) in {**FORMS, "writing": (None, dagjson, "data for writers, as DAG-JSON")}.items()
+        },
         "form_fields": FORM_FIELDS,
     }  # fmt: skip
     return texts | {
-        "writing.jsonl": lines(written()),
         "short.json": json.dumps(short()).replace(" [[", "\n[[").replace(" [", "\n[") + "\n",
         "index.json": json.dumps(index, indent=1, ensure_ascii=False) + "\n",
     }
-
-
-def worded(causes):
-    return {name: {"is": words, "by": rule} for name, (words, rule) in causes.items()}
 
 
 def lines(vectors):
@@ -348,6 +367,23 @@ def load(groups=grammar.GROUPS):
     for group in groups:
         with open(f"{FOLDER}/{group}.jsonl", encoding="utf-8") as file:
             yield from map(json.loads, file)
+
+
+@functools.cache
+def index():
+    """What is told of all vectors: groups, causes and the rules that they break, and more."""
+    with open(f"{FOLDER}/index.json", encoding="utf-8") as file:
+        return json.load(file)
+
+
+@functools.cache
+def digest():
+    """Which data this is: the first 12 digits of the SHA-256 of its files, one behind another in the order of their names."""
+    found = hashlib.sha256()
+    for name in sorted(os.listdir(FOLDER)):
+        with open(f"{FOLDER}/{name}", "rb") as file:
+            found.update(file.read())
+    return found.hexdigest()[:12]
 
 
 def load_short():

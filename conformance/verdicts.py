@@ -4,7 +4,7 @@ from collections import Counter
 from dataclasses import dataclass
 
 import cbor
-from vectors import VARIANTS, block_of, in_profile
+from vectors import VARIANTS, block_of, in_profile, line_of
 
 # What may come of a vector, from the best to the worst, and whether it is wrong by RFC 8949 too.
 OUTCOMES = {
@@ -80,7 +80,7 @@ def outcome(vector, answer, cannot=(), tells=False):
 def held_against(peer, vectors, cannot=(), tells=False, profile=None):
     """A Judged for each vector."""
     vectors = [in_profile(it, profile) for it in vectors]
-    answers = peer.answers([it.get("line") or (it["dag_json"] if it["group"] == "writing" else block_of(it).hex()) for it in vectors])
+    answers = peer.answers(list(map(line_of, vectors)))
     return [Judged(vector, outcome(vector, answer, cannot, tells), answer) for vector, answer in zip(vectors, answers)]
 
 
@@ -95,6 +95,8 @@ WORDS = {
     "cid-texts": lambda it: [it["cid"], it["written"]],
     "files": lambda it: [",".join(it["roots"]) or "-", ",".join(one["cid"] for one in it["sections"]) or "-"],
     "dag-json": lambda it: [it["block"]],
+    "paths": lambda it: [block_of(it)[it["span"][0] : it["span"][1]].hex()],
+    "segments": lambda it: [block_of(it)[it["span"][0] : it["span"][1]].hex()],
     "to-dag-json": lambda it: [it["dag_json"].encode().hex()],
 }
 

@@ -1,13 +1,16 @@
-// Our package for Node, which stands in callers/node: blocks; data to be written; files of blocks; CIDs as text.
+// Our package for Node, which stands in callers/node: blocks; data to be written; paths; files of blocks; CIDs as text.
 'use strict';
 const { dataOf, serve } = require('./lines.js');
-const { CID, CarReader, decode, encode } = require(`${process.env.REPO}/callers/node`);
+const { CID, CarReader, decode, encode, find } = require(`${process.env.REPO}/callers/node`);
 
 const hex = (bytes) => Buffer.from(bytes).toString('hex');
 const joined = (cids) => cids.join(',') || '-';
+const at = (block, path) => hex(encode(find(block, path))); // what leads nowhere is undefined, which is not written
 
 serve((block) => encode(decode(block)), {
   writing: (line) => hex(encode(dataOf(line, CID.parse))),
+  paths: at,
+  segments: at,
   'cid-texts': (text) => {
     const cid = CID.parse(text.toString());
     return `${hex(cid.bytes)} ${cid}`;

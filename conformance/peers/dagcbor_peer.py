@@ -1,6 +1,6 @@
-"""Our package for Python: blocks; data to be written; files of blocks; CIDs as text."""
+"""Our package for Python: blocks; data to be written; paths; files of blocks; CIDs as text."""
 
-from dagcbor import CID, dumps, loads, read_car
+from dagcbor import CID, dumps, find, loads, read_car
 from lines import data_of, serve
 
 
@@ -15,9 +15,6 @@ def cid_texts(text):
     return f"{bytes(cid).hex()} {cid}"
 
 
-serve(
-    lambda block: dumps(loads(block)),
-    writing=lambda line: dumps(data_of(line, CID)).hex(),
-    files=files,
-    cid_texts=cid_texts,
-)
+at = lambda block, path: dumps(find(block, path)).hex()
+writing = lambda line: dumps(data_of(line, CID)).hex()
+serve(lambda block: dumps(loads(block)), writing=writing, paths=at, segments=at, files=files, cid_texts=cid_texts)

@@ -2,7 +2,7 @@
 'use strict';
 
 // `rewrite` answers what is written again of the bytes of a block, or throws; of other subjects the others answer what stands behind
-// `ok`: of `writing` the line, of all else the bytes of a line of hexadecimal.
+// `ok`: of `writing` the line; of `paths` and `segments` a block, and a text or a list of texts; of all else the bytes.
 exports.serve = async (rewrite, around = {}) => {
   const subject = process.argv.slice(2).find((it) => it in around);
   const answers = subject ? around[subject] : async (block) => Buffer.from(rewrite(block)).toString('hex');
@@ -10,7 +10,7 @@ exports.serve = async (rewrite, around = {}) => {
   for await (const line of lines) {
     let answer;
     try {
-      answer = `ok ${await answers(subject === 'writing' ? line : Buffer.from(line, 'hex'))}`;
+      answer = `ok ${await answers(...givenOf(subject, line))}`;
     } catch (error) {
       const isMemory = error instanceof RangeError && /alloc|Invalid (array|typed array) length/i.test(error.message);
       const cause = error.kind ? `${error.kind} ${error.place ?? ''}`.trimEnd() : error.name;
@@ -18,6 +18,13 @@ exports.serve = async (rewrite, around = {}) => {
     }
     process.stdout.write(`${answer}\n`); // to a pipe it is whole before it returns
   }
+};
+
+const givenOf = (subject, line) => {
+  if (subject === 'writing') return [line];
+  const [block, path] = line.split(' ');
+  const texts = path?.split('/').filter(Boolean).map((it) => Buffer.from(it, 'hex').toString());
+  return [Buffer.from(block, 'hex'), subject === 'paths' ? texts[0] : texts];
 };
 
 // The data of a line of DAG-JSON, in which long numbers are BigInts: of a CID's text what `link` makes of it.

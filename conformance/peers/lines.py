@@ -12,18 +12,26 @@ import cidtexts
 
 def serve(rewrite, **around):
     """`rewrite` answers what is written again of the bytes of a block, or raises; of other subjects the others answer what stands
-    behind `ok`: of `writing` the line, of all else the bytes of a line of hexadecimal."""
+    behind `ok`: of `writing` the line; of `paths` and `segments` a block, and a text or a list of texts; of all else the bytes."""
     subject = next((it for it in sys.argv[1:] if it.replace("-", "_") in around), None)
     answers = around[subject.replace("-", "_")] if subject else lambda block: rewrite(block).hex()
     for line in sys.stdin:
         try:
-            answer = f"ok {answers(line if subject == 'writing' else bytes.fromhex(line))}"
+            answer = f"ok {answers(*given_of(subject, line.rstrip()))}"
         except MemoryError:
             answer = "refused memory"
         except Exception as error:
             cause = f"{error.kind} {error.place}" if hasattr(error, "kind") else type(error).__name__
             answer = f"refused {cause}"
         print(answer, flush=True)
+
+
+def given_of(subject, line):
+    if subject == "writing":
+        return [line]
+    block, *path = line.split(" ")
+    texts = [bytes.fromhex(it.strip("-")).decode() for them in path for it in them.split("/") if it]
+    return [bytes.fromhex(block.strip("-")), *(texts if subject == "paths" else [texts] if path else [])]
 
 
 def data_of(line, link):

@@ -9,7 +9,8 @@ sys.path.append(os.path.join(HERE, "../../../conformance"))
 import cars
 import cidtexts
 import forms
+from grammar import SOUND
 from judge import VARIANTS
-from vectors import block_of, load
+from vectors import block_of, load, subjects
 
-__all__ = ["VARIANTS", "block_of", "cars", "cidtexts", "forms", "load"]
+__all__ = ["SOUND", "VARIANTS", "block_of", "cars", "cidtexts", "forms", "load", "subjects"]

@@ -1,60 +1,29 @@
-"""Where paths lead in a block, beside a walk over its data in Python."""
-
-import os
+"""Where paths lead in a block: over the vectors of all codecs, and by hand."""
 
 import pytest
+from conformance import block_of, subjects
 from dagcbor import CID, DagCborError, dumps, find, name
 
-TABLE = os.path.join(os.path.dirname(os.path.realpath(__file__)), "../../tables/segments.txt")
 LINK = name(dumps(1))
 DATA = {
     "a": [{"b": "hi", "": 7, "0": "zero"}, [1, [2, -3]], None, True, b"xy", LINK],
     "0": "key", "a/b": 1, "\u00e9": [False], "aa": {"x": {}}, "": "empty",
 }
-PATHS = [
-    "", "/", "a", "a/0", "/a/0/", "a//0//b", "a/0/b", "a/0/b/0", "a/0/0", "a/1/1/1", "a/1/1/2", "a/2",
-    "a/2/x", "a/3", "a/4", "a/5", "a/5/x", "a/6", "a/00", "a/01", "a/+1", "a/-0", "a/ 1", "a/1.0",
-    "a/18446744073709551615", "a/18446744073709551616", "a/99999999999999999999999999", "0", "00", "a/b",
-    "\u00e9/0", "e", "aa/x", "aa/x/y", "ab", "b", "zz", "a\0", "a/\u0661",
-]
 
 
-def walked(data, path):
-    """The data to which the path leads, or a KeyError."""
-    for segment in filter(None, path.split("/")):
-        if isinstance(data, dict):
-            data = data[segment]
-        elif isinstance(data, list) and segment.isdecimal() and segment == str(int(segment)):
-            if int(segment) >= len(data):
-                raise KeyError(path)
-            data = data[int(segment)]
-        else:
-            raise KeyError(path)
-    return data
-
-
-@pytest.mark.parametrize("path", PATHS)
-def test_a_path(path):
-    try:
-        wanted = walked(DATA, path)
-    except KeyError:
-        with pytest.raises(KeyError):
-            find(dumps(DATA), path)
-    else:
-        found = find(dumps(DATA), path)
-        assert found == wanted and type(found) is type(wanted)
-
-
-@pytest.mark.parametrize("path", PATHS)
-def test_its_segments(path):
-    segments = [it for it in path.split("/") if it]
-    try:
-        wanted = walked(DATA, path)
-    except KeyError:
-        with pytest.raises(KeyError):
-            find(dumps(DATA), segments)
-    else:
-        assert find(dumps(DATA), segments) == find(bytearray(dumps(DATA)), tuple(segments)) == wanted
+@pytest.mark.parametrize("subject", ["paths", "segments"])
+def test_vectors(subject):
+    vectors = subjects(subject)
+    for it in vectors:
+        block, path = block_of(it), it.get("path", it.get("segments"))
+        given = [(block, path), (bytearray(block), path if subject == "paths" else tuple(path))]
+        for them in given:
+            if it["verdict"] == "ok":
+                assert dumps(find(*them)) == block[slice(*it["span"])], it["id"]
+            else:
+                with pytest.raises(KeyError if it["cause"] == "no such item" else DagCborError):
+                    find(*them)
+    assert len(vectors) > 1000
 
 
 def test_segments_are_taken_whole():
@@ -64,24 +33,6 @@ def test_segments_are_taken_whole():
         with pytest.raises(KeyError) as none:
             find(dumps(DATA), segments)
         assert none.value.args == (segments,)
-
-
-def test_the_table_of_segments():
-    with open(TABLE, encoding="ascii") as file:
-        rows = [it.split() for it in file]
-    for block, path, code, begin, end in rows:
-        block = bytes.fromhex(block.strip("-"))
-        try:
-            segments = [bytes.fromhex(it.strip("-")).decode() for it in path.split("/") if it]
-        except UnicodeDecodeError:
-            assert code == "-37"  # no str
-            continue
-        if int(code) >= 0:
-            assert dumps(find(block, segments)) == block[int(begin) : int(end)]
-        else:
-            with pytest.raises(KeyError if code == "-36" else DagCborError):
-                find(block, segments)
-    assert len(rows) > 1000
 
 
 def test_what_is_no_block_is_refused():

@@ -1,12 +1,10 @@
 """Where paths lead over links, beside a walk over the data of the blocks in Python."""
 
 import hashlib
-import os
 
 import pytest
-from dagcbor import CID, DagCborError, MissingBlock, dumps, find, name, resolve
+from dagcbor import CID, DagCborError, MissingBlock, dumps, name, resolve
 
-TABLE = os.path.join(os.path.dirname(os.path.realpath(__file__)), "../../tables/paths.txt")
 LEAF = {"b": "hi", "list": [1, [2, None]], "": 3}
 RAW = b"raw bytes"
 RAW_NAME = CID.of(0x55, 0x12, hashlib.sha256(RAW).digest())
@@ -134,19 +132,3 @@ def test_other_arguments():
         resolve(None, name(dumps(ROOT)), "a")
     with pytest.raises(UnicodeEncodeError):
         resolve(BLOCKS, name(dumps(ROOT)), "\ud800")
-
-
-def test_the_table():
-    """Of blocks alone: each item that a path leads to is the block between its places."""
-    with open(TABLE, encoding="ascii") as file:
-        rows = [it.split() for it in file]
-    for block, path, code, begin, end, passed in rows:
-        block, path = (bytes.fromhex(it) if it != "-" else b"" for it in (block, path))
-        if code == "-37":
-            continue  # no str
-        if int(code) >= 0 and int(passed) == len(path):
-            assert dumps(find(block, path.decode())) == block[int(begin) : int(end)]
-        else:
-            with pytest.raises(KeyError if int(code) >= 0 else DagCborError):
-                find(block, path.decode())
-    assert len(rows) > 1000

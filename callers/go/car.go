@@ -61,12 +61,17 @@ func Verify(cid CID, block []byte) error {
 	if !cid.Defined() {
 		return refused(-26, -1)
 	}
-	section := binary.AppendUvarint(nil, uint64(len(cid.bytes)+len(block)))
-	at, length := from(append(append(section, cid.bytes...), block...))
-	if code := C.car_section(at, length).code; code == -22 || code == -23 {
+	if _, code := sectionOf(nil, cid, block); code == -22 || code == -23 {
 		return refused(code, -1)
 	}
 	return nil
+}
+
+// The two as a section, in the room where it has place, and the number of what is said of it.
+func sectionOf(room []byte, cid CID, block []byte) ([]byte, C.int32_t) {
+	section := binary.AppendUvarint(room[:0], uint64(len(cid.bytes)+len(block)))
+	section = append(append(section, cid.bytes...), block...)
+	return section, C.car_section(from(section)).code
 }
 
 // Section is a name of a file of blocks, and the bytes that stand behind it.
@@ -238,4 +243,38 @@ func (car *CARReader) front(tell func(*C.uint8_t, C.size_t) C.parts) (C.parts, e
 		}
 		return it, nil
 	}
+}
+
+// CARWriter writes a file of blocks (CAR, of version 1), each block as it comes.
+type CARWriter struct {
+	writer io.Writer
+	room   []byte
+}
+
+// NewCARWriter writes the header.
+func NewCARWriter(writer io.Writer, roots []CID) (*CARWriter, error) {
+	header, err := Marshal(map[string]any{"roots": append([]CID{}, roots...), "version": 1})
+	if err != nil {
+		return nil, err
+	}
+	room := append(binary.AppendUvarint(nil, uint64(len(header))), header...)
+	if _, err := writer.Write(room); err != nil {
+		return nil, err
+	}
+	return &CARWriter{writer, room}, nil
+}
+
+// Write writes a block under its name, and says what is to be said of it. Bytes that are not those of
+// the CID are refused before they are written: an Error of the kind OtherBytes.
+func (car *CARWriter) Write(cid CID, block []byte) (Verdict, error) {
+	if !cid.Defined() {
+		return "", refused(-26, -1)
+	}
+	section, code := sectionOf(car.room, cid, block)
+	car.room = section
+	if code == -22 {
+		return verdictOf(code), refused(code, -1)
+	}
+	_, err := car.writer.Write(section)
+	return verdictOf(code), err
 }

@@ -26,7 +26,6 @@ static parts car_section(const uint8_t *bytes, size_t length) {
 import "C"
 
 import (
-	"encoding/binary"
 	"io"
 	"math"
 )
@@ -58,12 +57,9 @@ func verdictOf(code C.int32_t) Verdict {
 // they are others, and NotVerified where its hash function is not known. Check says whether they are
 // a block.
 func Verify(cid CID, block []byte) error {
-	if !cid.Defined() {
-		return refused(-26, -1)
-	}
-	section := binary.AppendUvarint(nil, uint64(len(cid.bytes)+len(block)))
-	at, length := from(append(append(section, cid.bytes...), block...))
-	if code := C.car_section(at, length).code; code == -22 || code == -23 {
+	name, size := from(cid.Bytes())
+	at, length := from(block)
+	if code := C.dagcbor_verify(name, size, at, length); code <= -22 {
 		return refused(code, -1)
 	}
 	return nil

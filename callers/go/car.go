@@ -58,20 +58,16 @@ func verdictOf(code C.int32_t) Verdict {
 // they are others, and NotVerified where its hash function is not known. Check says whether they are
 // a block.
 func Verify(cid CID, block []byte) error {
-	if !cid.Defined() {
-		return refused(-26, -1)
-	}
-	if _, code := sectionOf(nil, cid, block); code == -22 || code == -23 {
+	if code := judged(cid, block); code <= -22 {
 		return refused(code, -1)
 	}
 	return nil
 }
 
-// The two as a section, in the room where it has place, and the number of what is said of it.
-func sectionOf(room []byte, cid CID, block []byte) ([]byte, C.int32_t) {
-	section := binary.AppendUvarint(room[:0], uint64(len(cid.bytes)+len(block)))
-	section = append(append(section, cid.bytes...), block...)
-	return section, C.car_section(from(section)).code
+func judged(cid CID, block []byte) C.int32_t {
+	name, size := from(cid.Bytes())
+	at, length := from(block)
+	return C.dagcbor_verify(name, size, at, length)
 }
 
 // Section is a name of a file of blocks, and the bytes that stand behind it.
@@ -246,10 +242,7 @@ func (car *CARReader) front(tell func(*C.uint8_t, C.size_t) C.parts) (C.parts, e
 }
 
 // CARWriter writes a file of blocks (CAR, of version 1), each block as it comes.
-type CARWriter struct {
-	writer io.Writer
-	room   []byte
-}
+type CARWriter struct{ writer io.Writer }
 
 // NewCARWriter writes the header.
 func NewCARWriter(writer io.Writer, roots []CID) (*CARWriter, error) {
@@ -257,24 +250,26 @@ func NewCARWriter(writer io.Writer, roots []CID) (*CARWriter, error) {
 	if err != nil {
 		return nil, err
 	}
-	room := append(binary.AppendUvarint(nil, uint64(len(header))), header...)
-	if _, err := writer.Write(room); err != nil {
-		return nil, err
-	}
-	return &CARWriter{writer, room}, nil
+	car := &CARWriter{writer}
+	return car, car.put(nil, header)
 }
 
 // Write writes a block under its name, and says what is to be said of it. Bytes that are not those of
 // the CID are refused before they are written: an Error of the kind OtherBytes.
 func (car *CARWriter) Write(cid CID, block []byte) (Verdict, error) {
-	if !cid.Defined() {
-		return "", refused(-26, -1)
+	code := judged(cid, block)
+	if code == -22 || code == -26 {
+		return "", refused(code, -1)
 	}
-	section, code := sectionOf(car.room, cid, block)
-	car.room = section
-	if code == -22 {
-		return verdictOf(code), refused(code, -1)
+	return verdictOf(code), car.put(cid.Bytes(), block)
+}
+
+// Writes both, with their length in front.
+func (car *CARWriter) put(name, block []byte) error {
+	front := binary.AppendUvarint(nil, uint64(len(name)+len(block)))
+	if _, err := car.writer.Write(append(front, name...)); err != nil {
+		return err
 	}
-	_, err := car.writer.Write(section)
-	return verdictOf(code), err
+	_, err := car.writer.Write(block)
+	return err
 }

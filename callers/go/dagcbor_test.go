@@ -349,13 +349,12 @@ func TestWriter(t *testing.T) {
 		for section, err := car.Next(); err == nil; section, err = car.Next() {
 			length := file.Len()
 			verdict, err := writer.Write(section.CID, section.Block)
-			equal(t, verdict, section.Verdict)
-			if verdict == "other bytes" {
+			if section.Verdict == "other bytes" {
 				isRefused(t, err, -22, -1)
 				equal(t, file.Len(), length)
 				continue
 			}
-			equal(t, err, nil)
+			equal(t, []any{verdict, err}, []any{section.Verdict, nil})
 			wanted = append(wanted, section)
 		}
 		again, err := NewCARReader(&file)

@@ -73,6 +73,27 @@ static int is_right_tape(const uint8_t *bytes, size_t length, int check, const c
            (check < 0 || is_spelled(bytes, length, check, tape, count));
 }
 
+/* The compact tokens are those of the tape. */
+static int is_right_compact_tape(const uint8_t *bytes, size_t length, int check, const char *text) {
+    static dagcbor_token wanted[MOST];
+    static dagcbor_compact_token tape[MOST];
+    size_t count = from_tape(text, wanted), needed = 99;
+    memset(tape, 0xee, sizeof tape);
+    /* Asked with room for one too few it tells how many there are, and puts none. */
+    if (dagcbor_compact_tape(bytes, length, tape, count ? count - 1 : 0, &needed) != check) return 0;
+    if (needed != count || tape[0].kind != 0xeeeeeeee) return 0;
+    if (dagcbor_compact_tape(bytes, length, tape, count, &needed) != check || needed != count) return 0;
+    for (size_t i = 0; i < count; i++) {
+        uint64_t kind = wanted[i].kind, number = wanted[i].number, place = wanted[i].place;
+        int is_ascii = kind == DAGCBOR_STRING;
+        if (kind == DAGCBOR_INTEGER || kind == DAGCBOR_NEGATIVE) place = number >> 32;
+        for (size_t at = 0; is_ascii && at < number; at++) is_ascii = bytes[place + at] < 0x80;
+        if (tape[i].kind != (is_ascii ? DAGCBOR_ASCII : kind)) return 0;
+        if (tape[i].number != (uint32_t)number || tape[i].place != place) return 0;
+    }
+    return tape[count].kind == 0xeeeeeeee;
+}
+
 /* Of a block the tokens are those of its tape. Of refused bytes they stand before the place. */
 static int are_right_tokens(const uint8_t *bytes, size_t length, int check, char *const field[8]) {
     static dagcbor_token wanted[MOST], tape[MOST];
@@ -110,6 +131,7 @@ static int is_right_block(char *const field[8]) {
         return 0;
     if (memcmp(out, links, packed) != 0 || out[packed] != 0xee) return 0;
     if (!is_right_tape(bytes, length, check, field[5])) return 0;
+    if (!is_right_compact_tape(bytes, length, check, field[5])) return 0;
     if (!are_right_tokens(bytes, length, check, field)) return 0;
     dagcbor_name(bytes, length, name);
     return memcmp(name, wanted_name, 36) == 0;
@@ -150,7 +172,8 @@ static int are_right_segments(char *const field[5]) {
     return begin == strtoull(field[3], NULL, 10) && end == strtoull(field[4], NULL, 10);
 }
 
-/* Where no section begins the bytes, the places stay. */
+/* Where no section begins the bytes, the places stay. Of the name and the block of one the same is
+ * said. */
 static int is_right_section(char *const field[3]) {
     static uint8_t bytes[MOST];
     size_t length = from_hex(field[0], bytes, 0), places[] = {99, 98, 97, 96};
@@ -160,7 +183,12 @@ static int is_right_section(char *const field[3]) {
         return 0;
     if (dagcbor_car_section(dagcbor_from(bytes, length), length, places) != atoi(field[1]))
         return 0;
-    return memcmp(places, wanted, sizeof wanted) == 0;
+    if (memcmp(places, wanted, sizeof wanted) != 0) return 0;
+    if (places[0] == 99) return 1;
+    const uint8_t *cid = bytes + places[0], *block = bytes + places[1];
+    size_t size = places[1] - places[0], count = places[2] - places[1];
+    return dagcbor_verify(cid, size, block, count) == atoi(field[1]) &&
+           dagcbor_verify(cid, size - 1, block, count) == DAGCBOR_INVALID_CID;
 }
 
 /* Where no header begins the bytes, the room stays, and where it ends. */

@@ -58,15 +58,16 @@ func verdictOf(code C.int32_t) Verdict {
 // they are others, and NotVerified where its hash function is not known. Check says whether they are
 // a block.
 func Verify(cid CID, block []byte) error {
-	if !cid.Defined() {
-		return refused(-26, -1)
-	}
-	section := binary.AppendUvarint(nil, uint64(len(cid.bytes)+len(block)))
-	at, length := from(append(append(section, cid.bytes...), block...))
-	if code := C.car_section(at, length).code; code == -22 || code == -23 {
+	if code := judged(cid, block); code <= -22 {
 		return refused(code, -1)
 	}
 	return nil
+}
+
+func judged(cid CID, block []byte) C.int32_t {
+	name, size := from(cid.Bytes())
+	at, length := from(block)
+	return C.dagcbor_verify(name, size, at, length)
 }
 
 // Section is a name of a file of blocks, and the bytes that stand behind it.
@@ -238,4 +239,37 @@ func (car *CARReader) front(tell func(*C.uint8_t, C.size_t) C.parts) (C.parts, e
 		}
 		return it, nil
 	}
+}
+
+// CARWriter writes a file of blocks (CAR, of version 1), each block as it comes.
+type CARWriter struct{ writer io.Writer }
+
+// NewCARWriter writes the header.
+func NewCARWriter(writer io.Writer, roots []CID) (*CARWriter, error) {
+	header, err := Marshal(map[string]any{"roots": append([]CID{}, roots...), "version": 1})
+	if err != nil {
+		return nil, err
+	}
+	car := &CARWriter{writer}
+	return car, car.put(nil, header)
+}
+
+// Write writes a block under its name, and says what is to be said of it. Bytes that are not those of
+// the CID are refused before they are written: an Error of the kind OtherBytes.
+func (car *CARWriter) Write(cid CID, block []byte) (Verdict, error) {
+	code := judged(cid, block)
+	if code == -22 || code == -26 {
+		return "", refused(code, -1)
+	}
+	return verdictOf(code), car.put(cid.Bytes(), block)
+}
+
+// Writes both, with their length in front.
+func (car *CARWriter) put(name, block []byte) error {
+	front := binary.AppendUvarint(nil, uint64(len(name)+len(block)))
+	if _, err := car.writer.Write(append(front, name...)); err != nil {
+		return err
+	}
+	_, err := car.writer.Write(block)
+	return err
 }

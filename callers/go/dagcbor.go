@@ -4,12 +4,15 @@
 // What this package does by itself is not proved: it makes values of the tokens that the library
 // tells, and tokens of values. It parses no block, no file and no text of a CID.
 //
-// It links with libdagcbor_ffi.a of this repository; CGO_LDFLAGS=-L.. may name another folder. A
-// call needs 128 KB of C stack, which goroutines have, and an x86-64-v2.
+// It links with the libdagcbor_ffi.a that a release has in lib/, or with that of its repository;
+// CGO_LDFLAGS=-L.. may name another folder. A call needs 128 KB of C stack, which goroutines have,
+// and an x86-64-v2 or an aarch64.
 package dagcbor
 
 /*
-#cgo CFLAGS: -I${SRCDIR}/../../crates/dagcbor_ffi/include
+#cgo CFLAGS: -I${SRCDIR}/include -I${SRCDIR}/../../crates/dagcbor_ffi/include
+#cgo amd64 LDFLAGS: -L${SRCDIR}/lib/x86_64
+#cgo arm64 LDFLAGS: -L${SRCDIR}/lib/aarch64
 #cgo LDFLAGS: -L${SRCDIR}/../../crates/dagcbor_ffi/out -ldagcbor_ffi
 #include "dagcbor.h"
 

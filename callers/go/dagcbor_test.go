@@ -83,7 +83,8 @@ func TestTable(t *testing.T) {
 		block, code := unhex(row[0]), number(row[1])
 		kind, err := Check(block)
 		tokens, badTokens := Tokens(block)
-		value, badValue := Decode(block)
+		var value any
+		badValue := Unmarshal(block, &value)
 		if code < 0 {
 			for _, err := range []error{err, badTokens, badValue} {
 				isRefused(t, err, code, int64(number(row[6])))
@@ -96,10 +97,13 @@ func TestTable(t *testing.T) {
 				told = append(told, fmt.Sprintf("%d:%d:%d", it.Kind, it.Number, it.Place))
 			}
 			equal(t, strings.Join(told, ","), row[5])
-			again, err := Encode(value)
+			again, err := Marshal(value)
 			equal(t, []any{again, err}, []any{block, nil})
 			more := append(append([]byte{}, block...), 0xf6)
-			first, rest, err := DecodeFirst(more)
+			var first any
+			isRefused(t, Unmarshal(more, &first), -14, int64(len(block)))
+			equal(t, first, nil)
+			rest, err := UnmarshalFirst(more, &first)
 			equal(t, []any{first, rest, err}, []any{value, []byte{0xf6}, nil})
 		}
 		links, err := Links(block)
@@ -150,7 +154,7 @@ func TestCID(t *testing.T) {
 	isRefused(t, Verify(blake, nil), -23, -1)
 }
 
-func TestEncode(t *testing.T) {
+func TestMarshal(t *testing.T) {
 	type text string
 	type pair [2]uint16
 	seven := 7
@@ -165,14 +169,14 @@ func TestEncode(t *testing.T) {
 		{map[text][]int{"bb": {1}, "c": nil}, "a26163f66262628101"}, {[]any(nil), "f6"},
 		{[]any{Name(nil), map[string]any{}}, "82d82a58250001711220e3b0c44298fc1c149afbf4c8996fb92427ae41e4649b934ca495991b7852b855a0"},
 	} {
-		block, err := Encode(row.value)
+		block, err := Marshal(row.value)
 		equal(t, []any{hex.EncodeToString(block), err}, []any{row.block, nil})
 	}
 	deep := any(nil)
 	for i := 0; i < 127; i++ {
 		deep = []any{deep}
 	}
-	if _, err := Encode(deep); err != nil {
+	if _, err := Marshal(deep); err != nil {
 		t.Fatal(err)
 	}
 	for _, row := range []struct {
@@ -185,24 +189,24 @@ func TestEncode(t *testing.T) {
 		{map[string]any{"a": CID{}}, "InvalidCid", []any{"a"}},
 		{new(big.Int).Sub(least, big.NewInt(1)), "CastOverflow", []any{}},
 	} {
-		_, err := Encode(row.value)
+		_, err := Marshal(row.value)
 		var refusal *Error
 		equal(t, errors.As(err, &refusal), true)
 		equal(t, []any{refusal.Kind, refusal.Path}, []any{row.kind, row.path})
 	}
 	var refusal *Error
-	_, err := Encode([]any{deep})
+	_, err := Marshal([]any{deep})
 	equal(t, []any{errors.As(err, &refusal), refusal.Kind}, []any{true, "DepthOverflow"})
 }
 
 func TestStream(t *testing.T) {
-	item, _ := Encode(map[string]any{"op": 1})
-	long, _ := Encode(make([]int, 1000))
+	item, _ := Marshal(map[string]any{"op": 1})
+	long, _ := Marshal(make([]int, 1000))
 	stream := bytes.Repeat(append(item, long...), 2000) // 2 MB: each item is gone through alone
 	count := 0
 	for rest := stream; len(rest) > 0; count++ {
 		var err error
-		if _, rest, err = DecodeFirst(rest); err != nil {
+		if rest, err = UnmarshalFirst(rest, new(any)); err != nil {
 			t.Fatal(err)
 		}
 	}
@@ -226,16 +230,17 @@ func TestTypes(t *testing.T) {
 	least := new(big.Int).Not(new(big.Int).SetUint64(1<<64 - 1))
 	full := note{"hi", &year, Name(nil), map[string][]int8{"a": {-1, 127}}, [2]byte{1, 2}, nil, []any{true, nil}, *least, 0}
 	for _, value := range []note{full, {Of: Name(nil)}} {
-		block, err := Encode(&value)
+		block, err := Marshal(&value)
 		equal(t, err, nil)
 		var again note
 		equal(t, []any{Unmarshal(block, &again), again}, []any{nil, value})
 	}
-	block, _ := Encode(note{Of: Name(nil)})
-	data, _ := Decode(block)
+	block, _ := Marshal(note{Of: Name(nil)})
+	var data any
+	equal(t, Unmarshal(block, &data), nil)
 	equal(t, data, map[string]any{"b": []byte{0, 0}, "of": Name(nil), "big": int64(0), "text": ""})
 
-	block, _ = Encode(map[string]any{"a": []any{1}, "text": "x", "zzzzz": map[string]any{"q": []any{nil}}})
+	block, _ = Marshal(map[string]any{"a": []any{1}, "text": "x", "zzzzz": map[string]any{"q": []any{nil}}})
 	kept := note{Year: &year}
 	equal(t, []any{Unmarshal(block, &kept), kept}, []any{nil, note{Text: "x", Year: &year}})
 
@@ -259,7 +264,7 @@ func TestTypes(t *testing.T) {
 		equal(t, errors.As(Unmarshal(unhex(row.block), row.into), &refusal), true)
 		equal(t, []any{refusal.Kind, refusal.Place, refusal.Path}, []any{row.kind, row.place, row.path})
 	}
-	_, err := Encode(struct {
+	_, err := Marshal(struct {
 		A int `dagcbor:"x"`
 		B int `dagcbor:"x"`
 	}{})
@@ -326,9 +331,58 @@ func TestFiles(t *testing.T) {
 		equal(t, answered(iotest.OneByteReader(bytes.NewReader(file))), wanted)
 		equal(t, answered(iotest.DataErrReader(bytes.NewReader(file))), wanted)
 	}
-	failing := iotest.TimeoutReader(iotest.OneByteReader(bytes.NewReader(unhex(rows(t, "files")[1][0]))))
-	equal(t, answered(failing)[2], iotest.ErrTimeout.Error())
+	late := iotest.TimeoutReader(iotest.OneByteReader(bytes.NewReader(unhex(rows(t, "files")[1][0]))))
+	equal(t, answered(late)[2], iotest.ErrTimeout.Error())
 }
+
+// What a file has is written, and read again, but for bytes that are not those of their CID.
+func TestWriter(t *testing.T) {
+	for _, row := range rows(t, "files") {
+		car, err := NewCARReader(bytes.NewReader(unhex(row[0])))
+		if err != nil {
+			continue
+		}
+		var file bytes.Buffer
+		writer, err := NewCARWriter(&file, car.Roots())
+		equal(t, err, nil)
+		var wanted []Section
+		for section, err := car.Next(); err == nil; section, err = car.Next() {
+			length := file.Len()
+			verdict, err := writer.Write(section.CID, section.Block)
+			if section.Verdict == "other bytes" {
+				isRefused(t, err, -22, -1)
+				equal(t, file.Len(), length)
+				continue
+			}
+			equal(t, []any{verdict, err}, []any{section.Verdict, nil})
+			wanted = append(wanted, section)
+		}
+		again, err := NewCARReader(&file)
+		equal(t, err, nil)
+		equal(t, again.Roots(), car.Roots())
+		for _, it := range wanted {
+			section, err := again.Next()
+			equal(t, []any{section, err}, []any{it, nil})
+		}
+		_, err = again.Next()
+		equal(t, err, io.EOF)
+	}
+	var refusal *Error
+	_, err := NewCARWriter(io.Discard, []CID{{}})
+	equal(t, []any{errors.As(err, &refusal), refusal.Kind}, []any{true, "InvalidCid"})
+	writer, _ := NewCARWriter(io.Discard, nil)
+	_, err = writer.Write(CID{}, nil)
+	isRefused(t, err, -26, -1)
+	writer.writer = failing{}
+	_, err = writer.Write(Name(nil), nil)
+	equal(t, err, iotest.ErrTimeout)
+	_, err = NewCARWriter(failing{}, nil)
+	equal(t, err, iotest.ErrTimeout)
+}
+
+type failing struct{}
+
+func (failing) Write([]byte) (int, error) { return 0, iotest.ErrTimeout }
 
 func verdictNamed(code int) Verdict {
 	for known := range reasons {
@@ -392,10 +446,10 @@ func TestRandom(t *testing.T) {
 	r := rand.New(rand.NewSource(seed))
 	for i := 0; i < 3000; i++ {
 		value := random(r, 5)
-		block, err := Encode(value)
+		block, err := Marshal(value)
 		equal(t, err, nil)
-		again, err := Decode(block)
-		equal(t, []any{again, err}, []any{value, nil})
+		var again any
+		equal(t, []any{Unmarshal(block, &again), again}, []any{nil, value})
 		block[r.Intn(len(block))] ^= 1 << r.Intn(8)
 		hold(t, block)
 	}
@@ -404,20 +458,23 @@ func TestRandom(t *testing.T) {
 // What stands of any bytes.
 func hold(t *testing.T, block []byte) {
 	_, refusal := Check(block)
-	value, err := Decode(block)
+	var value any
+	err := Unmarshal(block, &value)
 	equal(t, err, refusal)
 	if err == nil {
-		again, err := Encode(value)
+		again, err := Marshal(value)
 		equal(t, []any{again, err}, []any{block, nil})
-		var other any
-		equal(t, []any{Unmarshal(block, &other), other}, []any{nil, value})
+		var list []any // each part by its type, and so another way
+		if Unmarshal(block, &list) == nil && list != nil {
+			equal(t, any(list), value)
+		}
 	}
 	_ = Unmarshal(block, new(note))
 	_, _ = Links(block)
 	_ = answered(bytes.NewReader(block))
 }
 
-func FuzzDecode(f *testing.F) {
+func FuzzUnmarshal(f *testing.F) {
 	for _, name := range []string{"table", "files"} {
 		for _, row := range rows(f, name) {
 			f.Add(unhex(row[0]))
@@ -436,15 +493,17 @@ func sample() any {
 
 func BenchmarkCheck(b *testing.B) { bench(b, func(block []byte) { _, _ = Check(block) }) }
 
-func BenchmarkDecode(b *testing.B) { bench(b, func(block []byte) { _, _ = Decode(block) }) }
+func BenchmarkUnmarshal(b *testing.B) {
+	bench(b, func(block []byte) { _ = Unmarshal(block, new(any)) })
+}
 
-func BenchmarkEncode(b *testing.B) {
+func BenchmarkMarshal(b *testing.B) {
 	value := sample()
-	bench(b, func([]byte) { _, _ = Encode(value) })
+	bench(b, func([]byte) { _, _ = Marshal(value) })
 }
 
 func bench(b *testing.B, call func([]byte)) {
-	block, err := Encode(sample())
+	block, err := Marshal(sample())
 	if err != nil {
 		b.Fatal(err)
 	}

@@ -8,38 +8,13 @@ import (
 	"unicode/utf8"
 )
 
-var tapes = sync.Pool{New: func() any { return &[]Token{} }}
-
-// Decode tells the data of a block: nil, bool, int64, uint64 of 2^63 or more, *big.Int below -2^63,
-// string, []byte, []any, map[string]any and CID.
-func Decode(block []byte) (any, error) {
-	value, rest, err := DecodeFirst(block)
-	if err == nil && len(rest) > 0 {
-		return nil, refused(-14, int64(len(block)-len(rest)))
-	}
-	return value, err
-}
-
-// DecodeFirst tells the data of the first item, and the bytes behind it.
-func DecodeFirst(bytes []byte) (value any, rest []byte, err error) {
-	lent := tapes.Get().(*[]Token)
-	defer tapes.Put(lent)
-	tokens, end, err := tokensOf(bytes, *lent)
-	if err != nil {
-		return nil, nil, err
-	}
-	if cap(tokens) > cap(*lent) && cap(tokens) <= 1<<16 {
-		*lent = tokens[:cap(tokens)]
-	}
-	reader := reader{bytes, tokens}
-	return reader.value(), bytes[end:], nil
-}
-
 type reader struct {
 	block  []byte
 	tokens []Token // that are left
 }
 
+// The data of the first token and what is in it: nil, bool, int64, uint64 of 2^63 or more, *big.Int
+// below -2^63, string, []byte, []any, map[string]any and CID.
 func (reader *reader) value() any {
 	token := reader.tokens[0]
 	reader.tokens = reader.tokens[1:]
@@ -96,11 +71,12 @@ type writer struct {
 
 var writers = sync.Pool{New: func() any { return &writer{} }}
 
-// Encode is the one block of the data: that of Decode, of all sorts of integers, slices, arrays, maps
-// with keys of string, structs as maps, and what pointers point at; of nil pointers, slices and maps
-// it is null. An entry of a struct has the name of the tag `dagcbor:"name,omitempty"`, else that of
-// the tag for json, else the field's. Keys come in the order of blocks.
-func Encode(value any) ([]byte, error) {
+// Marshal is the one block of the data: what Unmarshal gives to an any, all sorts of integers, slices,
+// arrays, maps with keys of string, structs as maps, and what pointers point at; of nil pointers,
+// slices and maps it is null. An entry of a struct has the name of the tag
+// `dagcbor:"name,omitempty"`, else that of the tag for json, else the field's. Keys come in the order
+// of blocks.
+func Marshal(value any) ([]byte, error) {
 	writer := writers.Get().(*writer)
 	defer writers.Put(writer)
 	writer.tokens, writer.payloads = writer.tokens[:0], writer.payloads[:0]

@@ -11,7 +11,7 @@ import (
 	"github.com/fxamacker/cbor"
 )
 
-func BenchmarkFxamackerDecode(b *testing.B) {
+func BenchmarkFxamackerUnmarshal(b *testing.B) {
 	bench(b, func(block []byte) {
 		var value any
 		if err := cbor.Unmarshal(block, &value); err != nil {
@@ -20,7 +20,7 @@ func BenchmarkFxamackerDecode(b *testing.B) {
 	})
 }
 
-func BenchmarkFxamackerEncode(b *testing.B) {
+func BenchmarkFxamackerMarshal(b *testing.B) {
 	value := sample()
 	mode, err := cbor.EncOptions{Sort: cbor.SortLengthFirst}.EncMode()
 	if err != nil {

@@ -46,7 +46,7 @@ func follow(block []byte, path string) (Kind, []byte, string, error) {
 	return Kind(it.code), block[it.places[0]:it.places[1]:it.places[1]], path[it.places[2]:], nil
 }
 
-// The same of segments, each taken whole.
+// What follow tells, of segments, each taken whole.
 func followSegments(block []byte, segments []string) (Kind, []byte, []string, error) {
 	kind, item, _, err := follow(block, "")
 	for err == nil && len(segments) > 0 {
@@ -69,17 +69,19 @@ func followSegments(block []byte, segments []string) (Kind, []byte, []string, er
 // ones say nothing: each is a key of a map, or the index of an item of a list in decimal. A link is
 // an item, and nothing is in it.
 func Find(block []byte, path string) ([]byte, error) {
-	_, item, left, err := follow(block, path)
-	if err == nil && left != "" {
-		return nil, ErrNoSuchPath
-	}
-	return item, err
+	return find(block, path, follow)
 }
 
 // FindSegments is Find of a list of segments, each taken whole: it reaches keys that are empty or
 // have slashes too.
 func FindSegments(block []byte, segments []string) ([]byte, error) {
-	_, item, left, err := followSegments(block, segments)
+	return find(block, segments, followSegments)
+}
+
+func find[P string | []string](
+	block []byte, path P, follow func([]byte, P) (Kind, []byte, P, error),
+) ([]byte, error) {
+	_, item, left, err := follow(block, path)
 	if err == nil && len(left) > 0 {
 		return nil, ErrNoSuchPath
 	}

@@ -55,7 +55,7 @@ func TestSegments(t *testing.T) {
 
 // The block of a value, put under its name.
 func put(held map[CID][]byte, value any) CID {
-	block, err := Encode(value)
+	block, err := Marshal(value)
 	if err != nil {
 		panic(err)
 	}

@@ -74,21 +74,49 @@ func (writer *writer) structure(value reflect.Value) error {
 	return writer.entries(keys, func(key string) any { return parts[key] })
 }
 
-// Unmarshal reads a block into what the pointer points at: what Encode takes, with structs as maps.
-// Entries that a struct has no field for are passed, and fields without an entry left as they are.
-// Null makes pointers, slices, maps and interfaces nil. Where the bytes are a block, and not one of
-// the type, the Error has the kind "Type", and what stood before was read.
+// Unmarshal reads a block into what the pointer points at: what Marshal takes, with structs as maps.
+// An any becomes nil, bool, int64, uint64 of 2^63 or more, *big.Int below -2^63, string, []byte,
+// []any, map[string]any or CID. Entries that a struct has no field for are passed, and fields without
+// an entry left as they are. Null makes pointers, slices, maps and interfaces nil. Where the bytes
+// are a block, and not one of the type, the Error has the kind "Type", and what stood before was
+// read; after other errors the target is as it was.
 func Unmarshal(block []byte, into any) error {
+	_, err := unmarshal(block, into, false)
+	return err
+}
+
+// UnmarshalFirst reads the first item so, and answers the bytes behind it, also where the error has
+// the kind "Type".
+func UnmarshalFirst(bytes []byte, into any) (rest []byte, err error) {
+	return unmarshal(bytes, into, true)
+}
+
+var tapes = sync.Pool{New: func() any { return &[]Token{} }}
+
+func unmarshal(bytes []byte, into any, mayFollow bool) (rest []byte, err error) {
 	target := reflect.ValueOf(into)
 	if target.Kind() != reflect.Pointer || target.IsNil() {
-		return &Error{Kind: "Type", Place: -1, said: "a block is read into a pointer"}
+		return bytes, &Error{Kind: "Type", Place: -1, said: "a block is read into a pointer"}
 	}
-	tokens, err := Tokens(block)
+	lent := tapes.Get().(*[]Token)
+	defer tapes.Put(lent)
+	tokens, end, err := tokensOf(bytes, *lent)
+	if err == nil && end < len(bytes) && !mayFollow {
+		err = refused(-14, int64(end))
+	}
 	if err != nil {
-		return err
+		return nil, err
 	}
-	typed := typed{reader{block, tokens}, 0, nil}
-	return typed.into(target.Elem())
+	if cap(tokens) > cap(*lent) && cap(tokens) <= 1<<16 {
+		*lent = tokens[:cap(tokens)]
+	}
+	reader := reader{bytes, tokens}
+	if data, isData := into.(*any); isData {
+		*data = reader.value()
+		return bytes[end:], nil
+	}
+	typed := typed{reader, 0, nil}
+	return bytes[end:], typed.into(target.Elem())
 }
 
 type typed struct {

@@ -1,6 +1,6 @@
 // Builds the addon, out/dagcbor.node, with the proved library inside. The library is that of the
-// environment variable DAGCBOR_LIBRARY; else that of this repository, which is proved and built
-// first where it is not there and `rt` is.
+// environment variable DAGCBOR_LIBRARY; else that which a release has in lib/, and include/; else
+// that of this repository, which is proved and built first where it is not there and `rt` is.
 'use strict';
 const { execFileSync } = require('child_process');
 const { existsSync, mkdirSync, realpathSync } = require('fs');
@@ -9,7 +9,10 @@ const { dirname, join } = require('path');
 const crate = join(__dirname, '../../crates/dagcbor_ffi');
 
 const library = () => {
-  const path = process.env.DAGCBOR_LIBRARY ?? join(crate, 'out/libdagcbor_ffi.a');
+  const machine = { x64: 'x86_64', arm64: 'aarch64' }[process.arch] ?? process.arch;
+  const carried = join(__dirname, 'lib', machine, 'libdagcbor_ffi.a');
+  const own = existsSync(carried) ? carried : join(crate, 'out/libdagcbor_ffi.a');
+  const path = process.env.DAGCBOR_LIBRARY ?? own;
   if (!existsSync(path) && !process.env.DAGCBOR_LIBRARY) {
     try {
       execFileSync('rt', ['lib'], { cwd: crate, stdio: ['ignore', 'ignore', 'inherit'] });
@@ -34,7 +37,8 @@ const [cc, ...words] = (process.env.CC || 'cc').split(' ');
 const flags = ['-std=c11', '-O2', '-Wall', '-Wextra', '-shared', '-fPIC'];
 const hidden = ['-fvisibility=hidden', '-Wl,--exclude-libs,ALL'];
 const more = (process.env.CFLAGS || '').split(' ').filter(Boolean);
-const folders = [headers(), join(crate, 'include'), join(__dirname, '../c')].map((it) => `-I${it}`);
+const own = [join(__dirname, 'include'), join(crate, 'include'), join(__dirname, '../c')];
+const folders = [headers(), ...own].map((it) => `-I${it}`);
 mkdirSync(join(__dirname, 'out'), { recursive: true });
 const made = join(__dirname, 'out/dagcbor.node');
 const sources = ['addon.c', 'car.c'].map((it) => join(__dirname, it));

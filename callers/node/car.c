@@ -203,34 +203,31 @@ napi_value car_found(napi_env env, napi_callback_info info) {
     return answer;
 }
 
-/* The two as a section, and what is said of it. */
-static napi_value section_of(napi_env env, napi_callback_info info, int32_t *code) {
-    size_t count = 2, length, size, places[3];
+/* car_section(cid, block): the two as a section, where that is the name of the block, or cannot be
+ * said to be another's. */
+napi_value car_section_of(napi_env env, napi_callback_info info) {
+    size_t count = 2, length, size;
     uint8_t front[10], *out;
     napi_value given[2], section;
     TRY(napi_get_cb_info(env, info, &count, given, NULL, NULL));
     const uint8_t *name = bytes_in(env, given[0], &length), *block = bytes_in(env, given[1], &size);
     if (!name || !block) return no_bytes(env);
+    int32_t code = dagcbor_verify(name, length, block, size);
+    if (!is_verdict(code) || code == DAGCBOR_OTHER_BYTES) return number_of(env, code);
     count = put_length(front, (uint64_t)length + size);
     if (!(section = new_bytes(env, count + length + size, &out))) return NULL;
     memcpy(out, front, count);
     memcpy(out + count, name, length);
     if (size) memcpy(out + count + length, block, size);
-    *code = dagcbor_car_section(out, count + length + size, places);
     return section;
-}
-
-/* car_section(cid, block): the two as a section, where that is the name of the block, or cannot be
- * said to be another's. */
-napi_value car_section_of(napi_env env, napi_callback_info info) {
-    int32_t code;
-    napi_value section = section_of(env, info, &code);
-    bool is_well = section && is_verdict(code) && code != DAGCBOR_OTHER_BYTES;
-    return is_well || !section ? section : number_of(env, code);
 }
 
 /* car_verdict(cid, block): the number of what is said of the two. */
 napi_value car_verdict(napi_env env, napi_callback_info info) {
-    int32_t code;
-    return section_of(env, info, &code) ? number_of(env, code) : NULL;
+    size_t count = 2, length, size;
+    napi_value given[2];
+    TRY(napi_get_cb_info(env, info, &count, given, NULL, NULL));
+    const uint8_t *name = bytes_in(env, given[0], &length), *block = bytes_in(env, given[1], &size);
+    if (!name || !block) return no_bytes(env);
+    return number_of(env, dagcbor_verify(name, length, block, size));
 }

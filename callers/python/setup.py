@@ -1,10 +1,11 @@
 """Builds the two extensions, each with its proved library inside. Nothing is left in this folder.
 
 The libraries are those of the environment variables DAGCBOR_LIBRARY and DAGCBOR_REPO_LIBRARY; else
-those of this repository, which are proved and built first where they are not there and the
-toolchain's `rt` is."""
+those that a release has in lib/ and include/; else those of this repository, which are proved and
+built first where they are not there and the toolchain's `rt` is."""
 
 import os
+import platform
 import shutil
 import subprocess
 import sys
@@ -28,7 +29,8 @@ def demand_wheel():
 
 def library(crate, variable):
     """The path of a crate's library."""
-    named = os.environ.get(variable)
+    carried = os.path.join(HERE, "lib", platform.machine(), f"lib{crate}.a")
+    named = os.environ.get(variable) or (carried if os.path.exists(carried) else None)
     path = named or os.path.join(CRATES, crate, "out", f"lib{crate}.a")
     if not os.path.exists(path) and not named and shutil.which("rt"):
         print(f"dagcbor: proving and building {crate}: some minutes", file=sys.stderr)
@@ -39,13 +41,12 @@ def library(crate, variable):
     return os.path.abspath(path)
 
 
-def extension(name, crate, variable, sources, depends):
+def extension(name, crate, variable, sources):
     """An extension over a crate's library, of which it shows nothing: so what two have alike is two."""
     return Extension(
         name,
         sources=sources,
-        depends=depends,
-        include_dirs=[os.path.join(CRATES, crate, "include"), os.path.join(CALLERS, "c")],
+        include_dirs=["include", os.path.join(CRATES, crate, "include"), os.path.join(CALLERS, "c")],
         extra_objects=[library(crate, variable)],
         extra_compile_args=["-std=c11", "-Wall", "-Wextra", "-fvisibility=hidden"],
         extra_link_args=["-Wl,--exclude-libs,ALL"],
@@ -61,14 +62,12 @@ native = extension(
     "dagcbor_ffi",
     "DAGCBOR_LIBRARY",
     sources=["src/_native.c", "src/_car.c"],
-    depends=["src/native.h", *(os.path.join(CALLERS, "c", it) for it in ("car.h", "writer.h"))],
 )
 native_repo = extension(
     "dagcbor._native_repo",
     "dagcbor_repo_ffi",
     "DAGCBOR_REPO_LIBRARY",
     sources=["src/_native_repo.c"],
-    depends=[os.path.join(CALLERS, "c", "heap.c")],
 )
 setup(
     packages=["dagcbor"],

@@ -1,5 +1,6 @@
-//! Links the proved library: that of the environment variable DAGCBOR_LIBRARY; else that of this
-//! repository, which is proved and built first where it is not there and the toolchain's `rt` is.
+//! Links the proved library: that of the environment variable DAGCBOR_LIBRARY; else that which a
+//! release has in lib/; else that of this repository, which is proved and built first where it is
+//! not there and the toolchain's `rt` is.
 
 use std::path::{Path, PathBuf};
 use std::process::{Command, Stdio};
@@ -8,7 +9,7 @@ fn main() {
     println!("cargo:rerun-if-env-changed=DAGCBOR_LIBRARY");
     let archive = match std::env::var_os("DAGCBOR_LIBRARY") {
         Some(named) => PathBuf::from(named),
-        None => built(&Path::new(env!("CARGO_MANIFEST_DIR")).join("../../crates/dagcbor_ffi")),
+        None => carried_or_built(Path::new(env!("CARGO_MANIFEST_DIR"))),
     };
     let archive = archive.canonicalize().unwrap_or_else(|_| {
         panic!(
@@ -28,9 +29,15 @@ fn main() {
     println!("cargo:rustc-link-lib=static=dagcbor_ffi");
 }
 
-/// The path of the repository's own.
-fn built(folder: &Path) -> PathBuf {
+/// The path of the one that stands in this folder, or of the repository's own.
+fn carried_or_built(here: &Path) -> PathBuf {
+    let machine = std::env::var("CARGO_CFG_TARGET_ARCH").unwrap_or_default();
+    let carried = here.join("lib").join(machine).join("libdagcbor_ffi.a");
+    let folder = here.join("../../crates/dagcbor_ffi");
     let archive = folder.join("out/libdagcbor_ffi.a");
+    if carried.exists() {
+        return carried;
+    }
     if !archive.exists() {
         // Where there is no `rt`, the archive is missed above.
         let _ = Command::new("rt")

@@ -372,27 +372,32 @@ PyObject *check_car(PyObject *module, PyObject *given) {
 
 /* Writing */
 
-/* A name and a block as a section, and the verdict on it. The lock is let go meanwhile. */
-static PyObject *judged_section(State *state, PyObject *args, int32_t *code) {
-    uint8_t front[10];
-    PyObject *cid, *given, *section = NULL;
+/* The block of the arguments, the binary form of its name, and the number of what is said of them; or
+ * NULL. The lock is let go meanwhile. */
+static PyObject *judged(State *state, PyObject *args, PyObject **name, int32_t *code) {
+    PyObject *cid, *given;
     if (!PyArg_ParseTuple(args, "O!O", state->cid, &cid, &given)) return NULL;
-    PyObject *block = to_bytes(given), *name = ((Cid *)cid)->bytes;
+    PyObject *block = to_bytes(given);
     if (!block) return NULL;
-    size_t length = length_of(name), size = length_of(block), places[3];
+    *name = ((Cid *)cid)->bytes;
+    Py_BEGIN_ALLOW_THREADS
+    *code = dagcbor_verify(bytes_of(*name), length_of(*name), bytes_of(block), length_of(block));
+    Py_END_ALLOW_THREADS
+    return block;
+}
+
+/* The two as a section. */
+static PyObject *section_of(PyObject *name, PyObject *block) {
+    uint8_t front[10];
+    size_t length = length_of(name), size = length_of(block);
     size_t count = put_length(front, length + size);
-    if (size > PY_SSIZE_T_MAX - sizeof front - length) no_memory();
-    else section = PyBytes_FromStringAndSize(NULL, (Py_ssize_t)(count + length + size));
-    if (section) {
-        uint8_t *out = (uint8_t *)PyBytes_AsString(section);
-        memcpy(out, front, count);
-        memcpy(out + count, bytes_of(name), length);
-        memcpy(out + count + length, bytes_of(block), size);
-        Py_BEGIN_ALLOW_THREADS
-        *code = dagcbor_car_section(out, count + length + size, places);
-        Py_END_ALLOW_THREADS
-    }
-    Py_DECREF(block);
+    if (size > PY_SSIZE_T_MAX - sizeof front - length) return no_memory();
+    PyObject *section = PyBytes_FromStringAndSize(NULL, (Py_ssize_t)(count + length + size));
+    if (!section) return NULL;
+    uint8_t *out = (uint8_t *)PyBytes_AsString(section);
+    memcpy(out, front, count);
+    memcpy(out + count, bytes_of(name), length);
+    memcpy(out + count + length, bytes_of(block), size);
     return section;
 }
 
@@ -400,17 +405,19 @@ static PyObject *judged_section(State *state, PyObject *args, int32_t *code) {
 PyObject *car_section_of(PyObject *module, PyObject *args) {
     State *state = PyModule_GetState(module);
     int32_t code;
-    PyObject *section = judged_section(state, args, &code);
-    if (!section || (is_verdict(code) && code != DAGCBOR_OTHER_BYTES)) return section;
-    Py_DECREF(section);
-    return refuse_code(state, code, Py_None);
+    PyObject *name, *block = judged(state, args, &name, &code);
+    if (!block) return NULL;
+    PyObject *section = code == DAGCBOR_OTHER_BYTES ? refuse_code(state, code, Py_None)
+                                                    : section_of(name, block);
+    Py_DECREF(block);
+    return section;
 }
 
 PyObject *verdict_on(PyObject *module, PyObject *args) {
     State *state = PyModule_GetState(module);
     int32_t code;
-    PyObject *section = judged_section(state, args, &code);
-    if (!section) return NULL;
-    Py_DECREF(section);
+    PyObject *name, *block = judged(state, args, &name, &code);
+    if (!block) return NULL;
+    Py_DECREF(block);
     return verdict_of(state, code);
 }

@@ -826,7 +826,7 @@ static PyMethodDef methods[] = {
     {"check_car", check_car, METH_O,
      "The roots, the verdicts' counts, what is missing, the names held, packed; and an error."},
     {"car_section", car_section_of, METH_VARARGS, "car_section(cid, block): the two as a section."},
-    {"verdict", verdict_on, METH_VARARGS, "verdict(cid, block): that on the two as a section."},
+    {"verdict", verdict_on, METH_VARARGS, "verdict(cid, block): that on the two."},
     {"unpack", unpack_bytes, METH_O, "unpack(packed): the CIDs."},
     {NULL, NULL, 0, NULL},
 };

@@ -67,6 +67,7 @@ extern "C" {
         behind: *mut usize,
     ) -> i32;
     fn dagcbor_car_section(bytes: *const u8, length: usize, places: *mut [usize; 3]) -> i32;
+    fn dagcbor_verify(cid: *const u8, cid_length: usize, block: *const u8, length: usize) -> i32;
     fn dagcbor_cid_text(
         bytes: *const u8,
         length: usize,
@@ -205,6 +206,12 @@ pub(crate) fn put_header(
 pub(crate) fn put_section(bytes: &[u8], places: &mut [usize; 3]) -> i32 {
     // SAFETY: see above.
     unsafe { dagcbor_car_section(bytes.as_ptr(), bytes.len(), places) }
+}
+
+/// What it answers of a block under a name.
+pub(crate) fn put_verdict(cid: &[u8], block: &[u8]) -> i32 {
+    // SAFETY: see above.
+    unsafe { dagcbor_verify(cid.as_ptr(), cid.len(), block.as_ptr(), block.len()) }
 }
 
 /// How many characters the text of the CID has that the bytes are. They stand in the room, where all

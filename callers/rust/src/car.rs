@@ -1,10 +1,12 @@
 use crate::answer::answer_of;
-use crate::calls::{put_header, put_section, put_span};
+use crate::calls::{put_header, put_section, put_span, put_verdict};
+#[cfg(feature = "std")]
+use crate::cid::put_varint;
 use crate::item::Cids;
 use crate::{Cid, Kind, Refusal};
 use core::fmt;
 #[cfg(feature = "alloc")]
-use {crate::calls::Links, crate::cid::put_varint, alloc::vec, alloc::vec::Vec};
+use {crate::calls::Links, alloc::vec, alloc::vec::Vec};
 
 /// What is said of the block of a section.
 #[derive(Clone, Copy, Debug, PartialEq, Eq, Hash)]
@@ -492,10 +494,11 @@ mod streams {
         /// Writes a block under its name, and says what is to be said of it. Bytes that are not
         /// those of the CID are refused.
         pub fn write(&mut self, cid: &Cid, block: &[u8]) -> Result<Verdict, CarError> {
-            let verdict = verdict_on(&mut self.section, cid, block);
+            let verdict = verify(cid, block);
             if verdict == Verdict::OtherBytes {
                 return Err(CarError::OtherBytes);
             }
+            put_length_and(&mut self.section, &[cid.as_bytes(), block]);
             self.writer.write_all(&self.section).map_err(CarError::Io)?;
             Ok(verdict)
         }
@@ -507,7 +510,7 @@ mod streams {
     }
 }
 
-/// What is said of a block under a name, as of a section of a file of blocks: it is copied.
+/// What is said of a block under a name, as of a section of a file of blocks.
 ///
 /// ```
 /// use dagcbor::{name, verify, Kind, Verdict};
@@ -515,23 +518,15 @@ mod streams {
 /// assert_eq!(verify(&name(b"\x05"), b"\x05"), Verdict::Ok(Kind::Integer));
 /// assert_eq!(verify(&name(b"\x05"), b"\x06"), Verdict::OtherBytes);
 /// ```
-#[cfg(feature = "alloc")]
 pub fn verify(cid: &Cid, block: &[u8]) -> Verdict {
-    verdict_on(&mut Vec::new(), cid, block)
-}
-
-/// Makes it the section, and says what is said of it.
-#[cfg(feature = "alloc")]
-fn verdict_on(section: &mut Vec<u8>, cid: &Cid, block: &[u8]) -> Verdict {
-    put_length_and(section, &[cid.as_bytes(), block]);
-    match section_of(section) {
-        Ok((section, _)) => section.verdict,
-        Err(refusal) => unreachable!("it is a section: {refusal}"),
+    match verdict_of(put_verdict(cid.as_bytes(), block)) {
+        Ok(verdict) => verdict,
+        Err(refusal) => unreachable!("it is a CID: {refusal}"),
     }
 }
 
 /// Makes it the parts, with their length in front.
-#[cfg(feature = "alloc")]
+#[cfg(feature = "std")]
 fn put_length_and(section: &mut Vec<u8>, parts: &[&[u8]]) {
     let mut room = [0; 10];
     let length: usize = parts.iter().map(|it| it.len()).sum();

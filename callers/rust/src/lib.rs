@@ -50,9 +50,7 @@ pub use answer::{Kind, Refusal, Refused};
 pub use calls::{check, links_into, name, spell_into, tape_into, MOST_OF_CID};
 #[cfg(feature = "alloc")]
 pub use calls::{links, spell, take_tape, tape, Links, Tape};
-#[cfg(feature = "alloc")]
-pub use car::verify;
-pub use car::{Car, CarRefusal, CarRefused, Section, Verdict};
+pub use car::{verify, Car, CarRefusal, CarRefused, Section, Verdict};
 #[cfg(feature = "std")]
 pub use car::{CarError, CarReader, CarWriter, OwnedSection};
 pub use cid::Cid;

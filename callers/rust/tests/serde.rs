@@ -1,4 +1,5 @@
 //! Types by serde: what is read and written of each shape, and where what is refused stands.
+#![cfg(feature = "serde")]
 
 use dagcbor::{
     from_reader, from_slice, name, take_from_slice, to_vec, to_writer, Cid, Error, Ipld, Refusal,

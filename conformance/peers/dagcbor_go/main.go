@@ -6,18 +6,18 @@ import "dagcbor"
 func main() {
 	serve(map[string]answers{
 		"blocks": rewriting(func(block []byte) ([]byte, error) {
-			data, err := dagcbor.Decode(block)
-			if err != nil {
+			var data any
+			if err := dagcbor.Unmarshal(block, &data); err != nil {
 				return nil, err
 			}
-			return dagcbor.Encode(data)
+			return dagcbor.Marshal(data)
 		}),
 		"writing": rewriting(func(line []byte) ([]byte, error) {
 			data, err := dataOf(line)
 			if err != nil {
 				return nil, err
 			}
-			return dagcbor.Encode(data)
+			return dagcbor.Marshal(data)
 		}),
 		"cid-texts": cidTexts,
 		"files":     files,

@@ -1,6 +1,7 @@
 pub mod Packing
 pub mod Putting
 pub mod Tapes
+pub mod CompactTokens
 pub mod Telling
 pub mod Spelling
 pub mod Naming

@@ -1,5 +1,6 @@
 -- Tokens that stand in bytes, one behind the other.
-use Rattle.std.proofs.Common.{◌≡◌, ◌≢◌, ◌⊎◌, inl, inr, ℕ, suc, ◌+◌, ◌-◌, ◌^◌, ◌<◌, ◌≤◌, List, [], ◌∷◌, ◌++◌, length, take, drop, set, if◌then◌else◌, refl, sym, ap, ap₂, ◌∙◌, subst, arith, append_assoc, append-nil, length-append, length-take, Bool, le-ltb, take-append-drop, Option, Some, None, nat_eq}
+use Rattle.std.proofs.Common.{◌≡◌, ◌≢◌, ◌⊎◌, inl, inr, ℕ, suc, ◌+◌, ◌-◌, ◌^◌, ◌<◌, ◌≤◌, List, [], ◌∷◌, ◌++◌, length, take, drop, set, if◌then◌else◌, refl, sym, ap, ap₂, ◌∙◌, subst, arith, append_assoc, append-nil, length-append, length-take, map, Bool, le-ltb, take-append-drop, Option, Some, None, nat_eq}
+use Rattle.std.proofs.lemmas.List.{length-map}
 use Rattle.dagcbor_heads.specs.Head.{head}
 use Rattle.dagcbor_heads.specs.Splits.{SplitsHead, BeginsWithHead}
 use Rattle.dagcbor_heads.proofs.Heads.{head_unique}
@@ -237,43 +238,49 @@ one_row whole b (t ∷ ts) (u ∷ us) h k =
 -- ---- the tape
 
 -- the tokens that stood, and those that are still to come
-pub record Stood (whole : ℕ) (b rest : List ℕ) (old now : List Token) (count : ℕ) : Type 0 where
+pub record Stood {T : Type 0} (made : Token → T) (whole : ℕ) (b rest : List ℕ) (old now : List T) (count : ℕ) : Type 0 where
   done : List Token
   row : (more : List Token) → AreTokensOf whole rest more → AreTokensOf whole b (done ++ more)
   counted : length done ≡ count
-  stands : count ≤ length old → now ≡ done ++ drop count old
+  stands : count ≤ length old → now ≡ map made done ++ drop count old
 
-pub none_stood : (whole : ℕ) (b : List ℕ) (old : List Token) → Stood whole b b old old 0
-none_stood whole b old = record { done = []; row = λ more h. h; counted = refl; stands = λ room. refl }
+pub none_stood : {T : Type 0} (made : Token → T) (whole : ℕ) (b : List ℕ) (old : List T) → Stood made whole b b old old 0
+none_stood made whole b old = record { done = []; row = λ more h. h; counted = refl; stands = λ room. refl }
 
-pub one_stood : (whole : ℕ) (b now next : List ℕ) (old before after : List Token) (count : ℕ) (first : Token) → length before ≡ length old → Stood whole b now old before count → StandsToken whole now first next
-    → (count < length before → after ≡ set before count first) → Stood whole b next old after (count + 1)
-one_stood whole b now next old before after count first same s token put = record {
+pub one_stood : {T : Type 0} (made : Token → T) (whole : ℕ) (b now next : List ℕ) (old before after : List T) (count : ℕ) (first : Token) → length before ≡ length old → Stood made whole b now old before count → StandsToken whole now first next
+    → (count < length before → after ≡ set before count (made first)) → Stood made whole b next old after (count + 1)
+one_stood made whole b now next old before after count first same s token put = record {
   done = s.done ++ first ∷ [];
   row = λ more h. subst (AreTokensOf whole b) (sym (append_assoc s.done (first ∷ []) more)) (s.row (first ∷ more) (next, token, h));
   counted = omega (arith, length-append s.done (first ∷ []), s.counted);
-  stands = put_more s.done old before after count first same s.counted s.stands put;
+  stands = put_more made s.done old before after count first same s.counted s.stands put;
 }
 
-pub all_stood : (whole : ℕ) (b now : List ℕ) (old after : List Token) (count : ℕ) → ((t : Token) (rest : List ℕ) → ¬ StandsToken whole now t rest) → Stood whole b now old after count
-    → (tokens : List Token) × AreTokensOf whole b tokens × (count ≡ length tokens) × (length tokens ≤ length old → after ≡ tokens ++ drop (length tokens) old)
-all_stood whole b now old after count none s = (
+pub all_stood : {T : Type 0} (made : Token → T) (whole : ℕ) (b now : List ℕ) (old after : List T) (count : ℕ) → ((t : Token) (rest : List ℕ) → ¬ StandsToken whole now t rest) → Stood made whole b now old after count
+    → (tokens : List Token) × AreTokensOf whole b tokens × (count ≡ length tokens) × (length tokens ≤ length old → after ≡ map made tokens ++ drop (length tokens) old)
+all_stood made whole b now old after count none s = (
   s.done,
   subst (AreTokensOf whole b) (append-nil s.done) (s.row [] none),
   sym s.counted,
-  λ room. s.stands (omega (arith, s.counted, room)) ∙ ap (λ n. s.done ++ drop n old) (sym s.counted),
+  λ room. s.stands (omega (arith, s.counted, room)) ∙ ap (λ n. map made s.done ++ drop n old) (sym s.counted),
 )
 
 -- ---- with room, and without
 
-pub with_room : (b : List ℕ) (old new : List Token) (needed : ℕ) → needed ≤ length old → PutsStanding b old new needed → (tokens : List Token) × AreTokens b tokens × (needed ≡ length tokens) × (new ≡ with_tokens tokens old)
-with_room b old new needed room k =
+-- entries that have room
+roomy : {T : Type 0} (entries old : List T) (n : ℕ) → length entries ≡ n → n ≤ length old → entries ++ drop n old ≡ with_tokens entries old
+roomy entries old n long fits =
+    ap (λ k. entries ++ drop k old) (sym long)
+    ∙ sym (ap (λ (o : Bool). if o then old else entries ++ drop (length entries) old) (le-ltb (length old) (length entries) (omega (arith, long, fits))))
+
+pub with_room : {T : Type 0} (made : Token → T) (b : List ℕ) (old new : List T) (needed : ℕ) → needed ≤ length old → PutsStanding made b old new needed → (tokens : List Token) × AreTokens b tokens × (needed ≡ length tokens) × (new ≡ with_tokens (map made tokens) old)
+with_room made b old new needed room k =
     let fits : length k.0 ≤ length old = omega (arith, room, k.2) in
-    (k.0, k.1, k.2, k.3 fits ∙ sym (ap (λ (o : Bool). if o then old else k.0 ++ drop (length k.0) old) (le-ltb (length old) (length k.0) fits)))
+    (k.0, k.1, k.2, k.3 fits ∙ roomy (map made k.0) old (length k.0) (length-map k.0 made) fits)
 
 -- the count of one pass is that of the other
-pub same_count : (b : List ℕ) (none one old two : List Token) (first second : ℕ) → PutsStanding b none one first → PutsStanding b old two second → first ≡ second
-same_count b none one old two first second k l = k.2 ∙ ap length (one_row (length b) b k.0 l.0 k.1 l.1) ∙ sym l.2
+pub same_count : {T U : Type 0} (made : Token → T) (other : Token → U) (b : List ℕ) (none one : List T) (old two : List U) (first second : ℕ) → PutsStanding made b none one first → PutsStanding other b old two second → first ≡ second
+same_count made other b none one old two first second k l = k.2 ∙ ap length (one_row (length b) b k.0 l.0 k.1 l.1) ∙ sym l.2
 
 -- ---- what the code says
 

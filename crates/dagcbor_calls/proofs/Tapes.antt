@@ -1,14 +1,19 @@
 -- Tokens, one by one from the front of bytes.
-use Rattle.std.proofs.Common.{◌≡◌, ◌⊎◌, inl, inr, ℕ, suc, ◌+◌, ◌-◌, ◌<◌, ◌≤◌, pos, negsuc, List, [], ◌∷◌, ◌++◌, length, get_or, drop, set, true, false, refl, sym, ap, ap₂, ◌∙◌, subst, arith, append_assoc, append-nil, length-append, Option, Some, None, drop-cons}
+use Rattle.std.proofs.Common.{◌≡◌, ◌⊎◌, inl, inr, ℕ, suc, ◌+◌, ◌-◌, ◌<◌, ◌≤◌, pos, negsuc, List, [], ◌∷◌, ◌++◌, length, get_or, drop, set, true, false, refl, sym, ap, ap₂, ◌∙◌, subst, arith, append_assoc, append-nil, length-append, map, Option, Some, None, Result, Ok, Err, drop-cons}
+use Rattle.std.specs.declared.convert.Infallible.{Infallible}
+use Rattle.std.proofs.lemmas.List.{map-append, length-map}
 use Rattle.std.proofs.Math.Seq.{drop-append_seam, set-append_seam}
 use Rattle.dagcbor_heads.specs.Head.{head}
 use Rattle.dagcbor_heads.specs.Splits.{SplitsHead}
+use Rattle.dagcbor_heads.specs.declared.error.DecodeError.{DecodeError}
 use Rattle.dagcbor_heads.proofs.Heads.{head_first}
 use Rattle.ipld_tree.specs.Tree.{Tree, null, boolean, integer, text, bytes, list, mapping, link, Items, no_items, item, Entries, no_entries, entry, AreItems, AreEntries}
 use Rattle.ipld_tree.specs.Spelling.{item_count, entry_count, AreSpellableItems, AreSpellableEntries, text_spelling, bytes_spelling, spelling, items_spelling, entries_spelling, IsSpelling, AreFronts}
 use Rattle.ipld_tree.proofs.Unique.{major, argument, payload}
 use Rattle.ipld_tree.proofs.Fronts.{by_head, item_opened, is_bytes, is_text, is_list, is_mapping, is_link, is_simple}
-use Rattle.dagcbor_calls.specs.Tapes.{token, token_at, text_token, tokens_of, items_tokens, entries_tokens, tape_of, SplitsToken, SplitsTokenIfThere, BeginsWithZeroAnd, SplitsLinkIfThere}
+use Rattle.dagcbor_items.specs.declared.kind.Kind.{Kind}
+use Rattle.dagcbor_items.specs.Slices.{IsBlock}
+use Rattle.dagcbor_calls.specs.Tapes.{token, token_at, text_token, tokens_of, items_tokens, entries_tokens, tape_of, with_tokens, PutsTapeOf, SplitsToken, SplitsTokenIfThere, BeginsWithZeroAnd, SplitsLinkIfThere}
 use Rattle.dagcbor_calls.specs.Standing.{IsSimpleToken, StandsTaggedIfThere}
 use Rattle.dagcbor_calls.specs.declared.tape.Token.{Token}
 
@@ -305,16 +310,16 @@ tagged_tokens first rest whole n b c (Some p) fits h tagged k = link_tokens firs
 -- ---- the tape
 
 -- what was told of a block, and what is still to come
-pub record Told (whole : ℕ) (t : Tree) (rest : List ℕ) (old now : List Token) (count : ℕ) : Type 0 where
+pub record Told {T : Type 0} (made : Token → T) (whole : ℕ) (t : Tree) (rest : List ℕ) (old now : List T) (count : ℕ) : Type 0 where
   done : List Token
   more : Items
   fronts : AreFronts rest more []
   told : tape_of t ≡ done ++ items_tokens (whole - length rest) more
   counted : length done ≡ count
-  stands : count ≤ length old → now ≡ done ++ drop count old
+  stands : count ≤ length old → now ≡ map made done ++ drop count old
 
-pub none_told : (b : List ℕ) (t : Tree) (old : List Token) → IsSpelling b t → Told (length b) t b old old 0
-none_told b t old s = record {
+pub none_told : {T : Type 0} (made : Token → T) (b : List ℕ) (t : Tree) (old : List T) → IsSpelling b t → Told made (length b) t b old old 0
+none_told made b t old s = record {
   done = [];
   more = item t no_items;
   fronts = record { well_formed = (s.well_formed, tt); spellable = (s.spellable, tt); is = s.is ∙ sym (append-nil (spelling t)) ∙ sym (append-nil (spelling t ++ [])) };
@@ -323,29 +328,35 @@ none_told b t old s = record {
   stands = λ room. refl;
 }
 
--- a token behind those at the front of a tape
-put_behind : (done old : List Token) (first : Token) → length done < length old → set (done ++ drop (length done) old) (length done) first ≡ (done ++ first ∷ []) ++ drop (length done + 1) old
+-- an entry behind those at the front of a tape
+put_behind : {T : Type 0} (done old : List T) (first : T) → length done < length old → set (done ++ drop (length done) old) (length done) first ≡ (done ++ first ∷ []) ++ drop (length done + 1) old
 put_behind done old first room =
-    let d = token 0 0 0 in
-    ap (λ x. set (done ++ x) (length done) first) (drop-cons old (length done) d room)
-    ∙ set-append_seam done (get_or old (length done) d) (drop (suc (length done)) old) first
+    ap (λ x. set (done ++ x) (length done) first) (drop-cons old (length done) first room)
+    ∙ set-append_seam done (get_or old (length done) first) (drop (suc (length done)) old) first
     ∙ sym (append_assoc done (first ∷ []) (drop (suc (length done)) old))
     ∙ ap (λ n. (done ++ first ∷ []) ++ drop n old) {x = suc (length done)} {y = length done + 1} (omega arith)
 
--- a call that put it there
-pub put_more : (done old before after : List Token) (count : ℕ) (first : Token) → length before ≡ length old → length done ≡ count → (count ≤ length old → before ≡ done ++ drop count old) → (count < length before → after ≡ set before count first)
-    → count + 1 ≤ length old → after ≡ (done ++ first ∷ []) ++ drop (count + 1) old
-put_more done old before after count first same counted stands put room =
-    put (omega (arith, same, room)) ∙ ap₂ (λ x n. set x n first) (stands (omega (arith, room))) (sym counted)
-    ∙ ap (λ n. set (done ++ drop n old) (length done) first) (sym counted)
-    ∙ put_behind done old first (omega (arith, counted, room))
-    ∙ ap (λ n. (done ++ first ∷ []) ++ drop (n + 1) old) counted
+-- the same of what it is
+pub put_made : {T : Type 0} (given made : T) (before after : List T) (count : ℕ) → given ≡ made → (count < length before → after ≡ set before count given) → count < length before → after ≡ set before count made
+put_made given made before after count same put room = put room ∙ ap (set before count) same
 
-pub one_told : (whole : ℕ) (t : Tree) (now next : List ℕ) (old before after : List Token) (count : ℕ) (first : Token) → length before ≡ length old → Told whole t now old before count → length next < length now → SplitsToken whole now first next
-    → (count < length before → after ≡ set before count first) → Told whole t next old after (count + 1)
-one_told whole t now next old before after count first same s shorter split put = by s.more s.fronts s.told
+-- a call that put it there
+pub put_more : {T : Type 0} (made : Token → T) (done : List Token) (old before after : List T) (count : ℕ) (first : Token) → length before ≡ length old → length done ≡ count → (count ≤ length old → before ≡ map made done ++ drop count old)
+    → (count < length before → after ≡ set before count (made first))
+    → count + 1 ≤ length old → after ≡ map made (done ++ first ∷ []) ++ drop (count + 1) old
+put_more made done old before after count first same counted stands put room =
+    let entries = map made done in
+    let long : length entries ≡ count = length-map done made ∙ counted in
+    put (omega (arith, same, room)) ∙ ap₂ (λ x n. set x n (made first)) (stands (omega (arith, room))) (sym long)
+    ∙ ap (λ n. set (entries ++ drop n old) (length entries) (made first)) (sym long)
+    ∙ put_behind entries old (made first) (omega (arith, long, room))
+    ∙ ap₂ (λ x n. x ++ drop (n + 1) old) (sym (map-append made done (first ∷ []))) long
+
+pub one_told : {T : Type 0} (made : Token → T) (whole : ℕ) (t : Tree) (now next : List ℕ) (old before after : List T) (count : ℕ) (first : Token) → length before ≡ length old → Told made whole t now old before count → length next < length now → SplitsToken whole now first next
+    → (count < length before → after ≡ set before count (made first)) → Told made whole t next old after (count + 1)
+one_told made whole t now next old before after count first same s shorter split put = by s.more s.fronts s.told
   where
-    by : (more : Items) → AreFronts now more [] → tape_of t ≡ s.done ++ items_tokens (whole - length now) more → Told whole t next old after (count + 1)
+    by : (more : Items) → AreFronts now more [] → tape_of t ≡ s.done ++ items_tokens (whole - length now) more → Told made whole t next old after (count + 1)
     by no_items f e = absurd (omega (arith, ap length f.is, shorter))
     by (item u us) f e =
         let k = split u us f in
@@ -355,16 +366,24 @@ one_told whole t now next old before after count first same s shorter split put 
           fronts = k.1;
           told = e ∙ ap (λ x. s.done ++ x) k.2 ∙ sym (append_assoc s.done (first ∷ []) (items_tokens (whole - length next) k.0));
           counted = omega (arith, length-append s.done (first ∷ []), s.counted);
-          stands = put_more s.done old before after count first same s.counted s.stands put;
+          stands = put_more made s.done old before after count first same s.counted s.stands put;
         }
 
-pub all_told : (whole : ℕ) (t : Tree) (now : List ℕ) (old after : List Token) (count : ℕ) → ((u : Tree) (us : Items) → ¬ AreFronts now (item u us) []) → Told whole t now old after count
-    → (count ≡ length (tape_of t)) × (length (tape_of t) ≤ length old → after ≡ tape_of t ++ drop (length (tape_of t)) old)
-all_told whole t now old after count none s = by s.more s.fronts s.told
+pub all_told : {T : Type 0} (made : Token → T) (whole : ℕ) (t : Tree) (now : List ℕ) (old after : List T) (count : ℕ) → ((u : Tree) (us : Items) → ¬ AreFronts now (item u us) []) → Told made whole t now old after count
+    → (count ≡ length (tape_of t)) × (length (tape_of t) ≤ length old → after ≡ map made (tape_of t) ++ drop (length (tape_of t)) old)
+all_told made whole t now old after count none s = by s.more s.fronts s.told
   where
-    by : (more : Items) → AreFronts now more [] → tape_of t ≡ s.done ++ items_tokens (whole - length now) more → (count ≡ length (tape_of t)) × (length (tape_of t) ≤ length old → after ≡ tape_of t ++ drop (length (tape_of t)) old)
+    by : (more : Items) → AreFronts now more [] → tape_of t ≡ s.done ++ items_tokens (whole - length now) more → (count ≡ length (tape_of t)) × (length (tape_of t) ≤ length old → after ≡ map made (tape_of t) ++ drop (length (tape_of t)) old)
     by (item u us) f e = absurd (none u us f)
     by no_items f e =
         let is : tape_of t ≡ s.done = e ∙ append-nil s.done in
         let size : count ≡ length (tape_of t) = sym s.counted ∙ ap length (sym is) in
-        (size, λ room. s.stands (omega (arith, size, room)) ∙ ap₂ (λ x n. x ++ drop n old) (sym is) size)
+        (size, λ room. s.stands (omega (arith, size, room)) ∙ ap₂ (λ x n. map made x ++ drop n old) (sym is) size)
+
+-- ---- tapes of tokens
+
+-- one that is the other on blocks
+pub tape_put : {T : Type 0} (tape other : Tree → List T) (b : List ℕ) (old new : List T) (needed : ℕ) (r : Result Kind (DecodeError Infallible)) → ((t : Tree) → IsBlock b t → tape t ≡ other t) → PutsTapeOf tape b old new needed r → PutsTapeOf other b old new needed r
+tape_put tape other b old new needed (Ok kind) same (t, is, of, counted, few, stands) =
+    (t, is, of, counted ∙ ap length (same t is), few, stands ∙ ap (λ x. with_tokens x old) (same t is))
+tape_put tape other b old new needed (Err e) same h = h

@@ -3,6 +3,7 @@ pub use Rattle.dagcbor_paths.specs.Finding
 pub mod Codes
 pub mod Packed
 pub mod Tapes
+pub mod CompactTapes
 pub mod Told
 pub mod Standing
 pub mod Answers

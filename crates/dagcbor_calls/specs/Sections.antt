@@ -1,13 +1,21 @@
--- What callers in other languages are answered of a section.
-use Rattle.std.specs.Prelude.{◌≡◌, ◌⊎◌, ℕ, ◌+◌, ℤ, List, [], ◌∷◌, length}
+-- What callers in other languages are answered of a block under a name, and of a section.
+use Rattle.std.specs.Prelude.{◌≡◌, ◌⊎◌, ℕ, ◌+◌, ℤ, negsuc, List, [], ◌∷◌, length}
 use Rattle.std.specs.declared.convert.Infallible.{Infallible}
-use Rattle.ipld_tree.specs.Cid.{varint, cid_bytes}
+use Rattle.ipld_tree.specs.Cid.{varint, CidParts, AreCidParts, cid_bytes, IsCid}
 use Rattle.dagcbor_car.specs.Car.{Section, section_body, section_bytes}
 use Rattle.dagcbor_car.specs.Splits.{SplitsSection, BeginsNoSection, SectionFault}
 use Rattle.ipld_links.specs.Verdicts.{IsVerdict}
 use Rattle.dagcbor_car.specs.declared.error.CarError.{CarError}
 use Rattle.ipld_links.specs.declared.verdict.Verdict.{Verdict}
 use Rattle.dagcbor_calls.specs.Codes.{verdict_code, fault_code}
+
+-- the number of the verdict on the block under the CID that the bytes are; or they are none, and -26 is
+-- answered
+abbrev pub IsVerifyAnswer : List ℕ → List ℕ → ℤ → Type 0
+IsVerifyAnswer name block code =
+    ((c : CidParts) × (v : Verdict) × AreCidParts c × (name ≡ cid_bytes c) × IsVerdict (c, block) v
+    × (code ≡ verdict_code v))
+    ⊎ ((¬ IsCid name) × (code ≡ negsuc 25))
 
 -- where the CID of a section begins, behind the length; where it ends and the block begins; and
 -- where the block ends and the section

@@ -1,6 +1,6 @@
 -- The tokens that stand in bytes, one behind the other from the front, whether these are a block or
 -- not.
-use Rattle.std.specs.Prelude.{◌≡◌, ◌≢◌, ◌⊎◌, ℕ, suc, ◌-◌, ◌^◌, ◌<◌, ◌≤◌, List, [], ◌∷◌, ◌++◌, length, take, drop, Option, Result, MatchResult, MatchOption}
+use Rattle.std.specs.Prelude.{◌≡◌, ◌≢◌, ◌⊎◌, ℕ, suc, ◌-◌, ◌^◌, ◌<◌, ◌≤◌, List, [], ◌∷◌, ◌++◌, length, map, take, drop, Option, Result, MatchResult, MatchOption}
 use Rattle.std.specs.declared.convert.Infallible.{Infallible}
 use Rattle.dagcbor_heads.specs.Head.{head}
 use Rattle.dagcbor_heads.specs.declared.error.DecodeError.{DecodeError}
@@ -91,8 +91,9 @@ StandsTaggedIfThere first rest number whole b result = MatchOption result
     (λ p. (number ≡ 42) × ((n : ℕ) × (cid : List ℕ) × HasLinkBytes b n cid (rest p)
     × (first p ≡ token 7 n (whole - length (cid ++ rest p)))))
 
--- the tokens that stand in the bytes are counted, and put at the front of the tape, where there is
--- room for them all
-abbrev pub PutsStanding : List ℕ → List Token → List Token → ℕ → Type 0
-PutsStanding b old new count = (tokens : List Token) × AreTokens b tokens × (count ≡ length tokens)
-    × (length tokens ≤ length old → new ≡ tokens ++ drop (length tokens) old)
+-- the tokens that stand in the bytes are counted, and what is made of them is put at the front of the
+-- tape, where there is room for it all
+abbrev pub PutsStanding : {T : Type 0} → (Token → T) → List ℕ → List T → List T → ℕ → Type 0
+PutsStanding made b old new count = (tokens : List Token) × AreTokens b tokens
+    × (count ≡ length tokens)
+    × (length tokens ≤ length old → new ≡ map made tokens ++ drop (length tokens) old)

@@ -1,5 +1,5 @@
 -- The tokens of an item: its heads in the order of its spelling, from which a caller builds values.
-use Rattle.std.specs.Prelude.{◌≡◌, ◌≢◌, ℕ, ◌+◌, ◌-◌, ◌<◌, ◌≤◌, ℤ, pos, negsuc, Bool, true, false, List, [], ◌∷◌, ◌++◌, length, drop, if◌then◌else◌, nat_lt, Option, Result, MatchResult, MatchOption}
+use Rattle.std.specs.Prelude.{◌≡◌, ◌≢◌, ℕ, ◌+◌, ◌-◌, ◌<◌, ◌≤◌, ℤ, pos, negsuc, Bool, true, false, List, [], ◌∷◌, ◌++◌, length, map, drop, if◌then◌else◌, nat_lt, Option, Result, MatchResult, MatchOption}
 use Rattle.std.specs.declared.convert.Infallible.{Infallible}
 use Rattle.dagcbor_heads.specs.Head.{head}
 use Rattle.dagcbor_heads.specs.declared.error.DecodeError.{DecodeError}
@@ -64,7 +64,7 @@ abbrev pub tape_of : Tree → List Token
 tape_of t = tokens_of 0 t
 
 -- a tape with the tokens at its front, where there is room for them; else the tape stays
-abbrev pub with_tokens : List Token → List Token → List Token
+abbrev pub with_tokens : {T : Type 0} → List T → List T → List T
 with_tokens tokens old = if nat_lt (length old) (length tokens) then old
     else tokens ++ drop (length tokens) old
 
@@ -90,15 +90,21 @@ SplitsLinkIfThere first rest whole b result = MatchOption result
     ((cid more : List ℕ) → ¬ BeginsWithZeroAnd b cid more)
     (λ p. (length (rest p) < length b) × ((cid more : List ℕ) → BeginsWithZeroAnd b cid more → (first p ≡ token 7 (length cid) (whole - length (cid ++ more))) × (rest p ≡ more)))
 
--- The tokens of the block are put at the front of the tape, where there is room for them all, and
--- counted; more than its bytes they are never.
-abbrev pub PutsTokens : List ℕ → List Token → List Token → ℕ → Type 0
-PutsTokens b old new count = (t : Tree) → IsSpelling b t → (count ≡ length (tape_of t)) × (length (tape_of t) ≤ length old → new ≡ tape_of t ++ drop (length (tape_of t)) old)
+-- What is made of the block's tokens is put at the front of the tape, where there is room for it
+-- all, and counted.
+abbrev pub PutsTokens : {T : Type 0} → (Token → T) → List ℕ → List T → List T → ℕ → Type 0
+PutsTokens made b old new count = (t : Tree) → IsSpelling b t → (count ≡ length (tape_of t))
+    × (length (tape_of t) ≤ length old → new ≡ map made (tape_of t) ++ drop (length (tape_of t)) old)
 
--- The tokens of a slice are counted, and put at the front of the tape where there is room for them
--- all, exactly where it is a block; and no refusal changes anything, or is for want of memory.
+-- A tape of this sort of a slice is counted, and put at the front of the tape where there is room for
+-- it all, exactly where the slice is a block; it is never longer than the slice; and no refusal
+-- changes anything, or is for want of memory.
+abbrev pub PutsTapeOf : {T : Type 0} → (Tree → List T) → List ℕ → List T → List T → ℕ → Result Kind (DecodeError Infallible) → Type 0
+PutsTapeOf tape b old new needed result = MatchResult result
+    (λ kind. (t : Tree) × IsBlock b t × (kind ≡ kind_of t) × (needed ≡ length (tape t)) × (needed ≤ length b) × (new ≡ with_tokens (tape t) old))
+    (λ e. SliceRefused e b × (e ≢ OutOfMemory) × (needed ≡ 0) × (new ≡ old))
+
+-- the same of the tape of its tokens
 abbrev pub PutsTape : List ℕ → List Token → List Token → ℕ → Result Kind (DecodeError Infallible)
     → Type 0
-PutsTape b old new needed result = MatchResult result
-    (λ kind. (t : Tree) × IsBlock b t × (kind ≡ kind_of t) × (needed ≡ length (tape_of t)) × (needed ≤ length b) × (new ≡ with_tokens (tape_of t) old))
-    (λ e. SliceRefused e b × (e ≢ OutOfMemory) × (needed ≡ 0) × (new ≡ old))
+PutsTape b old new needed result = PutsTapeOf tape_of b old new needed result

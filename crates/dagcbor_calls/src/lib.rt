@@ -4,6 +4,7 @@
 
 mod cid;
 mod code;
+mod compact;
 mod find;
 mod header;
 pub mod laws;
@@ -16,11 +17,12 @@ mod tape;
 
 pub use cid::{put_cid_of_text, put_cid_text, put_front};
 pub use code::code_of;
+pub use compact::{CompactToken, put_compact_tape};
 pub use find::{put_followed, put_found, put_part};
 pub use header::put_header;
 pub use links::put_links;
 pub use name::name_of;
-pub use section::judge_section;
+pub use section::{judge_named, judge_section};
 pub use span::put_span;
 pub use spell::spell_tape;
 pub use tape::{Token, put_front_tape, put_tape};

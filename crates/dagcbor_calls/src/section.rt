@@ -1,13 +1,13 @@
-//! The section at the front of a file's bytes: what is said of its block, and where its parts
-//! stand.
+//! What is said of a block under a name; and of the section at the front of a file's bytes, and where
+//! its parts stand.
 
 ghost use Rattle.std.specs.Prelude.{◌≡◌, length};
 ghost use Rattle.ipld_tree.specs.Cid.{cid_bytes};
 ghost use Rattle.dagcbor_car.specs.Splits.{SplitsSection};
 ghost use Rattle.dagcbor_calls.specs.Codes.{verdict_code};
-ghost use Rattle.dagcbor_calls.specs.Sections.{places_of, IsSectionAnswer};
+ghost use Rattle.dagcbor_calls.specs.Sections.{places_of, IsSectionAnswer, IsVerifyAnswer};
 
-use crate::code::{fault_code, kind_code, refusal_code};
+use crate::code::{NO_CID, fault_code, kind_code, refusal_code};
 use arrayvec::ArrayVec;
 use dagcbor_car::{Section, split_section};
 use ipld_links::{Verdict, verify};
@@ -23,6 +23,16 @@ fn verdict_code(verdict: &Verdict) -> i32
         Verdict::Refused(refusal) => refusal_code(refusal),
         Verdict::OtherBytes => -22,
         Verdict::Unverified => -23,
+    }
+}
+
+/// What is said of the block under the name that the bytes are, or that these are no CID.
+pub fn judge_named(name: &[u8], block: &[u8]) -> i32
+    ensures { IsVerifyAnswer name.now block.now result }
+{
+    match Cid::try_from(name) {
+        Ok(cid) => verdict_code(&verify(&cid, block)),
+        Err(_) => NO_CID,
     }
 }
 

@@ -1,10 +1,11 @@
 //! A block as a row of tokens: its heads, from which a caller builds values of its own.
 
-ghost use Rattle.std.specs.Prelude.{◌≡◌, ◌-◌, ◌<◌, ◌≤◌, List, length, drop, slice_set, MatchOption};
+ghost use Rattle.std.specs.Prelude.{◌≡◌, ◌-◌, ◌<◌, ◌≤◌, ℕ, List, length, map, drop, slice_set};
+ghost use Rattle.std.specs.Prelude.{MatchOption};
 ghost use Rattle.ipld_tree.specs.Tree.{Tree};
 ghost use Rattle.ipld_tree.specs.Spelling.{IsSpelling};
 ghost use Rattle.dagcbor_calls.specs.Tapes.{token, SplitsTokenIfThere, SplitsLinkIfThere};
-ghost use Rattle.dagcbor_calls.specs.Tapes.{PutsTokens, PutsTape, tape_of, with_tokens};
+ghost use Rattle.dagcbor_calls.specs.Tapes.{PutsTokens, PutsTapeOf, PutsTape, tape_of, with_tokens};
 ghost use Rattle.dagcbor_calls.specs.Standing.{IsSimpleToken, StandsLinkIfThere};
 ghost use Rattle.dagcbor_calls.specs.Standing.{StandsTaggedIfThere, StandsTokenIfThere, AreTokens};
 ghost use Rattle.dagcbor_calls.specs.Standing.{PutsStanding, PutsFrontTape};
@@ -28,9 +29,9 @@ const NULL: u64 = 0;
 
 const BOOL: u64 = 1;
 
-const INTEGER: u64 = 2;
+pub(crate) const INTEGER: u64 = 2;
 
-const STRING: u64 = 3;
+pub(crate) const STRING: u64 = 3;
 
 const BYTES: u64 = 4;
 
@@ -40,7 +41,24 @@ const MAP: u64 = 6;
 
 const LINK: u64 = 7;
 
-const NEGATIVE: u64 = 8;
+pub(crate) const NEGATIVE: u64 = 8;
+
+/// What stands in a tape for a token.
+pub(crate) trait TapeEntry: Copy {
+    /// What is made of a token of these bytes.
+    ghost made: { List ℕ → Token → Self };
+
+    fn made(bytes: &[u8], token: Token) -> Self
+        ensures { result ≡ Self.made bytes.now token };
+}
+
+impl TapeEntry for Token {
+    ghost made = { λ bytes token. token };
+
+    fn made(_bytes: &[u8], token: Token) -> Token {
+        token
+    }
+}
 
 /// A token whose place is that of what is behind it, in so many bytes.
 fn token_before(kind: u64, number: u64, whole: usize, behind: &[u8]) -> Token
@@ -141,26 +159,26 @@ fn split_token(bytes: &[u8], whole: usize) -> Option<(Token, &[u8])>
     }
 }
 
-/// Puts the token at the place, where there is room for it.
-fn put_token(tape: &mut [Token], at: usize, token: Token)
-    ensures { at < length tape.old → tape.new ≡ slice_set tape.old at token }
+/// Puts the entry at the place, where there is room for it.
+fn put_entry<T: TapeEntry>(tape: &mut [T], at: usize, entry: T)
+    ensures { at < length tape.old → tape.new ≡ slice_set tape.old at entry }
 {
     if at < tape.len() {
-        tape[at] = token;
+        tape[at] = entry;
     }
 }
 
-/// Puts the tokens that stand one behind the other from the front, as those of a block do, at the
-/// front of the tape, where there is room for them all: how many there are.
-fn put_tokens(bytes: &[u8], tape: &mut [Token]) -> usize
+/// Puts what is made of the tokens that stand one behind the other from the front, as those of a block
+/// do, at the front of the tape, where there is room for it all: how many there are.
+fn put_tokens<T: TapeEntry>(bytes: &[u8], tape: &mut [T]) -> usize
     ensures few { result ≤ length bytes.now }
-    ensures tokens { PutsTokens bytes.now tape.old tape.new result }
-    ensures stands { PutsStanding bytes.now tape.old tape.new result }
+    ensures tokens { PutsTokens (T.made bytes.now) bytes.now tape.old tape.new result }
+    ensures stands { PutsStanding (T.made bytes.now) bytes.now tape.old tape.new result }
 {
     let mut count = 0;
     let mut rest = bytes;
     while let Some((token, behind)) = split_token(rest, bytes.len()) {
-        put_token(tape, count, token);
+        put_entry(tape, count, T::made(bytes, token));
         count += 1;
         rest = behind;
     }
@@ -168,16 +186,17 @@ fn put_tokens(bytes: &[u8], tape: &mut [Token]) -> usize
 }
 
 /// The same where there is room for them all; else the tape stays.
-fn put_whole(bytes: &[u8], tape: &mut [Token]) -> usize
+fn put_whole<T: TapeEntry>(bytes: &[u8], tape: &mut [T]) -> usize
     ensures few { result ≤ length bytes.now }
     ensures tokens { (t : Tree) → IsSpelling bytes.now t → (result ≡ length (tape_of t))
-        × (tape.new ≡ with_tokens (tape_of t) tape.old) }
+        × (tape.new ≡ with_tokens (map (T.made bytes.now) (tape_of t)) tape.old) }
     ensures stands { (tokens : List Token) × AreTokens bytes.now tokens
-        × (result ≡ length tokens) × (tape.new ≡ with_tokens tokens tape.old) }
+        × (result ≡ length tokens)
+        × (tape.new ≡ with_tokens (map (T.made bytes.now) tokens) tape.old) }
 {
     // A tape with a place for each byte has room, and wants no count before.
     if tape.len() < bytes.len() {
-        let needed = put_tokens(bytes, &mut []);
+        let needed = put_tokens::<Token>(bytes, &mut []);
         if needed > tape.len() {
             return needed;
         }
@@ -185,8 +204,23 @@ fn put_whole(bytes: &[u8], tape: &mut [Token]) -> usize
     put_tokens(bytes, tape)
 }
 
-/// The kind of a block, whose tokens are counted, and put at the front of the tape where there is
-/// room for them all.
+/// The kind of a block, whose tokens are counted, and what is made of them put at the front of the
+/// tape where there is room for it all.
+pub(crate) fn put_entries<T: TapeEntry>(
+    bytes: &[u8],
+    tape: &mut [T],
+    needed: &mut usize,
+) -> Result<Kind, DecodeError<Infallible>>
+    ensures { PutsTapeOf (λ t. map (T.made bytes.now) (tape_of t)) bytes.now tape.old tape.new
+        needed.new result }
+{
+    *needed = 0;
+    let kind = check_slice(bytes)?;
+    *needed = put_whole(bytes, tape);
+    Ok(kind)
+}
+
+/// The same of the tokens themselves.
 pub fn put_tape(
     bytes: &[u8],
     tape: &mut [Token],
@@ -194,10 +228,7 @@ pub fn put_tape(
 ) -> Result<Kind, DecodeError<Infallible>>
     ensures { PutsTape bytes.now tape.old tape.new needed.new result }
 {
-    *needed = 0;
-    let kind = check_slice(bytes)?;
-    *needed = put_whole(bytes, tape);
-    Ok(kind)
+    put_entries(bytes, tape, needed)
 }
 
 /// The same of any bytes: of such as are refused, the tokens before the place of the fault.

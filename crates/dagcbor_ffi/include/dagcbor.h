@@ -11,8 +11,8 @@
    - `bytes` is not NULL, also where `length` is 0 (dagcbor_from makes such a pointer); `length` bytes stand
      there, and nobody writes them during the call, no other thread either; `length` is below 2^63.
    - `out` likewise, also where `room` is 0 (dagcbor_into), for `room` bytes that nobody else reads or writes
-     during the call; `tape` for `room` tokens (dagcbor_tape_into), aligned as a uint64_t, and fewer than 2^58 of
-     them; `needed`, `place` and `behind` for one number each, `places` for three, or two. None of these overlaps another.
+     during the call; `tape` for `room` tokens (dagcbor_tape_into, dagcbor_compact_tape_into), aligned as their numbers,
+     and fewer than 2^58 of them; `needed`, `place` and `behind` for one number each, `places` for three, or two. None of these overlaps another.
    - The thread has 128 KB of stack left; the CPU is an x86-64-v2.
    Calls on different threads need no lock: nothing is shared between them. */
 #ifndef DAGCBOR_H
@@ -37,7 +37,8 @@ enum dagcbor_kind {
     DAGCBOR_LIST = 5,
     DAGCBOR_MAP = 6,
     DAGCBOR_LINK = 7,
-    DAGCBOR_NEGATIVE = 8 /* of a token alone: an integer below 0, which DAGCBOR_INTEGER is not then */
+    DAGCBOR_NEGATIVE = 8, /* of a token alone: an integer below 0, which DAGCBOR_INTEGER is not then */
+    DAGCBOR_ASCII = 9     /* of a compact token alone: a string of ASCII, which DAGCBOR_STRING is not then */
 };
 
 /* A part of a block, by its head. What `number` and `place` are, by `kind`:
@@ -56,6 +57,15 @@ typedef struct dagcbor_token {
     uint64_t place;
 } dagcbor_token;
 
+/* The same in 12 bytes, of a block of fewer than 2^32. Two things differ:
+   DAGCBOR_ASCII                        a string whose bytes are all below 0x80; DAGCBOR_STRING: one that has others
+   DAGCBOR_INTEGER, DAGCBOR_NEGATIVE    `number` is the low, `place` the high half of the number of 64 bits */
+typedef struct dagcbor_compact_token {
+    uint32_t kind;
+    uint32_t number;
+    uint32_t place;
+} dagcbor_compact_token;
+
 /* Why there is no such item. The other numbers down to -19 are never answered: -2 a reader's fault, -6, -7,
    -9, -10, -11, -13 (of types), -18 want of memory, -19 a reader that had failed. */
 enum dagcbor_refusal {
@@ -70,7 +80,8 @@ enum dagcbor_refusal {
     DAGCBOR_NON_MINIMAL = -16,     /* a number or a length in more bytes than it needs */
     DAGCBOR_UNORDERED_KEY = -17,   /* a key that does not come behind the one before it */
     DAGCBOR_NO_TOKEN = -20,        /* of dagcbor_spell: a kind or a number that is none, or a payload outside the bytes */
-    DAGCBOR_NO_ROOM = -21          /* of dagcbor_spell: what the tape tells has no room; of a CID and its text likewise */
+    DAGCBOR_NO_ROOM = -21          /* of dagcbor_spell: what the tape tells has no room; of a CID and its text likewise; of
+                                      dagcbor_compact_tape: 2^32 bytes or more */
 };
 
 /* The kind, from 0, exactly where the bytes are a block; else, below 0, a refusal whose cause stands in them. */
@@ -80,6 +91,10 @@ int32_t dagcbor_check(const uint8_t *bytes, size_t length);
    Where that is at most `room` they are put at the front of `tape`, and else `tape` stays as it was. After a refusal
    *needed is 0 and `tape` as it was. With `room` as `length` one call is enough. */
 int32_t dagcbor_tape(const uint8_t *bytes, size_t length, dagcbor_token *tape, size_t room, size_t *needed);
+
+/* As dagcbor_tape, of compact tokens. Where `length` is 2^32 or more the answer is DAGCBOR_NO_ROOM, *needed is 0, and `tape`
+   as it was. */
+int32_t dagcbor_compact_tape(const uint8_t *bytes, size_t length, dagcbor_compact_token *tape, size_t room, size_t *needed);
 
 /* As dagcbor_tape of a block, and *place becomes `length`. Of other bytes the answer is the refusal of dagcbor_check, and
    *place becomes its place, from 0 to `length`: so many bytes might be followed by others, or are a block, and with the
@@ -135,17 +150,23 @@ int32_t dagcbor_follow(const uint8_t *block, size_t length, const uint8_t *path,
 /* The block's name: the CID of version 1, of the codec DAG-CBOR, by the SHA-256 of the bytes. Any bytes have one. */
 void dagcbor_name(const uint8_t *bytes, size_t length, uint8_t out[36]);
 
-/* What is said of the block of a section, beside its kind and its refusals above; or why no section is there. */
+/* What is said of a block under a name, beside its kind and its refusals above; or why no section is there. */
 enum dagcbor_section {
     DAGCBOR_NOT_READ = 9,          /* the block is the one that is named, of another codec than DAG-CBOR, and was not read */
     DAGCBOR_OTHER_BYTES = -22,     /* the digest of the block is not that of its CID */
     DAGCBOR_NOT_VERIFIED = -23,    /* the CID is by another hash function than SHA-256 and identity; the block was not read */
     DAGCBOR_TRUNCATED = -24,       /* the bytes end inside the length, or before as many follow */
     DAGCBOR_INVALID_LENGTH = -25,  /* the length is no varint in shortest form below 2^64 */
-    DAGCBOR_INVALID_CID = -26,     /* behind the length stands no CID, or it goes on behind the section; not of dagcbor_car_header */
+    DAGCBOR_INVALID_CID = -26,     /* no CID stands there, or behind the length of a section; or it goes on behind that; not of dagcbor_car_header */
     DAGCBOR_OTHER_HEADER = -27,    /* of dagcbor_car_header alone: a block that is not the map of roots and of version 1 */
     DAGCBOR_INVALID_OFFSET = -35   /* of dagcbor_car_span alone: of version 2, a begin below 51, or an end of 2^64 or more */
 };
+
+/* What is said of a block under the name that the bytes `cid` are. From 0 where nothing is wrong: the number of its kind, or
+   DAGCBOR_NOT_READ. Below 0 that of the refusal of the block, which is the one that is named; DAGCBOR_OTHER_BYTES,
+   DAGCBOR_NOT_VERIFIED, or DAGCBOR_INVALID_CID, where `cid` is none. Where both are one section, dagcbor_car_section answers the
+   same. `cid` may not be NULL either. */
+int32_t dagcbor_verify(const uint8_t *cid, size_t cid_length, const uint8_t *block, size_t length);
 
 /* Where the file of version 1 stands within a file of blocks, of which these bytes are the front: 51 of them are enough.
    0, and places[0] becomes where it begins and places[1] where it ends, both counted from the first byte: of version 2
@@ -209,6 +230,11 @@ static inline uint8_t *dagcbor_into(uint8_t *out, size_t room) {
 
 static inline dagcbor_token *dagcbor_tape_into(dagcbor_token *tape, size_t room) {
     static dagcbor_token none[1];
+    return room ? tape : none;
+}
+
+static inline dagcbor_compact_token *dagcbor_compact_tape_into(dagcbor_compact_token *tape, size_t room) {
+    static dagcbor_compact_token none[1];
     return room ? tape : none;
 }
 

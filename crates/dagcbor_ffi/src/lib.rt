@@ -10,15 +10,17 @@ ghost use Rattle.ipld_tree.specs.Cid.{cid_bytes};
 ghost use Rattle.ipld_links.specs.Names.{block_name};
 ghost use Rattle.dagcbor_calls.specs.Answers.{IsCheckAnswer, IsLinksAnswer, IsTapeAnswer};
 ghost use Rattle.dagcbor_calls.specs.Answers.{IsSpellAnswer, IsTokensAnswer};
+ghost use Rattle.dagcbor_calls.specs.CompactTapes.{IsCompactTapeAnswer};
 ghost use Rattle.dagcbor_calls.specs.Headers.{IsHeaderAnswer};
-ghost use Rattle.dagcbor_calls.specs.Sections.{IsSectionAnswer};
+ghost use Rattle.dagcbor_calls.specs.Sections.{IsSectionAnswer, IsVerifyAnswer};
 ghost use Rattle.dagcbor_calls.specs.Spans.{IsSpanAnswer};
 ghost use Rattle.dagcbor_calls.specs.Finds.{IsFindAnswer, IsPartAnswer, IsFollowAnswer};
 ghost use Rattle.dagcbor_calls.specs.CidTexts.{IsCidTextAnswer, IsCidFromTextAnswer};
 
 use dagcbor_calls::{
-    Token, code_of, judge_section, name_of, put_cid_of_text, put_cid_text, put_followed, put_found,
-    put_front_tape, put_header, put_links, put_part, put_span, put_tape, spell_tape,
+    CompactToken, Token, code_of, judge_named, judge_section, name_of, put_cid_of_text,
+    put_cid_text, put_compact_tape, put_followed, put_found, put_front_tape, put_header, put_links,
+    put_part, put_span, put_tape, spell_tape,
 };
 use dagcbor_items::check_slice;
 
@@ -49,6 +51,20 @@ pub extern "C" fn dagcbor_tape(bytes: &[u8], tape: &mut [Token], needed: &mut us
     ensures { IsTapeAnswer bytes.now tape.old tape.new needed.new result }
 {
     code_of(&put_tape(bytes, tape, needed))
+}
+
+/// What `dagcbor_tape` does, in tokens of 12 bytes: of an integer `number` and `place` are the low and the
+/// high half of its number, and 9 is the kind of a text whose bytes are all below 0x80. Of 2^32 bytes
+/// or more -21 is answered; then `needed` becomes 0, and `tape` stays.
+#[unsafe(no_mangle)]
+pub extern "C" fn dagcbor_compact_tape(
+    bytes: &[u8],
+    tape: &mut [CompactToken],
+    needed: &mut usize,
+) -> i32
+    ensures { IsCompactTapeAnswer bytes.now tape.old tape.new needed.new result }
+{
+    put_compact_tape(bytes, tape, needed)
 }
 
 /// The answer of `dagcbor_check`. Of a block, what `dagcbor_tape` does, and `place` becomes the number of
@@ -128,6 +144,17 @@ pub extern "C" fn dagcbor_name(bytes: &[u8], out: &mut [u8; 36])
     ensures { out.new ≡ cid_bytes (block_name bytes.now) }
 {
     *out = name_of(bytes);
+}
+
+/// What is said of the block under the CID that the bytes `cid` are: from 0 the number of its kind, or 9
+/// where the CID is of another codec; below 0 that of the refusal, or -22 where the CID is not the
+/// block's, or -23 where it is by a hash function that is not known here. -26 where the bytes are no
+/// CID.
+#[unsafe(no_mangle)]
+pub extern "C" fn dagcbor_verify(cid: &[u8], block: &[u8]) -> i32
+    ensures { IsVerifyAnswer cid.now block.now result }
+{
+    judge_named(cid, block)
 }
 
 /// What is said of the block of the section that begins the bytes of a file of blocks: from 0 the

@@ -2,8 +2,8 @@
 //! languages.
 
 use dagcbor_calls::{
-    Token, code_of, judge_section, name_of, put_cid_of_text, put_cid_text, put_front_tape,
-    put_links, put_span, put_tape, spell_tape,
+    CompactToken, Token, code_of, judge_named, judge_section, name_of, put_cid_of_text,
+    put_cid_text, put_compact_tape, put_front_tape, put_links, put_span, put_tape, spell_tape,
 };
 use dagcbor_items::check_slice;
 use dagcbor_testing::{agree, joined};
@@ -179,6 +179,55 @@ fn a_refusal_puts_no_token(_rt: HostRuntime) -> Result<(), Fail> {
     is_taped(b"\xf6\xf6", 2, (-14, 0), &[])
 }
 
+/// A compact token that no call puts.
+const BLANK_COMPACT: CompactToken = CompactToken {
+    kind: 99,
+    number: 99,
+    place: 99,
+};
+
+/// Fails where the compact tape of the block, with room for so many tokens, is answered otherwise, or
+/// where other tokens stand there then.
+fn is_compact(
+    block: &[u8],
+    size: usize,
+    wanted: (i32, usize),
+    tokens: &[[u32; 3]],
+) -> Result<(), Fail> {
+    let mut tape = [BLANK_COMPACT; 12];
+    let mut needed = 99;
+    let code = put_compact_tape(block, &mut tape[..size.min(12)], &mut needed);
+    agree((code, needed), wanted)?;
+    let (front, rest) = tape.split_at(tokens.len().min(12));
+    for (token, words) in front.iter().zip(tokens) {
+        agree([token.kind, token.number, token.place], *words)?;
+    }
+    for token in rest {
+        agree(*token, BLANK_COMPACT)?;
+    }
+    Ok(())
+}
+
+/// A list of a number of 64 bits, one below 0, a text of ASCII, one with others, and an empty one.
+const LONG_NUMBERS: &[u8] = b"\x85\x1b\x01\x02\x03\x04\x05\x06\x07\x08\
+    \x3b\xff\xff\xff\xff\x00\x00\x00\x00\x61\x7f\x63a\xc2\x80\x60";
+
+const COMPACT: &[[u32; 3]] = &[
+    [5, 5, 1],
+    [2, 0x0506_0708, 0x0102_0304],
+    [8, 0, 0xffff_ffff],
+    [9, 1, 20],
+    [3, 3, 22],
+    [9, 0, 26],
+];
+
+#[test]
+fn a_compact_tape_has_each_head(_rt: HostRuntime) -> Result<(), Fail> {
+    is_compact(LONG_NUMBERS, 5, (5, 6), &[])?;
+    is_compact(LONG_NUMBERS, 7, (5, 6), COMPACT)?;
+    is_compact(b"\xf6\xf6", 2, (-14, 0), &[])
+}
+
 /// The tokens of a front are those before the place of the refusal: a list of two, and a one.
 #[test]
 fn a_refusal_has_a_place_and_tokens_before(_rt: HostRuntime) -> Result<(), Fail> {
@@ -266,6 +315,24 @@ const SECTIONS: &[(&[u8], i32, [usize; 3])] = &[
     (b"\x84\x00\x01\x71\x00\x00", -25, [99; 3]),
     (b"\x04\x02\x71\x00\x00", -26, [99; 3]),
 ];
+
+/// Names, blocks, and the number of what is said of them.
+const NAMED: &[(&[u8], &[u8], i32)] = &[
+    (b"\x01\x71\x00\x01\x05", b"\x05", 2),
+    (b"\x01\x71\x00\x02\x18\x05", b"\x18\x05", -16),
+    (b"\x01\x55\x00\x00", b"", 9),
+    (b"\x01\x71\x00\x01\x05", b"\x06", -22),
+    (b"\x01\x71\x13\x01\x05", b"\x05", -23),
+    (b"\x01\x71\x00\x01\x05\x05", b"\x05", -26),
+];
+
+#[test]
+fn a_named_block_is_judged(_rt: HostRuntime) -> Result<(), Fail> {
+    for (name, block, code) in NAMED {
+        agree((*name, judge_named(name, block)), (*name, *code))?;
+    }
+    Ok(())
+}
 
 #[test]
 fn a_section_is_judged_and_placed(_rt: HostRuntime) -> Result<(), Fail> {

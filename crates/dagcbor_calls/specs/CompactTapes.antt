@@ -1,0 +1,56 @@
+-- The tape of a block in tokens of three numbers below 2 ^ 32.
+use Rattle.std.specs.Prelude.{◌≡◌, ◌⊎◌, ℕ, ◌/◌, ◌%◌, ◌^◌, ◌<◌, ◌≤◌, ◌||◌, ◌&&◌, ◌==◌, ℤ, negsuc, Bool, true, List, [], ◌∷◌, length, map, take, drop, if◌then◌else◌, nat_lt, Result}
+use Rattle.std.specs.declared.convert.Infallible.{Infallible}
+use Rattle.dagcbor_heads.specs.declared.error.DecodeError.{DecodeError}
+use Rattle.ipld_tree.specs.Tree.{Tree}
+use Rattle.dagcbor_items.specs.declared.kind.Kind.{Kind}
+use Rattle.dagcbor_calls.specs.Codes.{answer_code}
+use Rattle.dagcbor_calls.specs.Tapes.{token, tape_of, PutsTapeOf}
+use Rattle.dagcbor_calls.specs.declared.tape.Token.{Token}
+use Rattle.dagcbor_calls.specs.declared.compact.CompactToken.{CompactToken}
+
+-- a compact token of these parts
+abbrev pub compact_token : ℕ → ℕ → ℕ → CompactToken
+compact_token kind number place = record { kind = kind; number = number; place = place }
+
+-- each byte is below 0x80
+abbrev pub are_ascii : List ℕ → Bool
+are_ascii [] = true
+are_ascii (b ∷ bs) = nat_lt b 0x80 && are_ascii bs
+
+-- the kind of a text of ASCII alone is 9
+abbrev pub compact_kind : ℕ → List ℕ → ℕ
+compact_kind kind payload = if (kind == 3) && are_ascii payload then 9 else kind
+
+-- an integer, of either sign
+abbrev pub is_integer : ℕ → Bool
+is_integer kind = (kind == 2) || (kind == 8)
+
+-- The compact token of a token of these bytes: of an integer the low and the high half of its number,
+-- and of others its number and its place.
+abbrev pub compact : List ℕ → Token → CompactToken
+compact b t = if is_integer t.kind
+    then compact_token t.kind (t.number % 2 ^ 32) (t.number / 2 ^ 32)
+    else compact_token (compact_kind t.kind (take t.number (drop t.place b))) t.number t.place
+
+-- the compact tape of a block
+abbrev pub compact_tape_of : List ℕ → Tree → List CompactToken
+compact_tape_of b t = map (compact b) (tape_of t)
+
+-- the compact tape of fewer than 2 ^ 32 bytes, put as a tape is; of more bytes -21, and nothing is
+-- needed, and nothing changed
+abbrev pub IsCompactTapeAnswer : List ℕ → List CompactToken → List CompactToken → ℕ → ℤ → Type 0
+IsCompactTapeAnswer b old new needed code =
+    ((length b < 2 ^ 32) × ((r : Result Kind (DecodeError Infallible))
+    × PutsTapeOf (compact_tape_of b) b old new needed r × (code ≡ answer_code r)))
+    ⊎ ((2 ^ 32 ≤ length b) × (code ≡ negsuc 20) × (needed ≡ 0) × (new ≡ old))
+
+-- ---- parts
+
+-- a token of which each part is below 2 ^ 32, but an integer's number
+abbrev pub wrapped_as : ℕ → Token → Token
+wrapped_as kind t = token kind (if is_integer kind then t.number else t.number % 2 ^ 32)
+    (t.place % 2 ^ 32)
+
+abbrev pub wrapped : Token → Token
+wrapped t = wrapped_as (t.kind % 2 ^ 32) t

@@ -1,0 +1,2 @@
+'use strict';
+module.exports = { native: require('./out/dagcbor.node') };

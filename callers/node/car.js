@@ -2,9 +2,10 @@
 'use strict';
 const { native } = require('./library.js');
 const { CID, binaryOf, cidOf, unpack } = require('./cid.js');
-const { latin1 } = require('./bytes.js');
+const { joined } = require('./bytes.js');
 const { encode } = require('./encode.js');
 const { DagCborError, KINDS, REASONS, refusal } = require('./errors.js');
+const { latin1 } = require('./platform.js');
 
 const PIECE = 1 << 18; // of bytes in memory, that are copied at once
 const [MORE, END] = [100, 101]; // of a walk
@@ -233,7 +234,7 @@ const found = ([roots, counts, packed]) => {
   for (const code of codes) {
     if (counts[code - LEAST]) verdicts[verdictOf(code)] = counts[code - LEAST];
   }
-  missing.sort((one, other) => Buffer.compare(one.bytes, other.bytes));
+  missing.sort((one, other) => (binaryOf(one) < binaryOf(other) ? -1 : 1));
   const areWell = Object.keys(verdicts).every((it) => it === 'not read' || it.startsWith('ok '));
   return { roots: unpack(roots), verdicts, missing, isWell: areWell && !missing.length };
 };
@@ -282,14 +283,14 @@ const lengthOf = (count) => {
 const headerOf = (roots) => {
   const own = roots.map((it) => (binaryOf(it) === undefined ? new CID(bytesOf(it)) : it));
   const header = encode({ roots: own, version: 1 });
-  return Buffer.concat([lengthOf(header.length), header]);
+  return joined([lengthOf(header.length), header]);
 };
 
 const sectionOf = ({ cid, bytes }) => {
   const code = native.verify(bytesOf(cid), bytes);
   if (code === OTHER_BYTES || code < LEAST) throw refusal(code);
   const name = bytesOf(cid);
-  return Buffer.concat([lengthOf(name.length + bytes.length), name, bytes]);
+  return joined([lengthOf(name.length + bytes.length), name, bytes]);
 };
 
 class CarWriter {

@@ -2,8 +2,9 @@
 // library's judgement.
 'use strict';
 const { native } = require('./library.js');
-const { fromLatin1, isBytes, latin1 } = require('./bytes.js');
+const { fromLatin1, isBytes } = require('./bytes.js');
 const { answered, refusal } = require('./errors.js');
+const { latin1 } = require('./platform.js');
 
 const DAG_PB = 0x70; // the codec of version 0
 const MADE = Symbol('made'); // by the library

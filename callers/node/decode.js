@@ -4,9 +4,10 @@
 // lists and maps get their values as properties of their own, and no setter is called.
 'use strict';
 const { native } = require('./library.js');
-const { latin1, lengthOf, utf8, view } = require('./bytes.js');
+const { lengthOf, view } = require('./bytes.js');
 const { cidOf } = require('./cid.js');
 const { refusal } = require('./errors.js');
+const { latin1, plain: plainly, utf8 } = require('./platform.js');
 
 // The kinds of tokens, and that of a text of ASCII.
 const [NULL, BOOL, INTEGER, STRING, BYTES, LIST, MAP, LINK, NEGATIVE, ASCII] = Array(10).keys();
@@ -24,10 +25,10 @@ let [cut, cutFrom, cutTo] = ['', 0, 0];
 const plainText = (from, length) => {
   const to = from + length;
   if (to > cutTo) {
-    if (length > LONGEST) return latin1(block, from, to);
+    if (length > LONGEST) return plainly(block, from, to);
     cutFrom = from;
     cutTo = Math.min(from + WINDOW, lengthOf.call(block));
-    cut = latin1(block, cutFrom, cutTo);
+    cut = plainly(block, cutFrom, cutTo);
   }
   return cut.slice(from - cutFrom, to - cutFrom);
 };

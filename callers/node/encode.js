@@ -1,28 +1,22 @@
 // Blocks out of values: the bytes are written here, and the library judges them before they go out.
 'use strict';
-const { isMap, isProxy } = require('util').types;
-const { markAsUntransferable } = require('worker_threads');
 const { native } = require('./library.js');
-const { isBytes, latin1, lengthOf } = require('./bytes.js');
+const { isBytes, lengthOf } = require('./bytes.js');
 const { binaryOf, foreignOf } = require('./cid.js');
 const { DagCborError, REASONS, refusal } = require('./errors.js');
+const {
+  SHARED, isMap, isProxy, latin1, mayBeProxy, memory, newPool,
+} = require('./platform.js');
 
 const encoder = new TextEncoder();
 const MOST_LEVELS = 128; // of lists and maps in each other, in any block
 const [UNSUPPORTED, MISMATCH, UTF8, OVERFLOW, DEPTH] = [-5, -4, -8, -10, -12];
 const SHORT = 24; // units of a text
-const [SHARED, SMALL, LARGE] = [1024, 8192, 1 << 20]; // bytes of blocks, and of room
-
-const memory = (size) => new Uint8Array(Buffer.allocUnsafeSlow(size).buffer);
+const [SMALL, LARGE] = [8192, 1 << 20]; // bytes of room
 
 // Short blocks lie one behind the other in a pool, up to `used`: memory of its own takes longer
-// than all else of a short block. As that of Node's Buffers it is not transferred.
-const newPool = () => {
-  const made = memory(SMALL);
-  markAsUntransferable(made.buffer);
-  return made;
-};
-let [pool, used] = [newPool(), 0];
+// than all else of a short block.
+let [pool, used] = [newPool(SMALL), 0];
 let spare = new Uint8Array(0); // for longer ones
 
 // What is written stands in `out`, before `at`. A script that runs meanwhile, as that of a
@@ -262,7 +256,7 @@ const putWritten = (text) => {
 const [FEW, MANY] = [8, 128];
 
 const valuesOf = (map, keys) => {
-  if (keys.length <= FEW || keys.length > MANY || isProxy(map)) return undefined;
+  if (keys.length <= FEW || keys.length > MANY || mayBeProxy(map)) return undefined;
   const values = Object.values(map);
   if (values.length !== keys.length) no(UNSUPPORTED, 'an object that changes while it is read');
   return values;
@@ -302,17 +296,20 @@ const putJsMap = (map) => {
   putEntries(map, values, orderOf(keys));
 };
 
-const NO_PROXY = 'a Proxy of neither an Array nor a plain object';
+const [OTHER, PROXY] = [
+  'an object that is no Array, Uint8Array, CID, Map or map',
+  'a Proxy of neither an Array nor a plain object',
+];
 
 // What is neither a list nor a plain object.
 const putOther = (value) => {
   if (isBytes(value)) return putBytes(value);
   const binary = binaryOf(value) ?? foreignOf(value);
   if (binary !== undefined) putLink(binary);
-  else if (isProxy(value)) no(UNSUPPORTED, NO_PROXY); // that of a Date looks like a map
   else if (isMap(value)) putJsMap(value);
-  else if (Object.prototype.toString.call(value) === '[object Object]') putMap(value);
-  else no(UNSUPPORTED, 'an object that is no Array, Uint8Array, CID, Map or map');
+  else if (Object.prototype.toString.call(value) !== '[object Object]') no(UNSUPPORTED, OTHER);
+  else if (isProxy(value)) no(UNSUPPORTED, PROXY); // that of a Date looks like a map
+  else putMap(value);
 };
 
 // Whether its prototype is null, or that of objects in some realm, which has none itself.
@@ -349,7 +346,7 @@ const blockFrom = (from, isInner) => {
 
 const begin = () => {
   if (used > SMALL - SHARED) {
-    pool = newPool();
+    pool = newPool(SMALL);
     used = 0;
   }
   out = pool;

@@ -1,7 +1,7 @@
 // Paths in blocks, and over links from block to block: index.d.ts says what each call does.
 'use strict';
 const { native } = require('./library.js');
-const { latin1, lengthOf, view } = require('./bytes.js');
+const { lengthOf, view } = require('./bytes.js');
 const { verify } = require('./car.js');
 const { CID, binaryOf } = require('./cid.js');
 const { decode } = require('./decode.js');

@@ -68,12 +68,12 @@ pub record Counted (b : List ℕ) (tape rest : List Token) (count : ℕ) : Type 
   done : List ℕ
   told : (r : List ℕ) → tape_told b rest ≡ Some r → tape_told b tape ≡ Some (done ++ r)
   none : tape_told b rest ≡ None → tape_told b tape ≡ None
-  counted : count ≡ min (length done) (2 ^ 64 - 1)
+  counted : count ≡ length done
 
 pub none_counted : (b : List ℕ) (tape : List Token) → Counted b tape tape 0
 none_counted b tape = record { done = []; told = λ r e. e; none = λ e. e; counted = omega arith }
 
-pub one_counted : (b : List ℕ) (tape rest more : List Token) (first : Token) (s : List ℕ) (old new : ℕ) → rest ≡ first ∷ more → bytes_told b first.kind first.number first.place ≡ Some s → new ≡ min (old + length s) (2 ^ 64 - 1) → Counted b tape rest old → Counted b tape more new
+pub one_counted : (b : List ℕ) (tape rest more : List Token) (first : Token) (s : List ℕ) (old new : ℕ) → rest ≡ first ∷ more → bytes_told b first.kind first.number first.place ≡ Some s → new ≡ old + length s → Counted b tape rest old → Counted b tape more new
 one_counted b tape rest more first s old new is e n g = record {
   done = g.done ++ s;
   told = λ r f. g.told (s ++ r) (ap (tape_told b) is ∙ told_first b s r first more e f) ∙ ap Some (sym (append_assoc g.done s r));
@@ -84,8 +84,8 @@ one_counted b tape rest more first s old new is e n g = record {
 pub one_is_none : (b : List ℕ) (tape rest more : List Token) (first : Token) (count : ℕ) → rest ≡ first ∷ more → bytes_told b first.kind first.number first.place ≡ None → Counted b tape rest count → tape_told b tape ≡ None
 one_is_none b tape rest more first count is e g = g.none (ap (tape_told b) is ∙ ap (λ o. option_and_then (λ x. option_map (λ y. x ++ y) (tape_told b more)) o) e)
 
-pub all_counted : (b : List ℕ) (tape rest : List Token) (count : ℕ) → rest ≡ [] → Counted b tape rest count → CountsTold b tape (Some count)
-all_counted b tape rest count is g = (g.done, g.told [] (ap (tape_told b) is) ∙ ap Some (append-nil g.done), g.counted)
+pub all_counted : (b : List ℕ) (tape rest : List Token) (count least : ℕ) → rest ≡ [] → Counted b tape rest count → least ≡ min count (2 ^ 64 - 1) → CountsTold b tape (Some least)
+all_counted b tape rest count least is g e = (g.done, g.told [] (ap (tape_told b) is) ∙ ap Some (append-nil g.done), omega (arith, e, g.counted))
 
 -- what is put of a tape, of which a rest is still to come
 pub record Putting (b : List ℕ) (tape rest : List Token) (old now : List ℕ) (at : ℕ) : Type 0 where

@@ -106,6 +106,7 @@ fn put_told(out: &mut [u8], at: usize, bytes: &[u8], token: &Token) -> usize
 }
 
 /// Puts what the tape tells at the front of `out`.
+#[inline(never)]
 fn fill(bytes: &[u8], tape: &[Token], out: &mut [u8])
     requires { HasRoomFor bytes.now tape.now out.old }
     ensures { FillsTold bytes.now tape.now out.old out.new }

@@ -16,10 +16,8 @@ fn head_length(argument: u64) -> usize
 {
     if argument < 24 {
         1
-    } else if argument < 1 << 8 {
-        2
     } else if argument < 1 << 16 {
-        3
+        if argument < 1 << 8 { 2 } else { 3 }
     } else if argument < 1 << 32 {
         5
     } else {
@@ -92,13 +90,14 @@ fn token_length(bytes: &[u8], token: &Token) -> Option<usize>
     }
 }
 
-/// How many bytes the tape tells, where each of its tokens is one.
+/// How many bytes the tape tells, where each of its tokens is one. The sum has room for any tape.
+#[inline(never)]
 pub(crate) fn told_length(bytes: &[u8], tape: &[Token]) -> Option<usize>
     ensures { CountsTold bytes.now tape.now result }
 {
-    let mut count = 0usize;
+    let mut count = 0u128;
     for token in tape {
-        count = count.saturating_add(token_length(bytes, token)?);
+        count += token_length(bytes, token)? as u128;
     }
-    Some(count)
+    Some(count.min(usize::MAX as u128) as usize)
 }

@@ -16,7 +16,7 @@ use Rattle.dagcbor_calls.proofs.Packing.{packed_push}
 
 -- ---- bytes at a place
 
-put_fits : (at : ℕ) (bs old : List ℕ) → at + length bs ≤ length old → put_at at bs old ≡ take at old ++ (bs ++ drop (at + length bs) old)
+pub put_fits : (at : ℕ) (bs old : List ℕ) → at + length bs ≤ length old → put_at at bs old ≡ take at old ++ (bs ++ drop (at + length bs) old)
 put_fits at bs old h = ap (λ (x : Bool). if x then old else take at old ++ (bs ++ drop (at + length bs) old)) (le-ltb (length old) (at + length bs) h)
 
 length_filled : (at : ℕ) (bs old : List ℕ) → at + length bs ≤ length old → length (take at old ++ (bs ++ drop (at + length bs) old)) ≡ length old
@@ -24,7 +24,7 @@ length_filled at bs old h =
     let rest = drop (at + length bs) old in
     omega (arith, h, length-append (take at old) (bs ++ rest), length-append bs rest, length-take-le at old (omega (arith, h)), length-drop (at + length bs) old)
 
-length_put_at : (at : ℕ) (bs old : List ℕ) → length (put_at at bs old) ≡ length old
+pub length_put_at : (at : ℕ) (bs old : List ℕ) → length (put_at at bs old) ≡ length old
 length_put_at at bs old = by (ltb (length old) (at + length bs)) refl
   where
     by : (b : Bool) → b ≡ ltb (length old) (at + length bs) → length (if b then old else (take at old ++ (bs ++ drop (at + length bs) old))) ≡ length old
@@ -32,7 +32,7 @@ length_put_at at bs old = by (ltb (length old) (at + length bs)) refl
     by false e = length_filled at bs old (ltb-false (length old) (at + length bs) (sym e))
 
 -- bytes behind those that stand at the front
-put_behind : (bs more before : List ℕ) → length bs + length more ≤ length before → put_at (length bs) more (bs ++ drop (length bs) before) ≡ (bs ++ more) ++ drop (length (bs ++ more)) before
+pub put_behind : (bs more before : List ℕ) → length bs + length more ≤ length before → put_at (length bs) more (bs ++ drop (length bs) before) ≡ (bs ++ more) ++ drop (length (bs ++ more)) before
 put_behind bs more before h =
     let rest = drop (length bs) before in
     let l = length-append bs more in

@@ -1,29 +1,19 @@
--- Putting what a tape tells.
-use Rattle.std.proofs.Common.{◌≡◌, ℕ, suc, ◌+◌, ◌^◌, ◌<◌, ◌≤◌, List, [], ◌∷◌, ◌++◌, length, get_or, take, drop, Bool, true, false, if◌then◌else◌, refl, sym, ap, ap₂, ◌∙◌, subst, arith, append_assoc, append-nil, Option, Some, None, option_map, option_and_then, ltb, drop-cons, ltb-false, length-take-le, length-drop}
+-- What tokens tell: counted, and put.
+use Rattle.std.proofs.Common.{◌≡◌, ℕ, suc, ◌+◌, ◌-◌, ◌^◌, ◌<◌, ◌≤◌, min, List, [], ◌∷◌, ◌++◌, length, get_or, take, drop, Bool, true, false, if◌then◌else◌, refl, sym, ap, ap₂, ◌∙◌, subst, arith, append_assoc, append-nil, Option, Some, None, option_map, option_and_then, ltb, drop-cons, ltb-false, length-append, length-take-le, length-drop}
 use Rattle.dagcbor_heads.specs.Head.{head}
-use Rattle.dagcbor_calls.specs.Packed.{PutsBytes, HasPut}
-use Rattle.dagcbor_calls.specs.Told.{payload_at, boolean_told, bytes_told, tape_told, Puts, PutsTold}
-use Rattle.dagcbor_calls.specs.declared.links.PackedLinks.{PackedLinks}
+use Rattle.dagcbor_calls.specs.Packed.{put_at}
+use Rattle.dagcbor_calls.specs.Told.{payload_at, boolean_told, bytes_told, tape_told, HasRoomAt, PutsAt, PutsToldAt, CountsTold, FillsTold}
 use Rattle.dagcbor_calls.specs.declared.tape.Token.{Token}
-use Rattle.dagcbor_calls.proofs.Putting.{put_more, nothing_put}
+use Rattle.dagcbor_calls.proofs.Putting.{put_fits, length_put_at, put_behind}
 use Rattle.dagcbor_calls.proofs.Telling.{told_first}
-
-pub puts : (s : List ℕ) (p q : PackedLinks) → PutsBytes s p q → Puts s p q
-puts s p q h name before done k = put_more name before done s p q k h
-
-pub puts_both : (s r : List ℕ) (p q u : PackedLinks) → Puts s p q → Puts r q u → Puts (s ++ r) p u
-puts_both s r p q u h k name before done g = subst (λ x. HasPut name before x u) (append_assoc done s r) (k name before (done ++ s) (h name before done g))
-
-puts_none : (p : PackedLinks) → Puts [] p p
-puts_none p name before done g = subst (λ x. HasPut name before x p) (sym (append-nil done)) g
 
 pub boolean_is : (n : ℕ) → n ≤ 1 → boolean_told n ≡ Some ((0xf4 + n) ∷ [])
 boolean_is ℕ.zero h = refl
 boolean_is (suc ℕ.zero) h = refl
 boolean_is (suc (suc n)) h = absurd (omega (arith, h))
 
-payload_length : (b s : List ℕ) (place n : ℕ) → payload_at b place n ≡ Some s → length s ≡ n
-payload_length b s place n e = by (ltb (length b) (place + n)) refl e
+pub payload_long : (b s : List ℕ) (place n : ℕ) → payload_at b place n ≡ Some s → length s ≡ n
+payload_long b s place n e = by (ltb (length b) (place + n)) refl e
   where
     by : (o : Bool) → o ≡ ltb (length b) (place + n) → (if o then None else Some (take n (drop place b))) ≡ Some s → length s ≡ n
     by true f k = absurd (cc k)
@@ -32,48 +22,119 @@ payload_length b s place n e = by (ltb (length b) (place + n)) refl e
         let room = ltb-false (length b) (place + n) (sym f) in
         sym (ap length is) ∙ length-take-le n (drop place b) (omega (arith, room, length-drop place b))
 
+-- ---- bytes at a place
+
+placed : (at : ℕ) (bs old : List ℕ) → at + length bs ≤ length old → put_at at bs old ≡ (take at old ++ bs) ++ drop (length (take at old ++ bs)) old
+placed at bs old h =
+    let front = take at old in
+    let behind : at + length bs ≡ length (front ++ bs) = omega (arith, h, length-append front bs, length-take-le at old (omega (arith, h))) in
+    put_fits at bs old h ∙ sym (append_assoc front bs (drop (at + length bs) old)) ∙ ap (λ n. (front ++ bs) ++ drop n old) behind
+
+-- bytes behind others
+pub put_both : (at middle end : ℕ) (s r old now new : List ℕ) → at + length (s ++ r) ≤ length old → PutsAt s at old now middle → PutsAt r middle now new end → PutsAt (s ++ r) at old new end
+put_both at middle end s r old now new h p q =
+    let front = take at old in
+    let long = length-append s r in
+    let first : at + length s ≤ length old = omega (arith, h, long) in
+    let place : middle ≡ length (front ++ s) = omega (arith, p.0, length-append front s, length-take-le at old (omega (arith, first))) in (
+      omega (arith, p.0, q.0, long),
+      q.1
+          ∙ ap (λ n. put_at n r now) place
+          ∙ ap (put_at (length (front ++ s)) r) (p.1 ∙ placed at s old first)
+          ∙ put_behind (front ++ s) r old (omega (arith, h, long, p.0, place))
+          ∙ ap (λ z. z ++ drop (length z) old) (append_assoc front s r)
+          ∙ sym (placed at (s ++ r) old h),
+    )
+
 -- the tag of a link, its head, its zero and its CID
-pub link_put : (b cid : List ℕ) (place n : ℕ) (p q r u v : PackedLinks) → payload_at b place n ≡ Some cid → PutsBytes (0xd8 ∷ 0x2a ∷ []) p q → PutsBytes (head 2 (1 + length cid)) q r → PutsBytes (0x00 ∷ []) r u → PutsBytes cid u v
-    → Puts (0xd8 ∷ 0x2a ∷ head 2 (suc n) ++ 0x00 ∷ cid) p v
-link_put b cid place n p q r u v e tag h zero_byte payload =
-    let long : 1 + length cid ≡ suc n = omega (arith, payload_length b cid place n e) in
-    let front = subst (λ m. PutsBytes (head 2 m) q r) long h in
-    puts_both (0xd8 ∷ 0x2a ∷ []) (head 2 (suc n) ++ 0x00 ∷ cid) p q v (puts (0xd8 ∷ 0x2a ∷ []) p q tag)
-    (puts_both (head 2 (suc n)) (0x00 ∷ cid) q r v (puts (head 2 (suc n)) q r front) (puts_both (0x00 ∷ []) cid r u v (puts (0x00 ∷ []) r u zero_byte) (puts cid u v payload)))
+pub link_put : (at tagged behind inside end n : ℕ) (cid old p q u new : List ℕ) → at + length (0xd8 ∷ 0x2a ∷ head 2 (suc n) ++ 0x00 ∷ cid) ≤ length old
+    → PutsAt (0xd8 ∷ 0x2a ∷ []) at old p tagged → PutsAt (head 2 (suc n)) tagged p q behind → PutsAt (0x00 ∷ []) behind q u inside → PutsAt cid inside u new end
+    → PutsAt (0xd8 ∷ 0x2a ∷ head 2 (suc n) ++ 0x00 ∷ cid) at old new end
+link_put at tagged behind inside end n cid old p q u new h tag front zero_byte payload =
+    let long = length-append (head 2 (suc n)) (0x00 ∷ cid) in
+    let first : length p ≡ length old = ap length tag.1 ∙ length_put_at at (0xd8 ∷ 0x2a ∷ []) old in
+    let second : length q ≡ length p = ap length front.1 ∙ length_put_at tagged (head 2 (suc n)) p in
+    put_both at tagged end (0xd8 ∷ 0x2a ∷ []) (head 2 (suc n) ++ 0x00 ∷ cid) old p new h tag
+    (put_both tagged behind end (head 2 (suc n)) (0x00 ∷ cid) p q new (omega (arith, h, long, first, tag.0)) front
+    (put_both behind inside end (0x00 ∷ []) cid q u new (omega (arith, h, long, first, second, tag.0, front.0)) zero_byte payload))
 
 -- ---- token by token
 
 pub next_token : (tape : List Token) (i : ℕ) (d : Token) → i < length tape → drop i tape ≡ get_or tape i d ∷ drop (i + 1) tape
 next_token tape i d h = drop-cons tape i d h ∙ ap (λ n. get_or tape i d ∷ drop n tape) {x = suc i} {y = i + 1} (omega arith)
 
--- what was put of a tape, of which a rest is still to come
-pub record Going (b : List ℕ) (tape rest : List Token) (old now : PackedLinks) : Type 0 where
+-- what was counted of a tape, of which a rest is still to come
+pub record Counted (b : List ℕ) (tape rest : List Token) (count : ℕ) : Type 0 where
   done : List ℕ
   told : (r : List ℕ) → tape_told b rest ≡ Some r → tape_told b tape ≡ Some (done ++ r)
   none : tape_told b rest ≡ None → tape_told b tape ≡ None
-  put : Puts done old now
+  counted : count ≡ length done
 
-pub begun : (b : List ℕ) (tape : List Token) (p : PackedLinks) → Going b tape tape p p
-begun b tape p = record { done = []; told = λ r e. e; none = λ e. e; put = puts_none p }
+pub none_counted : (b : List ℕ) (tape : List Token) → Counted b tape tape 0
+none_counted b tape = record { done = []; told = λ r e. e; none = λ e. e; counted = omega arith }
 
-pub one_put : (b : List ℕ) (tape rest more : List Token) (first : Token) (s : List ℕ) (old now next : PackedLinks) → rest ≡ first ∷ more → bytes_told b first.kind first.number first.place ≡ Some s → Puts s now next → Going b tape rest old now → Going b tape more old next
-one_put b tape rest more first s old now next is e put g = record {
+pub one_counted : (b : List ℕ) (tape rest more : List Token) (first : Token) (s : List ℕ) (old new : ℕ) → rest ≡ first ∷ more → bytes_told b first.kind first.number first.place ≡ Some s → new ≡ old + length s → Counted b tape rest old → Counted b tape more new
+one_counted b tape rest more first s old new is e n g = record {
   done = g.done ++ s;
   told = λ r f. g.told (s ++ r) (ap (tape_told b) is ∙ told_first b s r first more e f) ∙ ap Some (sym (append_assoc g.done s r));
   none = λ f. g.none (ap (tape_told b) is ∙ ap₂ (λ o u. option_and_then (λ x. option_map (λ y. x ++ y) u) o) e f);
-  put = puts_both g.done s old now next g.put put;
+  counted = omega (arith, n, g.counted, length-append g.done s);
 }
 
-pub one_is_none : (b : List ℕ) (tape rest more : List Token) (first : Token) (old now : PackedLinks) → rest ≡ first ∷ more → bytes_told b first.kind first.number first.place ≡ None → Going b tape rest old now → tape_told b tape ≡ None
-one_is_none b tape rest more first old now is e g = g.none (ap (tape_told b) is ∙ ap (λ o. option_and_then (λ x. option_map (λ y. x ++ y) (tape_told b more)) o) e)
+pub one_is_none : (b : List ℕ) (tape rest more : List Token) (first : Token) (count : ℕ) → rest ≡ first ∷ more → bytes_told b first.kind first.number first.place ≡ None → Counted b tape rest count → tape_told b tape ≡ None
+one_is_none b tape rest more first count is e g = g.none (ap (tape_told b) is ∙ ap (λ o. option_and_then (λ x. option_map (λ y. x ++ y) (tape_told b more)) o) e)
 
-pub all_put : (b : List ℕ) (tape rest : List Token) (old now : PackedLinks) → rest ≡ [] → Going b tape rest old now → (s : List ℕ) × (tape_told b tape ≡ Some s) × Puts s old now
-all_put b tape rest old now is g = (g.done, g.told [] (ap (tape_told b) is) ∙ ap Some (append-nil g.done), g.put)
+pub all_counted : (b : List ℕ) (tape rest : List Token) (count least : ℕ) → rest ≡ [] → Counted b tape rest count → least ≡ min count (2 ^ 64 - 1) → CountsTold b tape (Some least)
+all_counted b tape rest count least is g e = (g.done, g.told [] (ap (tape_told b) is) ∙ ap Some (append-nil g.done), omega (arith, e, g.counted))
 
--- what was put into memory that holds nothing yet
-pub put_first : (s : List ℕ) (p q : PackedLinks) → Puts s p q → p.needed ≡ 0 → length p.out.now < 2 ^ 64 → HasPut p.out.ghost_name p.out.now s q
-put_first s p q h none small = h p.out.ghost_name p.out.now [] (nothing_put p none small)
+-- what is put of a tape, of which a rest is still to come
+pub record Putting (b : List ℕ) (tape rest : List Token) (old now : List ℕ) (at : ℕ) : Type 0 where
+  done : List ℕ
+  more : List ℕ
+  whole : tape_told b tape ≡ Some (done ++ more)
+  told : tape_told b rest ≡ Some more
+  fits : length (done ++ more) ≤ length old
+  place : at ≡ length done
+  stands : now ≡ done ++ drop (length done) old
 
-pub put_exactly : (b s : List ℕ) (tape : List Token) (p q : PackedLinks) (r : Option (Unit {0})) → PutsTold (tape_told b tape) p q r → tape_told b tape ≡ Some s → Puts s p q
-put_exactly b s tape p q None none e = let k : None ≡ Some s = sym none ∙ e in absurd (cc k)
-put_exactly b s tape p q (Some u) h e = let k : Some h.0 ≡ Some s = sym h.1 ∙ e in subst (λ x. Puts x p q) (cc k) h.2
+pub none_put : (b : List ℕ) (tape : List Token) (old : List ℕ) → HasRoomAt (tape_told b tape) 0 old → Putting b tape tape old old 0
+none_put b tape old h = record { done = []; more = h.0; whole = h.1; told = h.1; fits = omega (arith, h.2); place = refl; stands = refl }
+
+-- the parts of what a tape tells
+first_told : (b m : List ℕ) (first : Token) (more : List Token) → tape_told b (first ∷ more) ≡ Some m → (s r : List ℕ) × (bytes_told b first.kind first.number first.place ≡ Some s) × (tape_told b more ≡ Some r) × (m ≡ s ++ r)
+first_told b m first more p = by (bytes_told b first.kind first.number first.place) refl (tape_told b more) refl
+  where
+    by : (o : Option (List ℕ)) → o ≡ bytes_told b first.kind first.number first.place → (u : Option (List ℕ)) → u ≡ tape_told b more → (s r : List ℕ) × (bytes_told b first.kind first.number first.place ≡ Some s) × (tape_told b more ≡ Some r) × (m ≡ s ++ r)
+    by None e u f = let k : None ≡ Some m = ap₂ (λ o v. option_and_then (λ y. option_map (λ z. y ++ z) v) o) e f ∙ p in absurd (cc k)
+    by (Some o) e None f = let k : None ≡ Some m = ap₂ (λ w v. option_and_then (λ y. option_map (λ z. y ++ z) v) w) e f ∙ p in absurd (cc k)
+    by (Some o) e (Some u) f = let k : Some (o ++ u) ≡ Some m = ap₂ (λ w v. option_and_then (λ y. option_map (λ z. y ++ z) v) w) e f ∙ p in (o, u, sym e, sym f, sym (cc k))
+
+pub has_room : (b : List ℕ) (tape rest next : List Token) (first : Token) (old now : List ℕ) (at : ℕ) → rest ≡ first ∷ next → Putting b tape rest old now at → HasRoomAt (bytes_told b first.kind first.number first.place) at now
+has_room b tape rest next first old now at is g =
+    let k = first_told b g.more first next (sym (ap (tape_told b) is) ∙ g.told) in
+    let behind = drop (length g.done) old in
+    (k.0, k.2, omega (arith, g.place, g.fits, ap length k.4, length-append k.0 k.1, length-append g.done g.more, ap length g.stands, length-append g.done behind, length-drop (length g.done) old))
+
+pub one_put : (b : List ℕ) (tape rest next : List Token) (first : Token) (old now new : List ℕ) (at end : ℕ) → rest ≡ first ∷ next → PutsToldAt (bytes_told b first.kind first.number first.place) at now new end → Putting b tape rest old now at → Putting b tape next old new end
+one_put b tape rest next first old now new at end is puts g =
+    let k = first_told b g.more first next (sym (ap (tape_told b) is) ∙ g.told) in
+    let s = k.0 in
+    let put = puts s k.2 in
+    let same : g.done ++ g.more ≡ (g.done ++ s) ++ k.1 = ap (λ z. g.done ++ z) k.4 ∙ sym (append_assoc g.done s k.1) in
+    record {
+      done = g.done ++ s;
+      more = k.1;
+      whole = g.whole ∙ ap Some same;
+      told = k.3;
+      fits = omega (arith, g.fits, ap length same);
+      place = omega (arith, put.0, g.place, length-append g.done s);
+      stands = put.1 ∙ ap (λ n. put_at n s now) g.place ∙ ap (put_at (length g.done) s) g.stands
+          ∙ put_behind g.done s old (omega (arith, g.fits, ap length k.4, length-append s k.1, length-append g.done g.more));
+    }
+
+pub all_put : (b : List ℕ) (tape rest : List Token) (old now : List ℕ) (at : ℕ) → rest ≡ [] → Putting b tape rest old now at → FillsTold b tape old now
+all_put b tape rest old now at is g s e room =
+    let none : [] ≡ g.more = let k : Some [] ≡ Some g.more = sym (ap (tape_told b) is) ∙ g.told in cc k in
+    let k : Some (g.done ++ g.more) ≡ Some s = sym g.whole ∙ e in
+    let same : g.done ≡ s = sym (append-nil g.done) ∙ ap (λ z. g.done ++ z) none ∙ cc k in
+    g.stands ∙ ap (λ z. z ++ drop (length z) old) same

@@ -3,9 +3,8 @@ use Rattle.std.specs.Prelude.{◌≡◌, ℕ, suc, ◌+◌, ◌-◌, ◌^◌, �
 use Rattle.dagcbor_heads.specs.Head.{head}
 use Rattle.ipld_tree.specs.Tree.{Tree}
 use Rattle.ipld_tree.specs.Spelling.{spelling}
-use Rattle.dagcbor_calls.specs.Packed.{HasPut}
+use Rattle.dagcbor_calls.specs.Packed.{put_at}
 use Rattle.dagcbor_calls.specs.Tapes.{tape_of}
-use Rattle.dagcbor_calls.specs.declared.links.PackedLinks.{PackedLinks}
 use Rattle.dagcbor_calls.specs.declared.tape.Token.{Token}
 
 -- so many bytes from a place on, where they are there
@@ -51,13 +50,21 @@ tape_told b (first ∷ more) = option_and_then (λ s. option_map (λ r. s ++ r) 
 abbrev pub TapeTellsBlock : Type 0
 TapeTellsBlock = (t : Tree) → tape_told (spelling t) (tape_of t) ≡ Some (spelling t)
 
--- these bytes were put behind those that were put before
-abbrev pub Puts : List ℕ → PackedLinks → PackedLinks → Type 0
-Puts s old new = (name : ℕ) (before done : List ℕ) → HasPut name before done old → HasPut name before (done ++ s) new
+-- how many bytes are told, where some are
+abbrev pub TellsLength : Option (List ℕ) → Option ℕ → Type 0
+TellsLength told result = MatchOption result (told ≡ None) (λ n. (s : List ℕ) × (told ≡ Some s) × (n ≡ length s))
 
--- what is told was put, where something is
-abbrev pub PutsTold : Option (List ℕ) → PackedLinks → PackedLinks → Option (Unit {0}) → Type 0
-PutsTold told old new result = MatchOption result (told ≡ None) (λ _. (s : List ℕ) × (told ≡ Some s) × Puts s old new)
+-- some bytes are told, for which the memory has room at the place
+abbrev pub HasRoomAt : Option (List ℕ) → ℕ → List ℕ → Type 0
+HasRoomAt told at old = (s : List ℕ) × (told ≡ Some s) × (at + length s ≤ length old)
+
+-- the bytes were put at the place, and this is the place behind them
+abbrev pub PutsAt : List ℕ → ℕ → List ℕ → List ℕ → ℕ → Type 0
+PutsAt s at old new end = (end ≡ at + length s) × (new ≡ put_at at s old)
+
+-- what is told was put there
+abbrev pub PutsToldAt : Option (List ℕ) → ℕ → List ℕ → List ℕ → ℕ → Type 0
+PutsToldAt told at old new end = (s : List ℕ) → told ≡ Some s → PutsAt s at old new end
 
 -- the memory has room for the bytes, of which there are fewer than 2^64 - 1
 abbrev pub HasRoom : List ℕ → List ℕ → Type 0
@@ -67,6 +74,10 @@ HasRoom s old = (length s ≤ length old) × (length s < 2 ^ 64 - 1)
 abbrev pub CountsTold : List ℕ → List Token → Option ℕ → Type 0
 CountsTold b tape result = MatchOption result (tape_told b tape ≡ None)
     (λ n. (s : List ℕ) × (tape_told b tape ≡ Some s) × (n ≡ min (length s) (2 ^ 64 - 1)))
+
+-- the tape tells bytes, for which the memory has room
+abbrev pub HasRoomFor : List ℕ → List Token → List ℕ → Type 0
+HasRoomFor b tape old = HasRoomAt (tape_told b tape) 0 old
 
 -- what the tape tells was put at the front of the memory, where there is room for it
 abbrev pub FillsTold : List ℕ → List Token → List ℕ → List ℕ → Type 0

@@ -14,6 +14,7 @@ mod section;
 mod span;
 mod spell;
 mod tape;
+mod told;
 
 pub use cid::{put_cid_of_text, put_cid_text, put_front};
 pub use code::code_of;

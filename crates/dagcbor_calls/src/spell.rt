@@ -1,137 +1,120 @@
 //! The bytes that a tape tells, and whether they are a block.
 
-ghost use Rattle.std.specs.Prelude.{◌≡◌, ◌≤◌, length, take, None, Some, MatchOption};
+ghost use Rattle.std.specs.Prelude.{◌≡◌, ◌+◌, ◌≤◌, length, take, Some, List, ℕ};
 ghost use Rattle.dagcbor_heads.specs.Head.{head};
-ghost use Rattle.dagcbor_calls.specs.Packed.{PutsBytes};
-ghost use Rattle.dagcbor_calls.specs.Told.{payload_at, null_told, boolean_told, string_told};
-ghost use Rattle.dagcbor_calls.specs.Told.{link_told};
-ghost use Rattle.dagcbor_calls.specs.Told.{bytes_told, tape_told, PutsTold, CountsTold, FillsTold};
+ghost use Rattle.dagcbor_calls.specs.Told.{payload_at, string_told, link_told, bytes_told};
+ghost use Rattle.dagcbor_calls.specs.Told.{tape_told, PutsAt, PutsToldAt, HasRoomAt, HasRoomFor};
+ghost use Rattle.dagcbor_calls.specs.Told.{FillsTold};
 ghost use Rattle.dagcbor_calls.specs.Answers.{IsCheckAnswer, IsSpellAnswer};
 
 use crate::code::{NO_ROOM, code_of};
-use crate::links::PackedLinks;
 use crate::tape::Token;
-use dagcbor_heads::head_bytes;
+use crate::told::told_length;
 use dagcbor_items::check_slice;
 
-fn put_head(packed: &mut PackedLinks<'_>, major: u8, argument: u64)
-    requires { major ≤ 7 }
-    ensures { PutsBytes (head major argument) packed.old packed.new }
+/// Puts the bytes at the place: the place behind them.
+#[inline(always)]
+fn put(out: &mut [u8], at: usize, bytes: &[u8]) -> usize
+    requires { at + length bytes.now ≤ length out.old }
+    ensures { PutsAt bytes.now at out.old out.new result }
 {
-    let (bytes, count) = head_bytes(major, argument);
-    packed.put(&bytes[..count]);
+    let end = at + bytes.len();
+    out[at..end].copy_from_slice(bytes);
+    end
 }
 
-/// So many bytes from a place on.
-fn payload_at(bytes: &[u8], place: u64, n: u64) -> Option<&[u8]>
-    ensures { MatchOption result (payload_at bytes.now place n ≡ None)
-        (λ s. payload_at bytes.now place n ≡ Some s.now) }
+/// Puts the shortest head. How many bytes it has is known at each place, so that no copy is called.
+#[inline(always)]
+#[tactic(auto, unfolding(dagcbor_heads::specs::Head::head))]
+fn put_head(out: &mut [u8], at: usize, major: u8, argument: u64) -> usize
+    requires small { major ≤ 7 }
+    requires room { at + length (head major argument) ≤ length out.old }
+    ensures { PutsAt (head major argument) at out.old out.new result }
 {
-    let whole = bytes.len() as u64;
-    if place > whole || n > whole - place {
-        return None;
+    let first = 32 * major;
+    if argument < 24 {
+        put(out, at, &[first + argument as u8])
+    } else if argument < 1 << 8 {
+        put(out, at, &[first + 24, argument as u8])
+    } else if argument < 1 << 16 {
+        let [a, b] = (argument as u16).to_be_bytes();
+        put(out, at, &[first + 25, a, b])
+    } else if argument < 1 << 32 {
+        let [a, b, c, d] = (argument as u32).to_be_bytes();
+        put(out, at, &[first + 26, a, b, c, d])
+    } else {
+        let [a, b, c, d, e, f, g, h] = argument.to_be_bytes();
+        put(out, at, &[first + 27, a, b, c, d, e, f, g, h])
     }
+}
+
+/// So many bytes from a place on, which are there.
+#[inline(always)]
+fn payload_told(bytes: &[u8], place: u64, n: u64) -> &[u8]
+    requires { (s : List ℕ) × (payload_at bytes.now place n ≡ Some s) }
+    ensures { payload_at bytes.now place n ≡ Some result.now }
+{
     let (from, count) = (place as usize, n as usize);
-    Some(&bytes[from..from + count])
+    &bytes[from..from + count]
 }
 
-fn put_null(packed: &mut PackedLinks<'_>, number: u64) -> Option<()>
-    ensures { PutsTold (null_told number) packed.old packed.new result }
+#[inline(always)]
+fn put_string(out: &mut [u8], at: usize, major: u8, bytes: &[u8], token: &Token) -> usize
+    requires small { major ≤ 7 }
+    requires room { HasRoomAt (string_told major bytes.now token.now.number token.now.place) at
+        out.old }
+    ensures { PutsToldAt (string_told major bytes.now token.now.number token.now.place) at out.old
+        out.new result }
 {
-    if number != 0 {
-        return None;
-    }
-    packed.put(&[0xf6]);
-    Some(())
+    let payload = payload_told(bytes, token.place, token.number);
+    let behind = put_head(out, at, major, token.number);
+    put(out, behind, payload)
 }
 
-fn put_boolean(packed: &mut PackedLinks<'_>, number: u64) -> Option<()>
-    ensures { PutsTold (boolean_told number) packed.old packed.new result }
-{
-    if number > 1 {
-        return None;
-    }
-    packed.put(&[0xf4 + number as u8]);
-    Some(())
-}
-
-fn put_string(packed: &mut PackedLinks<'_>, major: u8, bytes: &[u8], token: &Token) -> Option<()>
-    requires { major ≤ 7 }
-    ensures { PutsTold (string_told major bytes.now token.now.number token.now.place) packed.old
-        packed.new result }
-{
-    let payload = payload_at(bytes, token.place, token.number)?;
-    put_head(packed, major, token.number);
-    packed.put(payload);
-    Some(())
-}
-
-fn put_link(packed: &mut PackedLinks<'_>, bytes: &[u8], token: &Token) -> Option<()>
-    ensures { PutsTold (link_told bytes.now token.now.number token.now.place) packed.old packed.new
+#[inline(always)]
+fn put_link(out: &mut [u8], at: usize, bytes: &[u8], token: &Token) -> usize
+    requires { HasRoomAt (link_told bytes.now token.now.number token.now.place) at out.old }
+    ensures { PutsToldAt (link_told bytes.now token.now.number token.now.place) at out.old out.new
         result }
 {
-    let cid = payload_at(bytes, token.place, token.number)?;
-    packed.put(&[0xd8, 0x2a]);
-    put_head(packed, 2, 1 + cid.len() as u64);
-    packed.put(&[0]);
-    packed.put(cid);
-    Some(())
+    let cid = payload_told(bytes, token.place, token.number);
+    let tagged = put(out, at, &[0xd8, 0x2a]);
+    let behind = put_head(out, tagged, 2, 1 + token.number);
+    let zero = put(out, behind, &[0]);
+    put(out, zero, cid)
 }
 
-fn put_plain(packed: &mut PackedLinks<'_>, major: u8, number: u64) -> Option<()>
-    requires { major ≤ 7 }
-    ensures { PutsTold (Some (head major number)) packed.old packed.new result }
-{
-    put_head(packed, major, number);
-    Some(())
-}
-
-fn put_told(packed: &mut PackedLinks<'_>, bytes: &[u8], token: &Token) -> Option<()>
-    ensures { PutsTold (bytes_told bytes.now token.now.kind token.now.number token.now.place)
-        packed.old packed.new result }
+/// Puts what the token tells at the place, which has room for it: the place behind it.
+#[inline(always)]
+fn put_told(out: &mut [u8], at: usize, bytes: &[u8], token: &Token) -> usize
+    requires { HasRoomAt (bytes_told bytes.now token.now.kind token.now.number token.now.place) at
+        out.old }
+    ensures { PutsToldAt (bytes_told bytes.now token.now.kind token.now.number token.now.place) at
+        out.old out.new result }
 {
     match token.kind {
-        0 => put_null(packed, token.number),
-        1 => put_boolean(packed, token.number),
-        2 => put_plain(packed, 0, token.number),
-        3 => put_string(packed, 3, bytes, token),
-        4 => put_string(packed, 2, bytes, token),
-        5 => put_plain(packed, 4, token.number),
-        6 => put_plain(packed, 5, token.number),
-        7 => put_link(packed, bytes, token),
-        8 => put_plain(packed, 1, token.number),
-        _ => None,
+        0 => put(out, at, &[0xf6]),
+        1 => put(out, at, &[0xf4 + token.number as u8]),
+        2 => put_head(out, at, 0, token.number),
+        3 => put_string(out, at, 3, bytes, token),
+        4 => put_string(out, at, 2, bytes, token),
+        5 => put_head(out, at, 4, token.number),
+        6 => put_head(out, at, 5, token.number),
+        7 => put_link(out, at, bytes, token),
+        _ => put_head(out, at, 1, token.number),
     }
 }
 
-/// Puts what the tape tells.
-fn put_all(packed: &mut PackedLinks<'_>, bytes: &[u8], tape: &[Token]) -> Option<()>
-    ensures { PutsTold (tape_told bytes.now tape.now) packed.old packed.new result }
-{
-    for token in tape {
-        put_told(packed, bytes, token)?;
-    }
-    Some(())
-}
-
-/// How many bytes the tape tells, where each of its tokens is one.
-fn told_length(bytes: &[u8], tape: &[Token]) -> Option<usize>
-    ensures { CountsTold bytes.now tape.now result }
-{
-    let mut none = [0; 0];
-    let mut counted = PackedLinks::new(&mut none);
-    put_all(&mut counted, bytes, tape)?;
-    Some(counted.needed)
-}
-
-/// Puts what the tape tells at the front of `out`, where there is room for it.
+/// Puts what the tape tells at the front of `out`.
+#[inline(never)]
 fn fill(bytes: &[u8], tape: &[Token], out: &mut [u8])
+    requires { HasRoomFor bytes.now tape.now out.old }
     ensures { FillsTold bytes.now tape.now out.old out.new }
 {
-    let mut packed = PackedLinks::new(out);
-    put_all(&mut packed, bytes, tape);
-    // No effect at run time. The proof reads what `out` holds from this use.
-    let _ = packed.out.len();
+    let mut at = 0;
+    for token in tape {
+        at = put_told(out, at, bytes, token);
+    }
 }
 
 /// The number of the answer to whether the front of so many bytes is a block.

@@ -14,7 +14,8 @@ use Rattle.dagcbor_resolve.proofs.Deciding.{ends_decided, items_decided}
 use Rattle.path_lines.specs.Ends.{IsToldAt}
 use Rattle.path_lines.specs.Raw.{IsRawOf}
 use Rattle.path_lines.specs.Proof.{IsProofFile, IsProofOf}
-use Rattle.held_lines.specs.Holding.{StoresSound}
+use Rattle.held_lines.specs.Holding.{Stores}
+use Rattle.held_lines.specs.declared.holding.Kept.TheVariants as which
 use Rattle.dagcar_lines.specs.Paths.{IsAtOf, IsAnswerOf, IsAnswer, ProofsDecide}
 use Rattle.dagcar_lines.specs.declared.at.Asked.{Asked}
 use Rattle.dagcar_lines.specs.declared.at.Asked.TheVariants as asks
@@ -49,8 +50,8 @@ sections_among stored (name ∷ names) q b (inr m) is = append_among (q, b) (sec
 -- ---- what is read of it
 
 -- the bytes under a name on the way are the same
-same_stored : (stored others : Stored) (sections : List Section) (names : List CidParts) (q : CidParts) → StoresSound sections stored → StoresSound (sections_at stored names) others → Among q names → others q ≡ stored q
-same_stored stored others sections names q s o m = by (others q) (stored q) refl refl
+same_stored : (stored others : Stored) (names : List CidParts) (q : CidParts) → Stores which.All (sections_at stored names) others → Among q names → others q ≡ stored q
+same_stored stored others names q o m = by (others q) (stored q) refl refl
   where
     none_there : others q ≡ None → IsThere others q → ⊥
     none_there none is = let clash : true ≡ false = sym is ∙ ap is_some none in absurd (cc clash)
@@ -58,15 +59,15 @@ same_stored stored others sections names q s o m = by (others q) (stored q) refl
     by : (x y : Option (List ℕ)) → others q ≡ x → stored q ≡ y → others q ≡ stored q
     by None None e f = e ∙ sym f
     by (Some b) y e f = e ∙ sym (among_sections stored names q b (o.some q b e).0)
-    by None (Some b) e f = absurd (none_there e (o.all (q, b) (sections_among stored names q b m f) (s.some q b f).1))
+    by None (Some b) e f = absurd (none_there e (o.all (q, b) (sections_among stored names q b m f) tt))
 
 under : (stored others : Stored) (q : CidParts) (b : List ℕ) → others q ≡ stored q → AreBytesOf stored q b → AreBytesOf others q b
 under stored others q b e (inl h) = inl (e ∙ h)
 under stored others q b e (inr h) = inr (e ∙ h.0, h.1, h.2)
 
-agree : (stored others : Stored) (sections : List Section) (way once : List CidParts) → StoresSound sections stored → StoresSound (sections_at stored once) others → AreOnceEach way once → AgreeOn way stored others
-agree stored others sections way once s o each q m b =
-    let same = same_stored stored others sections once q s o ((each.lists.all q).1 m) in
+agree : (stored others : Stored) (way once : List CidParts) → Stores which.All (sections_at stored once) others → AreOnceEach way once → AgreeOn way stored others
+agree stored others way once o each q m b =
+    let same = same_stored stored others once q o ((each.lists.all q).1 m) in
     (under stored others q b same, under others stored q b (sym same))
 
 -- ---- what is answered
@@ -105,7 +106,7 @@ decided asked passes root path b proof told (inl k) well out heard h = by h
     by (inr none) = absurd (none.2.1.0 (cid_bytes root ∷ []) (sections_at k.3.0 file.once) is_file)
     by (inl l) =
         let same = (file_unique proof l.0 (cid_bytes root ∷ []) l.1 (sections_at k.3.0 file.once) l.2 is_file).1 in
-        let alike = agree k.3.0 l.3.0 k.1 file.way file.once k.3.1 (subst (λ ss. StoresSound ss l.3.0) same l.3.1) file.each in
+        let alike = agree k.3.0 l.3.0 file.way file.once (subst (λ ss. Stores which.All ss l.3.0) same l.3.1) file.each in
         inl (k.0, k.1, k.2, (k.3.0, k.3.1, passes k.3.0 l.3.0 root path file.way file.passed alike well out heard l.3.2))
 
 pub data_decided : ProofsDecide asks.Data

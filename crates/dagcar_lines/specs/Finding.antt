@@ -10,7 +10,8 @@ use Rattle.ipld_links.specs.Reaching.{Stored, IsLost, ListsReachable, ListsLost}
 use Rattle.dagcbor_car.specs.Reached.{sections_at}
 use Rattle.block_lines.specs.Lines.{missing_line, BreaksLine}
 use Rattle.dagcbor_cli.specs.declared.fault.ToolError.{ToolError}
-use Rattle.held_lines.specs.Holding.{StoresSound, TellsFault}
+use Rattle.held_lines.specs.Holding.{Stores, TellsFault}
+use Rattle.held_lines.specs.declared.holding.Kept.TheVariants as which
 use Rattle.dagcar_lines.specs.declared.get.Search.{Search}
 use Rattle.dagcar_lines.specs.declared.get.Stop.{Stop}
 use Rattle.dagcar_lines.specs.declared.get.Stop.TheVariants as stops
@@ -57,7 +58,7 @@ pub record IsTreeOf (stored : Stored) (root : CidParts) (well : Bool) (out told 
 -- bytes are no file
 abbrev pub IsTree : CidParts → List ℕ → Bool → List ℕ → List ℕ → Type 0
 IsTree root b well out told = ((roots : List (List ℕ)) × (sections : List Section)
-    × IsFile b roots sections × ((stored : Stored) × StoresSound sections stored
+    × IsFile b roots sections × ((stored : Stored) × Stores which.Sound sections stored
     × IsTreeOf stored root well out told))
     ⊎ ((well ≡ false) × (out ≡ []) × TellsFault (λ sections. ⊤) b told)
 

@@ -12,7 +12,8 @@ use Rattle.path_lines.specs.Ends.{IsToldAt}
 use Rattle.path_lines.specs.Raw.{IsRawOf}
 use Rattle.path_lines.specs.Proof.{IsProofOf}
 use Rattle.block_lines.specs.Shown.{reserved_line}
-use Rattle.held_lines.specs.Holding.{StoresSound, TellsFault}
+use Rattle.held_lines.specs.Holding.{Stores, TellsFault}
+use Rattle.held_lines.specs.declared.holding.Kept.TheVariants as which
 use Rattle.dagcar_lines.specs.declared.at.Asked.{Asked}
 use Rattle.dagcar_lines.specs.declared.at.Asked.TheVariants as asks
 
@@ -34,11 +35,11 @@ IsAnswerOf asks.Data root path stored well out told = IsAtOf stored root path we
 IsAnswerOf asks.Bytes root path stored well out told = IsRawOf stored root path well out told
 IsAnswerOf asks.Proof root path stored well out told = IsProofOf stored root path well out told
 
--- what is said of a file: that of its sound sections; or nothing, and a line that tells why the bytes
--- are no file
+-- what is said of a file: that of its sections; or nothing, and a line that tells why the bytes are no
+-- file
 abbrev pub IsAnswer : Asked → CidParts → List (List ℕ) → List ℕ → Bool → List ℕ → List ℕ → Type 0
 IsAnswer asked root path b well out told = ((roots : List (List ℕ)) × (sections : List Section)
-    × IsFile b roots sections × ((stored : Stored) × StoresSound sections stored
+    × IsFile b roots sections × ((stored : Stored) × Stores which.All sections stored
     × IsAnswerOf asked root path stored well out told))
     ⊎ ((well ≡ false) × (out ≡ []) × TellsFault (λ sections. ⊤) b told)
 

@@ -9,7 +9,7 @@ ghost use Rattle.dagcar_lines.specs.Paths.{IsAtOf, IsAnswerOf, IsAnswer};
 use block_lines::{say_both, say_shown};
 use dagcbor_cli::ToolError;
 use dagcbor_resolve::{item_bytes, resolve};
-use held_lines::held_of;
+use held_lines::{Kept, held_of};
 use ipld_tree::Cid;
 use path_lines::{say_end, say_proof, say_raw};
 use std::alloc::Global;
@@ -84,7 +84,7 @@ pub fn write_asked<R: BufRead, W: Write, V: Write>(
         SaysBoth (IsAnswer asked root.now (segments path.now) b) (W.contents output.old)
         (V.contents errors.old) result (W.contents output.new) (V.contents errors.new)) }
 {
-    match held_of(alloc, input) {
+    match held_of(alloc, Kept::All, input) {
         Ok(Ok(held)) => say_asked(alloc, asked, root, path, &held.blocks, output, errors),
         Ok(Err(line)) => say_both((Vec::new(alloc), false), &line, output, errors),
         Err(fault) => Err(fault),

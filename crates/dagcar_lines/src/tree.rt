@@ -12,7 +12,7 @@ use block_lines::{is_none, missing_lines, say_both};
 use dagcbor_car::push_tree;
 use dagcbor_cli::{ToolError, write_all};
 use dagcbor_heads::{EncodeError, IoRefWriter};
-use held_lines::{held_of, is_there};
+use held_lines::{Kept, held_of, is_there};
 use ipld_links::{IDENTITY, Reached, reach_from};
 use ipld_tree::Cid;
 use std::alloc::Global;
@@ -107,7 +107,7 @@ pub fn write_tree<R: BufRead, W: Write, V: Write>(
         SaysBoth (IsTree root.now b) (W.contents output.old) (V.contents errors.old) result
         (W.contents output.new) (V.contents errors.new)) }
 {
-    match held_of(alloc, input) {
+    match held_of(alloc, Kept::Sound, input) {
         Ok(Ok(held)) => say_tree(alloc, root, &held.blocks, output, errors),
         Ok(Err(line)) => say_both((Vec::new(alloc), false), &line, output, errors),
         Err(fault) => Err(fault),

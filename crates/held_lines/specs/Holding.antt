@@ -1,10 +1,14 @@
 -- The blocks of a file, held in memory, and why bytes are no file.
-use Rattle.std.specs.Prelude.{◌≡◌, ◌⊎◌, ℕ, List, [], ◌∷◌, ◌++◌, Option, Some, ⊤, Result, MatchResult, OnOk, Vec}
+use Rattle.std.specs.Prelude.{◌≡◌, ◌⊎◌, ℕ, List, [], ◌∷◌, ◌++◌, true, cond, Option, None, Some, is_some, ⊤, Result, MatchResult, OnOk, Vec}
+use Rattle.std.specs.BTreeMap.{BTreeMap, get, is_at}
 use Rattle.std.specs.declared.alloc.Global.{Global}
+use Rattle.std.specs.declared.alloc.AllocError.{AllocError}
 use Rattle.std.specs.declared.convert.Infallible.{Infallible}
-use Rattle.ipld_tree.specs.Cid.{CidParts}
+use Rattle.ipld_tree.specs.Cid.{CidParts, cid_cmp}
 use Rattle.dagcbor_items.specs.Walks.{forms}
 use Rattle.dagcbor_car.specs.Car.{Section}
+use Rattle.dagcbor_car.specs.Each.{Takes}
+use Rattle.ipld_links.specs.Verdicts.{IsVerified}
 use Rattle.ipld_links.specs.Sound.{IsSound}
 use Rattle.dagcbor_car.specs.Sources.{RefusesStart, RefusesSection}
 use Rattle.dagcbor_car.specs.Versions.{IsFile}
@@ -13,6 +17,9 @@ use Rattle.dagcbor_car.specs.Checks.{IsFileFront, IsNoFile}
 use Rattle.ipld_links.specs.Reaching.{Stored, stored_in, IsThere}
 use Rattle.dagcbor_car.specs.declared.error.CarError.{CarError}
 use Rattle.block_lines.specs.Lines.{refused_line}
+use Rattle.held_lines.specs.declared.holding.Kept.{Kept}
+use Rattle.held_lines.specs.declared.holding.Kept.TheVariants as which
+use Rattle.held_lines.specs.declared.holding.Holding.{Holding}
 use Rattle.held_lines.specs.declared.holding.Held.{Held}
 
 -- ---- no file
@@ -30,20 +37,57 @@ TellsFault IsSo b told = (e : CarError Infallible) × IsFault IsSo e b × (told 
 
 -- ---- what is held
 
--- under each name of a sound section stand the bytes of such a section, and no others
-pub record StoresSound (sections : List Section) (stored : Stored) : Type 0 where
+-- which sections are kept: each, or the sound ones
+abbrev pub IsKept : Kept → Section → Type 0
+IsKept which.All s = ⊤
+IsKept which.Sound s = IsSound s
+
+-- under each name of a section that is kept stand the bytes of such a section: those that the name says,
+-- where a section has them; under no other name stand any
+pub record Stores (kept : Kept) (sections : List Section) (stored : Stored) : Type 0 where
   pub some : (q : CidParts) (b : List ℕ) → stored q ≡ Some b
-      → Among (q, b) sections × IsSound (q, b)
-  pub all : (s : Section) → Among s sections → IsSound s → IsThere stored s.0
+      → Among (q, b) sections × IsKept kept (q, b)
+  pub all : (s : Section) → Among s sections → IsKept kept s → IsThere stored s.0
+  pub named : (s : Section) → Among s sections → IsVerified s → (b : List ℕ) → stored s.0 ≡ Some b
+      → IsVerified (s.0, b)
 
--- a section is kept, if it is sound and none is kept under its name
-abbrev pub Keeps : {E : Type 0} → Section → Stored → Result (Unit {0}) E → Stored → Type 0
-Keeps s old result new = OnOk result ((sections : List Section) → StoresSound sections old
-    → StoresSound (sections ++ s ∷ []) new)
-
--- the roots of a file and its sound sections are kept; or the bytes are no file, of which a line tells
-abbrev pub HoldsFile : List ℕ → Result Held (Vec ℕ Global) → Type 0
-HoldsFile b held = MatchResult held
+-- the roots of a file and the sections that are kept; or the bytes are no file, of which a line tells
+abbrev pub HoldsFile : Kept → List ℕ → Result Held (Vec ℕ Global) → Type 0
+HoldsFile kept b held = MatchResult held
     (λ h. (sections : List Section) × IsFile b (forms h.roots.items) sections
-    × StoresSound sections (stored_in h.blocks))
+    × Stores kept sections (stored_in h.blocks))
     (λ line. TellsFault (λ sections. ⊤) b line.items)
+
+-- ---- its steps
+
+-- no section is better than this one
+abbrev pub IsGood : Kept → Section → Type 0
+IsGood which.All s = IsVerified s
+IsGood which.Sound s = IsSound s
+
+-- a section stays in the place of what stood under its name: none is better; or the same bytes stood
+-- there; or none did, and it is kept
+abbrev pub Stays : Kept → Option (Vec ℕ Global) → Section → Type 0
+Stays kept before s = IsGood kept s
+    ⊎ (((v : Vec ℕ Global) × (before ≡ Some v) × (v.items ≡ s.1))
+    ⊎ ((before ≡ None) × IsKept kept s))
+
+-- it gives way: others are better, and it is not kept but where a block stood under its name
+abbrev pub Yields : Kept → Option (Vec ℕ Global) → Section → Type 0
+Yields kept before s = ¬ IsGood kept s × (IsKept kept s → is_some before ≡ true)
+
+-- this stands under the name, and under each other name what stood there
+abbrev pub PutsBack : CidParts → Option (Vec ℕ Global) → BTreeMap CidParts (Vec ℕ Global)
+    → BTreeMap CidParts (Vec ℕ Global) → Type 0
+PutsBack name before old new = (q : CidParts)
+    → get cid_cmp new q ≡ cond (is_at (cid_cmp name) q) before (get cid_cmp old q)
+
+-- a section is one more of those of which some are kept
+abbrev pub Keeps : {E : Type 0} → Kept → Section → Stored → Result (Unit {0}) E → Stored → Type 0
+Keeps kept s old result new = OnOk result ((sections : List Section) → Stores kept sections old
+    → Stores kept (sections ++ s ∷ []) new)
+
+-- the same of what is held, of which the same are kept
+abbrev pub KeepsNext : Takes Holding AllocError
+KeepsNext s old result new = (new.kept ≡ old.kept)
+    × Keeps old.kept s (stored_in old.blocks) result (stored_in new.blocks)

@@ -1,26 +1,38 @@
 //! The blocks of a file, held in memory.
 
-ghost use Rattle.std.specs.Prelude.{◌≡◌, is_some, IfOk, IfSome};
+ghost use Rattle.std.specs.Prelude.{◌≡◌, is_some, IfOk, IfSome, MatchBool, OnOk};
 ghost use Rattle.ipld_links.specs.Reaching.{stored_in};
-ghost use Rattle.held_lines.specs.Holding.{StoresSound, Keeps, HoldsFile};
+ghost use Rattle.ipld_links.specs.Verdicts.{IsVerified};
+ghost use Rattle.held_lines.specs.Holding.{IsGood, Stays, Yields, PutsBack, Keeps};
+ghost use Rattle.held_lines.specs.Holding.{KeepsNext, HoldsFile};
 
 use crate::take::{Ended, take_input};
 use dagcbor_car::{Section, SectionSink};
 use dagcbor_cli::ToolError;
-use ipld_links::{check_block, stored_bytes};
+use ipld_links::{Verdict, check_block, stored_bytes, verify};
 use ipld_tree::Cid;
 use std::alloc::{AllocError, Global};
 use std::collections::BTreeMap;
 use std::io::BufRead;
 
-/// The sound blocks of a file, each under its name.
+/// Which sections of a file are kept.
+#[derive(Clone, Copy, Drop)]
+pub enum Kept {
+    /// Each, whatever its bytes: who reads a block judges it.
+    All,
+    /// Those that are sound.
+    Sound,
+}
+
+/// The blocks of a file, each under its name.
 #[derive(Drop)]
 struct Holding {
     alloc: Global,
+    kept: Kept,
     blocks: BTreeMap<Cid, Vec<u8>>,
 }
 
-/// A file in memory: its roots, and its sound blocks, each under its name.
+/// A file in memory: its roots, and its blocks, each under its name.
 #[derive(Drop)]
 pub struct Held {
     pub roots: Vec<Cid>,
@@ -34,25 +46,82 @@ pub fn is_there(blocks: &BTreeMap<Cid, Vec<u8>>, name: &Cid) -> bool
     stored_bytes(blocks, name).is_some()
 }
 
-/// Keeps the block of a sound section, if none is held under its name.
+/// Whether the bytes are those that the section's name says.
+fn is_named(section: &Section<'_>) -> bool
+    ensures { MatchBool result (IsVerified (section.now.cid, section.now.block.now))
+        (¬ IsVerified (section.now.cid, section.now.block.now)) }
+{
+    match verify(&section.cid, section.block) {
+        Verdict::OtherBytes => false,
+        Verdict::Unverified => false,
+        _ => true,
+    }
+}
+
+/// Whether no other section is better.
+fn is_good(kept: Kept, section: &Section<'_>) -> bool
+    ensures { MatchBool result (IsGood kept (section.now.cid, section.now.block.now))
+        (¬ IsGood kept (section.now.cid, section.now.block.now)) }
+{
+    match kept {
+        Kept::All => is_named(section),
+        Kept::Sound => check_block(&section.cid, section.block).is_ok(),
+    }
+}
+
+/// Whether a section stays in the place of what stood under its name. Its bytes are judged where that
+/// decides, and so once at most.
+fn stays(kept: Kept, before: &Option<Vec<u8>>, section: &Section<'_>) -> bool
+    ensures { MatchBool result
+        (Stays kept before.now (section.now.cid, section.now.block.now))
+        (Yields kept before.now (section.now.cid, section.now.block.now)) }
+{
+    match before {
+        Some(block) if block.as_slice() == section.block => true,
+        None if matches!(kept, Kept::All) => true,
+        _ => is_good(kept, section),
+    }
+}
+
+/// Puts back what stood under the name, which has a block.
+fn put_back(
+    blocks: &mut BTreeMap<Cid, Vec<u8>>,
+    name: &Cid,
+    before: Option<Vec<u8>>,
+) -> Result<(), AllocError>
+    ensures { OnOk result (PutsBack name.now before blocks.old blocks.new) }
+{
+    match before {
+        Some(block) => match blocks.insert(*name, block) {
+            Ok(_) => Ok(()),
+            Err(_) => Err(AllocError),
+        },
+        None => {
+            blocks.remove(name);
+            Ok(())
+        }
+    }
+}
+
+/// Keeps the block of a section, if it is to be kept. Of two under one name the one stays whose bytes
+/// the name says.
 fn hold(
     alloc: Global,
+    kept: Kept,
     blocks: &mut BTreeMap<Cid, Vec<u8>>,
     section: &Section<'_>,
 ) -> Result<(), AllocError>
-    ensures { Keeps (section.now.cid, section.now.block.now) (stored_in blocks.old) result
+    ensures { Keeps kept (section.now.cid, section.now.block.now) (stored_in blocks.old) result
         (stored_in blocks.new) }
 {
-    if is_there(blocks, &section.cid) {
-        return Ok(());
-    }
-    match check_block(&section.cid, section.block) {
-        Ok(()) => {}
-        Err(_) => return Ok(()),
-    }
     let block = section.block.to_vec(alloc)?;
     match blocks.insert(section.cid, block) {
-        Ok(_none) => Ok(()),
+        Ok(before) => {
+            if stays(kept, &before, section) {
+                return Ok(());
+            }
+            put_back(blocks, &section.cid, before)
+        }
         Err(_) => Err(AllocError),
     }
 }
@@ -60,21 +129,24 @@ fn hold(
 impl SectionSink for Holding {
     type Stop = AllocError;
 
-    ghost takes = { λ s old result new. Keeps s (stored_in old.blocks) result
-        (stored_in new.blocks) };
+    ghost takes = { KeepsNext };
 
     fn take(&mut self, section: &Section<'_>) -> Result<(), AllocError> {
-        hold(self.alloc, &mut self.blocks, section)
+        hold(self.alloc, self.kept, &mut self.blocks, section)
     }
 }
 
-/// The roots and the sound blocks of the file that the input is, or the line that tells why it is
-/// none.
-pub fn held_of<R: BufRead>(alloc: Global, input: &mut R) -> Result<Result<Held, Vec<u8>>, ToolError>
-    ensures { IfSome (R.remaining input.old) (λ b. IfOk result (HoldsFile b)) }
+/// The roots and the blocks of the file that the input is, or the line that tells why it is none.
+pub fn held_of<R: BufRead>(
+    alloc: Global,
+    kept: Kept,
+    input: &mut R,
+) -> Result<Result<Held, Vec<u8>>, ToolError>
+    ensures { IfSome (R.remaining input.old) (λ b. IfOk result (HoldsFile kept b)) }
 {
     let mut holding = Holding {
         alloc,
+        kept,
         blocks: BTreeMap::new(alloc),
     };
     match take_input(alloc, &mut holding, input) {

@@ -4,5 +4,5 @@
 mod holding;
 mod take;
 
-pub use holding::{Held, held_of, is_there};
+pub use holding::{Held, Kept, held_of, is_there};
 pub use take::{Ended, fault_line, input_over, take_input, take_sections};

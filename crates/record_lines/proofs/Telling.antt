@@ -1,14 +1,19 @@
 -- What is said of a repository's records.
-use Rattle.std.proofs.Common.{◌≡◌, inr, ℕ, List, [], ◌∷◌, length, ◌≤◌, ◌<◌, arith, Bool, sym, ap, refl, ◌∙◌, subst, get_or, Result, Ok, Err, IfOk}
+use Rattle.std.proofs.Common.{◌≡◌, inl, inr, ℕ, List, [], ◌∷◌, length, ◌≤◌, ◌<◌, arith, Bool, sym, ap, refl, ◌∙◌, subst, get_or, Result, Ok, Err, IfOk}
 use Rattle.ipld_tree.specs.Cid.{CidParts}
+use Rattle.ipld_links.specs.Blocks.{NamedBlock}
 use Rattle.ipld_links.specs.Reaching.{Stored}
+use Rattle.ipld_links.specs.Verdicts.{IsVerified, IsVerdict}
+use Rattle.ipld_links.specs.declared.verdict.Verdict.{Verdict}
+use Rattle.ipld_links.specs.declared.verdict.Verdict.TheVariants as verdicts
 use Rattle.atproto_mst.specs.Repos.{IsRepo, RepoRefused, IsStoredCommit, CommitRefused}
 use Rattle.atproto_mst.specs.declared.commit.Commit.{Commit}
 use Rattle.atproto_mst.specs.declared.entries.MstEntry.{MstEntry}
 use Rattle.atproto_mst.specs.declared.repo_error.RepoError.{RepoError}
 use Rattle.atproto_mst.specs.declared.repo_error.RepoError.TheVariants.{OutOfMemory}
-use Rattle.record_lines.specs.Words.{IsOfRepo, repo_line, roots_line}
-use Rattle.record_lines.specs.Records.{IsToldAlone, OfOneRoot, IsRecordsAt, IsRecordAt}
+use Rattle.record_lines.specs.Words.{IsOfRepo, repo_line}
+use Rattle.record_lines.specs.Repositories.{OfOneRoot, IsUnread}
+use Rattle.record_lines.specs.Records.{IsToldAlone, IsRecordAt}
 
 -- what holds of an answer holds of it in other words
 pub if_ok : {A E : Type 0} {P Q : A → Type 0} (r : Result A E) → IfOk r P → ((a : A) → P a → Q a) → IfOk r Q
@@ -25,13 +30,13 @@ one_root [] a least most is = absurd (omega (arith, least))
 one_root (x ∷ []) a least most is = ap (λ y. y ∷ []) (sym is)
 one_root (x ∷ y ∷ xs) a least most is = absurd (omega (arith, most))
 
-pub of_one : (IsSaid : CidParts → Bool → List ℕ → List ℕ → Type 0) (roots : List CidParts) (root : CidParts) (well : Bool) (out told : List ℕ) → roots ≡ root ∷ [] → IsSaid root well out told → OfOneRoot IsSaid roots well out told
-of_one IsSaid roots root well out told is h = subst (λ rs. OfOneRoot IsSaid rs well out told) (sym is) h
+pub of_one : (IsSo : CidParts → Type 0) (IsOther : ℕ → Type 0) (roots : List CidParts) (root : CidParts) → roots ≡ root ∷ [] → IsSo root → OfOneRoot IsSo IsOther roots
+of_one IsSo IsOther roots root is h = subst (OfOneRoot IsSo IsOther) (sym is) h
 
-pub of_others : (IsSaid : CidParts → Bool → List ℕ → List ℕ → Type 0) (roots : List CidParts) (well : Bool) (out told : List ℕ) → (length roots ≡ 1 → ⊥) → IsToldAlone (roots_line (length roots)) well out told → OfOneRoot IsSaid roots well out told
-of_others IsSaid [] well out told other h = h
-of_others IsSaid (root ∷ []) well out told other h = absurd (other refl)
-of_others IsSaid (root ∷ more ∷ roots) well out told other h = h
+pub of_others : (IsSo : CidParts → Type 0) (IsOther : ℕ → Type 0) (roots : List CidParts) → (length roots ≡ 1 → ⊥) → IsOther (length roots) → OfOneRoot IsSo IsOther roots
+of_others IsSo IsOther [] other h = h
+of_others IsSo IsOther (root ∷ []) other h = absurd (other refl)
+of_others IsSo IsOther (root ∷ more ∷ roots) other h = h
 
 -- ---- refusals
 
@@ -39,8 +44,21 @@ of_others IsSaid (root ∷ more ∷ roots) well out told other h = h
 never_lack : (e : RepoError) → IsOfRepo e → e ≡ OutOfMemory → ⊥
 never_lack e is lack = subst IsOfRepo lack is
 
-pub refused_at : (stored : Stored) (root : CidParts) (e : RepoError) (well : Bool) (out told : List ℕ) → RepoRefused stored root e → ((c : Commit) (records : List MstEntry) → IsRepo stored root c records → e ≡ OutOfMemory) → IsOfRepo e → IsToldAlone (repo_line root e) well out told → IsRecordsAt stored root well out told
-refused_at stored root e well out told refused whole is h = inr ((λ c records r. never_lack e is (whole c records r)), (e, refused, is, h))
+pub unread_at : (stored : Stored) (root : CidParts) (e : RepoError) (line : List ℕ) → RepoRefused stored root e → ((c : Commit) (records : List MstEntry) → IsRepo stored root c records → e ≡ OutOfMemory) → IsOfRepo e → line ≡ repo_line root e → IsUnread stored root line
+unread_at stored root e line refused whole is said = ((λ c records r. never_lack e is (whole c records r)), (e, refused, is, said))
 
 pub no_commit_at : (stored : Stored) (key : List ℕ) (root : CidParts) (e : RepoError) (well : Bool) (out told : List ℕ) → CommitRefused stored root e → ((c : Commit) → IsStoredCommit stored root c → e ≡ OutOfMemory) → IsOfRepo e → IsToldAlone (repo_line root e) well out told → IsRecordAt stored key root well out told
 no_commit_at stored key root e well out told refused whole is h = inr ((λ c k. never_lack e is (whole c k)), (e, refused, is, h))
+
+-- ---- the bytes under a record's name
+
+pub never_tested : (s : NamedBlock) → IsVerdict s verdicts.Unverified → IsVerified s → ⊥
+never_tested s h (inl k) = h (inl k.0)
+never_tested s h (inr k) = h (inr k.0)
+
+pub tested : (s : NamedBlock) (v : Verdict) → IsVerdict s v → (v ≡ verdicts.OtherBytes → ⊥) → (v ≡ verdicts.Unverified → ⊥) → IsVerified s
+tested s (verdicts.Block kind) h other none = h.0
+tested s (verdicts.Refused e) h other none = h.0
+tested s verdicts.NotRead h other none = h.0
+tested s verdicts.OtherBytes h other none = absurd (other refl)
+tested s verdicts.Unverified h other none = absurd (none refl)

@@ -1,20 +1,15 @@
 -- What is said of two files of repositories.
-use Rattle.std.specs.Prelude.{◌≡◌, ◌⊎◌, ℕ, List, [], ◌∷◌, ◌++◌, codes, flat_map, Bool, true, false, Option, None, Some}
+use Rattle.std.specs.Prelude.{◌≡◌, ◌⊎◌, ℕ, List, [], ◌∷◌, ◌++◌, codes, flat_map, Bool, true, Option, None, Some}
 use Rattle.ipld_tree.specs.Cid.{CidParts}
 use Rattle.cid_text.specs.Texts.{cid_text}
-use Rattle.dagcbor_items.specs.Walks.{forms}
-use Rattle.dagcbor_car.specs.Car.{Section}
-use Rattle.dagcbor_car.specs.Versions.{IsFile}
-use Rattle.ipld_links.specs.Reaching.{Stored}
 use Rattle.atproto_mst.specs.Changes.{Changed, AreChanges}
 use Rattle.atproto_mst.specs.Entries.{entries}
-use Rattle.atproto_mst.specs.Repos.{IsRepo}
 use Rattle.atproto_mst.specs.declared.commit.Commit.{Commit}
 use Rattle.atproto_mst.specs.declared.entries.MstEntry.{MstEntry}
 use Rattle.block_lines.specs.Lines.{line}
-use Rattle.held_lines.specs.Holding.{StoresSound}
 use Rattle.record_lines.specs.Keys.{key_text}
-use Rattle.record_lines.specs.Records.{IsToldAlone, IsRecords}
+use Rattle.record_lines.specs.Repositories.{IsRepoFile, IsNoRepoFile}
+use Rattle.record_lines.specs.Records.{IsToldAlone}
 
 -- ---- a line
 
@@ -36,27 +31,18 @@ change_line c = line (change_word c.1.0 c.1.1 ++ (key_text c.0 ++ (name_word c.1
 
 -- ---- two files
 
--- the bytes are a file whose one root is the commit of a whole repository, of these records
-abbrev pub HasRecords : List ℕ → List MstEntry → Type 0
-HasRecords b records = (root : CidParts) × (sections : List Section) × IsFile b (forms (root ∷ [])) sections
-    × ((stored : Stored) × StoresSound sections stored × ((c : Commit) × IsRepo stored root c records))
-
--- the bytes are no such file, of which `records` tells this
-abbrev pub TellsOfRecords : List ℕ → List ℕ → Type 0
-TellsOfRecords b told = IsRecords b false [] told
-
 -- what is said of a new file beside these records: a line for each key whose records differ, in the
--- order of keys; or nothing, and what is told of it
+-- order of keys; or nothing, and the line that tells why it is no repository
 abbrev pub IsChangesTo : List MstEntry → List ℕ → Bool → List ℕ → List ℕ → Type 0
 IsChangesTo before new well out told =
-    ((after : List MstEntry) × (cs : List Changed) × HasRecords new after
+    ((c : Commit) × (after : List MstEntry) × (cs : List Changed) × IsRepoFile new c after
     × AreChanges (entries before) (entries after) cs × (well ≡ true) × (out ≡ flat_map change_line cs)
     × (told ≡ []))
-    ⊎ ((text : List ℕ) × TellsOfRecords new text × IsToldAlone (codes "new: " ++ text) well out told)
+    ⊎ ((text : List ℕ) × IsNoRepoFile new text × IsToldAlone (codes "new: " ++ text) well out told)
 
 -- what `changes` says of two files: that of the new one beside the records of the old one; or nothing,
--- and what is told of the old one
+-- and the line that tells why the old one is no repository
 abbrev pub IsChangesOf : List ℕ → List ℕ → Bool → List ℕ → List ℕ → Type 0
 IsChangesOf old new well out told =
-    ((before : List MstEntry) × HasRecords old before × IsChangesTo before new well out told)
-    ⊎ ((text : List ℕ) × TellsOfRecords old text × IsToldAlone (codes "old: " ++ text) well out told)
+    ((c : Commit) × (before : List MstEntry) × IsRepoFile old c before × IsChangesTo before new well out told)
+    ⊎ ((text : List ℕ) × IsNoRepoFile old text × IsToldAlone (codes "old: " ++ text) well out told)

@@ -1,5 +1,6 @@
 pub mod Keys
 pub mod Words
+pub mod Repositories
 pub mod Records
 pub mod Differing
 pub mod Laws

@@ -1,9 +1,9 @@
 //! Keys as they stand in lines.
 
-ghost use Rattle.std.specs.Prelude.{◌≡◌, ◌++◌, ◌<◌, OnOk, IfOk};
+ghost use Rattle.std.specs.Prelude.{◌≡◌, ◌++◌, ◌<◌, OnOk};
 ghost use Rattle.record_lines.specs.Keys.{upper_digit, is_spelled, key_byte, key_text};
 
-use std::alloc::{AllocError, Global};
+use std::alloc::AllocError;
 
 /// A digit of base 16.
 fn upper_digit(value: u8) -> u8
@@ -31,14 +31,13 @@ fn push_byte(byte: u8, out: &mut Vec<u8>) -> Result<(), AllocError>
     }
 }
 
-/// A key in one word of a line: a byte that is none of 0x21 to 0x7e, or is `%`, as `%` and two
+/// Appends a key as one word of a line: a byte that is none of 0x21 to 0x7e, or is `%`, as `%` and two
 /// digits.
-pub fn key_text(alloc: Global, key: &[u8]) -> Result<Vec<u8>, AllocError>
-    ensures { IfOk result (λ v. v.items ≡ key_text key.now) }
+pub(crate) fn push_key(key: &[u8], out: &mut Vec<u8>) -> Result<(), AllocError>
+    ensures { OnOk result (out.new.items ≡ out.old.items ++ key_text key.now) }
 {
-    let mut out = Vec::new(alloc);
     for &byte in key {
-        push_byte(byte, &mut out)?;
+        push_byte(byte, out)?;
     }
-    Ok(out)
+    Ok(())
 }

@@ -2,16 +2,14 @@
 #![tactic(auto)]
 
 mod differing;
-mod file;
 mod key;
 pub mod laws;
 mod record;
 mod records;
+mod repository;
 mod words;
 
 pub use differing::write_changes;
-pub use file::{write_record, write_records};
-pub use key::key_text;
-pub use record::say_record;
-pub use records::say_records;
-pub use words::{repo_line, roots_line};
+pub use record::write_record;
+pub use records::write_records;
+pub use repository::read_file;

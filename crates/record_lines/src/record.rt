@@ -1,19 +1,45 @@
 //! `record`: one record of a repository.
 
-ghost use Rattle.std.specs.Prelude.{IfOk};
+ghost use Rattle.std.specs.Prelude.{List, ℕ, IfOk, IfSome};
 ghost use Rattle.ipld_links.specs.Reaching.{stored_in};
-ghost use Rattle.block_lines.specs.Lines.{SaysBoth};
-ghost use Rattle.record_lines.specs.Records.{IsBlockSaid, IsSaidOfKey, IsRecordAt, IsRecordOf};
+ghost use Rattle.block_lines.specs.Lines.{told_line, SaysBoth};
+ghost use Rattle.record_lines.specs.Records.{IsToldAlone, AreBytesSaid, IsBlockSaid};
+ghost use Rattle.record_lines.specs.Records.{IsSaidOfKey, IsRecordAt, IsRecordOf, IsRecord};
 
-use crate::words::{repo_line, roots_line, told_alone, tree_line};
+use crate::repository::one_root;
+use crate::words::{repo_line, told_alone, tree_line};
 use atproto_mst::{find_record, stored_commit};
-use block_lines::{Answer, line_of, missing_line, say_both, shown};
+use block_lines::{Answer, line_of, missing_line, say_both, shown, told_line};
 use dagcbor_cli::ToolError;
-use ipld_links::stored_bytes;
+use held_lines::{Kept, held_of};
+use ipld_links::{Verdict, stored_bytes, verify};
 use ipld_tree::Cid;
 use std::alloc::{AllocError, Global};
 use std::collections::BTreeMap;
-use std::io::Write;
+use std::io::{BufRead, Write};
+
+/// What is told of a record's name, under which there are other bytes than it says.
+fn verdict_told(alloc: Global, name: &Cid, verdict: &Verdict) -> Result<Answer, AllocError>
+    ensures { (bytes : List ℕ) → IfOk result (λ p.
+        IsToldAlone (told_line ((name.now, bytes), verdict.now)) p.0.1 p.0.0.items p.1.items) }
+{
+    let (line, _well) = told_line(alloc, name, verdict)?;
+    Ok(told_alone(alloc, line))
+}
+
+/// What is said of the bytes under a record's name: what is shown of them, where they are those that it
+/// says.
+fn bytes_said(alloc: Global, name: &Cid, bytes: &[u8]) -> Result<Answer, AllocError>
+    ensures { IfOk result
+        (λ p. AreBytesSaid name.now bytes.now p.0.1 p.0.0.items p.1.items) }
+{
+    let verdict = verify(name, bytes);
+    match &verdict {
+        Verdict::OtherBytes => verdict_told(alloc, name, &verdict),
+        Verdict::Unverified => verdict_told(alloc, name, &verdict),
+        _ => shown(alloc, bytes),
+    }
+}
 
 /// What is said of a record's name.
 fn block_said(
@@ -25,7 +51,7 @@ fn block_said(
         (λ p. IsBlockSaid (stored_in blocks.now) name.now p.0.1 p.0.0.items p.1.items) }
 {
     match stored_bytes(blocks, name) {
-        Some(block) => shown(alloc, block),
+        Some(bytes) => bytes_said(alloc, name, bytes),
         None => {
             let line = missing_line(alloc, name)?;
             Ok(told_alone(alloc, line))
@@ -87,31 +113,43 @@ fn record_of(
     ensures { IfOk result
         (λ p. IsRecordOf key.now (stored_in blocks.now) roots.now p.0.1 p.0.0.items p.1.items) }
 {
-    match roots {
-        [root] => record_at(alloc, blocks, root, key),
-        _ => {
-            let line = roots_line(alloc, roots.len())?;
-            Ok(told_alone(alloc, line))
-        }
+    match one_root(alloc, roots)? {
+        Ok(root) => record_at(alloc, blocks, &root, key),
+        Err(line) => Ok(told_alone(alloc, line)),
     }
 }
 
-/// Writes the data of the record of the key, in the tree of the commit that the one root names; or
-/// tells why there is none. Whether there is one. The commit, the nodes on the way to the key and the
-/// record need be stored, and no others.
-pub fn say_record<W: Write, V: Write>(
+/// What is said of the key in the file that the input has.
+fn record_in<R: BufRead>(alloc: Global, key: &[u8], input: &mut R) -> Result<Answer, ToolError>
+    ensures { IfSome (R.remaining input.old)
+        (λ b. IfOk result (λ p. IsRecord key.now b p.0.1 p.0.0.items p.1.items)) }
+{
+    match held_of(alloc, Kept::All, input) {
+        Ok(Ok(held)) => {
+            let answer = record_of(alloc, &held.roots, &held.blocks, key)?;
+            Ok(answer)
+        }
+        Ok(Err(line)) => Ok(told_alone(alloc, line)),
+        Err(fault) => Err(fault),
+    }
+}
+
+/// Writes the data of the record of the key, in the tree of the commit that the one root of the file
+/// names that the input has; or tells why there is none. Whether there is one. The commit, the nodes on
+/// the way to the key and the record need be there, and no others. The blocks of the input are in memory.
+pub fn write_record<R: BufRead, W: Write, V: Write>(
     alloc: Global,
-    roots: &[Cid],
-    blocks: &BTreeMap<Cid, Vec<u8>>,
-    key: &[u8],
+    key: &str,
+    input: &mut R,
     output: &mut W,
     errors: &mut V,
 ) -> Result<bool, ToolError>
-    ensures { SaysBoth (IsRecordOf key.now (stored_in blocks.now) roots.now) (W.contents output.old)
-        (V.contents errors.old) result (W.contents output.new) (V.contents errors.new) }
+    ensures { IfSome (R.remaining input.old) (λ b.
+        SaysBoth (IsRecord key.now b) (W.contents output.old) (V.contents errors.old) result
+        (W.contents output.new) (V.contents errors.new)) }
 {
-    match record_of(alloc, roots, blocks, key) {
+    match record_in(alloc, key.as_bytes(), input) {
         Ok((said, told)) => say_both(said, &told, output, errors),
-        Err(_) => Err(ToolError::OutOfMemory),
+        Err(fault) => Err(fault),
     }
 }

@@ -182,7 +182,7 @@ pub const ROWS: &[Row] = &[
         "bafyreihmge4qxbweeb5hev33cwr6r7cxcxne7tb4mygmq3wsduicvzrusa/other/0",
         1,
         b"",
-        b"missing bafyreigzfgfbbunqonmdpxcl3bo2yza3b46o6j5epzovhjkpf47vwl6p7i dag-cbor\n",
+        b"bafyreigzfgfbbunqonmdpxcl3bo2yza3b46o6j5epzovhjkpf47vwl6p7i other bytes\n",
     ),
     (
         "at",

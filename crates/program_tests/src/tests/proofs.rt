@@ -54,7 +54,7 @@ const PROOFS: &[(&str, u8, &[Part], &[u8])] = &[
         "other/0",
         1,
         &[],
-        b"missing bafyreigzfgfbbunqonmdpxcl3bo2yza3b46o6j5epzovhjkpf47vwl6p7i dag-cbor\n",
+        b"bafyreigzfgfbbunqonmdpxcl3bo2yza3b46o6j5epzovhjkpf47vwl6p7i other bytes\n",
     ),
     ("raw", 0, &[TOP], b""),
     (
@@ -142,7 +142,7 @@ const ITEMS: &[(&str, u8, &[u8], &[u8])] = &[
         "other/0",
         1,
         b"",
-        b"missing bafyreigzfgfbbunqonmdpxcl3bo2yza3b46o6j5epzovhjkpf47vwl6p7i dag-cbor\n",
+        b"bafyreigzfgfbbunqonmdpxcl3bo2yza3b46o6j5epzovhjkpf47vwl6p7i other bytes\n",
     ),
     (
         "raw",

@@ -40,6 +40,10 @@ pub const LINES: &[u8] =
 const FOUR_MISSING: &[u8] =
     b"missing bafyreicgc6huwa5virt5zb2bnzmz4dd42qo5fyier2a4e7adwyeop5kzj4 dag-cbor\n";
 
+/// What is told where other bytes stand under its name.
+const FOUR_OTHER: &[u8] =
+    b"bafyreicgc6huwa5virt5zb2bnzmz4dd42qo5fyier2a4e7adwyeop5kzj4 other bytes\n";
+
 /// Other bytes under the name of that node.
 const OTHER_NODE: &[u8] =
     b"\x72\x01\x71\x12\x20\x46\x17\x8f\x4b\x03\xb5\x44\x67\xdc\x87\x41\x6e\x59\x9e\x0c\x7c\xd4\x1d\xd2\xe1\x04\x8e\x81\xc2\x7c\x03\xb6\x08\xe7\xf5\x59\x4f\xa2\x61\x65\x81\xa4\x61\x6b\x52\x63\x6f\x6d\x2e\x65\x78\x61\x6d\x70\x6c\x65\x2e\x6e\x6f\x74\x65\x2f\x34\x61\x70\x00\x61\x74\xf6\x61\x76\xd8\x2a\x58\x25\x00\x01\x71\x12\x20\xb8\x06\xc1\x5b\xde\x9f\x29\xa8\x79\x10\xf2\x4d\x75\x09\x23\x13\x5e\xae\x9b\x48\x16\xd3\x3b\x76\x9c\x24\xcd\x09\x34\xfd\x4f\xff\x61\x6c\xf5";
@@ -224,17 +228,10 @@ fn run_records(alloc: Global, file: &[u8]) -> Result<u8, Fail> {
     Ok(ended)
 }
 
-/// Fails where the file has all but the node of the key 4, and gives anything else.
-fn lacks_four(alloc: Global, file: &[u8]) -> Result<(), Fail> {
-    gives(alloc, file, &["records"], 1, b"", FOUR_MISSING)?;
-    gives(
-        alloc,
-        file,
-        &["record", "com.example.note/4"],
-        1,
-        b"",
-        FOUR_MISSING,
-    )?;
+/// Fails where the file has all but the node of the key 4, and gives anything else than this line.
+fn lacks_four(alloc: Global, file: &[u8], line: &[u8]) -> Result<(), Fail> {
+    gives(alloc, file, &["records"], 1, b"", line)?;
+    gives(alloc, file, &["record", "com.example.note/4"], 1, b"", line)?;
     let shown = b"{\"text\":\"one\"}\n";
     gives(
         alloc,
@@ -250,9 +247,41 @@ fn lacks_four(alloc: Global, file: &[u8]) -> Result<(), Fail> {
 fn a_node_that_is_missing_is_told(rt: HostRuntime) -> Result<(), Fail> {
     let alloc = rt.alloc();
     let nodes = &[NODES[0], NODES[2], NODES[3], NODES[4]];
-    lacks_four(alloc, &file_of(alloc, HEADER, nodes, RECORDS)?)?;
+    let file = file_of(alloc, HEADER, nodes, RECORDS)?;
+    lacks_four(alloc, &file, FOUR_MISSING)?;
     let others = &[NODES[0], OTHER_NODE, NODES[2], NODES[3], NODES[4]];
-    lacks_four(alloc, &file_of(alloc, HEADER, others, RECORDS)?)
+    let file = file_of(alloc, HEADER, others, RECORDS)?;
+    lacks_four(alloc, &file, FOUR_OTHER)
+}
+
+/// Of two sections of one name the one is read whose bytes the name says, wherever it stands.
+#[test]
+fn other_bytes_beside_a_node_change_nothing(rt: HostRuntime) -> Result<(), Fail> {
+    let alloc = rt.alloc();
+    let nodes = joined(alloc, NODES)?;
+    let file = file_of(alloc, HEADER, &[OTHER_NODE, nodes.as_slice()], RECORDS)?;
+    gives(alloc, &file, &["records"], 0, LINES, b"")?;
+    let file = file_of(alloc, HEADER, &[nodes.as_slice(), OTHER_NODE], RECORDS)?;
+    gives(alloc, &file, &["records"], 0, LINES, b"")
+}
+
+/// A record's own bytes decide nothing but what is shown of it.
+#[test]
+fn a_record_of_other_bytes_is_told(rt: HostRuntime) -> Result<(), Fail> {
+    let alloc = rt.alloc();
+    let records = joined(alloc, RECORDS)?;
+    let mut file = file_of(alloc, HEADER, NODES, &[records.as_slice()])?;
+    file.pop();
+    file.push(b'x')?;
+    gives(alloc, &file, &["records"], 0, LINES, b"")?;
+    gives(
+        alloc,
+        &file,
+        &["record", "com.example.note/5"],
+        1,
+        b"",
+        b"bafyreifeem2chwoc4h2nzvi27wzhj37h6udiqyncu33wfkzgojfrijndvq other bytes\n",
+    )
 }
 
 /// A file, and what `records` tells of it, which writes nothing.

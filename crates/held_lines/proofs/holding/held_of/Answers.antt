@@ -5,8 +5,8 @@ use Rattle.held_lines.proofs.holding.held_of.Goals as goal
 
 pub returns-in-Whole : goal.returns-in-Whole
 returns-in-Whole g c = if_some (g.R.Read.remaining c.args.input.now) c.in-Ok.ensures (λ b h.
-    subst (λ e. HeldOf b c.in-Ok.roots e c.take_input.new.sink) c.in-Whole.is (held_of b _ c.take_input.new.sink c.in-Ok.roots c.in-Ok.ended c.new.ensures.empty h))
+    subst (λ e. HeldOf c.args.kept b c.in-Ok.roots e c.take_input.new.sink) c.in-Whole.is (held_of b _ c.take_input.new.sink c.in-Ok.roots c.in-Ok.ended c.new.ensures.empty h))
 
 pub returns-in-Fault : goal.returns-in-Fault
 returns-in-Fault g c = if_some (g.R.Read.remaining c.args.input.now) c.in-Ok.ensures (λ b h.
-    subst (λ e. HeldOf b c.in-Ok.roots e c.take_input.new.sink) c.in-Fault.is (held_of b _ c.take_input.new.sink c.in-Ok.roots c.in-Ok.ended c.new.ensures.empty h))
+    subst (λ e. HeldOf c.args.kept b c.in-Ok.roots e c.take_input.new.sink) c.in-Fault.is (held_of b _ c.take_input.new.sink c.in-Ok.roots c.in-Ok.ended c.new.ensures.empty h))

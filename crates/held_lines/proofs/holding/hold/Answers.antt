@@ -1,15 +1,14 @@
-use Rattle.std.proofs.Common.{rules, sym, ◌∙◌}
-use Rattle.ipld_links.specs.Reaching.{stored_in}
-use Rattle.ipld_links.proofs.Sounding.{never_unsound}
-use Rattle.held_lines.proofs.Keeping.{sound_held, sound_other, sound_put}
+use Rattle.std.proofs.Common.{rules, ◌≡◌}
+use Rattle.held_lines.proofs.Keeping.{on_ok, kept_there, kept_before}
 use Rattle.held_lines.proofs.holding.hold.Goals as goal
 
-pub returns-then-is_there : goal.returns-then-is_there
-returns-then-is_there c = λ sections h. sound_held (stored_in c.args.blocks.now) sections (c.args.section.now.cid, c.args.section.now.block.now) (sym c.is_there.ensures ∙ c.if-is_there.true) h
+pub returns-then-stays : goal.returns-then-stays
+returns-then-stays c =
+    let bytes : c.in_ok-block.block.items ≡ c.args.section.now.block.now = search rules in
+    kept_there c.args.kept c.args.blocks.now c.args.section.now.cid c.args.section.now.block.now c.in_ok-block.block bytes c.in-Ok.before c.in-Ok.ensures.old c.insert.new.self c.in-Ok.ensures.updates.0 c.if-stays.ensures
 
-pub returns-in-Err : goal.returns-in-Err
-returns-in-Err c = λ sections h. sound_other (stored_in c.args.blocks.now) sections (c.args.section.now.cid, c.args.section.now.block.now) (λ is. never_unsound _ _ is c.in-Err.ensures) h
-
-pub returns-in-Ok-insert : goal.returns-in-Ok-insert
-returns-in-Ok-insert c = λ sections h.
-    sound_put c.args.blocks.now c.insert.new.self c.args.section.now.cid c.args.section.now.block.now c.in_ok-block.block sections (search rules) c.in-Ok-insert.ensures.updates.0 (sym c.is_there.ensures ∙ c.if-is_there.false) c.in-Ok.ensures h
+pub returns-in-Ok : goal.returns-in-Ok
+returns-in-Ok c =
+    let bytes : c.in_ok-block.block.items ≡ c.args.section.now.block.now = search rules in
+    on_ok c.put_back.result c.put_back.ensures (λ back. kept_before c.args.kept c.args.blocks.now c.args.section.now.cid c.args.section.now.block.now c.in_ok-block.block bytes c.in-Ok.before c.in-Ok.ensures.old
+    c.insert.new.self c.put_back.new.blocks c.in-Ok.ensures.updates.0 back c.if-stays.ensures)

@@ -1,7 +1,8 @@
-use Rattle.ipld_links.specs.Reaching.{stored_in}
-use Rattle.record_lines.specs.Records.{IsRecordsAt}
-use Rattle.record_lines.proofs.Telling.{if_ok, one_root, of_one}
+use Rattle.std.proofs.Common.{inl, refl, sym, subst}
+use Rattle.held_lines.proofs.Known.{if_some}
+use Rattle.record_lines.specs.Repositories.{IsRepoFile}
 use Rattle.record_lines.proofs.records.records_of.Goals as goal
 
-pub returns-in-len1 : goal.returns-in-len1
-returns-in-len1 c = if_ok c.records_at.result c.records_at.ensures (λ p h. of_one (IsRecordsAt (stored_in c.args.blocks.now)) c.args.roots.now c.root-item.result p.0.1 p.0.0.items p.1.items (one_root c.args.roots.now c.root-item.result c.in-len1.len_at_least c.in-len1.len_below c.root-item.is) h)
+pub returns-in_ok-lines-in-Ok-Ok : goal.returns-in_ok-lines-in-Ok-Ok
+returns-in_ok-lines-in-Ok-Ok g c = if_some (g.R.Read.remaining c.args.input.now) (rw c.in-Ok-Ok.field-0-is at c.in-Ok-Ok.ensures) (λ b k.
+    inl (c.in-Ok-Ok.repo.commit, c.deref.result.now, subst (IsRepoFile b c.in-Ok-Ok.repo.commit) (sym c.deref.ensures.value) k, refl, c.in_ok-lines-in-Ok-Ok.ensures, c.new.ensures.items))

@@ -1,0 +1,45 @@
+-- The repository that a file is.
+use Rattle.std.specs.Prelude.{◌≡◌, ◌⊎◌, ℕ, List, [], ◌∷◌, length, ⊤}
+use Rattle.ipld_tree.specs.Cid.{CidParts}
+use Rattle.dagcbor_items.specs.Walks.{forms}
+use Rattle.dagcbor_car.specs.Car.{Section}
+use Rattle.dagcbor_car.specs.Versions.{IsFile}
+use Rattle.ipld_links.specs.Reaching.{Stored}
+use Rattle.atproto_mst.specs.Repos.{IsRepo, RepoRefused}
+use Rattle.atproto_mst.specs.declared.commit.Commit.{Commit}
+use Rattle.atproto_mst.specs.declared.entries.MstEntry.{MstEntry}
+use Rattle.atproto_mst.specs.declared.repo_error.RepoError.{RepoError}
+use Rattle.held_lines.specs.Holding.{Stores, TellsFault}
+use Rattle.held_lines.specs.declared.holding.Kept.TheVariants as which
+use Rattle.record_lines.specs.Words.{IsOfRepo, repo_line, roots_line}
+
+-- the bytes are a file of these roots, whose sections are stored so
+abbrev pub IsHeld : List ℕ → List CidParts → Stored → Type 0
+IsHeld b roots stored = (sections : List Section) × IsFile b (forms roots) sections
+    × Stores which.All sections stored
+
+-- this is so of the one root; or there is none, or several, of which that is so
+abbrev pub OfOneRoot : (CidParts → Type 0) → (ℕ → Type 0) → List CidParts → Type 0
+OfOneRoot IsSo IsOther (root ∷ []) = IsSo root
+OfOneRoot IsSo IsOther roots = IsOther (length roots)
+
+-- the bytes are a file whose one root is the commit of a whole repository, of these records
+abbrev pub IsRepoFile : List ℕ → Commit → List MstEntry → Type 0
+IsRepoFile b c records = (root : CidParts) × (stored : Stored) × IsHeld b (root ∷ []) stored
+    × IsRepo stored root c records
+
+-- the repository whose commit has this name is not stored whole, and the line tells why
+abbrev pub IsUnread : Stored → CidParts → List ℕ → Type 0
+IsUnread stored root line = ((c : Commit) (records : List MstEntry) → ¬ IsRepo stored root c records)
+    × ((e : RepoError) × RepoRefused stored root e × IsOfRepo e × (line ≡ repo_line root e))
+
+-- the same of the one root; or the line tells how many there are
+abbrev pub IsUnreadOf : Stored → List CidParts → List ℕ → Type 0
+IsUnreadOf stored roots line =
+    OfOneRoot (λ root. IsUnread stored root line) (λ n. line ≡ roots_line n) roots
+
+-- the bytes are no file of a whole repository, and the line tells why
+abbrev pub IsNoRepoFile : List ℕ → List ℕ → Type 0
+IsNoRepoFile b line =
+    ((roots : List CidParts) × (stored : Stored) × IsHeld b roots stored × IsUnreadOf stored roots line)
+    ⊎ TellsFault (λ sections. ⊤) b line

@@ -1,0 +1,87 @@
+//! The repository that a file is.
+
+ghost use Rattle.std.specs.Prelude.{◌≡◌, ◌≢◌, ◌∷◌, [], length, IfOk, IfSome, MatchResult};
+ghost use Rattle.ipld_tree.specs.Cid.{CidParts};
+ghost use Rattle.ipld_links.specs.Reaching.{stored_in};
+ghost use Rattle.atproto_mst.specs.Repos.{IsRepo};
+ghost use Rattle.record_lines.specs.Words.{roots_line};
+ghost use Rattle.record_lines.specs.Repositories.{IsUnread, IsUnreadOf, IsRepoFile, IsNoRepoFile};
+
+use crate::words::{repo_line, roots_line};
+use atproto_mst::{Repo, read_repo};
+use dagcbor_cli::ToolError;
+use held_lines::{Kept, held_of};
+use ipld_tree::Cid;
+use std::alloc::{AllocError, Global};
+use std::collections::BTreeMap;
+use std::io::BufRead;
+
+/// A repository, or the line that tells why there is none.
+pub type RepoFound = Result<Repo, Vec<u8>>;
+
+/// The one root, or the line that tells how many there are.
+pub(crate) fn one_root(alloc: Global, roots: &[Cid]) -> Result<Result<Cid, Vec<u8>>, AllocError>
+    ensures { IfOk result (λ r. MatchResult r (λ root. roots.now ≡ root ∷ [])
+        (λ line. (length roots.now ≢ 1) × (line.items ≡ roots_line (length roots.now)))) }
+{
+    match roots {
+        [root] => Ok(Ok(*root)),
+        _ => {
+            let line = roots_line(alloc, roots.len())?;
+            Ok(Err(line))
+        }
+    }
+}
+
+/// The repository whose commit has this name.
+fn repo_at(
+    alloc: Global,
+    blocks: &BTreeMap<Cid, Vec<u8>>,
+    root: &Cid,
+) -> Result<RepoFound, AllocError>
+    ensures { IfOk result (λ r. MatchResult r
+        (λ repo. IsRepo (stored_in blocks.now) root.now repo.commit repo.records.items)
+        (λ line. IsUnread (stored_in blocks.now) root.now line.items)) }
+{
+    match read_repo(alloc, blocks, root) {
+        Ok(repo) => Ok(Ok(repo)),
+        Err(error) => {
+            let line = repo_line(alloc, root, &error)?;
+            Ok(Err(line))
+        }
+    }
+}
+
+/// The repository whose commit the one root names.
+fn repo_of(
+    alloc: Global,
+    roots: &[Cid],
+    blocks: &BTreeMap<Cid, Vec<u8>>,
+) -> Result<RepoFound, AllocError>
+    ensures { IfOk result (λ r. MatchResult r
+        (λ repo. (root : CidParts) × (roots.now ≡ root ∷ [])
+        × IsRepo (stored_in blocks.now) root repo.commit repo.records.items)
+        (λ line. IsUnreadOf (stored_in blocks.now) roots.now line.items)) }
+{
+    match one_root(alloc, roots)? {
+        Ok(root) => repo_at(alloc, blocks, &root),
+        Err(line) => Ok(Err(line)),
+    }
+}
+
+/// The repository that the file is that the input has, whole, or the line that tells why it is none.
+/// Records themselves need not be in the file. Its blocks are in memory until it is read.
+pub fn read_file<R: BufRead>(alloc: Global, input: &mut R) -> Result<RepoFound, ToolError>
+    ensures { IfSome (R.remaining input.old) (λ b. IfOk result (λ r. MatchResult r
+        (λ repo. IsRepoFile b repo.commit repo.records.items)
+        (λ line. IsNoRepoFile b line.items))) }
+{
+    match held_of(alloc, Kept::All, input) {
+        Ok(Ok(held)) => {
+            let found = repo_of(alloc, &held.roots, &held.blocks)?;
+            Ok(found)
+        }
+        Ok(Err(line)) => Ok(Err(line)),
+        Err(fault) => Err(fault),
+    }
+}

@@ -27,5 +27,8 @@ pub mod Ways
 pub mod Refusals
 pub mod Changing
 pub mod Merging
+pub mod Opening
+pub mod Descending
+pub mod Leading
 pub mod Singling
 pub mod Keeping

@@ -77,20 +77,20 @@ led_or_stays m stored root dropped xs ys (inr (none, is)) led = λ q h. led_more
 
 -- both levels are of names that their roots lead to
 pub record BothLed (m : ℕ) (stored : Stored) (old new : CidParts) (xs ys : List Item) : Type 0 where
-  pub old : AreLed m stored old (links_of xs)
-  pub new : AreLed m stored new (links_of ys)
+  pub before : AreLed m stored old (links_of xs)
+  pub after : AreLed m stored new (links_of ys)
 
 root_led : (stored : Stored) (root : CidParts) → AreLed 1 stored root (root ∷ [])
 root_led stored root q (inl e) = inl e
 root_led stored root q (inr h) = absurd h
 
 pub both_begin : (stored : Stored) (old new : CidParts) → BothLed 1 stored old new (a_link old ∷ []) (a_link new ∷ [])
-both_begin stored old new = record { old = root_led stored old; new = root_led stored new }
+both_begin stored old new = record { before = root_led stored old; after = root_led stored new }
 
 pub both_below : (m : ℕ) (stored : Stored) (old new : CidParts) (xs ys below beside : List Item) → StepsDown stored xs ys below beside → BothLed m stored old new xs ys → BothLed (suc m) stored old new below beside
 both_below m stored old new xs ys below beside (dropped, common, one, two) led = record {
-  old = led_or_stays m stored old dropped xs below one led.old;
-  new = led_or_stays m stored new dropped ys beside two led.new;
+  before = led_or_stays m stored old dropped xs below one led.before;
+  after = led_or_stays m stored new dropped ys beside two led.after;
 }
 
 abbrev pub DiffStops : Stored → CidParts → CidParts → MstError → Type 0
@@ -100,10 +100,10 @@ pub both_stop : (k m : ℕ) (stored : Stored) (old new : CidParts) (xs ys : List
     → LinksRefused stored (links_of xs) e ⊎ LinksRefused stored (links_of ys) e → DiffStops stored old new e
 both_stop k m stored old new xs ys within led e (inl (inl memory)) = inl memory
 both_stop k m stored old new xs ys within led e (inl (inr (inl shape))) = inr (inl shape)
-both_stop k m stored old new xs ys within led e (inl (inr (inr (name, a, fault)))) = inr (inr (inl (name, led_within k m most_layers stored old name within (led.old name a), fault)))
+both_stop k m stored old new xs ys within led e (inl (inr (inr (name, a, fault)))) = inr (inr (inl (name, led_within k m most_layers stored old name within (led.before name a), fault)))
 both_stop k m stored old new xs ys within led e (inr (inl memory)) = inl memory
 both_stop k m stored old new xs ys within led e (inr (inr (inl shape))) = inr (inl shape)
-both_stop k m stored old new xs ys within led e (inr (inr (inr (name, a, fault)))) = inr (inr (inr (name, led_within k m most_layers stored new name within (led.new name a), fault)))
+both_stop k m stored old new xs ys within led e (inr (inr (inr (name, a, fault)))) = inr (inr (inr (name, led_within k m most_layers stored new name within (led.after name a), fault)))
 
 -- a fault of the root itself
 pub root_lacks : (stored : Stored) (root : CidParts) (e : MstError) → NodeFault stored root e → LacksNode stored root e

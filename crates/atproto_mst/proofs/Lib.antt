@@ -30,5 +30,6 @@ pub mod Merging
 pub mod Opening
 pub mod Descending
 pub mod Leading
+pub mod Sharing
 pub mod Singling
 pub mod Keeping

@@ -135,15 +135,9 @@ matched Q Q' (Err e) f g p q = g e q
 
 -- ---- a link
 
-is_true : (b : Bool) → b ≡ false → IsTrue b → ⊥
-is_true true e h = absurd (cc e)
-is_true false e h = absurd (cc h)
-
-pub not_among : (b : Bool) (q : CidParts) (names : List CidParts) → b ≡ false → IsTrue b ↔ Among q names → ¬ Among q names
-not_among b q names e h m = is_true b e (h.1 m)
-
-pub is_among : (b : Bool) (q : CidParts) (names : List CidParts) → b ≡ true → IsTrue b ↔ Among q names → Among q names
-is_among b q names e h = h.0 e
+pub not_so : (P : Type 0) (b : Bool) → b ≡ false → IsTrue b ↔ P → ¬ P
+not_so P true e h p = absurd (cc e)
+not_so P false e h p = absurd (cc (h.1 p))
 
 pub none_there : (x : Option CidParts) (b : Bool) → b ≡ false → b ≡ is_some x → x ≡ None
 none_there None b e h = refl

@@ -1,6 +1,6 @@
 -- What a walk down two trees leaves of them has all their changes.
-use Rattle.std.proofs.Common.{◌≡◌, ◌≢◌, ◌⊎◌, inl, inr, ℕ, zero, suc, Bool, true, false, List, [], ◌∷◌, ◌++◌, map, append_assoc, append-nil, refl, sym, ap, ◌∙◌, subst, Option, Some, None, bytes_eq}
-use Rattle.std.specs.Prelude.{if◌then◌else◌, ⊤}
+use Rattle.std.proofs.Common.{◌≡◌, ◌⊎◌, inl, inr, ℕ, zero, suc, Bool, true, false, List, [], ◌∷◌, ◌++◌, map, append_assoc, append-nil, refl, sym, ap, ◌∙◌, subst, Option, Some, None, bytes_eq}
+use Rattle.std.specs.Prelude.{if◌then◌else◌, ◌&&◌, ⊤}
 use Rattle.std.specs.List.{AllByRecursion}
 use Rattle.std.proofs.lemmas.Slice.Eq.{bytes_eq-Decides}
 use Rattle.ipld_tree.specs.Cid.{CidParts}
@@ -10,8 +10,8 @@ use Rattle.atproto_mst.specs.Keys.{Entry, ComesBefore, Rise}
 use Rattle.atproto_mst.specs.Nodes.{NodeRow, NodeParts, IsNodeAt, key_of}
 use Rattle.atproto_mst.specs.Walks.{WalksLink, WalksRows, WalksNode, Walks}
 use Rattle.atproto_mst.specs.Finding.{lookup}
-use Rattle.atproto_mst.specs.Changes.{Changed, HasChange, IsChange, AreChanges}
-use Rattle.atproto_mst.specs.Levels.{Item, an_entry, a_link, link_items, row_items, node_items, links_of, OpensItem, Opens, StepsDown}
+use Rattle.atproto_mst.specs.Changes.{Changed, IsChange, AreChanges}
+use Rattle.atproto_mst.specs.Levels.{Item, an_entry, a_link, link_items, row_items, node_items, links_of, Opens, OpensIf, Drops, StepsDown}
 use Rattle.atproto_mst.proofs.Agreeing.{one_walk}
 use Rattle.atproto_mst.proofs.Changing.{before_trans}
 use Rattle.atproto_mst.proofs.Seeking.{Below, not_same, other_first}
@@ -238,9 +238,9 @@ module _ (stored held : Stored) (agree : (name : CidParts) (p q : NodeParts) →
       let (less, lists, leaves) = opened dropped xs others more rest (rise_right now more r) opens in (
         now ++ less,
         subst (λ l. Lists (Holds held) l (now ++ less)) (sym all)
-        (lists_joined (Holds held) first others now less (subst (λ l. Lists (Holds held) l now) (sym this) (lists_one (Holds held) (an_entry e) now one)) lists),
+            (lists_joined (Holds held) first others now less (subst (λ l. Lists (Holds held) l now) (sym this) (lists_one (Holds held) (an_entry e) now one)) lists),
         subst (λ l. Leaves (Holds held) dropped (links_of xs) l (now ++ less)) (sym is)
-        (leaves_first (Holds held) dropped now more less r (links_of xs) (links_of xs) leaves (λ q m. m) (λ q d m. m)),
+            (leaves_first (Holds held) dropped now more less r (links_of xs) (links_of xs) leaves (λ q m. m) (λ q d m. m)),
       )
   opened dropped (a_link name ∷ xs) ys es (now, more, one, rest, is) r (first, others, inl (d, this), opens, all) =
       let r = subst RiseAll is r in
@@ -248,19 +248,19 @@ module _ (stored held : Stored) (agree : (name : CidParts) (p q : NodeParts) →
         less,
         subst (λ l. Lists (Holds held) l less) (sym (all ∙ ap (λ l. l ++ others) this)) lists,
         subst (λ l. Leaves (Holds held) dropped (name ∷ links_of xs) l less) (sym is)
-        (leaves_rest (Holds held) dropped now more less r (links_of xs) [] leaves name d one (λ l h. one_holding held name l now h one)),
+            (leaves_rest (Holds held) dropped now more less r (links_of xs) [] leaves name d one (λ l h. one_holding held name l now h one)),
       )
   opened dropped (a_link name ∷ xs) ys es (now, more, one, rest, is) r (first, others, inr (not, (p, at, this)), opens, all) =
       let r = subst RiseAll is r in
       let (less, lists, leaves) = opened dropped xs others more rest (rise_right now more r) opens in (
         now ++ less,
         subst (λ l. Lists (Holds held) l (now ++ less)) (sym all)
-        (lists_joined (Holds held) first others now less (subst (λ l. Lists (Holds held) l now) (sym this) (link_opened name p now at one)) lists),
+            (lists_joined (Holds held) first others now less (subst (λ l. Lists (Holds held) l now) (sym this) (link_opened name p now at one)) lists),
         subst (λ l. Leaves (Holds held) dropped (name ∷ links_of xs) l (now ++ less)) (sym is)
-        (leaves_first (Holds held) dropped now more less r (links_of xs) (name ∷ links_of xs) leaves (λ q m. inr m) (λ q d m. elim m [
-          | inl e ↦ absurd (not (subst (λ x. Among x dropped) e d))
-          | inr m ↦ m
-        ])),
+            (leaves_first (Holds held) dropped now more less r (links_of xs) (name ∷ links_of xs) leaves (λ q m. inr m) (λ q d m. elim m [
+              | inl e ↦ absurd (not (subst (λ x. Among x dropped) e d))
+              | inr m ↦ m
+            ])),
       )
 
   stays : (xs ys : List Item) (es : List Entry) → Lists (Holds held) xs es → RiseAll es → ys ≡ xs → Left [] xs ys es
@@ -326,8 +326,24 @@ pub record Tells (held : Stored) (es fs : List Entry) (xs ys : List Item) : Type
   pub new_rise : RiseAll others
   pub all : (cs : List Changed) → AreChanges less others cs → AreChanges es fs cs
 
+-- a step as each level takes it
+abbrev pub Steps : Stored → List Item → List Item → List Item → List Item → Type 0
+Steps stored xs ys below beside = (dropped : List CidParts)
+    × ((q : CidParts) → Among q dropped → Among q (links_of xs) × Among q (links_of ys))
+    × (Opens stored dropped xs below ⊎ ((dropped ≡ []) × (below ≡ xs))) × (Opens stored dropped ys beside ⊎ ((dropped ≡ []) × (beside ≡ ys)))
+
+steps_by : (stored : Stored) (a b : Bool) (xs ys below beside : List Item) (dropped : List CidParts) → Drops (a && b) (links_of xs) (links_of ys) dropped
+    → OpensIf stored dropped a xs below → OpensIf stored dropped b ys beside → Steps stored xs ys below beside
+steps_by stored true true xs ys below beside dropped common one two = (dropped, λ q m. (common q).0 m, inl one, inl two)
+steps_by stored true false xs ys below beside dropped none one two = (dropped, λ q m. absurd (subst (Among q) none m), inl one, inr (none, two))
+steps_by stored false true xs ys below beside dropped none one two = (dropped, λ q m. absurd (subst (Among q) none m), inr (none, one), inl two)
+steps_by stored false false xs ys below beside dropped none one two = (dropped, λ q m. absurd (subst (Among q) none m), inr (none, one), inr (none, two))
+
+pub steps_of : {asked : Bool × Bool} (stored : Stored) (xs ys below beside : List Item) → StepsDown stored asked xs ys below beside → Steps stored xs ys below beside
+steps_of {asked} stored xs ys below beside s = steps_by stored asked.0 asked.1 xs ys below beside s.dropped s.drops s.one s.other
+
 pub tells_below : (stored held : Stored) → ((name : CidParts) (p q : NodeParts) → IsNodeAt stored name p → IsNodeAt held name q → p ≡ q)
-    → (es fs : List Entry) (xs ys below beside : List Item) → StepsDown stored xs ys below beside → Tells held es fs xs ys → Tells held es fs below beside
+    → (es fs : List Entry) (xs ys below beside : List Item) → Steps stored xs ys below beside → Tells held es fs xs ys → Tells held es fs below beside
 tells_below stored held agree es fs xs ys below beside (dropped, common, one, two) t =
     let (less, old, leaves) = opened_or_stays stored held agree dropped xs below t.less t.old t.old_rise one in
     let (others, new, leave) = opened_or_stays stored held agree dropped ys beside t.others t.new t.new_rise two in

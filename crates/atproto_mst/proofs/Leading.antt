@@ -1,10 +1,9 @@
 -- The nodes that links of nodes lead to, and what is known of names that bind.
-use Rattle.std.proofs.Common.{◌≡◌, ◌⊎◌, inl, inr, ℕ, zero, suc, ◌+◌, ◌-◌, ◌<◌, ◌≤◌, Bool, true, false, List, [], ◌∷◌, ◌++◌, map, refl, sym, ap, ◌∙◌, subst, arith, Option, Some, None}
+use Rattle.std.proofs.Common.{◌≡◌, ◌⊎◌, inl, inr, ℕ, zero, suc, ◌+◌, Bool, true, false, List, [], ◌∷◌, ◌++◌, map, refl, sym, ap, ◌∙◌, subst, arith, Option, Some, None}
 use Rattle.std.specs.Prelude.{if◌then◌else◌}
 use Rattle.std.specs.Ordering.{eq_by_cmp}
 use Rattle.ipld_tree.specs.Cid.{CidParts, cid_cmp}
 use Rattle.dagcbor_car.specs.Car.{Section}
-use Rattle.ipld_links.specs.Names.{block_name}
 use Rattle.ipld_links.specs.Sets.{Among}
 use Rattle.ipld_links.specs.Reaching.{Stored}
 use Rattle.ipld_links.proofs.Members.{among_append}
@@ -14,12 +13,13 @@ use Rattle.atproto_mst.specs.Entries.{AreStored, IsMst}
 use Rattle.atproto_mst.specs.Nodes.{NodeRow, NodeParts, IsNode, IsNodeAt, key_of}
 use Rattle.atproto_mst.specs.Walks.{WalksLink, WalksRows, WalksNode, Walks, most_layers}
 use Rattle.atproto_mst.specs.Stops.{NodeFault}
-use Rattle.atproto_mst.specs.Levels.{Item, an_entry, a_link, link_items, row_items, node_items, links_of, Opens, StepsDown, IsOfShape, LinksRefused}
+use Rattle.atproto_mst.specs.Levels.{Item, an_entry, a_link, link_items, row_items, node_items, links_of, Opens, IsOfShape, LinksRefused}
 use Rattle.atproto_mst.specs.Differing.{IsRootOf, NamesBind, HasLink, IsLedTo, LacksNode}
 use Rattle.atproto_mst.specs.declared.error.MstError.{MstError}
 use Rattle.atproto_mst.specs.declared.error.MstError.TheVariants as error
 use Rattle.atproto_mst.proofs.Canonical.{mst_walked}
 use Rattle.atproto_mst.proofs.Comparing.{equal_name, other_name, stored_one}
+use Rattle.atproto_mst.proofs.Descending.{Steps}
 use Rattle.atproto_mst.proofs.Nodes.{same_node, same_node_at}
 use Rattle.atproto_mst.proofs.Opening.{links_joined}
 use Rattle.atproto_mst.proofs.Stopping.{no_fault}
@@ -87,7 +87,7 @@ root_led stored root q (inr h) = absurd h
 pub both_begin : (stored : Stored) (old new : CidParts) → BothLed 1 stored old new (a_link old ∷ []) (a_link new ∷ [])
 both_begin stored old new = record { before = root_led stored old; after = root_led stored new }
 
-pub both_below : (m : ℕ) (stored : Stored) (old new : CidParts) (xs ys below beside : List Item) → StepsDown stored xs ys below beside → BothLed m stored old new xs ys → BothLed (suc m) stored old new below beside
+pub both_below : (m : ℕ) (stored : Stored) (old new : CidParts) (xs ys below beside : List Item) → Steps stored xs ys below beside → BothLed m stored old new xs ys → BothLed (suc m) stored old new below beside
 both_below m stored old new xs ys below beside (dropped, common, one, two) led = record {
   before = led_or_stays m stored old dropped xs below one led.before;
   after = led_or_stays m stored new dropped ys beside two led.after;

@@ -1,7 +1,9 @@
 -- Levels of a tree, joined and opened.
-use Rattle.std.proofs.Common.{◌≡◌, ◌⊎◌, ◌↔◌, Bool, true, false, inl, inr, ℕ, zero, suc, ◌+◌, ◌<◌, ◌≤◌, add-one, get_or, length, drop, drop-cons, map, List, [], ◌∷◌, ◌++◌, append_assoc, append-nil, refl, sym, ap, ◌∙◌, subst, arith, Option, Some, None, Result, Ok, Err}
-use Rattle.std.specs.Prelude.{MatchResult, OnOk, IfErr, IsTrue, is_some}
+use Rattle.std.proofs.Common.{◌≡◌, ◌⊎◌, ◌↔◌, Bool, true, false, inl, inr, ℕ, zero, suc, ◌+◌, ◌<◌, ◌≤◌, add-one, get_or, length, take, take-suc, drop, drop-cons, map, List, [], ◌∷◌, ◌++◌, append_assoc, append-nil, refl, sym, ap, ◌∙◌, subst, arith, Option, Some, None, Result, Ok, Err}
+use Rattle.std.specs.Prelude.{MatchResult, IfOk, OnOk, IfErr, IsTrue, is_some}
 use Rattle.std.proofs.lemmas.List.{drop_all}
+use Rattle.ipld_links.proofs.Members.{among_push, push_among}
+use Rattle.std.specs.declared.alloc.AllocError.{AllocError}
 use Rattle.ipld_tree.specs.Cid.{CidParts}
 use Rattle.ipld_links.specs.Sets.{Among, members, AddsCid}
 use Rattle.ipld_links.specs.Reaching.{Stored}
@@ -9,7 +11,7 @@ use Rattle.ipld_links.specs.declared.cid_set.CidSet.{CidSet}
 use Rattle.atproto_mst.specs.Entries.{entry_of, entries}
 use Rattle.atproto_mst.specs.Nodes.{NodeRow, NodeParts, IsNodeAt, key_of, node_told}
 use Rattle.atproto_mst.specs.Stops.{IsNamed, NodeFault}
-use Rattle.atproto_mst.specs.Levels.{Item, an_entry, a_link, link_items, row_items, node_items, held_items, level_items, links_of, OpensItem, Opens, IsOfShape, LinksRefused}
+use Rattle.atproto_mst.specs.Levels.{Item, an_entry, a_link, link_items, row_items, node_items, held_items, links_of, Opens, Drops, IsOfShape, LinksRefused}
 use Rattle.atproto_mst.specs.declared.entries.MstEntry.{MstEntry}
 use Rattle.atproto_mst.specs.declared.error.MstError.{MstError}
 use Rattle.atproto_mst.specs.declared.error.MstError.TheVariants as error
@@ -93,11 +95,6 @@ entries_next hs h old new inv none is =
 
 -- ---- names
 
-pub among_at : (names : List CidParts) (i : ℕ) (q : CidParts) → i < length names → q ≡ get_or names i q → Among q names
-among_at [] i q lt is = absurd (omega (arith, lt))
-among_at (n ∷ ns) zero q lt is = inl is
-among_at (n ∷ ns) (suc i) q lt is = inr (among_at ns i q (omega (arith, lt)) is)
-
 pub among_left : (q : CidParts) (xs ys : List CidParts) → Among q xs → Among q (xs ++ ys)
 among_left q [] ys h = absurd h
 among_left q (x ∷ xs) ys (inl e) = inl e
@@ -107,12 +104,55 @@ pub among_right : (q : CidParts) (xs ys : List CidParts) → Among q ys → Amon
 among_right q [] ys h = h
 among_right q (x ∷ xs) ys h = inr (among_right q xs ys h)
 
-pub added_among : (c : CidParts) (old new : CidSet) (names : List CidParts) → AddsCid c old new → Among c names → ((q : CidParts) → Among q (members old) → Among q names)
-    → (q : CidParts) → Among q (members new) → Among q names
-added_among c old new names a is h q m = elim ((a.1 q).0 m) [
-  | inl k ↦ h q k
-  | inr e ↦ subst (λ x. Among x names) (sym e) is
-]
+take_one_more : (names : List CidParts) (i : ℕ) (n : CidParts) → i < length names → n ≡ get_or names i n → take (i + 1) names ≡ take i names ++ n ∷ []
+take_one_more names i n lt is = ap (λ k. take k names) (add-one i) ∙ take-suc names i n lt ∙ ap (λ y. take i names ++ y ∷ []) (sym is)
+
+-- the names up to here
+name_before : (names : List CidParts) (i : ℕ) (q n : CidParts) → i < length names → n ≡ get_or names i n → Among q (take (i + 1) names) ↔ (Among q (take i names) ⊎ (q ≡ n))
+name_before names i q n lt is =
+    let e : take (i + 1) names ≡ take i names ++ n ∷ [] = take_one_more names i n lt is in
+    (λ m. among_push q (take i names) n (subst (Among q) e m), λ m. subst (Among q) (sym e) (push_among q (take i names) n m))
+
+abbrev pub HasAllOf : CidSet → List CidParts → Type 0
+HasAllOf set names = (q : CidParts) → Among q (members set) ↔ Among q names
+
+pub name_added : (names : List CidParts) (i : ℕ) (n : CidParts) (old new : CidSet) → i < length names → n ≡ get_or names i n → AddsCid n old new
+    → HasAllOf old (take i names) → HasAllOf new (take (i + 1) names)
+name_added names i n old new lt is a h q = (
+  λ m. (name_before names i q n lt is).1 (elim ((a.1 q).0 m) [ inl k ↦ inl ((h q).0 k) | inr e ↦ inr e ]),
+  λ m. (a.1 q).1 (elim ((name_before names i q n lt is).0 m) [ inl k ↦ inl ((h q).1 k) | inr e ↦ inr e ]),
+)
+
+-- the names of both, as far as the others were looked at
+abbrev pub HasCommonOf : CidSet → List CidParts → List CidParts → Type 0
+HasCommonOf set names others = (q : CidParts) → Among q (members set) ↔ (Among q names × Among q others)
+
+pub common_added : (names others : List CidParts) (i : ℕ) (n : CidParts) (old new : CidSet) → i < length others → n ≡ get_or others i n → Among n names → AddsCid n old new
+    → HasCommonOf old names (take i others) → HasCommonOf new names (take (i + 1) others)
+common_added names others i n old new lt is among a h q = (
+  λ m. elim ((a.1 q).0 m) [
+    | inl k ↦ let both = (h q).0 k in (both.0, (name_before others i q n lt is).1 (inl both.1))
+    | inr e ↦ (subst (λ x. Among x names) (sym e) among, (name_before others i q n lt is).1 (inr e))
+  ],
+  λ m. (a.1 q).1 (elim ((name_before others i q n lt is).0 m.1) [ inl k ↦ inl ((h q).1 (m.0, k)) | inr e ↦ inr e ]),
+)
+
+pub other_passed : (names others : List CidParts) (i : ℕ) (n : CidParts) (set : CidSet) → i < length others → n ≡ get_or others i n → ¬ Among n names
+    → HasCommonOf set names (take i others) → HasCommonOf set names (take (i + 1) others)
+other_passed names others i n set lt is not h q = (
+  λ m. let both = (h q).0 m in (both.0, (name_before others i q n lt is).1 (inl both.1)),
+  λ m. elim ((name_before others i q n lt is).0 m.1) [
+    | inl k ↦ (h q).1 (m.0, k)
+    | inr e ↦ absurd (not (subst (λ x. Among x names) e m.0))
+  ],
+)
+
+pub drops_all : (names others first second : List CidParts) (b : Bool) (r : Result CidSet AllocError) → b ≡ true → first ≡ names → second ≡ others
+    → IfOk r (λ s. HasCommonOf s first second) → IfOk r (λ s. Drops b names others (members s))
+drops_all names others first second false (Ok s) e is_first is_second h = absurd (cc e)
+drops_all names others first second true (Ok s) e is_first is_second h =
+    subst (λ x. HasCommonOf s x others) is_first (subst (HasCommonOf s first) is_second h)
+drops_all names others first second b (Err e) n is_first is_second h = tt
 
 -- ---- refusals
 
@@ -162,13 +202,6 @@ pub node_opened : (stored : Stored) (dropped : List CidParts) (link : Option Cid
     → MatchResult r (λ n. Opens stored dropped (link_items link) (node_items (node_told n))) (LinksRefused stored (links_of (link_items link)))
 node_opened stored dropped link name is not r h =
     subst (λ l. MatchResult r (λ n. Opens stored dropped (link_items l) (node_items (node_told n))) (LinksRefused stored (links_of (link_items l)))) (sym is) (node_read stored dropped name not r h)
-
-pub common_added : (name : CidParts) (common new : CidSet) (set names others : List CidParts) → ((q : CidParts) → Among q set → Among q names) → Among name set → Among name others → AddsCid name common new
-    → ((q : CidParts) → Among q (members common) → Among q names × Among q others) → (q : CidParts) → Among q (members new) → Among q names × Among q others
-common_added name common new set names others within in_set in_others a h q m = elim ((a.1 q).0 m) [
-  | inl k ↦ h q k
-  | inr e ↦ subst (λ x. Among x names × Among x others) (sym e) (within name in_set, in_others)
-]
 
 -- ---- a level
 

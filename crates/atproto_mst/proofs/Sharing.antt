@@ -1,5 +1,5 @@
 -- The changes between two trees, of which shared subtrees are left out.
-use Rattle.std.proofs.Common.{◌≡◌, ◌⊎◌, inl, inr, suc, List, [], ◌∷◌, ◌++◌, map, refl, sym, ap, ◌∙◌, subst, Result, Ok, Err, Vec, IfOk}
+use Rattle.std.proofs.Common.{◌≡◌, inl, inr, List, [], ◌∷◌, ◌++◌, map, sym, ◌∙◌, subst, Result, Ok, Err, Vec, IfOk}
 use Rattle.std.specs.declared.alloc.Global.{Global}
 use Rattle.ipld_tree.specs.Cid.{CidParts}
 use Rattle.ipld_links.specs.Reaching.{Stored}
@@ -9,14 +9,14 @@ use Rattle.atproto_mst.specs.Entries.{IsMst}
 use Rattle.atproto_mst.specs.Walks.{most_layers}
 use Rattle.atproto_mst.specs.Stops.{MstRefused}
 use Rattle.atproto_mst.specs.Changes.{Changed, changes, AreChanges}
-use Rattle.atproto_mst.specs.Levels.{Item, an_entry, a_link, StepsDown, IsOfShape}
-use Rattle.atproto_mst.specs.Differing.{IsRootOf, NamesBind, AreChangesOf, LacksNode, DiffRefused}
+use Rattle.atproto_mst.specs.Levels.{Item, an_entry, a_link, IsOfShape}
+use Rattle.atproto_mst.specs.Differing.{IsRootOf, NamesBind, AreChangesOf, DiffRefused}
 use Rattle.atproto_mst.specs.declared.diffs.Change.{Change}
 use Rattle.atproto_mst.specs.declared.error.MstError.{MstError}
 use Rattle.atproto_mst.specs.declared.error.MstError.TheVariants as error
 use Rattle.atproto_mst.proofs.Agreeing.{walks_agree, one_walk}
 use Rattle.atproto_mst.proofs.Canonical.{mst_walked}
-use Rattle.atproto_mst.proofs.Descending.{Tells, tells_trees, tells_below, told}
+use Rattle.atproto_mst.proofs.Descending.{Steps, Tells, tells_trees, tells_below, told}
 use Rattle.atproto_mst.proofs.Leading.{BothLed, DiffStops, both_begin, lacks_none, held, first_held, second_held, held_agrees, stored_bind}
 use Rattle.atproto_mst.proofs.Merging.{no_changes}
 
@@ -38,7 +38,7 @@ module _ (stored : Stored) (old new : CidParts) (xs ys : List Item) where
       (tells_trees (held nodes) es fs old new (most_layers, mst_walked (held nodes) old es (first_held stored es fs bind old h))
       (most_layers, mst_walked (held nodes) new fs (second_held stored es fs bind new k)) h.0.rise k.0.rise))
 
-  pub telling_goes_on : (below beside : List Item) → StepsDown stored xs ys below beside → TellsOf stored old new xs ys → TellsOf stored old new below beside
+  pub telling_goes_on : (below beside : List Item) → Steps stored xs ys below beside → TellsOf stored old new xs ys → TellsOf stored old new below beside
   telling_goes_on below beside s t es fs h k bind =
       tells_below stored (held (nodes_of es ++ nodes_of fs)) (held_agrees stored es fs bind) es fs xs ys below beside s (t es fs h k bind)
 

@@ -1,9 +1,9 @@
 -- What a walk down a tree has of it: entries, and links to the trees between them.
-use Rattle.std.specs.Prelude.{◌≡◌, ◌⊎◌, ℕ, Bool, true, false, List, [], ◌∷◌, ◌++◌, map, Option, None, Some, ⊤}
+use Rattle.std.specs.Prelude.{◌≡◌, ◌⊎◌, ◌↔◌, ◌&&◌, ℕ, Bool, true, false, List, [], ◌∷◌, ◌++◌, Option, None, Some, ⊤}
 use Rattle.ipld_tree.specs.Cid.{CidParts}
 use Rattle.ipld_links.specs.Sets.{Among}
 use Rattle.ipld_links.specs.Reaching.{Stored}
-use Rattle.atproto_mst.specs.Keys.{Entry, IsKey}
+use Rattle.atproto_mst.specs.Keys.{Entry}
 use Rattle.atproto_mst.specs.Entries.{entry_of}
 use Rattle.atproto_mst.specs.Nodes.{NodeRow, NodeParts, IsNodeAt, key_of}
 use Rattle.atproto_mst.specs.Stops.{NodeFault}
@@ -62,13 +62,17 @@ abbrev pub OpensIf : Stored → List CidParts → Bool → List Item → List It
 OpensIf stored dropped true ys xs = Opens stored dropped ys xs
 OpensIf stored dropped false ys xs = xs ≡ ys
 
--- Of two trees, each of the dropped links is one of both, and each level is opened, or stays where no
--- link is dropped.
-abbrev pub StepsDown : Stored → List Item → List Item → List Item → List Item → Type 0
-StepsDown stored before after below others = (dropped : List CidParts)
-    × ((q : CidParts) → Among q dropped → Among q (links_of before) × Among q (links_of after))
-    × (Opens stored dropped before below ⊎ ((dropped ≡ []) × (below ≡ before)))
-    × (Opens stored dropped after others ⊎ ((dropped ≡ []) × (others ≡ after)))
+-- where two levels are opened, the names that stand in both are dropped, and else none
+abbrev pub Drops : Bool → List CidParts → List CidParts → List CidParts → Type 0
+Drops true names others dropped = (q : CidParts) → Among q dropped ↔ (Among q names × Among q others)
+Drops false names others dropped = dropped ≡ []
+
+-- of two trees, a level down in each of which it is asked for
+pub record StepsDown (stored : Stored) (asked : Bool × Bool) (before after below others : List Item) : Type 0 where
+  pub dropped : List CidParts
+  pub drops : Drops (asked.0 && asked.1) (links_of before) (links_of after) dropped
+  pub one : OpensIf stored dropped asked.0 before below
+  pub other : OpensIf stored dropped asked.1 after others
 
 -- what is wrong with the keys or the shape of a tree
 abbrev pub IsOfShape : MstError → Type 0

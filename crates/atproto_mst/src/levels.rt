@@ -88,7 +88,7 @@ pub(crate) fn common_names(
     others: &[Cid],
 ) -> Result<CidSet, AllocError>
     ensures { IfOk result (λ s. (q : CidParts) → Among q (members s)
-        → Among q names.now × Among q others.now) }
+        ↔ (Among q names.now × Among q others.now)) }
 {
     let set = set_of(alloc, names)?;
     let mut common = CidSet::new(alloc);
@@ -102,7 +102,7 @@ pub(crate) fn common_names(
 
 /// The set of the names.
 fn set_of(alloc: Global, names: &[Cid]) -> Result<CidSet, AllocError>
-    ensures { IfOk result (λ s. (q : CidParts) → Among q (members s) → Among q names.now) }
+    ensures { IfOk result (λ s. (q : CidParts) → Among q (members s) ↔ Among q names.now) }
 {
     let mut set = CidSet::new(alloc);
     for name in names {
@@ -209,11 +209,7 @@ fn no_node<'b>(alloc: Global) -> Node<'b>
 }
 
 /// Appends the entries of a node, and the links behind them.
-fn push_rows(
-    alloc: Global,
-    node: &Node<'_>,
-    opened: &mut Vec<LevelEntry>,
-) -> Result<(), MstError>
+fn push_rows(alloc: Global, node: &Node<'_>, opened: &mut Vec<LevelEntry>) -> Result<(), MstError>
     ensures pushed { OnOk result (held_items opened.new.items
         ≡ held_items opened.old.items ++ row_items [] (node_told node.now).rows) }
     ensures refused { IfErr result (λ e. (e ≡ OutOfMemory) ⊎ IsOfShape e) }

@@ -1,21 +1,22 @@
 //! What differs between two trees, of which only the nodes that differ are read.
 
-ghost use Rattle.std.specs.Prelude.{◌≡◌, ◌⊎◌, false, [], List, MatchResult, IfOk, IfErr};
-ghost use Rattle.ipld_tree.specs.Cid.{CidParts};
+ghost use Rattle.std.specs.Prelude.{◌≡◌, ◌⊎◌, [], List, MatchResult, IfOk, IfErr};
 ghost use Rattle.ipld_links.specs.Reaching.{stored_in};
-ghost use Rattle.ipld_links.specs.Sets.{Among, members};
+ghost use Rattle.ipld_links.specs.Sets.{members};
 ghost use Rattle.atproto_mst.specs.Keys.{Entry};
 ghost use Rattle.atproto_mst.specs.Entries.{entries, IsMst};
 ghost use Rattle.atproto_mst.specs.Stops.{MstRefused, NodeFault};
 ghost use Rattle.atproto_mst.specs.Changes.{changes, AreChanges};
-ghost use Rattle.atproto_mst.specs.Levels.{level_items, links_of, IsOfShape, LinksRefused, StepsDown};
+ghost use Rattle.atproto_mst.specs.Levels.{level_items, links_of, IsOfShape, LinksRefused, Drops, StepsDown};
 ghost use Rattle.atproto_mst.specs.Differing.{AreChangesOf, LacksNode, DiffRefused};
 ghost use Rattle.atproto_mst.specs.declared.error.MstError.TheVariants.{OutOfMemory};
 
 use crate::diffs::{Change, diff_entries, diff_whole};
 use crate::error::MstError;
 use crate::keys::layer_of_key;
-use crate::levels::{Level, common_names, is_of_shape, link_names, only_entries, open_if, whole_level};
+use crate::levels::{
+    Level, common_names, is_of_shape, link_names, only_entries, open_if, whole_level,
+};
 use crate::read::MOST_LAYERS;
 use crate::stored::node_at;
 use ipld_links::CidSet;
@@ -23,9 +24,10 @@ use ipld_tree::Cid;
 use std::alloc::{AllocError, Global};
 use std::collections::BTreeMap;
 
-/// The keys whose records differ between the trees with these roots, in their order. A subtree that
-/// stands in both is not read, and need not be stored: of equal roots nothing is read. Where keys or
-/// the shape of a tree are wrong, both are read whole, to tell what is.
+/// The keys whose records differ between the trees with these roots, in their order. Subtrees that
+/// both have are left out, so the answer is right whether or not they are stored. The roots are read,
+/// but of equal ones nothing is, and there are no changes. Where keys or the shape of a tree are
+/// wrong, both trees are read whole, to tell what is.
 pub fn diff(
     alloc: Global,
     blocks: &BTreeMap<Cid, Vec<u8>>,
@@ -85,11 +87,7 @@ fn diff_levels(
 }
 
 /// The layer of the root's first key, and 0 where it has none.
-fn top_layer_at(
-    alloc: Global,
-    blocks: &BTreeMap<Cid, Vec<u8>>,
-    root: &Cid,
-) -> Result<u8, MstError>
+fn top_layer_at(alloc: Global, blocks: &BTreeMap<Cid, Vec<u8>>, root: &Cid) -> Result<u8, MstError>
     ensures { IfErr result (λ e. (e ≡ OutOfMemory) ⊎ NodeFault (stored_in blocks.now) root.now e) }
 {
     let node = node_at(alloc, blocks, root)?;
@@ -108,7 +106,7 @@ fn step_down(
     after: Level,
 ) -> Result<(Level, Level), MstError>
     ensures { MatchResult result
-        (λ r. StepsDown (stored_in blocks.now) (level_items before) (level_items after)
+        (λ r. StepsDown (stored_in blocks.now) asked (level_items before) (level_items after)
         (level_items r.0) (level_items r.1))
         (λ e. LinksRefused (stored_in blocks.now) (links_of (level_items before)) e
         ⊎ LinksRefused (stored_in blocks.now) (links_of (level_items after)) e) }
@@ -127,10 +125,8 @@ fn dropped_of(
     before: &Level,
     after: &Level,
 ) -> Result<CidSet, AllocError>
-    ensures none { IfOk result (λ s. (both ≡ false) → members s ≡ []) }
-    ensures common { IfOk result (λ s. (q : CidParts) → Among q (members s)
-        → Among q (links_of (level_items before.now))
-        × Among q (links_of (level_items after.now))) }
+    ensures { IfOk result (λ s. Drops both (links_of (level_items before.now))
+        (links_of (level_items after.now)) (members s)) }
 {
     if !both {
         return Ok(CidSet::new(alloc));

@@ -1,6 +1,6 @@
-use Rattle.std.proofs.Common.{[], sym, subst}
+use Rattle.std.proofs.Common.{sym, subst}
 use Rattle.ipld_links.specs.Reaching.{stored_in}
-use Rattle.atproto_mst.specs.Changes.{changes, AreChanges}
+use Rattle.atproto_mst.specs.Changes.{changes}
 use Rattle.atproto_mst.specs.Levels.{IsOfShape}
 use Rattle.atproto_mst.specs.Differing.{AreChangesOf}
 use Rattle.atproto_mst.proofs.Comparing.{equal_name}

@@ -1,9 +1,10 @@
-use Rattle.std.proofs.Common.{◌≡◌, suc, ◌+◌, ◌-◌, add-one, map, sym, ap, ◌∙◌, subst, arith}
+use Rattle.std.proofs.Common.{suc, ◌-◌, add-one, map, sym, ap, ◌∙◌, subst, arith}
 use Rattle.ipld_links.specs.Reaching.{stored_in}
 use Rattle.atproto_mst.specs.Entries.{entries}
 use Rattle.atproto_mst.specs.Walks.{most_layers}
 use Rattle.atproto_mst.specs.Changes.{changes}
 use Rattle.atproto_mst.specs.Levels.{an_entry, level_items}
+use Rattle.atproto_mst.proofs.Descending.{steps_of}
 use Rattle.atproto_mst.proofs.Leading.{BothLed, DiffStops, both_below, both_stop}
 use Rattle.atproto_mst.proofs.Refusals.{handed_on_err}
 use Rattle.atproto_mst.proofs.Sharing.{led_begins, telling_begins, telling_goes_on, telling_ends}
@@ -25,12 +26,13 @@ pub loop-round-preserved : goal.loop-round-preserved
 loop-round-preserved c =
     let below = level_items c.in_ok-below.below.0 in
     let beside = level_items c.in_ok-below.below.1 in
+    let steps = steps_of (stored_in c.args.blocks.now) (level_items c.loop-round.before) (level_items c.loop-round.after) below beside c.in_ok-below.ensures in
     record {
       led = subst (λ m. BothLed (suc m) (stored_in c.args.blocks.now) c.args.old.now c.args.new.now below beside) (sym (add-one c.loop-round.round))
           (both_below (suc c.loop-round.round) (stored_in c.args.blocks.now) c.args.old.now c.args.new.now (level_items c.loop-round.before) (level_items c.loop-round.after) below beside
-          c.in_ok-below.ensures c.loop-round.invariant.led);
+          steps c.loop-round.invariant.led);
       tells = telling_goes_on (stored_in c.args.blocks.now) c.args.old.now c.args.new.now (level_items c.loop-round.before) (level_items c.loop-round.after) below beside
-          c.in_ok-below.ensures c.loop-round.invariant.tells;
+          steps c.loop-round.invariant.tells;
     }
 
 pub returns-clause-read : goal.returns-clause-read

@@ -1,5 +1,5 @@
 -- Levels of a tree, joined and opened.
-use Rattle.std.proofs.Common.{◌≡◌, ◌⊎◌, ◌↔◌, Bool, true, false, inl, inr, ℕ, zero, suc, ◌+◌, ◌<◌, ◌≤◌, add-one, get_or, length, take, take-suc, drop, drop-cons, map, List, [], ◌∷◌, ◌++◌, append_assoc, append-nil, refl, sym, ap, ◌∙◌, subst, arith, Option, Some, None, Result, Ok, Err}
+use Rattle.std.proofs.Common.{◌≡◌, ◌⊎◌, ◌↔◌, Bool, true, false, inl, inr, ℕ, suc, ◌+◌, ◌<◌, ◌≤◌, add-one, get_or, length, take, take-suc, drop, drop-cons, map, List, [], ◌∷◌, ◌++◌, append_assoc, append-nil, refl, sym, ap, ◌∙◌, subst, Option, Some, None, Result, Ok, Err}
 use Rattle.std.specs.Prelude.{MatchResult, IfOk, OnOk, IfErr, IsTrue, is_some}
 use Rattle.std.proofs.lemmas.List.{drop_all}
 use Rattle.ipld_links.proofs.Members.{among_push, push_among}

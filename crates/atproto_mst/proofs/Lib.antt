@@ -27,5 +27,9 @@ pub mod Ways
 pub mod Refusals
 pub mod Changing
 pub mod Merging
+pub mod Opening
+pub mod Descending
+pub mod Leading
+pub mod Sharing
 pub mod Singling
 pub mod Keeping

@@ -12,6 +12,8 @@ pub mod Finding
 pub mod Laws
 pub mod Changes
 pub mod Merging
+pub mod Levels
+pub mod Differing
 pub mod CommitShapes
 pub mod Commits
 pub mod UnreadCommits

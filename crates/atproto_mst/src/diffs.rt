@@ -28,8 +28,8 @@ pub struct Change {
 }
 
 /// The keys whose records differ between the trees that are stored with these roots, in their
-/// order. Both trees are read whole; of two equal roots the one.
-pub fn diff(
+/// order. Both trees are read whole.
+pub(crate) fn diff_whole(
     alloc: Global,
     blocks: &BTreeMap<Cid, Vec<u8>>,
     old: &Cid,
@@ -45,9 +45,6 @@ pub fn diff(
         → MatchResult result (λ v. AreChanges es fs (changes v.items)) (λ e. e ≡ OutOfMemory) }
 {
     let before = read_mst(alloc, blocks, old)?;
-    if old == new {
-        return Ok(Vec::new(alloc));
-    }
     let after = read_mst(alloc, blocks, new)?;
     let found = diff_entries(alloc, &before, &after)?;
     Ok(found)

@@ -193,7 +193,7 @@ fn entries_of(alloc: Global, rows: &[(u32, u32)]) -> Result<Vec<MstEntry>, Alloc
 }
 
 /// Puts a record of the key, or removes it, and answers what it had.
-fn change_one(
+pub(crate) fn change_one(
     alloc: Global,
     all: &mut Vec<MstEntry>,
     key: u32,
@@ -238,7 +238,7 @@ fn a_record_of_none_is_put(rt: HostRuntime) -> Result<(), Fail> {
     agree(all.len(), 0)
 }
 
-fn are_told(
+pub(crate) fn are_told(
     alloc: Global,
     found: &[Change],
     rows: &[(u32, Option<u32>, Option<u32>)],

@@ -6,4 +6,6 @@ mod changes;
 #[cfg(test)]
 mod searches;
 #[cfg(test)]
+mod sharing;
+#[cfg(test)]
 mod tests;

@@ -1,0 +1,55 @@
+-- What differs between the trees of two roots, where of the subtrees that they share nothing is known.
+use Rattle.std.specs.Prelude.{◌≡◌, ◌⊎◌, ℕ, zero, suc, List, ◌∷◌, ◌++◌, map, Some}
+use Rattle.ipld_tree.specs.Cid.{CidParts}
+use Rattle.dagcbor_car.specs.Car.{Section}
+use Rattle.ipld_links.specs.Names.{block_name}
+use Rattle.ipld_links.specs.Sets.{Among}
+use Rattle.ipld_links.specs.Reaching.{Stored}
+use Rattle.atproto_mst.specs.Keys.{Entry, AreEntries}
+use Rattle.atproto_mst.specs.Trees.{root_of, nodes_of}
+use Rattle.atproto_mst.specs.Entries.{IsMst}
+use Rattle.atproto_mst.specs.Nodes.{NodeParts, IsNodeAt}
+use Rattle.atproto_mst.specs.Walks.{most_layers}
+use Rattle.atproto_mst.specs.Stops.{NodeFault, MstRefused}
+use Rattle.atproto_mst.specs.Changes.{Changed, AreChanges}
+use Rattle.atproto_mst.specs.declared.error.MstError.{MstError}
+
+-- the root is that of the tree of these entries
+abbrev pub IsRootOf : CidParts → List Entry → Type 0
+IsRootOf root es = AreEntries es × (root ≡ root_of es)
+
+-- No two of the nodes have one name and other blocks; and where bytes are stored under the name of one,
+-- and the name is theirs, they are its block.
+pub record NamesBind (stored : Stored) (nodes : List Section) : Type 0 where
+  pub of_nodes : (s t : Section) → Among s nodes → Among t nodes → s.0 ≡ t.0 → s.1 ≡ t.1
+  pub of_stored : (s : Section) (b : List ℕ) → Among s nodes → stored s.0 ≡ Some b
+      → s.0 ≡ block_name b → b ≡ s.1
+
+-- Of whatever entries the roots are, these are the changes between them, where names bind.
+abbrev pub AreChangesOf : Stored → CidParts → CidParts → List Changed → Type 0
+AreChangesOf stored old new cs = (es fs : List Entry) → IsRootOf old es → IsRootOf new fs
+    → NamesBind stored (nodes_of es ++ nodes_of fs) → AreChanges es fs cs
+
+-- ---- why they are not told
+
+-- a link of the node
+abbrev pub HasLink : NodeParts → CidParts → Type 0
+HasLink p name = Among (Some name) (p.left ∷ map (λ r. r.after) p.rows)
+
+-- links of nodes lead to the name, which is at most the so manieth on the way, the root the first
+abbrev pub IsLedTo : ℕ → Stored → CidParts → CidParts → Type 0
+IsLedTo zero stored root name = ⊥
+IsLedTo (suc m) stored root name = (name ≡ root)
+    ⊎ ((above : CidParts) × IsLedTo m stored root above
+    × ((p : NodeParts) × IsNodeAt stored above p × HasLink p name))
+
+-- one of the names that the root leads to is of no node, and why
+abbrev pub LacksNode : Stored → CidParts → MstError → Type 0
+LacksNode stored root e = (name : CidParts) × IsLedTo most_layers stored root name
+    × NodeFault stored name e
+
+-- A node of one of the trees is lacking; or the one tree is refused, or the other is and the one is not.
+abbrev pub DiffRefused : Stored → CidParts → CidParts → MstError → Type 0
+DiffRefused stored old new e = (LacksNode stored old e ⊎ LacksNode stored new e)
+    ⊎ (MstRefused stored old e
+    ⊎ ((es : List Entry) × IsMst stored old es × MstRefused stored new e))

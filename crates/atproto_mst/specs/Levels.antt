@@ -1,0 +1,88 @@
+-- What a walk down a tree has of it: entries, and links to the trees between them.
+use Rattle.std.specs.Prelude.{◌≡◌, ◌⊎◌, ◌↔◌, ◌&&◌, ℕ, Bool, true, false, List, [], ◌∷◌, ◌++◌, Option, None, Some, ⊤}
+use Rattle.ipld_tree.specs.Cid.{CidParts}
+use Rattle.ipld_links.specs.Sets.{Among}
+use Rattle.ipld_links.specs.Reaching.{Stored}
+use Rattle.atproto_mst.specs.Keys.{Entry}
+use Rattle.atproto_mst.specs.Entries.{entry_of}
+use Rattle.atproto_mst.specs.Nodes.{NodeRow, NodeParts, IsNodeAt, key_of}
+use Rattle.atproto_mst.specs.Stops.{NodeFault}
+use Rattle.atproto_mst.specs.declared.error.MstError.{MstError}
+use Rattle.atproto_mst.specs.declared.error.MstError.TheVariants as error
+use Rattle.atproto_mst.specs.declared.levels.Level.{Level}
+use Rattle.atproto_mst.specs.declared.levels.LevelEntry.{LevelEntry}
+
+-- an entry, or a link to the tree between its neighbours
+pub data Item : Type 0 where
+  an_entry : Entry → Item
+  a_link : CidParts → Item
+
+abbrev pub link_items : Option CidParts → List Item
+link_items None = []
+link_items (Some name) = a_link name ∷ []
+
+-- of rows behind a key
+abbrev pub row_items : List ℕ → List NodeRow → List Item
+row_items previous [] = []
+row_items previous (r ∷ rs) = an_entry (key_of previous r, r.value)
+    ∷ (link_items r.after ++ row_items (key_of previous r) rs)
+
+abbrev pub node_items : NodeParts → List Item
+node_items p = link_items p.left ++ row_items [] p.rows
+
+abbrev pub held_items : List LevelEntry → List Item
+held_items [] = []
+held_items (h ∷ hs) = an_entry (entry_of h.entry) ∷ (link_items h.after ++ held_items hs)
+
+abbrev pub level_items : Level → List Item
+level_items l = link_items l.left ++ held_items l.entries.items
+
+-- the names of the links
+abbrev pub links_of : List Item → List CidParts
+links_of [] = []
+links_of (an_entry e ∷ xs) = links_of xs
+links_of (a_link name ∷ xs) = name ∷ links_of xs
+
+-- ---- a level down
+
+-- An entry stays. A link of these names is dropped, and in place of each other stands what its node has.
+abbrev pub OpensItem : Stored → List CidParts → Item → List Item → Type 0
+OpensItem stored dropped (an_entry e) xs = xs ≡ an_entry e ∷ []
+OpensItem stored dropped (a_link name) xs = (Among name dropped × (xs ≡ []))
+    ⊎ ((¬ Among name dropped) × ((p : NodeParts) × IsNodeAt stored name p × (xs ≡ node_items p)))
+
+-- each of the items
+abbrev pub Opens : Stored → List CidParts → List Item → List Item → Type 0
+Opens stored dropped [] xs = xs ≡ []
+Opens stored dropped (y ∷ ys) xs = (first more : List Item) × OpensItem stored dropped y first
+    × Opens stored dropped ys more × (xs ≡ first ++ more)
+
+-- each, or none where they stay
+abbrev pub OpensIf : Stored → List CidParts → Bool → List Item → List Item → Type 0
+OpensIf stored dropped true ys xs = Opens stored dropped ys xs
+OpensIf stored dropped false ys xs = xs ≡ ys
+
+-- where two levels are opened, the names that stand in both are dropped, and else none
+abbrev pub Drops : Bool → List CidParts → List CidParts → List CidParts → Type 0
+Drops true names others dropped = (q : CidParts) → Among q dropped ↔ (Among q names × Among q others)
+Drops false names others dropped = dropped ≡ []
+
+-- of two trees, a level down in each of which it is asked for
+pub record StepsDown (stored : Stored) (asked : Bool × Bool) (before after below others : List Item) : Type 0 where
+  pub dropped : List CidParts
+  pub drops : Drops (asked.0 && asked.1) (links_of before) (links_of after) dropped
+  pub one : OpensIf stored dropped asked.0 before below
+  pub other : OpensIf stored dropped asked.1 after others
+
+-- what is wrong with the keys or the shape of a tree
+abbrev pub IsOfShape : MstError → Type 0
+IsOfShape error.OutOfMemory = ⊥
+IsOfShape (error.MissingNode name) = ⊥
+IsOfShape (error.OtherBytes name) = ⊥
+IsOfShape (error.NoNode name) = ⊥
+IsOfShape _ = ⊤
+
+-- memory is wanted, the tree is none, or one of the links leads to no node
+abbrev pub LinksRefused : Stored → List CidParts → MstError → Type 0
+LinksRefused stored names e = (e ≡ error.OutOfMemory)
+    ⊎ (IsOfShape e ⊎ ((name : CidParts) × Among name names × NodeFault stored name e))

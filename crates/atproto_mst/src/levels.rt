@@ -1,0 +1,288 @@
+//! A walk down a tree: its entries above a layer, and links to the trees between them.
+
+ghost use Rattle.std.specs.Prelude.{◌≡◌, ◌⊎◌, ◌↔◌, [], ◌∷◌, ◌++◌, ◌≤◌, List, MatchResult, IfOk, OnOk, IfErr, IsTrue, map, length};
+ghost use Rattle.ipld_tree.specs.Cid.{CidParts};
+ghost use Rattle.ipld_links.specs.Reaching.{stored_in};
+ghost use Rattle.ipld_links.specs.Sets.{Among, members};
+ghost use Rattle.atproto_mst.specs.Keys.{IsKey};
+ghost use Rattle.atproto_mst.specs.Entries.{entry_of, entries};
+ghost use Rattle.atproto_mst.specs.Nodes.{node_told, row_told, key_of};
+ghost use Rattle.atproto_mst.specs.Levels.{Item, an_entry, a_link, link_items, row_items, node_items, held_items, level_items};
+ghost use Rattle.atproto_mst.specs.Levels.{links_of, Opens, OpensIf, IsOfShape, LinksRefused};
+ghost use Rattle.atproto_mst.specs.declared.error.MstError.TheVariants.{OutOfMemory};
+
+use crate::entries::{LONGEST_KEY, MstEntry};
+use crate::error::MstError;
+use crate::rows::{Node, Row};
+use crate::stored::node_at;
+use ipld_links::CidSet;
+use ipld_tree::Cid;
+use std::alloc::{AllocError, Global};
+use std::collections::BTreeMap;
+
+/// An entry, and the tree between its key and the next of the level.
+#[derive(Drop)]
+pub(crate) struct LevelEntry {
+    pub entry: MstEntry,
+    pub after: Option<Cid>,
+}
+
+/// The entries of a tree above a layer, and links to the trees between them.
+#[derive(Drop)]
+pub(crate) struct Level {
+    /// The tree before the first key.
+    pub left: Option<Cid>,
+    pub entries: Vec<LevelEntry>,
+}
+
+/// Whether the error tells of keys or of the shape of a tree.
+pub(crate) fn is_of_shape(error: &MstError) -> bool
+    ensures { IsTrue result ↔ IsOfShape error.now }
+{
+    match error {
+        MstError::OutOfMemory => false,
+        MstError::MissingNode(_) => false,
+        MstError::OtherBytes(_) => false,
+        MstError::NoNode(_) => false,
+        _ => true,
+    }
+}
+
+/// The level of a whole tree: a link to its root.
+pub(crate) fn whole_level(alloc: Global, root: &Cid) -> Level
+    ensures { level_items result ≡ a_link root.now ∷ [] }
+{
+    Level {
+        left: Some(*root),
+        entries: Vec::new(alloc),
+    }
+}
+
+/// The names of the links of a level, in their order.
+pub(crate) fn link_names(alloc: Global, level: &Level) -> Result<Vec<Cid>, AllocError>
+    ensures { IfOk result (λ v. v.items ≡ links_of (level_items level.now)) }
+{
+    let mut names = Vec::new(alloc);
+    push_link(&level.left, &mut names)?;
+    for held in &level.entries {
+        push_link(&held.after, &mut names)?;
+    }
+    Ok(names)
+}
+
+/// Appends the name, if there is a link.
+fn push_link(link: &Option<Cid>, names: &mut Vec<Cid>) -> Result<(), AllocError>
+    ensures { OnOk result (names.new.items ≡ names.old.items ++ links_of (link_items link.now)) }
+{
+    if let Some(name) = link {
+        names.reserve(1)?;
+        names.push_reserved(*name);
+    }
+    Ok(())
+}
+
+/// The names that stand in both.
+pub(crate) fn common_names(
+    alloc: Global,
+    names: &[Cid],
+    others: &[Cid],
+) -> Result<CidSet, AllocError>
+    ensures { IfOk result (λ s. (q : CidParts) → Among q (members s)
+        ↔ (Among q names.now × Among q others.now)) }
+{
+    let set = set_of(alloc, names)?;
+    let mut common = CidSet::new(alloc);
+    for name in others {
+        if set.contains(name) {
+            common.add(*name)?;
+        }
+    }
+    Ok(common)
+}
+
+/// The set of the names.
+fn set_of(alloc: Global, names: &[Cid]) -> Result<CidSet, AllocError>
+    ensures { IfOk result (λ s. (q : CidParts) → Among q (members s) ↔ Among q names.now) }
+{
+    let mut set = CidSet::new(alloc);
+    for name in names {
+        set.add(*name)?;
+    }
+    Ok(set)
+}
+
+/// The level below, where it is asked for, and else this one. Links of the dropped names are left
+/// out, and in place of each other stands what its node has.
+pub(crate) fn open_if(
+    alloc: Global,
+    blocks: &BTreeMap<Cid, Vec<u8>>,
+    asked: bool,
+    dropped: &CidSet,
+    level: Level,
+) -> Result<Level, MstError>
+    ensures { MatchResult result
+        (λ below. OpensIf (stored_in blocks.now) (members dropped.now) asked (level_items level)
+        (level_items below))
+        (LinksRefused (stored_in blocks.now) (links_of (level_items level))) }
+{
+    if asked {
+        open_level(alloc, blocks, dropped, level)
+    } else {
+        Ok(level)
+    }
+}
+
+/// The level below.
+fn open_level(
+    alloc: Global,
+    blocks: &BTreeMap<Cid, Vec<u8>>,
+    dropped: &CidSet,
+    level: Level,
+) -> Result<Level, MstError>
+    ensures { MatchResult result
+        (λ below. Opens (stored_in blocks.now) (members dropped.now) (level_items level)
+        (level_items below))
+        (LinksRefused (stored_in blocks.now) (links_of (level_items level))) }
+{
+    let Level { left, entries } = level;
+    let node = node_below(alloc, blocks, dropped, &left)?;
+    let mut opened = Vec::new(alloc);
+    push_rows(alloc, &node, &mut opened)?;
+    for held in entries {
+        open_entry(alloc, blocks, dropped, held, &mut opened)?;
+    }
+    Ok(Level {
+        left: node.left,
+        entries: opened,
+    })
+}
+
+/// Appends the entry, and what stands behind it in the level below.
+fn open_entry(
+    alloc: Global,
+    blocks: &BTreeMap<Cid, Vec<u8>>,
+    dropped: &CidSet,
+    held: LevelEntry,
+    opened: &mut Vec<LevelEntry>,
+) -> Result<(), MstError>
+    ensures { MatchResult result
+        (λ _. (more : List Item) × Opens (stored_in blocks.now) (members dropped.now)
+        (held_items (held ∷ [])) more
+        × (held_items opened.new.items ≡ held_items opened.old.items ++ more))
+        (LinksRefused (stored_in blocks.now) (links_of (held_items (held ∷ [])))) }
+{
+    let LevelEntry { entry, after } = held;
+    let node = node_below(alloc, blocks, dropped, &after)?;
+    push_entry(entry, node.left, opened)?;
+    push_rows(alloc, &node, opened)
+}
+
+/// The node behind the link; one with nothing, where there is no link, or it is dropped.
+fn node_below<'b>(
+    alloc: Global,
+    blocks: &'b BTreeMap<Cid, Vec<u8>>,
+    dropped: &CidSet,
+    link: &Option<Cid>,
+) -> Result<Node<'b>, MstError>
+    ensures { MatchResult result
+        (λ node. Opens (stored_in blocks.now) (members dropped.now) (link_items link.now)
+        (node_items (node_told node)))
+        (LinksRefused (stored_in blocks.now) (links_of (link_items link.now))) }
+{
+    let Some(name) = link else {
+        return Ok(no_node(alloc));
+    };
+    if dropped.contains(name) {
+        return Ok(no_node(alloc));
+    }
+    node_at(alloc, blocks, name)
+}
+
+/// A node with nothing.
+fn no_node<'b>(alloc: Global) -> Node<'b>
+    ensures { node_items (node_told result) ≡ [] }
+{
+    Node {
+        rows: Vec::new(alloc),
+        left: None,
+    }
+}
+
+/// Appends the entries of a node, and the links behind them.
+fn push_rows(alloc: Global, node: &Node<'_>, opened: &mut Vec<LevelEntry>) -> Result<(), MstError>
+    ensures pushed { OnOk result (held_items opened.new.items
+        ≡ held_items opened.old.items ++ row_items [] (node_told node.now).rows) }
+    ensures refused { IfErr result (λ e. (e ≡ OutOfMemory) ⊎ IsOfShape e) }
+{
+    let mut key = Vec::new(alloc);
+    for row in &node.rows {
+        push_row(alloc, row, &mut key, opened)?;
+    }
+    Ok(())
+}
+
+/// Appends the entry of a row, and the link behind it. The key before it in the node becomes its key.
+fn push_row(
+    alloc: Global,
+    row: &Row<'_>,
+    key: &mut Vec<u8>,
+    opened: &mut Vec<LevelEntry>,
+) -> Result<(), MstError>
+    ensures key { OnOk result (key.new.items ≡ key_of key.old.items (row_told row.now)) }
+    ensures pushed { OnOk result (held_items opened.new.items ≡ held_items opened.old.items
+        ++ (an_entry (key.new.items, row.now.value) ∷ link_items row.now.after)) }
+    ensures refused { IfErr result (λ e. (e ≡ OutOfMemory) ⊎ IsOfShape e) }
+{
+    if row.shared > key.len() as u64 {
+        return Err(MstError::KeyFront);
+    }
+    let length = row.rest.len().saturating_add(row.shared as usize);
+    if length < 1 || length > LONGEST_KEY {
+        return Err(MstError::KeyLength);
+    }
+    key.truncate(row.shared as usize);
+    key.extend_from_slice(row.rest)?;
+    let key = key.to_vec(alloc)?;
+    let value = row.value;
+    push_entry(MstEntry { key, value }, row.after, opened)
+}
+
+/// Appends the entry and the link behind it, if its key comes behind that of the last.
+fn push_entry(
+    entry: MstEntry,
+    after: Option<Cid>,
+    opened: &mut Vec<LevelEntry>,
+) -> Result<(), MstError>
+    ensures pushed { OnOk result (held_items opened.new.items ≡ held_items opened.old.items
+        ++ (an_entry (entry_of entry) ∷ link_items after)) }
+    ensures refused { IfErr result (λ e. (e ≡ OutOfMemory) ⊎ IsOfShape e) }
+{
+    if let Some(last) = opened.last() {
+        if !last.entry.key.as_slice().cmp(entry.key.as_slice()).is_lt() {
+            return Err(MstError::KeyOrder);
+        }
+    }
+    opened.reserve(1)?;
+    opened.push_reserved(LevelEntry { entry, after });
+    Ok(())
+}
+
+/// The entries of a level without links.
+pub(crate) fn only_entries(alloc: Global, level: Level) -> Result<Vec<MstEntry>, MstError>
+    ensures all { IfOk result (λ v. level_items level ≡ map an_entry (entries v.items)) }
+    ensures refused { IfErr result (λ e. (e ≡ OutOfMemory) ⊎ IsOfShape e) }
+{
+    let Level { left, entries } = level;
+    if left.is_some() {
+        return Err(MstError::OtherTree);
+    }
+    let mut all = Vec::new(alloc);
+    for held in entries {
+        if held.after.is_some() {
+            return Err(MstError::OtherTree);
+        }
+        all.reserve(1)?;
+        all.push_reserved(held.entry);
+    }
+    Ok(all)
+}

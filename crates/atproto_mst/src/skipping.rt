@@ -1,0 +1,137 @@
+//! What differs between two trees, of which only the nodes that differ are read.
+
+ghost use Rattle.std.specs.Prelude.{◌≡◌, ◌⊎◌, [], List, MatchResult, IfOk, IfErr};
+ghost use Rattle.ipld_links.specs.Reaching.{stored_in};
+ghost use Rattle.ipld_links.specs.Sets.{members};
+ghost use Rattle.atproto_mst.specs.Keys.{Entry};
+ghost use Rattle.atproto_mst.specs.Entries.{entries, IsMst};
+ghost use Rattle.atproto_mst.specs.Stops.{MstRefused, NodeFault};
+ghost use Rattle.atproto_mst.specs.Changes.{changes, AreChanges};
+ghost use Rattle.atproto_mst.specs.Levels.{level_items, links_of, IsOfShape, LinksRefused, Drops, StepsDown};
+ghost use Rattle.atproto_mst.specs.Differing.{AreChangesOf, LacksNode, DiffRefused};
+ghost use Rattle.atproto_mst.specs.declared.error.MstError.TheVariants.{OutOfMemory};
+
+use crate::diffs::{Change, diff_entries, diff_whole};
+use crate::error::MstError;
+use crate::keys::layer_of_key;
+use crate::levels::{
+    Level, common_names, is_of_shape, link_names, only_entries, open_if, whole_level,
+};
+use crate::read::MOST_LAYERS;
+use crate::stored::node_at;
+use ipld_links::CidSet;
+use ipld_tree::Cid;
+use std::alloc::{AllocError, Global};
+use std::collections::BTreeMap;
+
+/// The keys whose records differ between the trees with these roots, in their order. Subtrees that
+/// both have are left out, so the answer is right whether or not they are stored. The roots are read,
+/// but of equal ones nothing is, and there are no changes. Where keys or the shape of a tree are
+/// wrong, both trees are read whole, to tell what is.
+pub fn diff(
+    alloc: Global,
+    blocks: &BTreeMap<Cid, Vec<u8>>,
+    old: &Cid,
+    new: &Cid,
+) -> Result<Vec<Change>, MstError>
+    ensures read { IfOk result
+        (λ v. AreChangesOf (stored_in blocks.now) old.now new.now (changes v.items)) }
+    ensures refused { IfErr result (DiffRefused (stored_in blocks.now) old.now new.now) }
+    ensures whole { (es fs : List Entry) → IsMst (stored_in blocks.now) old.now es
+        → IsMst (stored_in blocks.now) new.now fs
+        → MatchResult result (λ v. AreChanges es fs (changes v.items)) (λ e. e ≡ OutOfMemory) }
+{
+    if old == new {
+        return Ok(Vec::new(alloc));
+    }
+    match diff_levels(alloc, blocks, old, new) {
+        Ok(found) => Ok(found),
+        Err(error) => {
+            if is_of_shape(&error) {
+                diff_whole(alloc, blocks, old, new)
+            } else {
+                Err(error)
+            }
+        }
+    }
+}
+
+/// The keys whose records differ, by a walk down both trees that leaves out what they share.
+fn diff_levels(
+    alloc: Global,
+    blocks: &BTreeMap<Cid, Vec<u8>>,
+    old: &Cid,
+    new: &Cid,
+) -> Result<Vec<Change>, MstError>
+    ensures read { IfOk result
+        (λ v. AreChangesOf (stored_in blocks.now) old.now new.now (changes v.items)) }
+    ensures refused { IfErr result (λ e. (e ≡ OutOfMemory) ⊎ (IsOfShape e
+        ⊎ (LacksNode (stored_in blocks.now) old.now e
+        ⊎ LacksNode (stored_in blocks.now) new.now e))) }
+{
+    let old_top = top_layer_at(alloc, blocks, old)?;
+    let new_top = top_layer_at(alloc, blocks, new)?;
+    let mut before = whole_level(alloc, old);
+    let mut after = whole_level(alloc, new);
+    for round in 0..MOST_LAYERS {
+        let layer = MOST_LAYERS - 1 - round;
+        let asked = (layer <= old_top, layer <= new_top);
+        let below = step_down(alloc, blocks, asked, before, after)?;
+        before = below.0;
+        after = below.1;
+    }
+    let before = only_entries(alloc, before)?;
+    let after = only_entries(alloc, after)?;
+    let found = diff_entries(alloc, &before, &after)?;
+    Ok(found)
+}
+
+/// The layer of the root's first key, and 0 where it has none.
+fn top_layer_at(alloc: Global, blocks: &BTreeMap<Cid, Vec<u8>>, root: &Cid) -> Result<u8, MstError>
+    ensures { IfErr result (λ e. (e ≡ OutOfMemory) ⊎ NodeFault (stored_in blocks.now) root.now e) }
+{
+    let node = node_at(alloc, blocks, root)?;
+    match node.rows.first() {
+        Some(row) => Ok(layer_of_key(row.rest)),
+        None => Ok(0),
+    }
+}
+
+/// The levels below, each where it is asked for. Where both are, links of one name are dropped.
+fn step_down(
+    alloc: Global,
+    blocks: &BTreeMap<Cid, Vec<u8>>,
+    asked: (bool, bool),
+    before: Level,
+    after: Level,
+) -> Result<(Level, Level), MstError>
+    ensures { MatchResult result
+        (λ r. StepsDown (stored_in blocks.now) asked (level_items before) (level_items after)
+        (level_items r.0) (level_items r.1))
+        (λ e. LinksRefused (stored_in blocks.now) (links_of (level_items before)) e
+        ⊎ LinksRefused (stored_in blocks.now) (links_of (level_items after)) e) }
+{
+    let both = asked.0 && asked.1;
+    let dropped = dropped_of(alloc, both, &before, &after)?;
+    let before = open_if(alloc, blocks, asked.0, &dropped, before)?;
+    let after = open_if(alloc, blocks, asked.1, &dropped, after)?;
+    Ok((before, after))
+}
+
+/// The names of the links that stand in both levels, where both are opened, and else none.
+fn dropped_of(
+    alloc: Global,
+    both: bool,
+    before: &Level,
+    after: &Level,
+) -> Result<CidSet, AllocError>
+    ensures { IfOk result (λ s. Drops both (links_of (level_items before.now))
+        (links_of (level_items after.now)) (members s)) }
+{
+    if !both {
+        return Ok(CidSet::new(alloc));
+    }
+    let names = link_names(alloc, before)?;
+    let others = link_names(alloc, after)?;
+    common_names(alloc, &names, &others)
+}

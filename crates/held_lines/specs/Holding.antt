@@ -42,8 +42,8 @@ abbrev pub IsKept : Kept → Section → Type 0
 IsKept which.All s = ⊤
 IsKept which.Sound s = IsSound s
 
--- under each name of a section that is kept stand the bytes of such a section: those that the name says,
--- where a section has them; under no other name stand any
+-- under each name of a section that is kept stand the bytes of such a section: those that the name
+-- says, where a section has them; under no other name stand any
 pub record Stores (kept : Kept) (sections : List Section) (stored : Stored) : Type 0 where
   pub some : (q : CidParts) (b : List ℕ) → stored q ≡ Some b
       → Among (q, b) sections × IsKept kept (q, b)
@@ -51,7 +51,7 @@ pub record Stores (kept : Kept) (sections : List Section) (stored : Stored) : Ty
   pub named : (s : Section) → Among s sections → IsVerified s → (b : List ℕ) → stored s.0 ≡ Some b
       → IsVerified (s.0, b)
 
--- the roots of a file and the sections that are kept; or the bytes are no file, of which a line tells
+-- the roots of a file, and the sections that are kept; or the bytes are no file, and a line tells why
 abbrev pub HoldsFile : Kept → List ℕ → Result Held (Vec ℕ Global) → Type 0
 HoldsFile kept b held = MatchResult held
     (λ h. (sections : List Section) × IsFile b (forms h.roots.items) sections
@@ -65,8 +65,8 @@ abbrev pub IsGood : Kept → Section → Type 0
 IsGood which.All s = IsVerified s
 IsGood which.Sound s = IsSound s
 
--- a section stays in the place of what stood under its name: none is better; or the same bytes stood
--- there; or none did, and it is kept
+-- a section stays in the place of what stood under its name: none is better; or the same bytes
+-- stood there; or none did, and it is kept
 abbrev pub Stays : Kept → Option (Vec ℕ Global) → Section → Type 0
 Stays kept before s = IsGood kept s
     ⊎ (((v : Vec ℕ Global) × (before ≡ Some v) × (v.items ≡ s.1))

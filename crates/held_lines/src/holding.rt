@@ -69,8 +69,8 @@ fn is_good(kept: Kept, section: &Section<'_>) -> bool
     }
 }
 
-/// Whether a section stays in the place of what stood under its name. Its bytes are judged where that
-/// decides, and so once at most.
+/// Whether a section stays in the place of what stood under its name. Its bytes are judged only
+/// where that decides, and once.
 fn stays(kept: Kept, before: &Option<Vec<u8>>, section: &Section<'_>) -> bool
     ensures { MatchBool result
         (Stays kept before.now (section.now.cid, section.now.block.now))
@@ -103,8 +103,8 @@ fn put_back(
     }
 }
 
-/// Keeps the block of a section, if it is to be kept. Of two under one name the one stays whose bytes
-/// the name says.
+/// Keeps the block of a section, if it is to be kept. Of two under one name the one stays whose
+/// bytes the name says.
 fn hold(
     alloc: Global,
     kept: Kept,

@@ -36,13 +36,14 @@ change_line c = line (change_word c.1.0 c.1.1 ++ (key_text c.0 ++ (name_word c.1
 abbrev pub IsChangesTo : List MstEntry → List ℕ → Bool → List ℕ → List ℕ → Type 0
 IsChangesTo before new well out told =
     ((c : Commit) × (after : List MstEntry) × (cs : List Changed) × IsRepoFile new c after
-    × AreChanges (entries before) (entries after) cs × (well ≡ true) × (out ≡ flat_map change_line cs)
-    × (told ≡ []))
+    × AreChanges (entries before) (entries after) cs × (well ≡ true)
+    × (out ≡ flat_map change_line cs) × (told ≡ []))
     ⊎ ((text : List ℕ) × IsNoRepoFile new text × IsToldAlone (codes "new: " ++ text) well out told)
 
--- what `changes` says of two files: that of the new one beside the records of the old one; or nothing,
--- and the line that tells why the old one is no repository
+-- what `changes` says of two files: that of the new one beside the records of the old one; or
+-- nothing, and the line that tells why the old one is no repository
 abbrev pub IsChangesOf : List ℕ → List ℕ → Bool → List ℕ → List ℕ → Type 0
 IsChangesOf old new well out told =
-    ((c : Commit) × (before : List MstEntry) × IsRepoFile old c before × IsChangesTo before new well out told)
+    ((c : Commit) × (before : List MstEntry) × IsRepoFile old c before
+    × IsChangesTo before new well out told)
     ⊎ ((text : List ℕ) × IsNoRepoFile old text × IsToldAlone (codes "old: " ++ text) well out told)

@@ -31,8 +31,8 @@ IsToldAlone text well out told = (well ≡ false) × (out ≡ []) × (told ≡ t
 abbrev pub record_line : Entry → List ℕ
 record_line e = line (key_text e.0 ++ (32 ∷ cid_text e.1))
 
--- what `records` says of a file: a line for each record of the repository; or nothing, and a line that
--- tells why it is none
+-- what `records` says of a file: a line for each record of the repository; or nothing, and a line
+-- that tells why it is none
 abbrev pub IsRecords : List ℕ → Bool → List ℕ → List ℕ → Type 0
 IsRecords b well out told = ((c : Commit) × (records : List MstEntry) × IsRepoFile b c records
     × (well ≡ true) × (out ≡ flat_map record_line (entries records)) × (told ≡ []))
@@ -40,8 +40,8 @@ IsRecords b well out told = ((c : Commit) × (records : List MstEntry) × IsRepo
 
 -- ---- one record
 
--- of the bytes under a record's name: what is shown of them, where they are those that it names; else the
--- verdict on them
+-- of the bytes under a record's name: what is shown of them, where they are those that it names; else
+-- the verdict on them
 abbrev pub AreBytesSaid : CidParts → List ℕ → Bool → List ℕ → List ℕ → Type 0
 AreBytesSaid name b well out told = (IsVerified (name, b) × IsShown b well out told)
     ⊎ ((¬ IsVerified (name, b)) × ((v : Verdict) × IsVerdict (name, b) v
@@ -70,11 +70,12 @@ IsRecordAt stored key root well out told = ((c : Commit) × IsStoredCommit store
 
 -- of the key in the tree of the commit that the one root names; or how many roots there are
 abbrev pub IsRecordOf : List ℕ → Stored → List CidParts → Bool → List ℕ → List ℕ → Type 0
-IsRecordOf key stored roots well out told = OfOneRoot (λ root. IsRecordAt stored key root well out told)
+IsRecordOf key stored roots well out told =
+    OfOneRoot (λ root. IsRecordAt stored key root well out told)
     (λ n. IsToldAlone (roots_line n) well out told) roots
 
--- what `record` says of a file: that of its roots and its sections; or nothing, and a line that tells why
--- the bytes are no file
+-- what `record` says of a file: that of its roots and its sections; or nothing, and a line that tells
+-- why the bytes are no file
 abbrev pub IsRecord : List ℕ → List ℕ → Bool → List ℕ → List ℕ → Type 0
 IsRecord key b well out told = ((roots : List CidParts) × (stored : Stored) × IsHeld b roots stored
     × IsRecordOf key stored roots well out told)

@@ -30,7 +30,8 @@ IsRepoFile b c records = (root : CidParts) × (stored : Stored) × IsHeld b (roo
 
 -- the repository whose commit has this name is not stored whole, and the line tells why
 abbrev pub IsUnread : Stored → CidParts → List ℕ → Type 0
-IsUnread stored root line = ((c : Commit) (records : List MstEntry) → ¬ IsRepo stored root c records)
+IsUnread stored root line =
+    ((c : Commit) (records : List MstEntry) → ¬ IsRepo stored root c records)
     × ((e : RepoError) × RepoRefused stored root e × IsOfRepo e × (line ≡ repo_line root e))
 
 -- the same of the one root; or the line tells how many there are
@@ -41,5 +42,6 @@ IsUnreadOf stored roots line =
 -- the bytes are no file of a whole repository, and the line tells why
 abbrev pub IsNoRepoFile : List ℕ → List ℕ → Type 0
 IsNoRepoFile b line =
-    ((roots : List CidParts) × (stored : Stored) × IsHeld b roots stored × IsUnreadOf stored roots line)
+    ((roots : List CidParts) × (stored : Stored) × IsHeld b roots stored
+    × IsUnreadOf stored roots line)
     ⊎ TellsFault (λ sections. ⊤) b line

@@ -31,8 +31,8 @@ fn push_byte(byte: u8, out: &mut Vec<u8>) -> Result<(), AllocError>
     }
 }
 
-/// Appends a key as one word of a line: a byte that is none of 0x21 to 0x7e, or is `%`, as `%` and two
-/// digits.
+/// Appends a key as one word of a line: a byte that is none of 0x21 to 0x7e, or is `%`, as `%` and
+/// two digits.
 pub(crate) fn push_key(key: &[u8], out: &mut Vec<u8>) -> Result<(), AllocError>
     ensures { OnOk result (out.new.items ≡ out.old.items ++ key_text key.now) }
 {

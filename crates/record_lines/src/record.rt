@@ -27,8 +27,8 @@ fn verdict_told(alloc: Global, name: &Cid, verdict: &Verdict) -> Result<Answer, 
     Ok(told_alone(alloc, line))
 }
 
-/// What is said of the bytes under a record's name: what is shown of them, where they are those that it
-/// says.
+/// What is said of the bytes under a record's name: what is shown of them, where they are those that
+/// it says; else the verdict on them.
 fn bytes_said(alloc: Global, name: &Cid, bytes: &[u8]) -> Result<Answer, AllocError>
     ensures { IfOk result
         (λ p. AreBytesSaid name.now bytes.now p.0.1 p.0.0.items p.1.items) }
@@ -119,7 +119,7 @@ fn record_of(
     }
 }
 
-/// What is said of the key in the file that the input has.
+/// What is said of the key in the file that the input is.
 fn record_in<R: BufRead>(alloc: Global, key: &[u8], input: &mut R) -> Result<Answer, ToolError>
     ensures { IfSome (R.remaining input.old)
         (λ b. IfOk result (λ p. IsRecord key.now b p.0.1 p.0.0.items p.1.items)) }
@@ -134,9 +134,9 @@ fn record_in<R: BufRead>(alloc: Global, key: &[u8], input: &mut R) -> Result<Ans
     }
 }
 
-/// Writes the data of the record of the key, in the tree of the commit that the one root of the file
-/// names that the input has; or tells why there is none. Whether there is one. The commit, the nodes on
-/// the way to the key and the record need be there, and no others. The blocks of the input are in memory.
+/// Writes the data of the record of the key, in the tree of the commit that the file's one root
+/// names, or tells why there is none. Whether there is one. The commit, the nodes on the way to the
+/// key and the record need be there, and no others. The blocks of the input are in memory.
 pub fn write_record<R: BufRead, W: Write, V: Write>(
     alloc: Global,
     key: &str,

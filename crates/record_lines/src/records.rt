@@ -37,7 +37,7 @@ fn record_lines(alloc: Global, records: &[MstEntry]) -> Result<Vec<u8>, AllocErr
     Ok(lines)
 }
 
-/// What is said of the file that the input has.
+/// What is said of the file that the input is.
 fn records_of<R: BufRead>(alloc: Global, input: &mut R) -> Result<Answer, ToolError>
     ensures { IfSome (R.remaining input.old)
         (λ b. IfOk result (λ p. IsRecords b p.0.1 p.0.0.items p.1.items)) }
@@ -52,10 +52,10 @@ fn records_of<R: BufRead>(alloc: Global, input: &mut R) -> Result<Answer, ToolEr
     }
 }
 
-/// Writes a line for each record of the repository that the file is that the input has, in the order of
-/// keys: the key, in which `%` and two digits stand for a byte that could end a word, a space, and the
-/// CID of the record. Or writes nothing, and tells why there is none. Whether there is one. Records
-/// themselves need not be there. The blocks of the input are in memory.
+/// Writes a line for each record of the repository that the input is, in the order of keys: the key,
+/// in which `%` and two digits stand for a byte that could end a word, a space, and the CID of the
+/// record. Or writes nothing, and tells why it is none. Whether it is one. Records themselves need
+/// not be there. The blocks of the input are in memory.
 pub fn write_records<R: BufRead, W: Write, V: Write>(
     alloc: Global,
     input: &mut R,

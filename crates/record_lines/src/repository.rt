@@ -69,7 +69,7 @@ fn repo_of(
     }
 }
 
-/// The repository that the file is that the input has, whole, or the line that tells why it is none.
+/// The whole repository that the input is, a file of blocks, or the line that tells why it is none.
 /// Records themselves need not be in the file. Its blocks are in memory until it is read.
 pub fn read_file<R: BufRead>(alloc: Global, input: &mut R) -> Result<RepoFound, ToolError>
     ensures { IfSome (R.remaining input.old) (λ b. IfOk result (λ r. MatchResult r

@@ -3,6 +3,7 @@ pub mod Putting
 pub mod Tapes
 pub mod Telling
 pub mod Spelling
+pub mod JudgedTapes
 pub mod Naming
 pub mod Standing
 pub mod HeaderRoots

@@ -4,6 +4,7 @@ pub mod Codes
 pub mod Packed
 pub mod Tapes
 pub mod Told
+pub mod TapeJudging
 pub mod Standing
 pub mod Answers
 pub mod Sections

@@ -6,6 +6,7 @@ mod cid;
 mod code;
 mod find;
 mod header;
+mod judge;
 pub mod laws;
 mod links;
 mod name;

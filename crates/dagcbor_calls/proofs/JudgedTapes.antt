@@ -1,10 +1,10 @@
 -- What tokens surely tell.
-use Rattle.std.proofs.Common.{◌≡◌, ℕ, suc, pos, negsuc, ◌+◌, ◌-◌, ◌^◌, ◌<◌, ◌≤◌, List, [], ◌∷◌, ◌++◌, length, drop, true, false, refl, sym, ap, ◌∙◌, subst, arith, append_assoc, append-nil, length-append, Option, Some, None, MatchOption, IfSome, IsUtf8}
+use Rattle.std.proofs.Common.{◌≡◌, ℕ, suc, pos, negsuc, ◌+◌, ◌-◌, ◌^◌, ◌<◌, ◌≤◌, List, [], ◌∷◌, ◌++◌, length, drop, true, false, refl, sym, ap, ◌∙◌, arith, append-nil, length-append, Option, Some, None, MatchOption, IfSome, IsUtf8}
 use Rattle.dagcbor_heads.specs.Head.{head}
 use Rattle.dagcbor_heads.specs.Splits.{SplitsHead}
 use Rattle.ipld_tree.specs.Cid.{IsCid}
-use Rattle.ipld_tree.specs.Tree.{Tree, null, boolean, integer, text, bytes, link, any_need}
-use Rattle.ipld_tree.specs.Spelling.{spelling, text_spelling, IsSpelling, IsFront}
+use Rattle.ipld_tree.specs.Tree.{Tree, null, boolean, integer, text, bytes, link}
+use Rattle.ipld_tree.specs.Spelling.{spelling, text_spelling, IsFront}
 use Rattle.dagcbor_items.specs.Places.{Follows}
 use Rattle.dagcbor_items.specs.Judging.{SplitsKeyAfter, SplitsItem, SplitsItems, SplitsEntries}
 use Rattle.dagcbor_items.specs.Slices.{IsBlock}
@@ -13,7 +13,7 @@ use Rattle.dagcbor_calls.specs.Told.{payload_at, null_told, boolean_told, string
 use Rattle.dagcbor_calls.specs.TapeJudging.{IsLeafTold, Tells, TellsBlock}
 use Rattle.dagcbor_calls.specs.declared.tape.Token.{Token}
 use Rattle.dagcbor_calls.proofs.Telling.{told_first}
-use Rattle.dagcbor_calls.proofs.Spelling.{payload_long, string_is, link_is, next_token}
+use Rattle.dagcbor_calls.proofs.Spelling.{payload_long, string_is, link_is}
 
 -- ---- leaves
 

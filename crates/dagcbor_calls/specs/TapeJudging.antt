@@ -1,5 +1,5 @@
 -- What tokens surely tell: items, as they are split off bytes, before these bytes are there.
-use Rattle.std.specs.Prelude.{◌≡◌, ℕ, ◌+◌, ◌≤◌, List, length, drop, Option, Some}
+use Rattle.std.specs.Prelude.{◌≡◌, ℕ, ◌+◌, List, length, drop, Option, Some}
 use Rattle.ipld_tree.specs.Tree.{Tree, any_need}
 use Rattle.ipld_tree.specs.Spelling.{IsSpelling}
 use Rattle.dagcbor_items.specs.Slices.{IsBlock}

@@ -1,6 +1,4 @@
-use Rattle.std.proofs.Common.{ℕ, ◌-◌, arith, option_map}
-use Rattle.dagcbor_items.specs.Judging.{SplitsItem, SplitsItems, SplitsEntries}
-use Rattle.dagcbor_calls.specs.TapeJudging.{Tells}
+use Rattle.std.proofs.Common.{arith, option_map}
 use Rattle.dagcbor_calls.proofs.Spelling.{next_token}
 use Rattle.dagcbor_calls.proofs.JudgedTapes.{if_some, leaf_tells, list_tells, map_tells, no_items_tell, one_item_tells, all_items_tell, no_entries_tell, one_entry_tells, all_entries_tell}
 use Rattle.dagcbor_calls.proofs.judge.+judge.Goals as goal

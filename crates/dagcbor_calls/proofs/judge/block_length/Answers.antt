@@ -1,4 +1,4 @@
-use Rattle.std.proofs.Common.{[], ◌∙◌, drop, refl, arith, drop_of_length-le}
+use Rattle.std.proofs.Common.{refl, arith, drop_of_length-le}
 use Rattle.dagcbor_calls.proofs.JudgedTapes.{whole_told}
 use Rattle.dagcbor_calls.proofs.judge.block_length.Goals as goal
 

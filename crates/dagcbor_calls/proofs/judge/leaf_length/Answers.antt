@@ -1,4 +1,4 @@
-use Rattle.std.proofs.Common.{ℕ, sym, subst, arith, Option, IfSome}
+use Rattle.std.proofs.Common.{sym, subst, arith, IfSome}
 use Rattle.dagcbor_calls.specs.Told.{bytes_told}
 use Rattle.dagcbor_calls.specs.TapeJudging.{IsLeafTold}
 use Rattle.dagcbor_calls.proofs.JudgedTapes.{null_leaf, boolean_leaf, natural_leaf, negative_leaf, text_leaf, bytes_leaf, link_leaf, link_fits}

@@ -84,6 +84,7 @@ struct Writer {
 }
 
 impl Writer {
+    #[inline]
     fn add(&mut self, major: u8, n: u64) -> Result<(), Error> {
         if self.level > MOST_LEVELS {
             return Err(Refusal::DepthOverflow.into());
@@ -91,10 +92,16 @@ impl Writer {
         if n <= 23 {
             self.block.push(32 * major + n as u8);
         } else {
-            let (head, count) = head(major, n);
-            self.block.extend_from_slice(&head[..count]);
+            self.add_long(major, n);
         }
         Ok(())
+    }
+
+    #[inline(never)]
+    fn add_long(&mut self, major: u8, n: u64) {
+        let (head, count) = head(major, n);
+        self.block.extend_from_slice(&head); // of a length that is known
+        self.block.truncate(self.block.len() - head.len() + count);
     }
 
     fn add_payload(&mut self, major: u8, payload: &[u8]) -> Result<(), Error> {

@@ -1,7 +1,7 @@
 //! Types out of the tokens of a block.
 
 use crate::item::Lent;
-use crate::{take_tape, tape, Error, Items};
+use crate::{take_tape, tape, Error, Items, Token};
 use serde::de::{self, Deserialize, DeserializeSeed, Error as _, Unexpected, Visitor};
 use serde::forward_to_deserialize_any;
 
@@ -55,34 +55,41 @@ pub fn from_reader<T: de::DeserializeOwned>(mut reader: impl std::io::Read) -> R
 
 fn read<'de, T: Deserialize<'de>>(items: Items<'de, '_>) -> Result<T, Error> {
     T::deserialize(&mut Reader {
-        items,
-        place: 0,
+        block: items.block,
+        tokens: items.tokens(),
+        at: 0,
         options: 0,
     })
 }
 
-/// The items that are left, and where the next one's head stands.
+/// The tokens of a block, and at which the reader is.
 struct Reader<'de, 't> {
-    items: Items<'de, 't>,
-    place: usize,
+    block: &'de [u8],
+    tokens: &'t [Token],
+    at: usize,
     options: u32,
 }
 
 impl<'de> Reader<'de, '_> {
+    /// The next item. A block has those that its heads tell.
+    #[inline]
     fn peek(&self) -> Lent<'de> {
-        let item = self.items.peek();
-        item.expect("a block has the items that its heads tell")
+        Lent::of(self.block, &self.tokens[self.at])
     }
 
-    fn take(&mut self) -> Lent<'de> {
-        let (item, place) = (self.peek(), self.items.tokens()[0].place as usize);
-        self.items.pass();
-        self.place = match item {
-            Lent::Text(text) => place + text.len(),
-            Lent::Bytes(bytes) | Lent::Link(bytes) => place + bytes.len(),
-            _ => place,
+    /// Where the head of a token stands: behind the token before it and its payload.
+    #[cold]
+    fn place_of(&self, at: usize) -> usize {
+        let Some(before) = at.checked_sub(1) else {
+            return 0;
         };
-        item
+        let token = &self.tokens[before];
+        token.place as usize
+            + match Lent::of(self.block, token) {
+                Lent::Text(text) => text.len(),
+                Lent::Bytes(bytes) | Lent::Link(bytes) => bytes.len(),
+                _ => 0,
+            }
     }
 
     /// Passes an item, with what is in it.
@@ -90,11 +97,12 @@ impl<'de> Reader<'de, '_> {
         let mut left = 1;
         while left > 0 {
             left = left - 1
-                + match self.take() {
+                + match self.peek() {
                     Lent::List(count) => count,
                     Lent::Map(count) => 2 * count,
                     _ => 0,
                 };
+            self.at += 1;
         }
     }
 
@@ -104,11 +112,12 @@ impl<'de> Reader<'de, '_> {
         is_wanted: fn(&Lent) -> bool,
         visitor: V,
     ) -> Result<V::Value, Error> {
-        let (item, place) = (self.peek(), self.place);
+        let (item, at) = (self.peek(), self.at);
         if !is_wanted(&item) {
-            return Err(Error::invalid_type(unexpected(&item), &visitor).or_at(place));
+            let error = Error::invalid_type(unexpected(&item), &visitor);
+            return Err(error.or_at(self.place_of(at)));
         }
-        self.take();
+        self.at += 1;
         let value = match item {
             Lent::Null => visitor.visit_none(),
             Lent::Bool(value) => visitor.visit_bool(value),
@@ -120,18 +129,24 @@ impl<'de> Reader<'de, '_> {
             Lent::Text(text) => visitor.visit_borrowed_str(text),
             Lent::Bytes(bytes) => visitor.visit_borrowed_bytes(bytes),
             Lent::List(left) => {
-                let mut parts = Parts { reader: self, left };
+                let mut parts = Parts {
+                    reader: &mut *self,
+                    left,
+                };
                 let value = visitor.visit_seq(&mut parts);
                 value.and_then(|it| parts.all_taken(it))
             }
             Lent::Map(left) => {
-                let mut parts = Parts { reader: self, left };
+                let mut parts = Parts {
+                    reader: &mut *self,
+                    left,
+                };
                 let value = visitor.visit_map(&mut parts);
                 value.and_then(|it| parts.all_taken(it))
             }
             Lent::Link(cid) => visitor.visit_newtype_struct(Link(cid)),
         };
-        value.map_err(|it| it.or_at(place))
+        value.map_err(|it| it.or_at(self.place_of(at)))
     }
 }
 
@@ -180,11 +195,11 @@ impl<'de> de::Deserializer<'de> for &mut Reader<'de, '_> {
     }
 
     fn deserialize_unit<V: Visitor<'de>>(self, visitor: V) -> Result<V::Value, Error> {
-        match self.peek() {
-            Lent::Null => self.take(),
-            _ => return self.visit(|_| false, visitor),
-        };
-        visitor.visit_unit()
+        if let Lent::Null = self.peek() {
+            self.at += 1;
+            return visitor.visit_unit();
+        }
+        self.visit(|_| false, visitor)
     }
 
     fn deserialize_unit_struct<V: Visitor<'de>>(
@@ -201,9 +216,9 @@ impl<'de> de::Deserializer<'de> for &mut Reader<'de, '_> {
             Lent::Negative(n) => -1 - i128::from(n),
             _ => return self.visit(|_| false, visitor),
         };
-        let place = self.place;
-        self.take();
-        visitor.visit_i128(n).map_err(|it: Error| it.or_at(place))
+        self.at += 1;
+        let value = visitor.visit_i128(n);
+        value.map_err(|it: Error| it.or_at(self.place_of(self.at - 1)))
     }
 
     fn deserialize_u128<V: Visitor<'de>>(self, visitor: V) -> Result<V::Value, Error> {
@@ -211,9 +226,9 @@ impl<'de> de::Deserializer<'de> for &mut Reader<'de, '_> {
             Lent::Integer(n) => u128::from(n),
             _ => return self.visit(|_| false, visitor),
         };
-        let place = self.place;
-        self.take();
-        visitor.visit_u128(n).map_err(|it: Error| it.or_at(place))
+        self.at += 1;
+        let value = visitor.visit_u128(n);
+        value.map_err(|it: Error| it.or_at(self.place_of(self.at - 1)))
     }
 
     fn deserialize_f32<V: Visitor<'de>>(self, visitor: V) -> Result<V::Value, Error> {
@@ -226,12 +241,12 @@ impl<'de> de::Deserializer<'de> for &mut Reader<'de, '_> {
 
     fn deserialize_option<V: Visitor<'de>>(self, visitor: V) -> Result<V::Value, Error> {
         if let Lent::Null = self.peek() {
-            self.take();
+            self.at += 1;
             return visitor.visit_none();
         }
         if self.options == MOST_OPTIONS {
             let said = "the type has too many options in each other";
-            return Err(Error::custom(said).or_at(self.place));
+            return Err(Error::custom(said).or_at(self.place_of(self.at)));
         }
         self.options += 1;
         let value = visitor.visit_some(&mut *self);
@@ -256,20 +271,18 @@ impl<'de> de::Deserializer<'de> for &mut Reader<'de, '_> {
         _: &'static [&'static str],
         visitor: V,
     ) -> Result<V::Value, Error> {
-        let place = self.place;
+        let at = self.at;
         let has_data = match self.peek() {
             Lent::Text(_) => false,
             Lent::Map(1) => true,
-            it => return Err(Error::invalid_type(unexpected(&it), &visitor).or_at(place)),
+            _ => return self.visit(|_| false, visitor),
         };
-        if has_data {
-            self.take();
-        }
+        self.at += usize::from(has_data);
         let value = visitor.visit_enum(Variant {
-            reader: self,
+            reader: &mut *self,
             has_data,
         });
-        value.map_err(|it| it.or_at(place))
+        value.map_err(|it| it.or_at(self.place_of(at)))
     }
 
     fn deserialize_ignored_any<V: Visitor<'de>>(self, visitor: V) -> Result<V::Value, Error> {

@@ -49,7 +49,7 @@ pub enum Item<'a> {
 /// The items of a block, in its order.
 #[derive(Clone, Debug)]
 pub struct Items<'a, 't> {
-    block: &'a [u8],
+    pub(crate) block: &'a [u8],
     tokens: slice::Iter<'t, Token>,
 }
 
@@ -82,16 +82,17 @@ pub(crate) enum Lent<'a> {
     Link(&'a [u8]),
 }
 
-impl<'a> Items<'a, '_> {
-    /// The first item that is left.
-    pub(crate) fn peek(&self) -> Option<Lent<'a>> {
+impl<'a> Lent<'a> {
+    /// The item of a token of the block.
+    #[inline]
+    pub(crate) fn of(block: &'a [u8], token: &Token) -> Lent<'a> {
         let Token {
             kind,
             number,
             place,
-        } = *self.tokens().first()?;
-        let payload = || &self.block[place as usize..][..number as usize];
-        Some(match kind {
+        } = *token;
+        let payload = || &block[place as usize..][..number as usize];
+        match kind {
             NULL => Lent::Null,
             BOOL => Lent::Bool(number == 1),
             INTEGER => Lent::Integer(number),
@@ -103,11 +104,7 @@ impl<'a> Items<'a, '_> {
             MAP => Lent::Map(number),
             LINK => Lent::Link(payload()),
             _ => unreachable!("the library tells no token of kind {kind}"),
-        })
-    }
-
-    pub(crate) fn pass(&mut self) {
-        self.tokens.next();
+        }
     }
 }
 
@@ -115,9 +112,7 @@ impl<'a> Iterator for Items<'a, '_> {
     type Item = Item<'a>;
 
     fn next(&mut self) -> Option<Item<'a>> {
-        let item = self.peek()?;
-        self.pass();
-        Some(match item {
+        Some(match Lent::of(self.block, self.tokens.next()?) {
             Lent::Null => Item::Null,
             Lent::Bool(value) => Item::Bool(value),
             Lent::Integer(n) => Item::Integer(n),

@@ -1,11 +1,9 @@
-//! Blocks of values: tokens, which the library spells and judges.
+//! Blocks of values: bytes, which the library judges.
 
-use crate::calls::spell_into;
 use crate::de::CID_NAME;
-use crate::item::{BOOL, BYTES, INTEGER, LINK, LIST, MAP, NEGATIVE, NULL, TEXT};
-use crate::{Cid, Error, Refusal, Token};
-use alloc::{string::String, vec, vec::Vec};
-use core::{fmt, mem};
+use crate::{check, Cid, Error, Refusal};
+use alloc::{string::String, vec::Vec};
+use core::{fmt, iter, ops::Range};
 use serde::ser::{self, Error as _, Serialize};
 
 /// So many lists and maps may be around a value.
@@ -32,11 +30,8 @@ const MOST_LEVELS: usize = 127;
 pub fn to_vec<T: Serialize + ?Sized>(value: &T) -> Result<Vec<u8>, Error> {
     let mut writer = Writer::default();
     value.serialize(&mut writer)?;
-    // No head has more bytes than nine, and that of a link no more than six.
-    let mut block = vec![0; writer.payloads.len() + 9 * writer.tokens.len()];
-    let count = spell_into(&writer.payloads, &writer.tokens, &mut block)?.len();
-    block.truncate(count);
-    Ok(block)
+    check(&writer.block).map_err(|it| it.refusal)?;
+    Ok(writer.block)
 }
 
 /// Writes the block of a value: nothing, where there is none.
@@ -48,42 +43,87 @@ pub fn to_writer<T: Serialize + ?Sized>(
     Ok(writer.write_all(&to_vec(value)?)?)
 }
 
-/// What is told so far, and the payloads of its tokens.
+// The major types of heads.
+const INTEGER: u8 = 0;
+const NEGATIVE: u8 = 1;
+const BYTES: u8 = 2;
+const TEXT: u8 = 3;
+const LIST: u8 = 4;
+const MAP: u8 = 5;
+const SIMPLE: u8 = 7;
+
+/// The shortest head, and its length.
+fn head(major: u8, n: u64) -> ([u8; 9], usize) {
+    let (width, information) = match n {
+        0..=23 => (0, n as u8),
+        24..=0xff => (1, 24),
+        0x100..=0xffff => (2, 25),
+        0x1_0000..=0xffff_ffff => (4, 26),
+        _ => (8, 27),
+    };
+    let mut head = [0; 9];
+    head[0] = 32 * major + information;
+    head[1..].copy_from_slice(&(n << (8 * (8 - width.max(1)))).to_be_bytes());
+    (head, 1 + width)
+}
+
+/// An entry of a map that is being written: where it and the text of its key stand.
+struct Entry {
+    place: Range<usize>,
+    key: Range<usize>,
+}
+
+/// What is written so far.
 #[derive(Default)]
 struct Writer {
-    tokens: Vec<Token>,
-    payloads: Vec<u8>,
+    block: Vec<u8>,
     level: usize,
-    keys: Vec<usize>, // the tokens of the keys, of the maps that are being written
-    entries: Vec<(usize, usize)>, // of one map that is sorted: where its entries begin and end
-    sorted: Vec<Token>,
+    payload: usize,      // where the last one begins
+    entries: Vec<Entry>, // of the maps that are being written
+    sorted: Vec<u8>,     // the entries of one of them
 }
 
 impl Writer {
-    fn add(&mut self, kind: u64, number: u64) -> Result<(), Error> {
+    #[inline]
+    fn add(&mut self, major: u8, n: u64) -> Result<(), Error> {
         if self.level > MOST_LEVELS {
             return Err(Refusal::DepthOverflow.into());
         }
-        let place = self.payloads.len() as u64;
-        self.tokens.push(Token {
-            kind,
-            number,
-            place,
-        });
+        if n <= 23 {
+            self.block.push(32 * major + n as u8);
+        } else {
+            self.add_long(major, n);
+        }
         Ok(())
     }
 
-    fn add_payload(&mut self, kind: u64, payload: &[u8]) -> Result<(), Error> {
-        self.add(kind, payload.len() as u64)?;
-        self.payloads.extend_from_slice(payload);
+    #[inline(never)]
+    fn add_long(&mut self, major: u8, n: u64) {
+        let (head, count) = head(major, n);
+        self.block.extend_from_slice(&head); // of a length that is known
+        self.block.truncate(self.block.len() - head.len() + count);
+    }
+
+    fn add_payload(&mut self, major: u8, payload: &[u8]) -> Result<(), Error> {
+        self.add(major, payload.len() as u64)?;
+        self.payload = self.block.len();
+        self.block.extend_from_slice(payload);
         Ok(())
     }
 
-    /// The text of a token.
-    fn key(&self, token: usize) -> String {
-        let Token { number, place, .. } = self.tokens[token];
-        let text = &self.payloads[place as usize..][..number as usize];
-        String::from_utf8_lossy(text).into_owned()
+    fn text(&self, place: Range<usize>) -> String {
+        String::from_utf8_lossy(&self.block[place]).into_owned()
+    }
+
+    fn add_natural(&mut self, n: u64) -> Result<(), Error> {
+        self.add(INTEGER, n)
+    }
+
+    fn add_signed(&mut self, n: i64) -> Result<(), Error> {
+        match u64::try_from(n) {
+            Ok(n) => self.add(INTEGER, n),
+            Err(_) => self.add(NEGATIVE, !n as u64),
+        }
     }
 
     fn add_integer(&mut self, n: i128) -> Result<(), Error> {
@@ -96,32 +136,43 @@ impl Writer {
 
     /// Adds the value, which is bytes or a text, as the link that it is.
     fn add_link<T: Serialize + ?Sized>(&mut self, value: &T) -> Result<(), Error> {
-        let at = self.tokens.len();
+        let at = self.block.len();
         value.serialize(&mut *self)?;
-        match self.tokens[at].kind {
-            BYTES => self.tokens[at].kind = LINK,
+        match self.block[at] / 32 {
+            BYTES => {}
             TEXT => {
-                let cid: Cid = self.key(at).parse()?;
-                self.tokens.truncate(at);
-                self.add_payload(LINK, cid.as_bytes())?;
+                let cid: Cid = self.text(self.payload..self.block.len()).parse()?;
+                self.block.truncate(at);
+                self.add_payload(BYTES, cid.as_bytes())?;
             }
             _ => return Err(Refusal::Msg.into()),
         }
+        let (head, count) = head(BYTES, 1 + (self.block.len() - self.payload) as u64);
+        let front = [0xd8, 0x2a].into_iter().chain(head.into_iter().take(count));
+        self.block.splice(at..self.payload, front.chain(iter::once(0)));
         Ok(())
     }
 
-    /// Begins a list or map, behind the name of the variant that it is of.
-    fn begin(&mut self, kind: u64, variant: Option<&'static str>) -> Result<Parts<'_>, Error> {
+    /// Begins a list or map, of so many parts where that is known, behind the name of the variant
+    /// that it is of.
+    fn begin(
+        &mut self,
+        major: u8,
+        parts: Option<usize>,
+        variant: Option<&'static str>,
+    ) -> Result<Parts<'_>, Error> {
         if let Some(name) = variant {
             self.begin_variant(name)?;
         }
-        self.add(kind, 0)?;
+        let (head, told) = (self.block.len(), parts.unwrap_or(0));
+        self.add(major, told as u64)?;
         self.level += 1;
         Ok(Parts {
-            head: self.tokens.len() - 1,
-            first: self.keys.len(),
+            head: head..self.block.len(),
+            first: self.entries.len(),
             writer: self,
-            key: 0,
+            major,
+            told,
             count: 0,
             variant,
         })
@@ -133,31 +184,25 @@ impl Writer {
         self.add_payload(TEXT, name.as_bytes())
     }
 
-    /// Puts the entries of the last map, whose keys are those from there on, in the order of blocks.
+    /// Puts the last map's entries, which are those from there on, in the order of blocks.
     fn sort(&mut self, first: usize) -> Result<(), Error> {
-        let (keys, tokens, payloads) = (&self.keys[first..], &self.tokens, &self.payloads);
-        let order = |token: usize| {
-            let Token { number, place, .. } = tokens[token];
-            (number, &payloads[place as usize..][..number as usize])
-        };
-        if keys.windows(2).all(|it| order(it[0]) < order(it[1])) {
+        let (entries, block) = (&mut self.entries[first..], &mut self.block);
+        let order = |it: &Entry| (it.key.len(), &block[it.key.clone()]);
+        if entries.windows(2).all(|it| order(&it[0]) < order(&it[1])) {
             return Ok(());
         }
-        let mut entries = mem::take(&mut self.entries);
-        entries.clear();
-        let ends = keys[1..].iter().copied().chain([self.tokens.len()]);
-        entries.extend(keys.iter().copied().zip(ends));
-        entries.sort_unstable_by(|one, other| order(one.0).cmp(&order(other.0)));
-        let is_twice = |it: &&[(usize, usize)]| order(it[0].0) == order(it[1].0);
+        let begin = entries[0].place.start;
+        entries.sort_unstable_by(|one, other| order(one).cmp(&order(other)));
+        let is_twice = |it: &&[Entry]| order(&it[0]) == order(&it[1]);
         if let Some(twice) = entries.windows(2).find(is_twice) {
-            return Err(Error::from(Refusal::UnorderedKey).within(self.key(twice[1].0)));
+            let key = twice[1].key.clone();
+            return Err(Error::from(Refusal::UnorderedKey).within(self.text(key)));
         }
         self.sorted.clear();
-        for (begin, end) in &entries {
-            self.sorted.extend_from_slice(&tokens[*begin..*end]);
+        for it in entries {
+            self.sorted.extend_from_slice(&block[it.place.clone()]);
         }
-        self.tokens[keys[0]..].copy_from_slice(&self.sorted);
-        self.entries = entries;
+        block[begin..].copy_from_slice(&self.sorted);
         Ok(())
     }
 }
@@ -165,9 +210,10 @@ impl Writer {
 /// A list or map that is written.
 struct Parts<'a> {
     writer: &'a mut Writer,
-    head: usize,
-    first: usize, // of its keys
-    key: usize,   // the last, its token
+    head: Range<usize>,
+    major: u8,
+    told: usize,  // so many parts, in the head
+    first: usize, // of its entries
     count: usize,
     variant: Option<&'static str>,
 }
@@ -188,39 +234,50 @@ impl Parts<'_> {
     }
 
     fn add_key<T: Serialize + ?Sized>(&mut self, key: &T) -> Result<(), Error> {
-        let at = self.writer.tokens.len();
+        let at = self.writer.block.len();
         let added = key.serialize(&mut *self.writer);
         added.map_err(|it| self.of_variant(it))?;
-        if self.writer.tokens[at].kind != TEXT {
+        if self.writer.block[at] / 32 != TEXT {
             return Err(self.of_variant(Error::custom("Map keys must be strings")));
         }
-        self.writer.keys.push(at);
-        self.key = at;
+        let end = self.writer.block.len();
+        self.writer.entries.push(Entry {
+            place: at..end,
+            key: self.writer.payload..end,
+        });
         self.count += 1;
         Ok(())
     }
 
     fn add_value<T: Serialize + ?Sized>(&mut self, value: &T) -> Result<(), Error> {
         let added = value.serialize(&mut *self.writer);
-        added.map_err(|it| self.of_variant(it.within(self.writer.key(self.key))))
+        let last = self.first + self.count - 1;
+        let key = &self.writer.entries[last].key;
+        added.map_err(|it| self.of_variant(it.within(self.writer.text(key.clone()))))?;
+        self.writer.entries[last].place.end = self.writer.block.len();
+        Ok(())
     }
 
     fn finish(self) -> Result<(), Error> {
-        self.writer.tokens[self.head].number = self.count as u64;
         self.writer.level -= 1 + usize::from(self.variant.is_some());
         let sorted = self.writer.sort(self.first);
-        self.writer.keys.truncate(self.first);
+        self.writer.entries.truncate(self.first);
+        if self.told != self.count {
+            let (head, count) = head(self.major, self.count as u64);
+            let front = head.into_iter().take(count);
+            self.writer.block.splice(self.head.clone(), front);
+        }
         sorted.map_err(|it| self.of_variant(it))
     }
 }
 
 /// The methods that write an integer.
 macro_rules! integers {
-    ($($method:ident $type:ty)*) => {$(
+    ($($add:ident $wide:ty: $($method:ident $type:ty),*;)*) => {$($(
         fn $method(self, n: $type) -> Result<(), Error> {
-            self.add_integer(i128::from(n))
+            self.$add(<$wide>::from(n))
         }
-    )*};
+    )*)*};
 }
 
 impl<'a> ser::Serializer for &'a mut Writer {
@@ -235,8 +292,11 @@ impl<'a> ser::Serializer for &'a mut Writer {
     type SerializeStructVariant = Parts<'a>;
 
     integers! {
-        serialize_i8 i8 serialize_i16 i16 serialize_i32 i32 serialize_i64 i64 serialize_i128 i128
-        serialize_u8 u8 serialize_u16 u16 serialize_u32 u32 serialize_u64 u64
+        add_natural u64:
+            serialize_u8 u8, serialize_u16 u16, serialize_u32 u32, serialize_u64 u64;
+        add_signed i64:
+            serialize_i8 i8, serialize_i16 i16, serialize_i32 i32, serialize_i64 i64;
+        add_integer i128: serialize_i128 i128;
     }
 
     fn serialize_u128(self, n: u128) -> Result<(), Error> {
@@ -244,7 +304,7 @@ impl<'a> ser::Serializer for &'a mut Writer {
     }
 
     fn serialize_bool(self, value: bool) -> Result<(), Error> {
-        self.add(BOOL, u64::from(value))
+        self.add(SIMPLE, 20 + u64::from(value))
     }
 
     fn serialize_f32(self, _: f32) -> Result<(), Error> {
@@ -268,7 +328,7 @@ impl<'a> ser::Serializer for &'a mut Writer {
     }
 
     fn serialize_none(self) -> Result<(), Error> {
-        self.add(NULL, 0)
+        self.add(SIMPLE, 22)
     }
 
     fn serialize_some<T: Serialize + ?Sized>(self, value: &T) -> Result<(), Error> {
@@ -276,11 +336,11 @@ impl<'a> ser::Serializer for &'a mut Writer {
     }
 
     fn serialize_unit(self) -> Result<(), Error> {
-        self.add(NULL, 0)
+        self.add(SIMPLE, 22)
     }
 
     fn serialize_unit_struct(self, _: &'static str) -> Result<(), Error> {
-        self.add(NULL, 0)
+        self.add(SIMPLE, 22)
     }
 
     fn serialize_unit_variant(
@@ -316,16 +376,20 @@ impl<'a> ser::Serializer for &'a mut Writer {
         added.map_err(|it| it.within(variant))
     }
 
-    fn serialize_seq(self, _: Option<usize>) -> Result<Parts<'a>, Error> {
-        self.begin(LIST, None)
+    fn serialize_seq(self, count: Option<usize>) -> Result<Parts<'a>, Error> {
+        self.begin(LIST, count, None)
     }
 
-    fn serialize_tuple(self, _: usize) -> Result<Parts<'a>, Error> {
-        self.begin(LIST, None)
+    fn serialize_tuple(self, count: usize) -> Result<Parts<'a>, Error> {
+        self.begin(LIST, Some(count), None)
     }
 
-    fn serialize_tuple_struct(self, _: &'static str, _: usize) -> Result<Parts<'a>, Error> {
-        self.begin(LIST, None)
+    fn serialize_tuple_struct(
+        self,
+        _: &'static str,
+        count: usize,
+    ) -> Result<Parts<'a>, Error> {
+        self.begin(LIST, Some(count), None)
     }
 
     fn serialize_tuple_variant(
@@ -333,17 +397,17 @@ impl<'a> ser::Serializer for &'a mut Writer {
         _: &'static str,
         _: u32,
         variant: &'static str,
-        _: usize,
+        count: usize,
     ) -> Result<Parts<'a>, Error> {
-        self.begin(LIST, Some(variant))
+        self.begin(LIST, Some(count), Some(variant))
     }
 
-    fn serialize_map(self, _: Option<usize>) -> Result<Parts<'a>, Error> {
-        self.begin(MAP, None)
+    fn serialize_map(self, count: Option<usize>) -> Result<Parts<'a>, Error> {
+        self.begin(MAP, count, None)
     }
 
-    fn serialize_struct(self, _: &'static str, _: usize) -> Result<Parts<'a>, Error> {
-        self.begin(MAP, None)
+    fn serialize_struct(self, _: &'static str, count: usize) -> Result<Parts<'a>, Error> {
+        self.begin(MAP, Some(count), None)
     }
 
     fn serialize_struct_variant(
@@ -351,9 +415,9 @@ impl<'a> ser::Serializer for &'a mut Writer {
         _: &'static str,
         _: u32,
         variant: &'static str,
-        _: usize,
+        count: usize,
     ) -> Result<Parts<'a>, Error> {
-        self.begin(MAP, Some(variant))
+        self.begin(MAP, Some(count), Some(variant))
     }
 
     fn collect_str<T: fmt::Display + ?Sized>(self, value: &T) -> Result<(), Error> {

@@ -4,6 +4,7 @@ pub mod Tapes
 pub mod CompactTokens
 pub mod Telling
 pub mod Spelling
+pub mod JudgedTapes
 pub mod Naming
 pub mod Standing
 pub mod HeaderRoots

@@ -1,16 +1,14 @@
 -- What tokens tell: counted, and put.
-use Rattle.std.proofs.Common.{◌≡◌, ℕ, suc, ◌+◌, ◌-◌, ◌^◌, ◌<◌, ◌≤◌, min, List, [], ◌∷◌, ◌++◌, length, get_or, take, drop, Bool, true, false, if◌then◌else◌, refl, sym, ap, ap₂, ◌∙◌, subst, arith, append_assoc, append-nil, Option, Some, None, option_map, option_and_then, ltb, drop-cons, ltb-false, length-append, length-take-le, length-drop}
+use Rattle.std.proofs.Common.{◌≡◌, ℕ, suc, ◌+◌, ◌-◌, ◌^◌, ◌<◌, ◌≤◌, min, List, [], ◌∷◌, ◌++◌, length, get_or, take, drop, Bool, true, false, if◌then◌else◌, refl, sym, ap, ap₂, ◌∙◌, arith, append_assoc, append-nil, Option, Some, None, option_map, option_and_then, MatchOption, ltb, drop-cons, ltb-false, length-append, length-take-le, length-drop}
+use Rattle.std.proofs.lemmas.Bool.{ne_eqb}
 use Rattle.dagcbor_heads.specs.Head.{head}
+use Rattle.ipld_tree.specs.Tree.{link}
+use Rattle.ipld_tree.specs.Spelling.{spelling}
 use Rattle.dagcbor_calls.specs.Packed.{put_at}
-use Rattle.dagcbor_calls.specs.Told.{payload_at, boolean_told, bytes_told, tape_told, HasRoomAt, PutsAt, PutsToldAt, CountsTold, FillsTold}
+use Rattle.dagcbor_calls.specs.Told.{payload_at, null_told, boolean_told, string_told, link_told, bytes_told, TellsLength, tape_told, HasRoomAt, PutsAt, PutsToldAt, CountsTold, FillsTold}
 use Rattle.dagcbor_calls.specs.declared.tape.Token.{Token}
 use Rattle.dagcbor_calls.proofs.Putting.{put_fits, length_put_at, put_behind}
 use Rattle.dagcbor_calls.proofs.Telling.{told_first}
-
-pub boolean_is : (n : ℕ) → n ≤ 1 → boolean_told n ≡ Some ((0xf4 + n) ∷ [])
-boolean_is ℕ.zero h = refl
-boolean_is (suc ℕ.zero) h = refl
-boolean_is (suc (suc n)) h = absurd (omega (arith, h))
 
 pub payload_long : (b s : List ℕ) (place n : ℕ) → payload_at b place n ≡ Some s → length s ≡ n
 payload_long b s place n e = by (ltb (length b) (place + n)) refl e
@@ -21,6 +19,28 @@ payload_long b s place n e = by (ltb (length b) (place + n)) refl e
         let is : take n (drop place b) ≡ s = cc k in
         let room = ltb-false (length b) (place + n) (sym f) in
         sym (ap length is) ∙ length-take-le n (drop place b) (omega (arith, room, length-drop place b))
+
+-- what is told with a payload
+pub string_is : (b s : List ℕ) (major place n : ℕ) → payload_at b place n ≡ Some s → string_told major b n place ≡ Some (head major (length s) ++ s)
+string_is b s major place n e = ap (option_map (λ p. head major n ++ p)) e ∙ ap (λ m. Some (head major m ++ s)) (sym (payload_long b s place n e))
+
+pub link_is : (b cid : List ℕ) (place n : ℕ) → payload_at b place n ≡ Some cid → link_told b n place ≡ Some (spelling (link cid))
+link_is b cid place n e = ap (option_map (λ p. 0xd8 ∷ 0x2a ∷ head 2 (suc n) ++ 0x00 ∷ p)) e ∙ ap (λ m. Some (0xd8 ∷ 0x2a ∷ head 2 (suc m) ++ 0x00 ∷ cid)) (sym (payload_long b cid place n e))
+
+-- simple values, by the greatest number of their tokens
+pub null_counted : (n : ℕ) (r : Option ℕ) → MatchOption r (0 < n) (λ k. (n ≤ 0) × (k ≡ 1)) → TellsLength (null_told n) r
+null_counted ℕ.zero None h = absurd (omega (arith, h))
+null_counted ℕ.zero (Some k) h = (0xf6 ∷ [], refl, h.1)
+null_counted (suc n) None h = ap (λ (o : Bool). if o then Some (0xf6 ∷ []) else None) (ne_eqb (suc n) 0 (λ e. omega (arith, e)))
+null_counted (suc n) (Some k) h = absurd (omega (arith, h.0))
+
+pub boolean_counted : (n : ℕ) (r : Option ℕ) → MatchOption r (1 < n) (λ k. (n ≤ 1) × (k ≡ 1)) → TellsLength (boolean_told n) r
+boolean_counted ℕ.zero None h = absurd (omega (arith, h))
+boolean_counted ℕ.zero (Some k) h = (0xf4 ∷ [], refl, h.1)
+boolean_counted (suc ℕ.zero) None h = absurd (omega (arith, h))
+boolean_counted (suc ℕ.zero) (Some k) h = (0xf5 ∷ [], refl, h.1)
+boolean_counted (suc (suc n)) None h = ap₂ (λ (o u : Bool). if o then Some (0xf4 ∷ []) else if u then Some (0xf5 ∷ []) else None) (ne_eqb (suc (suc n)) 0 (λ e. omega (arith, e))) (ne_eqb (suc (suc n)) 1 (λ e. omega (arith, e)))
+boolean_counted (suc (suc n)) (Some k) h = absurd (omega (arith, h.0))
 
 -- ---- bytes at a place
 

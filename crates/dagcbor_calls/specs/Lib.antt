@@ -5,6 +5,7 @@ pub mod Packed
 pub mod Tapes
 pub mod CompactTapes
 pub mod Told
+pub mod TapeJudging
 pub mod Standing
 pub mod Answers
 pub mod Sections

@@ -7,6 +7,7 @@ mod code;
 mod compact;
 mod find;
 mod header;
+mod judge;
 pub mod laws;
 mod links;
 mod name;

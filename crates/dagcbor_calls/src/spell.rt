@@ -7,10 +7,11 @@ ghost use Rattle.dagcbor_calls.specs.Told.{tape_told, PutsAt, PutsToldAt, HasRoo
 ghost use Rattle.dagcbor_calls.specs.Told.{FillsTold};
 ghost use Rattle.dagcbor_calls.specs.Answers.{IsCheckAnswer, IsSpellAnswer};
 
-use crate::code::{NO_ROOM, code_of};
+use crate::code::{NO_ROOM, code_of, kind_code};
+use crate::judge::block_length;
 use crate::tape::Token;
 use crate::told::told_length;
-use dagcbor_items::check_slice;
+use dagcbor_items::{check_slice, kind_of_front};
 
 /// Puts the bytes at the place: the place behind them.
 #[inline(always)]
@@ -130,6 +131,20 @@ const NO_TOKEN: i32 = -20;
 
 /// Puts what the tape tells at the front of `out`, where there is room for it, and judges it.
 pub fn spell_tape(bytes: &[u8], tape: &[Token], out: &mut [u8], needed: &mut usize) -> i32
+    ensures { IsSpellAnswer bytes.now tape.now out.old out.new needed.new result }
+{
+    if let Some(count) = block_length(bytes, tape, out.len()) {
+        *needed = count;
+        fill(bytes, tape, out);
+        return kind_code(kind_of_front(out));
+    }
+    spell_slowly(bytes, tape, out, needed)
+}
+
+/// The same of any tape: counted, put and judged, one behind the other.
+#[cold]
+#[inline(never)]
+fn spell_slowly(bytes: &[u8], tape: &[Token], out: &mut [u8], needed: &mut usize) -> i32
     ensures { IsSpellAnswer bytes.now tape.now out.old out.new needed.new result }
 {
     *needed = 0;

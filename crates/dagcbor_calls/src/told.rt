@@ -1,16 +1,17 @@
 //! How many bytes tokens tell.
 
-ghost use Rattle.std.specs.Prelude.{◌≡◌, ◌≤◌, length, Some, None, ℕ, MatchOption};
+ghost use Rattle.std.specs.Prelude.{◌≡◌, ◌+◌, ◌<◌, ◌≤◌, ◌++◌, length, Some, None, ℕ, MatchOption};
 ghost use Rattle.dagcbor_heads.specs.Head.{head};
-ghost use Rattle.dagcbor_calls.specs.Told.{payload_at, null_told, boolean_told, string_told};
-ghost use Rattle.dagcbor_calls.specs.Told.{link_told, bytes_told, TellsLength, CountsTold};
+ghost use Rattle.ipld_tree.specs.Tree.{link};
+ghost use Rattle.ipld_tree.specs.Spelling.{spelling};
+ghost use Rattle.dagcbor_calls.specs.Told.{payload_at, bytes_told, TellsLength, CountsTold};
 
 use crate::tape::Token;
 
 /// How many bytes the shortest head of this argument has.
 #[inline(always)]
 #[tactic(auto, unfolding(dagcbor_heads::specs::Head::head))]
-fn head_length(argument: u64) -> usize
+pub(crate) fn head_length(argument: u64) -> usize
     ensures few { result ≤ 9 }
     ensures length { (major : ℕ) → result ≡ length (head major argument) }
 {
@@ -27,7 +28,7 @@ fn head_length(argument: u64) -> usize
 
 /// So many bytes from a place on.
 #[inline(always)]
-fn payload_at(bytes: &[u8], place: u64, n: u64) -> Option<&[u8]>
+pub(crate) fn payload_at(bytes: &[u8], place: u64, n: u64) -> Option<&[u8]>
     ensures { MatchOption result (payload_at bytes.now place n ≡ None)
         (λ s. payload_at bytes.now place n ≡ Some s.now) }
 {
@@ -39,35 +40,30 @@ fn payload_at(bytes: &[u8], place: u64, n: u64) -> Option<&[u8]>
     Some(&bytes[from..from + count])
 }
 
+/// How many bytes a simple value has, where its number is no more than this.
 #[inline(always)]
-fn null_length(number: u64) -> Option<usize>
-    ensures { TellsLength (null_told number) result }
+pub(crate) fn simple_length(number: u64, most: u64) -> Option<usize>
+    ensures { MatchOption result (most < number) (λ n. (number ≤ most) × (n ≡ 1)) }
 {
-    if number == 0 { Some(1) } else { None }
+    if number > most { None } else { Some(1) }
 }
 
+/// How many bytes a string of this payload has.
 #[inline(always)]
-fn boolean_length(number: u64) -> Option<usize>
-    ensures { TellsLength (boolean_told number) result }
+pub(crate) fn headed_length(payload: &[u8]) -> usize
+    ensures few { result ≤ 9 + length payload.now }
+    ensures length { (major : ℕ) →
+        result ≡ length (head major (length payload.now) ++ payload.now) }
 {
-    if number <= 1 { Some(1) } else { None }
+    head_length(payload.len() as u64) + payload.len()
 }
 
+/// How many bytes a link of this CID has.
 #[inline(always)]
-fn string_length(bytes: &[u8], token: &Token) -> Option<usize>
-    ensures { (major : ℕ) →
-        TellsLength (string_told major bytes.now token.now.number token.now.place) result }
+pub(crate) fn link_length(cid: &[u8]) -> usize
+    ensures { result ≡ length (spelling (link cid.now)) }
 {
-    let payload = payload_at(bytes, token.place, token.number)?;
-    Some(head_length(token.number) + payload.len())
-}
-
-#[inline(always)]
-fn link_length(bytes: &[u8], token: &Token) -> Option<usize>
-    ensures { TellsLength (link_told bytes.now token.now.number token.now.place) result }
-{
-    let cid = payload_at(bytes, token.place, token.number)?;
-    Some(2 + head_length(1 + token.number) + 1 + cid.len())
+    2 + head_length(1 + cid.len() as u64) + 1 + cid.len()
 }
 
 /// How many bytes a token tells, where it is one.
@@ -77,14 +73,14 @@ fn token_length(bytes: &[u8], token: &Token) -> Option<usize>
         result }
 {
     match token.kind {
-        0 => null_length(token.number),
-        1 => boolean_length(token.number),
+        0 => simple_length(token.number, 0),
+        1 => simple_length(token.number, 1),
         2 => Some(head_length(token.number)),
-        3 => string_length(bytes, token),
-        4 => string_length(bytes, token),
+        3 => Some(headed_length(payload_at(bytes, token.place, token.number)?)),
+        4 => Some(headed_length(payload_at(bytes, token.place, token.number)?)),
         5 => Some(head_length(token.number)),
         6 => Some(head_length(token.number)),
-        7 => link_length(bytes, token),
+        7 => Some(link_length(payload_at(bytes, token.place, token.number)?)),
         8 => Some(head_length(token.number)),
         _ => None,
     }

@@ -158,7 +158,7 @@ last_is b front rest left e h =
 
 -- ---- lists
 
-list_passed : (n steps : ℕ) (b c rest : List ℕ) → 2 ≤ steps → SplitsHead b 4 n c → SplitsItems c n (steps - 2) rest → SplitsItem b steps rest
+pub list_passed : (n steps : ℕ) (b c rest : List ℕ) → 2 ≤ steps → SplitsHead b 4 n c → SplitsItems c n (steps - 2) rest → SplitsItem b steps rest
 list_passed n steps b c rest some h k = (list k.0, subst (λ x. IsFront x (list k.0) rest) (ap (λ m. head 4 m ++ c) k.1 ∙ sym h.2) (list_closed c rest k.0 (omega (arith, k.1, h.1)) k.2), omega (arith, some, k.3))
 
 pub list_left : (n steps left : ℕ) (b c rest : List ℕ) → length rest ≡ left → 2 ≤ steps → SplitsHead b 4 n c → SplitsItems c n (steps - 2) rest → SplitsItem b steps (last c left)
@@ -218,7 +218,7 @@ all_passed b now count to_come steps e s = let q = items_so_far b now count to_c
 
 -- ---- maps
 
-map_passed : (n steps : ℕ) (b c rest : List ℕ) → 2 ≤ steps → SplitsHead b 5 n c → SplitsEntries c n (steps - 2) rest → SplitsItem b steps rest
+pub map_passed : (n steps : ℕ) (b c rest : List ℕ) → 2 ≤ steps → SplitsHead b 5 n c → SplitsEntries c n (steps - 2) rest → SplitsItem b steps rest
 map_passed n steps b c rest some h k = (
   mapping k.0,
   record {

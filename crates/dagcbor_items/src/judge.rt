@@ -55,7 +55,7 @@ pub(crate) fn is_plain(bytes: &[u8]) -> bool
 
 /// Whether the bytes are a text.
 #[inline(always)]
-fn is_text(bytes: &[u8]) -> bool
+pub fn is_text(bytes: &[u8]) -> bool
     ensures { IsTrue result ↔ IsUtf8 bytes.now }
 {
     if bytes.len() < SHORT && is_plain(bytes) {
@@ -94,7 +94,7 @@ fn split_key(bytes: &[u8]) -> Option<(&[u8], &[u8])>
 
 /// Whether the key may stand behind the one before it.
 #[inline(always)]
-fn follows(previous: &Option<&[u8]>, key: &[u8]) -> bool
+pub fn follows(previous: &Option<&[u8]>, key: &[u8]) -> bool
     ensures { IsTrue result ↔ Follows (option_map (λ s. s.now) previous.now) key.now }
 {
     match previous {
@@ -146,8 +146,9 @@ fn is_any_cid(bytes: &[u8]) -> bool
     Cid::try_from(bytes).is_ok()
 }
 
+/// Whether the bytes are a CID.
 #[inline(always)]
-fn is_cid(bytes: &[u8]) -> bool
+pub fn is_cid(bytes: &[u8]) -> bool
     ensures { IsTrue result ↔ IsCid bytes.now }
 {
     is_plain_cid(bytes) || is_any_cid(bytes)

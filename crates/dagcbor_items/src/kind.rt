@@ -17,7 +17,7 @@ pub enum Kind {
 }
 
 /// The kind of the item with which the bytes begin.
-pub(crate) fn kind_of_front(bytes: &[u8]) -> Kind
+pub fn kind_of_front(bytes: &[u8]) -> Kind
     ensures { IsKindOfFront bytes.now result }
 {
     match bytes.first().copied() {

@@ -27,9 +27,9 @@ mod utf8;
 mod walk;
 
 pub use any::read_any;
-pub use judge::behind_link;
+pub use judge::{behind_link, follows, is_cid, is_text};
 pub use key::{no_key, read_key, take_key, take_name};
-pub use kind::{Kind, kind_at};
+pub use kind::{Kind, kind_at, kind_of_front};
 pub use link::{pull_link, take_link};
 pub use majors::pull_major;
 pub use numbers::{pull_i128, pull_signed, pull_u128, pull_unsigned};

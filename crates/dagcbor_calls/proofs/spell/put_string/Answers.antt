@@ -1,4 +1,4 @@
-use Rattle.std.proofs.Common.{◌≡◌, ◌+◌, ◌≤◌, length, ◌++◌, Some, sym, ap, ◌∙◌, subst, arith, option_map}
+use Rattle.std.proofs.Common.{◌≡◌, ◌+◌, ◌≤◌, length, ◌++◌, Some, sym, ap, ◌∙◌, subst, option_map}
 use Rattle.dagcbor_heads.specs.Head.{head}
 use Rattle.dagcbor_calls.specs.Told.{PutsAt}
 use Rattle.dagcbor_calls.proofs.Spelling.{put_both}

@@ -1,4 +1,4 @@
-use Rattle.std.proofs.Common.{arith, ap, length, drop_of_length-le}
+use Rattle.std.proofs.Common.{arith, drop_of_length-le}
 use Rattle.dagcbor_calls.proofs.Spelling.{none_counted, one_counted, one_is_none, all_counted, next_token}
 use Rattle.dagcbor_calls.proofs.told.told_length.Goals as goal
 

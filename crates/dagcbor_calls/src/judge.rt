@@ -1,0 +1,191 @@
+//! Judging tokens: whether what a tape tells is surely a block. Its bytes need not be there yet: a
+//! head that is made of a number is the shortest one.
+
+ghost use Rattle.std.specs.Prelude.{◌≡◌, ◌+◌, ◌<◌, ◌≤◌, length, Some, IfSome, IsUtf8};
+ghost use Rattle.std.specs.Prelude.{option_map};
+ghost use Rattle.ipld_tree.specs.Cid.{IsCid};
+ghost use Rattle.dagcbor_items.specs.Judging.{SplitsItem, SplitsItems, SplitsEntries};
+ghost use Rattle.dagcbor_items.specs.Judging.{SplitsKeyAfter};
+ghost use Rattle.dagcbor_calls.specs.Told.{payload_at, bytes_told};
+ghost use Rattle.dagcbor_calls.specs.TapeJudging.{IsLeafTold, Tells, TellsBlock};
+
+use crate::tape::Token;
+use crate::told::{head_length, headed_length, link_length, payload_at, simple_length};
+use dagcbor_heads::DEFAULT_STEPS;
+use dagcbor_items::{follows, is_cid, is_text};
+
+/// The text that a token is told with, where its payload is one.
+#[inline(always)]
+fn text_of<'b>(bytes: &'b [u8], token: &Token) -> Option<&'b [u8]>
+    ensures { IfSome result (λ s. IsUtf8 s.now
+        × (payload_at bytes.now token.now.place token.now.number ≡ Some s.now)) }
+{
+    let payload = payload_at(bytes, token.place, token.number)?;
+    if is_text(payload) {
+        Some(payload)
+    } else {
+        None
+    }
+}
+
+/// The CID that a token is told with, where its payload is one.
+#[inline(always)]
+fn cid_of<'b>(bytes: &'b [u8], token: &Token) -> Option<&'b [u8]>
+    ensures { IfSome result (λ s. IsCid s.now
+        × (payload_at bytes.now token.now.place token.now.number ≡ Some s.now)) }
+{
+    let payload = payload_at(bytes, token.place, token.number)?;
+    if is_cid(payload) { Some(payload) } else { None }
+}
+
+/// How many bytes the item has that the token tells alone, where it surely tells one.
+#[inline(always)]
+fn leaf_length(bytes: &[u8], token: &Token) -> Option<usize>
+    ensures { IfSome result (λ n. IsLeafTold
+        (bytes_told bytes.now token.now.kind token.now.number token.now.place) n) }
+{
+    match token.kind {
+        0 => simple_length(token.number, 0),
+        1 => simple_length(token.number, 1),
+        2 => Some(head_length(token.number)),
+        3 => Some(headed_length(text_of(bytes, token)?)),
+        4 => Some(headed_length(payload_at(bytes, token.place, token.number)?)),
+        7 => Some(link_length(cid_of(bytes, token)?)),
+        8 => Some(head_length(token.number)),
+        _ => None,
+    }
+}
+
+/// The place behind the tokens of the item at the place, where these surely tell one that takes no
+/// more than these steps. Its bytes are taken off the room.
+#[cycle(judge)]
+#[inline(always)]
+fn behind_item(
+    bytes: &[u8],
+    tape: &[Token],
+    at: usize,
+    steps: usize,
+    room: &mut usize,
+) -> Option<usize>
+    requires { 1 ≤ steps }
+    ensures { IfSome result (λ next. Tells (λ b rest. SplitsItem b steps rest) bytes.now tape.now at
+        next room.old room.new) }
+{
+    if at >= tape.len() {
+        return None;
+    }
+    let token = &tape[at];
+    match token.kind {
+        5 => {
+            if steps < 3 {
+                return None;
+            }
+            *room = room.checked_sub(head_length(token.number))?;
+            behind_items(bytes, tape, at + 1, token.number, steps - 2, room)
+        }
+        6 => {
+            if steps < 3 {
+                return None;
+            }
+            *room = room.checked_sub(head_length(token.number))?;
+            behind_entries(bytes, tape, at + 1, token.number, steps - 2, room)
+        }
+        _ => {
+            *room = room.checked_sub(leaf_length(bytes, token)?)?;
+            Some(at + 1)
+        }
+    }
+}
+
+/// The place behind so many items.
+#[cycle(judge)]
+#[inline(never)]
+fn behind_items(
+    bytes: &[u8],
+    tape: &[Token],
+    at: usize,
+    count: u64,
+    steps: usize,
+    room: &mut usize,
+) -> Option<usize>
+    requires { 1 ≤ steps }
+    ensures { IfSome result (λ next. Tells (λ b rest. SplitsItems b count steps rest) bytes.now
+        tape.now at next room.old room.new) }
+{
+    let mut next = at;
+    let mut more = count;
+    while more > 0 {
+        next = behind_item(bytes, tape, next, steps, room)?;
+        more -= 1;
+    }
+    Some(next)
+}
+
+/// The key at the place, where the token there surely tells one that may stand behind the one before
+/// it.
+#[inline(always)]
+fn key_at<'b>(
+    bytes: &'b [u8],
+    tape: &[Token],
+    at: usize,
+    previous: &Option<&[u8]>,
+    room: &mut usize,
+) -> Option<&'b [u8]>
+    ensures inside { IfSome result (λ _. at < length tape.now) }
+    ensures key { IfSome result
+        (λ key. Tells (λ b rest. SplitsKeyAfter (option_map (λ s. s.now) previous.now)
+        b key.now rest) bytes.now tape.now at (at + 1) room.old room.new) }
+{
+    if at >= tape.len() {
+        return None;
+    }
+    let token = &tape[at];
+    if token.kind != 3 {
+        return None;
+    }
+    let key = text_of(bytes, token)?;
+    if !follows(previous, key) {
+        return None;
+    }
+    *room = room.checked_sub(headed_length(key))?;
+    Some(key)
+}
+
+/// The place behind so many entries.
+#[cycle(judge)]
+#[inline(never)]
+fn behind_entries(
+    bytes: &[u8],
+    tape: &[Token],
+    at: usize,
+    count: u64,
+    steps: usize,
+    room: &mut usize,
+) -> Option<usize>
+    requires { 1 ≤ steps }
+    ensures { IfSome result (λ next. Tells (λ b rest. SplitsEntries b count steps rest) bytes.now
+        tape.now at next room.old room.new) }
+{
+    let mut previous = None;
+    let mut next = at;
+    let mut more = count;
+    while more > 0 {
+        let key = key_at(bytes, tape, next, &previous, room)?;
+        next = behind_item(bytes, tape, next + 1, steps, room)?;
+        previous = Some(key);
+        more -= 1;
+    }
+    Some(next)
+}
+
+/// How many bytes the tape tells, where these are surely a block and no more than these many.
+pub(crate) fn block_length(bytes: &[u8], tape: &[Token], most: usize) -> Option<usize>
+    ensures { IfSome result (λ n. (n ≤ most) × TellsBlock bytes.now tape.now n) }
+{
+    let mut room = most;
+    let next = behind_item(bytes, tape, 0, DEFAULT_STEPS, &mut room)?;
+    if next != tape.len() {
+        return None;
+    }
+    Some(most - room)
+}

@@ -192,7 +192,7 @@ const sorted = (keys) => {
 
 // Objects with the same few keys are many: their orders are kept, and from the second one on the
 // keys as they are written.
-const [SLOTS, MOST_KEYS, MOST_UNITS] = [1024, 32, 1024];
+const [SLOTS, MOST_KEYS, MOST_UNITS, ODD] = [1024, 32, 1024, 0x9e3779b1];
 let last = { keys: [], places: [], inOrder: [], written: [], hasSlash: false };
 const orders = new Array(SLOTS).fill(last);
 
@@ -216,9 +216,9 @@ const slotOf = (keys) => {
   let slot = count;
   for (let at = 0; at < count; at += (count >> 1) || 1) {
     const key = keys[at];
-    for (let i = 0; i < key.length; i++) slot = (31 * slot + key.charCodeAt(i)) | 0;
+    for (let i = 0; i < key.length; i++) slot = Math.imul(slot ^ key.charCodeAt(i), ODD);
   }
-  return slot & (SLOTS - 1);
+  return slot >>> 22;
 };
 
 const newOrder = (keys) => {

@@ -3,22 +3,23 @@
 const { existsSync, readFileSync } = require('fs');
 const { join } = require('path');
 
-const byModule = (path) => {
-  const bytes = readFileSync(path);
-  // Some Nodes have memory of 64-bit addresses, and want to be told.
+const [addon, module_] = ['dagcbor.node', 'dagcbor.wasm'].map((it) => join(__dirname, 'out', it));
+
+const byModule = () => {
+  const { callsOf } = require('../wasm/dagcbor.js');
+  const { nativeOf } = require('../wasm/native.js');
+  const bytes = readFileSync(module_);
+  // Node 20 has memory of 64-bit addresses, and wants to be told.
   if (!WebAssembly.validate(bytes)) {
     require('v8').setFlagsFromString('--experimental-wasm-memory64');
   }
   if (!WebAssembly.validate(bytes)) {
-    throw new Error('dagcbor: neither the addon is built, nor has this Node memory64 of WebAssembly');
+    throw new Error(`this Node has no memory64 of WebAssembly, or ${module_} is damaged`);
   }
-  const { callsOf } = require('../wasm/dagcbor.js');
-  const { nativeOf } = require('../wasm/native.js');
   return nativeOf(callsOf(new WebAssembly.Module(bytes)));
 };
 
-const module_ = join(__dirname, 'out/dagcbor.wasm');
-const isByModule = existsSync(module_) && !existsSync(join(__dirname, 'out/dagcbor.node'));
-const native = isByModule ? byModule(module_) : require('./out/dagcbor.node');
+const isByModule = existsSync(module_) && !existsSync(addon);
+const native = isByModule ? byModule() : require('./out/dagcbor.node');
 
 module.exports = { native };

@@ -69,7 +69,11 @@ def write_car(file, roots, blocks):
     header = _native.dumps({"roots": roots, "version": 1})
     _put(file, _varint(len(header)) + header)
     for cid, block in blocks.items() if isinstance(blocks, Mapping) else blocks:
-        _put(file, _native.car_section(cid, block))
+        block = block if isinstance(block, bytes) else bytes(memoryview(block))
+        if _native.verdict(cid, block) == "other bytes":
+            raise refused(-22)
+        _put(file, _varint(len(bytes(cid)) + len(block)) + bytes(cid))
+        _put(file, block)
 
 
 def verify(cid, block):

@@ -4,7 +4,7 @@ from __future__ import annotations
 
 from dataclasses import dataclass
 from mmap import mmap
-from typing import TYPE_CHECKING
+from typing import TYPE_CHECKING, cast
 
 from ._errors import DagCborError
 from ._native import CID, loads
@@ -53,9 +53,9 @@ def _all_of(source: Buffer | mmap | Readable) -> bytes:
     if isinstance(source, bytes):
         return source
     if isinstance(source, mmap) or not hasattr(source, "read"):
-        return bytes(memoryview(source))
+        return bytes(memoryview(cast("Buffer", source)))
     pieces = []
-    while piece := source.read(PIECE):
+    while piece := cast("Readable", source).read(PIECE):
         pieces.append(piece)
     if piece is None:
         raise BlockingIOError("read() has no bytes yet")

@@ -5,29 +5,7 @@
    write is refused. */
 #include "addon.h"
 
-enum {
-    MANY_TOKENS = 1 << 20, /* from here on they are counted before room is taken */
-    FEW_TOKENS = 128,      /* that have room on the stack */
-    KEPT_TOKENS = 1 << 14, /* that have room in an array which is kept */
-    LEVELS = 129,          /* of lists and maps in each other, and what is around all */
-    KEYS = 512,            /* that are known at most */
-    LONGEST_KEY = 32       /* of these, in bytes */
-};
-
-/* The kinds that decode.js is told beside those of the library. A key's number in the table of
- * known ones is in the bits from KEY_BIT on. */
-enum { ASCII = 9, KNOWN_KEY = 10, NEW_KEY = 11, ASCII_KEY = 12, KEY_BIT = 8 };
-
-typedef struct {
-    size_t length;
-    uint8_t bytes[LONGEST_KEY];
-} Key;
-
-/* What one reader has. */
-typedef struct {
-    uint32_t *words; /* the array that is kept */
-    Key keys[KEYS];
-} State;
+enum { KEPT_TOKENS = 1 << 18 }; /* that have room in an array which is kept */
 
 void *raise(napi_env env, const char *said) {
     bool is_pending = false;
@@ -104,114 +82,21 @@ static napi_value latin1(napi_env env, const void *bytes, size_t length) {
     return text;
 }
 
-/* A block's tokens in memory of their own, which the caller frees where it is not `few`; NULL where
- * it is no block, or there is no memory. */
-static dagcbor_token *tokens_of(const uint8_t *bytes, size_t length, dagcbor_token few[FEW_TOKENS],
-                                size_t *count, int32_t *code) {
-    size_t room = length;
-    *code = length > MANY_TOKENS ? dagcbor_tape(bytes, length, dagcbor_tape_into(NULL, 0), 0, &room)
-                                 : 0;
-    if (*code < 0 || room > SIZE_MAX / sizeof *few) return NULL;
-    dagcbor_token *tape = room <= FEW_TOKENS ? few : malloc(room * sizeof *tape);
-    if (tape) *code = dagcbor_tape(bytes, length, tape, room, count);
-    if (*code >= 0) return tape;
-    if (tape != few) free(tape);
-    return NULL;
-}
-
 /* The tokens for decode.js */
 
-static bool is_ascii(const uint8_t *bytes, size_t length) {
-    uint64_t all = 0, word;
-    for (; length >= sizeof word; bytes += sizeof word, length -= sizeof word) {
-        memcpy(&word, bytes, sizeof word);
-        all |= word;
-    }
-    for (; length; length--) all |= *bytes++;
-    return (all & 0x8080808080808080) == 0;
-}
-
-/* Where a key stands in the table, if it does. */
-static uint32_t slot_of(const uint8_t *bytes, size_t length) {
-    const uint64_t odd = 0x9e3779b97f4a7c15;
-    uint64_t hash = length, word = 0;
-    for (; length >= sizeof word; bytes += sizeof word, length -= sizeof word) {
-        memcpy(&word, bytes, sizeof word);
-        hash = (hash ^ word) * odd;
-        hash ^= hash >> 32;
-    }
-    for (word = 0; length; length--) word = word << 8 | *bytes++;
-    return (uint32_t)((hash ^ word) * odd >> 32) % KEYS;
-}
-
-/* The kind of a short key. A new one takes the place of what stood there: decode.js, which takes
- * tokens in their order, does so too. */
-static uint32_t key_kind(Key keys[KEYS], const uint8_t *bytes, size_t length) {
-    uint32_t slot = slot_of(bytes, length);
-    Key *key = &keys[slot];
-    if (key->length == length && memcmp(key->bytes, bytes, length) == 0)
-        return KNOWN_KEY | slot << KEY_BIT;
-    key->length = length;
-    memcpy(key->bytes, bytes, length);
-    return (is_ascii(bytes, length) ? ASCII_KEY : NEW_KEY) | slot << KEY_BIT;
-}
-
-/* Three words for each token: its kind, its number, its place; of an integer the number's low word
- * and its high one. The block has fewer bytes than a word tells. */
-static void put_words(State *state, const uint8_t *block, const dagcbor_token *tape, size_t count,
-                      uint32_t *words) {
-    uint64_t left[LEVELS] = {1}; /* how many tokens of values and keys are still to come there */
-    bool is_map[LEVELS] = {false};
-    size_t level = 0;
-    for (size_t i = 0; i < count; i++, words += 3) {
-        const dagcbor_token *token = &tape[i];
-        const uint8_t *payload = block + token->place;
-        bool is_text = token->kind == DAGCBOR_STRING, is_entries = token->kind == DAGCBOR_MAP;
-        bool is_integer = token->kind == DAGCBOR_INTEGER || token->kind == DAGCBOR_NEGATIVE;
-        bool is_key = is_map[level] && left[level] % 2 == 0;
-        left[level]--;
-        words[0] = (uint32_t)token->kind;
-        words[1] = (uint32_t)token->number;
-        words[2] = (uint32_t)(is_integer ? token->number >> 32 : token->place);
-        if (is_key && token->number <= LONGEST_KEY)
-            words[0] = key_kind(state->keys, payload, token->number);
-        else if (is_text && is_ascii(payload, token->number)) words[0] = ASCII;
-        if ((is_entries || token->kind == DAGCBOR_LIST) && token->number) {
-            is_map[++level] = is_entries;
-            left[level] = token->number << is_entries;
-        }
-        while (level && !left[level]) level--;
-    }
-}
-
-/* read(block): its words. How many tokens there are, where they stand in the array that is kept,
- * and else an array of their own. */
-static napi_value read_words(napi_env env, napi_callback_info info) {
+/* read(block): its compact tape. How many tokens there are, where they stand in the array that is
+ * kept, and else an array of their own. */
+static napi_value read_tape(napi_env env, napi_callback_info info) {
     size_t length, count;
-    int32_t code;
-    void *state, *words;
-    dagcbor_token few[FEW_TOKENS];
+    void *kept, *own;
     const uint8_t *bytes = bytes_of(env, info, &length);
     if (!bytes) return NULL;
-    if (length > UINT32_MAX) return raise(env, "a block of 4 GiB or more is not decoded");
-    TRY(napi_get_cb_info(env, info, NULL, NULL, NULL, &state));
-    dagcbor_token *tape = tokens_of(bytes, length, few, &count, &code);
-    if (!tape) return code < 0 ? number_of(env, code) : no_memory(env);
-    bool is_kept = count <= KEPT_TOKENS;
-    napi_value answer = is_kept ? number_of(env, (int64_t)count)
-                                : new_array(env, napi_uint32_array, 3 * count, 4, &words);
-    if (is_kept) words = ((State *)state)->words;
-    if (answer) put_words(state, bytes, tape, count, words);
-    if (tape != few) free(tape);
-    return answer;
-}
-
-/* forget(): no key is known. */
-static napi_value forget(napi_env env, napi_callback_info info) {
-    void *state;
-    TRY(napi_get_cb_info(env, info, NULL, NULL, NULL, &state));
-    for (size_t i = 0; i < KEYS; i++) ((State *)state)->keys[i].length = SIZE_MAX;
-    return NULL;
+    TRY(napi_get_cb_info(env, info, NULL, NULL, NULL, &kept));
+    int32_t code = dagcbor_compact_tape(bytes, length, kept, KEPT_TOKENS, &count);
+    if (code < 0 || count <= KEPT_TOKENS) return number_of(env, code < 0 ? code : (int64_t)count);
+    napi_value array = new_array(env, napi_uint32_array, 3 * count, sizeof(uint32_t), &own);
+    if (array) dagcbor_compact_tape(bytes, length, own, count, &count);
+    return array;
 }
 
 static bool put_call(napi_env env, napi_value into, const char *name, napi_callback call,
@@ -221,31 +106,25 @@ static bool put_call(napi_env env, napi_value into, const char *name, napi_callb
            napi_set_named_property(env, into, name, function) == napi_ok;
 }
 
-/* reader(): its `read`, `forget` and `words`, the array that is kept, which nobody else may have.
- * They stay as long as the environment. */
+/* reader(): its `read`, and `kept`, the array that is kept, which nobody else may have. It stays as
+ * long as the environment. */
 static napi_value reader(napi_env env, napi_callback_info info) {
     napi_value made, array;
-    napi_ref kept;
-    void *words;
+    napi_ref reference;
+    void *kept;
     (void)info;
     TRY(napi_create_object(env, &made));
-    if (!(array = new_array(env, napi_uint32_array, 3 * KEPT_TOKENS, sizeof(uint32_t), &words)))
+    if (!(array = new_array(env, napi_uint32_array, 3 * KEPT_TOKENS, sizeof(uint32_t), &kept)))
         return NULL;
-    TRY(napi_create_reference(env, array, 1, &kept));
-    TRY(napi_set_named_property(env, made, "words", array));
-    State *state = calloc(1, sizeof *state);
-    if (!state) return no_memory(env);
-    state->words = words;
-    bool is_done = napi_add_env_cleanup_hook(env, free, state) == napi_ok &&
-                   put_call(env, made, "read", read_words, state) &&
-                   put_call(env, made, "forget", forget, state);
-    return is_done ? made : raise(env, "no reader was made");
+    TRY(napi_create_reference(env, array, 1, &reference));
+    TRY(napi_set_named_property(env, made, "kept", array));
+    return put_call(env, made, "read", read_tape, kept) ? made : raise(env, "no reader was made");
 }
 
 /* The other calls */
 
-/* judge(block): the number of its kind. */
-static napi_value judge(napi_env env, napi_callback_info info) {
+/* check(block): the number of its kind. */
+static napi_value check(napi_env env, napi_callback_info info) {
     size_t length;
     const uint8_t *bytes = bytes_of(env, info, &length);
     return bytes ? number_of(env, dagcbor_check(bytes, length)) : NULL;
@@ -302,16 +181,13 @@ static napi_value part(napi_env env, napi_callback_info info) {
 /* tape(block): a BigUint64Array of three numbers for each token. */
 static napi_value tape(napi_env env, napi_callback_info info) {
     size_t length, count;
-    int32_t code;
-    void *words;
-    dagcbor_token few[FEW_TOKENS];
+    void *tokens;
     const uint8_t *bytes = bytes_of(env, info, &length);
     if (!bytes) return NULL;
-    dagcbor_token *tokens = tokens_of(bytes, length, few, &count, &code);
-    if (!tokens) return code < 0 ? number_of(env, code) : no_memory(env);
-    napi_value answer = new_array(env, napi_biguint64_array, 3 * count, sizeof(uint64_t), &words);
-    if (answer) memcpy(words, tokens, count * sizeof *tokens);
-    if (tokens != few) free(tokens);
+    int32_t code = dagcbor_tape(bytes, length, dagcbor_tape_into(NULL, 0), 0, &count);
+    if (code < 0) return number_of(env, code);
+    napi_value answer = new_array(env, napi_biguint64_array, 3 * count, sizeof(uint64_t), &tokens);
+    if (answer) dagcbor_tape(bytes, length, tokens, count, &count);
     return answer;
 }
 
@@ -328,6 +204,15 @@ static napi_value links(napi_env env, napi_callback_info info) {
     return found;
 }
 
+/* verify(cid, block): the number of what is said of the two. */
+static napi_value verify(napi_env env, napi_callback_info info) {
+    size_t count = 2, length, size;
+    napi_value given[2];
+    TRY(napi_get_cb_info(env, info, &count, given, NULL, NULL));
+    const uint8_t *cid = bytes_in(env, given[0], &length), *block = bytes_in(env, given[1], &size);
+    return cid && block ? number_of(env, dagcbor_verify(cid, length, block, size)) : no_bytes(env);
+}
+
 /* name(bytes): that of them as a block, a text of its bytes. */
 static napi_value name(napi_env env, napi_callback_info info) {
     size_t length;
@@ -338,7 +223,7 @@ static napi_value name(napi_env env, napi_callback_info info) {
     return latin1(env, out, sizeof out);
 }
 
-/* cid_text(bytes): the text of the CID whose bytes the text has. */
+/* cidText(bytes): the text of the CID whose bytes the text has. */
 static napi_value cid_text(napi_env env, napi_callback_info info) {
     size_t length, needed;
     char bytes[DAGCBOR_CID_MOST + 2]; /* and one more, for what is too long, and a zero */
@@ -350,7 +235,7 @@ static napi_value cid_text(napi_env env, napi_callback_info info) {
     return code < 0 ? number_of(env, code) : latin1(env, text, needed);
 }
 
-/* cid_from_text(text): a text of the bytes of its CID. */
+/* cidFromText(text): a text of the bytes of its CID. */
 static napi_value cid_from_text(napi_env env, napi_callback_info info) {
     size_t length, needed;
     char text[256]; /* the front of a longer one is too long likewise */
@@ -376,13 +261,11 @@ NAPI_MODULE_INIT() {
     const struct {
         const char *name;
         napi_callback call;
-    } all[] = {{"reader", reader}, {"judge", judge}, {"place", place}, {"tape", tape},
-               {"follow", follow}, {"part", part},
-               {"links", links}, {"name", name}, {"cid_text", cid_text},
-               {"cid_from_text", cid_from_text},
-               {"car_open", car_open}, {"car_put", car_put}, {"car_go", car_go},
-               {"car_found", car_found}, {"car_section", car_section_of},
-               {"car_verdict", car_verdict}};
+    } all[] = {{"reader", reader}, {"check", check}, {"place", place}, {"tape", tape},
+               {"follow", follow}, {"part", part}, {"links", links}, {"name", name},
+               {"verify", verify}, {"cidText", cid_text}, {"cidFromText", cid_from_text},
+               {"carOpen", car_open}, {"carPut", car_put}, {"carGo", car_go},
+               {"carFound", car_found}};
     if (!has_processor()) return raise(env, "dagcbor wants an x86-64-v2 processor");
     for (size_t i = 0; i < sizeof all / sizeof *all; i++)
         if (!put_call(env, exports, all[i].name, all[i].call, NULL))

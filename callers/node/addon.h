@@ -33,7 +33,5 @@ napi_value car_open(napi_env env, napi_callback_info info);
 napi_value car_put(napi_env env, napi_callback_info info);
 napi_value car_go(napi_env env, napi_callback_info info);
 napi_value car_found(napi_env env, napi_callback_info info);
-napi_value car_section_of(napi_env env, napi_callback_info info);
-napi_value car_verdict(napi_env env, napi_callback_info info);
 
 #endif

@@ -1,9 +1,10 @@
 // Builds the addon, out/dagcbor.node, with the proved library inside. The library is that of the
 // environment variable DAGCBOR_LIBRARY; else that which a release has in lib/, and include/; else
-// that of this repository, which is proved and built first where it is not there and `rt` is.
+// that of this repository, which is proved and built first where it is not there and `rt` is. Where
+// DAGCBOR_MODULE names a WebAssembly module that is put there, in the place of the addon.
 'use strict';
 const { execFileSync } = require('child_process');
-const { existsSync, mkdirSync, realpathSync } = require('fs');
+const { copyFileSync, existsSync, mkdirSync, realpathSync, rmSync } = require('fs');
 const { dirname, join } = require('path');
 
 const crate = join(__dirname, '../../crates/dagcbor_ffi');
@@ -33,15 +34,22 @@ const headers = () => {
   return found;
 };
 
-const [cc, ...words] = (process.env.CC || 'cc').split(' ');
-const flags = ['-std=c11', '-O2', '-Wall', '-Wextra', '-shared', '-fPIC'];
-const hidden = ['-fvisibility=hidden', '-Wl,--exclude-libs,ALL'];
-const more = (process.env.CFLAGS || '').split(' ').filter(Boolean);
-const own = [join(__dirname, 'include'), join(crate, 'include'), join(__dirname, '../c')];
-const folders = [headers(), ...own].map((it) => `-I${it}`);
+const out = (name) => join(__dirname, 'out', name);
+
+const build = () => {
+  const [cc, ...words] = (process.env.CC || 'cc').split(' ');
+  const flags = ['-std=c11', '-O2', '-Wall', '-Wextra', '-shared', '-fPIC'];
+  const hidden = ['-fvisibility=hidden', '-Wl,--exclude-libs,ALL'];
+  const more = (process.env.CFLAGS || '').split(' ').filter(Boolean);
+  const own = [join(__dirname, 'include'), join(crate, 'include'), join(__dirname, '../c')];
+  const folders = [headers(), ...own].map((it) => `-I${it}`);
+  const sources = ['addon.c', 'car.c'].map((it) => join(__dirname, it));
+  const files = [...sources, library(), '-lm', '-o', out('dagcbor.node')];
+  const all = [...words, ...flags, ...hidden, ...more, ...folders, ...files];
+  execFileSync(cc, all, { stdio: 'inherit' });
+};
+
 mkdirSync(join(__dirname, 'out'), { recursive: true });
-const made = join(__dirname, 'out/dagcbor.node');
-const sources = ['addon.c', 'car.c'].map((it) => join(__dirname, it));
-const files = [...sources, library(), '-lm', '-o', made];
-const all = [...words, ...flags, ...hidden, ...more, ...folders, ...files];
-execFileSync(cc, all, { stdio: 'inherit' });
+for (const it of ['dagcbor.node', 'dagcbor.wasm']) rmSync(out(it), { force: true });
+if (process.env.DAGCBOR_MODULE) copyFileSync(process.env.DAGCBOR_MODULE, out('dagcbor.wasm'));
+else build();

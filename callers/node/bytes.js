@@ -1,26 +1,35 @@
 // Uint8Arrays as they are, whatever a script says that they are.
 'use strict';
-const { isSharedArrayBuffer } = require('util').types;
 
+const getterOf = (made, name) => Object.getOwnPropertyDescriptor(made, name).get;
 const above = Object.getPrototypeOf(Uint8Array.prototype);
-const getter = (name) => Object.getOwnPropertyDescriptor(above, name).get;
-const [tagOf, bufferOf, offsetOf, lengthOf] =
-  [Symbol.toStringTag, 'buffer', 'byteOffset', 'length'].map(getter);
-const { latin1Slice, utf8Slice } = Buffer.prototype;
+const [tagOf, bufferOf, offsetOf, lengthOf] = [Symbol.toStringTag, 'buffer', 'byteOffset', 'length']
+  .map((name) => getterOf(above, name));
+const sizeOf = getterOf(ArrayBuffer.prototype, 'byteLength');
+
+// Memory that is shared with other threads is no ArrayBuffer.
+const isOwn = (buffer) => {
+  try {
+    return sizeOf.call(buffer) >= 0;
+  } catch (error) {
+    return false;
+  }
+};
 
 // Whether it is a Uint8Array, of whatever realm, over memory that is not shared.
-const isBytes = (value) =>
-  tagOf.call(value) === 'Uint8Array' && !isSharedArrayBuffer(bufferOf.call(value));
+const isBytes = (value) => tagOf.call(value) === 'Uint8Array' && isOwn(bufferOf.call(value));
 
 // A Uint8Array of no other class over the same memory.
 const view = (bytes, from, to) =>
   new Uint8Array(bufferOf.call(bytes), offsetOf.call(bytes) + from, to - from);
 
-// Texts out of bytes: one unit for each byte, or UTF-8.
-const latin1 = (bytes, from = 0, to = lengthOf.call(bytes)) => latin1Slice.call(bytes, from, to);
-const utf8 = (bytes, from, to) => utf8Slice.call(bytes, from, to);
+const joined = (parts) => {
+  const all = new Uint8Array(parts.reduce((sum, it) => sum + it.length, 0));
+  parts.reduce((at, it) => (all.set(it, at), at + it.length), 0);
+  return all;
+};
 
-// The bytes of such a text.
+// The bytes of a text of one unit for each.
 const fromLatin1 = (text) => Uint8Array.from(text, (unit) => unit.charCodeAt(0));
 
-module.exports = { fromLatin1, isBytes, latin1, lengthOf, utf8, view };
+module.exports = { fromLatin1, isBytes, joined, lengthOf, view };

@@ -32,7 +32,7 @@ static void walk_free(napi_env env, void *given, void *hint) {
     free(walk);
 }
 
-/* car_open(isCheck): a walk through a file of which nothing was put. */
+/* carOpen(isCheck): a walk through a file of which nothing was put. */
 napi_value car_open(napi_env env, napi_callback_info info) {
     size_t count = 1;
     napi_value given, answer;
@@ -58,7 +58,7 @@ static Walk *walk_of(napi_env env, napi_callback_info info, size_t count, napi_v
     return ((Walk *)walk)->is_busy ? raise(env, "the walk is already at work") : walk;
 }
 
-/* car_put(walk, piece): bytes that follow; undefined at the file's end. */
+/* carPut(walk, piece): bytes that follow; undefined at the file's end. */
 napi_value car_put(napi_env env, napi_callback_info info) {
     napi_value given[2];
     napi_valuetype type;
@@ -155,7 +155,7 @@ static void ended(napi_env env, napi_status status, void *given) {
         napi_reject_deferred(env, deferred, error);
 }
 
-/* car_go(walk): a promise of what is found in what was put, by a thread of the pool. */
+/* carGo(walk): a promise of what is found in what was put, by a thread of the pool. */
 napi_value car_go(napi_env env, napi_callback_info info) {
     napi_value given, name, promise;
     Walk *walk = walk_of(env, info, 1, &given);
@@ -178,7 +178,7 @@ static napi_value missing_of(napi_env env, const Names *names) {
     return missing;
 }
 
-/* car_found(walk): [roots, counts, missing]. Names are packed; the counts are those of the
+/* carFound(walk): [roots, counts, missing]. Names are packed; the counts are those of the
  * verdicts, from the least number on; none are missing before a check is at its end. */
 napi_value car_found(napi_env env, napi_callback_info info) {
     napi_value given, answer, parts[3], buffer;
@@ -196,33 +196,4 @@ napi_value car_found(napi_env env, napi_callback_info info) {
     TRY(napi_create_array_with_length(env, 3, &answer));
     for (uint32_t i = 0; i < 3; i++) TRY(napi_set_element(env, answer, i, parts[i]));
     return answer;
-}
-
-/* car_section(cid, block): the two as a section, where that is the name of the block, or cannot be
- * said to be another's. */
-napi_value car_section_of(napi_env env, napi_callback_info info) {
-    size_t count = 2, length, size;
-    uint8_t front[10], *out;
-    napi_value given[2], section;
-    TRY(napi_get_cb_info(env, info, &count, given, NULL, NULL));
-    const uint8_t *name = bytes_in(env, given[0], &length), *block = bytes_in(env, given[1], &size);
-    if (!name || !block) return no_bytes(env);
-    int32_t code = dagcbor_verify(name, length, block, size);
-    if (!is_verdict(code) || code == DAGCBOR_OTHER_BYTES) return number_of(env, code);
-    count = put_length(front, (uint64_t)length + size);
-    if (!(section = new_bytes(env, count + length + size, &out))) return NULL;
-    memcpy(out, front, count);
-    memcpy(out + count, name, length);
-    if (size) memcpy(out + count + length, block, size);
-    return section;
-}
-
-/* car_verdict(cid, block): the number of what is said of the two. */
-napi_value car_verdict(napi_env env, napi_callback_info info) {
-    size_t count = 2, length, size;
-    napi_value given[2];
-    TRY(napi_get_cb_info(env, info, &count, given, NULL, NULL));
-    const uint8_t *name = bytes_in(env, given[0], &length), *block = bytes_in(env, given[1], &size);
-    if (!name || !block) return no_bytes(env);
-    return number_of(env, dagcbor_verify(name, length, block, size));
 }

@@ -1,13 +1,15 @@
 // Files of blocks: index.d.ts says what each call does.
 'use strict';
-const native = require('./out/dagcbor.node');
+const { native } = require('./library.js');
 const { CID, binaryOf, cidOf, unpack } = require('./cid.js');
-const { latin1 } = require('./bytes.js');
+const { joined } = require('./bytes.js');
 const { encode } = require('./encode.js');
-const { DagCborError, KINDS, REASONS, answered, refusal } = require('./errors.js');
+const { DagCborError, KINDS, REASONS, refusal } = require('./errors.js');
+const { latin1 } = require('./platform.js');
 
 const PIECE = 1 << 18; // of bytes in memory, that are copied at once
-const [MORE, END, LEAST] = [100, 101, -23]; // of a walk; and the least number of a verdict
+const [MORE, END] = [100, 101]; // of a walk
+const [OTHER_BYTES, LEAST] = [-22, -23]; // of verdicts, the second the least one
 
 const FAULTS = {
   [-24]: ['Truncated', 'the file is cut short'],
@@ -34,7 +36,7 @@ const verdictOf = (code) =>
 
 // What is said of a block that came under a name.
 const verify = (cid, bytes) => {
-  const code = native.car_verdict(bytesOf(cid), bytes);
+  const code = native.verify(bytesOf(cid), bytes);
   if (code < LEAST) throw refusal(code);
   return verdictOf(code);
 };
@@ -53,7 +55,7 @@ class Walk {
     const begin = given?.[Symbol.asyncIterator] ?? given?.[Symbol.iterator];
     if (!begin) throw new TypeError('a Uint8Array or an iterable of Uint8Arrays is wanted');
     this.source = begin.call(given);
-    this.car = native.car_open(isCheck);
+    this.car = native.carOpen(isCheck);
     this.isHungry = true;
   }
 
@@ -63,9 +65,9 @@ class Walk {
     for (;;) {
       if (this.isHungry) {
         const { done, value } = await this.source.next();
-        native.car_put(this.car, done ? undefined : value ?? null);
+        native.carPut(this.car, done ? undefined : value ?? null);
       }
-      const [code, place, bytes, numbers] = await native.car_go(this.car);
+      const [code, place, bytes, numbers] = await native.carGo(this.car);
       this.isHungry = code === MORE;
       if (code === MORE && !numbers.length) continue;
       const fault = code < 0 && faultOf(code, place);
@@ -94,7 +96,7 @@ class Walk {
       await this.leave();
       throw fault;
     }
-    this.roots = unpack(native.car_found(this.car)[0]);
+    this.roots = unpack(native.carFound(this.car)[0]);
     return this;
   }
 
@@ -218,7 +220,7 @@ const checkCar = async (source) => {
     for (;;) {
       const { isEnd, fault } = await walk.step();
       if (!isEnd && !fault) continue;
-      const checked = found(native.car_found(walk.car));
+      const checked = found(native.carFound(walk.car));
       if (isEnd) return checked;
       throw Object.assign(fault, { checked });
     }
@@ -232,7 +234,7 @@ const found = ([roots, counts, packed]) => {
   for (const code of codes) {
     if (counts[code - LEAST]) verdicts[verdictOf(code)] = counts[code - LEAST];
   }
-  missing.sort((one, other) => Buffer.compare(one.bytes, other.bytes));
+  missing.sort((one, other) => (binaryOf(one) < binaryOf(other) ? -1 : 1));
   const areWell = Object.keys(verdicts).every((it) => it === 'not read' || it.startsWith('ok '));
   return { roots: unpack(roots), verdicts, missing, isWell: areWell && !missing.length };
 };
@@ -281,10 +283,15 @@ const lengthOf = (count) => {
 const headerOf = (roots) => {
   const own = roots.map((it) => (binaryOf(it) === undefined ? new CID(bytesOf(it)) : it));
   const header = encode({ roots: own, version: 1 });
-  return Buffer.concat([lengthOf(header.length), header]);
+  return joined([lengthOf(header.length), header]);
 };
 
-const sectionOf = ({ cid, bytes }) => answered(native.car_section(bytesOf(cid), bytes));
+const sectionOf = ({ cid, bytes }) => {
+  const code = native.verify(bytesOf(cid), bytes);
+  if (code === OTHER_BYTES || code < LEAST) throw refusal(code);
+  const name = bytesOf(cid);
+  return joined([lengthOf(name.length + bytes.length), name, bytes]);
+};
 
 class CarWriter {
   #put;

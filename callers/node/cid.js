@@ -1,9 +1,10 @@
 // CIDs, with the names of the package `multiformats`. Whether bytes or a text are one is the
 // library's judgement.
 'use strict';
-const native = require('./out/dagcbor.node');
-const { fromLatin1, isBytes, latin1 } = require('./bytes.js');
+const { native } = require('./library.js');
+const { fromLatin1, isBytes } = require('./bytes.js');
 const { answered, refusal } = require('./errors.js');
+const { latin1 } = require('./platform.js');
 
 const DAG_PB = 0x70; // the codec of version 0
 const MADE = Symbol('made'); // by the library
@@ -19,7 +20,7 @@ const foreignOf = (value) => {
   return isTold && isBytes(bytes) ? latin1(bytes) : undefined;
 };
 
-const isCid = (binary) => typeof native.cid_text(binary) === 'string';
+const isCid = (binary) => typeof native.cidText(binary) === 'string';
 
 const varint = (n) => (n < 128 ? [n] : [(n % 128) + 128, ...varint(Math.floor(n / 128))]);
 
@@ -54,7 +55,7 @@ class CID {
 
   constructor(value, made) {
     if (made === MADE) this.#binary = value;
-    else if (typeof value === 'string') this.#binary = answered(native.cid_from_text(value));
+    else if (typeof value === 'string') this.#binary = answered(native.cidFromText(value));
     else {
       if (!isBytes(value)) throw new TypeError('a text is wanted, or a Uint8Array of its own');
       this.#binary = latin1(value);
@@ -141,7 +142,7 @@ class CID {
   }
 
   toString(base) {
-    if (base === undefined) return native.cid_text(this.#binary);
+    if (base === undefined) return native.cidText(this.#binary);
     const text = base.encode(fromLatin1(this.#binary));
     if (this.version !== 0) return text;
     if (base.prefix !== 'z') throw new TypeError('a CID of version 0 is written in base58btc');

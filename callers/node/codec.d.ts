@@ -2,7 +2,7 @@
  * The codec as `multiformats` and Helia take one: a `BlockCodec<0x71, T>`, with the names of the
  * package `@ipld/dag-cbor`.
  */
-import type { Data } from './index';
+import type { Data } from './index.js';
 
 export const name: 'dag-cbor';
 export const code: 0x71;

@@ -3,94 +3,120 @@
 // No script of others runs from the first token to the last, so the block stays as it was judged:
 // lists and maps get their values as properties of their own, and no setter is called.
 'use strict';
-const native = require('./out/dagcbor.node');
-const { latin1, lengthOf, utf8, view } = require('./bytes.js');
+const { native } = require('./library.js');
+const { lengthOf, view } = require('./bytes.js');
 const { cidOf } = require('./cid.js');
 const { refusal } = require('./errors.js');
+const { latin1, plain: plainly, utf8 } = require('./platform.js');
 
-// The kinds of tokens, and those for texts: of ASCII; a key that is known by its number; one that
-// is known from now on, and such a one of ASCII.
-const [NULL, BOOL, INTEGER, STRING, BYTES, LIST, MAP, LINK, NEGATIVE] = [0, 1, 2, 3, 4, 5, 6, 7, 8];
-const [ASCII, KNOWN_KEY, NEW_KEY, ASCII_KEY, KEY_BIT, KINDS] = [9, 10, 11, 12, 8, 255];
+// The kinds of tokens, and that of a text of ASCII.
+const [NULL, BOOL, INTEGER, STRING, BYTES, LIST, MAP, LINK, NEGATIVE, ASCII] = Array(10).keys();
 const TRAILING_DATA = -14;
 
-const [WINDOW, LONGEST] = [1024, 64];
-
-const { read, forget, words: kept } = native.reader();
+// Three words for each token: its kind, its number, its place; of an integer the number's low word
+// and its high one. They stand in `kept`, or where they are many in an array of their own.
+const { read, kept } = native.reader();
 let [words, block, at, turn] = [kept, undefined, 0, 0];
-let isWhole = true; // the block before was read to its end: else the keys may be others
 
 // A text of a byte for each unit. A short one is cut out of a longer one, which then stays alive.
+const [WINDOW, LONGEST] = [1024, 64];
 let [cut, cutFrom, cutTo] = ['', 0, 0];
 
 const plainText = (from, length) => {
   const to = from + length;
   if (to > cutTo) {
-    if (length > LONGEST) return latin1(block, from, to);
+    if (length > LONGEST) return plainly(block, from, to);
     cutFrom = from;
     cutTo = Math.min(from + WINDOW, lengthOf.call(block));
-    cut = latin1(block, cutFrom, cutTo);
+    cut = plainly(block, cutFrom, cutTo);
   }
   return cut.slice(from - cutFrom, to - cutFrom);
 };
 
-// Keys by their numbers, and the last turn in which one was no property of every object.
-const known = new Array(512).fill('');
-const free = new Float64Array(512);
-const plain = {};
+const textAt = (i) => {
+  const [number, from] = [words[i + 1], words[i + 2]];
+  return words[i] === ASCII ? plainText(from, number) : utf8(block, from, from + number);
+};
 
+// Keys in the order in which maps had them: each knows those that were met behind it, the last one
+// as `next`. `bytes` are those of the key, `turn` is the last one in which it was no property of
+// every object, `ends` how many maps ended with it, and `sample` is one like these.
+const [MOST_KEYS, MOST_OTHERS] = [4096, 64];
+const newKey = (text, bytes) =>
+  ({ text, bytes, next: undefined, others: undefined, turn: 0, ends: 0, sample: undefined });
+let [root, keys] = [newKey('', []), 0];
+
+const bytesAt = (i) => {
+  const bytes = [];
+  for (let j = 0; j < words[i + 1]; j++) bytes.push(block[words[i + 2] + j]);
+  return bytes;
+};
+
+const otherKey = (before, i) => {
+  const text = textAt(i);
+  const { next, others } = before;
+  let found = others?.get(text);
+  if (found === undefined) {
+    if (words[i + 1] > LONGEST) return newKey(text, []);
+    found = newKey(text, bytesAt(i));
+    keys += 1;
+    if (next !== undefined) {
+      if (others === undefined || others.size >= MOST_OTHERS) before.others = new Map();
+      before.others.set(next.text, next).set(text, found);
+    }
+  }
+  before.next = found;
+  return found;
+};
+
+// The key of that token, behind another one.
+const keyBehind = (before, i) => {
+  const { next } = before;
+  if (next === undefined) return otherKey(before, i);
+  const [{ bytes }, count, from, all] = [next, words[i + 1], words[i + 2], block];
+  if (bytes.length !== count) return otherKey(before, i);
+  for (let j = 0; j < count; j++) if (bytes[j] !== all[from + j]) return otherKey(before, i);
+  return next;
+};
+
+const plain = {};
 const [configurable, enumerable, writable] = [true, true, true];
 const define = (map, key, value) =>
   Object.defineProperty(map, key, { __proto__: null, value, configurable, enumerable, writable });
 
-// A key that was not met in this turn, or is new, or long.
-const otherKey = (kind, length, from) => {
-  const slot = kind >> KEY_BIT;
-  const to = from + length;
-  switch (kind & KINDS) {
-    case KNOWN_KEY: return known[slot];
-    case ASCII_KEY: return (known[slot] = plainText(from, length));
-    case NEW_KEY: return (known[slot] = utf8(block, from, to));
-    default: return utf8(block, from, to);
-  }
-};
-
-const nextEntry = (map) => {
-  const i = at;
-  const kind = words[i];
-  const slot = kind >> KEY_BIT;
-  at = i + 3;
-  if ((kind & KINDS) === KNOWN_KEY && free[slot] === turn) {
-    map[known[slot]] = nextValue();
-    return;
-  }
-  const key = otherKey(kind, words[i + 1], words[i + 2]);
-  const isOdd = key in plain;
-  if ((kind & KINDS) >= KNOWN_KEY) free[slot] = isOdd ? 0 : turn;
-  if (isOdd) define(map, key, nextValue());
-  else map[key] = nextValue();
-};
-
 // The engine makes a slow dictionary of an object with more than some 16 keys, unless there is one
 // that was once given them by definition, in the same order: so such ones are kept.
-const [FEW, MANY, WAYS, UNITS] = [12, 128, 256, 4096];
-const samples = new Array(WAYS);
+const [FEW, MANY] = [12, 128];
 
-const sampleOf = (map) => {
-  const keys = Object.keys(map);
-  if (keys.join('').length > UNITS) return undefined;
-  return keys.reduce((made, key) => define(made, key, null), {});
-};
+const sampleOf = (map) => Object.keys(map).reduce((made, key) => define(made, key, null), {});
 
 const nextMap = (count) => {
+  if (count > MANY) return wideMap(count);
   const map = {};
-  let way = count;
+  let key = root;
   for (let left = count; left > 0; left--) {
-    way = (31 * way + (words[at] >> KEY_BIT)) & (WAYS - 1);
-    nextEntry(map);
+    key = keyBehind(key, at);
+    at += 3;
+    if (key.turn === turn) map[key.text] = nextValue();
+    else if (key.text in plain) define(map, key.text, nextValue());
+    else {
+      key.turn = turn;
+      map[key.text] = nextValue();
+    }
   }
-  if (count > FEW && count <= MANY) samples[way] ??= sampleOf(map);
+  if (count > FEW && key.sample === undefined && (key.ends += 1) > 1) key.sample = sampleOf(map);
   return map;
+};
+
+// One that is a dictionary anyway: nothing is above it until it is full.
+const wideMap = (count) => {
+  const map = Object.create(null);
+  for (let left = count; left > 0; left--) {
+    const key = textAt(at);
+    at += 3;
+    map[key] = nextValue();
+  }
+  return Object.setPrototypeOf(map, Object.prototype);
 };
 
 // A list is a copy of one of nulls, so it has its places from the beginning.
@@ -138,20 +164,16 @@ const nextValue = () => {
   }
 };
 
-const place = (bytes) => native.place(bytes);
-
 const decode = (bytes) => {
-  if (!isWhole) forget();
-  isWhole = false;
   const told = read(bytes);
-  if (typeof told !== 'number') words = told;
-  else if (told < 0) throw refusal(told, place(bytes));
+  if (typeof told === 'number' && told < 0) throw refusal(told, native.place(bytes));
+  words = typeof told === 'number' ? kept : told;
   block = bytes;
   at = 0;
   cutTo = 0;
   turn += 1;
+  if (keys > MOST_KEYS) [root, keys] = [newKey('', []), 0];
   const value = nextValue();
-  isWhole = true;
   words = kept;
   block = undefined;
   cut = '';
@@ -160,8 +182,8 @@ const decode = (bytes) => {
 
 // The value of the first item, and the bytes behind it.
 const decodeFirst = (bytes) => {
-  const isFollowed = native.judge(bytes) === TRAILING_DATA;
-  const [end, length] = [isFollowed ? place(bytes) : lengthOf.call(bytes), lengthOf.call(bytes)];
+  const length = lengthOf.call(bytes);
+  const end = native.check(bytes) === TRAILING_DATA ? native.place(bytes) : length;
   return [decode(view(bytes, 0, end)), view(bytes, end, length)];
 };
 

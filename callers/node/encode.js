@@ -1,28 +1,22 @@
 // Blocks out of values: the bytes are written here, and the library judges them before they go out.
 'use strict';
-const { types } = require('util');
-const { markAsUntransferable } = require('worker_threads');
-const native = require('./out/dagcbor.node');
-const { isBytes, latin1, lengthOf } = require('./bytes.js');
+const { native } = require('./library.js');
+const { isBytes, lengthOf } = require('./bytes.js');
 const { binaryOf, foreignOf } = require('./cid.js');
 const { DagCborError, REASONS, refusal } = require('./errors.js');
+const {
+  SHARED, isMap, isProxy, latin1, mayBeProxy, memory, newPool,
+} = require('./platform.js');
 
-const { latin1Write, utf8Write } = Buffer.prototype;
+const encoder = new TextEncoder();
 const MOST_LEVELS = 128; // of lists and maps in each other, in any block
 const [UNSUPPORTED, MISMATCH, UTF8, OVERFLOW, DEPTH] = [-5, -4, -8, -10, -12];
-const SHORT = 40; // units of a text
-const [SHARED, SMALL, LARGE] = [1024, 8192, 1 << 20]; // bytes of blocks, and of room
-
-const memory = (size) => new Uint8Array(Buffer.allocUnsafeSlow(size).buffer);
+const SHORT = 24; // units of a text
+const [SMALL, LARGE] = [8192, 1 << 20]; // bytes of room
 
 // Short blocks lie one behind the other in a pool, up to `used`: memory of its own takes longer
-// than all else of a short block. As that of Node's Buffers it is not transferred.
-const newPool = () => {
-  const made = memory(SMALL);
-  markAsUntransferable(made.buffer);
-  return made;
-};
-let [pool, used] = [newPool(), 0];
+// than all else of a short block.
+let [pool, used] = [newPool(SMALL), 0];
 let spare = new Uint8Array(0); // for longer ones
 
 // What is written stands in `out`, before `at`. A script that runs meanwhile, as that of a
@@ -56,10 +50,13 @@ const put32 = (n) => {
   put16(n);
 };
 
+const WIDEST = 9;
+const widthOf = (n) => (n < 24 ? 1 : n < 2 ** 8 ? 2 : n < 2 ** 16 ? 3 : n < 2 ** 32 ? 5 : WIDEST);
+
 // The head of a major type, which is a multiple of 32, and a safe integer from 0 on; and room for
 // so many bytes behind it.
 const putHead = (major, n, behind = 0) => {
-  room(9 + behind);
+  room(WIDEST + behind);
   if (n < 24) out[at++] = major + n;
   else if (n < 2 ** 8) (out[at++] = major + 24), (out[at++] = n);
   else if (n < 2 ** 16) (out[at++] = major + 25), put16(n);
@@ -78,25 +75,10 @@ const putBigInt = (big) => {
   const [major, n] = big < 0n ? [0x20, -1n - big] : [0, big];
   if (n >= 1n << 64n) no(OVERFLOW, 'a BigInt that is not in -2^64 .. 2^64 - 1');
   if (n <= Number.MAX_SAFE_INTEGER) return putHead(major, Number(n));
-  room(9);
+  room(WIDEST);
   out[at++] = major + 27;
   put32(Number(n >> 32n));
   put32(Number(n & 0xffffffffn));
-};
-
-// Writes the low byte of each unit, for which there is room, and answers all units in one.
-const putUnits = (text) => {
-  const into = out;
-  const from = at;
-  const count = text.length;
-  let all = 0;
-  for (let i = 0; i < count; i++) {
-    const unit = text.charCodeAt(i);
-    into[from + i] = unit;
-    all |= unit;
-  }
-  at = from + count;
-  return all;
 };
 
 const noText = () => no(UTF8, 'a text with a surrogate alone');
@@ -128,26 +110,41 @@ const putUtf8 = (text, to) => {
   return to;
 };
 
-// Most are of ASCII. Others are written behind a head of two bytes, and moved where it has one.
-const putShort = (text) => {
-  const from = at;
-  putHead(0x60, text.length, 3 * text.length);
-  if (putUnits(text) < 0x80) return;
-  const end = putUtf8(text, from + 2);
-  const length = end - from - 2;
-  at = from;
+// Writes the head of a text whose bytes stand there, to which it is moved if need be.
+const putBefore = (from, length) => {
+  const behind = at + widthOf(length);
+  if (behind !== from) out.copyWithin(behind, from, from + length);
   putHead(0x60, length);
-  if (length < 24) out.copyWithin(at, from + 2, end);
-  at += length;
+  at = behind + length;
 };
 
+const isAlone = (text) => /[\ud800-\udfff]/.test(text) && /\p{Surrogate}/u.test(text);
+
+const putLong = (text) => {
+  const count = text.length;
+  room(WIDEST + 3 * count);
+  const from = at + widthOf(count);
+  const { written } = encoder.encodeInto(text, out.subarray(from));
+  if (written !== count && isAlone(text)) noText();
+  putBefore(from, written);
+};
+
+// Most are short, and of ASCII. Of others it is guessed how many bytes their head has.
 const putText = (text) => {
-  if (text.length <= SHORT) return putShort(text);
-  const length = Buffer.byteLength(text);
-  const isAscii = length === text.length;
-  if (!isAscii && /\p{Surrogate}/u.test(text)) noText();
-  putHead(0x60, length, length);
-  at += (isAscii ? latin1Write : utf8Write).call(out, text, at, length);
+  const count = text.length;
+  if (count >= SHORT) return putLong(text);
+  room(WIDEST + 3 * count);
+  const into = out;
+  const from = at + 1;
+  let i = 0;
+  for (let unit; i < count && (unit = text.charCodeAt(i)) < 0x80; i++) into[from + i] = unit;
+  if (i === count) {
+    into[at] = 0x60 + count;
+    at = from + count;
+  } else {
+    const behind = at + (count > 7 && text.charCodeAt(0) >= 0x800 ? 2 : 1);
+    putBefore(behind, putUtf8(text, behind) - behind);
+  }
 };
 
 const putBytes = (bytes) => {
@@ -163,7 +160,7 @@ const putLink = (binary) => {
   out[at++] = 0x2a;
   putHead(0x40, 1 + binary.length, 1 + binary.length);
   out[at++] = 0;
-  putUnits(binary);
+  for (let i = 0; i < binary.length; i++) out[at++] = binary.charCodeAt(i);
 };
 
 const enter = () => {
@@ -184,18 +181,19 @@ const putList = (list) => {
 
 // The order of keys: the shorter first, then by their bytes, both in UTF-8.
 const shorterFirst = (one, other) => one.length - other.length || (one < other ? -1 : 1);
-const inUtf8 = (key) => latin1(Buffer.from(key));
+const inUtf8 = (key) => latin1(encoder.encode(key));
 
+// Where the keys stand that come first, second and so on.
 const sorted = (keys) => {
-  if (/^[\0-\x7f]*$/.test(keys.join(''))) return [...keys].sort(shorterFirst);
-  const pairs = keys.map((key) => [inUtf8(key), key]);
-  return pairs.sort(([one], [other]) => shorterFirst(one, other)).map(([, key]) => key);
+  const spelt = /^[\0-\x7f]*$/.test(keys.join('')) ? keys : keys.map(inUtf8);
+  const places = keys.map((_, place) => place);
+  return places.sort((one, other) => shorterFirst(spelt[one], spelt[other]));
 };
 
 // Objects with the same few keys are many: their orders are kept, and from the second one on the
 // keys as they are written.
-const [SLOTS, MOST_KEYS, MOST_UNITS] = [256, 32, 1024];
-let last = { keys: [], inOrder: [], written: [], hasSlash: false };
+const [SLOTS, MOST_KEYS, MOST_UNITS] = [1024, 32, 1024];
+let last = { keys: [], places: [], inOrder: [], written: [], hasSlash: false };
 const orders = new Array(SLOTS).fill(last);
 
 const isSame = (keys, others) => {
@@ -212,18 +210,22 @@ const writtenText = (text) => {
   return written;
 };
 
-// By the length and the last unit of each key.
+// By the first key, the last one, and one between.
 const slotOf = (keys) => {
-  let slot = 0;
-  for (let i = 0; i < keys.length; i++) {
-    const { length } = keys[i];
-    slot = (31 * slot + 7 * length + (length && keys[i].charCodeAt(length - 1))) % SLOTS;
+  const count = keys.length;
+  let slot = count;
+  for (let at = 0; at < count; at += (count >> 1) || 1) {
+    const key = keys[at];
+    for (let i = 0; i < key.length; i++) slot = (31 * slot + key.charCodeAt(i)) | 0;
   }
-  return slot;
+  return slot & (SLOTS - 1);
 };
 
-const newOrder = (keys) =>
-  ({ keys, inOrder: sorted(keys), written: undefined, hasSlash: keys.includes('/') });
+const newOrder = (keys) => {
+  const places = sorted(keys);
+  const inOrder = places.map((place) => keys[place]);
+  return { keys, places, inOrder, written: undefined, hasSlash: keys.includes('/') };
+};
 
 const orderOf = (keys) => {
   if (isSame(last.keys, keys)) return last;
@@ -249,12 +251,18 @@ const putWritten = (text) => {
   at = from + count;
 };
 
-// Of an object's own properties those that are enumerable, and have texts as keys; unless it is a
-// CID that lost its class, as `multiformats` tells one.
-const putMap = (map, mayBeLink = true) => {
-  const { inOrder, written, hasSlash } = orderOf(Object.keys(map));
-  const binary = hasSlash && mayBeLink ? foreignOf(map) : undefined;
-  if (binary !== undefined) return putLink(binary);
+// The values of some more keys, which the engine reads quicker by itself; undefined where the map has
+// few or many, or is a Proxy, of which it might read other ones.
+const [FEW, MANY] = [8, 128];
+
+const valuesOf = (map, keys) => {
+  if (keys.length <= FEW || keys.length > MANY || mayBeProxy(map)) return undefined;
+  const values = Object.values(map);
+  if (values.length !== keys.length) no(UNSUPPORTED, 'an object that changes while it is read');
+  return values;
+};
+
+const putEntries = (map, values, { places, inOrder, written }) => {
   const count = inOrder.length;
   putHead(0xa0, count);
   enter();
@@ -263,31 +271,45 @@ const putMap = (map, mayBeLink = true) => {
     path[top - 1] = key;
     if (written === undefined) putText(key);
     else putWritten((written[i] ??= writtenText(key)));
-    putValue(map[key]);
+    putValue(values === undefined ? map[key] : values[places[i]]);
   }
   top -= 1;
 };
 
-const ofEntries = (map) => {
-  const made = Object.create(null);
-  Map.prototype.forEach.call(map, (value, key) => {
-    if (typeof key !== 'string') no(MISMATCH, 'a key of a Map that is no text');
-    made[key] = value;
-  });
-  return made;
+// Of an object's own properties those that are enumerable, and have texts as keys; unless it is a
+// CID that lost its class, as `multiformats` tells one. Each value is read once.
+const putMap = (map) => {
+  const keys = Object.keys(map);
+  const order = orderOf(keys);
+  const binary = order.hasSlash ? foreignOf(map) : undefined;
+  if (binary !== undefined) putLink(binary);
+  else putEntries(map, valuesOf(map, keys), order);
 };
 
-const NO_PROXY = 'a Proxy of neither an Array nor a plain object';
+const putJsMap = (map) => {
+  const [keys, values] = [[], []];
+  Map.prototype.forEach.call(map, (value, key) => {
+    if (typeof key !== 'string') no(MISMATCH, 'a key of a Map that is no text');
+    keys.push(key);
+    values.push(value);
+  });
+  putEntries(map, values, orderOf(keys));
+};
+
+const [OTHER, PROXY] = [
+  'an object that is no Array, Uint8Array, CID, Map or map',
+  'a Proxy of neither an Array nor a plain object',
+];
 
 // What is neither a list nor a plain object.
 const putOther = (value) => {
   if (isBytes(value)) return putBytes(value);
   const binary = binaryOf(value) ?? foreignOf(value);
   if (binary !== undefined) putLink(binary);
-  else if (types.isProxy(value)) no(UNSUPPORTED, NO_PROXY); // that of a Date looks like a map
-  else if (types.isMap(value)) putMap(ofEntries(value), false);
-  else if (Object.prototype.toString.call(value) === '[object Object]') putMap(value);
-  else no(UNSUPPORTED, 'an object that is no Array, Uint8Array, CID, Map or map');
+  else if (isMap(value)) putJsMap(value);
+  else if (Object.prototype.toString.call(value) !== '[object Object]') no(UNSUPPORTED, OTHER);
+  else if (isProxy(value)) no(UNSUPPORTED, PROXY); // that of a Date looks like a map
+  else putMap(value);
 };
 
 // Whether its prototype is null, or that of objects in some realm, which has none itself.
@@ -324,7 +346,7 @@ const blockFrom = (from, isInner) => {
 
 const begin = () => {
   if (used > SMALL - SHARED) {
-    pool = newPool();
+    pool = newPool(SMALL);
     used = 0;
   }
   out = pool;
@@ -342,7 +364,7 @@ const encode = (value) => {
   try {
     putValue(value);
     const block = blockFrom(from, isInner);
-    const code = native.judge(block);
+    const code = native.check(block);
     if (code < 0) throw refusal(code);
     return block;
   } finally {

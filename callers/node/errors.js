@@ -19,6 +19,7 @@ const REASONS = {
   [-15]: ['IndefiniteSize', 'an indefinite length or a break'],
   [-16]: ['NonMinimal', 'a number or a length in more bytes than it needs'],
   [-17]: ['UnorderedKey', 'a key that does not come behind the one before it'],
+  [-21]: ['TooLong', 'a block of 4 GiB or more is not decoded'],
   [-22]: ['OtherBytes', 'the bytes are not those that the CID names'],
   [-23]: ['NotVerified', 'the CID is by another hash function than SHA-256 and the identity'],
   [-26]: ['InvalidCid', 'the bytes are no CID'],

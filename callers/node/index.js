@@ -1,6 +1,6 @@
 // DAG-CBOR by a proved library: index.d.ts says what each call does.
 'use strict';
-const native = require('./out/dagcbor.node');
+const { native } = require('./library.js');
 const { CID, cidOf, unpack } = require('./cid.js');
 const { DagCborError, KINDS, answered } = require('./errors.js');
 const { decode, decodeFirst } = require('./decode.js');
@@ -11,7 +11,7 @@ const { find, resolve } = require('./paths.js');
 // What is said of a block, or its refusal with the place.
 const of = (call) => (block) => answered(call(block), () => native.place(block));
 
-const check = (block) => KINDS[of(native.judge)(block)];
+const check = (block) => KINDS[of(native.check)(block)];
 const tape = of(native.tape);
 const links = (block) => unpack(of(native.links)(block));
 const name = (block) => cidOf(native.name(block));

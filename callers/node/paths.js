@@ -1,7 +1,7 @@
 // Paths in blocks, and over links from block to block: index.d.ts says what each call does.
 'use strict';
-const native = require('./out/dagcbor.node');
-const { latin1, lengthOf, view } = require('./bytes.js');
+const { native } = require('./library.js');
+const { lengthOf, view } = require('./bytes.js');
 const { verify } = require('./car.js');
 const { CID, binaryOf } = require('./cid.js');
 const { decode } = require('./decode.js');
@@ -31,7 +31,7 @@ const followText = (block, path) => {
 
 // The same, where each segment is taken whole.
 const followSegments = (block, segments) => {
-  let kind = answered(native.judge(block), () => native.place(block));
+  let kind = answered(native.check(block), () => native.place(block));
   let item = block;
   for (let at = 0; at < segments.length; at++) {
     const found = native.part(item, segments[at]);

@@ -1,12 +1,13 @@
 // The WebAssembly module for JavaScript, in Node and in a browser:
-// const { check, tape, tokens, follow, part, spell, links, name, cidText, cidFromText, carSpan,
-// carHeader, carSection, carSections } = await load(module), which is the module's bytes, or a
-// WebAssembly.Module.
+// const { check, tape, compactTape, tokens, follow, part, spell, links, name, verify, cidText,
+// cidFromText, carSpan, carHeader, carSection, carSections } = await load(module), which is the
+// module's bytes, or a WebAssembly.Module; of that callsOf(module) has them at once.
 // It imports nothing, and has a 64-bit memory: addresses and lengths are BigInts.
 const PAGE = 65536;
 const FRONT = 64;
 const NO_ROOM = -21;
 const TRUNCATED = -24;
+const MOST_TOKENS = 1 << 18; // that are given room before they are counted
 const NOT_READ = 9;
 const CID_MOST = 86;
 const CID_TEXT_MOST = 139;
@@ -92,6 +93,23 @@ const judging = (calls, room) => ({
     ask(count);
     return new BigUint64Array(room.copy(out, 24 * count).buffer);
   },
+  // The number of a refusal, or the compact tokens: three words of 32 bits each, up to the next call.
+  compactTape: (block) => {
+    const out = behind(block.length);
+    const given = room.put(block);
+    const ask = (count) => {
+      room.reserve(out + 12 * count);
+      return calls.dagcbor_compact_tape(...given, room.address(out), BigInt(count), room.front);
+    };
+    const most = Math.min(block.length, MOST_TOKENS);
+    const code = ask(most);
+    if (code < 0) return code;
+    const count = room.number();
+    if (count > most) ask(count);
+    return new Uint32Array(room.memory.buffer, room.base + FRONT + out, 3 * count);
+  },
+  // The number of what is said of a block under the name that the bytes of a CID are.
+  verify: (cid, block) => calls.dagcbor_verify(...putBoth(room, cid, block)),
   // Of any bytes: the number of the kind or of the refusal; the place of the refusal, which is the
   // length where there is none; how many tokens stand before it, and the tokens, or null where they
   // are more than `most`.
@@ -234,10 +252,27 @@ const walking = (calls, room) => {
   };
 };
 
-exports.load = async (module) => {
-  const made = await WebAssembly.instantiate(module);
-  const calls = (made.instance ?? made).exports;
+const instanceOf = (module) => {
+  const { exports: calls } = new WebAssembly.Instance(module);
   const room = new Room(calls);
-  const parts = [judging, spelling, naming, walking];
-  return Object.assign({}, ...parts.map((it) => it(calls, room)));
+  return Object.assign({}, ...[judging, spelling, naming, walking].map((it) => it(calls, room)));
 };
+
+// A call that is broken off, as where the stack is at its end, leaves its own stack behind: so the
+// next one gets another instance.
+const callsOf = (module) => {
+  let made = instanceOf(module);
+  const guarded = (name) => (...given) => {
+    const calls = made ?? instanceOf(module);
+    made = undefined;
+    const answer = calls[name](...given);
+    made = calls;
+    return answer;
+  };
+  return Object.fromEntries(Object.keys(made).map((name) => [name, guarded(name)]));
+};
+
+const load = async (module) =>
+  callsOf(module instanceof WebAssembly.Module ? module : await WebAssembly.compile(module));
+
+module.exports = { callsOf, load };

@@ -1,0 +1,33 @@
+// node build.js FOLDER MODULE: the package for browsers, Deno and others, of ECMAScript modules. Its
+// files are those of callers/node, but for what answers the library's calls, which is the module.
+'use strict';
+const { copyFileSync, mkdirSync, readFileSync, readdirSync, writeFileSync } = require('fs');
+const { basename, join } = require('path');
+
+const [, , folder, module_] = process.argv;
+if (!module_) throw new Error('node build.js FOLDER MODULE');
+const [node, esm] = [join(__dirname, '../node'), join(__dirname, 'esm')];
+const ALONE = ['build.js', 'library.js', 'platform.js']; // Node's alone
+const shared = readdirSync(node).filter((it) => it.endsWith('.js') && !ALONE.includes(it));
+const own = ['dagcbor.js', 'native.js', 'walk.js'];
+
+const names = (inside) => inside.replace(/(\w+): (\w+)/g, '$1 as $2');
+
+// A file as Node takes it, by imports and exports.
+const asModule = (text, path) => {
+  const made = text
+    .replace(/^'use strict';\n/m, '')
+    .replace(/^const (\{[^}]*\}|\w+) = require\('([^']*)'\);$/gm, (_, inside, from) =>
+      `import ${inside[0] === '{' ? names(inside) : `* as ${inside}`} from './${basename(from)}';`)
+    .replace(/^module\.exports = (\{[^}]*\});$/m, 'export $1;');
+  if (/\brequire\(|\bmodule\.exports\b/.test(made)) throw new Error(`${path} goes into no module`);
+  return made;
+};
+
+mkdirSync(folder, { recursive: true });
+for (const path of [...shared.map((it) => join(node, it)), ...own.map((it) => join(__dirname, it))]) {
+  writeFileSync(join(folder, basename(path)), asModule(readFileSync(path, 'utf8'), path));
+}
+for (const it of readdirSync(esm)) copyFileSync(join(esm, it), join(folder, it));
+for (const it of ['index.d.ts', 'codec.d.ts']) copyFileSync(join(node, it), join(folder, it));
+copyFileSync(module_, join(folder, 'dagcbor.wasm'));

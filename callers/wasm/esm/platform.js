@@ -1,0 +1,45 @@
+// What other engines have in the place of what Node has of its own (callers/node/platform.js).
+import { lengthOf, view } from './bytes.js';
+
+const [fromUtf8, fromPlain] = ['utf-8', 'latin1'].map((it) =>
+  new TextDecoder(it, { ignoreBOM: true }));
+
+export const memory = (size) => new Uint8Array(size);
+
+// Nothing holds others back from transferring memory: so no two blocks share any.
+export const SHARED = 0;
+export const newPool = memory;
+
+const sizeOf = Object.getOwnPropertyDescriptor(Map.prototype, 'size').get;
+
+export const isMap = (value) => {
+  try {
+    return sizeOf.call(value) >= 0;
+  } catch (error) {
+    return false;
+  }
+};
+
+// No script can tell a Proxy here. What has no such object's inside, and yet inherits from one, is
+// taken for one.
+const INSIDES = [
+  Boolean, Date, Error, Map, Number, RegExp, Set, String, Object.getPrototypeOf(Uint8Array),
+];
+export const isProxy = (value) => !isMap(value) && INSIDES.some((it) => value instanceof it);
+export const mayBeProxy = () => true;
+
+// A text of one unit for each byte.
+const MOST = 4096; // arguments
+export const latin1 = (bytes, from = 0, to = lengthOf.call(bytes)) => {
+  let text = '';
+  for (let at = from; at < to; at += MOST) {
+    text += String.fromCharCode.apply(null, view(bytes, at, Math.min(at + MOST, to)));
+  }
+  return text;
+};
+
+// The same where they are ASCII: of other bytes each is some unit.
+export const plain = (bytes, from, to) => fromPlain.decode(view(bytes, from, to));
+
+// The text of UTF-8.
+export const utf8 = (bytes, from, to) => fromUtf8.decode(view(bytes, from, to));

@@ -27,7 +27,7 @@ static uint8_t *bytes_of(const char *path, size_t *length) {
 static uint8_t *answer_of(const uint8_t *file, size_t length, int32_t *code, size_t *needed) {
     uint8_t none[1];
     *code = dagcbor_repository(file, length, none, 0, needed);
-    uint8_t *out = *code == DAGCBOR_REPOSITORY_NO_ROOM ? malloc(*needed) : NULL;
+    uint8_t *out = *code == DAGCBOR_NO_ROOM ? malloc(*needed) : NULL;
     if (out) *code = dagcbor_repository(file, length, out, *needed, needed);
     return out;
 }

@@ -17,6 +17,7 @@ from setuptools.errors import ModuleError
 HERE = os.path.dirname(os.path.abspath(__file__))
 CALLERS = os.path.dirname(HERE)
 CRATES = os.path.join(os.path.dirname(CALLERS), "crates")
+CRATE_NAMES = ("dagcbor_ffi", "dagcbor_repo_ffi")
 
 
 def demand_wheel():
@@ -46,7 +47,7 @@ def extension(name, crate, variable, sources):
     return Extension(
         name,
         sources=sources,
-        include_dirs=["include", os.path.join(CRATES, crate, "include"), os.path.join(CALLERS, "c")],
+        include_dirs=["include", *(os.path.join(CRATES, it, "include") for it in CRATE_NAMES), os.path.join(CALLERS, "c")],
         extra_objects=[library(crate, variable)],
         extra_compile_args=["-std=c11", "-Wall", "-Wextra", "-fvisibility=hidden"],
         extra_link_args=["-Wl,--exclude-libs,ALL"],

@@ -8,8 +8,9 @@ sys.path.append(os.path.join(HERE, "../../../conformance"))
 
 import cars
 import cidtexts
+import dagjson
 import forms
 from judge import VARIANTS
 from vectors import block_of, load
 
-__all__ = ["VARIANTS", "block_of", "cars", "cidtexts", "forms", "load"]
+__all__ = ["VARIANTS", "block_of", "cars", "cidtexts", "dagjson", "forms", "load"]

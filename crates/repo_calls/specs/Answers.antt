@@ -1,5 +1,5 @@
 -- What is answered of a file of blocks as a repository.
-use Rattle.std.specs.Prelude.{◌≡◌, ◌⊎◌, ℕ, ℤ, pos, negsuc, List, [], ◌∷◌, length, if◌then◌else◌, nat_lt, ⊤, Result, MatchResult, Vec}
+use Rattle.std.specs.Prelude.{◌≡◌, ◌⊎◌, ℕ, ℤ, pos, negsuc, List, [], ◌∷◌, length, ⊤, Result, MatchResult, Vec}
 use Rattle.std.specs.declared.alloc.Global.{Global}
 use Rattle.ipld_tree.specs.Cid.{CidParts}
 use Rattle.dagcbor_items.specs.Walks.{forms}
@@ -12,7 +12,6 @@ use Rattle.atproto_mst.specs.declared.entries.MstEntry.{MstEntry}
 use Rattle.atproto_mst.specs.declared.repo_error.RepoError.{RepoError}
 use Rattle.held_lines.specs.Holding.{StoresSound, TellsFault}
 use Rattle.record_lines.specs.Words.{IsOfRepo, repo_line, roots_line}
-use Rattle.dagcbor_calls.specs.Packed.{with_front}
 use Rattle.dagcbor_calls.specs.CidTexts.{IsPut, PutsNone}
 use Rattle.repo_calls.specs.Blocks.{IsBlockOf}
 
@@ -63,21 +62,13 @@ IsRepoAnswer b answer = MatchResult answer (λ block. IsRepoBlock b block.items)
 
 -- ---- by the C ABI
 
--- 1, or -21 where there is no room for the line
-abbrev pub line_code : List ℕ → List ℕ → ℤ
-line_code line old = if nat_lt (length old) (length line) then negsuc 20 else pos 1
+-- memory was wanted, and -42 is answered
+abbrev pub WantsMemory : List ℕ → List ℕ → ℕ → ℤ → Type 0
+WantsMemory old new needed code = (code ≡ negsuc 41) × PutsNone old new needed
 
--- how many bytes the line has, which stand at the front of the memory where there is room for them
--- all, and else nothing changed there
-pub record IsLinePut (line old new : List ℕ) (needed : ℕ) (code : ℤ) : Type 0 where
-  pub counted : needed ≡ length line
-  pub stand : new ≡ with_front line old
-  pub told : code ≡ line_code line old
-
--- the block of the repository is put; or the line that tells why there is none; or memory was wanted,
--- and -42 is answered
+-- the block of the repository is put; or the line that tells why there is none; or memory was wanted
 abbrev pub IsRepositoryAnswer : List ℕ → List ℕ → List ℕ → ℕ → ℤ → Type 0
 IsRepositoryAnswer b old new needed code =
-    ((block : List ℕ) × IsRepoBlock b block × IsPut block old new needed code)
-    ⊎ (((line : List ℕ) × IsRepoLine b line × IsLinePut line old new needed code)
-    ⊎ ((code ≡ negsuc 41) × PutsNone old new needed))
+    ((block : List ℕ) × IsRepoBlock b block × IsPut (pos 0) block old new needed code)
+    ⊎ (((line : List ℕ) × IsRepoLine b line × IsPut (pos 1) line old new needed code)
+    ⊎ WantsMemory old new needed code)

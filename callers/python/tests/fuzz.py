@@ -11,8 +11,8 @@ import sys
 import time
 from collections import Counter
 
-from dagcbor import CID, DagCborError, check, check_car, dumps, find, iter_loads, links, loads
-from dagcbor import loads_first, name, read_car, read_repo, resolve, verify, write_car
+from dagcbor import CID, DagCborError, check, check_car, dumps, find, from_json, iter_loads, links
+from dagcbor import loads, loads_first, name, read_car, read_repo, resolve, to_json, verify, write_car
 from plain import links_in, mutated, random_cid, random_text, random_value, same, spelling
 
 
@@ -112,7 +112,11 @@ def bytes_of_any_sort(rng, given):
         assert told(check, given) == found
     items = told(lambda: list(iter_loads(given)))
     assert isinstance(items, (list, tuple)) and name(given).codec == 0x71
-    for call in (links, loads_first, CID, read_repo):
+    text = told(to_json, given)
+    if isinstance(text, list):
+        assert from_json(*text) == given
+        told(from_json, mutated(rng, text[0].encode()))
+    for call in (links, loads_first, CID, read_repo, from_json):
         told(call, given)
     told(find, given, random_text(rng))
     told(verify, random_cid(rng), given)

@@ -21,7 +21,7 @@ PARTS = {name: f"`{name}`" for name in ["dagcbor_heads", "ipld_tree", "dagcbor_w
                                         "dagcbor_car", "dagcbor_schema", "dagcbor_serde", "block_lines", "path_lines",
                                         "held_lines", "record_lines"]}
 PARTS["dagcbor_ffi"] = "`dagcbor_calls`, `dagcbor_ffi`"
-PARTS |= {name: "`repo_calls`, `dagcbor_repo_ffi`" for name in ["repo_calls", "dagcbor_repo_ffi"]}
+PARTS |= {name: "`memory_calls`, `dagcbor_memory_ffi`" for name in ["memory_calls", "dagcbor_memory_ffi"]}
 PARTS |= {name: "CIDs as text, and data as DAG-JSON" for name in ["cid_text", "dag_json"]}
 
 EXPORT = re.compile(r"^pub use ([\w:]+?)::(?:\{([^}]*)\}|(\w+));", re.M)

@@ -1,6 +1,6 @@
 /* Calls those of DAG-JSON for each row of their table: json TABLE. Prints the number of rows, or the row that is
  * answered otherwise. */
-#include "dagcbor_repo.h"
+#include "dagcbor_memory.h"
 #include "rows.h"
 
 static size_t place;

@@ -1,9 +1,9 @@
-/* Reads repositories by libdagcbor_repo_ffi.a: of each file the length of its answer, and the line of one that is none.
+/* Reads repositories by libdagcbor_memory_ffi.a: of each file the length of its answer, and the line of one that is none.
 
      repo FILE..
 
    The status is 0 where all are repositories. */
-#include "dagcbor_repo.h"
+#include "dagcbor_memory.h"
 #include <stdio.h>
 #include <stdlib.h>
 

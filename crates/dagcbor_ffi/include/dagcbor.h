@@ -217,7 +217,7 @@ int32_t dagcbor_cid_text(const uint8_t *bytes, size_t length, uint8_t *out, size
    `out` stays as it was. After another refusal *needed is 0 and `out` as it was. */
 int32_t dagcbor_cid_from_text(const uint8_t *text, size_t length, uint8_t *out, size_t room, size_t *needed);
 
-/* Of calls that take memory, in dagcbor_repo.h. */
+/* Of calls that take memory, in dagcbor_memory.h. */
 enum { DAGCBOR_NO_MEMORY = -42 };
 
 /* Why a text is no data in DAG-JSON, of dagcbor_from_json there. */

@@ -1,6 +1,6 @@
 """Blocks as DAG-JSON, and back."""
 
-from . import _native, _native_repo
+from . import _native, _native_memory
 from ._buffers import bytes_of
 from ._errors import RESERVED_KEY, refused
 
@@ -12,7 +12,7 @@ def to_json(block, /):
     and a CID `{"/":".."}`. A block in which a map has the key `/` is refused (`ReservedKey`): it
     would look like one of these.
     """
-    code, text, _ = _native_repo.to_json(bytes_of(block))
+    code, text, _ = _native_memory.to_json(bytes_of(block))
     if code < 0:
         if code != RESERVED_KEY:
             _native.check(block)  # its refusal has the place
@@ -27,7 +27,7 @@ def from_json(text, /):
     the UTF-8.
     """
     given = text.encode(errors="surrogatepass") if isinstance(text, str) else bytes_of(text)
-    code, block, place = _native_repo.from_json(given)
+    code, block, place = _native_memory.from_json(given)
     if code < 0:
         raise refused(code, place)
     return block

@@ -9,7 +9,7 @@ from typing import TYPE_CHECKING, Any, cast
 from ._buffers import bytes_of
 from ._errors import DagCborError
 from ._native import CID, loads
-from ._native_repo import repository
+from ._native_memory import repository
 
 if TYPE_CHECKING:
     from ._native import Buffer, Readable

@@ -13,7 +13,7 @@ use Rattle.atproto_mst.specs.declared.repo_error.RepoError.{RepoError}
 use Rattle.held_lines.specs.Holding.{StoresSound, TellsFault}
 use Rattle.record_lines.specs.Words.{IsOfRepo, repo_line, roots_line}
 use Rattle.dagcbor_calls.specs.CidTexts.{IsPut, PutsNone}
-use Rattle.repo_calls.specs.Blocks.{IsBlockOf}
+use Rattle.memory_calls.specs.Blocks.{IsBlockOf}
 
 -- ---- of what is stored
 

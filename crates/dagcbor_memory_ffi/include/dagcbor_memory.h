@@ -1,7 +1,7 @@
 /* What DAG-CBOR for C has that takes memory: blocks as DAG-JSON, and back; and repositories of signed records (AT
    Protocol): what one holds, verified, or why it is none.
 
-   Link with libdagcbor_repo_ffi.a, and with functions of the heap, as callers/c/heap.c has them over malloc,
+   Link with libdagcbor_memory_ffi.a, and with functions of the heap, as callers/c/heap.c has them over malloc,
    realloc and free. It needs dagcbor.h beside it, and not the other library. A call holds what it makes of the bytes,
    and the answer, beside them; of a repository the file's blocks and its records.
 
@@ -20,8 +20,8 @@
    *needed becomes the length of the answer. Where that is at most `room` it is put at the front of `out`; else `out` stays
    as it was, and DAGCBOR_NO_ROOM is answered: with *needed bytes of room the same call answers. Where memory is wanted
    DAGCBOR_NO_MEMORY is answered; then, and after any other refusal, *needed is 0, and `out` as it was. */
-#ifndef DAGCBOR_REPO_H
-#define DAGCBOR_REPO_H
+#ifndef DAGCBOR_MEMORY_H
+#define DAGCBOR_MEMORY_H
 
 #include "dagcbor.h"
 

@@ -5,7 +5,7 @@ ghost use Rattle.ipld_tree.specs.Cid.{cid_bytes};
 ghost use Rattle.ipld_tree.specs.Tree.{bytes, link, text, entries_tree};
 ghost use Rattle.dagcbor_write.specs.Trees.{field};
 ghost use Rattle.atproto_mst.specs.Entries.{entries};
-ghost use Rattle.repo_calls.specs.Blocks.{IsBlockOf, entry_of_row};
+ghost use Rattle.memory_calls.specs.Blocks.{IsBlockOf, entry_of_row};
 
 use atproto_mst::{Commit, MstEntry, Repo, spell_unsigned};
 use dagcbor_heads::{Write, WriteResult};

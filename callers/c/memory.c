@@ -1,12 +1,12 @@
 /* Makes each call that takes memory with the heap of faults/heap.c, where each allocation in turn is refused: memory is
  * wanted then, and nothing is written.
 
-     repo_memory FILE
+     memory FILE
 
    It reads a repository, and where that is one, the block that tells of it goes to DAG-JSON and back. It prints how many
    allocations each call made. */
 #undef NDEBUG
-#include "dagcbor_repo.h"
+#include "dagcbor_memory.h"
 #include <assert.h>
 #include <stdio.h>
 #include <string.h>

@@ -10,7 +10,7 @@ use Rattle.atproto_mst.specs.Commits.{unsigned_tree}
 use Rattle.atproto_mst.specs.Entries.{entries}
 use Rattle.atproto_mst.specs.declared.commit.Commit.{Commit}
 use Rattle.atproto_mst.specs.declared.entries.MstEntry.{MstEntry}
-use Rattle.repo_calls.specs.Blocks.{record_tree, IsBlockOf, entry_of_row}
+use Rattle.memory_calls.specs.Blocks.{record_tree, IsBlockOf, entry_of_row}
 
 -- ---- records
 

@@ -6,8 +6,8 @@ ghost use Rattle.ipld_tree.specs.Spelling.{IsSpelling};
 ghost use Rattle.dagcbor_items.specs.TreeKinds.{kind_of};
 ghost use Rattle.dagcbor_calls.specs.Codes.{kind_code};
 ghost use Rattle.dagcbor_calls.specs.CidTexts.{IsPut};
-ghost use Rattle.repo_calls.specs.JsonAnswers.{json_code, IsDataAnswer, IsToJsonAnswer};
-ghost use Rattle.repo_calls.specs.JsonAnswers.{IsFromJsonAnswer};
+ghost use Rattle.memory_calls.specs.JsonAnswers.{json_code, IsDataAnswer, IsToJsonAnswer};
+ghost use Rattle.memory_calls.specs.JsonAnswers.{IsFromJsonAnswer};
 
 use crate::call::NO_MEMORY;
 use dag_json::{DagJsonError, dag_json, data_from_json, has_reserved_key};

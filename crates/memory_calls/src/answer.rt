@@ -2,7 +2,7 @@
 
 ghost use Rattle.std.specs.Prelude.{IfOk, MatchResult};
 ghost use Rattle.ipld_links.specs.Reaching.{stored_in};
-ghost use Rattle.repo_calls.specs.Answers.{IsTold, IsUntold, IsToldOf, IsUntoldOf, IsRepoAnswer};
+ghost use Rattle.memory_calls.specs.Answers.{IsTold, IsUntold, IsToldOf, IsUntoldOf, IsRepoAnswer};
 
 use crate::told::repo_block;
 use atproto_mst::read_repo;

@@ -8,7 +8,7 @@ use Rattle.atproto_mst.specs.declared.entries.MstEntry.{MstEntry}
 use Rattle.atproto_mst.specs.declared.repo_error.RepoError.{RepoError}
 use Rattle.atproto_mst.specs.declared.repo_error.RepoError.TheVariants.{OutOfMemory}
 use Rattle.record_lines.specs.Words.{IsOfRepo, repo_line}
-use Rattle.repo_calls.specs.Answers.{IsUntold}
+use Rattle.memory_calls.specs.Answers.{IsUntold}
 
 -- want of memory, the one cause that a whole repository may have, is not told
 pub untold_at : (stored : Stored) (root : CidParts) (e : RepoError) (line : List ℕ) → RepoRefused stored root e → ((c : Commit) (records : List MstEntry) → IsRepo stored root c records → e ≡ OutOfMemory) → IsOfRepo e → line ≡ repo_line root e → IsUntold stored root line

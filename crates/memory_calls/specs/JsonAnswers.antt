@@ -13,7 +13,7 @@ use Rattle.dag_json.specs.declared.error.DagJsonError.{DagJsonError}
 use Rattle.dag_json.specs.declared.error.DagJsonError.TheVariants as texts
 use Rattle.dagcbor_calls.specs.Codes.{kind_code, refusal_code}
 use Rattle.dagcbor_calls.specs.CidTexts.{IsPut, PutsNone}
-use Rattle.repo_calls.specs.Answers.{WantsMemory}
+use Rattle.memory_calls.specs.Answers.{WantsMemory}
 
 -- the number of why a text is no data
 abbrev pub json_code : DagJsonError → ℤ

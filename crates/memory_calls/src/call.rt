@@ -1,6 +1,6 @@
 //! The answer, put into memory of the caller.
 
-ghost use Rattle.repo_calls.specs.Answers.{IsRepositoryAnswer};
+ghost use Rattle.memory_calls.specs.Answers.{IsRepositoryAnswer};
 
 use crate::answer::repo_answer;
 use dagcbor_calls::put_front;

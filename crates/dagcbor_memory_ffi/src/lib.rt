@@ -3,13 +3,13 @@
 //!
 //! A slice crosses as a pointer and a length, and nothing is passed for a `Global`. Unlike
 //! `dagcbor_ffi` this library takes memory, by functions of the program that links it.
-//! `include/dagcbor_repo.h` has what C declares, and what a caller owes.
+//! `include/dagcbor_memory.h` has what C declares, and what a caller owes.
 #![tactic(auto)]
 
-ghost use Rattle.repo_calls.specs.Answers.{IsRepositoryAnswer};
-ghost use Rattle.repo_calls.specs.JsonAnswers.{IsToJsonAnswer, IsFromJsonAnswer};
+ghost use Rattle.memory_calls.specs.Answers.{IsRepositoryAnswer};
+ghost use Rattle.memory_calls.specs.JsonAnswers.{IsToJsonAnswer, IsFromJsonAnswer};
 
-use repo_calls::{put_block, put_json, put_repo};
+use memory_calls::{put_block, put_json, put_repo};
 use std::alloc::Global;
 
 /// The number of the kind of a block, from 0, whose data in DAG-JSON is put at the front of `out`
@@ -50,7 +50,7 @@ pub extern "C" fn dagcbor_from_json(
 /// where its commit and its tree are whole: 0 is answered; else a line that tells why there is none, and
 /// 1. `needed` becomes its length; where `out` has room for it it is put at its front, and else `out`
 /// stays, and -21 is answered. -42 is answered where memory is wanted; then `needed` becomes 0, and `out`
-/// stays. `repo_calls::repo_answer` says what the block holds.
+/// stays. `memory_calls::repo_answer` says what the block holds.
 #[unsafe(no_mangle)]
 pub extern "C" fn dagcbor_repository(
     alloc: Global,

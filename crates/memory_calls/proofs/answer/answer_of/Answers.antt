@@ -1,8 +1,8 @@
 use Rattle.std.proofs.Common.{sym, subst, IfOk, MatchResult}
 use Rattle.ipld_links.specs.Reaching.{stored_in}
 use Rattle.record_lines.proofs.Telling.{one_root}
-use Rattle.repo_calls.specs.Answers.{IsToldOf, IsUntoldOf}
-use Rattle.repo_calls.proofs.answer.answer_of.Goals as goal
+use Rattle.memory_calls.specs.Answers.{IsToldOf, IsUntoldOf}
+use Rattle.memory_calls.proofs.answer.answer_of.Goals as goal
 
 pub returns-in-len1 : goal.returns-in-len1
 returns-in-len1 c = subst (λ roots. IfOk c.answer_at.result (λ answer. MatchResult answer (λ block. IsToldOf (stored_in c.args.blocks.now) roots block.items)

@@ -4,7 +4,7 @@
 #define PY_SSIZE_T_CLEAN
 #include <Python.h>
 
-#include "dagcbor_repo.h"
+#include "dagcbor_memory.h"
 #include "heap.c"
 
 typedef int32_t Call(const uint8_t *given, size_t length, uint8_t *out, size_t room, size_t *needed,
@@ -77,10 +77,10 @@ static PyModuleDef_Slot SLOTS[] = {{0, NULL}};
 
 static struct PyModuleDef MODULE = {
     .m_base = PyModuleDef_HEAD_INIT,
-    .m_name = "dagcbor._native_repo",
+    .m_name = "dagcbor._native_memory",
     .m_methods = METHODS,
     .m_slots = SLOTS,
 };
 
-PyMODINIT_FUNC PyInit__native_repo(void);
-PyMODINIT_FUNC PyInit__native_repo(void) { return PyModuleDef_Init(&MODULE); }
+PyMODINIT_FUNC PyInit__native_memory(void);
+PyMODINIT_FUNC PyInit__native_memory(void) { return PyModuleDef_Init(&MODULE); }

@@ -34,7 +34,8 @@ const plainText = (from, length) => {
 };
 
 const textAt = (i) => {
-  const [number, from] = [words[i + 1], words[i + 2]];
+  const number = words[i + 1];
+  const from = words[i + 2];
   return words[i] === ASCII ? plainText(from, number) : utf8(block, from, from + number);
 };
 
@@ -73,7 +74,10 @@ const otherKey = (before, i) => {
 const keyBehind = (before, i) => {
   const { next } = before;
   if (next === undefined) return otherKey(before, i);
-  const [{ bytes }, count, from, all] = [next, words[i + 1], words[i + 2], block];
+  const { bytes } = next;
+  const count = words[i + 1];
+  const from = words[i + 2];
+  const all = block;
   if (bytes.length !== count) return otherKey(before, i);
   for (let j = 0; j < count; j++) if (bytes[j] !== all[from + j]) return otherKey(before, i);
   return next;

@@ -122,11 +122,20 @@ const isAlone = (text) => /[\ud800-\udfff]/.test(text) && /\p{Surrogate}/u.test(
 
 const putLong = (text) => {
   const count = text.length;
+  if (count > LARGE) return putHuge(text);
   room(WIDEST + 3 * count);
   const from = at + widthOf(count);
   const { written } = encoder.encodeInto(text, out.subarray(from));
   if (written !== count && isAlone(text)) noText();
   putBefore(from, written);
+};
+
+const putHuge = (text) => {
+  if (isAlone(text)) noText();
+  const bytes = encoder.encode(text);
+  putHead(0x60, bytes.length, bytes.length);
+  out.set(bytes, at);
+  at += bytes.length;
 };
 
 // Most are short, and of ASCII. Of others it is guessed how many bytes their head has.
@@ -192,8 +201,8 @@ const sorted = (keys) => {
 
 // Objects with the same few keys are many: their orders are kept, and from the second one on the
 // keys as they are written.
-const [SLOTS, MOST_KEYS, MOST_UNITS] = [1024, 32, 1024];
-let last = { keys: [], places: [], inOrder: [], written: [], hasSlash: false };
+const [SLOTS, MOST_KEYS, MOST_UNITS, ODD] = [1024, 32, 1024, 0x9e3779b1];
+let last = { keys: [], places: [], inOrder: [], hasSlash: false };
 const orders = new Array(SLOTS).fill(last);
 
 const isSame = (keys, others) => {
@@ -202,29 +211,21 @@ const isSame = (keys, others) => {
   return true;
 };
 
-const writtenText = (text) => {
-  const from = at;
-  putText(text);
-  const written = out.slice(from, at);
-  at = from;
-  return written;
-};
-
 // By the first key, the last one, and one between.
 const slotOf = (keys) => {
   const count = keys.length;
   let slot = count;
   for (let at = 0; at < count; at += (count >> 1) || 1) {
     const key = keys[at];
-    for (let i = 0; i < key.length; i++) slot = (31 * slot + key.charCodeAt(i)) | 0;
+    for (let i = 0; i < key.length; i++) slot = Math.imul(slot ^ key.charCodeAt(i), ODD);
   }
-  return slot & (SLOTS - 1);
+  return slot >>> 22;
 };
 
 const newOrder = (keys) => {
   const places = sorted(keys);
   const inOrder = places.map((place) => keys[place]);
-  return { keys, places, inOrder, written: undefined, hasSlash: keys.includes('/') };
+  return { keys, places, inOrder, hasSlash: keys.includes('/') };
 };
 
 const orderOf = (keys) => {
@@ -233,22 +234,12 @@ const orderOf = (keys) => {
   const slot = slotOf(keys);
   const known = orders[slot];
   if (isSame(known.keys, keys)) {
-    known.written ??= [];
     last = known;
     return known;
   }
   const made = newOrder(keys);
   if (keys.join('').length <= MOST_UNITS) orders[slot] = made;
   return made;
-};
-
-const putWritten = (text) => {
-  const count = text.length;
-  room(count);
-  const into = out;
-  const from = at;
-  for (let i = 0; i < count; i++) into[from + i] = text[i];
-  at = from + count;
 };
 
 // The values of some more keys, which the engine reads quicker by itself; undefined where the map has
@@ -262,15 +253,14 @@ const valuesOf = (map, keys) => {
   return values;
 };
 
-const putEntries = (map, values, { places, inOrder, written }) => {
+const putEntries = (map, values, { places, inOrder }) => {
   const count = inOrder.length;
   putHead(0xa0, count);
   enter();
   for (let i = 0; i < count; i++) {
     const key = inOrder[i];
     path[top - 1] = key;
-    if (written === undefined) putText(key);
-    else putWritten((written[i] ??= writtenText(key)));
+    putText(key);
     putValue(values === undefined ? map[key] : values[places[i]]);
   }
   top -= 1;

@@ -22,25 +22,28 @@ const latin1 = (bytes, from = 0, to = lengthOf.call(bytes)) => latin1Slice.call(
 // The text of UTF-8 that is known to be such: but for long ones quicker than by Node.
 const units = new Uint16Array(1 << 14);
 const inUnits = new Uint8Array(units.buffer);
+const narrow = new Uint8Array(units.length);
 
 const utf8 = (bytes, from, to) => {
   if (to - from > units.length) return utf8Slice.call(bytes, from, to);
   let count = 0;
+  let all = 0;
   for (let at = from; at < to; ) {
-    const byte = bytes[at++];
-    if (byte < 0x80) units[count++] = byte;
-    else if (byte < 0xe0) units[count++] = ((byte & 0x1f) << 6) | (bytes[at++] & 0x3f);
-    else {
-      const two = ((bytes[at++] & 0x3f) << 6) | (bytes[at++] & 0x3f);
-      if (byte < 0xf0) units[count++] = ((byte & 0x0f) << 12) | two;
-      else {
-        const unit = (((byte & 0x07) << 18) | (two << 6) | (bytes[at++] & 0x3f)) - 0x10000;
-        units[count++] = 0xd800 | (unit >> 10);
-        units[count++] = 0xdc00 | (unit & 0x3ff);
-      }
-    }
+    let unit = bytes[at++];
+    if (unit >= 0xf0) {
+      const three = ((unit & 0x07) << 12) | ((bytes[at++] & 0x3f) << 6) | (bytes[at++] & 0x3f);
+      unit = ((three << 6) | (bytes[at++] & 0x3f)) - 0x10000;
+      units[count++] = 0xd800 | (unit >> 10);
+      unit = 0xdc00 | (unit & 0x3ff);
+    } else if (unit >= 0xe0) {
+      unit = ((unit & 0x0f) << 12) | ((bytes[at++] & 0x3f) << 6) | (bytes[at++] & 0x3f);
+    } else if (unit >= 0x80) unit = ((unit & 0x1f) << 6) | (bytes[at++] & 0x3f);
+    units[count++] = unit;
+    all |= unit;
   }
-  return ucs2Slice.call(inUnits, 0, 2 * count);
+  if (all > 0xff) return ucs2Slice.call(inUnits, 0, 2 * count);
+  for (let i = 0; i < count; i++) narrow[i] = units[i];
+  return latin1Slice.call(narrow, 0, count);
 };
 
 module.exports = {

@@ -7,7 +7,7 @@ const PAGE = 65536;
 const FRONT = 64;
 const NO_ROOM = -21;
 const TRUNCATED = -24;
-const MOST_TOKENS = 1 << 18; // that are given room before they are counted
+const ROOM_TOKENS = 1 << 18; // that are given room before they are counted
 const NOT_READ = 9;
 const CID_MOST = 86;
 const CID_TEXT_MOST = 139;
@@ -101,7 +101,7 @@ const judging = (calls, room) => ({
       room.reserve(out + 12 * count);
       return calls.dagcbor_compact_tape(...given, room.address(out), BigInt(count), room.front);
     };
-    const most = Math.min(block.length, MOST_TOKENS);
+    const most = Math.min(block.length, ROOM_TOKENS);
     const code = ask(most);
     if (code < 0) return code;
     const count = room.number();

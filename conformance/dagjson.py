@@ -66,6 +66,13 @@ def plain(data):
     return data
 
 
+def has_reserved_key(data):
+    """Whether a map in it has the key `/`: of such data no text is read as it."""
+    if isinstance(data, dict):
+        return "/" in data or any(map(has_reserved_key, data.values()))
+    return isinstance(data, list) and any(map(has_reserved_key, data))
+
+
 def to_json(data):
     return json.dumps(plain(data), ensure_ascii=False, separators=(",", ":"))
 

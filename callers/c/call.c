@@ -1,32 +1,8 @@
 /* Calls each export for each row of its table: call TABLE SECTIONS TEXTS HEADERS SPANS PATHS
  * SEGMENTS. Prints the number of rows, or the row that is answered otherwise. */
-#include "dagcbor.h"
+#include "rows.h"
 #include <inttypes.h>
 #include <stdbool.h>
-#include <stdio.h>
-#include <stdlib.h>
-#include <string.h>
-
-enum { MOST = 4096 };
-
-/* The bytes of hexadecimal text, and how many. A '-' is none, and a ',' joins links, each packed
- * behind its length. */
-static size_t from_hex(const char *text, uint8_t *out, int packed) {
-    size_t count = 0, start = 0;
-    unsigned byte;
-    if (strcmp(text, "-") == 0) return 0;
-    if (packed) count = 1;
-    for (;; text += *text == ',') {
-        while (sscanf(text, "%2x", &byte) == 1) {
-            out[count++] = (uint8_t)byte;
-            text += 2;
-            if (*text == ',' || *text == 0) break;
-        }
-        if (packed && (*text == ',' || *text == 0)) out[start] = (uint8_t)(count - start - 1);
-        if (*text == 0) return count;
-        start = count++;
-    }
-}
 
 /* The tokens of text, and how many. A '-' is none. */
 static size_t from_tape(const char *text, dagcbor_token *tape) {
@@ -223,25 +199,6 @@ static int is_right_span(char *const field[3]) {
     return memcmp(places, wanted, sizeof wanted) == 0;
 }
 
-/* A call that puts bytes into room, in which all that it needs stands, or nothing changes. */
-typedef int32_t Putter(const uint8_t *, size_t, uint8_t *, size_t, size_t *);
-
-static int puts_right(Putter *put, const uint8_t *bytes, size_t length, int code,
-                      const uint8_t *wanted, size_t count) {
-    static uint8_t out[MOST];
-    size_t needed = 99;
-    memset(out, 0xee, sizeof out);
-    /* Asked with one byte too few it tells how many are needed, and puts none. */
-    if (put(bytes, length, out, count ? count - 1 : 0, &needed) != (count ? DAGCBOR_NO_ROOM : code))
-        return 0;
-    if (needed != count || out[0] != 0xee) return 0;
-    if (put(bytes, length, dagcbor_into(NULL, 0), 0, &needed) != (count ? DAGCBOR_NO_ROOM : code))
-        return 0;
-    if (needed != count || put(bytes, length, out, count, &needed) != code || needed != count)
-        return 0;
-    return memcmp(out, wanted, count) == 0 && out[count] == 0xee;
-}
-
 /* A text is read as its CID, which is written, and so is no front of it. */
 static int is_right_text(char *const field[4]) {
     static uint8_t cid[MOST];
@@ -252,24 +209,6 @@ static int is_right_text(char *const field[4]) {
     if (count == 0) return 1;
     return puts_right(dagcbor_cid_text, cid, count, 0, written, strlen(field[3])) &&
            puts_right(dagcbor_cid_text, cid, count - 1, DAGCBOR_INVALID_CID, written, 0);
-}
-
-/* The number of rows, each of so many words; or none where one is answered otherwise. */
-static int rows_of(const char *name, int words, int is_right(char *const *)) {
-    static char line[4 * MOST];
-    FILE *table = fopen(name, "r");
-    int rows = 0;
-    if (!table) return 0;
-    while (fgets(line, sizeof line, table)) {
-        char *field[8];
-        if (line[0] == '#') continue;
-        field[0] = strtok(line, " \n");
-        for (int i = 1; i < words; i++) field[i] = strtok(NULL, " \n");
-        if (!is_right(field)) return printf("wrong: %s\n", field[0]), 0;
-        rows++;
-    }
-    fclose(table);
-    return rows;
 }
 
 int main(int count, char **words) {

@@ -296,6 +296,23 @@ static inline bool names_want(Names *names, const uint8_t *packed, size_t length
     return true;
 }
 
+/* The names that are held, or those that are not, packed: how long they are; and they are put to `out`, unless that is
+ * NULL. */
+static inline size_t names_pack(const Names *names, bool are_held, uint8_t *out) {
+    const uint8_t *from = names->packed.start;
+    size_t used = 0;
+    for (size_t at = 0, length; at < names->packed.used; at += 1 + length) {
+        length = from[at] & NAME_LENGTH;
+        if (!!(from[at] & NAME_HELD) != are_held) continue;
+        if (out) {
+            out[used] = (uint8_t)length;
+            memcpy(out + used + 1, from + at + 1, length);
+        }
+        used += 1 + length;
+    }
+    return used;
+}
+
 /* A file that is checked: how many verdicts there are by their numbers, from DAGCBOR_NOT_VERIFIED
  * on, and which names it holds and wants. */
 enum { VERDICTS = 1 + DAGCBOR_NOT_READ - DAGCBOR_NOT_VERIFIED };
@@ -336,13 +353,8 @@ static inline bool check_links(Check *check, const uint8_t *block, size_t length
 /* Whether a CID by the identity holds its own block: what it ends with, behind the byte that says
  * how long. The library says whether that is the block of this name. */
 static inline int32_t held_inside(const uint8_t *name, size_t length, size_t at) {
-    uint8_t section[10 + 2 * DAGCBOR_CID_MOST];
-    size_t places[3], count = length - at;
-    if (name[at - 1] != count) return DAGCBOR_OTHER_BYTES;
-    size_t front = put_length(section, length + count);
-    memcpy(section + front, name, length);
-    memcpy(section + front + length, name + at, count);
-    return dagcbor_car_section(section, front + length + count, places);
+    if (name[at - 1] != length - at) return DAGCBOR_OTHER_BYTES;
+    return dagcbor_verify(name, length, name + at, length - at);
 }
 
 /* Takes the sections at hand, as far as so many bytes. Answers why it stopped, or 0. */

@@ -1,4 +1,4 @@
-/* The heap of libdagcbor_repo_ffi.a, over that of C. A program whose heap is another defines these three over it. */
+/* The heap of libdagcbor_memory_ffi.a, over that of C. A program whose heap is another defines these three over it. */
 #include <stdlib.h>
 
 /* Whether there is memory, and where; where there is none, a pointer to anything but NULL. */

@@ -1,9 +1,9 @@
-/* Reads repositories by libdagcbor_repo_ffi.a: of each file the length of its answer, and the line of one that is none.
+/* Reads repositories by libdagcbor_memory_ffi.a: of each file the length of its answer, and the line of one that is none.
 
      repo FILE..
 
    The status is 0 where all are repositories. */
-#include "dagcbor_repo.h"
+#include "dagcbor_memory.h"
 #include <stdio.h>
 #include <stdlib.h>
 
@@ -27,7 +27,7 @@ static uint8_t *bytes_of(const char *path, size_t *length) {
 static uint8_t *answer_of(const uint8_t *file, size_t length, int32_t *code, size_t *needed) {
     uint8_t none[1];
     *code = dagcbor_repository(file, length, none, 0, needed);
-    uint8_t *out = *code == DAGCBOR_REPOSITORY_NO_ROOM ? malloc(*needed) : NULL;
+    uint8_t *out = *code == DAGCBOR_NO_ROOM ? malloc(*needed) : NULL;
     if (out) *code = dagcbor_repository(file, length, out, *needed, needed);
     return out;
 }

@@ -45,7 +45,8 @@ const build = () => {
   const folders = [headers(), ...own].map((it) => `-I${it}`);
   const sources = ['addon.c', 'car.c'].map((it) => join(__dirname, it));
   const files = [...sources, library(), '-lm', '-o', out('dagcbor.node')];
-  execFileSync(cc, [...words, ...flags, ...hidden, ...more, ...folders, ...files], { stdio: 'inherit' });
+  const all = [...words, ...flags, ...hidden, ...more, ...folders, ...files];
+  execFileSync(cc, all, { stdio: 'inherit' });
 };
 
 mkdirSync(join(__dirname, 'out'), { recursive: true });

@@ -172,14 +172,9 @@ napi_value car_go(napi_env env, napi_callback_info info) {
 
 /* The names that are wanted and not held, packed. */
 static napi_value missing_of(napi_env env, const Names *names) {
-    Bytes packed = {NULL, 0, 0};
-    const uint8_t *from = names->packed.start;
-    bool has_memory = true;
-    for (size_t at = 0; has_memory && at < names->packed.used; at += 1 + (from[at] & NAME_LENGTH))
-        if (!(from[at] & NAME_HELD))
-            has_memory = bytes_add(&packed, from + at, 1 + (from[at] & NAME_LENGTH));
-    napi_value missing = has_memory ? copied(env, packed.start, packed.used) : no_memory(env);
-    bytes_free(&packed);
+    uint8_t *at;
+    napi_value missing = new_bytes(env, names_pack(names, false, NULL), &at);
+    if (missing) names_pack(names, false, at);
     return missing;
 }
 

@@ -1,6 +1,6 @@
 """Builds the two extensions, each with its proved library inside. Nothing is left in this folder.
 
-The libraries are those of the environment variables DAGCBOR_LIBRARY and DAGCBOR_REPO_LIBRARY; else
+The libraries are those of the environment variables DAGCBOR_LIBRARY and DAGCBOR_MEMORY_LIBRARY; else
 those that a release has in lib/ and include/; else those of this repository, which are proved and
 built first where they are not there and the toolchain's `rt` is."""
 
@@ -17,6 +17,7 @@ from setuptools.errors import ModuleError
 HERE = os.path.dirname(os.path.abspath(__file__))
 CALLERS = os.path.dirname(HERE)
 CRATES = os.path.join(os.path.dirname(CALLERS), "crates")
+CRATE_NAMES = ("dagcbor_ffi", "dagcbor_memory_ffi")
 
 
 def demand_wheel():
@@ -46,7 +47,7 @@ def extension(name, crate, variable, sources):
     return Extension(
         name,
         sources=sources,
-        include_dirs=["include", os.path.join(CRATES, crate, "include"), os.path.join(CALLERS, "c")],
+        include_dirs=["include", *(os.path.join(CRATES, it, "include") for it in CRATE_NAMES), os.path.join(CALLERS, "c")],
         extra_objects=[library(crate, variable)],
         extra_compile_args=["-std=c11", "-Wall", "-Wextra", "-fvisibility=hidden"],
         extra_link_args=["-Wl,--exclude-libs,ALL"],
@@ -63,17 +64,17 @@ native = extension(
     "DAGCBOR_LIBRARY",
     sources=["src/_native.c", "src/_car.c"],
 )
-native_repo = extension(
-    "dagcbor._native_repo",
-    "dagcbor_repo_ffi",
-    "DAGCBOR_REPO_LIBRARY",
-    sources=["src/_native_repo.c"],
+native_memory = extension(
+    "dagcbor._native_memory",
+    "dagcbor_memory_ffi",
+    "DAGCBOR_MEMORY_LIBRARY",
+    sources=["src/_native_memory.c"],
 )
 setup(
     packages=["dagcbor"],
     package_dir={"": "src"},
     package_data={"dagcbor": ["*.pyi", "py.typed"]},
-    ext_modules=[native, native_repo],
+    ext_modules=[native, native_memory],
     zip_safe=False,
     options={
         "bdist_wheel": {"py_limited_api": "cp311"},

@@ -76,7 +76,7 @@ static int refill(Source *source, Car *car) {
 static void *refuse_car(State *state, const Car *car, int32_t code) {
     if (code == CAR_NO_MEMORY) return no_memory();
     PyObject *error = PyObject_CallFunction(state->refused_car, "iK", (int)code,
-                                            (unsigned long long)(car->place + car->skip));
+                                            (unsigned long long)car->place + car->skip);
     if (error) PyErr_SetObject((PyObject *)Py_TYPE(error), error);
     Py_XDECREF(error);
     return NULL;
@@ -272,22 +272,9 @@ static PyObject *count_verdicts(State *state, const Check *check) {
     return counts;
 }
 
-/* The names that are held, or those that are not, packed. */
 static PyObject *pack_names(const Names *names, bool are_held) {
-    size_t total = 0;
-    const uint8_t *from = names->packed.start;
-    for (size_t at = 0; at < names->packed.used; at += 1 + (from[at] & NAME_LENGTH))
-        if (!!(from[at] & NAME_HELD) == are_held) total += 1 + (from[at] & NAME_LENGTH);
-    PyObject *packed = PyBytes_FromStringAndSize(NULL, (Py_ssize_t)total);
-    if (!packed) return NULL;
-    char *to = PyBytes_AsString(packed);
-    for (size_t at = 0; at < names->packed.used; at += 1 + (from[at] & NAME_LENGTH)) {
-        size_t length = from[at] & NAME_LENGTH;
-        if (!!(from[at] & NAME_HELD) != are_held) continue;
-        *to = (char)length;
-        memcpy(to + 1, from + at + 1, length);
-        to += 1 + length;
-    }
+    PyObject *packed = PyBytes_FromStringAndSize(NULL, (Py_ssize_t)names_pack(names, are_held, NULL));
+    if (packed) names_pack(names, are_held, (uint8_t *)PyBytes_AsString(packed));
     return packed;
 }
 
@@ -370,54 +357,17 @@ PyObject *check_car(PyObject *module, PyObject *given) {
     return found;
 }
 
-/* Writing */
-
-/* The block of the arguments, the binary form of its name, and the number of what is said of them; or
- * NULL. The lock is let go meanwhile. */
-static PyObject *judged(State *state, PyObject *args, PyObject **name, int32_t *code) {
-    PyObject *cid, *given;
-    if (!PyArg_ParseTuple(args, "O!O", state->cid, &cid, &given)) return NULL;
-    PyObject *block = to_bytes(given);
-    if (!block) return NULL;
-    *name = ((Cid *)cid)->bytes;
-    Py_BEGIN_ALLOW_THREADS
-    *code = dagcbor_verify(bytes_of(*name), length_of(*name), bytes_of(block), length_of(block));
-    Py_END_ALLOW_THREADS
-    return block;
-}
-
-/* The two as a section. */
-static PyObject *section_of(PyObject *name, PyObject *block) {
-    uint8_t front[10];
-    size_t length = length_of(name), size = length_of(block);
-    size_t count = put_length(front, length + size);
-    if (size > PY_SSIZE_T_MAX - sizeof front - length) return no_memory();
-    PyObject *section = PyBytes_FromStringAndSize(NULL, (Py_ssize_t)(count + length + size));
-    if (!section) return NULL;
-    uint8_t *out = (uint8_t *)PyBytes_AsString(section);
-    memcpy(out, front, count);
-    memcpy(out + count, bytes_of(name), length);
-    memcpy(out + count + length, bytes_of(block), size);
-    return section;
-}
-
-/* The section, where the block is that of the name, or cannot be said to be another's. */
-PyObject *car_section_of(PyObject *module, PyObject *args) {
-    State *state = PyModule_GetState(module);
-    int32_t code;
-    PyObject *name, *block = judged(state, args, &name, &code);
-    if (!block) return NULL;
-    PyObject *section = code == DAGCBOR_OTHER_BYTES ? refuse_code(state, code, Py_None)
-                                                    : section_of(name, block);
-    Py_DECREF(block);
-    return section;
-}
-
+/* What is said of a block under a name. The lock is let go meanwhile. */
 PyObject *verdict_on(PyObject *module, PyObject *args) {
     State *state = PyModule_GetState(module);
+    PyObject *cid, *given;
     int32_t code;
-    PyObject *name, *block = judged(state, args, &name, &code);
+    if (!PyArg_ParseTuple(args, "O!O", state->cid, &cid, &given)) return NULL;
+    PyObject *block = to_bytes(given), *name = ((Cid *)cid)->bytes;
     if (!block) return NULL;
+    Py_BEGIN_ALLOW_THREADS
+    code = dagcbor_verify(bytes_of(name), length_of(name), bytes_of(block), length_of(block));
+    Py_END_ALLOW_THREADS
     Py_DECREF(block);
     return verdict_of(state, code);
 }

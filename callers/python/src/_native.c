@@ -825,7 +825,6 @@ static PyMethodDef methods[] = {
      "read_car(source): the roots of a file of blocks (CAR), and its sections one at a time."},
     {"check_car", check_car, METH_O,
      "The roots, the verdicts' counts, what is missing, the names held, packed; and an error."},
-    {"car_section", car_section_of, METH_VARARGS, "car_section(cid, block): the two as a section."},
     {"verdict", verdict_on, METH_VARARGS, "verdict(cid, block): that on the two."},
     {"unpack", unpack_bytes, METH_O, "unpack(packed): the CIDs."},
     {NULL, NULL, 0, NULL},

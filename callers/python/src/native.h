@@ -56,7 +56,6 @@ extern PyType_Spec car_reader_spec;
 extern PyStructSequence_Desc section_desc;
 PyObject *read_car(PyObject *module, PyObject *source);
 PyObject *check_car(PyObject *module, PyObject *source);
-PyObject *car_section_of(PyObject *module, PyObject *args);
 PyObject *verdict_on(PyObject *module, PyObject *args);
 
 #endif

@@ -6,7 +6,7 @@ import io
 import sys
 
 from dagcbor import CID, DagCborError, _native, check, check_car, dumps, links, loads, loads_first
-from dagcbor import name, read_car, verify, write_car
+from dagcbor import from_json, name, read_car, to_json, verify, write_car
 from plain import same
 from conformance import cars
 from cars import header, section
@@ -27,6 +27,7 @@ BLOCK = dumps(VALUE)
 BLOCK_NAME = name(BLOCK)
 BAD = [VALUE, {"a": [2**64]}]
 TEXT = str(CIDS[0])
+JSON = to_json(BLOCK)
 FILE = header(cid(b"\xf6")) + section(BLOCK) + section(dumps(CIDS[:50]))
 MISSING = sorted({CIDS[0], *CIDS, CID(cid(b"\xf6"))})
 VERDICTS = {"ok list": 1, "ok map": 1}
@@ -72,7 +73,7 @@ CALLS = [
     (refused, FILE + b"\0", ["InvalidCid", len(FILE), VERDICTS]),
     (written, {name(BLOCK): BLOCK, name(dumps(CIDS[:50])): dumps(CIDS[:50])}, FILE),
     (dumps, VALUE, BLOCK), (loads, BLOCK, VALUE), (loads, bytearray(BLOCK), VALUE),
-    (links, BLOCK, CIDS), (check, BLOCK, "map"),
+    (links, BLOCK, CIDS), (check, BLOCK, "map"), (to_json, BLOCK, JSON), (from_json, JSON, BLOCK),
     (name, BLOCK, name(BLOCK)), (CID, TEXT, CIDS[0]), (CID, bytes(CIDS[0]), CIDS[0]),
     (str, CIDS[0], TEXT), (repr, CIDS[0], f"CID('{TEXT}')"),
     (dumps, BAD, "CastOverflow"), (loads, BLOCK[:-1], "Eof"), (check, b"\x18\x17", "NonMinimal"),

@@ -434,7 +434,7 @@ mod streams {
                 self.fill()?;
             }
             let is_end = self.place == self.end || self.is_plain;
-            Ok(!self.is_over && !(self.shown().is_empty() && is_end))
+            Ok(!self.is_over && (!self.shown().is_empty() || !is_end))
         }
     }
 

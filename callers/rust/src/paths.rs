@@ -89,6 +89,7 @@ impl<E: fmt::Display> fmt::Display for Unresolved<E> {
 #[cfg(feature = "std")]
 impl<E: std::error::Error> std::error::Error for Unresolved<E> {}
 
+#[cfg(feature = "alloc")]
 const IDENTITY: u64 = 0;
 
 /// The bytes of the item to which the path leads from the block of the root, over links; none where it
@@ -133,10 +134,13 @@ enum Path<'p> {
     Segments(&'p [&'p str]),
 }
 
+/// The kind and the bytes of the last item to which a front leads, and what is left, if any is.
+#[cfg(feature = "alloc")]
+type Followed<'b, 'p> = (Kind, &'b [u8], Option<Path<'p>>);
+
 #[cfg(feature = "alloc")]
 impl<'p> Path<'p> {
-    /// The kind and the bytes of the last item to which a front leads, and what is left, if any is.
-    fn follow<'b>(self, block: &'b [u8]) -> Result<(Kind, &'b [u8], Option<Self>), Refused> {
+    fn follow(self, block: &[u8]) -> Result<Followed<'_, 'p>, Refused> {
         Ok(match self {
             Path::Text(text) => {
                 let (kind, item, left) = follow(block, text)?;
@@ -172,13 +176,13 @@ fn resolve_path<B: AsRef<[u8]>, E>(
     }
 }
 
-/// The same in the block, where it is that of the name.
+/// Follows the path in the block, where it is that of the name.
 #[cfg(feature = "alloc")]
 fn follow_in<'b, 'p, E>(
     cid: &Cid,
     block: &'b [u8],
     path: Path<'p>,
-) -> Result<(Kind, &'b [u8], Option<Path<'p>>), Unresolved<E>> {
+) -> Result<Followed<'b, 'p>, Unresolved<E>> {
     if name(block) != *cid {
         match verify(cid, block) {
             Verdict::Ok(_) => {}

@@ -367,9 +367,9 @@ fn data_is_looked_up() {
         Ipld::from(vec![Ipld::Map(inner)]),
     )]));
     assert_eq!(data.get("a/0/b").and_then(Ipld::as_link), Some(&cid));
-    assert_eq!(data.get("/a//0/"), data.get("a/0"));
+    assert_eq!(data.get("//a//0/"), data.get("a/0")); // empty segments say nothing
     assert_eq!(data.get(""), Some(&data));
-    for path in ["b", "a/1", "a/-1", "a/x", "a/0/b/c"] {
+    for path in ["b", "a/1", "a/-1", "a/x", "a/0/b/c", "a/00"] {
         assert_eq!(data.get(path), None);
     }
     assert_eq!(from_slice::<Ipld>(&to_vec(&data).unwrap()).unwrap(), data);

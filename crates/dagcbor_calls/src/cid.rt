@@ -25,16 +25,17 @@ fn text_fault_code(fault: &CidTextError) -> i32
     }
 }
 
-/// Puts the bytes at the front of `out`, where there is room for them: 0, and else -21.
-pub fn put_front(bytes: &[u8], out: &mut [u8], needed: &mut usize) -> i32
-    ensures { IsPut bytes.now out.old out.new needed.new result }
+/// Puts the bytes at the front of `out`, where there is room for them: the number of what is done, and
+/// else -21.
+pub fn put_front(done: i32, bytes: &[u8], out: &mut [u8], needed: &mut usize) -> i32
+    ensures { IsPut done bytes.now out.old out.new needed.new result }
 {
     *needed = bytes.len();
     if out.len() < bytes.len() {
         return NO_ROOM;
     }
     out[..bytes.len()].copy_from_slice(bytes);
-    0
+    done
 }
 
 /// Puts the text of the CID that the bytes are.
@@ -43,7 +44,7 @@ pub fn put_cid_text(bytes: &[u8], out: &mut [u8], needed: &mut usize) -> i32
 {
     *needed = 0;
     match Cid::try_from(bytes) {
-        Ok(cid) => put_front(&cid_text(&cid), out, needed),
+        Ok(cid) => put_front(0, &cid_text(&cid), out, needed),
         Err(_) => NO_CID,
     }
 }
@@ -57,7 +58,7 @@ pub fn put_cid_of_text(text: &[u8], out: &mut [u8], needed: &mut usize) -> i32
         Ok(cid) => {
             let mut form = ArrayVec::new();
             cid.write_bytes(&mut form);
-            put_front(&form, out, needed)
+            put_front(0, &form, out, needed)
         }
         Err(fault) => text_fault_code(&fault),
     }

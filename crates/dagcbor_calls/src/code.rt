@@ -23,7 +23,8 @@ pub fn code_of<E>(answer: &Result<Kind, DecodeError<E>>) -> i32
     }
 }
 
-pub(crate) fn kind_code(kind: Kind) -> i32
+/// The number of a kind.
+pub fn kind_code(kind: Kind) -> i32
     ensures { result ≡ kind_code kind }
 {
     match kind {
@@ -38,7 +39,8 @@ pub(crate) fn kind_code(kind: Kind) -> i32
     }
 }
 
-pub(crate) fn refusal_code<E>(refusal: &DecodeError<E>) -> i32
+/// The number of a refusal.
+pub fn refusal_code<E>(refusal: &DecodeError<E>) -> i32
     ensures { result ≡ refusal_code refusal.now }
 {
     match refusal {

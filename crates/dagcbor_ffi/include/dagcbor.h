@@ -217,6 +217,23 @@ int32_t dagcbor_cid_text(const uint8_t *bytes, size_t length, uint8_t *out, size
    `out` stays as it was. After another refusal *needed is 0 and `out` as it was. */
 int32_t dagcbor_cid_from_text(const uint8_t *text, size_t length, uint8_t *out, size_t room, size_t *needed);
 
+/* Of calls that take memory, in dagcbor_memory.h. */
+enum { DAGCBOR_NO_MEMORY = -42 };
+
+/* Why a text is no data in DAG-JSON, of dagcbor_from_json there. */
+enum dagcbor_json_fault {
+    DAGCBOR_JSON_NO_TEXT = -43,       /* the bytes are not UTF-8 */
+    DAGCBOR_JSON_NO_JSON = -44,       /* it is no JSON, or half of a surrogate pair is written in it */
+    DAGCBOR_JSON_TRAILING_DATA = -45, /* more stands behind the value */
+    DAGCBOR_JSON_TOO_DEEP = -46,      /* more than 127 lists and maps around a part, or 128 around one that is empty */
+    DAGCBOR_JSON_FLOAT = -47,         /* a number with a fraction or an exponent */
+    DAGCBOR_JSON_OUT_OF_RANGE = -48,  /* an integer below -2^64, or above 2^64 - 1 */
+    DAGCBOR_JSON_REPEATED_KEY = -49,  /* a map has a key twice */
+    DAGCBOR_JSON_RESERVED_KEY = -50,  /* a map has the key / and is neither a link nor bytes; of dagcbor_to_json too */
+    DAGCBOR_JSON_NO_CID = -51,        /* the text of a link is that of no CID */
+    DAGCBOR_JSON_NO_BASE64 = -52      /* the text of bytes is not base64 without padding */
+};
+
 /* Pointers that each call takes, also where there are no bytes, or there is no room, and the pointer is NULL. So
    dagcbor_links(bytes, length, dagcbor_into(NULL, 0), 0, &needed) asks how long the links are. */
 static inline const uint8_t *dagcbor_from(const uint8_t *bytes, size_t length) {
@@ -257,7 +274,8 @@ static inline const char *dagcbor_name_of_code(int32_t code) {
     case DAGCBOR_UNSUPPORTED: return "Unsupported";
     case DAGCBOR_REQUIRE_UTF8: return "RequireUtf8";
     case DAGCBOR_DEPTH_OVERFLOW: return "DepthOverflow";
-    case DAGCBOR_TRAILING_DATA: return "TrailingData";
+    case DAGCBOR_TRAILING_DATA:
+    case DAGCBOR_JSON_TRAILING_DATA: return "TrailingData";
     case DAGCBOR_INDEFINITE_SIZE: return "IndefiniteSize";
     case DAGCBOR_NON_MINIMAL: return "NonMinimal";
     case DAGCBOR_UNORDERED_KEY: return "UnorderedKey";
@@ -277,6 +295,16 @@ static inline const char *dagcbor_name_of_code(int32_t code) {
     case DAGCBOR_LEADING_ZERO: return "LeadingZero";
     case DAGCBOR_INVALID_VERSION: return "InvalidVersion";
     case DAGCBOR_INVALID_OFFSET: return "InvalidOffset";
+    case DAGCBOR_NO_MEMORY: return "NoMemory";
+    case DAGCBOR_JSON_NO_TEXT: return "NoText";
+    case DAGCBOR_JSON_NO_JSON: return "NoJson";
+    case DAGCBOR_JSON_TOO_DEEP: return "TooDeep";
+    case DAGCBOR_JSON_FLOAT: return "Float";
+    case DAGCBOR_JSON_OUT_OF_RANGE: return "OutOfRange";
+    case DAGCBOR_JSON_REPEATED_KEY: return "RepeatedKey";
+    case DAGCBOR_JSON_RESERVED_KEY: return "ReservedKey";
+    case DAGCBOR_JSON_NO_CID: return "NoCid";
+    case DAGCBOR_JSON_NO_BASE64: return "NoBase64";
     default: return "none";
     }
 }

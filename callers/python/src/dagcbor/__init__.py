@@ -8,6 +8,8 @@
     links(block)         the links of the first item
     name(block)          the block's own CID
     verify(cid, block)   whether the bytes are those that the CID names
+    to_json(block)       the data of a block as DAG-JSON
+    from_json(text)      the one block of data in DAG-JSON
 
     resolve(get, cid, path)  the data to which a path leads from a block on, over links
 
@@ -21,12 +23,13 @@
     read_repo(source)    a repository of signed records (AT Protocol): its commit, and its records
 
 Whether bytes are a block or a file of blocks is the library's judgement, which is proved. So
-is whether a file is a whole repository. The rest, which makes objects from what the library tells
+is whether a file is a whole repository, and DAG-JSON both ways. The rest, which makes objects from what the library tells
 and tells it what the objects are, is two small extensions in C, and not proved."""
 
 from ._car import CarCheck, check_car, verify, write_car
 from ._errors import CarError, DagCborError
 from ._items import iter_loads
+from ._json import from_json, to_json
 from ._native import CID, CarReader, Section, check, dumps, links, loads, loads_first, name
 from ._native import read_car
 from ._paths import MissingBlock, find, resolve
@@ -45,6 +48,7 @@ __all__ = [
     "check_car",
     "dumps",
     "find",
+    "from_json",
     "iter_loads",
     "links",
     "loads",
@@ -53,6 +57,7 @@ __all__ = [
     "read_car",
     "read_repo",
     "resolve",
+    "to_json",
     "verify",
     "write_car",
 ]

@@ -4,6 +4,7 @@ from collections.abc import Mapping
 from io import RawIOBase
 
 from . import _native
+from ._buffers import bytes_of
 from ._errors import refused
 
 
@@ -69,7 +70,11 @@ def write_car(file, roots, blocks):
     header = _native.dumps({"roots": roots, "version": 1})
     _put(file, _varint(len(header)) + header)
     for cid, block in blocks.items() if isinstance(blocks, Mapping) else blocks:
-        _put(file, _native.car_section(cid, block))
+        block = bytes_of(block)
+        if _native.verdict(cid, block) == "other bytes":
+            raise refused(-22)
+        _put(file, _varint(len(bytes(cid)) + len(block)) + bytes(cid))
+        _put(file, block)
 
 
 def verify(cid, block):

@@ -1,4 +1,7 @@
-"""Why bytes are no block or no file of blocks, why data has none, why a text is that of no CID."""
+"""Why bytes are no block or no file of blocks, why data has none, why a text is that of no CID, or no
+data."""
+
+RESERVED_KEY = -50
 
 KINDS = ("null", "bool", "integer", "string", "bytes", "list", "map", "link")
 
@@ -27,6 +30,16 @@ REASONS = {
     -32: ("TrailingBits", "bits that are not zero stand behind the last byte"),
     -33: ("LeadingZero", "the text begins with a zero byte, as no CID does"),
     -34: ("InvalidVersion", "version 0 has no prefix, and version 1 has one"),
+    -43: ("NoText", "the text is not UTF-8"),
+    -44: ("NoJson", "the text is not JSON"),
+    -45: ("TrailingData", "more stands behind the value"),
+    -46: ("TooDeep", "lists and maps are in each other too deep"),
+    -47: ("Float", "a number has a fraction or an exponent"),
+    -48: ("OutOfRange", "an integer is not from -2^64 to 2^64 - 1"),
+    -49: ("RepeatedKey", "a map has a key twice"),
+    RESERVED_KEY: ("ReservedKey", "a map with the key / is neither a link nor bytes"),
+    -51: ("NoCid", "the text of a link is that of no CID"),
+    -52: ("NoBase64", "the text of bytes is not base64 without padding"),
 }
 
 # What is said of a section, in the words of `dagcar check`.

@@ -4,6 +4,7 @@ from __future__ import annotations
 
 from typing import TYPE_CHECKING
 
+from ._buffers import bytes_of
 from ._native import loads_first
 
 if TYPE_CHECKING:
@@ -15,7 +16,7 @@ if TYPE_CHECKING:
 
 def iter_loads(items: Buffer) -> Iterator[Any]:
     """The data of each item of the bytes, in which they stand one behind the other."""
-    items, place = items if isinstance(items, bytes) else bytes(memoryview(items)), 0
+    items, place = bytes_of(items), 0
     while place < len(items):
         value, place = loads_first(items, place)
         yield value

@@ -4,11 +4,12 @@ from __future__ import annotations
 
 from dataclasses import dataclass
 from mmap import mmap
-from typing import TYPE_CHECKING
+from typing import TYPE_CHECKING, Any, cast
 
+from ._buffers import bytes_of
 from ._errors import DagCborError
 from ._native import CID, loads
-from ._native_repo import repository
+from ._native_memory import repository
 
 if TYPE_CHECKING:
     from ._native import Buffer, Readable
@@ -40,22 +41,20 @@ def read_repo(source: Buffer | mmap | Readable) -> Repository:
     The commit and the whole tree are verified; records need not be in the file. Of anything else a
     DagCborError tells why, in the words of `dagcar records`. The file is in memory meanwhile.
     """
-    is_whole, answer = repository(_all_of(source))
-    if not is_whole:
+    code, answer, _ = repository(_all_of(source))
+    if code != 0:
         raise DagCborError(answer.decode().rstrip("\n"))
     told = loads(answer)
     keys = ((key.decode(errors="surrogateescape"), cid) for key, cid in told.pop("records"))
     return Repository(**told, records=dict(keys))
 
 
-def _all_of(source: Buffer | mmap | Readable) -> bytes:
+def _all_of(source: Any) -> bytes:
     """All that it has: of a file, from where it stands."""
-    if isinstance(source, bytes):
-        return source
     if isinstance(source, mmap) or not hasattr(source, "read"):
-        return bytes(memoryview(source))
+        return bytes_of(cast("Buffer", source))
     pieces = []
-    while piece := source.read(PIECE):
+    while piece := cast("Readable", source).read(PIECE):
         pieces.append(piece)
     if piece is None:
         raise BlockingIOError("read() has no bytes yet")

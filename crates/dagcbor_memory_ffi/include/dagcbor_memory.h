@@ -1,0 +1,66 @@
+/* What DAG-CBOR for C has that takes memory: blocks as DAG-JSON, and back; and repositories of signed records (AT
+   Protocol): what one holds, verified, or why it is none.
+
+   Link with libdagcbor_memory_ffi.a, and with functions of the heap, as callers/c/heap.c has them over malloc,
+   realloc and free. It needs dagcbor.h beside it, and not the other library. A call holds what it makes of the bytes,
+   and the answer, beside them; of a repository the file's blocks and its records.
+
+   What a caller owes, which nothing checks:
+   - The bytes are not NULL, also where `length` is 0 (dagcbor_from); `length` bytes stand there, and nobody writes them
+     during the call, no other thread either; `length` is below 2^63.
+   - `out` likewise, also where `room` is 0 (dagcbor_into), for `room` bytes that nobody else reads or writes during the
+     call; `needed` and `place` for one number each. None of these overlaps another.
+   - The functions of the heap are of one allocator. They align memory as malloc does, to each power of two up to 16
+     that divides its size; they say where there is none; and several threads may call them at once, where several
+     make the call.
+   - No signal handler calls it, nor the child that a process with threads forked.
+   - The thread has 1 MB of stack left; the CPU is an x86-64-v2.
+   Calls on different threads need no lock: nothing is shared between them but the heap.
+
+   *needed becomes the length of the answer. Where that is at most `room` it is put at the front of `out`; else `out` stays
+   as it was, and DAGCBOR_NO_ROOM is answered: with *needed bytes of room the same call answers. Where memory is wanted
+   DAGCBOR_NO_MEMORY is answered; then, and after any other refusal, *needed is 0, and `out` as it was. */
+#ifndef DAGCBOR_MEMORY_H
+#define DAGCBOR_MEMORY_H
+
+#include "dagcbor.h"
+
+#ifdef __cplusplus
+extern "C" {
+#endif
+
+/* The data of a block as DAG-JSON, in one line without spaces or a line feed: UTF-8, keys in the order of their bytes,
+   bytes as {"/":{"bytes":".."}} in base64 without padding, links as {"/":".."}. The kind, from 0, exactly where the bytes
+   are a block in which no map has the key /. Else, below 0, DAGCBOR_JSON_RESERVED_KEY, since such a map would look like a
+   link or like bytes; or the refusal of dagcbor_check, and then no memory was taken. */
+int32_t dagcbor_to_json(const uint8_t *block, size_t length, uint8_t *out, size_t room, size_t *needed);
+
+/* The block of the data that a text is, in DAG-JSON: with spaces, escapes and keys in any order, as JSON has them; the text
+   of a CID may be any that dagcbor_cid_from_text reads. The kind, from 0, exactly where it is one; what is put is a block,
+   and *place becomes `length`. Else, below 0, the fault that stands in the text: the first from the left, but what is no
+   JSON comes first. *place becomes where it is, from 0 to `length`: of DAGCBOR_JSON_NO_TEXT the first byte that is no UTF-8;
+   of the others what it tells is only tested. Where memory is wanted *place is 0. */
+int32_t dagcbor_from_json(const uint8_t *text, size_t length, uint8_t *out, size_t room, size_t *needed, size_t *place);
+
+enum dagcbor_repository_answer {
+    DAGCBOR_REPOSITORY = 0,   /* `out` has a block */
+    DAGCBOR_NO_REPOSITORY = 1 /* `out` has a line that tells why there is none */
+};
+
+/* Of a file of blocks (CAR, version 1 or 2) with one root, whose commit and tree are whole, and each block of them the one
+   of its name: a block of DAG-CBOR, the map of
+     "did", "rev"  texts
+     "sig"         bytes: the signature
+     "data"        a link: the root of the tree
+     "prev"        a link, or null
+     "signed"      bytes: what the signature is of, the block of the commit without it
+     "records"     a list of lists of two, in the order of keys: a record's key, as bytes, and a link to it
+   The signature is not checked; records need not be in the file. Else one line, in ASCII, with a line feed at its end:
+   what `dagcar records` tells (docs/REPOSITORIES.md). */
+int32_t dagcbor_repository(const uint8_t *file, size_t length, uint8_t *out, size_t room, size_t *needed);
+
+#ifdef __cplusplus
+}
+#endif
+
+#endif

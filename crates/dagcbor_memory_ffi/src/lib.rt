@@ -1,0 +1,64 @@
+//! What DAG-CBOR for callers in other languages has that takes memory, by the C ABI: DAG-JSON, and
+//! repositories of signed records (AT Protocol).
+//!
+//! A slice crosses as a pointer and a length, and nothing is passed for a `Global`. Unlike
+//! `dagcbor_ffi` this library takes memory, by functions of the program that links it.
+//! `include/dagcbor_memory.h` has what C declares, and what a caller owes.
+#![tactic(auto)]
+
+ghost use Rattle.memory_calls.specs.Answers.{IsRepositoryAnswer};
+ghost use Rattle.memory_calls.specs.JsonAnswers.{IsToJsonAnswer, IsFromJsonAnswer};
+
+use memory_calls::{put_block, put_json, put_repo};
+use std::alloc::Global;
+
+/// The number of the kind of a block, from 0, whose data in DAG-JSON is put at the front of `out`
+/// where there is room for it, and else -21; `needed` becomes its length. Below 0 the number of the
+/// refusal, or -50 where a map has the key `/`. -42 is answered where memory is wanted. Then `needed`
+/// becomes 0; `out` stays.
+#[unsafe(no_mangle)]
+pub extern "C" fn dagcbor_to_json(
+    alloc: Global,
+    block: &[u8],
+    out: &mut [u8],
+    needed: &mut usize,
+) -> i32
+    ensures { IsToJsonAnswer block.now out.old out.new needed.new result }
+{
+    put_json(alloc, block, out, needed)
+}
+
+/// The number of the kind, from 0, of the block of the data that the text is, in DAG-JSON; it is put
+/// at the front of `out` where there is room for it, and else -21 is answered; `needed` becomes its
+/// length, and `place` that of the text. Below 0 the number of the fault in the text, and `place`
+/// becomes where it is. -42 is answered where memory is wanted, and `place` becomes 0. Then `needed`
+/// becomes 0; `out` stays.
+#[unsafe(no_mangle)]
+pub extern "C" fn dagcbor_from_json(
+    alloc: Global,
+    text: &[u8],
+    out: &mut [u8],
+    needed: &mut usize,
+    place: &mut usize,
+) -> i32
+    ensures { IsFromJsonAnswer text.now out.old out.new needed.new place.new result }
+{
+    put_block(alloc, text, out, needed, place)
+}
+
+/// Of a file of blocks with one root, a block that tells of the repository whose commit the root names,
+/// where its commit and its tree are whole: 0 is answered; else a line that tells why there is none, and
+/// 1. `needed` becomes its length; where `out` has room for it it is put at its front, and else `out`
+/// stays, and -21 is answered. -42 is answered where memory is wanted; then `needed` becomes 0, and `out`
+/// stays. `memory_calls::repo_answer` says what the block holds.
+#[unsafe(no_mangle)]
+pub extern "C" fn dagcbor_repository(
+    alloc: Global,
+    file: &[u8],
+    out: &mut [u8],
+    needed: &mut usize,
+) -> i32
+    ensures { IsRepositoryAnswer file.now out.old out.new needed.new result }
+{
+    put_repo(alloc, file, out, needed)
+}

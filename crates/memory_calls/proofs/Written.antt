@@ -1,0 +1,42 @@
+-- The tree that is written of a repository.
+use Rattle.std.proofs.Common.{◌≡◌, ℕ, List, [], ◌∷◌, map, codes, string_bytes, refl, ap, ◌∙◌, subst, Option, Some, option_map}
+use Rattle.ipld_tree.specs.Cid.{CidParts, cid_bytes}
+use Rattle.ipld_tree.specs.Tree.{Tree, bytes, link, list, text, items_of, all_some, list_tree, entries_tree}
+use Rattle.ipld_tree.specs.declared.bytes.ByteSlice.{ByteSlice}
+use Rattle.dagcbor_write.specs.Trees.{field, option_tree}
+use Rattle.dagcbor_write.specs.Answers.{AreSpellingOf}
+use Rattle.atproto_mst.specs.Keys.{Entry}
+use Rattle.atproto_mst.specs.Commits.{unsigned_tree}
+use Rattle.atproto_mst.specs.Entries.{entries}
+use Rattle.atproto_mst.specs.declared.commit.Commit.{Commit}
+use Rattle.atproto_mst.specs.declared.entries.MstEntry.{MstEntry}
+use Rattle.memory_calls.specs.Blocks.{record_tree, IsBlockOf, entry_of_row}
+
+-- ---- records
+
+abbrev pub row_written : ByteSlice × CidParts → Option Tree
+row_written r = list_tree (Some (bytes r.0.0.now) ∷ Some (link (cid_bytes r.1)) ∷ [])
+
+each_written : (rs : List (ByteSlice × CidParts)) → all_some (map row_written rs) ≡ Some (map record_tree (map entry_of_row rs))
+each_written [] = refl
+each_written (r ∷ rs) = ap (λ o. option_map (λ more. record_tree (entry_of_row r) ∷ more) o) (each_written rs)
+
+rows_written : (rs : List (ByteSlice × CidParts)) (es : List Entry) → map entry_of_row rs ≡ es → list_tree (map row_written rs) ≡ Some (list (items_of (map record_tree es)))
+rows_written rs es is = ap (λ o. option_map (λ found. list (items_of found)) o) (each_written rs)
+    ∙ ap (λ es. Some (list (items_of (map record_tree es)))) is
+
+-- ---- the map
+
+abbrev pub map_written : Commit → List ℕ → Option Tree → Option Tree
+map_written c signed records = entries_tree (
+    field (codes "did") (Some (text (string_bytes c.did)))
+    ∷ field (codes "rev") (Some (text (string_bytes c.rev)))
+    ∷ field (codes "sig") (Some (bytes c.sig.0.items))
+    ∷ field (codes "data") (Some (link (cid_bytes c.data)))
+    ∷ field (codes "prev") (option_tree (λ p. Some (link (cid_bytes p))) c.prev)
+    ∷ field (codes "signed") (Some (bytes signed))
+    ∷ field (codes "records") records ∷ [])
+
+pub block_of : (c : Commit) (records : List MstEntry) (signed : List ℕ) (rows : List (ByteSlice × CidParts)) (block : List ℕ) → AreSpellingOf (unsigned_tree c) signed → map entry_of_row rows ≡ entries records → AreSpellingOf (map_written c signed (list_tree (map row_written rows))) block → IsBlockOf c records block
+block_of c records signed rows block unsigned are h =
+    (signed, unsigned, subst (λ o. AreSpellingOf (map_written c signed o) block) (rows_written rows (entries records) are) h)

@@ -1,0 +1,57 @@
+-- What is answered of blocks and DAG-JSON, one made of the other.
+use Rattle.std.specs.Prelude.{◌≡◌, ◌≢◌, ◌⊎◌, ℕ, ◌≤◌, ℤ, pos, negsuc, true, false, List, length, Ok, Err, IsUtf8}
+use Rattle.std.specs.Str.Lossy.{utf8_valid_len}
+use Rattle.std.specs.declared.convert.Infallible.{Infallible}
+use Rattle.dagcbor_heads.specs.declared.error.DecodeError.{DecodeError}
+use Rattle.dagcbor_heads.specs.declared.error.DecodeError.TheVariants.{OutOfMemory}
+use Rattle.ipld_tree.specs.Tree.{Tree}
+use Rattle.dagcbor_items.specs.TreeKinds.{kind_of}
+use Rattle.dagcbor_items.specs.Slices.{IsBlock, SliceRefused}
+use Rattle.dag_json.specs.DagJson.{dag_json, has_reserved_key}
+use Rattle.dag_json.specs.Reading.{ReadsText}
+use Rattle.dag_json.specs.declared.error.DagJsonError.{DagJsonError}
+use Rattle.dag_json.specs.declared.error.DagJsonError.TheVariants as texts
+use Rattle.dagcbor_calls.specs.Codes.{kind_code, refusal_code}
+use Rattle.dagcbor_calls.specs.CidTexts.{IsPut, PutsNone}
+use Rattle.memory_calls.specs.Answers.{WantsMemory}
+
+-- the number of why a text is no data
+abbrev pub json_code : DagJsonError → ℤ
+json_code texts.NoText = negsuc 42
+json_code texts.NoJson = negsuc 43
+json_code texts.TrailingData = negsuc 44
+json_code texts.TooDeep = negsuc 45
+json_code texts.Float = negsuc 46
+json_code texts.OutOfRange = negsuc 47
+json_code texts.RepeatedKey = negsuc 48
+json_code texts.ReservedKey = negsuc 49
+json_code (texts.NoCid e) = negsuc 50
+json_code texts.NoBase64 = negsuc 51
+json_code texts.OutOfMemory = negsuc 41
+
+-- the text of a block's data is put; or a map in it has the key `/`, so that no text is read as it; or
+-- memory was wanted
+abbrev pub IsDataAnswer : Tree → List ℕ → List ℕ → ℕ → ℤ → Type 0
+IsDataAnswer t old new needed code =
+    ((has_reserved_key t ≡ false) × IsPut (kind_code (kind_of t)) (dag_json t) old new needed code)
+    ⊎ (((has_reserved_key t ≡ true) × (code ≡ json_code texts.ReservedKey) × PutsNone old new needed)
+    ⊎ WantsMemory old new needed code)
+
+-- that of the block; or the number of a refusal whose cause stands, never want of memory
+abbrev pub IsToJsonAnswer : List ℕ → List ℕ → List ℕ → ℕ → ℤ → Type 0
+IsToJsonAnswer b old new needed code =
+    ((t : Tree) × IsBlock b t × IsDataAnswer t old new needed code)
+    ⊎ ((e : DecodeError Infallible) × SliceRefused e b × (e ≢ OutOfMemory)
+    × (code ≡ refusal_code e) × PutsNone old new needed)
+
+-- the block of the data that the text is is put, and the place is the text's end; or it is none, and
+-- the number of why it is none is answered, and a place; or memory was wanted. Which byte is the
+-- place is said of what is no UTF-8 alone: the first that is none.
+abbrev pub IsFromJsonAnswer : List ℕ → List ℕ → List ℕ → ℕ → ℕ → ℤ → Type 0
+IsFromJsonAnswer text old new needed place code =
+    ((t : Tree) × (block : List ℕ) × ReadsText text (Ok t) × IsBlock block t
+    × IsPut (kind_code (kind_of t)) block old new needed code × (place ≡ length text))
+    ⊎ (((e : DagJsonError) × ReadsText text (Err e) × (code ≡ json_code e)
+    × PutsNone old new needed × (place ≤ length text)
+    × (¬ IsUtf8 text → place ≡ utf8_valid_len text))
+    ⊎ (IsUtf8 text × WantsMemory old new needed code × (place ≡ 0)))

@@ -1,0 +1,134 @@
+//! DAG-JSON of a block, and the block of a text, put into memory of the caller.
+
+ghost use Rattle.std.specs.Prelude.{◌≡◌, IfOk};
+ghost use Rattle.ipld_tree.specs.Ipld.{tree_of};
+ghost use Rattle.ipld_tree.specs.Spelling.{IsSpelling};
+ghost use Rattle.dagcbor_items.specs.TreeKinds.{kind_of};
+ghost use Rattle.dagcbor_calls.specs.Codes.{kind_code};
+ghost use Rattle.dagcbor_calls.specs.CidTexts.{IsPut};
+ghost use Rattle.memory_calls.specs.JsonAnswers.{json_code, IsDataAnswer, IsToJsonAnswer};
+ghost use Rattle.memory_calls.specs.JsonAnswers.{IsFromJsonAnswer};
+
+use crate::call::NO_MEMORY;
+use dag_json::{DagJsonError, dag_json, data_from_json, has_reserved_key};
+use dagcbor_calls::{kind_code, put_front, refusal_code};
+use dagcbor_items::{Kind, any_from_slice, check_slice};
+use dagcbor_write::to_vec;
+use ipld_tree::Ipld;
+use std::alloc::{AllocError, Global};
+
+/// What is answered of a map that has the key `/`, and is neither a link nor bytes.
+const RESERVED_KEY: i32 = -50;
+
+/// The number of why a text is no data.
+fn json_code(cause: &DagJsonError) -> i32
+    ensures { result ≡ json_code cause.now }
+{
+    match cause {
+        DagJsonError::NoText => -43,
+        DagJsonError::NoJson => -44,
+        DagJsonError::TrailingData => -45,
+        DagJsonError::TooDeep => -46,
+        DagJsonError::Float => -47,
+        DagJsonError::OutOfRange => -48,
+        DagJsonError::RepeatedKey => -49,
+        DagJsonError::ReservedKey => RESERVED_KEY,
+        DagJsonError::NoCid(_) => -51,
+        DagJsonError::NoBase64 => -52,
+        DagJsonError::OutOfMemory => NO_MEMORY,
+    }
+}
+
+/// The kind of the data.
+fn kind_of(value: &Ipld) -> Kind
+    ensures { result ≡ kind_of (tree_of value.now) }
+{
+    match value {
+        Ipld::Null => Kind::Null,
+        Ipld::Bool(_) => Kind::Bool,
+        Ipld::Integer(_) => Kind::Integer,
+        Ipld::String(_) => Kind::String,
+        Ipld::Bytes(_) => Kind::Bytes,
+        Ipld::List(_) => Kind::List,
+        Ipld::Map(_) => Kind::Map,
+        Ipld::Link(_) => Kind::Link,
+    }
+}
+
+/// Puts the bytes that are made of the data: the number of its kind.
+fn put_made(value: &Ipld, made: &[u8], out: &mut [u8], needed: &mut usize) -> i32
+    ensures { IsPut (kind_code (kind_of (tree_of value.now))) made.now out.old out.new needed.new
+        result }
+{
+    put_front(kind_code(kind_of(value)), made, out, needed)
+}
+
+/// Puts the text of a block's data. Where a map has the key `/`, no text is read as the data.
+fn put_data(alloc: Global, value: &Ipld, out: &mut [u8], needed: &mut usize) -> i32
+    ensures { IsDataAnswer (tree_of value.now) out.old out.new needed.new result }
+{
+    *needed = 0;
+    if has_reserved_key(value) {
+        return RESERVED_KEY;
+    }
+    match dag_json(alloc, value) {
+        Ok(text) => put_made(value, &text, out, needed),
+        Err(_) => NO_MEMORY,
+    }
+}
+
+/// Puts the DAG-JSON of the block. The bytes are judged first: for what is no block no memory is
+/// taken.
+pub fn put_json(alloc: Global, block: &[u8], out: &mut [u8], needed: &mut usize) -> i32
+    ensures { IsToJsonAnswer block.now out.old out.new needed.new result }
+{
+    *needed = 0;
+    if let Err(refusal) = check_slice(block) {
+        return refusal_code(&refusal);
+    }
+    match any_from_slice(alloc, block) {
+        Ok(value) => put_data(alloc, &value, out, needed),
+        Err(_) => NO_MEMORY,
+    }
+}
+
+/// The block of the data. What a text spells has one, so that it lacks nothing but memory.
+fn block_of(alloc: Global, value: &Ipld) -> Result<Vec<u8>, AllocError>
+    ensures { IfOk result (λ v. IsSpelling v.items (tree_of value.now)) }
+{
+    match to_vec(alloc, value) {
+        Ok(block) => Ok(block),
+        Err(_) => Err(AllocError),
+    }
+}
+
+/// Puts the block of the data that the text is, in DAG-JSON.
+#[tactic(auto, using(crate::proofs::JsonReading::block_read))]
+pub fn put_block(
+    alloc: Global,
+    text: &[u8],
+    out: &mut [u8],
+    needed: &mut usize,
+    place: &mut usize,
+) -> i32
+    ensures { IsFromJsonAnswer text.now out.old out.new needed.new place.new result }
+{
+    *needed = 0;
+    *place = 0;
+    match data_from_json(alloc, text) {
+        Ok(value) => match block_of(alloc, &value) {
+            Ok(block) => {
+                *place = text.len();
+                put_made(&value, &block, out, needed)
+            }
+            Err(_) => NO_MEMORY,
+        },
+        Err(refusal) => match refusal.cause {
+            DagJsonError::OutOfMemory => NO_MEMORY,
+            _ => {
+                *place = refusal.offset;
+                json_code(&refusal.cause)
+            }
+        },
+    }
+}

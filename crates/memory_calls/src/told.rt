@@ -1,0 +1,81 @@
+//! A repository as a block.
+
+ghost use Rattle.std.specs.Prelude.{◌≡◌, [], ◌∷◌, map, Some, codes, true, string_bytes, IfOk};
+ghost use Rattle.ipld_tree.specs.Cid.{cid_bytes};
+ghost use Rattle.ipld_tree.specs.Tree.{bytes, link, text, entries_tree};
+ghost use Rattle.dagcbor_write.specs.Trees.{field};
+ghost use Rattle.atproto_mst.specs.Entries.{entries};
+ghost use Rattle.memory_calls.specs.Blocks.{IsBlockOf, entry_of_row};
+
+use atproto_mst::{Commit, MstEntry, Repo, spell_unsigned};
+use dagcbor_heads::{Write, WriteResult};
+use dagcbor_write::{Field, Serialize, Serializer, to_vec, write_struct};
+use ipld_tree::{ByteSlice, Cid};
+use std::alloc::{AllocError, Global};
+
+/// A key, and the CID of its record.
+type Row<'a> = (ByteSlice<'a>, Cid);
+
+/// What is told of a repository.
+#[derive(Clone, Copy)]
+struct Told<'a> {
+    commit: &'a Commit,
+    /// What the signature is of.
+    signed: &'a [u8],
+    rows: &'a [Row<'a>],
+}
+
+impl<'a> Serialize for Told<'a> {
+    ghost tree = { λ v. entries_tree (
+        field (codes "did") (Some (text (string_bytes v.commit.now.did))) ∷
+        field (codes "rev") (Some (text (string_bytes v.commit.now.rev))) ∷
+        field (codes "sig") (Some (bytes v.commit.now.sig.0.items)) ∷
+        field (codes "data") (Some (link (cid_bytes v.commit.now.data))) ∷
+        field (codes "prev") (⟦<Option<Cid> as Serialize>⟧.tree v.commit.now.prev) ∷
+        field (codes "signed") (Some (bytes v.signed.now)) ∷
+        field (codes "records") (⟦<&'a [Row<'a>] as Serialize>⟧.tree v.rows) ∷ []) };
+
+    ghost takes_memory = { true };
+
+    fn serialize<W: Write>(&self, alloc: Global, ser: &mut Serializer<W>) -> WriteResult<(), W> {
+        let row = (Field("records", &self.rows), ());
+        let signed = ByteSlice(self.signed);
+        let row = (Field("signed", &signed), row);
+        let row = (Field("prev", &self.commit.prev), row);
+        let row = (Field("data", &self.commit.data), row);
+        let row = (Field("sig", &self.commit.sig), row);
+        let row = (Field("rev", &self.commit.rev), row);
+        let row = (Field("did", &self.commit.did), row);
+        write_struct(alloc, row, ser)
+    }
+}
+
+/// The keys of records, beside their CIDs.
+fn rows_of(alloc: Global, records: &[MstEntry]) -> Result<Vec<Row<'_>>, AllocError>
+    ensures { IfOk result (λ v. map entry_of_row v.items ≡ entries records.now) }
+{
+    let mut rows = Vec::new(alloc);
+    for record in records {
+        rows.reserve(1)?;
+        rows.push_reserved((ByteSlice(&record.key), record.value));
+    }
+    Ok(rows)
+}
+
+/// The block that tells of a repository.
+pub(crate) fn repo_block(alloc: Global, repo: &Repo) -> Result<Vec<u8>, AllocError>
+    ensures { IfOk result (λ v. IsBlockOf repo.now.commit repo.now.records.items v.items) }
+{
+    let signed = spell_unsigned(alloc, &repo.commit)?;
+    let rows = rows_of(alloc, &repo.records)?;
+    let told = Told {
+        commit: &repo.commit,
+        signed: &signed,
+        rows: &rows,
+    };
+    // Each has a spelling, which is refused for want of memory alone.
+    match to_vec(alloc, &told) {
+        Ok(block) => Ok(block),
+        Err(_) => Err(AllocError),
+    }
+}

@@ -4,8 +4,8 @@ peer, or kept it from answering, is counted there, and not shown.
 The picture in docs/CONFORMANCE.md is of its top, by Debian's chromium and cwebp:
 
     conformance/run --known all --page page.html
-    chromium --headless --no-sandbox --hide-scrollbars --window-size=1180,1240 --screenshot=page.png page.html
-    cwebp -q 85 page.png -o docs/pictures/conformance.webp"""
+    chromium --headless --no-sandbox --hide-scrollbars --window-size=1430,1405 --screenshot=page.png page.html
+    cwebp -near_lossless 40 page.png -o docs/pictures/conformance.webp"""
 
 from html import escape
 
@@ -28,8 +28,8 @@ th { font-weight: 500; text-align: left; white-space: nowrap; padding: .15rem .6
 thead small { display: inline; }
 thead th { writing-mode: vertical-rl; transform: rotate(180deg); padding: .2rem; color: var(--soft); vertical-align: top; }
 thead th:first-child { writing-mode: horizontal-tb; transform: none; vertical-align: bottom; }
-td { text-align: center; min-width: 2.6rem; padding: .3rem .25rem; border-radius: 5px; }
-td small { display: block; font-size: .68rem; font-weight: 400; white-space: nowrap; line-height: 1.1; }
+td { text-align: center; min-width: 2.3rem; padding: .3rem .12rem; border-radius: 5px; }
+td small { display: block; font-size: .64rem; font-weight: 400; white-space: nowrap; line-height: 1.1; }
 th small { display: block; font-size: .72rem; color: var(--soft); font-weight: 400; }
 .held { background: var(--held); color: var(--held-ink); } .loose { background: var(--loose); color: var(--loose-ink); }
 .wrong { background: var(--wrong); color: var(--wrong-ink); font-weight: 600; } .none { color: var(--soft); }

@@ -66,7 +66,7 @@ MADE = ("short", "truncations", "random")
 
 def as_table(results):
     """A table in Markdown, of the vectors that are written out, and of how many cut blocks were taken."""
-    lines = ["| Peer | DAG-CBOR forbids it | Wrong as CBOR, or harmful |", "|---|---|---|"]
+    lines = ["| Peer | DAG-CBOR forbids it | Not as RFC 8949 either, or no answer |", "|---|---|---|"]
     for result in results:
         counts = Counter(it.outcome for it in result.judged if it.vector["group"] not in MADE)
         counts["cut blocks taken"] = sum(it.vector["group"] == "truncations" and it.outcome != "held" for it in result.judged)

@@ -26,8 +26,8 @@ FOLDER = f"{HERE}/vectors"
 OPEN = {
     "floats": "DAG-CBOR has floats of 64 bits, neither NaN nor infinite; a codec may have none: open where it names no profile",
     "depth": "no standard says how many lists and maps a codec follows; above 32 either verdict holds",
-    "digests": "no standard bounds a digest; the proved codec takes at most 64 bytes",
-    "varints": "the standard of varints ends at 63 bits; the proved codec, as its original, takes 64",
+    "digests": cidtexts.OPEN["digests"],
+    "varints": cidtexts.OPEN["varints"],
     "integers": "data models of 64-bit signed integers have no integer beyond these",
 }
 FIELDS = {

@@ -7,6 +7,7 @@ pub mod RowShapes
 pub mod Nodes
 pub mod Walks
 pub mod Stops
+pub mod InLayers
 pub mod Gathering
 pub mod Finding
 pub mod Laws

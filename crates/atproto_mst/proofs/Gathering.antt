@@ -9,12 +9,13 @@ use Rattle.atproto_mst.specs.Keys.{Entry}
 use Rattle.atproto_mst.specs.Entries.{entry_of, entries}
 use Rattle.atproto_mst.specs.Nodes.{NodeRow, NodeParts, IsNodeAt, key_of, row_told}
 use Rattle.atproto_mst.specs.Walks.{WalksLink, WalksRows, WalksNode, Walks}
-use Rattle.atproto_mst.specs.Stops.{NodeFault, RowFault, ComeBehind, last_key, StopsBehind, StopsInRows, StopsInNode, Stops}
+use Rattle.atproto_mst.specs.Stops.{IsNamed, NodeFault, RowFault, ComeBehind, last_key, StopsBehind, StopsInRows, StopsInNode, Stops}
 use Rattle.atproto_mst.specs.Gathering.{Gathers, AddsRow, key_behind}
 use Rattle.atproto_mst.specs.InLayers.{IsRowOf, IfLinked, AreRowsOf, IsOfLayer, IsEmpty, IsRightBelow}
 use Rattle.atproto_mst.specs.declared.entries.MstEntry.{MstEntry}
 use Rattle.atproto_mst.specs.declared.error.MstError.{MstError}
-use Rattle.atproto_mst.specs.declared.rows.Row.{Row}
+use Rattle.atproto_mst.specs.declared.error.MstError.TheVariants.{OutOfMemory}
+use Rattle.repository_types.specs.declared.repository.Entry.{Entry as Row}
 use Rattle.atproto_mst.proofs.Nodes.{same_node_at}
 use Rattle.atproto_mst.proofs.Rising.{first_behind, joined_behind, last_joined}
 
@@ -169,8 +170,11 @@ pub stops_named : (stored : Stored) (name : CidParts) (m layers : ℕ) (p : Node
     → StopsInNode (Walks m stored) (Stops m stored) before p e → Stops layers stored before name e
 stops_named stored name m layers p at same before e h = subst (λ k. Stops k stored before name e) same (inr (p, at, h))
 
-pub stops_at_node : (stored : Stored) (name : CidParts) (m layers : ℕ) → suc m ≡ layers → (before : List ℕ) (e : MstError) → NodeFault stored name e → Stops layers stored before name e
-stops_at_node stored name m layers same before e h = subst (λ k. Stops k stored before name e) same (inl h)
+-- no node is under the name
+pub no_node : (stored : Stored) (name : CidParts) (m layers : ℕ) → suc m ≡ layers → (before : List ℕ) (e : MstError)
+    → ((e ≡ OutOfMemory) × IsNamed stored name) ⊎ NodeFault stored name e → (e ≡ OutOfMemory) ⊎ Stops layers stored before name e
+no_node stored name m layers same before e (inl memory) = inl memory.0
+no_node stored name m layers same before e (inr fault) = inr (subst (λ k. Stops k stored before name e) same (inl fault))
 
 -- whether a node stands right below a layer
 pub below_decided : (stored : Stored) (name : CidParts) (above layer : ℕ) (p : NodeParts) (lower fits all : Bool) → IsNodeAt stored name p → layer ≡ above - 1 → Decides lower ((1 ≤ above) × ¬ IsEmpty p)

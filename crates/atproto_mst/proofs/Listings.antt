@@ -9,14 +9,14 @@ use Rattle.atproto_mst.specs.Keys.{Entry, HaveCids, AreEntries}
 use Rattle.atproto_mst.specs.Entries.{entry_of, entries, IsMst}
 use Rattle.atproto_mst.specs.Nodes.{NodeRow, NodeParts, IsCidIfAny, IsNodeAt, key_of}
 use Rattle.atproto_mst.specs.Walks.{WalksLink, WalksRows, WalksNode, Walks, most_layers}
-use Rattle.atproto_mst.specs.Stops.{IsNamed, NodeFault, ComeBehind, StopsBehind, StopsInRows, StopsInNode, Stops, MstRefused, OneReason, last_key}
+use Rattle.atproto_mst.specs.Stops.{ComeBehind, StopsBehind, StopsInRows, StopsInNode, Stops, MstRefused, OneReason, last_key}
 use Rattle.atproto_mst.specs.InLayers.{IsOfLayer, IsRightBelow, first_layer, IsRoot}
 use Rattle.atproto_mst.specs.Gathering.{Gathers}
 use Rattle.atproto_mst.specs.declared.error.MstError.{MstError}
 use Rattle.atproto_mst.specs.declared.error.MstError.TheVariants as error
 use Rattle.atproto_mst.proofs.Agreeing.{one_walk}
 use Rattle.atproto_mst.proofs.Canonical.{mst_walked}
-use Rattle.atproto_mst.proofs.Gathering.{Found, stops_named, stops_at_node}
+use Rattle.atproto_mst.proofs.Gathering.{Found, stops_named}
 use Rattle.atproto_mst.proofs.Layered.{root_over}
 use Rattle.atproto_mst.proofs.Rising.{all_behind}
 use Rattle.atproto_mst.proofs.Standing.{root_stands}
@@ -85,11 +85,6 @@ refused_by stored root e (inr s) = refused_by_stop stored root e s
 pub stops_for_memory : (stored : Stored) (root : CidParts) (e : MstError) → (e ≡ error.OutOfMemory) ⊎ Stops most_layers stored [] root e → (es : List Entry) → IsMst stored root es → e ≡ error.OutOfMemory
 stops_for_memory stored root e (inl m) es h = m
 stops_for_memory stored root e (inr s) es h = absurd (stops_never_walks stored most_layers [] root e es s (mst_walked stored root es h) (all_behind es h.valid.keys h.valid.rise))
-
--- no node is under the name of the root
-pub no_root : (stored : Stored) (root : CidParts) (e : MstError) → ((e ≡ error.OutOfMemory) × IsNamed stored root) ⊎ NodeFault stored root e → (e ≡ error.OutOfMemory) ⊎ Stops most_layers stored [] root e
-no_root stored root e (inl m) = inl m.0
-no_root stored root e (inr f) = inr (stops_at_node stored root 128 most_layers refl [] e f)
 
 module _ (stored : Stored) (root : CidParts) (p : NodeParts) (at : IsNodeAt stored root p) (first : Found) (empty : first.items ≡ []) where
   -- the walk from the root stops

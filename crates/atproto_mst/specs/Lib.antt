@@ -3,7 +3,6 @@ pub mod Trees
 pub mod Sinks
 pub mod Placed
 pub mod Entries
-pub mod RowShapes
 pub mod Nodes
 pub mod Walks
 pub mod Stops
@@ -13,7 +12,6 @@ pub mod Finding
 pub mod Laws
 pub mod Changes
 pub mod Merging
-pub mod CommitShapes
 pub mod Commits
 pub mod UnreadCommits
 pub mod Repos

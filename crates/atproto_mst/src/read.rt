@@ -16,9 +16,9 @@ ghost use Rattle.atproto_mst.specs.declared.error.MstError.TheVariants.{OutOfMem
 use crate::entries::{LONGEST_KEY, MstEntry};
 use crate::error::MstError;
 use crate::keys::{layer_of_key, shared_front};
-use crate::rows::{Node, Row};
 use crate::stored::node_at;
 use ipld_tree::Cid;
+use repository_types::{Entry as Row, Node};
 use std::alloc::Global;
 use std::collections::BTreeMap;
 
@@ -50,11 +50,11 @@ pub fn read_mst(
 }
 
 /// The layer of the first key of a root, and 0 without one.
-fn root_layer(root: &Node<'_>) -> u8
+fn root_layer(root: &Node) -> u8
     ensures { result ≡ first_layer (node_told root.now).rows }
 {
-    match root.rows.first() {
-        Some(row) => layer_of_key(row.rest),
+    match root.e.first() {
+        Some(row) => layer_of_key(&row.k.0),
         None => 0,
     }
 }
@@ -86,13 +86,13 @@ fn gather(
 }
 
 /// Whether a node may stand below this layer: there is a lower one, and it is not empty.
-fn is_lower(node: &Node<'_>, above: u8) -> bool
+fn is_lower(node: &Node, above: u8) -> bool
     ensures { Decides result ((1 ≤ above) × ¬ IsEmpty (node_told node.now)) }
 {
     if above == 0 {
         return false;
     }
-    node.left.is_some() || !node.rows.is_empty()
+    node.l.is_some() || !node.e.is_empty()
 }
 
 /// Appends the entries of a node and of the trees below it, and answers whether it stands in the
@@ -101,7 +101,7 @@ fn is_lower(node: &Node<'_>, above: u8) -> bool
 fn gather_node(
     alloc: Global,
     blocks: &BTreeMap<Cid, Vec<u8>>,
-    node: &Node<'_>,
+    node: &Node,
     layers: u8,
     layer: u8,
     found: &mut Vec<MstEntry>,
@@ -114,8 +114,8 @@ fn gather_node(
     ensures fits { IfOk result (λ fits. Decides fits
         (IsOfLayer (IsRightBelow (stored_in blocks.now) layer) layer (node_told node.now))) }
 {
-    let left = gather_below(alloc, blocks, &node.left, layers, layer, found)?;
-    let rows = gather_rows(alloc, blocks, &node.rows, layers, layer, found)?;
+    let left = gather_below(alloc, blocks, &node.l, layers, layer, found)?;
+    let rows = gather_rows(alloc, blocks, &node.e, layers, layer, found)?;
     Ok(left & rows)
 }
 
@@ -148,7 +148,7 @@ fn gather_below(
 fn gather_rows(
     alloc: Global,
     blocks: &BTreeMap<Cid, Vec<u8>>,
-    rows: &[Row<'_>],
+    rows: &[Row],
     layers: u8,
     layer: u8,
     found: &mut Vec<MstEntry>,
@@ -167,7 +167,7 @@ fn gather_rows(
     for row in rows {
         let is_row = add_row(alloc, row, layer, previous, found)?;
         previous = found.len();
-        let below = gather_below(alloc, blocks, &row.after, layers, layer, found)?;
+        let below = gather_below(alloc, blocks, &row.t, layers, layer, found)?;
         fits = fits & is_row & below;
     }
     Ok(fits)
@@ -177,7 +177,7 @@ fn gather_rows(
 /// layer.
 fn add_row(
     alloc: Global,
-    row: &Row<'_>,
+    row: &Row,
     layer: u8,
     previous: usize,
     found: &mut Vec<MstEntry>,
@@ -196,31 +196,31 @@ fn add_row(
         return Err(MstError::KeyOrder);
     }
     let shared = shared_front(before, &key) as u64;
-    let fits = (layer_of_key(&key) == layer) & (shared == row.shared);
-    let value = row.value;
+    let fits = (layer_of_key(&key) == layer) & (shared == row.p);
+    let value = row.v;
     found.reserve(1)?;
     found.push_reserved(MstEntry { key, value });
     Ok(fits)
 }
 
 /// The key of the row behind this key of its node.
-fn make_key(alloc: Global, previous: &[u8], row: &Row<'_>) -> Result<Vec<u8>, MstError>
-    ensures made { IfOk result (λ key. (row.now.shared ≤ length previous.now)
+fn make_key(alloc: Global, previous: &[u8], row: &Row) -> Result<Vec<u8>, MstError>
+    ensures made { IfOk result (λ key. (row.now.p ≤ length previous.now)
         × (key.items ≡ key_of previous.now (row_told row.now)) × IsKey key.items) }
     ensures stopped { (before : List ℕ) → IfErr result (λ e. (e ≡ OutOfMemory)
         ⊎ RowFault previous.now before (row_told row.now) e) }
 {
-    if row.shared > previous.len() as u64 {
+    if row.p > previous.len() as u64 {
         return Err(MstError::KeyFront);
     }
-    let shared = row.shared as usize;
-    let length = row.rest.len().saturating_add(shared);
+    let shared = row.p as usize;
+    let length = row.k.0.len().saturating_add(shared);
     if length < 1 || length > LONGEST_KEY {
         return Err(MstError::KeyLength);
     }
     let mut key = Vec::with_capacity(alloc, length)?;
     key.extend_from_slice(&previous[..shared])?;
-    key.extend_from_slice(row.rest)?;
+    key.extend_from_slice(&row.k.0)?;
     Ok(key)
 }
 

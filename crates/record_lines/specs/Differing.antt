@@ -9,7 +9,7 @@ use Rattle.ipld_links.specs.Reaching.{Stored}
 use Rattle.atproto_mst.specs.Changes.{Changed, AreChanges}
 use Rattle.atproto_mst.specs.Entries.{entries}
 use Rattle.atproto_mst.specs.Repos.{IsRepo}
-use Rattle.atproto_mst.specs.declared.commit.Commit.{Commit}
+use Rattle.repository_types.specs.declared.repository.Commit.{Commit}
 use Rattle.atproto_mst.specs.declared.entries.MstEntry.{MstEntry}
 use Rattle.block_lines.specs.Lines.{line}
 use Rattle.held_lines.specs.Holding.{StoresSound}

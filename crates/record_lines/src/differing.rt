@@ -9,7 +9,7 @@ ghost use Rattle.atproto_mst.specs.Changes.{changes, change_of, Changed, AreChan
 ghost use Rattle.atproto_mst.specs.Entries.{entries};
 ghost use Rattle.atproto_mst.specs.Keys.{Rise};
 ghost use Rattle.atproto_mst.specs.Repos.{IsRepo};
-ghost use Rattle.atproto_mst.specs.declared.commit.Commit.{Commit};
+ghost use Rattle.repository_types.specs.declared.repository.Commit.{Commit};
 ghost use Rattle.record_lines.specs.Records.{IsRecordsAt, IsRecordsOf, IsToldAlone};
 ghost use Rattle.record_lines.specs.Differing.{change_word, name_word, change_line};
 ghost use Rattle.record_lines.specs.Differing.{HasRecords, TellsOfRecords, IsChangesTo, IsChangesOf};

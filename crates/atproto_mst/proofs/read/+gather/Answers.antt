@@ -7,8 +7,14 @@ use Rattle.atproto_mst.specs.Walks.{Walks, WalksLink, WalksRows}
 use Rattle.atproto_mst.specs.Stops.{Stops, StopsInRows, last_key}
 use Rattle.atproto_mst.specs.Gathering.{Gathers, key_behind}
 use Rattle.atproto_mst.specs.InLayers.{IsRightBelow}
-use Rattle.atproto_mst.proofs.Gathering.{GoesOn, SettledBy, or_more, both, all_three, gathers_no_link, gathers_node, stops_in_node, gathers_named, stops_named, below_decided, row_next, no_row_left, stops_at_row, stops_behind_row, goes_behind_row, goes_to_end, key_kept, still_there, settled_behind_row}
+use Rattle.atproto_mst.proofs.Gathering.{GoesOn, SettledBy, or_more, both, all_three, gathers_no_link, gathers_node, stops_in_node, gathers_named, stops_named, no_node, below_decided, row_next, no_row_left, stops_at_row, stops_behind_row, goes_behind_row, goes_to_end, key_kept, still_there, settled_behind_row}
 use Rattle.atproto_mst.proofs.read.+gather.Goals as goal
+
+pub gather-returns-in_err-node-clause-stopped : goal.gather-returns-in_err-node-clause-stopped
+gather-returns-in_err-node-clause-stopped t c =
+    let p = err_from_is_err_and c.from_residual.result c.from_residual.ensures.1 in
+    let layers : suc c.in-Some.lower ≡ c.args.layers = omega (arith, c.in-Some.ensures) in
+    rw (p.1, p.2) (no_node (stored_in c.args.blocks.now) c.args.name.now c.in-Some.lower c.args.layers layers (last_key [] (entries c.args.found.now.items)) c.in_err-node.field-0.0 c.in_err-node.ensures)
 
 pub gather-returns-in_err-fits-clause-stopped : goal.gather-returns-in_err-fits-clause-stopped
 gather-returns-in_err-fits-clause-stopped t c =

@@ -192,7 +192,7 @@ WORDS = {
     "node": "is no node",
     "commit": "is no commit: ",
     "version": "is a commit of version",
-    "fields": "has other fields than a commit of version 3",
+    "fields": "is no commit: Msg",
     "roots": "roots",
 }
 

@@ -2,7 +2,7 @@
 """The blocks of the tests of the types that these schemas make, as Rattle: spelled here by the rules alone, with nothing of the
 tool or of the library.
 
-    schemas/examples/blocks.py album > crates/schema_tests/src/tests/blocks.rt"""
+    schemas/examples/blocks.py album repository > crates/schema_tests/src/tests/blocks.rt"""
 
 import sys
 
@@ -102,20 +102,11 @@ BLOCKS = {
         "DEMO_LIST": [DEMO],
     },
     "atproto": {
-        "COMMIT": COMMIT,
-        "COMMIT_NEXT": {**COMMIT, "prev": CID},
-        "COMMIT_NO_PREV": {key: value for key, value in COMMIT.items() if key != "prev"},
-        "COMMIT_TEXT_DATA": {**COMMIT, "data": "bafy"},
-        "COMMIT_LATER": {**COMMIT, "version": 256},
-        "COMMIT_MORE": {**COMMIT, "extra": 1},
         "POST": POST,
         "POST_MORE": {**POST, "via": {"x": [1]}},
         "REPLY": {**POST, "langs": ["en", "de"], "reply": {"root": REF, "parent": REF}},
         "REPLY_NULL": {**POST, "reply": None},
         "REPLY_TEXT": {**POST, "reply": {"root": REF, "parent": {**REF, "cid": 1}}},
-        "COMMIT_UNSIGNED": {key: value for key, value in COMMIT.items() if key != "sig"},
-        "NODE": NODE,
-        "NODE_NO_LEFT": {"e": []},
         "PROFILE": PROFILE,
         "FOLLOW": FOLLOW,
         "POST_IMAGES": {**POST, "embed": IMAGES},
@@ -124,6 +115,17 @@ BLOCKS = {
         "POST_VIDEO": {**POST, "embed": {"$type": "app.bsky.embed.video", "video": BLOB}},
         "POST_UNTOLD": {**POST, "embed": {"record": REF}},
         "POST_OTHER": {**POST, "embed": {"$type": "app.bsky.embed.record", "images": []}},
+    },
+    "repository": {
+        "COMMIT": COMMIT,
+        "COMMIT_NEXT": {**COMMIT, "prev": CID},
+        "COMMIT_NO_PREV": {key: value for key, value in COMMIT.items() if key != "prev"},
+        "COMMIT_TEXT_DATA": {**COMMIT, "data": "bafy"},
+        "COMMIT_LATER": {**COMMIT, "version": 256},
+        "COMMIT_MORE": {**COMMIT, "extra": 1},
+        "COMMIT_UNSIGNED": {key: value for key, value in COMMIT.items() if key != "sig"},
+        "NODE": NODE,
+        "NODE_NO_LEFT": {"e": []},
     },
     "forms": {
         "POINT": POINT,

@@ -1,7 +1,7 @@
 #!/usr/bin/env python3
 """What the types of these schemas answer to the blocks of blocks.py, and to some more, for tests in other languages:
 
-    schemas/examples/verdicts.py album atproto ledger forms
+    schemas/examples/verdicts.py album repository atproto ledger forms
 
 A line is a schema, a type, a block in hexadecimal, and what it is written again as; or in place of that the kind of the error and the
 path that it names, as `Mismatch tracks/1/seconds`, or `Mismatch -` for the whole."""
@@ -22,8 +22,6 @@ MORE = {
         "DEMO_NO_TRACKS": {**DEMO, "tracks": {}},
     },
     "atproto": {
-        "COMMIT_TEXT_SIG": {"did": "", "version": 0, "data": CID, "rev": "", "prev": CID, "sig": "ab"},
-        "COMMIT_LINK_DID": {"did": CID, "version": 0, "data": CID, "rev": "", "prev": CID, "sig": b""},
         "POST_RECORD_MORE": {**POST, "embed": {**RECORD, "images": [], "x": 1}},
         "POST_OTHER_TYPE": {**POST, "embed": {**RECORD, "images": [1]}},
         "POST_OTHER_NULL": {**POST, "embed": {**RECORD, "external": None}},
@@ -32,7 +30,11 @@ MORE = {
         "POST_IMAGE": {**POST, "embed": {**IMAGES, "images": [{"alt": ""}]}},
         "POST_LIST": {**POST, "embed": [RECORD]},
         "POST_NULL": {**POST, "embed": None},
-        "NODE_DEEP": {"l": CID, "e": [{"p": 2**32, "k": b"", "v": CID, "t": None}]},
+    },
+    "repository": {
+        "COMMIT_TEXT_SIG": {"did": "", "version": 0, "data": CID, "rev": "", "prev": CID, "sig": "ab"},
+        "COMMIT_LINK_DID": {"did": CID, "version": 0, "data": CID, "rev": "", "prev": CID, "sig": b""},
+        "NODE_LESS": {"l": CID, "e": [{"p": -1, "k": b"", "v": CID, "t": None}]},
     },
     "forms": {
         "POINT_NULL_NAME": [*POINT[:5], None],
@@ -122,7 +124,7 @@ REFUSED = {
     "REPLY_NULL": "Mismatch reply",
     "REPLY_TEXT": "Mismatch reply/parent/cid",
     "NODE_NO_LEFT": "Msg l",
-    "NODE_DEEP": "CastOverflow e/0/p",
+    "NODE_LESS": "CastOverflow e/0/p",
     "POST_VIDEO": "Msg embed/$type",
     "POST_UNTOLD": "Msg embed/$type",
     "POST_OTHER": "Msg embed/record",
@@ -231,7 +233,7 @@ OTHERS = {"COMMIT_UNSIGNED": "UnsignedCommit", "REPLY": "Post"}
 
 def type_of(schema, name):
     first = name.split("_")[0]
-    if schema in ("atproto", "forms"):
+    if schema in ("atproto", "repository", "forms"):
         return OTHERS.get(name) or OTHERS.get(first) or first.capitalize()
     return schema.capitalize()
 

@@ -16,7 +16,7 @@ use Rattle.atproto_mst.specs.Placed.{told, all_told, upper_rest}
 use Rattle.atproto_mst.specs.Sinks.{Takes, TakesFirst, RefusesOne}
 use Rattle.atproto_mst.specs.declared.error.MstError.{MstError}
 use Rattle.atproto_mst.specs.declared.leaves.Placed.{Placed}
-use Rattle.atproto_mst.specs.declared.rows.Row.{Row}
+use Rattle.repository_types.specs.declared.repository.Entry.{Entry as Row}
 use Rattle.atproto_mst.proofs.Runs.{lower_taken, upper_dropped, upper_tops, entries_skip, nodes_skip, entries_next, nodes_next}
 use Rattle.atproto_mst.proofs.Handing.{takes_none, takes_then, refuses_within, first_within}
 

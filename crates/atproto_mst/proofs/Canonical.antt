@@ -55,23 +55,23 @@ lower_fewer : (n : ℕ) (es : List Leaf) → length (lower_run n es) ≤ length 
 lower_fewer n [] = omega arith
 lower_fewer n (e ∷ es) = lower_fewer_by n e es (nat_lt e.layer n) (lower_fewer n es)
 
-lower_are_leaves : (n : ℕ) (es : List Leaf) → AreLeaves es → AreLeaves (lower_run n es)
+pub lower_are_leaves : (n : ℕ) (es : List Leaf) → AreLeaves es → AreLeaves (lower_run n es)
 lower_are_leaves n es h = (lower_leaves n es h.0, omega (arith, lower_fewer n es, h.1))
 
 lower_below_by : (n : ℕ) (e : Leaf) (es : List Leaf) (b : Bool) → nat_lt e.layer n ≡ b → AreBelow n (lower_run n es) → AreBelow n (if b then e ∷ lower_run n es else [])
 lower_below_by n e es true l h = (ltb-true e.layer n l, h)
 lower_below_by n e es false l h = tt
 
-lower_below : (n : ℕ) (es : List Leaf) → AreBelow n (lower_run n es)
+pub lower_below : (n : ℕ) (es : List Leaf) → AreBelow n (lower_run n es)
 lower_below n [] = tt
 lower_below n (e ∷ es) = lower_below_by n e es (nat_lt e.layer n) refl (lower_below n es)
 
-next_leaves : (e : Leaf) (es : List Leaf) → AreLeaves (e ∷ es) → AreLeaves es
+pub next_leaves : (e : Leaf) (es : List Leaf) → AreLeaves (e ∷ es) → AreLeaves es
 next_leaves e es h = (h.0.1, omega (arith, h.1))
 
 -- ---- what is stored
 
-stored_apart : (stored : Stored) (a b : List Section) → AreStored stored (a ++ b) → AreStored stored a × AreStored stored b
+pub stored_apart : (stored : Stored) (a b : List Section) → AreStored stored (a ++ b) → AreStored stored a × AreStored stored b
 stored_apart stored [] b h = (tt, h)
 stored_apart stored (x ∷ xs) b h = let k = stored_apart stored xs b h.1 in ((h.0, k.0), k.1)
 
@@ -165,11 +165,11 @@ entries_again : (es : List Entry) → entries_under (leaves es) ≡ es
 entries_again [] = refl
 entries_again (e ∷ es) = ap (λ xs. e ∷ xs) (entries_again es)
 
-each_leaf : (es : List Entry) → HaveKeys es → HaveCids es → AllByRecursion IsLeaf (leaves es)
+pub each_leaf : (es : List Entry) → HaveKeys es → HaveCids es → AllByRecursion IsLeaf (leaves es)
 each_leaf [] k c = tt
-each_leaf (e ∷ es) k c = ((k.0, c.0), each_leaf es k.1 c.1)
+each_leaf (e ∷ es) k c = ((k.0, c.0, refl), each_leaf es k.1 c.1)
 
-leaves_counted : (es : List Entry) → length (leaves es) ≡ length es
+pub leaves_counted : (es : List Entry) → length (leaves es) ≡ length es
 leaves_counted [] = refl
 leaves_counted (e ∷ es) = ap suc (leaves_counted es)
 

@@ -1,21 +1,22 @@
 -- What is gathered, and where a walk stops, part by part.
-use Rattle.std.proofs.Common.{◌≡◌, ◌⊎◌, inl, inr, ℕ, suc, ◌+◌, ◌<◌, ◌≤◌, add-one, get_or, length, drop, drop-cons, map, List, [], ◌∷◌, ◌++◌, append_assoc, append-nil, refl, sym, ap, ◌∙◌, subst, Option, None, Vec}
-use Rattle.std.proofs.lemmas.List.{drop_all}
+use Rattle.std.proofs.Common.{◌≡◌, ◌⊎◌, inl, inr, ℕ, zero, suc, ◌+◌, ◌-◌, ◌<◌, ◌≤◌, Bool, true, false, ◌&&◌, add-one, get_or, length, take, drop, drop-cons, map, List, [], ◌∷◌, ◌++◌, append_assoc, append-nil, refl, sym, ap, ◌∙◌, subst, arith, Option, None, Vec}
+use Rattle.std.proofs.lemmas.List.{drop_all, length-map, length-append, take-append-le, take_all}
+use Rattle.std.specs.Prelude.{Decides}
 use Rattle.std.specs.declared.alloc.Global.{Global}
-use Rattle.std.specs.declared.cmp.Ordering.TheVariants.{Less}
-use Rattle.std.specs.Ordering.{nat_cmp}
-use Rattle.std.specs.Cmp.Lexicographic.{slice_cmp}
 use Rattle.ipld_tree.specs.Cid.{CidParts}
 use Rattle.ipld_links.specs.Reaching.{Stored}
-use Rattle.atproto_mst.specs.Keys.{Entry, IsKey}
-use Rattle.atproto_mst.specs.Entries.{entries}
+use Rattle.atproto_mst.specs.Keys.{Entry}
+use Rattle.atproto_mst.specs.Entries.{entry_of, entries}
 use Rattle.atproto_mst.specs.Nodes.{NodeRow, NodeParts, IsNodeAt, key_of, row_told}
-use Rattle.atproto_mst.specs.Walks.{WalksLink, WalksRows, Walks}
-use Rattle.atproto_mst.specs.Stops.{NodeFault, RowFault, IsRow, ComeBehind, last_key, StopsBehind, StopsInRows, Stops}
-use Rattle.atproto_mst.specs.Gathering.{Gathers, AddsRow}
+use Rattle.atproto_mst.specs.Walks.{WalksLink, WalksRows, WalksNode, Walks}
+use Rattle.atproto_mst.specs.Stops.{IsNamed, NodeFault, RowFault, ComeBehind, last_key, StopsBehind, StopsInRows, StopsInNode, Stops}
+use Rattle.atproto_mst.specs.Gathering.{Gathers, AddsRow, key_behind}
+use Rattle.atproto_mst.specs.InLayers.{IsRowOf, IfLinked, AreRowsOf, IsOfLayer, IsEmpty, IsRightBelow}
 use Rattle.atproto_mst.specs.declared.entries.MstEntry.{MstEntry}
 use Rattle.atproto_mst.specs.declared.error.MstError.{MstError}
-use Rattle.atproto_mst.specs.declared.rows.Row.{Row}
+use Rattle.atproto_mst.specs.declared.error.MstError.TheVariants.{OutOfMemory}
+use Rattle.repository_types.specs.declared.repository.Entry.{Entry as Row}
+use Rattle.atproto_mst.proofs.Nodes.{same_node_at}
 use Rattle.atproto_mst.proofs.Rising.{first_behind, joined_behind, last_joined}
 
 abbrev pub Found : Type 0
@@ -27,15 +28,8 @@ or_more f (inr b) = inr (f b)
 
 -- ---- a row
 
-last_of_row : (r : NodeRow) (previous key : List ℕ) (old new : Found) → AddsRow r previous old key new → last_key [] (entries new.items) ≡ key
-last_of_row r previous key old new a = ap (last_key []) a.all ∙ last_joined [] (entries old.items) ((key, r.value) ∷ [])
-
-is_row : (r : NodeRow) (previous key : List ℕ) (old new : Found) → AddsRow r previous old key new → IsRow previous (last_key [] (entries old.items)) r
-is_row r previous key old new a = record {
-  shares = a.shares;
-  is_key = subst IsKey a.is a.is_key;
-  behind = subst (λ k. slice_cmp nat_cmp (last_key [] (entries old.items)) k ≡ Less) a.is a.behind;
-}
+last_of_row : (r : NodeRow) (previous : List ℕ) (old new : Found) → AddsRow r previous old new → last_key [] (entries new.items) ≡ key_of previous r
+last_of_row r previous old new a = ap (last_key []) a.all ∙ last_joined [] (entries old.items) ((key_of previous r, r.value) ∷ [])
 
 last_of_gathered : (W : List Entry → Type 0) (old new : Found) (g : Gathers W old new) → last_key [] (entries new.items) ≡ last_key (last_key [] (entries old.items)) g.found
 last_of_gathered W old new g = ap (last_key []) g.all ∙ last_joined [] (entries old.items) g.found
@@ -51,18 +45,36 @@ gathers_no_link W l h v = subst (λ x. Gathers (WalksLink W x) v v) (sym h) (gat
 in_row : (a : List Entry) (e : Entry) (b c : List Entry) → ((a ++ (e ∷ [])) ++ b) ++ c ≡ a ++ (e ∷ (b ++ c))
 in_row a e b c = simp append_assoc
 
-gathers_row : (W : CidParts → List Entry → Type 0) (r : NodeRow) (rs : List NodeRow) (previous key : List ℕ) (old mid late new : Found)
-    → AddsRow r previous old key mid → Gathers (WalksLink W r.after) mid late → Gathers (WalksRows W key rs) late new → Gathers (WalksRows W previous (r ∷ rs)) old new
-gathers_row W r rs previous key old mid late new a g h = record {
-  found = (key, r.value) ∷ (g.found ++ h.found);
-  walked = (a.shares, (g.found, h.found, g.walked, subst (λ k. WalksRows W k rs h.found) a.is h.walked, ap (λ k. (k, r.value) ∷ (g.found ++ h.found)) a.is));
+gathers_row : (W : CidParts → List Entry → Type 0) (r : NodeRow) (rs : List NodeRow) (previous : List ℕ) (old mid late new : Found)
+    → AddsRow r previous old mid → Gathers (WalksLink W r.after) mid late → Gathers (WalksRows W (key_of previous r) rs) late new → Gathers (WalksRows W previous (r ∷ rs)) old new
+gathers_row W r rs previous old mid late new a g h = record {
+  found = (key_of previous r, r.value) ∷ (g.found ++ h.found);
+  walked = (a.row.shares, (g.found, h.found, g.walked, h.walked, refl));
   behind =
-      let row = last_of_row r previous key old mid a in
+      let row = last_of_row r previous old mid a in
       let below = last_of_gathered (WalksLink W r.after) mid late g ∙ ap (λ k. last_key k g.found) row in
-      first_behind (last_key [] (entries old.items)) (key, r.value) (g.found ++ h.found) a.is_key a.behind
-      (joined_behind key g.found h.found (subst (λ k. ComeBehind k g.found) row g.behind) (subst (λ k. ComeBehind k h.found) below h.behind));
-  all = h.all ∙ ap (λ x. x ++ h.found) (g.all ∙ ap (λ x. x ++ g.found) a.all) ∙ in_row (entries old.items) (key, r.value) g.found h.found;
+      first_behind (last_key [] (entries old.items)) (key_of previous r, r.value) (g.found ++ h.found) a.row.is_key a.row.behind
+      (joined_behind (key_of previous r) g.found h.found (subst (λ k. ComeBehind k g.found) row g.behind) (subst (λ k. ComeBehind k h.found) below h.behind));
+  all = h.all ∙ ap (λ x. x ++ h.found) (g.all ∙ ap (λ x. x ++ g.found) a.all) ∙ in_row (entries old.items) (key_of previous r, r.value) g.found h.found;
 }
+
+entries_taken : (n : ℕ) (es : List MstEntry) → entries (take n es) ≡ take n (entries es)
+entries_taken zero es = refl
+entries_taken (suc n) [] = refl
+entries_taken (suc n) (e ∷ es) = ap (λ xs. entry_of e ∷ xs) (entries_taken n es)
+
+-- a row's key stays where it stands
+pub key_kept : (W : List Entry → Type 0) (r : NodeRow) (previous : List ℕ) (old mid late : Found) → AddsRow r previous old mid → Gathers W mid late → key_behind (length mid.items) late.items ≡ key_of previous r
+key_kept W r previous old mid late a g =
+    let here : length (entries mid.items) ≡ length mid.items = length-map mid.items entry_of in
+    ap (last_key []) (entries_taken (length mid.items) late.items
+    ∙ ap (take (length mid.items)) g.all
+    ∙ take-append-le (length mid.items) (entries mid.items) g.found (omega (arith, here))
+    ∙ take_all (length mid.items) (entries mid.items) (omega (arith, here)))
+    ∙ last_of_row r previous old mid a
+
+pub still_there : (W : List Entry → Type 0) (mid late : Found) → Gathers W mid late → length mid.items ≤ length late.items
+still_there W mid late g = omega (arith, length-map mid.items entry_of, length-map late.items entry_of, ap length g.all, length-append (entries mid.items) g.found)
 
 -- From these rows on it goes as it does from the first: what they walk, and where they stop.
 pub record GoesOn (W : CidParts → List Entry → Type 0) (S : List ℕ → CidParts → MstError → Type 0) (first : Found) (all : List NodeRow)
@@ -78,22 +90,22 @@ module _ (W : CidParts → List Entry → Type 0) (S : List ℕ → CidParts →
     pub stops_at_row : (e : MstError) → RowFault previous (last_key [] (entries old.items)) r e → StopsInRows W S (last_key [] (entries first.items)) [] all e
     stops_at_row e h = go.stops e (inl h)
 
-    module _ (key : List ℕ) (mid : Found) (a : AddsRow r previous old key mid) where
+    module _ (mid : Found) (a : AddsRow r previous old mid) where
       pub stops_behind_row : (e : MstError) → StopsBehind S (last_key [] (entries mid.items)) r.after e → StopsInRows W S (last_key [] (entries first.items)) [] all e
-      stops_behind_row e h = go.stops e (inr (is_row r previous key old mid a, inl (subst (λ k. StopsBehind S k r.after e) (last_of_row r previous key old mid a ∙ a.is) h)))
+      stops_behind_row e h = go.stops e (inr (a.row, inl (subst (λ k. StopsBehind S k r.after e) (last_of_row r previous old mid a) h)))
 
-      stops_later : (late : Found) → Gathers (WalksLink W r.after) mid late → (e : MstError) → StopsInRows W S (last_key [] (entries late.items)) key rs e
+      stops_later : (late : Found) → Gathers (WalksLink W r.after) mid late → (e : MstError) → StopsInRows W S (last_key [] (entries late.items)) (key_of previous r) rs e
           → StopsInRows W S (last_key [] (entries old.items)) previous (r ∷ rs) e
       stops_later late g e h =
-          let row = last_of_row r previous key old mid a ∙ a.is in
+          let row = last_of_row r previous old mid a in
           let behind = last_of_gathered (WalksLink W r.after) mid late g ∙ ap (λ k. last_key k g.found) row in
-          inr (is_row r previous key old mid a, inr (g.found, g.walked, subst (λ k. ComeBehind k g.found) row g.behind, subst (λ k. StopsInRows W S (last_key (key_of previous r) g.found) k rs e) a.is (subst (λ k. StopsInRows W S k key rs e) behind h)))
+          inr (a.row, inr (g.found, g.walked, subst (λ k. ComeBehind k g.found) row g.behind, subst (λ k. StopsInRows W S k (key_of previous r) rs e) behind h))
 
-      pub goes_behind_row : (late : Found) → Gathers (WalksLink W r.after) mid late → GoesOn W S first all late key rs
-      goes_behind_row late g = record {
-        walks = λ new h. go.walks new (gathers_row W r rs previous key old mid late new a g h);
+      pub goes_behind_row : (late : Found) → Gathers (WalksLink W r.after) mid late → GoesOn W S first all late (key_behind (length mid.items) late.items) rs
+      goes_behind_row late g = subst (λ k. GoesOn W S first all late k rs) (sym (key_kept (WalksLink W r.after) r previous old mid late a g)) (record {
+        walks = λ new h. go.walks new (gathers_row W r rs previous old mid late new a g h);
         stops = λ e h. go.stops e (stops_later late g e h);
-      }
+      })
 
   pub goes_to_end : (found : Found) (key : List ℕ) → GoesOn W S first all found key [] → Gathers (WalksRows W [] all) first found
   goes_to_end found key go = go.walks found (gathers_none (WalksRows W key []) found refl)
@@ -105,26 +117,73 @@ row_next rows i r lt is = ap (map row_told) (drop-cons rows i r lt) ∙ ap (λ x
 pub no_row_left : (rows : List Row) (i : ℕ) → length rows ≤ i → map row_told (drop i rows) ≡ []
 no_row_left rows i le = ap (map row_told) (drop_all i rows le)
 
+-- ---- whether rows are of a layer
+
+pub both : (a b : Bool) → Decides (a && b) ((a ≡ true) × (b ≡ true))
+both true b = (λ e. (refl, e), λ h. h.1)
+both false b = (λ e. absurd (cc e), λ h. absurd (cc h.0))
+
+pub all_three : (a b c : Bool) → Decides ((a && b) && c) ((a ≡ true) × (b ≡ true) × (c ≡ true))
+all_three a b c = (λ e. (let k = (both (a && b) c).0 e in let l = (both a b).0 k.0 in (l.0, l.1, k.1)), λ h. (both (a && b) c).1 ((both a b).1 (h.0, h.1), h.2))
+
+-- from these rows on it is settled as from the first, where it held so far
+pub record SettledBy (F : CidParts → Type 0) (n : ℕ) (all : List NodeRow) (fits : Bool) (key : List ℕ) (rest : List NodeRow) : Type 0 where
+  pub on : AreRowsOf F n [] all → (fits ≡ true) × AreRowsOf F n key rest
+  pub back : fits ≡ true → AreRowsOf F n key rest → AreRowsOf F n [] all
+
+pub settled_at_start : (F : CidParts → Type 0) (n : ℕ) (all : List NodeRow) → SettledBy F n all true [] all
+settled_at_start F n all = record { on = λ h. (refl, h); back = λ e h. h }
+
+pub settled_behind_row : (F : CidParts → Type 0) (n : ℕ) (all : List NodeRow) (fits row below next : Bool) (key : List ℕ) (r : NodeRow) (rs : List NodeRow) → SettledBy F n all fits key (r ∷ rs)
+    → Decides row (IsRowOf n key r) → Decides below (IfLinked F r.after) → Decides next ((fits ≡ true) × (row ≡ true) × (below ≡ true)) → SettledBy F n all next (key_of key r) rs
+settled_behind_row F n all fits row below next key r rs s is link step = record {
+  on = λ h. (let k = s.on h in (step.1 (k.0, is.1 k.1.0, link.1 k.1.1), k.1.2));
+  back = λ e h. (let k = step.0 e in s.back k.0 (is.0 k.1, link.0 k.2, h));
+}
+
+pub settled_at_end : (F : CidParts → Type 0) (n : ℕ) (all : List NodeRow) (fits : Bool) (key : List ℕ) → SettledBy F n all fits key [] → Decides fits (AreRowsOf F n [] all)
+settled_at_end F n all fits key s = (λ e. s.back e tt, λ h. (s.on h).0)
+
 -- ---- a node
 
-module _ (stored : Stored) (name : CidParts) (m : ℕ) (p : NodeParts) (at : IsNodeAt stored name p) (old mid : Found) (g : Gathers (WalksLink (Walks m stored) p.left) old mid) where
-  pub gathers_node : (layers : ℕ) → suc m ≡ layers → (new : Found) → Gathers (WalksRows (Walks m stored) [] p.rows) mid new → Gathers (Walks layers stored name) old new
-  gathers_node layers e new h = subst (λ k. Gathers (Walks k stored name) old new) e (record {
+module _ (stored : Stored) (m : ℕ) (p : NodeParts) (old mid : Found) (g : Gathers (WalksLink (Walks m stored) p.left) old mid) where
+  pub gathers_node : (new : Found) → Gathers (WalksRows (Walks m stored) [] p.rows) mid new → Gathers (WalksNode (Walks m stored) p) old new
+  gathers_node new h = record {
     found = g.found ++ h.found;
-    walked = (p, at, (g.found, h.found, g.walked, h.walked, refl));
+    walked = (g.found, h.found, g.walked, h.walked, refl);
     behind = joined_behind (last_key [] (entries old.items)) g.found h.found g.behind
         (subst (λ k. ComeBehind k h.found) (last_of_gathered (WalksLink (Walks m stored) p.left) old mid g) h.behind);
     all = h.all ∙ ap (λ x. x ++ h.found) g.all ∙ append_assoc (entries old.items) g.found h.found;
-  })
+  }
 
-  pub stops_in_node : (layers : ℕ) → suc m ≡ layers → (e : MstError) → StopsInRows (Walks m stored) (Stops m stored) (last_key [] (entries mid.items)) [] p.rows e
-      → Stops layers stored (last_key [] (entries old.items)) name e
-  stops_in_node layers same e h = subst (λ k. Stops k stored (last_key [] (entries old.items)) name e) same
-      (inr (p, at, inr (g.found, g.walked, g.behind, subst (λ k. StopsInRows (Walks m stored) (Stops m stored) k [] p.rows e) (last_of_gathered (WalksLink (Walks m stored) p.left) old mid g) h)))
+  pub stops_in_node : (e : MstError) → StopsInRows (Walks m stored) (Stops m stored) (last_key [] (entries mid.items)) [] p.rows e
+      → StopsInNode (Walks m stored) (Stops m stored) (last_key [] (entries old.items)) p e
+  stops_in_node e h = inr (g.found, g.walked, g.behind, subst (λ k. StopsInRows (Walks m stored) (Stops m stored) k [] p.rows e) (last_of_gathered (WalksLink (Walks m stored) p.left) old mid g) h)
 
-pub stops_before_node : (stored : Stored) (name : CidParts) (m : ℕ) (p : NodeParts) → IsNodeAt stored name p → (layers : ℕ) → suc m ≡ layers → (before : List ℕ) (e : MstError)
-    → StopsBehind (Stops m stored) before p.left e → Stops layers stored before name e
-stops_before_node stored name m p at layers same before e h = subst (λ k. Stops k stored before name e) same (inr (p, at, inl h))
+-- ---- a node under its name
 
-pub stops_at_node : (stored : Stored) (name : CidParts) (m layers : ℕ) → suc m ≡ layers → (before : List ℕ) (e : MstError) → NodeFault stored name e → Stops layers stored before name e
-stops_at_node stored name m layers same before e h = subst (λ k. Stops k stored before name e) same (inl h)
+pub gathers_named : (stored : Stored) (name : CidParts) (m layers : ℕ) (p : NodeParts) → IsNodeAt stored name p → suc m ≡ layers → (old new : Found)
+    → Gathers (WalksNode (Walks m stored) p) old new → Gathers (Walks layers stored name) old new
+gathers_named stored name m layers p at same old new g = subst (λ k. Gathers (Walks k stored name) old new) same (record { found = g.found; walked = (p, at, g.walked); behind = g.behind; all = g.all })
+
+pub stops_named : (stored : Stored) (name : CidParts) (m layers : ℕ) (p : NodeParts) → IsNodeAt stored name p → suc m ≡ layers → (before : List ℕ) (e : MstError)
+    → StopsInNode (Walks m stored) (Stops m stored) before p e → Stops layers stored before name e
+stops_named stored name m layers p at same before e h = subst (λ k. Stops k stored before name e) same (inr (p, at, h))
+
+-- no node is under the name
+pub no_node : (stored : Stored) (name : CidParts) (m layers : ℕ) → suc m ≡ layers → (before : List ℕ) (e : MstError)
+    → ((e ≡ OutOfMemory) × IsNamed stored name) ⊎ NodeFault stored name e → (e ≡ OutOfMemory) ⊎ Stops layers stored before name e
+no_node stored name m layers same before e (inl memory) = inl memory.0
+no_node stored name m layers same before e (inr fault) = inr (subst (λ k. Stops k stored before name e) same (inl fault))
+
+-- whether a node stands right below a layer
+pub below_decided : (stored : Stored) (name : CidParts) (above layer : ℕ) (p : NodeParts) (lower fits all : Bool) → IsNodeAt stored name p → layer ≡ above - 1 → Decides lower ((1 ≤ above) × ¬ IsEmpty p)
+    → Decides fits (IsOfLayer (IsRightBelow stored layer) layer p) → Decides all ((fits ≡ true) × (lower ≡ true)) → Decides all (IsRightBelow stored above name)
+below_decided stored name zero layer p lower fits all at same l f a = (λ e. (let k = l.0 (a.0 e).1 in absurd (omega (arith, k.0))), λ h. absurd h)
+below_decided stored name (suc n) layer p lower fits all at same l f a =
+    let is : layer ≡ n = omega (arith, same) in (
+      λ e. (let k = a.0 e in (p, at, (l.0 k.1).1, subst (λ x. IsOfLayer (IsRightBelow stored x) x p) is (f.0 k.0))),
+      λ (q, there, some, h).
+          (let one = same_node_at stored name q p there at in
+          a.1 (f.1 (subst (λ x. IsOfLayer (IsRightBelow stored x) x p) (sym is) (subst (IsOfLayer (IsRightBelow stored n) n) one h)), l.1 (omega arith, subst (λ x. ¬ IsEmpty x) one some))),
+    )

@@ -13,6 +13,8 @@ pub mod Comparing
 pub mod Parts
 pub mod Layers
 pub mod Canonical
+pub mod Layered
+pub mod Standing
 pub mod Nodes
 pub mod Agreeing
 pub mod Rising

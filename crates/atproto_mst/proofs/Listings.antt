@@ -1,22 +1,25 @@
 -- The entries of a stored tree, and why it is refused.
-use Rattle.std.proofs.Common.{◌≡◌, ◌⊎◌, inl, inr, ℕ, zero, suc, List, [], ◌∷◌, ◌++◌, refl, sym, ap, ◌∙◌, subst, arith, Option, Some, None}
+use Rattle.std.proofs.Common.{◌≡◌, ◌⊎◌, inl, inr, ℕ, zero, suc, Bool, true, false, List, [], ◌∷◌, ◌++◌, refl, sym, ap, ◌∙◌, subst, arith, Option, Some, None}
 use Rattle.std.proofs.lemmas.List.{length-map}
+use Rattle.std.specs.Prelude.{Decides}
 use Rattle.std.specs.List.{AllByRecursion}
 use Rattle.ipld_tree.specs.Cid.{CidParts, AreCidParts}
 use Rattle.ipld_links.specs.Reaching.{Stored}
 use Rattle.atproto_mst.specs.Keys.{Entry, HaveCids, AreEntries}
-use Rattle.atproto_mst.specs.Trees.{root_of, nodes_of}
-use Rattle.atproto_mst.specs.Entries.{entry_of, entries, AreStored, IsMst}
-use Rattle.atproto_mst.specs.Nodes.{NodeRow, IsCidIfAny, key_of}
-use Rattle.atproto_mst.specs.Walks.{WalksLink, WalksRows, Walks, most_layers}
-use Rattle.atproto_mst.specs.Stops.{ComeBehind, StopsBehind, StopsInRows, Stops, MstRefused, OneReason, last_key}
+use Rattle.atproto_mst.specs.Entries.{entry_of, entries, IsMst}
+use Rattle.atproto_mst.specs.Nodes.{NodeRow, NodeParts, IsCidIfAny, IsNodeAt, key_of}
+use Rattle.atproto_mst.specs.Walks.{WalksLink, WalksRows, WalksNode, Walks, most_layers}
+use Rattle.atproto_mst.specs.Stops.{ComeBehind, StopsBehind, StopsInRows, StopsInNode, Stops, MstRefused, OneReason, last_key}
+use Rattle.atproto_mst.specs.InLayers.{IsOfLayer, IsRightBelow, first_layer, IsRoot}
 use Rattle.atproto_mst.specs.Gathering.{Gathers}
-use Rattle.atproto_mst.specs.declared.entries.MstEntry.{MstEntry}
 use Rattle.atproto_mst.specs.declared.error.MstError.{MstError}
 use Rattle.atproto_mst.specs.declared.error.MstError.TheVariants as error
 use Rattle.atproto_mst.proofs.Agreeing.{one_walk}
-use Rattle.atproto_mst.proofs.Gathering.{Found}
+use Rattle.atproto_mst.proofs.Canonical.{mst_walked}
+use Rattle.atproto_mst.proofs.Gathering.{Found, stops_named}
+use Rattle.atproto_mst.proofs.Layered.{root_over}
 use Rattle.atproto_mst.proofs.Rising.{all_behind}
+use Rattle.atproto_mst.proofs.Standing.{root_stands}
 use Rattle.atproto_mst.proofs.Stopping.{stops_never_walks, one_fault}
 
 -- ---- the values of what is walked are CIDs
@@ -75,61 +78,55 @@ refused_by_stop stored root _ h = h
 
 -- ---- what is gathered of the root, behind nothing
 
-module _ (stored : Stored) (root : CidParts) (first : Found) (empty : first.items ≡ []) where
-  pub refused_gathering : (e : MstError) → (e ≡ error.OutOfMemory) ⊎ Stops most_layers stored (last_key [] (entries first.items)) root e → MstRefused stored root e
-  refused_gathering e (inl m) = subst (MstRefused stored root) (sym m) tt
-  refused_gathering e (inr s) = refused_by_stop stored root e (subst (λ es. Stops most_layers stored (last_key [] (entries es)) root e) empty s)
+pub refused_by : (stored : Stored) (root : CidParts) (e : MstError) → (e ≡ error.OutOfMemory) ⊎ Stops most_layers stored [] root e → MstRefused stored root e
+refused_by stored root e (inl m) = subst (MstRefused stored root) (sym m) tt
+refused_by stored root e (inr s) = refused_by_stop stored root e s
 
-  pub stops_for_memory : (e : MstError) → (e ≡ error.OutOfMemory) ⊎ Stops most_layers stored (last_key [] (entries first.items)) root e
-      → (es : List Entry) → IsMst stored root es → Walks most_layers stored root es → e ≡ error.OutOfMemory
-  stops_for_memory e (inl m) es h w = m
-  stops_for_memory e (inr s) es h w = absurd (stops_never_walks stored most_layers [] root e es
-      (subst (λ fs. Stops most_layers stored (last_key [] (entries fs)) root e) empty s) w (all_behind es h.valid.keys h.valid.rise))
+pub stops_for_memory : (stored : Stored) (root : CidParts) (e : MstError) → (e ≡ error.OutOfMemory) ⊎ Stops most_layers stored [] root e → (es : List Entry) → IsMst stored root es → e ≡ error.OutOfMemory
+stops_for_memory stored root e (inl m) es h = m
+stops_for_memory stored root e (inr s) es h = absurd (stops_never_walks stored most_layers [] root e es s (mst_walked stored root es h) (all_behind es h.valid.keys h.valid.rise))
 
-  module _ (found : Found) (g : Gathers (Walks most_layers stored root) first found) where
-    found_is : entries found.items ≡ g.found
-    found_is = g.all ∙ ap (λ es. entries es ++ g.found) empty
+module _ (stored : Stored) (root : CidParts) (p : NodeParts) (at : IsNodeAt stored root p) (first : Found) (empty : first.items ≡ []) where
+  -- the walk from the root stops
+  pub stops_at_root : (e : MstError) → (e ≡ error.OutOfMemory) ⊎ StopsInNode (Walks 128 stored) (Stops 128 stored) (last_key [] (entries first.items)) p e → (e ≡ error.OutOfMemory) ⊎ Stops most_layers stored [] root e
+  stops_at_root e (inl m) = inl m
+  stops_at_root e (inr s) = inr (stops_named stored root 128 most_layers p at refl [] e (subst (λ es. StopsInNode (Walks 128 stored) (Stops 128 stored) (last_key [] (entries es)) p e) empty s))
+
+  module _ (found : Found) (gathered : Gathers (WalksNode (Walks 128 stored) p) first found) where
+    found_is : entries found.items ≡ gathered.found
+    found_is = gathered.all ∙ ap (λ es. entries es ++ gathered.found) empty
+
+    walked : WalksNode (Walks 128 stored) p (entries found.items)
+    walked = subst (WalksNode (Walks 128 stored) p) (sym found_is) gathered.walked
 
     walks_found : Walks most_layers stored root (entries found.items)
-    walks_found = subst (Walks most_layers stored root) (sym found_is) g.walked
+    walks_found = (p, at, walked)
 
     are_entries : AreEntries (entries found.items)
     are_entries =
-        let order = subst (ComeBehind []) (sym found_is) (subst (λ es. ComeBehind (last_key [] (entries es)) g.found) empty g.behind) in record {
+        let order = subst (ComeBehind []) (sym found_is) (subst (λ es. ComeBehind (last_key [] (entries es)) gathered.found) empty gathered.behind) in record {
           keys = order.keys;
           rise = order.rise;
           values = walk_cids stored most_layers root (entries found.items) walks_found;
           count = omega (arith, found.ok.0, found.ok.1, found.small, length-map found.items entry_of);
         }
 
-    pub found_all : (es : List Entry) → Walks most_layers stored root es → entries found.items ≡ es
-    found_all es w = one_walk stored most_layers most_layers root (entries found.items) es walks_found w
+    module _ (layer : ℕ) (is : layer ≡ first_layer p.rows) (fits : Bool) (decided : Decides fits (IsOfLayer (IsRightBelow stored layer) layer p)) where
+      is_root : fits ≡ true → IsRoot stored p
+      is_root e = subst (λ n. IsOfLayer (IsRightBelow stored n) n p) is (decided.0 e)
 
-    pub read_of : (all : List MstEntry) → all ≡ found.items → (root ≡ root_of (entries all)) × AreStored stored (nodes_of (entries all)) → IsMst stored root (entries found.items)
-    read_of all same h = record {
-      valid = are_entries;
-      root_is = h.0 ∙ ap (λ x. root_of (entries x)) same;
-      all = subst (λ x. AreStored stored (nodes_of (entries x))) same h.1;
-    }
+      pub read_root : fits ≡ true → IsMst stored root (entries found.items)
+      read_root e = let whole = root_over stored 128 root p (entries found.items) at (is_root e) walked in record { valid = are_entries; root_is = whole.0; all = whole.1 }
 
-    pub refused_comparing : (all : List MstEntry) → all ≡ found.items → (e : MstError)
-        → (e ≡ error.OutOfMemory) ⊎ ((e ≡ error.OtherTree) × (root ≡ root_of (entries all) → ¬ AreStored stored (nodes_of (entries all)))) → MstRefused stored root e
-    refused_comparing all same e (inl m) = subst (MstRefused stored root) (sym m) tt
-    refused_comparing all same e (inr (o, other)) = subst (MstRefused stored root) (sym o) (
-      entries found.items,
-      walks_found,
-      are_entries,
-      λ h. other (h.root_is ∙ ap (λ x. root_of (entries x)) (sym same))
-          (subst (λ x. AreStored stored (nodes_of (entries x))) (sym same) h.all),
-    )
+      pub other_root : fits ≡ false → (es : List Entry) → IsMst stored root es → ⊥
+      other_root e es h =
+          let yes = decided.1 (subst (λ n. IsOfLayer (IsRightBelow stored n) n p) (sym is) (root_stands stored root es p h at)) in absurd (cc (e, yes))
 
-    pub compares_for_memory : (all : List MstEntry) → all ≡ found.items → (e : MstError)
-        → (e ≡ error.OutOfMemory) ⊎ ((e ≡ error.OtherTree) × (root ≡ root_of (entries all) → ¬ AreStored stored (nodes_of (entries all))))
-        → (es : List Entry) → IsMst stored root es → Walks most_layers stored root es → e ≡ error.OutOfMemory
-    compares_for_memory all same e (inl m) es h w = m
-    compares_for_memory all same e (inr (o, other)) es h w =
-        let is : es ≡ entries all = sym (found_all es w) ∙ ap entries (sym same) in
-        absurd (other (h.root_is ∙ ap root_of is) (subst (λ x. AreStored stored (nodes_of x)) is h.all))
+      pub refused_root : fits ≡ false → MstRefused stored root error.OtherTree
+      refused_root e = (entries found.items, walks_found, are_entries, other_root e (entries found.items))
+
+    pub found_root : (es : List Entry) → IsMst stored root es → entries found.items ≡ es
+    found_root es h = one_walk stored most_layers most_layers root (entries found.items) es walks_found (mst_walked stored root es h)
 
 -- ---- there is one reason, beside memory
 

@@ -11,7 +11,7 @@ use Rattle.ipld_tree.specs.Tree.{IsTree, AreItems, items_of}
 use Rattle.ipld_tree.specs.Spelling.{spelling, IsSpellable, AreSpellableItems, item_count}
 use Rattle.ipld_tree.proofs.Cids.{cid_length}
 use Rattle.ipld_links.specs.Names.{block_name}
-use Rattle.atproto_mst.specs.Keys.{IsKey}
+use Rattle.atproto_mst.specs.Keys.{IsKey, key_layer}
 use Rattle.atproto_mst.specs.Trees.{Leaf, lower_run, shared, link_tree, entry_tree, entry_trees, map_of, node_over, subtree, node}
 use Rattle.atproto_mst.specs.Nodes.{NodeRow, NodeParts, tree_of_row, tree_of_node, IsCidIfAny, IsNode}
 
@@ -136,9 +136,9 @@ parts_are_node p l rs count = record {
 
 -- ---- of leaves
 
--- a key and a CID
+-- a key, a CID, and the layer of the key
 abbrev pub IsLeaf : Leaf → Type 0
-IsLeaf e = IsKey e.key × AreCidParts e.value
+IsLeaf e = IsKey e.key × AreCidParts e.value × (e.layer ≡ key_layer e.key)
 
 row_good : (previous : List ℕ) (e : Leaf) (t : Option CidParts) → IsLeaf e → IsCidIfAny t → IsGoodRow (row_at previous e t)
 row_good previous e t h k = record {

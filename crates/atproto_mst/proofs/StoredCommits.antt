@@ -12,7 +12,7 @@ use Rattle.atproto_mst.specs.Entries.{IsMst}
 use Rattle.atproto_mst.specs.Commits.{commit_tree}
 use Rattle.atproto_mst.specs.UnreadCommits.{UnreadCommit}
 use Rattle.atproto_mst.specs.Repos.{IsBlockAt, IsStoredCommit, CommitRefused, RepoRefused}
-use Rattle.atproto_mst.specs.declared.commit.Commit.{Commit}
+use Rattle.repository_types.specs.declared.repository.Commit.{Commit}
 use Rattle.atproto_mst.specs.declared.repo_error.RepoError.{RepoError}
 use Rattle.atproto_mst.specs.declared.repo_error.RepoError.TheVariants as error
 use Rattle.atproto_mst.proofs.ShownCommits.{no_commit, one_commit, one_data}
@@ -23,7 +23,6 @@ unread_refused stored name b error.OutOfMemory at h = tt
 unread_refused stored name b error.Missing at h = absurd h
 unread_refused stored name b error.OtherBytes at h = absurd h
 unread_refused stored name b (error.NoCommit e) at h = (b, at, h)
-unread_refused stored name b error.OtherFields at h = (b, at, h)
 unread_refused stored name b (error.OtherVersion n) at h = absurd h
 unread_refused stored name b (error.Tree e) at h = absurd h
 
@@ -38,8 +37,6 @@ only_memory stored name c error.OtherBytes (version, (b, at, spelled)) (d, is, o
     absurd (other (at.1 ∙ ap block_name (one_block stored name b d at.0 is)))
 only_memory stored name c (error.NoCommit e) (version, (b, at, spelled)) (d, is, none) =
     absurd (no_commit b c (subst (λ x. UnreadCommit x (error.NoCommit e)) (one_block stored name d b is.0 at.0) none).0 (omega (arith, version)) spelled)
-only_memory stored name c error.OtherFields (version, (b, at, spelled)) (d, is, none) =
-    absurd (none.1 c (subst (AreSpellingOf (commit_tree c)) (one_block stored name b d at.0 is.0) spelled))
 only_memory stored name c (error.OtherVersion n) (version, (b, at, spelled)) (d, o, is, read, of, other) =
     absurd (other (sym of ∙ one_commit b o c (subst (AreSpellingOf (commit_tree o)) (one_block stored name d b is.0 at.0) read) spelled ∙ version))
 only_memory stored name c (error.Tree e) s h = absurd h
@@ -55,7 +52,6 @@ commit_unread stored name error.OutOfMemory h = h
 commit_unread stored name error.Missing h = h
 commit_unread stored name error.OtherBytes h = h
 commit_unread stored name (error.NoCommit e) h = h
-commit_unread stored name error.OtherFields h = h
 commit_unread stored name (error.OtherVersion n) h = h
 commit_unread stored name (error.Tree e) h = absurd h
 

@@ -3,7 +3,7 @@ use Rattle.std.specs.Prelude.{[], ◌∷◌, Option, Some, codes, pos, string_by
 use Rattle.ipld_tree.specs.Cid.{cid_bytes}
 use Rattle.ipld_tree.specs.Tree.{Tree, bytes, integer, link, text, entries_tree}
 use Rattle.dagcbor_write.specs.Trees.{field, option_tree}
-use Rattle.atproto_mst.specs.declared.commit.Commit.{Commit}
+use Rattle.repository_types.specs.declared.repository.Commit.{Commit}
 
 -- the map of a commit's fields
 abbrev pub commit_tree : Commit → Option Tree
@@ -15,7 +15,7 @@ commit_tree c = entries_tree (
     ∷ field (codes "prev") (option_tree (λ p. Some (link (cid_bytes p))) c.prev)
     ∷ field (codes "version") (Some (integer (pos c.version))) ∷ [])
 
--- the same without the signature, which is what it is of
+-- the fields but for the signature, which is what it is of
 abbrev pub unsigned_tree : Commit → Option Tree
 unsigned_tree c = entries_tree (
     field (codes "did") (Some (text (string_bytes c.did)))

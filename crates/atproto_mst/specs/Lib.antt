@@ -3,10 +3,10 @@ pub mod Trees
 pub mod Sinks
 pub mod Placed
 pub mod Entries
-pub mod RowShapes
 pub mod Nodes
 pub mod Walks
 pub mod Stops
+pub mod InLayers
 pub mod Gathering
 pub mod Finding
 pub mod Laws
@@ -14,7 +14,6 @@ pub mod Changes
 pub mod Merging
 pub mod Levels
 pub mod Differing
-pub mod CommitShapes
 pub mod Commits
 pub mod UnreadCommits
 pub mod Repos

@@ -7,8 +7,8 @@ use Rattle.ipld_tree.specs.Spelling.{IsSpelling}
 use Rattle.ipld_links.specs.Names.{block_name}
 use Rattle.ipld_links.specs.Reaching.{Stored}
 use Rattle.atproto_mst.specs.Trees.{row_tree, map_of}
-use Rattle.atproto_mst.specs.declared.rows.Row.{Row}
-use Rattle.atproto_mst.specs.declared.rows.Node.{Node}
+use Rattle.repository_types.specs.declared.repository.Entry.{Entry}
+use Rattle.repository_types.specs.declared.repository.Node.{Node}
 
 -- An entry of a node: how many bytes of its key are those of the key before it in the node, the other
 -- bytes, its record, and the tree between this key and the next.
@@ -53,8 +53,8 @@ key_of previous r = take r.shared previous ++ r.rest
 
 -- ---- as they are held
 
-abbrev pub row_told : Row → NodeRow
-row_told r = record { shared = r.shared; rest = r.rest.now; value = r.value; after = r.after }
+abbrev pub row_told : Entry → NodeRow
+row_told e = record { shared = e.p; rest = e.k.0.items; value = e.v; after = e.t }
 
 abbrev pub node_told : Node → NodeParts
-node_told n = record { left = n.left; rows = map row_told n.rows.items }
+node_told n = record { left = n.l; rows = map row_told n.e.items }

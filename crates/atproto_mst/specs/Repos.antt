@@ -8,7 +8,7 @@ use Rattle.atproto_mst.specs.Commits.{commit_tree}
 use Rattle.atproto_mst.specs.UnreadCommits.{UnreadCommit}
 use Rattle.atproto_mst.specs.Entries.{entries, IsMst}
 use Rattle.atproto_mst.specs.Stops.{MstRefused}
-use Rattle.atproto_mst.specs.declared.commit.Commit.{Commit}
+use Rattle.repository_types.specs.declared.repository.Commit.{Commit}
 use Rattle.atproto_mst.specs.declared.entries.MstEntry.{MstEntry}
 use Rattle.atproto_mst.specs.declared.error.MstError.TheVariants as tree
 use Rattle.atproto_mst.specs.declared.repo_error.RepoError.{RepoError}
@@ -36,8 +36,6 @@ CommitRefused stored name error.Missing = stored name ≡ None
 CommitRefused stored name error.OtherBytes = (b : List ℕ) × (stored name ≡ Some b) × (name ≢ block_name b)
 CommitRefused stored name (error.NoCommit e) = (b : List ℕ) × IsBlockAt stored name b
     × UnreadCommit b (error.NoCommit e)
-CommitRefused stored name error.OtherFields = (b : List ℕ) × IsBlockAt stored name b
-    × UnreadCommit b error.OtherFields
 CommitRefused stored name (error.OtherVersion n) = (b : List ℕ) × (c : Commit) × IsBlockAt stored name b
     × AreSpellingOf (commit_tree c) b × (c.version ≡ n) × (n ≢ 3)
 CommitRefused stored name _ = ⊥

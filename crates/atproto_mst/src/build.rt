@@ -12,11 +12,12 @@ ghost use Rattle.atproto_mst.specs.Sinks.{Takes, TakesFirst, RefusesOne};
 use crate::error::MstError;
 use crate::keys::shared_front;
 use crate::leaves::{Placed, count_lower, split_lower};
-use crate::rows::{Node, Row, spell_node};
+use crate::rows::spell_node;
 use crate::sink::NodeSink;
 use ipld_links::name_of_block;
-use ipld_tree::Cid;
-use std::alloc::Global;
+use ipld_tree::{Bytes, Cid};
+use repository_types::{Entry, Node};
+use std::alloc::{AllocError, Global};
 
 /// Hands over the nodes over leaves that are all below the layer, and answers the name of the last
 /// of them, if there are leaves.
@@ -63,18 +64,18 @@ pub(crate) fn name_node<S: NodeSink>(
     let (lower, rest) = split_lower(leaves, layer);
     let left = name_subtree(alloc, lower, layer, sink)?;
     let rows = name_rows(alloc, rest, layer, sink)?;
-    hand_over(alloc, &Node { rows, left }, sink)
+    hand_over(alloc, &Node { l: left, e: rows }, sink)
 }
 
 /// Hands over the nodes between and behind the leaves of the layer, of which the first is one, and
 /// answers the entries of these.
 #[cycle(build)]
-fn name_rows<'a, S: NodeSink>(
+fn name_rows<S: NodeSink>(
     alloc: Global,
-    leaves: &[Placed<'a>],
+    leaves: &[Placed<'_>],
     layer: u8,
     sink: &mut S,
-) -> Result<Vec<Row<'a>>, MstError>
+) -> Result<Vec<Entry>, MstError>
     requires { lower_run layer (all_told leaves.now) ≡ [] }
     ensures rows { IfOk result (λ rows. map tree_of_row (map row_told rows.items)
         ≡ entry_trees (subtree layer) layer [] (all_told leaves.now)) }
@@ -92,9 +93,9 @@ fn name_rows<'a, S: NodeSink>(
         let top = &leaves[at];
         let behind = &leaves[at + 1..];
         let count = count_lower(behind, layer);
-        let after = name_subtree(alloc, &behind[..count], layer, sink)?;
-        let row = row_of(previous, top, after);
         rows.reserve(1)?;
+        let after = name_subtree(alloc, &behind[..count], layer, sink)?;
+        let row = row_of(alloc, previous, top, after)?;
         rows.push_reserved(row);
         previous = top.key;
         at += 1 + count;
@@ -103,20 +104,27 @@ fn name_rows<'a, S: NodeSink>(
 }
 
 /// The entry of a leaf behind this key, before the node.
-fn row_of<'a>(previous: &[u8], leaf: &Placed<'a>, after: Option<Cid>) -> Row<'a>
-    ensures { tree_of_row (row_told result) ≡ entry_tree previous.now (told leaf.now) after }
+fn row_of(
+    alloc: Global,
+    previous: &[u8],
+    leaf: &Placed<'_>,
+    after: Option<Cid>,
+) -> Result<Entry, AllocError>
+    ensures { IfOk result
+        (λ row. tree_of_row (row_told row) ≡ entry_tree previous.now (told leaf.now) after) }
 {
     let shared = shared_front(previous, leaf.key);
-    Row {
-        rest: &leaf.key[shared..],
-        shared: shared as u64,
-        after,
-        value: leaf.value,
-    }
+    let rest = leaf.key[shared..].to_vec(alloc)?;
+    Ok(Entry {
+        p: shared as u64,
+        k: Bytes(rest),
+        v: leaf.value,
+        t: after,
+    })
 }
 
 /// Hands over the node, and answers its name.
-fn hand_over<S: NodeSink>(alloc: Global, node: &Node<'_>, sink: &mut S) -> Result<Cid, MstError>
+fn hand_over<S: NodeSink>(alloc: Global, node: &Node, sink: &mut S) -> Result<Cid, MstError>
     ensures name { IfOk result (λ name. name ≡ block_name (spelling
         (tree_of_node (node_told node.now)))) }
     ensures taken { OnOk result (Takes S.holds sink.old (node_section

@@ -12,9 +12,9 @@ ghost use Rattle.atproto_mst.specs.declared.error.MstError.TheVariants.{OutOfMem
 
 use crate::error::MstError;
 use crate::read::MOST_LAYERS;
-use crate::rows::Node;
 use crate::stored::node_at;
 use ipld_tree::Cid;
+use repository_types::Node;
 use std::alloc::{AllocError, Global};
 use std::cmp::Ordering;
 use std::collections::BTreeMap;
@@ -31,21 +31,21 @@ pub(crate) enum Sought {
 }
 
 /// What the node says of the key.
-pub(crate) fn seek(alloc: Global, node: &Node<'_>, key: &[u8]) -> Result<Sought, AllocError>
+pub(crate) fn seek(alloc: Global, node: &Node, key: &[u8]) -> Result<Sought, AllocError>
     ensures { IfOk result (λ s. s ≡ seek_in key.now (node_told node.now)) }
 {
-    let mut before = node.left;
+    let mut before = node.l;
     let mut next = Vec::new(alloc);
-    for row in &node.rows {
-        if row.shared > next.len() as u64 {
+    for row in &node.e {
+        if row.p > next.len() as u64 {
             return Ok(Sought::KeyFront);
         }
-        next.truncate(row.shared as usize);
-        next.extend_from_slice(row.rest)?;
+        next.truncate(row.p as usize);
+        next.extend_from_slice(&row.k.0)?;
         match key.cmp(next.as_slice()) {
             Ordering::Less => return Ok(Sought::Below(before)),
-            Ordering::Equal => return Ok(Sought::Record(row.value)),
-            Ordering::Greater => before = row.after,
+            Ordering::Equal => return Ok(Sought::Record(row.v)),
+            Ordering::Greater => before = row.t,
         }
     }
     Ok(Sought::Below(before))

@@ -24,7 +24,7 @@ mod way;
 mod write;
 
 pub use change::{put_entry, remove_entry};
-pub use commit::{Commit, spell_unsigned};
+pub use commit::spell_unsigned;
 pub use diffs::{Change, diff_entries};
 pub use entries::MstEntry;
 pub use error::MstError;
@@ -33,6 +33,7 @@ pub use keys::layer_of_key;
 pub use read::read_mst;
 pub use repo::{Repo, read_repo, stored_commit};
 pub use repo_error::RepoError;
+pub use repository_types::Commit;
 pub use sink::NodeSink;
 pub use skipping::diff;
 pub use unstored::write_changes;

@@ -1,58 +1,29 @@
 //! The entries of a tree that is stored.
 
-ghost use Rattle.std.specs.Prelude.{◌≡◌, ◌≢◌, ◌≤◌, ◌⊎◌, [], ◌∷◌, ◌++◌, ℕ, List, Option, Some, MatchResult, IfOk, OnOk, IfErr, length, map};
-ghost use Rattle.ipld_links.specs.Reaching.{stored_in, Stored};
-ghost use Rattle.atproto_mst.specs.Keys.{Entry};
-ghost use Rattle.atproto_mst.specs.Trees.{root_of, nodes_of};
-ghost use Rattle.std.specs.Ordering.{nat_cmp, is_lt};
-ghost use Rattle.std.specs.Cmp.Lexicographic.{slice_cmp};
-ghost use Rattle.atproto_mst.specs.Entries.{entries, AreStored, IsMst};
-ghost use Rattle.atproto_mst.specs.Nodes.{row_told};
-ghost use Rattle.atproto_mst.specs.Walks.{Walks, WalksLink, WalksRows, most_layers};
-ghost use Rattle.atproto_mst.specs.Stops.{RowFault, Stops, StopsBehind, StopsInRows, MstRefused, last_key};
-ghost use Rattle.atproto_mst.specs.Gathering.{Gathers, AddsRow};
-ghost use Rattle.atproto_mst.specs.declared.error.MstError.TheVariants.{OutOfMemory, OtherTree};
+ghost use Rattle.std.specs.Prelude.{◌≡◌, ◌≤◌, ◌⊎◌, [], ℕ, List, Decides, MatchResult, IfOk, OnOk, IfErr, length, map};
+ghost use Rattle.ipld_links.specs.Reaching.{stored_in};
+ghost use Rattle.atproto_mst.specs.Keys.{Entry, IsKey};
+ghost use Rattle.atproto_mst.specs.Entries.{entries, IsMst};
+ghost use Rattle.atproto_mst.specs.Nodes.{row_told, node_told, key_of};
+ghost use Rattle.atproto_mst.specs.Walks.{Walks, WalksLink, WalksRows, WalksNode};
+ghost use Rattle.atproto_mst.specs.Stops.{RowFault, Stops, StopsBehind, StopsInRows, StopsInNode};
+ghost use Rattle.atproto_mst.specs.Stops.{MstRefused, last_key};
+ghost use Rattle.atproto_mst.specs.InLayers.{first_layer, IsRowOf, IfLinked, AreRowsOf, IsOfLayer};
+ghost use Rattle.atproto_mst.specs.InLayers.{IsEmpty, IsRightBelow};
+ghost use Rattle.atproto_mst.specs.Gathering.{Gathers, AddsRow, key_behind};
+ghost use Rattle.atproto_mst.specs.declared.error.MstError.TheVariants.{OutOfMemory};
 
-use crate::build::name_node;
-use crate::entries::{LONGEST_KEY, MstEntry, place, top_of};
+use crate::entries::{LONGEST_KEY, MstEntry};
 use crate::error::MstError;
-use crate::rows::Row;
-use crate::sink::NodeSink;
+use crate::keys::{layer_of_key, shared_front};
 use crate::stored::node_at;
-use ipld_links::stored_bytes;
 use ipld_tree::Cid;
+use repository_types::{Entry as Row, Node};
 use std::alloc::Global;
 use std::collections::BTreeMap;
 
 /// How many nodes stand below each other at most: one a layer, of 0 to 128.
 pub(crate) const MOST_LAYERS: u8 = 129;
-
-/// Nodes are compared with what is stored under their names.
-#[derive(Drop)]
-struct Compared<'a> {
-    blocks: &'a BTreeMap<Cid, Vec<u8>>,
-}
-
-impl NodeSink for Compared<'_> {
-    ghost World = { Stored };
-
-    ghost holds = { λ s stored nodes. (stored ≡ stored_in s.blocks.now) × AreStored stored nodes };
-
-    ghost refuses = { λ stored node e. (e ≡ OtherTree) × (stored node.0 ≢ Some node.1) };
-
-    fn take(&mut self, name: Cid, block: Vec<u8>) -> Result<(), MstError> {
-        match stored_bytes(self.blocks, &name) {
-            Some(bytes) => {
-                if bytes == block.as_slice() {
-                    Ok(())
-                } else {
-                    Err(MstError::OtherTree)
-                }
-            }
-            None => Err(MstError::OtherTree),
-        }
-    }
-}
 
 /// The entries of the tree that is stored with this root, in the order of their keys. Each node is
 /// read once, whatever else the map has, and of a tree that is refused nothing is read behind the
@@ -67,136 +38,198 @@ pub fn read_mst(
     ensures whole { (es : List Entry) → IsMst (stored_in blocks.now) root.now es →
         MatchResult result (λ v. entries v.items ≡ es) (λ e. e ≡ OutOfMemory) }
 {
+    let node = node_at(alloc, blocks, root)?;
     let mut found = Vec::new(alloc);
-    gather(alloc, blocks, root, MOST_LAYERS, &mut found)?;
-    check_tree(alloc, blocks, root, &found)?;
-    Ok(found)
-}
-
-/// Whether the nodes of the tree of these entries are stored, and this is its root.
-fn check_tree(
-    alloc: Global,
-    blocks: &BTreeMap<Cid, Vec<u8>>,
-    root: &Cid,
-    all: &[MstEntry],
-) -> Result<(), MstError>
-    ensures { MatchResult result
-        (λ _. (root.now ≡ root_of (entries all.now)) × AreStored (stored_in blocks.now) (nodes_of (entries all.now)))
-        (λ e. (e ≡ OutOfMemory) ⊎ ((e ≡ OtherTree) × ((root.now ≡ root_of (entries all.now))
-        → ¬ AreStored (stored_in blocks.now) (nodes_of (entries all.now))))) }
-{
-    let leaves = place(alloc, all)?;
-    let name = name_node(alloc, &leaves, top_of(&leaves), &mut Compared { blocks })?;
-    if name == *root {
-        Ok(())
+    let layer = root_layer(&node);
+    let is_root = gather_node(alloc, blocks, &node, MOST_LAYERS - 1, layer, &mut found)?;
+    if is_root {
+        Ok(found)
     } else {
         Err(MstError::OtherTree)
     }
 }
 
-/// Appends the entries of the tree of this root, whose keys come behind the last.
+/// The layer of the first key of a root, and 0 without one.
+fn root_layer(root: &Node) -> u8
+    ensures { result ≡ first_layer (node_told root.now).rows }
+{
+    match root.e.first() {
+        Some(row) => layer_of_key(&row.k.0),
+        None => 0,
+    }
+}
+
+/// Appends the entries of the tree of this root, whose keys come behind the last, and answers
+/// whether its nodes stand in the layers right below this one.
 #[cycle(gather)]
 fn gather(
     alloc: Global,
     blocks: &BTreeMap<Cid, Vec<u8>>,
     name: &Cid,
     layers: u8,
+    above: u8,
     found: &mut Vec<MstEntry>,
-) -> Result<(), MstError>
+) -> Result<bool, MstError>
     ensures walked { OnOk result
         (Gathers (Walks layers (stored_in blocks.now) name.now) found.old found.new) }
     ensures stopped { IfErr result (λ e. (e ≡ OutOfMemory) ⊎ Stops layers (stored_in blocks.now)
         (last_key [] (entries found.old.items)) name.now e) }
+    ensures fits { IfOk result (λ fits. Decides fits (IsRightBelow (stored_in blocks.now) above name.now)) }
 {
     let Some(lower) = layers.checked_sub(1) else {
         return Err(MstError::TooDeep(*name));
     };
     let node = node_at(alloc, blocks, name)?;
-    gather_below(alloc, blocks, &node.left, lower, found)?;
-    gather_rows(alloc, blocks, &node.rows, lower, found)
+    let is_node = is_lower(&node, above);
+    let fits = gather_node(alloc, blocks, &node, lower, above.saturating_sub(1), found)?;
+    Ok(fits & is_node)
 }
 
-/// The same of the tree behind the link, if there is one.
+/// Whether a node may stand below this layer: there is a lower one, and it is not empty.
+fn is_lower(node: &Node, above: u8) -> bool
+    ensures { Decides result ((1 ≤ above) × ¬ IsEmpty (node_told node.now)) }
+{
+    if above == 0 {
+        return false;
+    }
+    node.l.is_some() || !node.e.is_empty()
+}
+
+/// Appends the entries of a node and of the trees below it, and answers whether it stands in the
+/// layer, and its trees right below.
+#[cycle(gather)]
+fn gather_node(
+    alloc: Global,
+    blocks: &BTreeMap<Cid, Vec<u8>>,
+    node: &Node,
+    layers: u8,
+    layer: u8,
+    found: &mut Vec<MstEntry>,
+) -> Result<bool, MstError>
+    ensures walked { OnOk result
+        (Gathers (WalksNode (Walks layers (stored_in blocks.now)) (node_told node.now)) found.old found.new) }
+    ensures stopped { IfErr result (λ e. (e ≡ OutOfMemory)
+        ⊎ StopsInNode (Walks layers (stored_in blocks.now)) (Stops layers (stored_in blocks.now))
+        (last_key [] (entries found.old.items)) (node_told node.now) e) }
+    ensures fits { IfOk result (λ fits. Decides fits
+        (IsOfLayer (IsRightBelow (stored_in blocks.now) layer) layer (node_told node.now))) }
+{
+    let left = gather_below(alloc, blocks, &node.l, layers, layer, found)?;
+    let rows = gather_rows(alloc, blocks, &node.e, layers, layer, found)?;
+    Ok(left & rows)
+}
+
+/// Appends the entries of the tree behind the link, if there is one, and answers whether it stands
+/// right below the layer.
 #[cycle(gather)]
 fn gather_below(
     alloc: Global,
     blocks: &BTreeMap<Cid, Vec<u8>>,
     link: &Option<Cid>,
     layers: u8,
+    above: u8,
     found: &mut Vec<MstEntry>,
-) -> Result<(), MstError>
+) -> Result<bool, MstError>
     ensures walked { OnOk result
         (Gathers (WalksLink (Walks layers (stored_in blocks.now)) link.now) found.old found.new) }
     ensures stopped { IfErr result (λ e. (e ≡ OutOfMemory) ⊎ StopsBehind (Stops layers (stored_in blocks.now))
         (last_key [] (entries found.old.items)) link.now e) }
+    ensures fits { IfOk result (λ fits. Decides fits (IfLinked (IsRightBelow (stored_in blocks.now) above) link.now)) }
 {
     match link {
-        Some(name) => gather(alloc, blocks, name, layers, found),
-        None => Ok(()),
+        Some(name) => gather(alloc, blocks, name, layers, above, found),
+        None => Ok(true),
     }
 }
 
-/// Appends the entries of the rows of a node, and of the trees behind them.
+/// Appends the entries of the rows of a node and of the trees behind them, and answers whether they
+/// are of the layer, and the trees right below.
 #[cycle(gather)]
 fn gather_rows(
     alloc: Global,
     blocks: &BTreeMap<Cid, Vec<u8>>,
-    rows: &[Row<'_>],
+    rows: &[Row],
     layers: u8,
+    layer: u8,
     found: &mut Vec<MstEntry>,
-) -> Result<(), MstError>
+) -> Result<bool, MstError>
     ensures walked { OnOk result
         (Gathers (WalksRows (Walks layers (stored_in blocks.now)) [] (map row_told rows.now)) found.old found.new) }
     ensures stopped { IfErr result (λ e. (e ≡ OutOfMemory)
         ⊎ StopsInRows (Walks layers (stored_in blocks.now)) (Stops layers (stored_in blocks.now))
         (last_key [] (entries found.old.items)) [] (map row_told rows.now) e) }
+    ensures fits { IfOk result (λ fits. Decides fits
+        (AreRowsOf (IsRightBelow (stored_in blocks.now) layer) layer [] (map row_told rows.now))) }
 {
-    let mut key = Vec::new(alloc);
+    let mut fits = true;
+    // The key before in the node is that of the last of so many entries.
+    let mut previous = 0;
     for row in rows {
-        add_row(alloc, row, &mut key, found)?;
-        gather_below(alloc, blocks, &row.after, layers, found)?;
+        let is_row = add_row(alloc, row, layer, previous, found)?;
+        previous = found.len();
+        let below = gather_below(alloc, blocks, &row.t, layers, layer, found)?;
+        fits = fits & is_row & below;
     }
-    Ok(())
+    Ok(fits)
 }
 
-/// Appends the entry of the row, of the key before it in its node makes the row's key, and checks
-/// that this is one and comes behind the last.
+/// Appends the entry of the row behind that entry of its node, and answers whether it is one of the
+/// layer.
 fn add_row(
     alloc: Global,
-    row: &Row<'_>,
-    key: &mut Vec<u8>,
+    row: &Row,
+    layer: u8,
+    previous: usize,
     found: &mut Vec<MstEntry>,
-) -> Result<(), MstError>
-    ensures added { OnOk result (AddsRow (row_told row.now) key.old.items found.old key.new.items found.new) }
+) -> Result<bool, MstError>
+    requires { previous ≤ length found.old.items }
+    ensures added { OnOk result
+        (AddsRow (row_told row.now) (key_behind previous found.old.items) found.old found.new) }
     ensures stopped { IfErr result (λ e. (e ≡ OutOfMemory)
-        ⊎ RowFault key.old.items (last_key [] (entries found.old.items)) (row_told row.now) e) }
+        ⊎ RowFault (key_behind previous found.old.items) (last_key [] (entries found.old.items)) (row_told row.now) e) }
+    ensures fits { IfOk result
+        (λ fits. Decides fits (IsRowOf layer (key_behind previous found.old.items) (row_told row.now))) }
 {
-    if row.shared > key.len() as u64 {
+    let before = key_of_last(&found[..previous]);
+    let key = make_key(alloc, before, row)?;
+    if key_of_last(found).cmp(key.as_slice()).is_ge() {
+        return Err(MstError::KeyOrder);
+    }
+    let shared = shared_front(before, &key) as u64;
+    let fits = (layer_of_key(&key) == layer) & (shared == row.p);
+    let value = row.v;
+    found.reserve(1)?;
+    found.push_reserved(MstEntry { key, value });
+    Ok(fits)
+}
+
+/// The key of the row behind this key of its node.
+fn make_key(alloc: Global, previous: &[u8], row: &Row) -> Result<Vec<u8>, MstError>
+    ensures made { IfOk result (λ key. (row.now.p ≤ length previous.now)
+        × (key.items ≡ key_of previous.now (row_told row.now)) × IsKey key.items) }
+    ensures stopped { (before : List ℕ) → IfErr result (λ e. (e ≡ OutOfMemory)
+        ⊎ RowFault previous.now before (row_told row.now) e) }
+{
+    if row.p > previous.len() as u64 {
         return Err(MstError::KeyFront);
     }
-    let length = row.rest.len().saturating_add(row.shared as usize);
+    let shared = row.p as usize;
+    let length = row.k.0.len().saturating_add(shared);
     if length < 1 || length > LONGEST_KEY {
         return Err(MstError::KeyLength);
     }
-    key.truncate(row.shared as usize);
-    key.extend_from_slice(row.rest)?;
-    if !is_behind(found, key) {
-        return Err(MstError::KeyOrder);
-    }
-    let key = key.to_vec(alloc)?;
-    let value = row.value;
-    found.reserve(1)?;
-    found.push_reserved(MstEntry { key, value });
-    Ok(())
+    let mut key = Vec::with_capacity(alloc, length)?;
+    key.extend_from_slice(&previous[..shared])?;
+    key.extend_from_slice(&row.k.0)?;
+    Ok(key)
 }
 
-/// Whether the key comes behind that of the last entry, if there is one.
-fn is_behind(found: &[MstEntry], key: &[u8]) -> bool
-    requires { 1 ≤ length key.now }
-    ensures { result ≡ is_lt (slice_cmp nat_cmp (last_key [] (entries found.now)) key.now) }
+/// The key of the last entry, and no byte without one.
+fn key_of_last(found: &[MstEntry]) -> &[u8]
+    ensures { result.now ≡ last_key [] (entries found.now) }
 {
     match found.last() {
-        Some(last) => last.key.as_slice().cmp(key).is_lt(),
-        None => true,
+        Some(last) => &last.key,
+        None => &[],
     }
 }

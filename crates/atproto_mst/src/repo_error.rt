@@ -20,12 +20,9 @@ pub enum RepoError {
     /// The bytes under the name of the commit are not those that it names as a block.
     #[error("under the name of the commit other bytes are stored")]
     OtherBytes,
-    /// The block is no commit: a field is missing or of another kind, or it is no block.
+    /// The block is no commit: a field is missing, unknown or of another kind, or it is no block.
     #[error("the block is no commit: {0}")]
     NoCommit(DecodeError<Infallible>),
-    /// The commit has more fields than those of version 3.
-    #[error("the commit has other fields than one of version 3")]
-    OtherFields,
     /// The commit is of this version.
     #[error("the commit is of version {0}, and not of version 3")]
     OtherVersion(u8),

@@ -7,18 +7,19 @@ ghost use Rattle.atproto_mst.specs.Stops.{IsNamed, NodeFault};
 ghost use Rattle.atproto_mst.specs.declared.error.MstError.TheVariants.{OutOfMemory};
 
 use crate::error::MstError;
-use crate::rows::{Node, read_node};
+use crate::rows::read_node;
 use ipld_links::{name_of_block, stored_bytes};
 use ipld_tree::Cid;
+use repository_types::Node;
 use std::alloc::Global;
 use std::collections::BTreeMap;
 
 /// The node that is stored under the name, of whose bytes the name is.
-pub(crate) fn node_at<'b>(
+pub(crate) fn node_at(
     alloc: Global,
-    blocks: &'b BTreeMap<Cid, Vec<u8>>,
+    blocks: &BTreeMap<Cid, Vec<u8>>,
     name: &Cid,
-) -> Result<Node<'b>, MstError>
+) -> Result<Node, MstError>
     ensures { MatchResult result
         (λ node. IsNodeAt (stored_in blocks.now) name.now (node_told node))
         (λ e. ((e ≡ OutOfMemory) × IsNamed (stored_in blocks.now) name.now)

@@ -5,3 +5,4 @@ pub mod EnvelopeFronts
 pub mod VariantFronts
 pub mod PairNames
 pub mod SchemaRefusals
+pub mod ShownTrees

@@ -1,7 +1,7 @@
 -- What is answered of a file of blocks as a repository.
 use Rattle.std.specs.Prelude.{◌≡◌, ◌⊎◌, ℕ, ℤ, pos, negsuc, List, Result, MatchResult, Vec}
 use Rattle.std.specs.declared.alloc.Global.{Global}
-use Rattle.atproto_mst.specs.declared.commit.Commit.{Commit}
+use Rattle.repository_types.specs.declared.repository.Commit.{Commit}
 use Rattle.atproto_mst.specs.declared.entries.MstEntry.{MstEntry}
 use Rattle.record_lines.specs.Repositories.{IsRepoFile, IsNoRepoFile}
 use Rattle.dagcbor_calls.specs.CidTexts.{IsPut, PutsNone}

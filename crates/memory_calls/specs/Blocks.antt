@@ -8,7 +8,7 @@ use Rattle.dagcbor_write.specs.Answers.{AreSpellingOf}
 use Rattle.atproto_mst.specs.Keys.{Entry}
 use Rattle.atproto_mst.specs.Commits.{unsigned_tree}
 use Rattle.atproto_mst.specs.Entries.{entries}
-use Rattle.atproto_mst.specs.declared.commit.Commit.{Commit}
+use Rattle.repository_types.specs.declared.repository.Commit.{Commit}
 use Rattle.atproto_mst.specs.declared.entries.MstEntry.{MstEntry}
 
 -- a record: a list of its key and of a link to it

@@ -6,7 +6,7 @@ use Rattle.ipld_links.specs.Reaching.{Stored}
 use Rattle.atproto_mst.specs.Entries.{entries}
 use Rattle.atproto_mst.specs.Keys.{Rise}
 use Rattle.atproto_mst.specs.Repos.{IsRepo}
-use Rattle.atproto_mst.specs.declared.commit.Commit.{Commit}
+use Rattle.repository_types.specs.declared.repository.Commit.{Commit}
 use Rattle.atproto_mst.specs.declared.entries.MstEntry.{MstEntry}
 use Rattle.atproto_mst.specs.declared.repo.Repo.{Repo}
 use Rattle.record_lines.specs.Repositories.{IsHeld, IsUnreadOf, IsRepoFile, IsNoRepoFile}

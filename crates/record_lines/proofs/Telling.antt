@@ -7,7 +7,7 @@ use Rattle.ipld_links.specs.Verdicts.{IsVerified, IsVerdict}
 use Rattle.ipld_links.specs.declared.verdict.Verdict.{Verdict}
 use Rattle.ipld_links.specs.declared.verdict.Verdict.TheVariants as verdicts
 use Rattle.atproto_mst.specs.Repos.{IsRepo, RepoRefused, IsStoredCommit, CommitRefused}
-use Rattle.atproto_mst.specs.declared.commit.Commit.{Commit}
+use Rattle.repository_types.specs.declared.repository.Commit.{Commit}
 use Rattle.atproto_mst.specs.declared.entries.MstEntry.{MstEntry}
 use Rattle.atproto_mst.specs.declared.repo_error.RepoError.{RepoError}
 use Rattle.atproto_mst.specs.declared.repo_error.RepoError.TheVariants.{OutOfMemory}

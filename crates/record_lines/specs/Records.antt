@@ -10,7 +10,7 @@ use Rattle.atproto_mst.specs.Entries.{entries}
 use Rattle.atproto_mst.specs.Walks.{most_layers}
 use Rattle.atproto_mst.specs.Finding.{Finds, FindStops}
 use Rattle.atproto_mst.specs.Repos.{IsStoredCommit, CommitRefused}
-use Rattle.atproto_mst.specs.declared.commit.Commit.{Commit}
+use Rattle.repository_types.specs.declared.repository.Commit.{Commit}
 use Rattle.atproto_mst.specs.declared.entries.MstEntry.{MstEntry}
 use Rattle.atproto_mst.specs.declared.error.MstError.{MstError}
 use Rattle.atproto_mst.specs.declared.repo_error.RepoError.{RepoError}

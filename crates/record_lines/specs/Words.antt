@@ -41,7 +41,6 @@ repo_line name error.OutOfMemory = []
 repo_line name error.Missing = missing_line name
 repo_line name error.OtherBytes = name_line name (codes " other bytes")
 repo_line name (error.NoCommit e) = name_line name (codes " is no commit: " ++ variant_name e)
-repo_line name error.OtherFields = name_line name (codes " has other fields than a commit of version 3")
 repo_line name (error.OtherVersion n) = name_line name (codes " is a commit of version " ++ decimal n)
 repo_line name (error.Tree e) = tree_line e
 

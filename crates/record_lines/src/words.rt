@@ -69,10 +69,6 @@ pub fn repo_line(alloc: Global, name: &Cid, error: &RepoError) -> Result<Vec<u8>
             let cause = variant_name(cause);
             line_of(alloc, &cid_text(name), b" is no commit: ", cause.as_bytes())
         }
-        RepoError::OtherFields => {
-            let words = b" has other fields than a commit of version 3";
-            name_line(alloc, name, words)
-        }
         RepoError::OtherVersion(version) => version_line(alloc, name, *version),
         RepoError::Tree(error) => tree_line(alloc, error),
     }

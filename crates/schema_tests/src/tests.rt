@@ -1,4 +1,5 @@
 mod album;
 mod blocks;
 mod note;
+mod repository;
 mod written_again;

@@ -41,7 +41,7 @@ name_node-returns-clause-begun g t c =
 
 pub name_rows-returns-in_err-after-clause-begun : goal.name_rows-returns-in_err-after-clause-begun
 name_rows-returns-in_err-after-clause-begun g t c =
-    let p = err_from_is_err_and c.from_residual.result c.from_residual.ensures.1 in
+    let p = err_from_is_err_and c.from_residual-in_err-after.result c.from_residual-in_err-after.ensures.1 in
     let b = rest_whole (c.loop-at.at + 1) c.args.leaves.now in
     let count = c.count_lower-count.ensures.count ∙ ap (λ x. length (lower_run c.args.layer (all_told x))) b in
     let k = c.loop-at.invariant.taken in
@@ -49,9 +49,9 @@ name_rows-returns-in_err-after-clause-begun g t c =
     (nodes_here (subtree_nodes c.args.layer) c.args.layer c.loop-at.at c.count_lower-count.result c.args.leaves.now c.index-leaves-at.result k.0 (nodes_between (subtree_nodes c.args.layer) c.args.layer (all_told c.args.leaves.now)) (omega arith) (sym c.index-leaves-at.is) count c.loop-at.invariant.tops k.1)
     (subst (λ x. TakesFirst g.S.NodeSink.holds c.loop-at.sink (subtree_nodes c.args.layer (all_told (take c.count_lower-count.result x))) c.name_subtree.new.sink) b c.in_err-after.ensures.begun))
 
-pub name_rows-returns-in_err-reserve-clause-begun : goal.name_rows-returns-in_err-reserve-clause-begun
-name_rows-returns-in_err-reserve-clause-begun g t c =
-    let p = err_from_is_err_and c.from_residual-in_err-reserve.result c.from_residual-in_err-reserve.ensures.1 in
+pub name_rows-returns-in_err-row-clause-begun : goal.name_rows-returns-in_err-row-clause-begun
+name_rows-returns-in_err-row-clause-begun g t c =
+    let p = err_from_is_err_and c.from_residual-in_err-row.result c.from_residual-in_err-row.ensures.1 in
     let b = rest_whole (c.loop-at.at + 1) c.args.leaves.now in
     let count = c.count_lower-count.ensures.count ∙ ap (λ x. length (lower_run c.args.layer (all_told x))) b in
     let k = c.loop-at.invariant.taken in
@@ -63,6 +63,12 @@ name_rows-returns-in_err-reserve-clause-begun g t c =
       takes_then g.S.NodeSink.holds c.args.sink.now c.loop-at.sink c.name_subtree.new.sink k.0 (subtree_nodes c.args.layer (all_told (take c.count_lower-count.result (drop (c.loop-at.at + 1) c.args.leaves.now)))) k.2
           (subst (λ x. Takes g.S.NodeSink.holds c.loop-at.sink (subtree_nodes c.args.layer (all_told (take c.count_lower-count.result x))) c.name_subtree.new.sink) b c.in_ok-after.ensures.taken),
     )
+
+pub name_rows-returns-in_err-reserve-clause-begun : goal.name_rows-returns-in_err-reserve-clause-begun
+name_rows-returns-in_err-reserve-clause-begun g t c =
+    let p = err_from_is_err_and c.from_residual.result c.from_residual.ensures.1 in
+    let k = c.loop-at.invariant.taken in
+    rw p.1 (k.0, nodes_between (subtree_nodes c.args.layer) c.args.layer (all_told (drop c.loop-at.at c.args.leaves.now)), sym k.1, k.2)
 
 pub name_subtree-returns-in_err-name-clause-begun : goal.name_subtree-returns-in_err-name-clause-begun
 name_subtree-returns-in_err-name-clause-begun g t c =
@@ -105,7 +111,7 @@ name_node-returns-clause-refused g t c =
 
 pub name_rows-returns-in_err-after-clause-refused : goal.name_rows-returns-in_err-after-clause-refused
 name_rows-returns-in_err-after-clause-refused g t c =
-    let p = err_from_is_err_and c.from_residual.result c.from_residual.ensures.1 in
+    let p = err_from_is_err_and c.from_residual-in_err-after.result c.from_residual-in_err-after.ensures.1 in
     let b = rest_whole (c.loop-at.at + 1) c.args.leaves.now in
     let count = c.count_lower-count.ensures.count ∙ ap (λ x. length (lower_run c.args.layer (all_told x))) b in
     let k = c.loop-at.invariant.taken in
@@ -120,9 +126,9 @@ name_rows-loop-at-preserved g t c =
     let k = c.loop-at.invariant.taken in
     record {
       bound = bound_next c.loop-at.at c.count_lower-count.result c.args.leaves.now (omega arith) c.count_lower-count.ensures.bound;
-      rows = ap (λ rs. map tree_of_row (map row_told rs) ++ entry_trees (subtree c.args.layer) c.args.layer c.index-leaves-at.result.key.now (all_told (drop (c.loop-at.at + (1 + c.count_lower-count.result)) c.args.leaves.now))) (c.push_reserved.ensures.items ∙ ap (λ rs. rs ++ (c.row_of-row.result ∷ [])) c.in_ok-reserve.ensures.items)
-          ∙ rows_next (subtree c.args.layer) c.args.layer c.loop-at.at c.count_lower-count.result c.args.leaves.now c.index-leaves-at.result c.loop-at.rows.items c.row_of-row.result c.loop-at.previous.now c.in_ok-after.after (entry_trees (subtree c.args.layer) c.args.layer [] (all_told c.args.leaves.now))
-          (omega arith) (sym c.index-leaves-at.is) count c.loop-at.invariant.tops c.row_of-row.ensures (c.in_ok-after.ensures.name ∙ ap (λ x. subtree c.args.layer (all_told (take c.count_lower-count.result x))) b) c.loop-at.invariant.rows;
+      rows = ap (λ rs. map tree_of_row (map row_told rs) ++ entry_trees (subtree c.args.layer) c.args.layer c.index-leaves-at.result.key.now (all_told (drop (c.loop-at.at + (1 + c.count_lower-count.result)) c.args.leaves.now))) (c.push_reserved.ensures.items ∙ ap (λ rs. rs ++ (c.in_ok-row.row ∷ [])) c.in_ok-reserve.ensures.items)
+          ∙ rows_next (subtree c.args.layer) c.args.layer c.loop-at.at c.count_lower-count.result c.args.leaves.now c.index-leaves-at.result c.loop-at.rows.items c.in_ok-row.row c.loop-at.previous.now c.in_ok-after.after (entry_trees (subtree c.args.layer) c.args.layer [] (all_told c.args.leaves.now))
+          (omega arith) (sym c.index-leaves-at.is) count c.loop-at.invariant.tops c.in_ok-row.ensures (c.in_ok-after.ensures.name ∙ ap (λ x. subtree c.args.layer (all_told (take c.count_lower-count.result x))) b) c.loop-at.invariant.rows;
       tops = tops_next c.args.layer c.loop-at.at c.count_lower-count.result c.args.leaves.now count;
       taken = (
         k.0 ++ subtree_nodes c.args.layer (all_told (take c.count_lower-count.result (drop (c.loop-at.at + 1) c.args.leaves.now))),

@@ -1,11 +1,12 @@
-use Rattle.std.proofs.Common.{◌∙◌}
-use Rattle.atproto_mst.proofs.Comparing.{bytes_other}
-use Rattle.atproto_mst.proofs.ShownCommits.{commit_meaning, other_commit}
+use Rattle.std.proofs.Common.{inl, inr}
+use Rattle.atproto_mst.proofs.ShownCommits.{commit_read}
 use Rattle.atproto_mst.proofs.commit.read_commit.Goals as goal
 
-pub returns-else-eq : goal.returns-else-eq
-returns-else-eq c = (
-  (commit_meaning c.in_ok-commit.commit, c.in_ok-commit.ensures),
-  other_commit c.args.block.now c.in_ok-spelled.spelled.items c.in_ok-commit.commit c.in_ok-commit.ensures c.in_ok-spelled.ensures
-      (λ same. bytes_other c.as_slice.result.now c.args.block.now c.eq.result c.if-eq.false c.eq.ensures (c.as_slice.ensures.value ∙ same)),
-)
+pub returns-in-Ok : goal.returns-in-Ok
+returns-in-Ok c = commit_read c.args.block.now c.in-Ok.commit c.in-Ok.ensures.value
+
+pub returns-in_default : goal.returns-in_default
+returns-in_default c = elim c.in-Err.ensures.refused [
+  | inl memory ↦ absurd (c.in_default.not-OutOfMemory memory)
+  | inr none ↦ (none, c.in_default.not-OutOfMemory, c.in-Err.ensures.never, c.in-Err.ensures.behind)
+]

@@ -1,8 +1,0 @@
-use Rattle.std.proofs.Common.{inl, inr}
-use Rattle.atproto_mst.proofs.commit.parse_commit.Goals as goal
-
-pub returns-in_default : goal.returns-in_default
-returns-in_default c = elim c.in-Err.ensures.refused [
-  | inl memory ↦ absurd (c.in_default.not-OutOfMemory memory)
-  | inr none ↦ (none, c.in_default.not-OutOfMemory, c.in-Err.ensures.never, c.in-Err.ensures.behind)
-]

@@ -8,14 +8,17 @@ use Rattle.dagcbor_calls.specs.declared.tape.Token.{Token}
 
 -- an item of n bytes is told that takes one step
 abbrev pub IsLeafTold : Option (List ℕ) → ℕ → Type 0
-IsLeafTold told n = (s : List ℕ) × (told ≡ Some s) × (length s ≡ n) × ((t : Tree) × IsSpelling s t × (any_need t ≡ 1))
+IsLeafTold told n = (s : List ℕ) × (told ≡ Some s) × (length s ≡ n)
+    × ((t : Tree) × IsSpelling s t × (any_need t ≡ 1))
 
 -- Where the tokens from `next` on tell bytes, those from `at` on tell more, of which these are the
 -- rest; and the room is less by what is more.
 abbrev pub Tells : (List ℕ → List ℕ → Type 0) → List ℕ → List Token → ℕ → ℕ → ℕ → ℕ → Type 0
 Tells Splits b tape at next old new = (rest : List ℕ) → tape_told b (drop next tape) ≡ Some rest
-    → (s : List ℕ) × (tape_told b (drop at tape) ≡ Some s) × Splits s rest × (length s + new ≡ length rest + old)
+    → (s : List ℕ) × (tape_told b (drop at tape) ≡ Some s) × Splits s rest
+    × (length s + new ≡ length rest + old)
 
 -- the tape tells a block of n bytes
 abbrev pub TellsBlock : List ℕ → List Token → ℕ → Type 0
-TellsBlock b tape n = (s : List ℕ) × (tape_told b tape ≡ Some s) × (length s ≡ n) × ((t : Tree) × IsBlock s t)
+TellsBlock b tape n = (s : List ℕ) × (tape_told b tape ≡ Some s) × (length s ≡ n)
+    × ((t : Tree) × IsBlock s t)

@@ -52,7 +52,8 @@ TapeTellsBlock = (t : Tree) → tape_told (spelling t) (tape_of t) ≡ Some (spe
 
 -- how many bytes are told, where some are
 abbrev pub TellsLength : Option (List ℕ) → Option ℕ → Type 0
-TellsLength told result = MatchOption result (told ≡ None) (λ n. (s : List ℕ) × (told ≡ Some s) × (n ≡ length s))
+TellsLength told result = MatchOption result (told ≡ None)
+    (λ n. (s : List ℕ) × (told ≡ Some s) × (n ≡ length s))
 
 -- some bytes are told, for which the memory has room at the place
 abbrev pub HasRoomAt : Option (List ℕ) → ℕ → List ℕ → Type 0

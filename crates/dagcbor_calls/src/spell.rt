@@ -141,7 +141,7 @@ pub fn spell_tape(bytes: &[u8], tape: &[Token], out: &mut [u8], needed: &mut usi
     spell_slowly(bytes, tape, out, needed)
 }
 
-/// The same of any tape: counted, put and judged, one behind the other.
+/// Counts what any tape tells, puts it, and judges its bytes.
 #[cold]
 #[inline(never)]
 fn spell_slowly(bytes: &[u8], tape: &[Token], out: &mut [u8], needed: &mut usize) -> i32

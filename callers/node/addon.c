@@ -5,7 +5,7 @@
    write is refused. */
 #include "addon.h"
 
-enum { KEPT_TOKENS = 1 << 18 }; /* that have room in an array which is kept */
+enum { KEPT_TOKENS = 1 << 20 }; /* that have room in an array which is kept */
 
 void *raise(napi_env env, const char *said) {
     bool is_pending = false;

@@ -1,4 +1,4 @@
--- What differs between the trees of two roots, where of the subtrees that they share nothing is known.
+-- What differs between two trees, where nothing is known of the subtrees that both have.
 use Rattle.std.specs.Prelude.{◌≡◌, ◌⊎◌, ℕ, zero, suc, List, ◌∷◌, ◌++◌, map, Some}
 use Rattle.ipld_tree.specs.Cid.{CidParts}
 use Rattle.dagcbor_car.specs.Car.{Section}
@@ -18,8 +18,8 @@ use Rattle.atproto_mst.specs.declared.error.MstError.{MstError}
 abbrev pub IsRootOf : CidParts → List Entry → Type 0
 IsRootOf root es = AreEntries es × (root ≡ root_of es)
 
--- No two of the nodes have one name and other blocks; and where bytes are stored under the name of one,
--- and the name is theirs, they are its block.
+-- Nodes of one name have one block; and bytes that are stored under the name of a node, and have
+-- that name, are its block.
 pub record NamesBind (stored : Stored) (nodes : List Section) : Type 0 where
   pub of_nodes : (s t : Section) → Among s nodes → Among t nodes → s.0 ≡ t.0 → s.1 ≡ t.1
   pub of_stored : (s : Section) (b : List ℕ) → Among s nodes → stored s.0 ≡ Some b
@@ -36,7 +36,7 @@ AreChangesOf stored old new cs = (es fs : List Entry) → IsRootOf old es → Is
 abbrev pub HasLink : NodeParts → CidParts → Type 0
 HasLink p name = Among (Some name) (p.left ∷ map (λ r. r.after) p.rows)
 
--- links of nodes lead to the name, which is at most the so manieth on the way, the root the first
+-- links of nodes lead from the root to the name, by a way of at most so many names
 abbrev pub IsLedTo : ℕ → Stored → CidParts → CidParts → Type 0
 IsLedTo zero stored root name = ⊥
 IsLedTo (suc m) stored root name = (name ≡ root)
@@ -48,7 +48,7 @@ abbrev pub LacksNode : Stored → CidParts → MstError → Type 0
 LacksNode stored root e = (name : CidParts) × IsLedTo most_layers stored root name
     × NodeFault stored name e
 
--- A node of one of the trees is lacking; or the one tree is refused, or the other is and the one is not.
+-- A node of one is lacking; or the first tree is refused; or it is stored, and the second is refused
 abbrev pub DiffRefused : Stored → CidParts → CidParts → MstError → Type 0
 DiffRefused stored old new e = (LacksNode stored old e ⊎ LacksNode stored new e)
     ⊎ (MstRefused stored old e

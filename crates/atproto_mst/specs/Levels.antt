@@ -45,7 +45,7 @@ links_of (a_link name ∷ xs) = name ∷ links_of xs
 
 -- ---- a level down
 
--- An entry stays. A link of these names is dropped, and in place of each other stands what its node has.
+-- An entry stays. A link of these names is dropped; in place of another stands what its node has.
 abbrev pub OpensItem : Stored → List CidParts → Item → List Item → Type 0
 OpensItem stored dropped (an_entry e) xs = xs ≡ an_entry e ∷ []
 OpensItem stored dropped (a_link name) xs = (Among name dropped × (xs ≡ []))
@@ -64,11 +64,13 @@ OpensIf stored dropped false ys xs = xs ≡ ys
 
 -- where two levels are opened, the names that stand in both are dropped, and else none
 abbrev pub Drops : Bool → List CidParts → List CidParts → List CidParts → Type 0
-Drops true names others dropped = (q : CidParts) → Among q dropped ↔ (Among q names × Among q others)
+Drops true names others dropped = (q : CidParts)
+    → Among q dropped ↔ (Among q names × Among q others)
 Drops false names others dropped = dropped ≡ []
 
 -- of two trees, a level down in each of which it is asked for
-pub record StepsDown (stored : Stored) (asked : Bool × Bool) (before after below others : List Item) : Type 0 where
+pub record StepsDown (stored : Stored) (asked : Bool × Bool)
+    (before after below others : List Item) : Type 0 where
   pub dropped : List CidParts
   pub drops : Drops (asked.0 && asked.1) (links_of before) (links_of after) dropped
   pub one : OpensIf stored dropped asked.0 before below

@@ -1,14 +1,15 @@
 //! A walk down a tree: its entries above a layer, and links to the trees between them.
 
-ghost use Rattle.std.specs.Prelude.{◌≡◌, ◌⊎◌, ◌↔◌, [], ◌∷◌, ◌++◌, ◌≤◌, List, MatchResult, IfOk, OnOk, IfErr, IsTrue, map, length};
+ghost use Rattle.std.specs.Prelude.{◌≡◌, ◌⊎◌, ◌↔◌, [], ◌∷◌, ◌++◌, List, map, IsTrue};
+ghost use Rattle.std.specs.Prelude.{MatchResult, IfOk, OnOk, IfErr};
 ghost use Rattle.ipld_tree.specs.Cid.{CidParts};
 ghost use Rattle.ipld_links.specs.Reaching.{stored_in};
 ghost use Rattle.ipld_links.specs.Sets.{Among, members};
-ghost use Rattle.atproto_mst.specs.Keys.{IsKey};
 ghost use Rattle.atproto_mst.specs.Entries.{entry_of, entries};
 ghost use Rattle.atproto_mst.specs.Nodes.{node_told, row_told, key_of};
-ghost use Rattle.atproto_mst.specs.Levels.{Item, an_entry, a_link, link_items, row_items, node_items, held_items, level_items};
-ghost use Rattle.atproto_mst.specs.Levels.{links_of, Opens, OpensIf, IsOfShape, LinksRefused};
+ghost use Rattle.atproto_mst.specs.Levels.{Item, an_entry, a_link, link_items, row_items};
+ghost use Rattle.atproto_mst.specs.Levels.{node_items, held_items, level_items, links_of};
+ghost use Rattle.atproto_mst.specs.Levels.{Opens, OpensIf, IsOfShape, LinksRefused};
 ghost use Rattle.atproto_mst.specs.declared.error.MstError.TheVariants.{OutOfMemory};
 
 use crate::entries::{LONGEST_KEY, MstEntry};
@@ -221,7 +222,7 @@ fn push_rows(alloc: Global, node: &Node<'_>, opened: &mut Vec<LevelEntry>) -> Re
     Ok(())
 }
 
-/// Appends the entry of a row, and the link behind it. The key before it in the node becomes its key.
+/// Appends the entry of a row, and the link behind it, and makes its key of the one before it.
 fn push_row(
     alloc: Global,
     row: &Row<'_>,

@@ -1,4 +1,4 @@
-//! What differs between two trees, of which only the nodes that differ are read.
+//! What differs between two trees, where the subtrees that both have are left out.
 
 ghost use Rattle.std.specs.Prelude.{◌≡◌, ◌⊎◌, [], List, MatchResult, IfOk, IfErr};
 ghost use Rattle.ipld_links.specs.Reaching.{stored_in};
@@ -7,7 +7,8 @@ ghost use Rattle.atproto_mst.specs.Keys.{Entry};
 ghost use Rattle.atproto_mst.specs.Entries.{entries, IsMst};
 ghost use Rattle.atproto_mst.specs.Stops.{MstRefused, NodeFault};
 ghost use Rattle.atproto_mst.specs.Changes.{changes, AreChanges};
-ghost use Rattle.atproto_mst.specs.Levels.{level_items, links_of, IsOfShape, LinksRefused, Drops, StepsDown};
+ghost use Rattle.atproto_mst.specs.Levels.{level_items, links_of, Drops, StepsDown};
+ghost use Rattle.atproto_mst.specs.Levels.{IsOfShape, LinksRefused};
 ghost use Rattle.atproto_mst.specs.Differing.{AreChangesOf, LacksNode, DiffRefused};
 ghost use Rattle.atproto_mst.specs.declared.error.MstError.TheVariants.{OutOfMemory};
 
@@ -25,9 +26,10 @@ use std::alloc::{AllocError, Global};
 use std::collections::BTreeMap;
 
 /// The keys whose records differ between the trees with these roots, in their order. Subtrees that
-/// both have are left out, so the answer is right whether or not they are stored. The roots are read,
-/// but of equal ones nothing is, and there are no changes. Where keys or the shape of a tree are
-/// wrong, both trees are read whole, to tell what is.
+/// both have are left out, so the answer is right whether or not they are stored. The roots are
+/// read, but of equal ones nothing is, and there are no changes. Where keys or the shape of a tree
+/// are wrong, both trees are read whole, to tell what is; but an answer does not say that they are
+/// trees.
 pub fn diff(
     alloc: Global,
     blocks: &BTreeMap<Cid, Vec<u8>>,

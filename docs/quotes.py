@@ -91,8 +91,7 @@ def main(words):
         elif made != text:
             print(f"{page.name}: a quotation is not as its source: run docs/quotes.py page")
             status = 1
-        # callers/run runs the examples of that page as they stand.
-        for paragraph in strangers(made, all_sources) if page.name != "OTHER_LANGUAGES.md" else []:
+        for paragraph in strangers(made, all_sources):
             print(f"{page.name}: stands in no source:\n{paragraph}\n")
             status = 1
     if logic := other_logic():

@@ -190,7 +190,7 @@ func unpacked(packed []byte) []CID {
 	return found
 }
 
-// Token is a head of a block, as docs/OTHER_LANGUAGES.md has them.
+// Token is a head of a block, as docs/languages/CALLS.md has them.
 type Token struct {
 	Kind, Number, Place uint64
 }

@@ -1,6 +1,7 @@
 //! The entries of a tree that is stored.
 
-ghost use Rattle.std.specs.Prelude.{◌≡◌, ◌≤◌, ◌⊎◌, [], ℕ, List, Decides, MatchResult, IfOk, OnOk, IfErr, length, map};
+ghost use Rattle.std.specs.Prelude.{◌≡◌, ◌≤◌, ◌⊎◌, [], ℕ, List, length, map};
+ghost use Rattle.std.specs.Prelude.{Decides, MatchResult, IfOk, OnOk, IfErr};
 ghost use Rattle.ipld_links.specs.Reaching.{stored_in};
 ghost use Rattle.atproto_mst.specs.Keys.{Entry, IsKey};
 ghost use Rattle.atproto_mst.specs.Entries.{entries, IsMst};
@@ -74,7 +75,8 @@ fn gather(
         (Gathers (Walks layers (stored_in blocks.now) name.now) found.old found.new) }
     ensures stopped { IfErr result (λ e. (e ≡ OutOfMemory) ⊎ Stops layers (stored_in blocks.now)
         (last_key [] (entries found.old.items)) name.now e) }
-    ensures fits { IfOk result (λ fits. Decides fits (IsRightBelow (stored_in blocks.now) above name.now)) }
+    ensures fits { IfOk result
+        (λ fits. Decides fits (IsRightBelow (stored_in blocks.now) above name.now)) }
 {
     let Some(lower) = layers.checked_sub(1) else {
         return Err(MstError::TooDeep(*name));
@@ -107,7 +109,8 @@ fn gather_node(
     found: &mut Vec<MstEntry>,
 ) -> Result<bool, MstError>
     ensures walked { OnOk result
-        (Gathers (WalksNode (Walks layers (stored_in blocks.now)) (node_told node.now)) found.old found.new) }
+        (Gathers (WalksNode (Walks layers (stored_in blocks.now)) (node_told node.now)) found.old
+        found.new) }
     ensures stopped { IfErr result (λ e. (e ≡ OutOfMemory)
         ⊎ StopsInNode (Walks layers (stored_in blocks.now)) (Stops layers (stored_in blocks.now))
         (last_key [] (entries found.old.items)) (node_told node.now) e) }
@@ -132,9 +135,11 @@ fn gather_below(
 ) -> Result<bool, MstError>
     ensures walked { OnOk result
         (Gathers (WalksLink (Walks layers (stored_in blocks.now)) link.now) found.old found.new) }
-    ensures stopped { IfErr result (λ e. (e ≡ OutOfMemory) ⊎ StopsBehind (Stops layers (stored_in blocks.now))
+    ensures stopped { IfErr result (λ e. (e ≡ OutOfMemory)
+        ⊎ StopsBehind (Stops layers (stored_in blocks.now))
         (last_key [] (entries found.old.items)) link.now e) }
-    ensures fits { IfOk result (λ fits. Decides fits (IfLinked (IsRightBelow (stored_in blocks.now) above) link.now)) }
+    ensures fits { IfOk result
+        (λ fits. Decides fits (IfLinked (IsRightBelow (stored_in blocks.now) above) link.now)) }
 {
     match link {
         Some(name) => gather(alloc, blocks, name, layers, above, found),
@@ -154,7 +159,8 @@ fn gather_rows(
     found: &mut Vec<MstEntry>,
 ) -> Result<bool, MstError>
     ensures walked { OnOk result
-        (Gathers (WalksRows (Walks layers (stored_in blocks.now)) [] (map row_told rows.now)) found.old found.new) }
+        (Gathers (WalksRows (Walks layers (stored_in blocks.now)) [] (map row_told rows.now))
+        found.old found.new) }
     ensures stopped { IfErr result (λ e. (e ≡ OutOfMemory)
         ⊎ StopsInRows (Walks layers (stored_in blocks.now)) (Stops layers (stored_in blocks.now))
         (last_key [] (entries found.old.items)) [] (map row_told rows.now) e) }
@@ -186,9 +192,11 @@ fn add_row(
     ensures added { OnOk result
         (AddsRow (row_told row.now) (key_behind previous found.old.items) found.old found.new) }
     ensures stopped { IfErr result (λ e. (e ≡ OutOfMemory)
-        ⊎ RowFault (key_behind previous found.old.items) (last_key [] (entries found.old.items)) (row_told row.now) e) }
+        ⊎ RowFault (key_behind previous found.old.items) (last_key [] (entries found.old.items))
+        (row_told row.now) e) }
     ensures fits { IfOk result
-        (λ fits. Decides fits (IsRowOf layer (key_behind previous found.old.items) (row_told row.now))) }
+        (λ fits. Decides fits
+        (IsRowOf layer (key_behind previous found.old.items) (row_told row.now))) }
 {
     let before = key_of_last(&found[..previous]);
     let key = make_key(alloc, before, row)?;

@@ -3,7 +3,7 @@
 
 use crate::changes::{are_told, change_one};
 use crate::tests::{Kept, agree, is_named, numbered_all};
-use atproto_mst::{Change, MstEntry, MstError, diff, write_mst};
+use atproto_mst::{MstEntry, MstError, diff, write_mst};
 use ipld_links::name_of_block;
 use ipld_tree::Cid;
 use std::alloc::{AllocError, Global};
@@ -147,14 +147,20 @@ fn each_is_read(alloc: Global, blocks: &mut Blocks, old: &Cid, new: &Cid) -> Res
         let Some(block) = blocks.remove(name) else {
             return Err(Fail::from("a node is not there"));
         };
-        is_refused(diff(alloc, blocks, old, new), MstError::MissingNode(*name))?;
+        is_refused(alloc, blocks, old, new, MstError::MissingNode(*name))?;
         blocks.insert(*name, block)?;
     }
     Ok(())
 }
 
-fn is_refused(found: Result<Vec<Change>, MstError>, wanted: MstError) -> Result<(), Fail> {
-    match found {
+fn is_refused(
+    alloc: Global,
+    blocks: &Blocks,
+    old: &Cid,
+    new: &Cid,
+    wanted: MstError,
+) -> Result<(), Fail> {
+    match diff(alloc, blocks, old, new) {
         Err(error) => agree(error, wanted),
         Ok(_) => Err(Fail::from("a fault was not told")),
     }
@@ -254,6 +260,6 @@ fn keys_that_repeat_are_told(rt: HostRuntime) -> Result<(), Fail> {
     };
     let (empty, none) = tree_of(alloc, &[])?;
     put_all(empty.blocks, &mut blocks)?;
-    is_refused(diff(alloc, &blocks, &root, &none), MstError::KeyOrder)?;
-    is_refused(diff(alloc, &blocks, &none, &root), MstError::KeyOrder)
+    is_refused(alloc, &blocks, &root, &none, MstError::KeyOrder)?;
+    is_refused(alloc, &blocks, &none, &root, MstError::KeyOrder)
 }

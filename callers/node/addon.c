@@ -5,7 +5,7 @@
    write is refused. */
 #include "addon.h"
 
-enum { KEPT_TOKENS = 1 << 18 }; /* that have room in an array which is kept */
+enum { KEPT_TOKENS = 1 << 20 }; /* that have room in an array which is kept */
 
 void *raise(napi_env env, const char *said) {
     bool is_pending = false;
@@ -72,6 +72,13 @@ napi_value copied(napi_env env, const uint8_t *bytes, size_t length) {
     uint8_t *at;
     napi_value array = new_bytes(env, length, &at);
     if (array && length) memcpy(at, bytes, length);
+    return array;
+}
+
+napi_value doubles(napi_env env, const void *numbers, size_t count) {
+    void *at;
+    napi_value array = new_array(env, napi_float64_array, count, sizeof(double), &at);
+    if (array && count) memcpy(at, numbers, count * sizeof(double));
     return array;
 }
 
@@ -144,19 +151,14 @@ static napi_value place(napi_env env, napi_callback_info info) {
 static napi_value follow(napi_env env, napi_callback_info info) {
     size_t count = 2, length, path_length, places[3];
     napi_value given[2];
-    void *numbers;
     TRY(napi_get_cb_info(env, info, &count, given, NULL, NULL));
     const uint8_t *block = bytes_in(env, given[0], &length);
     const uint8_t *path = bytes_in(env, given[1], &path_length);
     if (!block || !path) return no_bytes(env);
     int32_t code = dagcbor_follow(block, length, path, path_length, places);
     if (code < 0) return number_of(env, code);
-    napi_value answer = new_array(env, napi_float64_array, 4, sizeof(double), &numbers);
-    double *told = numbers;
-    if (!answer) return NULL;
-    told[0] = code;
-    for (int i = 0; i < 3; i++) told[1 + i] = (double)places[i];
-    return answer;
+    double told[] = {code, (double)places[0], (double)places[1], (double)places[2]};
+    return doubles(env, told, 4);
 }
 
 /* part(block, segment): a Float64Array of the kind of the part to which the segment leads, taken
@@ -164,18 +166,14 @@ static napi_value follow(napi_env env, napi_callback_info info) {
 static napi_value part(napi_env env, napi_callback_info info) {
     size_t count = 2, length, segment_length, place, end;
     napi_value given[2];
-    void *numbers;
     TRY(napi_get_cb_info(env, info, &count, given, NULL, NULL));
     const uint8_t *block = bytes_in(env, given[0], &length);
     const uint8_t *segment = bytes_in(env, given[1], &segment_length);
     if (!block || !segment) return no_bytes(env);
     int32_t code = dagcbor_part(block, length, segment, segment_length, &place, &end);
     if (code < 0) return number_of(env, code);
-    napi_value answer = new_array(env, napi_float64_array, 3, sizeof(double), &numbers);
-    double *told = numbers;
-    if (!answer) return NULL;
-    told[0] = code, told[1] = (double)place, told[2] = (double)end;
-    return answer;
+    double told[] = {code, (double)place, (double)end};
+    return doubles(env, told, 3);
 }
 
 /* tape(block): a BigUint64Array of three numbers for each token. */

@@ -28,6 +28,8 @@ const uint8_t *bytes_in(napi_env env, napi_value given, size_t *length);
 napi_value new_bytes(napi_env env, size_t length, uint8_t **at);
 napi_value copied(napi_env env, const uint8_t *bytes, size_t length);
 
+napi_value doubles(napi_env env, const void *numbers, size_t count); /* a Float64Array of them */
+
 /* Of files of blocks */
 napi_value car_open(napi_env env, napi_callback_info info);
 napi_value car_put(napi_env env, napi_callback_info info);

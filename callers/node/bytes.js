@@ -23,6 +23,15 @@ const isBytes = (value) => tagOf.call(value) === 'Uint8Array' && isOwn(bufferOf.
 const view = (bytes, from, to) =>
   new Uint8Array(bufferOf.call(bytes), offsetOf.call(bytes) + from, to - from);
 
+// The bytes by no other class: those that are detached are none.
+const whole = (bytes) => {
+  if (!isBytes(bytes)) {
+    throw new TypeError('a Uint8Array over memory that is not shared is wanted');
+  }
+  const length = lengthOf.call(bytes);
+  return length ? view(bytes, 0, length) : new Uint8Array();
+};
+
 const joined = (parts) => {
   const all = new Uint8Array(parts.reduce((sum, it) => sum + it.length, 0));
   parts.reduce((at, it) => (all.set(it, at), at + it.length), 0);
@@ -32,4 +41,4 @@ const joined = (parts) => {
 // The bytes of a text of one unit for each.
 const fromLatin1 = (text) => Uint8Array.from(text, (unit) => unit.charCodeAt(0));
 
-module.exports = { fromLatin1, isBytes, joined, lengthOf, view };
+module.exports = { fromLatin1, isBytes, joined, lengthOf, view, whole };

@@ -125,15 +125,12 @@ static napi_value batch_of(napi_env env, Walk *walk, size_t count) {
 
 /* [code, place, bytes, numbers]: why the work stopped, and where; four numbers of each section. */
 static napi_value answer_of(napi_env env, Walk *walk) {
-    size_t size = walk->told.used, count = size / sizeof(Told);
-    napi_value answer, parts[4], buffer;
-    void *at;
+    size_t count = walk->told.used / sizeof(Told);
+    napi_value answer, parts[4];
     TRY(napi_create_int32(env, walk->code, &parts[0]));
     TRY(napi_create_double(env, (double)(walk->check.car.place + walk->check.car.skip), &parts[1]));
     if (!(parts[2] = batch_of(env, walk, count))) return NULL;
-    TRY(napi_create_arraybuffer(env, size, &at, &buffer));
-    if (size) memcpy(at, walk->told.start, size);
-    TRY(napi_create_typedarray(env, napi_float64_array, 4 * count, buffer, 0, &parts[3]));
+    if (!(parts[3] = doubles(env, walk->told.start, 4 * count))) return NULL;
     TRY(napi_create_array_with_length(env, 4, &answer));
     for (uint32_t i = 0; i < 4; i++) TRY(napi_set_element(env, answer, i, parts[i]));
     return answer;
@@ -181,16 +178,15 @@ static napi_value missing_of(napi_env env, const Names *names) {
 /* carFound(walk): [roots, counts, missing]. Names are packed; the counts are those of the
  * verdicts, from the least number on; none are missing before a check is at its end. */
 napi_value car_found(napi_env env, napi_callback_info info) {
-    napi_value given, answer, parts[3], buffer;
-    void *at;
+    napi_value given, answer, parts[3];
+    double counts[VERDICTS];
     Walk *walk = walk_of(env, info, 1, &given);
     if (!walk) return NULL;
     Check *check = &walk->check;
     if (walk->is_check && !check_inside(check)) return no_memory(env);
     if (!(parts[0] = copied(env, check->car.roots.start, check->car.roots.used))) return NULL;
-    TRY(napi_create_arraybuffer(env, VERDICTS * sizeof(double), &at, &buffer));
-    for (int i = 0; i < VERDICTS; i++) ((double *)at)[i] = (double)check->verdicts[i];
-    TRY(napi_create_typedarray(env, napi_float64_array, VERDICTS, buffer, 0, &parts[1]));
+    for (int i = 0; i < VERDICTS; i++) counts[i] = (double)check->verdicts[i];
+    if (!(parts[1] = doubles(env, counts, VERDICTS))) return NULL;
     parts[2] = walk->is_check ? missing_of(env, &check->names) : copied(env, NULL, 0);
     if (!parts[2]) return NULL;
     TRY(napi_create_array_with_length(env, 3, &answer));

@@ -2,7 +2,7 @@
 'use strict';
 const { native } = require('./library.js');
 const { CID, binaryOf, cidOf, unpack } = require('./cid.js');
-const { joined } = require('./bytes.js');
+const { joined, whole } = require('./bytes.js');
 const { encode } = require('./encode.js');
 const { DagCborError, KINDS, REASONS, refusal } = require('./errors.js');
 const { latin1 } = require('./platform.js');
@@ -25,7 +25,10 @@ const pieces = function* (bytes) {
 };
 
 // The bytes of a CID, of this package or another; and a text of them.
-const bytesOf = (cid) => (cid.bytes instanceof Uint8Array ? cid.bytes : cid);
+const bytesOf = (cid) => {
+  const { bytes } = cid;
+  return bytes instanceof Uint8Array ? bytes : cid;
+};
 const keyOf = (cid) => binaryOf(cid) ?? latin1(bytesOf(cid));
 
 class CarError extends DagCborError {}
@@ -287,10 +290,10 @@ const headerOf = (roots) => {
 };
 
 const sectionOf = ({ cid, bytes }) => {
-  const code = native.verify(bytesOf(cid), bytes);
+  const [name, block] = [bytesOf(cid), bytes].map(whole);
+  const code = native.verify(name, block);
   if (code === OTHER_BYTES || code < LEAST) throw refusal(code);
-  const name = bytesOf(cid);
-  return joined([lengthOf(name.length + bytes.length), name, bytes]);
+  return joined([lengthOf(name.length + block.length), name, block]);
 };
 
 class CarWriter {

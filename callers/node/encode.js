@@ -138,22 +138,32 @@ const putHuge = (text) => {
   at += bytes.length;
 };
 
+// Writes the low byte of each unit, and answers all units in one.
+const putUnits = (text, from) => {
+  const into = out;
+  const count = text.length;
+  let all = 0;
+  for (let i = 0; i < count; i++) {
+    const unit = text.charCodeAt(i);
+    into[from + i] = unit;
+    all |= unit;
+  }
+  return all;
+};
+
 // Most are short, and of ASCII. Of others it is guessed how many bytes their head has.
 const putText = (text) => {
   const count = text.length;
   if (count >= SHORT) return putLong(text);
   room(WIDEST + 3 * count);
-  const into = out;
-  const from = at + 1;
-  let i = 0;
-  for (let unit; i < count && (unit = text.charCodeAt(i)) < 0x80; i++) into[from + i] = unit;
-  if (i === count) {
-    into[at] = 0x60 + count;
-    at = from + count;
-  } else {
-    const behind = at + (count > 7 && text.charCodeAt(0) >= 0x800 ? 2 : 1);
-    putBefore(behind, putUtf8(text, behind) - behind);
+  const isBeyond = count > 0 && text.charCodeAt(0) >= 0x80;
+  if (!isBeyond && putUnits(text, at + 1) < 0x80) {
+    out[at] = 0x60 + count;
+    at += 1 + count;
+    return;
   }
+  const behind = at + (count > 7 && text.charCodeAt(0) >= 0x800 ? 2 : 1);
+  putBefore(behind, putUtf8(text, behind) - behind);
 };
 
 const putBytes = (bytes) => {
@@ -169,7 +179,8 @@ const putLink = (binary) => {
   out[at++] = 0x2a;
   putHead(0x40, 1 + binary.length, 1 + binary.length);
   out[at++] = 0;
-  for (let i = 0; i < binary.length; i++) out[at++] = binary.charCodeAt(i);
+  putUnits(binary, at);
+  at += binary.length;
 };
 
 const enter = () => {

@@ -29,7 +29,7 @@ const followText = (block, path) => {
   return { item: view(block, begin, end), isLink: kind === LINK, left };
 };
 
-// The same, where each segment is taken whole.
+// As followText, where each segment is taken whole.
 const followSegments = (block, segments) => {
   let kind = answered(native.check(block), () => native.place(block));
   let item = block;

@@ -1,19 +1,10 @@
 // What the addon of callers/node answers, by the WebAssembly module.
 'use strict';
-const { fromLatin1, isBytes, joined, lengthOf, view } = require('../node/bytes.js');
+const { fromLatin1, joined, whole } = require('../node/bytes.js');
 const { latin1 } = require('../node/platform.js');
 const { walking } = require('./walk.js');
 
-// The bytes, by no other class. Those that are detached are none.
-const given = (bytes) => {
-  if (!isBytes(bytes)) {
-    throw new TypeError('a Uint8Array over memory that is not shared is wanted');
-  }
-  const length = lengthOf.call(bytes);
-  return length ? view(bytes, 0, length) : new Uint8Array();
-};
-
-const of = (call) => (...all) => call(...all.map(given));
+const of = (call) => (...all) => call(...all.map(whole));
 
 // A number of the library, or what is made of its other answers.
 const told = (answer, make) => (typeof answer === 'number' ? answer : make(answer));
@@ -33,7 +24,7 @@ const nativeOf = (calls) => ({
     [kind, begin, end])),
   cidText: (binary) => calls.cidText(fromLatin1(binary)),
   cidFromText: (text) => told(calls.cidFromText(text), (bytes) => latin1(bytes)),
-  ...walking(calls, given),
+  ...walking(calls),
 });
 
 module.exports = { nativeOf };

@@ -1,7 +1,7 @@
 // Files of blocks by the WebAssembly module, as car.c of callers/node goes through them: pieces are
 // put, and what stands whole in them is told. Nothing of a file is parsed here.
 'use strict';
-const { fromLatin1, joined } = require('../node/bytes.js');
+const { fromLatin1, joined, whole } = require('../node/bytes.js');
 const { latin1 } = require('../node/platform.js');
 
 const [MORE, END, TRUNCATED, OTHER_BYTES, LEAST, NOT_READ] = [100, 101, -24, -22, -23, 9];
@@ -145,11 +145,11 @@ class Walk {
   }
 }
 
-const walking = (calls, given) => ({
+const walking = (calls) => ({
   carOpen: (isCheck) => new Walk(calls, isCheck),
   carPut: (walk, piece) => {
     if (piece === undefined) walk.isWhole = true;
-    else walk.put(given(piece));
+    else walk.put(whole(piece));
   },
   carGo: async (walk) => walk.go(),
   carFound: (walk) => walk.found(),

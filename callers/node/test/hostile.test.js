@@ -6,7 +6,7 @@ const { execFileSync } = require('node:child_process');
 const { join } = require('node:path');
 const { test } = require('node:test');
 const vm = require('node:vm');
-const { CID, DagCborError, decode, encode, name } = require('..');
+const { CID, CarReader, CarWriter, DagCborError, decode, encode, name } = require('..');
 const { spelling } = require('./plain.js');
 
 const hex = (bytes) => Buffer.from(bytes).toString('hex');
@@ -233,6 +233,29 @@ test('CIDs of others that change', () => {
   }
   const copied = { ...cid };
   written(copied, {}); // nothing of it is enumerable by a text
+});
+
+test('what a file is written of', async () => {
+  class Odd extends Uint8Array {
+    get length() { return 3; }
+    get byteLength() { return 3; }
+  }
+  const block = encode([1, 'x'.repeat(50)]);
+  const [own, other] = [name(block).bytes, cid.bytes];
+  let n = 0;
+  const turning = { get bytes() { return n++ ? other : own; } };
+  for (const of of [turning, { bytes: Odd.from(own) }]) {
+    const { writer, out } = CarWriter.create();
+    writer.put({ cid: of, bytes: Odd.from(block) });
+    writer.close();
+    const file = await CarReader.fromIterable(out);
+    assert.deepStrictEqual((await file.get(name(block))).bytes, block);
+  }
+  const { writer } = CarWriter.create();
+  for (const bytes of ['x', [1], new Uint16Array(1), new Uint8Array(new SharedArrayBuffer(1))]) {
+    await assert.rejects(writer.put({ cid, bytes }), TypeError);
+    await assert.rejects(writer.put({ cid: { bytes }, bytes: block }), TypeError);
+  }
 });
 
 test('much, deep and without end', () => {

@@ -38,7 +38,7 @@ export const latin1 = (bytes, from = 0, to = lengthOf.call(bytes)) => {
   return text;
 };
 
-// The same where they are ASCII: of other bytes each is some unit.
+// A text of ASCII; of other bytes each is some unit.
 export const plain = (bytes, from, to) => fromPlain.decode(view(bytes, from, to));
 
 // The text of UTF-8.

@@ -16,7 +16,7 @@ use Rattle.atproto_mst.specs.declared.entries.MstEntry.{MstEntry}
 use Rattle.atproto_mst.specs.declared.error.MstError.{MstError}
 use Rattle.atproto_mst.specs.declared.error.MstError.TheVariants as error
 use Rattle.atproto_mst.specs.declared.levels.LevelEntry.{LevelEntry}
-use Rattle.atproto_mst.specs.declared.rows.Node.{Node}
+use Rattle.repository_types.specs.declared.repository.Node.{Node}
 
 -- ---- items, joined
 

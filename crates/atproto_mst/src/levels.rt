@@ -14,10 +14,10 @@ ghost use Rattle.atproto_mst.specs.declared.error.MstError.TheVariants.{OutOfMem
 
 use crate::entries::{LONGEST_KEY, MstEntry};
 use crate::error::MstError;
-use crate::rows::{Node, Row};
 use crate::stored::node_at;
 use ipld_links::CidSet;
 use ipld_tree::Cid;
+use repository_types::{Entry as Row, Node};
 use std::alloc::{AllocError, Global};
 use std::collections::BTreeMap;
 
@@ -153,7 +153,7 @@ fn open_level(
         open_entry(alloc, blocks, dropped, held, &mut opened)?;
     }
     Ok(Level {
-        left: node.left,
+        left: node.l,
         entries: opened,
     })
 }
@@ -174,17 +174,17 @@ fn open_entry(
 {
     let LevelEntry { entry, after } = held;
     let node = node_below(alloc, blocks, dropped, &after)?;
-    push_entry(entry, node.left, opened)?;
+    push_entry(entry, node.l, opened)?;
     push_rows(alloc, &node, opened)
 }
 
 /// The node behind the link; one with nothing, where there is no link, or it is dropped.
-fn node_below<'b>(
+fn node_below(
     alloc: Global,
-    blocks: &'b BTreeMap<Cid, Vec<u8>>,
+    blocks: &BTreeMap<Cid, Vec<u8>>,
     dropped: &CidSet,
     link: &Option<Cid>,
-) -> Result<Node<'b>, MstError>
+) -> Result<Node, MstError>
     ensures { MatchResult result
         (λ node. Opens (stored_in blocks.now) (members dropped.now) (link_items link.now)
         (node_items (node_told node)))
@@ -200,23 +200,23 @@ fn node_below<'b>(
 }
 
 /// A node with nothing.
-fn no_node<'b>(alloc: Global) -> Node<'b>
+fn no_node(alloc: Global) -> Node
     ensures { node_items (node_told result) ≡ [] }
 {
     Node {
-        rows: Vec::new(alloc),
-        left: None,
+        l: None,
+        e: Vec::new(alloc),
     }
 }
 
 /// Appends the entries of a node, and the links behind them.
-fn push_rows(alloc: Global, node: &Node<'_>, opened: &mut Vec<LevelEntry>) -> Result<(), MstError>
+fn push_rows(alloc: Global, node: &Node, opened: &mut Vec<LevelEntry>) -> Result<(), MstError>
     ensures pushed { OnOk result (held_items opened.new.items
         ≡ held_items opened.old.items ++ row_items [] (node_told node.now).rows) }
     ensures refused { IfErr result (λ e. (e ≡ OutOfMemory) ⊎ IsOfShape e) }
 {
     let mut key = Vec::new(alloc);
-    for row in &node.rows {
+    for row in &node.e {
         push_row(alloc, row, &mut key, opened)?;
     }
     Ok(())
@@ -225,27 +225,27 @@ fn push_rows(alloc: Global, node: &Node<'_>, opened: &mut Vec<LevelEntry>) -> Re
 /// Appends the entry of a row, and the link behind it, and makes its key of the one before it.
 fn push_row(
     alloc: Global,
-    row: &Row<'_>,
+    row: &Row,
     key: &mut Vec<u8>,
     opened: &mut Vec<LevelEntry>,
 ) -> Result<(), MstError>
     ensures key { OnOk result (key.new.items ≡ key_of key.old.items (row_told row.now)) }
     ensures pushed { OnOk result (held_items opened.new.items ≡ held_items opened.old.items
-        ++ (an_entry (key.new.items, row.now.value) ∷ link_items row.now.after)) }
+        ++ (an_entry (key.new.items, row.now.v) ∷ link_items row.now.t)) }
     ensures refused { IfErr result (λ e. (e ≡ OutOfMemory) ⊎ IsOfShape e) }
 {
-    if row.shared > key.len() as u64 {
+    if row.p > key.len() as u64 {
         return Err(MstError::KeyFront);
     }
-    let length = row.rest.len().saturating_add(row.shared as usize);
+    let length = row.k.0.len().saturating_add(row.p as usize);
     if length < 1 || length > LONGEST_KEY {
         return Err(MstError::KeyLength);
     }
-    key.truncate(row.shared as usize);
-    key.extend_from_slice(row.rest)?;
+    key.truncate(row.p as usize);
+    key.extend_from_slice(&row.k.0)?;
     let key = key.to_vec(alloc)?;
-    let value = row.value;
-    push_entry(MstEntry { key, value }, row.after, opened)
+    let value = row.v;
+    push_entry(MstEntry { key, value }, row.t, opened)
 }
 
 /// Appends the entry and the link behind it, if its key comes behind that of the last.

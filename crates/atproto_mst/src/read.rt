@@ -51,7 +51,7 @@ pub fn read_mst(
 }
 
 /// The layer of the first key of a root, and 0 without one.
-fn root_layer(root: &Node) -> u8
+pub(crate) fn root_layer(root: &Node) -> u8
     ensures { result ≡ first_layer (node_told root.now).rows }
 {
     match root.e.first() {

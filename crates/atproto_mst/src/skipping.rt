@@ -14,11 +14,10 @@ ghost use Rattle.atproto_mst.specs.declared.error.MstError.TheVariants.{OutOfMem
 
 use crate::diffs::{Change, diff_entries, diff_whole};
 use crate::error::MstError;
-use crate::keys::layer_of_key;
 use crate::levels::{
     Level, common_names, is_of_shape, link_names, only_entries, open_if, whole_level,
 };
-use crate::read::MOST_LAYERS;
+use crate::read::{MOST_LAYERS, root_layer};
 use crate::stored::node_at;
 use ipld_links::CidSet;
 use ipld_tree::Cid;
@@ -93,10 +92,7 @@ fn top_layer_at(alloc: Global, blocks: &BTreeMap<Cid, Vec<u8>>, root: &Cid) -> R
     ensures { IfErr result (λ e. (e ≡ OutOfMemory) ⊎ NodeFault (stored_in blocks.now) root.now e) }
 {
     let node = node_at(alloc, blocks, root)?;
-    match node.rows.first() {
-        Some(row) => Ok(layer_of_key(row.rest)),
-        None => Ok(0),
-    }
+    Ok(root_layer(&node))
 }
 
 /// The levels below, each where it is asked for. Where both are, links of one name are dropped.

@@ -160,8 +160,9 @@ fn is_refused(
     new: &Cid,
     wanted: MstError,
 ) -> Result<(), Fail> {
-    match diff(alloc, blocks, old, new) {
-        Err(error) => agree(error, wanted),
+    let found = diff(alloc, blocks, old, new);
+    match &found {
+        Err(error) => agree(*error, wanted),
         Ok(_) => Err(Fail::from("a fault was not told")),
     }
 }

@@ -18,7 +18,7 @@ use Rattle.atproto_mst.specs.Differing.{IsRootOf, NamesBind, HasLink, IsLedTo, L
 use Rattle.atproto_mst.specs.declared.error.MstError.{MstError}
 use Rattle.atproto_mst.specs.declared.error.MstError.TheVariants as error
 use Rattle.atproto_mst.proofs.Canonical.{mst_walked}
-use Rattle.atproto_mst.proofs.Comparing.{equal_name, other_name, stored_one}
+use Rattle.atproto_mst.proofs.Comparing.{equal_name, other_name}
 use Rattle.atproto_mst.proofs.Descending.{Steps}
 use Rattle.atproto_mst.proofs.Nodes.{same_node, same_node_at}
 use Rattle.atproto_mst.proofs.Opening.{links_joined}
@@ -205,6 +205,12 @@ module _ (stored : Stored) (es fs : List Entry) (bind : NamesBind stored (nodes_
       same_node k.block p q (subst (λ b. IsNode b p) (same ∙ block) h.node) k.node
 
 -- ---- where both trees are stored, names bind
+
+-- what is stored under the names of some nodes is stored under one of them
+stored_one : (stored : Stored) (nodes : List Section) (s : Section) → AreStored stored nodes → Among s nodes → stored s.0 ≡ Some s.1
+stored_one stored (x ∷ xs) s h (inl e) = ap (λ y. stored y.0) e ∙ h.0 ∙ ap (λ y. Some y.1) (sym e)
+stored_one stored (x ∷ xs) s h (inr m) = stored_one stored xs s h.1 m
+stored_one stored [] s h m = absurd m
 
 both_stored : (stored : Stored) (a b : List Section) → AreStored stored a → AreStored stored b → AreStored stored (a ++ b)
 both_stored stored [] b h k = k

@@ -1,11 +1,14 @@
-// The package for Go beside fxamacker/cbor: package SHAPE BY CALL prints the nanoseconds of processor
-// time of a call, user and system of the whole process, with what the collector takes.
+// Nanoseconds of each call, the least of RUNS in turn: package RUNS prints a line for each shape of
+// data: `Marshal`, `Unmarshal` into its type and into an `any`, of ours, and of fxamacker/cbor.
 package main
 
 import (
 	"bytes"
 	"fmt"
 	"os"
+	"runtime"
+	"strconv"
+	"strings"
 	"syscall"
 
 	dagcbor "../../callers/go"
@@ -18,30 +21,6 @@ type person struct {
 	YearOfBirth uint16 `json:"year_of_birth"`
 }
 
-var hopper = person{"Grace Hopper", "computer scientist", 1906}
-
-func people() (list []person) {
-	for i := 0; i < 1000; i++ {
-		list = append(list, hopper)
-	}
-	return
-}
-
-func integers() (list []uint16) {
-	for i := uint16(256); i < 5000; i++ {
-		list = append(list, i)
-	}
-	return
-}
-
-func numbered() map[string]uint32 {
-	entries := map[string]uint32{}
-	for i := uint32(0); i < 1000; i++ {
-		entries[fmt.Sprint("key ", i)] = i
-	}
-	return entries
-}
-
 func must[T any](value T, err error) T {
 	if err != nil {
 		panic(err)
@@ -49,46 +28,52 @@ func must[T any](value T, err error) T {
 	return value
 }
 
+// Of the whole process, user and system, with what the collector takes.
 func processorTime() int64 {
 	var used syscall.Rusage
 	must(0, syscall.Getrusage(syscall.RUSAGE_SELF, &used))
 	return used.Utime.Nano() + used.Stime.Nano()
 }
 
-func run[T any](value T, by, call string) {
-	marshal, unmarshal := dagcbor.Marshal, dagcbor.Unmarshal
-	theirs := must(cbor.CanonicalEncOptions().EncMode()).Marshal
-	block := must(marshal(value))
-	if !bytes.Equal(block, must(theirs(value))) {
+func run[T any](value T) {
+	block, theirs := must(dagcbor.Marshal(value)), must(cbor.CanonicalEncOptions().EncMode())
+	if !bytes.Equal(block, must(theirs.Marshal(value))) {
 		panic("they write other bytes")
 	}
-	if by == "theirs" {
-		marshal, unmarshal = theirs, cbor.Unmarshal
+	calls, least := []func(){
+		func() { must(dagcbor.Marshal(value)) },
+		func() { must(0, dagcbor.Unmarshal(block, new(T))) },
+		func() { must(0, dagcbor.Unmarshal(block, new(any))) },
+		func() { must(theirs.Marshal(value)) },
+		func() { must(0, cbor.Unmarshal(block, new(T))) },
+		func() { must(0, cbor.Unmarshal(block, new(any))) },
+	}, [6]int64{}
+	for runs, times := must(strconv.Atoi(os.Args[1])), 8<<20/len(block); runs > 0; runs-- {
+		for at, call := range calls {
+			runtime.GC()
+			start := processorTime()
+			for i := 0; i < times; i++ {
+				call()
+			}
+			if took := (processorTime() - start) / int64(times); least[at] == 0 || took < least[at] {
+				least[at] = took
+			}
+		}
 	}
-	calls := map[string]func(){
-		"Marshal":   func() { must(marshal(value)) },
-		"Unmarshal": func() { must(0, unmarshal(block, new(T))) },
-		"into any":  func() { must(0, unmarshal(block, new(any))) },
-	}
-	once, times := calls[call], 1+(8<<20)/len(block)
-	once()
-	start := processorTime()
-	for i := 0; i < times; i++ {
-		once()
-	}
-	fmt.Println((processorTime() - start) / int64(times))
+	fmt.Println(strings.Trim(fmt.Sprint(least), "[]"))
 }
 
 func main() {
-	by, call := os.Args[2], os.Args[3]
-	switch os.Args[1] {
-	case "person":
-		run(hopper, by, call)
-	case "people":
-		run(people(), by, call)
-	case "integers":
-		run(integers(), by, call)
-	default:
-		run(numbered(), by, call)
+	hopper := person{"Grace Hopper", "computer scientist", 1906}
+	people, integers, entries := [1000]person{}, [4744]uint16{}, map[string]uint32{}
+	for i := range people {
+		people[i], entries[fmt.Sprint("key ", i)] = hopper, uint32(i)
 	}
+	for i := range integers {
+		integers[i] = uint16(256 + i)
+	}
+	run(hopper)
+	run(people[:])
+	run(integers[:])
+	run(entries)
 }

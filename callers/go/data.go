@@ -66,7 +66,7 @@ type writer struct {
 	tokens   []Token
 	payloads []byte
 	size     int // of the block
-	path     []any
+	levels   int // of lists and maps around
 }
 
 var writers = sync.Pool{New: func() any { return &writer{} }}
@@ -80,7 +80,7 @@ func Marshal(value any) ([]byte, error) {
 	writer := writers.Get().(*writer)
 	defer writers.Put(writer)
 	writer.tokens, writer.payloads = writer.tokens[:0], writer.payloads[:0]
-	writer.size, writer.path = 0, writer.path[:0]
+	writer.size, writer.levels = 0, 0
 	if err := writer.add(value); err != nil {
 		return nil, err
 	}
@@ -88,7 +88,14 @@ func Marshal(value any) ([]byte, error) {
 }
 
 func (writer *writer) refuse(kind, said string) error {
-	return &Error{Kind: kind, Place: -1, Path: append([]any{}, writer.path...), said: said}
+	return &Error{Kind: kind, Place: -1, Path: []any{}, said: said}
+}
+
+// The error, of what is in a list or map at this step.
+func behind(step any, err error) error {
+	it := err.(*Error)
+	it.Path = append([]any{step}, it.Path...)
+	return it
 }
 
 func headSize(number uint64) int {
@@ -162,21 +169,21 @@ func (writer *writer) bigInteger(n *big.Int) error {
 }
 
 // What is in a list or map.
-func (writer *writer) part(step, value any) error {
-	if len(writer.path) == mostLevels+1 {
+func (writer *writer) part(value any) error {
+	if writer.levels == mostLevels+1 {
 		return writer.refuse("DepthOverflow", "lists and maps are in each other too deep")
 	}
-	writer.path = append(writer.path, step)
+	writer.levels++
 	err := writer.add(value)
-	writer.path = writer.path[:len(writer.path)-1]
+	writer.levels--
 	return err
 }
 
 func (writer *writer) list(count int, at func(int) any) error {
 	writer.token(List, uint64(count))
 	for i := 0; i < count; i++ {
-		if err := writer.part(i, at(i)); err != nil {
-			return err
+		if err := writer.part(at(i)); err != nil {
+			return behind(i, err)
 		}
 	}
 	return nil
@@ -184,13 +191,19 @@ func (writer *writer) list(count int, at func(int) any) error {
 
 func (writer *writer) entries(keys []string, at func(string) any) error {
 	sort.Slice(keys, func(i, j int) bool { return isBefore(keys[i], keys[j]) })
-	writer.token(Map, uint64(len(keys)))
-	for _, key := range keys {
+	return writer.ordered(len(keys), func(i int) (string, any) { return keys[i], at(keys[i]) })
+}
+
+// A map of so many entries, whose keys come in the order of blocks.
+func (writer *writer) ordered(count int, at func(int) (string, any)) error {
+	writer.token(Map, uint64(count))
+	for i := 0; i < count; i++ {
+		key, value := at(i)
 		if err := writer.text(key); err != nil {
 			return err
 		}
-		if err := writer.part(key, at(key)); err != nil {
-			return err
+		if err := writer.part(value); err != nil {
+			return behind(key, err)
 		}
 	}
 	return nil

@@ -59,19 +59,20 @@ func isEmpty(value reflect.Value) bool {
 }
 
 func (writer *writer) structure(value reflect.Value) error {
-	var keys []string
-	parts := map[string]any{}
-	for _, it := range fieldsOf(value.Type()) {
-		part := value.Field(it.index)
-		if _, isTwice := parts[it.name]; isTwice {
+	all := fieldsOf(value.Type())
+	there := make([]field, 0, len(all))
+	for _, it := range all {
+		if it.omitEmpty && isEmpty(value.Field(it.index)) {
+			continue
+		}
+		if last := len(there) - 1; last >= 0 && there[last].name == it.name {
 			return writer.refuse("UnorderedKey", "two fields have one name, "+it.name)
 		}
-		if !it.omitEmpty || !isEmpty(part) {
-			keys = append(keys, it.name)
-			parts[it.name] = part.Interface()
-		}
+		there = append(there, it)
 	}
-	return writer.entries(keys, func(key string) any { return parts[key] })
+	return writer.ordered(len(there), func(i int) (string, any) {
+		return there[i].name, value.Field(there[i].index).Interface()
+	})
 }
 
 // Unmarshal reads a block into what the pointer points at: what Marshal takes, with structs as maps.

@@ -132,6 +132,7 @@ fn split_tagged(number: u64, bytes: &[u8], whole: usize) -> Option<(Token, &[u8]
 }
 
 /// The token of the head at the front, and what is behind it and its payload.
+#[inline(always)]
 fn split_token(bytes: &[u8], whole: usize) -> Option<(Token, &[u8])>
     requires { length bytes.now ≤ whole }
     ensures tokens { SplitsTokenIfThere (λ p. p.0) (λ p. p.1.now) whole bytes.now result }

@@ -1,8 +1,8 @@
 #!/usr/bin/env python3
-"""Draws docs/speed.svg: the ratios that stand in the tables of docs/SPEED.md, as bars from the line at 1.
+"""Puts the ratios of all tables of docs/SPEED.md into the one at its top, and draws some of them as bars (docs/speed.svg).
 
-    bench/bars.py          draws it anew; so does each script that puts a table into the page
-    bench/bars.py check    fails where the picture is another than the tables say
+    bench/bars.py          does both anew; so does each script that puts a table into the page
+    bench/bars.py check    fails where the table or the picture is another than the tables say
 
 Nothing is measured here. A bar to the left took less time than what it is compared with, one to the right more; the scale is
 logarithmic, so that half and twice the time are as far from the line."""
@@ -26,6 +26,7 @@ GROUPS = [
     ("Node: the engine's own JSON of the same data", "Node",
      {"decode / JSON.parse": "decode: ", "encode / JSON.stringify": "encode: "}, "the record|10,000"),
 ]
+BEGIN, END = "<!-- made by bench/bars.py -->\n", "<!-- so far, of all tables -->\n"
 WIDTH, LEFT, RIGHT, TOP, STEP, BAR = 860, 330, 800, 62, 19, 12
 
 STYLE = """
@@ -63,6 +64,34 @@ def bars_of(page, first, columns, wanted):
                     ratio = row[head.index(column)]
                     if re.fullmatch(r"[\d.]+", ratio) and re.match(wanted, row[0]):
                         yield name + row[0].replace("`", "").replace(", from a file", ""), float(ratio)
+
+
+def ratios_of(table):
+    """For each column of ratios its name, and the ratios by the names of their rows; what all is compared with is left out."""
+    head, _, *rows = table
+    for at, column in enumerate(head):
+        if " / " in column or column.startswith("by "):
+            ratios = {row[0]: row[at] for row in rows if re.fullmatch(r"[\d.]+", row[at])}
+            ratios = {name: float(ratio) for name, ratio in ratios.items() if not (column.startswith("by ") and ratio == "1.00")}
+            if ratios:
+                yield column, ratios
+
+
+def summary(page):
+    """One table of all: for each column of ratios the least, the greatest, and which row has that."""
+    yield "| Table | Ratio | rows | least | greatest | which row has that |\n|---|---|---|---|---|---|\n"
+    for table in tables(page):
+        for column, ratios in ratios_of(table):
+            worst = max(ratios, key=ratios.get)
+            cells = [table[0][0], column, len(ratios), f"{min(ratios.values()):.2f}", f"{ratios[worst]:.2f}", worst]
+            yield f"| {' | '.join(map(str, cells))} |\n"
+
+
+def summarised(page):
+    """The page, with the table of all in its place."""
+    before, _, rest = page.partition(BEGIN)
+    after = rest.partition(END)[2]
+    return before + BEGIN + "".join(summary(before + after)) + END + after
 
 
 def text(x, y, words, kind="", anchor="start"):
@@ -110,15 +139,18 @@ def picture():
 
 
 def draw():
-    """Draws the picture of the tables that stand in the page."""
+    """Draws the picture of the tables that stand in the page, and puts the table of all into it."""
+    PAGE.write_text(summarised(PAGE.read_text(encoding="utf-8")), encoding="utf-8")
     PICTURE.write_text(picture(), encoding="utf-8")
 
 
 def main(words):
     if words != ["check"]:
         draw()
-    elif not PICTURE.exists() or PICTURE.read_text(encoding="utf-8") != picture():
-        print("docs/speed.svg is not what the tables of docs/SPEED.md say: run bench/bars.py")
+        return 0
+    page = PAGE.read_text(encoding="utf-8")
+    if page != summarised(page) or not PICTURE.exists() or PICTURE.read_text(encoding="utf-8") != picture():
+        print("docs/speed.svg, or the first table of docs/SPEED.md, is not what its tables say: run bench/bars.py")
         return 1
     return 0
 

@@ -1,5 +1,5 @@
 #!/usr/bin/env python3
-"""Speed of the packages for Python and Node on a file of blocks, beside `dagcar check`.
+"""Speed of the packages for Python, Go and Node on a file of blocks, beside `dagcar check`.
 
     bench/car_packages.py [RUNS] [PROGRAM] [page]
 
@@ -15,7 +15,7 @@ import sys
 import tempfile
 
 from cars import FILE, RECORD, put, seconds
-from languages import HERE, PYTHON, printed, python_package
+from languages import CRATE, HERE, PYTHON, printed, python_package
 from measuring import ROOT, built, into_page, load, machine
 
 BEGIN = "<!-- made by bench/car_packages.py page -->\n"
@@ -23,7 +23,10 @@ END = "<!-- so far, of files in packages -->\n"
 PROGRAM = ["`dagcar check`", "`dagcar list`, which hashes nothing"]
 PACKAGES = {
     "Python": ["`check_car` of an open file", "`check_car` of bytes", "`read_car` of an open file",
+               "`check_car` of an open file, with `sha256=hashlib.sha256`",
+               "`read_car` of an open file, with `sha256=hashlib.sha256`",
                "the sections alone: a loop reads lengths and bytes, and judges nothing"],
+    "Go": ["`CARReader`", "`CARReader`, with the `SHA256` of crypto/sha256"],
     "Node": ["`checkCar` of a stream", "`checkCar` of bytes", "`CarBlockIterator` of a stream"],
 }
 told = []
@@ -34,12 +37,20 @@ def tell(line):
     told.append(line + "\n")
 
 
-def in_turn(runs, given, program, env):
+def go_program(folder):
+    library = os.path.abspath(os.environ.get("DAGCBOR_LIBRARY", f"{CRATE}/out/libdagcbor_ffi.a"))
+    env = os.environ | {"GO111MODULE": "off", "GOFLAGS": "", "GOCACHE": f"{folder}/go", "CGO_LDFLAGS": f"-L{os.path.dirname(library)}"}
+    subprocess.run(["go", "build", "-o", f"{folder}/cars", "cars.go"], cwd=HERE, env=env, check=True)
+    return f"{folder}/cars"
+
+
+def in_turn(runs, given, program, env, go):
     """Of each run the times of each row."""
     count = str(FILE // RECORD + 1)
     for _ in range(runs):
         row = [seconds([program, command], given) for command in ("check", "list")]
         row += printed([PYTHON, f"{HERE}/cars.py", given, count], env=env)[0]
+        row += printed([go, given, count])[0] if go else []
         if shutil.which("node"):
             row += printed(["node", f"{HERE}/cars.js", f"{ROOT}/callers/node", given, count])[0]
         yield row
@@ -48,7 +59,7 @@ def in_turn(runs, given, program, env):
 def main(words):
     runs = next((int(it) for it in words if it.isdigit()), 9)
     program = next((it for it in words if "/" in it), None) or built("dagcar", 1)
-    packages = ["Python"]
+    packages = ["Python", "Go"] if shutil.which("go") else ["Python"]
     if shutil.which("node"):
         subprocess.run(["node", f"{ROOT}/callers/node/build.js"], check=True)
         packages.append("Node")
@@ -57,7 +68,8 @@ def main(words):
         given, busy = f"{folder}/records", load()
         put(given, FILE // RECORD, RECORD)
         size = os.path.getsize(given) / 1e6
-        rows = list(in_turn(runs, given, program, python_package(folder)))
+        go = go_program(folder) if "Go" in packages else None
+        rows = list(in_turn(runs, given, program, python_package(folder), go))
     least = [min(it) for it in zip(*rows)]
     tell(f"Measured {machine()}, {busy},\nprocessor time, the least of {runs} runs.\n")
     title = f"{size:.0f} MB of blocks of {RECORD} bytes, {FILE // RECORD + 1:,} sections"

@@ -2,17 +2,21 @@
 """Memory and time against size: the library's calls, proved and built, for a thousand to a million items.
 
     bench/growth.py [WORD..]
+    bench/growth.py page
 
 For each call (or each whose name has one of the words) a line with the processor time an item at each size, and the heap that was
 live at most beyond what was before, as a factor of the block's bytes. The time grows linearly where the numbers of a call stay
-what they are. For a call of `to_vec` the value that is written was before. Nothing here is a test."""
+what they are. For a call of `to_vec` the value that is written was before. With `page` the time of some calls over blocks of 1 KB to 100 MB is put
+into docs/SPEED.md, and drawn (bench/curves.py). Nothing here is a test."""
 
+import random
 import subprocess
 import sys
 import tempfile
 
-from blocks import LINK, digits, keyed, listed, numbers, string
-from measuring import ROOT, building, built, called, heap_counter
+import curves
+from blocks import LINK, digits, keyed, listed, numbers, record, string
+from measuring import ROOT, building, built, called, heap_counter, into_page, load, machine
 
 SIZES = (1_000, 10_000, 100_000, 1_000_000)
 # So many items are gone through at each size, that the time can be told.
@@ -59,6 +63,21 @@ CALLS = (
 )
 
 
+# What is drawn: each call over blocks of about so many bytes, which are read until this many bytes are.
+BYTES = {"1 KB": 10**3, "10 KB": 10**4, "100 KB": 10**5, "1 MB": 10**6, "10 MB": 10**7, "100 MB": 10**8}
+READ = 2 * 10**7
+RECORD = record(random.Random(1))
+DRAWN = (
+    ("check_slice", "records", lambda size: listed(size // len(RECORD), RECORD)),
+    ("links_from_slice", "records", lambda size: listed(size // len(RECORD), RECORD)),
+    ("from_slice::<Ipld>", "records", lambda size: listed(size // len(RECORD), RECORD)),
+    ("to_vec::<Ipld>", "records", lambda size: listed(size // len(RECORD), RECORD)),
+    ("from_slice::<Vec<u64>>", "numbers", lambda size: listed(size // len(NUMBER), NUMBER)),
+    ("from_reader::<Vec<u64>>", "numbers", lambda size: listed(size // len(NUMBER), NUMBER)),
+)
+BEGIN, END = "<!-- made by bench/growth.py page -->\n", "<!-- so far, of growth -->\n"
+
+
 def chosen_keys(folder):
     """Keys of eight letters in their order, whose hashes agree in their low bits."""
     program = f"{folder}/chosen_keys"
@@ -76,8 +95,30 @@ def line(program, library, name, call, items, block, times):
     print(f"{name:48} {items:9} {len(block):9} {each:11.1f} {(held - held_before) / len(block):18.2f}", flush=True)
 
 
+def seconds(program, call, block):
+    """The processor time of one call, the least of three runs."""
+    times = max(1, READ // len(block))
+    took = [[called(program, call, n, block)[0] for n in (0, times)] for _ in range(3)]
+    return max(1e-9, min(it for _, it in took) - min(it for it, _ in took)) / times
+
+
+def page(program):
+    """Puts the times of what is drawn into the page, and draws them."""
+    told = [f"Measured {machine()}, {load()},\nprocessor time, the least of 3 runs.\n\n"]
+    told += [f"| {curves.FIRST} | {' | '.join(BYTES)} |\n", f"|{'---|' * (len(BYTES) + 1)}\n"]
+    for call, what, block in DRAWN:
+        row = [f"{seconds(program, call, block(size)):.2e}" for size in BYTES.values()]
+        told.append(f"| `{call}`, {what} | {' | '.join(row)} |\n")
+        print(told[-1], end="", flush=True)
+    into_page(BEGIN, told, END)
+    curves.draw()
+
+
 def main(words):
     program = built("dagcbor_bench")
+    if words == ["page"]:
+        page(program)
+        return
     with tempfile.TemporaryDirectory(prefix="growth-") as folder:
         library = heap_counter(folder)
         if library is None:

@@ -56,6 +56,28 @@ def blocks():
     yield "10,000 links", listed(10_000, LINK)
 
 
+FRENCH = "les élèves de la classe sont partis ce matin pour visiter le musée avec leur professeur et sont rentrés très tard".split()
+JAPANESE = "日本語 東京 学校 先生 猫 犬 水 山 川 ひらがな カタカナ 電車 新聞 音楽 映画 料理 天気".split()
+
+
+def text(chance, words, count, between):
+    """A text of so many words, spelled."""
+    spelled = between.join(chance.choices(words, k=count)).encode()
+    size = len(spelled)
+    return (bytes([0x60 + size]) if size < 24 else bytes([0x78, size]) if size < 256 else head(3, size)) + spelled
+
+
+def maps_and_texts():
+    """Wide maps, and texts beyond ASCII: each block's name, and its bytes."""
+    chance = random.Random(1)
+    entries = [b"\x65key_" + bytes([97 + n]) + b"\x19" + chance.randrange(256, 65536).to_bytes(2, "big") for n in range(20)]
+    yield "500 maps of 20 keys", listed(500, b"\xb4" + b"".join(entries))
+    yield "500 texts of 3 words of French", head(4, 500) + b"".join(text(chance, FRENCH, 3, " ") for _ in range(500))
+    yield "500 texts of 100 words of French", head(4, 500) + b"".join(text(chance, FRENCH, 100, " ") for _ in range(500))
+    yield "500 texts of 5 words of Japanese", head(4, 500) + b"".join(text(chance, JAPANESE, 5, "") for _ in range(500))
+    yield "500 texts of 100 words of Japanese", head(4, 500) + b"".join(text(chance, JAPANESE, 100, "") for _ in range(500))
+
+
 def printed(words, **how):
     """The numbers of each line."""
     ran = subprocess.run(words, stdout=subprocess.PIPE, text=True, check=True, **how)
@@ -121,6 +143,8 @@ def packages(folder, runs, names, paths):
 
 
 def beside_json(folder, runs, names, paths):
+    more = list(written(folder, maps_and_texts(), len(paths)))
+    names, paths = [*names, *(it for it, _ in more)], [*paths, *(it for _, it in more)]
     measured(runs)
     columns = ["decode", "encode", "JSON.parse", "JSON.stringify", "cbor.decode", "cbor.encode"]
     pairs = [(0, 2), (1, 3), (0, 4), (1, 5)]
@@ -134,6 +158,15 @@ def beside_libcbor(folder, runs, names, paths):
     table("C", columns, names, rows, [(0, 1), (0, 2)])
 
 
+def written(folder, named_blocks, first=0):
+    """Each block's name, and its file."""
+    for n, (name, block) in enumerate(named_blocks, first):
+        path = f"{folder}/{n}.block"
+        with open(path, "wb") as file:
+            file.write(block)
+        yield name, path
+
+
 def main(words):
     runs = next((int(word) for word in words if word.isdigit()), 9)
     subprocess.run(["rt", "lib"], cwd=CRATE, stdout=subprocess.DEVNULL, check=True)
@@ -144,12 +177,7 @@ def main(words):
     if os.path.exists("/usr/include/cbor.h") and alone <= {"libcbor"}:
         tables.append((beside_libcbor, LIBCBOR_BEGIN, LIBCBOR_END))
     with tempfile.TemporaryDirectory(prefix="languages-") as folder:
-        names, paths = [], []
-        for name, block in blocks():
-            names.append(name)
-            paths.append(f"{folder}/{len(paths)}.block")
-            with open(paths[-1], "wb") as file:
-                file.write(block)
+        names, paths = zip(*written(folder, blocks()))
         for make, begin, end in tables:
             told.clear()
             make(folder, runs, names, paths)

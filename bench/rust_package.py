@@ -17,6 +17,7 @@ from measuring import ROOT, into_page
 
 BEGIN = "<!-- made by bench/rust_package.py page -->\n"
 END = "<!-- so far, of the package for Rust -->\n"
+CALLS = ("to_vec", "from_slice")
 SHAPES = {
     "person": "a struct, 66 bytes",
     "people": "1,000 of these",
@@ -48,23 +49,29 @@ def built(folder):
     return f"{folder}/target/release/package"
 
 
-def instructions(program, shape, call):
-    """Those of one call: of eleven, less one."""
+def instructions(program, shape, call, function=None):
+    """Those of one call: of eleven, less one. Of a function they are those within it."""
+    within = [f"--toggle-collect={function}"] if function else []
+
     def counted(times):
-        words = ["valgrind", "--tool=callgrind", "--callgrind-out-file=/dev/null", program, shape, call, str(times)]
+        words = ["valgrind", "--tool=callgrind", "--callgrind-out-file=/dev/null", *within, program, shape, call, str(times)]
         said = subprocess.run(words, check=True, capture_output=True, text=True).stderr
-        return int(re.search(r"refs:\s*([\d,]+)", said)[1].replace(",", ""))
+        return int(re.search(r"Collected : (\d+)", said)[1])
     return (counted(11) - counted(1)) // 10
 
 
 def main(words):
-    lines = ["| Rust | to_vec | from_slice | to_vec / serde_cbor | from_slice / serde_cbor |\n", f"|{'---|' * 5}\n"]
+    lines = ["| Rust | to_vec | its judge | its sort | from_slice | its judge | to_vec / serde_cbor | from_slice / serde_cbor |\n"]
+    lines.append(f"|{'---|' * 8}\n")
     with tempfile.TemporaryDirectory(prefix="rust-") as folder:
         program = built(folder)
         for shape, name in SHAPES.items():
-            ours, theirs = ([instructions(program, shape, who + call) for call in ("to_vec", "from_slice")] for who in ("", "their_"))
+            ours, theirs = ([instructions(program, shape, who + call) for call in CALLS] for who in ("", "their_"))
+            judges = [instructions(program, shape, call, "dagcbor_check") for call in CALLS]
+            sort = instructions(program, shape, "to_vec", "*ser*Writer*sort*")
+            counts = " | ".join(f"{it:,}" for it in (ours[0], judges[0], sort, ours[1], judges[1]))
             ratios = " | ".join(f"{one / other:.2f}" for one, other in zip(ours, theirs))
-            lines.append(f"| {name} | {ours[0]:,} | {ours[1]:,} | {ratios} |\n")
+            lines.append(f"| {name} | {counts} | {ratios} |\n")
             print(lines[-1], end="", flush=True)
     if "page" in words:
         into_page(BEGIN, lines, END)

@@ -2,16 +2,17 @@
 """Speed, beside a Rust program over serde_cbor: the library's calls on small blocks, the program on 20 MB of lines, and the heap;
 files of blocks, beside SHA-256 alone; and a block as DAG-JSON, beside Python.
 
-    bench/speed.py [RUNS] [cars] [shown] [page]
+    bench/speed.py [RUNS] [cars] [shown] [derives] [page]
 
 Builds what is not built, makes its data with a fixed seed, runs ours and the peer in turn, and prints tables of processor time, the
 least of so many runs (7 where none is given), and of the heap that a tree takes. With `cars` it measures files of blocks alone, with
-`shown` DAG-JSON. With `page` the tables are put into docs/SPEED.md too, and docs/speed.svg is drawn of them (bench/bars.py).
+`shown` DAG-JSON, with `derives` a type that derives. With `page` the tables are put into docs/SPEED.md too, and docs/speed.svg is drawn of them (bench/bars.py).
 The peer is built where cargo and Debian's sources of serde_cbor and serde_derive are on the machine, and the one in Go where Go and
 Debian's sources of fxamacker/cbor are; else their columns are left out. Nothing here is a test."""
 
 import os
 import random
+import re
 import shutil
 import subprocess
 import sys
@@ -19,7 +20,7 @@ import tempfile
 
 import cars
 import shown
-from blocks import listed
+from blocks import listed, record
 from measuring import ROOT, built, called, heap_counter, into_page, machine, processor_seconds
 
 SOURCES = "/usr/share/cargo/registry"
@@ -51,6 +52,7 @@ directory = "{SOURCES}"
 LINES = 20_000_000
 BEGIN, END = "<!-- made by bench/speed.py page -->\n", "<!-- so far -->\n"
 SHOWN_BEGIN, SHOWN_END = "<!-- made by bench/speed.py shown page -->\n", "<!-- so far, of DAG-JSON -->\n"
+DERIVES_BEGIN, DERIVES_END = "<!-- made by bench/speed.py derives page -->\n", "<!-- so far, of derives -->\n"
 CARS_BEGIN, CARS_END = "<!-- made by bench/speed.py cars page -->\n", "<!-- so far, of files of blocks -->\n"
 
 told = []
@@ -78,17 +80,6 @@ def peer():
         print("the peer is skipped: it could not be built\n")
         return None
     return f"{folder}/target/release"
-
-
-def record(chance):
-    """84 bytes: a map of four, with a link, and a list of three numbers that ends in a byte of its own."""
-    letters = bytes(chance.randrange(97, 123) for _ in range(9))
-    numbers = b"".join(b"\x19" + chance.randrange(256, 1 << 16).to_bytes(2, "big") for _ in range(2))
-    return (
-        b"\xa4\x63seq\x1a" + chance.randrange(1 << 16, 1 << 32).to_bytes(4, "big")
-        + b"\x64link\xd8\x2a\x58\x25\x00\x01\x71\x12\x20" + chance.randbytes(32)
-        + b"\x64name\x69" + letters + b"\x64tags\x83" + numbers + bytes([chance.randrange(24)])
-    )
 
 
 def number(chance):
@@ -244,6 +235,41 @@ def heap(folder, scratch):
         tell(f"| `{item.hex(' ')}` | {' | '.join(factors)} |" if len(item) < 4 else f"| the record | {' | '.join(factors)} |")
 
 
+def instructions(call, given):
+    """Those of one call, by callgrind: of a thousand, less none."""
+    def counted(times):
+        words = ["valgrind", "--tool=callgrind", "--callgrind-out-file=/dev/null", built("dagcbor_bench"), call, str(times)]
+        with open(given, "rb") as block:
+            ran = subprocess.run(words, stdin=block, check=True, capture_output=True, text=True)
+        if int(ran.stdout) != times:
+            sys.exit(f"bench/speed.py: of {times} calls of {call} {ran.stdout.strip()} succeeded")
+        return int(re.search(r"refs:\s*([\d,]+)", ran.stderr)[1].replace(",", ""))
+    return (counted(1000) - counted(0)) // 1000
+
+
+def derives(words):
+    """The record as a type that derives, beside the type by hand, and a section of the page for them."""
+    if not shutil.which("valgrind"):
+        print("\nderives are skipped, since there is no valgrind")
+        return
+    told.clear()
+    rows = (
+        ("a derive, read", "from_slice::<Derived>", "from_slice::<Record>"),
+        ("a derive, written; by hand in the order of its fields", "to_vec::<Derived>", "to_vec::<Declared>"),
+        ("a derive, written; by hand in key order", "to_vec::<Derived>", "to_vec::<Record>"),
+    )
+    tell("| The record, instructions a call | a derive | by hand | a derive / by hand |\n|---|---|---|---|")
+    with tempfile.TemporaryDirectory(prefix="speed-") as scratch:
+        given = f"{scratch}/block"
+        with open(given, "wb") as file:
+            file.write(record(random.Random(1)))
+        for name, ours, theirs in rows:
+            one, other = instructions(f"dagcbor_serde::{ours}", given), instructions(theirs, given)
+            tell(f"| {name} | {one:,} | {other:,} | {one / other:.2f} |")
+    if "page" in words:
+        into_page(DERIVES_BEGIN, told, DERIVES_END)
+
+
 def part(measure, marks, runs, words):
     """What is measured in a folder of its own, and its section of the page."""
     told.clear()
@@ -256,13 +282,15 @@ def part(measure, marks, runs, words):
 
 def main(words):
     runs = next((int(word) for word in words if word.isdigit()), 7)
-    alone = {"cars", "shown"}.intersection(words)
+    alone = {"cars", "shown", "derives"}.intersection(words)
     if not alone:
         of_blocks(runs, words)
     if not alone or "cars" in alone:
         part(cars.measure, (CARS_BEGIN, CARS_END), runs, words)
     if not alone or "shown" in alone:
         part(shown.measure, (SHOWN_BEGIN, SHOWN_END), runs, words)
+    if not alone or "derives" in alone:
+        derives(words)
 
 
 def of_blocks(runs, words):

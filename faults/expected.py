@@ -30,8 +30,8 @@ def cid(version, codec, hash_code, digest):
     """A `Cid` as its derived `Debug` prints it."""
     length = len(digest) // 2
     room = listed(digest.ljust(128, "0"))
-    fields = f"version: {version}, codec: {codec}, hash_code: {hash_code}"
-    return f"Cid {{ {fields}, length: {length}, digest: {room} }}"
+    fields = f"version: {version}, length: {length}, codec: {codec}, hash_code: {hash_code}"
+    return f"Cid {{ {fields}, digest: {room} }}"
 
 
 FOO = f"Link({cid(1, 0x55, 0x12, DIGEST)})"

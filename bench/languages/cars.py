@@ -1,17 +1,23 @@
 """Seconds of the processor for one go through a file of blocks, in each way: cars.py FILE
 
 Prints them in a line: `check_car` of the open file, and of its bytes; `read_car`, each section of
-the open file; and reading the sections alone, by a loop that knows lengths and judges nothing."""
+the open file; `check_car` and `read_car` of the open file with digests by hashlib; and reading the
+sections alone, by a loop that knows lengths and judges nothing."""
 
+import hashlib
 import sys
 import time
 
 from dagcbor import check_car, read_car
 
 
-def check_file(path):
+def check_file(path, sha256=None):
     with open(path, "rb") as file:
-        return sum(check_car(file).verdicts.values())
+        return sum(check_car(file, sha256=sha256).verdicts.values())
+
+
+def check_by_hashlib(path):
+    return check_file(path, hashlib.sha256)
 
 
 def check_bytes(path):
@@ -19,9 +25,14 @@ def check_bytes(path):
         return sum(check_car(file.read()).verdicts.values())
 
 
-def read_sections(path):
+def read_sections(path, sha256=None):
     with open(path, "rb") as file:
-        return sum(1 for section in read_car(file) if section.verdict.startswith("ok "))
+        sections = read_car(file, sha256=sha256)
+        return sum(1 for section in sections if section.verdict.startswith("ok "))
+
+
+def read_by_hashlib(path):
+    return read_sections(path, hashlib.sha256)
 
 
 def number_in(file):
@@ -52,5 +63,5 @@ def seconds(call, path):
     return took
 
 
-CALLS = check_file, check_bytes, read_sections, sections_alone
+CALLS = check_file, check_bytes, read_sections, check_by_hashlib, read_by_hashlib, sections_alone
 print(*(seconds(it, sys.argv[1]) for it in CALLS))

@@ -46,6 +46,10 @@ static inline bool bytes_add(Bytes *bytes, const uint8_t *more, size_t count) {
     return true;
 }
 
+/* What the program computes SHA-256 by, in the place of the library: whether that of the block is the
+ * digest; below 0 where it fails. */
+typedef int Digest(void *host, const uint8_t *block, size_t length, const uint8_t digest[32]);
+
 /* The file. What is at hand of it are `length` bytes at `bytes`, the first of which stands at
  * `place` in the file. They lie in `gathered`, unless they were lent. */
 typedef struct {
@@ -57,11 +61,13 @@ typedef struct {
     bool is_plain; /* of version 1, which ends where no bytes follow */
     bool is_whole; /* no bytes follow those at hand */
     Bytes gathered, roots; /* the roots are packed as dagcbor_links packs links */
+    Digest *is_digest;     /* or NULL, and the library alone is asked */
+    void *host;
 } Car;
 
 /* Why a walk stopped: one of these, or a number of the library that is below DAGCBOR_NOT_VERIFIED
  * (or, of the header, any below 0). */
-enum { CAR_MORE = 100, CAR_END = 101, CAR_NO_MEMORY = 102 };
+enum { CAR_MORE = 100, CAR_END = 101, CAR_NO_MEMORY = 102, CAR_FAILED = 103 };
 
 static inline void car_free(Car *car) {
     bytes_free(&car->gathered);
@@ -152,13 +158,40 @@ static inline int32_t car_header(Car *car) {
     return 0;
 }
 
+/* Reads a varint in shortest form, and answers in how many bytes; 0 where none stands there. */
+static inline size_t take_varint(const uint8_t *bytes, size_t count, uint64_t *number) {
+    *number = 0;
+    for (size_t at = 0; at < count && at < 10; at++) {
+        *number |= (uint64_t)(bytes[at] & 127) << (7 * at);
+        if (bytes[at] < 128) return (at > 0 && !bytes[at]) || (at == 9 && bytes[at] > 1) ? 0 : at + 1;
+    }
+    return 0;
+}
+
+/* What is said of a section whose block is the one that its CID names, of version 1, of DAG-CBOR or
+ * raw bytes, as the program's own SHA-256 says. CAR_MORE of any other: the library is to be asked. */
+static inline int32_t digested_section(const Car *car, size_t shown, size_t places[3]) {
+    enum { NAME = 36 };
+    uint64_t length;
+    size_t begin = take_varint(car->bytes, shown, &length);
+    if (!begin || length < NAME || length > shown - begin) return CAR_MORE;
+    const uint8_t *name = car->bytes + begin, *block = name + NAME;
+    bool is_raw = memcmp(name, "\x01\x55\x12\x20", 4) == 0;
+    if (!is_raw && memcmp(name, "\x01\x71\x12\x20", 4) != 0) return CAR_MORE;
+    int is_same = car->is_digest(car->host, block, length - NAME, name + 4);
+    if (is_same <= 0) return is_same ? CAR_FAILED : CAR_MORE;
+    places[0] = begin, places[1] = begin + NAME, places[2] = begin + length;
+    return is_raw ? DAGCBOR_NOT_READ : dagcbor_check(block, length - NAME);
+}
+
 /* What is said of the next section, whose places are counted from the bytes at hand; or why there
  * is none. It is not passed. At most so many of the bytes at hand are looked at. */
 static inline int32_t car_section(const Car *car, size_t most, size_t places[3]) {
     size_t shown = car_shown(car), looked = shown < most ? shown : most;
     if (shown == 0 && car->place == car->end) return CAR_END;
     if (shown == 0 && car->is_whole && car->is_plain) return CAR_END;
-    int32_t code = dagcbor_car_section(car->bytes, looked, places);
+    int32_t code = car->is_digest ? digested_section(car, looked, places) : CAR_MORE;
+    if (code == CAR_MORE) code = dagcbor_car_section(car->bytes, looked, places);
     return code == DAGCBOR_TRUNCATED && looked < shown ? CAR_MORE : car_answer(car, code);
 }
 

@@ -1,6 +1,5 @@
-/* What is gathered for dagcbor_spell: tokens, and their payloads. Not proved, and no part of the
-   library: whether they are a block says dagcbor_spell. Who includes this may name an allocator of
-   its own. */
+/* A block as it is written. Not proved, and no part of the library, whose dagcbor_check is to say
+   whether it is one. Who includes this may name an allocator of its own. */
 #ifndef DAGCBOR_WRITER_H
 #define DAGCBOR_WRITER_H
 
@@ -23,7 +22,6 @@ typedef struct {
     size_t used, size;
     union {
         char bytes[2048];
-        dagcbor_token token;
         void *pointer;
     } first;
 } Room;
@@ -54,79 +52,40 @@ static inline void *room_take(Room *room, size_t count) {
     return room->start + room->used - count;
 }
 
-typedef struct {
-    Room tokens, payloads;
-    size_t size; /* of the block */
-} Tape;
-
-static inline void tape_start(Tape *tape) {
-    room_start(&tape->tokens);
-    room_start(&tape->payloads);
-    tape->size = 0;
+/* Adds bytes. False where there is no memory. */
+static inline bool put_bytes(Room *room, const void *bytes, size_t length) {
+    char *at = room_take(room, length);
+    if (at && length) memcpy(at, bytes, length);
+    return at;
 }
 
-static inline void tape_free(Tape *tape) {
-    room_free(&tape->tokens);
-    room_free(&tape->payloads);
+/* Adds a head, in the fewest bytes. */
+static inline bool put_head(Room *room, uint64_t kind, uint64_t number) {
+    static const uint8_t firsts[] = {
+        [DAGCBOR_NULL] = 0xf6,  [DAGCBOR_BOOL] = 0xf4,   [DAGCBOR_INTEGER] = 0x00,
+        [DAGCBOR_BYTES] = 0x40, [DAGCBOR_STRING] = 0x60, [DAGCBOR_NEGATIVE] = 0x20,
+        [DAGCBOR_LIST] = 0x80,  [DAGCBOR_MAP] = 0xa0,
+    };
+    uint8_t head[9] = {firsts[kind]};
+    int power = number >> 32 ? 3 : number >> 16 ? 2 : number >> 8 ? 1 : 0;
+    size_t width = number < 24 ? 0 : (size_t)1 << power;
+    head[0] += number < 24 ? (uint8_t)number : (uint8_t)(24 + power);
+    for (size_t i = width; i > 0; i--, number >>= 8) head[i] = (uint8_t)number;
+    return put_bytes(room, head, 1 + width);
 }
 
-static inline size_t head_size(uint64_t number) {
-    return number < 24            ? 1
-           : number < 1 << 8      ? 2
-           : number < 1 << 16     ? 3
-           : number <= UINT32_MAX ? 5
-                                  : 9;
-}
-
-/* The size of a token's part of the block. */
-static inline size_t token_size(uint64_t kind, uint64_t number) {
-    switch (kind) {
-    case DAGCBOR_NULL:
-    case DAGCBOR_BOOL: return 1;
-    case DAGCBOR_STRING:
-    case DAGCBOR_BYTES: return head_size(number) + number;
-    case DAGCBOR_LINK: return 3 + head_size(1 + number) + number;
-    default: return head_size(number);
-    }
-}
-
-/* Adds a token whose payload, if it has one, was put there already. False where there is no memory.
- */
-static inline bool tape_add_at(Tape *tape, uint64_t kind, uint64_t number, uint64_t place) {
-    dagcbor_token *token = room_take(&tape->tokens, sizeof *token);
-    if (!token) return false;
-    *token = (dagcbor_token){kind, number, place};
-    tape->size += token_size(kind, number);
-    return true;
-}
-
-/* Adds a token without a payload. */
-static inline bool tape_add(Tape *tape, uint64_t kind, uint64_t number) {
-    return tape_add_at(tape, kind, number, 0);
-}
-
-/* Adds a token, and puts its payload. */
-static inline bool tape_put(Tape *tape, uint64_t kind, const void *bytes, size_t length) {
-    size_t place = tape->payloads.used;
-    char *room = room_take(&tape->payloads, length);
-    if (!room) return false;
-    if (length) memcpy(room, bytes, length);
-    return tape_add_at(tape, kind, length, place);
-}
-
-/* The answer of dagcbor_spell. `out` has room for the block's size, and holds the block where the
- * answer is a kind. */
-static inline int32_t tape_spell(const Tape *tape, uint8_t *out, size_t *needed) {
-    const dagcbor_token *tokens = (const dagcbor_token *)tape->tokens.start;
-    return dagcbor_spell((const uint8_t *)tape->payloads.start, tape->payloads.used, tokens,
-                         tape->tokens.used / sizeof *tokens, dagcbor_into(out, tape->size),
-                         tape->size, needed);
+/* Adds a string, bytes, or a CID as a link. */
+static inline bool put_payload(Room *room, uint64_t kind, const void *bytes, size_t length) {
+    bool is_link = kind == DAGCBOR_LINK;
+    if (is_link && !put_bytes(room, "\xd8\x2a", 2)) return false;
+    if (!put_head(room, is_link ? DAGCBOR_BYTES : kind, is_link + length)) return false;
+    return (!is_link || put_bytes(room, "", 1)) && put_bytes(room, bytes, length);
 }
 
 /* An entry of a map: its key's UTF-8, and whatever tells its value. */
 typedef struct {
     const char *text;
-    size_t length, place;
+    size_t length;
     void *key, *value;
 } Entry;
 

@@ -2,30 +2,11 @@ package dagcbor
 
 /*
 #include "dagcbor.h"
-
-typedef struct { int32_t code; uint64_t places[3]; } parts;
-
-static parts car_span(const uint8_t *bytes, size_t length) {
-    parts it = {0, {0, 0, 0}};
-    it.code = dagcbor_car_span(bytes, length, it.places);
-    return it;
-}
-
-static parts car_header(const uint8_t *bytes, size_t length, uint8_t *out, size_t room) {
-    size_t needed = 0, behind = 0;
-    int32_t code = dagcbor_car_header(bytes, length, out, room, &needed, &behind);
-    return (parts){code, {needed, behind, 0}};
-}
-
-static parts car_section(const uint8_t *bytes, size_t length) {
-    size_t at[3] = {0, 0, 0};
-    int32_t code = dagcbor_car_section(bytes, length, at);
-    return (parts){code, {at[0], at[1], at[2]}};
-}
 */
 import "C"
 
 import (
+	"bytes"
 	"encoding/binary"
 	"io"
 	"math"
@@ -41,24 +22,25 @@ func (verdict Verdict) IsVerified() bool {
 }
 
 func verdictOf(code C.int32_t) Verdict {
+	name := C.GoString(C.dagcbor_name_of_code(code))
 	switch {
-	case code == 9:
+	case code == C.DAGCBOR_NOT_READ:
 		return "not read"
-	case code == -22:
+	case code == C.DAGCBOR_OTHER_BYTES:
 		return "other bytes"
-	case code == -23:
+	case code == C.DAGCBOR_NOT_VERIFIED:
 		return "not verified"
 	case code < 0:
-		return Verdict("refused " + reasons[code][0])
+		return Verdict("refused " + name)
 	}
-	return Verdict("ok " + Kind(code).String())
+	return Verdict("ok " + name)
 }
 
 // Verify is nil where the bytes are those that the CID names; an Error of the kind OtherBytes where
 // they are others, and NotVerified where its hash function is not known. Check says whether they are
 // a block.
 func Verify(cid CID, block []byte) error {
-	if code := judged(cid, block); code <= -22 {
+	if code := judged(cid, block); code <= C.DAGCBOR_OTHER_BYTES {
 		return refused(code, -1)
 	}
 	return nil
@@ -80,6 +62,10 @@ type Section struct {
 // CARReader gives the sections of a file of blocks (CAR, of version 1 or 2) one at a time. At most
 // one is in memory, and nothing is reserved from a length that the file announces.
 type CARReader struct {
+	// SHA256, where it is set before Next, is what digests are computed by: sha256.Sum256 of
+	// crypto/sha256 is faster than the library's own, and is trusted then.
+	SHA256 func([]byte) [32]byte
+
 	reader  io.Reader
 	left    []byte // read, and not gone through
 	place   uint64 // of what is left
@@ -93,30 +79,33 @@ type CARReader struct {
 // NewCARReader reads the header.
 func NewCARReader(reader io.Reader) (*CARReader, error) {
 	car := &CARReader{reader: reader, end: math.MaxUint64}
-	span, err := car.front(func(at *C.uint8_t, length C.size_t) C.parts { return C.car_span(at, length) })
-	if err != nil {
-		return nil, err
-	}
-	if err := car.skip(uint64(span.places[0])); err != nil {
-		return nil, err
-	}
-	car.end, car.isPlain = uint64(span.places[1]), span.places[0] == 0
-	room := make([]byte, 1)
-	header, err := car.front(func(at *C.uint8_t, length C.size_t) C.parts {
-		return C.car_header(at, length, (*C.uint8_t)(&room[0]), 0)
+	var span [2]C.uint64_t
+	_, err := car.ask(func(at *C.uint8_t, length C.size_t) C.int32_t {
+		return C.dagcbor_car_span(at, length, &span[0])
 	})
+	if err == nil {
+		err = car.skip(uint64(span[0]))
+	}
 	if err != nil {
 		return nil, err
 	}
-	if header.code < 0 {
-		said := "the header is no block: " + reasons[header.code][1]
-		return nil, &Error{Kind: "NoBlock", Place: told(car.place), said: said}
+	car.end, car.isPlain = uint64(span[1]), span[0] == 0
+	var behind C.size_t
+	code, err := car.ask(func(at *C.uint8_t, length C.size_t) (code C.int32_t) {
+		car.roots, code = unpacked(func(out *C.uint8_t, room C.size_t, needed *C.size_t) C.int32_t {
+			return C.dagcbor_car_header(at, length, out, room, needed, &behind)
+		})
+		return code
+	})
+	if code < 0 && err == nil {
+		it := refused(code, told(car.place))
+		it.Kind, it.said = "NoBlock", "the header is no block: "+it.said
+		err = it
 	}
-	room = make([]byte, header.places[0]+1)
-	at, length := from(car.shown())
-	C.car_header(at, length, (*C.uint8_t)(&room[0]), C.size_t(len(room)))
-	car.roots = unpacked(room[:header.places[0]])
-	car.pass(uint64(header.places[1]))
+	if err != nil {
+		return nil, err
+	}
+	car.pass(int(behind))
 	return car, nil
 }
 
@@ -129,25 +118,52 @@ func (car *CARReader) Place() uint64 { return car.place }
 // Next gives the next section, which is the caller's own. At the end of the file the error is
 // io.EOF; where the bytes are no file of blocks it is an Error, and comes again.
 func (car *CARReader) Next() (Section, error) {
+	var at [3]C.size_t // where the CID and the block begin, and where the section ends
+	var code C.int32_t
 	if car.err == nil {
 		car.err = car.more()
+	}
+	if car.err == nil {
+		code, car.err = car.ask(func(bytes *C.uint8_t, length C.size_t) C.int32_t {
+			if code, isRead := car.read(&at); isRead {
+				return code
+			}
+			return C.dagcbor_car_section(bytes, length, &at[0])
+		})
 	}
 	if car.err != nil {
 		return Section{}, car.err
 	}
-	it, err := car.front(func(at *C.uint8_t, length C.size_t) C.parts { return C.car_section(at, length) })
-	if err != nil {
-		car.err = err
-		return Section{}, err
-	}
-	bytes := car.left
-	section := Section{
-		CID:     CID{string(bytes[it.places[0]:it.places[1]])},
-		Block:   append([]byte{}, bytes[it.places[1]:it.places[2]]...),
-		Verdict: verdictOf(it.code),
-	}
-	car.pass(uint64(it.places[2]))
+	cid, block := car.left[at[0]:at[1]], car.left[at[1]:at[2]]
+	section := Section{CID{string(cid)}, append([]byte{}, block...), verdictOf(code)}
+	car.pass(int(at[2]))
 	return section, nil
+}
+
+// What is said of a section whose block is the one that its CID names, of version 1, of DAG-CBOR or
+// raw bytes, as SHA256 finds. Of any other section the library tells.
+func (car *CARReader) read(at *[3]C.size_t) (code C.int32_t, isRead bool) {
+	const digest = 36
+	shown := car.shown()
+	length, begin := binary.Uvarint(shown)
+	isShort := begin == 1 || begin > 1 && shown[begin-1] != 0
+	if car.SHA256 == nil || !isShort || length < digest || length > uint64(len(shown)-begin) {
+		return 0, false
+	}
+	section := shown[begin:][:length]
+	block := section[digest:]
+	isRaw := bytes.HasPrefix(section, []byte{1, 0x55, 0x12, 32})
+	if !isRaw && !bytes.HasPrefix(section, []byte{1, 0x71, 0x12, 32}) {
+		return 0, false
+	}
+	if found := car.SHA256(block); !bytes.Equal(found[:], section[4:digest]) {
+		return 0, false
+	}
+	*at = [3]C.size_t{C.size_t(begin), C.size_t(begin + digest), C.size_t(begin) + C.size_t(length)}
+	if isRaw {
+		return C.DAGCBOR_NOT_READ, true
+	}
+	return check(block), true
 }
 
 // nil where a section follows, or a part of one.
@@ -157,7 +173,7 @@ func (car *CARReader) more() error {
 			return io.EOF
 		}
 		if car.isAll {
-			return refused(-24, told(car.place))
+			return refused(C.DAGCBOR_TRUNCATED, told(car.place))
 		}
 		if err := car.fill(); err != nil {
 			return err
@@ -182,27 +198,22 @@ func told(place uint64) int64 {
 	return int64(place)
 }
 
-func (car *CARReader) pass(count uint64) {
+func (car *CARReader) pass(count int) {
 	car.left = car.left[count:]
-	car.place += count
+	car.place += uint64(count)
 }
 
+// Goes on to the place, which lies behind the front.
 func (car *CARReader) skip(place uint64) error {
-	for car.place < place {
-		if len(car.left) == 0 {
-			if car.isAll {
-				return refused(-24, told(place))
-			}
-			if err := car.fill(); err != nil {
-				return err
-			}
+	if held := uint64(len(car.left)); place > held {
+		_, err := io.CopyN(io.Discard, car.reader, told(place-held))
+		car.left, car.place, car.isAll = nil, place, err == io.EOF
+		if err != io.EOF {
+			return err
 		}
-		count := place - car.place
-		if count > uint64(len(car.left)) {
-			count = uint64(len(car.left))
-		}
-		car.pass(count)
+		return nil
 	}
+	car.pass(int(place))
 	return nil
 }
 
@@ -223,21 +234,20 @@ func (car *CARReader) fill() error {
 }
 
 // What the library tells of what the bytes begin with. More are read where they end too early.
-func (car *CARReader) front(tell func(*C.uint8_t, C.size_t) C.parts) (C.parts, error) {
+func (car *CARReader) ask(tell func(*C.uint8_t, C.size_t) C.int32_t) (C.int32_t, error) {
 	for {
 		shown := car.shown()
-		it := tell(from(shown))
+		code := tell(from(shown))
 		isAll := car.isAll || uint64(len(shown)) == car.end-car.place
-		if it.code == -24 && !isAll {
-			if err := car.fill(); err != nil {
-				return it, err
-			}
-			continue
+		if code > C.DAGCBOR_TRUNCATED {
+			return code, nil
 		}
-		if it.code <= -24 {
-			return it, refused(it.code, told(car.place))
+		if code < C.DAGCBOR_TRUNCATED || isAll {
+			return code, refused(code, told(car.place))
 		}
-		return it, nil
+		if err := car.fill(); err != nil {
+			return code, err
+		}
 	}
 }
 
@@ -258,7 +268,7 @@ func NewCARWriter(writer io.Writer, roots []CID) (*CARWriter, error) {
 // the CID are refused before they are written: an Error of the kind OtherBytes.
 func (car *CARWriter) Write(cid CID, block []byte) (Verdict, error) {
 	code := judged(cid, block)
-	if code == -22 || code == -26 {
+	if code == C.DAGCBOR_OTHER_BYTES || code == C.DAGCBOR_INVALID_CID {
 		return "", refused(code, -1)
 	}
 	return verdictOf(code), car.put(cid.Bytes(), block)

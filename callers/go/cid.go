@@ -2,59 +2,50 @@ package dagcbor
 
 /*
 #include "dagcbor.h"
-
-typedef struct { int32_t code; size_t needed; uint8_t bytes[DAGCBOR_CID_TEXT_MOST]; } written;
-
-static written to_text(const uint8_t *bytes, size_t length) {
-    written it;
-    it.code = dagcbor_cid_text(bytes, length, it.bytes, sizeof it.bytes, &it.needed);
-    return it;
-}
-
-static written from_text(const uint8_t *text, size_t length) {
-    written it;
-    it.code = dagcbor_cid_from_text(text, length, it.bytes, sizeof it.bytes, &it.needed);
-    return it;
-}
 */
 import "C"
 
-import (
-	"encoding/binary"
-	"unsafe"
-)
+import "encoding/binary"
 
 // CID is the name of a block. It is a key of maps, and its zero value names nothing.
 type CID struct{ bytes string }
 
 // ParseCID reads a text: Qm.. of version 0, and of version 1 behind b, B, z or f.
 func ParseCID(text string) (CID, error) {
-	at, length := from([]byte(text))
-	return read(C.from_text(at, length))
-}
-
-func read(it C.written) (CID, error) {
-	if it.code < 0 {
-		return CID{}, refused(it.code, -1)
-	}
-	return CID{C.GoStringN((*C.char)(unsafe.Pointer(&it.bytes[0])), C.int(it.needed))}, nil
+	bytes, err := converted([]byte(text), false)
+	return CID{bytes}, err
 }
 
 // CIDOf takes the binary form.
 func CIDOf(bytes []byte) (CID, error) {
-	at, length := from(bytes)
-	if it := C.to_text(at, length); it.code < 0 {
-		return CID{}, refused(it.code, -1)
+	if _, err := converted(bytes, true); err != nil {
+		return CID{}, err
 	}
 	return CID{string(bytes)}, nil
+}
+
+// The text of a CID, or the CID of a text.
+func converted(given []byte, isCID bool) (string, error) {
+	var out [C.DAGCBOR_CID_TEXT_MOST]byte
+	var needed C.size_t
+	var code C.int32_t
+	at, length := from(given)
+	if isCID {
+		code = C.dagcbor_cid_text(at, length, (*C.uint8_t)(&out[0]), C.size_t(len(out)), &needed)
+	} else {
+		code = C.dagcbor_cid_from_text(at, length, (*C.uint8_t)(&out[0]), C.size_t(len(out)), &needed)
+	}
+	if code < 0 {
+		return "", refused(code, -1)
+	}
+	return string(out[:needed]), nil
 }
 
 // NewCID is that of version 1, of a codec, and a digest by a hash function.
 func NewCID(codec, hashCode uint64, digest []byte) (CID, error) {
 	bytes := []byte{1}
-	var room [binary.MaxVarintLen64]byte
 	for _, number := range []uint64{codec, hashCode, uint64(len(digest))} {
-		bytes = append(bytes, room[:binary.PutUvarint(room[:], number)]...)
+		bytes = binary.AppendUvarint(bytes, number)
 	}
 	return CIDOf(append(bytes, digest...))
 }
@@ -67,12 +58,8 @@ func (cid CID) Bytes() []byte { return []byte(cid.bytes) }
 
 // String is the text: Qm.. of version 0, and base32 behind b of version 1.
 func (cid CID) String() string {
-	at, length := from([]byte(cid.bytes))
-	it := C.to_text(at, length)
-	if it.code < 0 {
-		return "" // of the zero value
-	}
-	return C.GoStringN((*C.char)(unsafe.Pointer(&it.bytes[0])), C.int(it.needed))
+	text, _ := converted(cid.Bytes(), true)
+	return text // none of the zero value
 }
 
 // Version is 0 or 1.

@@ -2,6 +2,7 @@ package dagcbor
 
 import (
 	"bytes"
+	"crypto/sha256"
 	"encoding/hex"
 	"encoding/json"
 	"errors"
@@ -59,12 +60,7 @@ func isRefused(t *testing.T, err error, code int, place int64) {
 	if !errors.As(err, &refusal) {
 		t.Fatalf("no Error: %v", err)
 	}
-	for known, reason := range reasons {
-		if int(known) == code {
-			equal(t, refusal.Kind, reason[0])
-		}
-	}
-	equal(t, refusal.Place, place)
+	equal(t, []any{refusal.Kind, refusal.Place}, []any{nameOf(code), place})
 }
 
 func words(cids []CID) string {
@@ -82,21 +78,15 @@ func TestTable(t *testing.T) {
 	for _, row := range rows(t, "table") {
 		block, code := unhex(row[0]), number(row[1])
 		kind, err := Check(block)
-		tokens, badTokens := Tokens(block)
 		var value any
 		badValue := Unmarshal(block, &value)
 		if code < 0 {
-			for _, err := range []error{err, badTokens, badValue} {
+			for _, err := range []error{err, badValue} {
 				isRefused(t, err, code, int64(number(row[6])))
 			}
 			equal(t, errors.Is(err, io.ErrUnexpectedEOF), code == -3)
 		} else {
-			equal(t, []any{int(kind), err, badTokens, badValue}, []any{code, nil, nil, nil})
-			var told []string
-			for _, it := range tokens {
-				told = append(told, fmt.Sprintf("%d:%d:%d", it.Kind, it.Number, it.Place))
-			}
-			equal(t, strings.Join(told, ","), row[5])
+			equal(t, []any{int(kind), err, badValue}, []any{code, nil, nil})
 			again, err := Marshal(value)
 			equal(t, []any{again, err}, []any{block, nil})
 			more := append(append([]byte{}, block...), 0xf6)
@@ -157,6 +147,7 @@ func TestCID(t *testing.T) {
 func TestMarshal(t *testing.T) {
 	type text string
 	type pair [2]uint16
+	type octet byte
 	seven := 7
 	least := new(big.Int).Not(new(big.Int).SetUint64(1<<64 - 1))
 	for _, row := range []struct {
@@ -166,6 +157,7 @@ func TestMarshal(t *testing.T) {
 		{nil, "f6"}, {true, "f5"}, {int8(-1), "20"}, {uint64(1<<64 - 1), "1bffffffffffffffff"},
 		{least, "3bffffffffffffffff"}, {text("a"), "6161"}, {pair{1, 256}, "8201190100"},
 		{&seven, "07"}, {(*int)(nil), "f6"}, {[]byte(nil), "f6"}, {[]byte{}, "40"}, {[2]byte{1, 2}, "420102"},
+		{[]octet{1, 2}, "420102"}, {[2]octet{1, 2}, "420102"},
 		{map[text][]int{"bb": {1}, "c": nil}, "a26163f66262628101"}, {[]any(nil), "f6"},
 		{[]any{Name(nil), map[string]any{}}, "82d82a58250001711220e3b0c44298fc1c149afbf4c8996fb92427ae41e4649b934ca495991b7852b855a0"},
 	} {
@@ -244,6 +236,18 @@ func TestTypes(t *testing.T) {
 	kept := note{Year: &year}
 	equal(t, []any{Unmarshal(block, &kept), kept}, []any{nil, note{Text: "x", Year: &year}})
 
+	type octet byte
+	type pair struct{ One, Other []int }
+	for _, row := range []struct{ block, into, wanted any }{
+		{"420102", new([]octet), &[]octet{1, 2}}, {"420102", new([2]octet), &[2]octet{1, 2}},
+		{"a26161a1634f6e6581056162a0", new(map[string]pair), &map[string]pair{"a": {One: []int{5}}, "b": {}}},
+		{"a26161a1634f6e6581056162f6", new(map[string]*pair), &map[string]*pair{"a": {One: []int{5}}, "b": nil}},
+		{"83f6f5190100", new([3]any), &[3]any{nil, true, int64(256)}},
+		{"821a000100003b0000000100000000", new([]int64), &[]int64{1 << 16, -1<<32 - 1}},
+	} {
+		equal(t, Unmarshal(unhex(row.block.(string)), row.into), nil)
+		equal(t, row.into, row.wanted)
+	}
 	for _, row := range []struct {
 		block string
 		into  any
@@ -273,7 +277,7 @@ func TestTypes(t *testing.T) {
 }
 
 // What is told of a file, as a row of the table has it.
-func answered(reader io.Reader) [3]string {
+func answered(reader io.Reader, sum func([]byte) [32]byte) [3]string {
 	told := [3]string{"-", "-", "-"}
 	fault := func(err error) string {
 		var refusal *Error
@@ -290,6 +294,7 @@ func answered(reader io.Reader) [3]string {
 		told[2] = fault(err)
 		return told
 	}
+	car.SHA256 = sum
 	told[0] = words(car.Roots())
 	var sections []string
 	for {
@@ -327,12 +332,48 @@ func TestFiles(t *testing.T) {
 			place, _ := strconv.ParseInt(parts[1], 10, 64) // the greatest, where it is out of range
 			wanted[2] = faultNamed(number(parts[0])) + ":" + strconv.FormatInt(place, 10)
 		}
-		equal(t, answered(bytes.NewReader(file)), wanted)
-		equal(t, answered(iotest.OneByteReader(bytes.NewReader(file))), wanted)
-		equal(t, answered(iotest.DataErrReader(bytes.NewReader(file))), wanted)
+		for _, sum := range []func([]byte) [32]byte{nil, sha256.Sum256, other} {
+			equal(t, answered(bytes.NewReader(file), sum), wanted)
+			equal(t, answered(iotest.OneByteReader(bytes.NewReader(file)), sum), wanted)
+			equal(t, answered(iotest.DataErrReader(bytes.NewReader(file)), sum), wanted)
+		}
 	}
 	late := iotest.TimeoutReader(iotest.OneByteReader(bytes.NewReader(unhex(rows(t, "files")[1][0]))))
-	equal(t, answered(late)[2], iotest.ErrTimeout.Error())
+	equal(t, answered(late, nil)[2], iotest.ErrTimeout.Error())
+}
+
+// Another function than SHA-256: what it doesn't find to be the block is left to the library.
+func other([]byte) [32]byte { return [32]byte{} }
+
+// The function is asked of each block of DAG-CBOR and of raw bytes, and believed.
+func TestSHA256(t *testing.T) {
+	raw, _ := NewCID(0x55, 0x12, Name([]byte("raw")).Digest())
+	blake, _ := NewCID(0x71, 0x1e, make([]byte, 32))
+	inside, _ := NewCID(0x71, 0, []byte{0xf6})
+	for _, row := range []struct {
+		cid     CID
+		block   string
+		verdict Verdict
+		asked   int
+	}{
+		{Name([]byte("\xf6")), "\xf6", "ok null", 1}, {Name([]byte("\x18\x17")), "\x18\x17", "refused NonMinimal", 1},
+		{raw, "raw", "not read", 1}, {raw, "other", "other bytes", 1}, {Name(nil), "other", "other bytes", 1},
+		{blake, "\xf6", "not verified", 0}, {inside, "\xf6", "ok null", 0}, {inside, "\xf5", "other bytes", 0},
+	} {
+		var file bytes.Buffer
+		writer, err := NewCARWriter(&file, nil)
+		equal(t, []any{err, writer.put(row.cid.Bytes(), []byte(row.block))}, []any{nil, nil})
+		car, err := NewCARReader(&file)
+		equal(t, err, nil)
+		asked := 0
+		car.SHA256 = func(block []byte) [32]byte {
+			equal(t, string(block), row.block)
+			asked++
+			return sha256.Sum256(block)
+		}
+		section, err := car.Next()
+		equal(t, []any{section, err, asked}, []any{Section{row.cid, []byte(row.block), row.verdict}, nil, row.asked})
+	}
 }
 
 // What a file has is written, and read again, but for bytes that are not those of their CID.
@@ -384,23 +425,23 @@ type failing struct{}
 
 func (failing) Write([]byte) (int, error) { return 0, iotest.ErrTimeout }
 
+// The name of a number of the library.
+func nameOf(code int) string { return Kind(code).String() }
+
 func verdictNamed(code int) Verdict {
-	for known := range reasons {
-		if int(known) == code {
-			return verdictOf(known)
-		}
+	named := map[int]Verdict{9: "not read", -22: "other bytes", -23: "not verified"}
+	switch verdict, isNamed := named[code]; {
+	case isNamed:
+		return verdict
+	case code < 0:
+		return Verdict("refused " + nameOf(code))
 	}
-	if code == 9 {
-		return "not read"
-	}
-	return Verdict("ok " + Kind(code).String())
+	return Verdict("ok " + nameOf(code))
 }
 
 func faultNamed(code int) string {
-	for known, reason := range reasons {
-		if int(known) == code && code <= -24 {
-			return reason[0]
-		}
+	if code <= -24 {
+		return nameOf(code)
 	}
 	return "NoBlock"
 }
@@ -471,7 +512,7 @@ func hold(t *testing.T, block []byte) {
 	}
 	_ = Unmarshal(block, new(note))
 	_, _ = Links(block)
-	_ = answered(bytes.NewReader(block))
+	equal(t, answered(bytes.NewReader(block), nil), answered(bytes.NewReader(block), sha256.Sum256))
 }
 
 func FuzzUnmarshal(f *testing.F) {

@@ -2,20 +2,6 @@ package dagcbor
 
 /*
 #include "dagcbor.h"
-
-typedef struct { int32_t code; size_t places[3]; } stop;
-
-static stop part(const uint8_t *block, size_t length, const uint8_t *segment, size_t count) {
-    stop it = {0, {0, 0, 0}};
-    it.code = dagcbor_part(block, length, segment, count, it.places, it.places + 1);
-    return it;
-}
-
-static stop followed(const uint8_t *block, size_t length, const uint8_t *path, size_t path_length) {
-    stop it = {0, {0, 0, 0}};
-    it.code = dagcbor_follow(block, length, path, path_length, it.places);
-    return it;
-}
 */
 import "C"
 
@@ -36,14 +22,15 @@ var ErrMissing = errors.New("dagcbor: no block is held")
 func follow(block []byte, path string) (Kind, []byte, string, error) {
 	at, length := from(block)
 	text, count := from([]byte(path))
-	it := C.followed(at, length, text, count)
+	var places [3]C.size_t
+	code := C.dagcbor_follow(at, length, text, count, &places[0])
 	switch {
-	case it.code == C.DAGCBOR_PATH_NOT_UTF8:
-		return 0, nil, "", refused(-8, -1)
-	case it.code < 0:
-		return 0, nil, "", refusedIn(block, it.code)
+	case code == C.DAGCBOR_PATH_NOT_UTF8:
+		return 0, nil, "", refused(C.DAGCBOR_REQUIRE_UTF8, -1)
+	case code < 0:
+		return 0, nil, "", refusedIn(block, code)
 	}
-	return Kind(it.code), block[it.places[0]:it.places[1]:it.places[1]], path[it.places[2]:], nil
+	return Kind(code), block[places[0]:places[1]:places[1]], path[places[2]:], nil
 }
 
 // What follow tells, of segments, each taken whole.
@@ -52,14 +39,15 @@ func followSegments(block []byte, segments []string) (Kind, []byte, []string, er
 	for err == nil && len(segments) > 0 {
 		at, length := from(item)
 		text, count := from([]byte(segments[0]))
-		it := C.part(at, length, text, count)
-		switch it.code {
+		var place, end C.size_t
+		code := C.dagcbor_part(at, length, text, count, &place, &end)
+		switch code {
 		case C.DAGCBOR_PATH_NOT_UTF8:
-			return 0, nil, nil, refused(-8, -1)
+			return 0, nil, nil, refused(C.DAGCBOR_REQUIRE_UTF8, -1)
 		case C.DAGCBOR_NO_SUCH_PATH:
 			return kind, item, segments, nil
 		}
-		kind, item, segments = Kind(it.code), item[it.places[0]:it.places[1]:it.places[1]], segments[1:]
+		kind, item, segments = Kind(code), item[place:end:end], segments[1:]
 	}
 	return kind, item, segments, err
 }
@@ -151,5 +139,5 @@ func notRead(cid CID) error {
 	if cid.Codec() == 0x71 {
 		return nil
 	}
-	return refused(9, -1)
+	return refused(C.DAGCBOR_NOT_READ, -1)
 }

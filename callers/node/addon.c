@@ -5,7 +5,13 @@
    write is refused. */
 #include "addon.h"
 
-enum { KEPT_TOKENS = 1 << 20 }; /* that have room in an array which is kept */
+/* How much is kept: tokens of what is read; of what is written, and bytes of their payloads. */
+enum { KEPT_TOKENS = 1 << 20, WRITTEN_TOKENS = 1 << 12, WRITTEN_BYTES = 1 << 15 };
+
+enum { WINDOW = 2048 };          /* bytes of texts that are made as one, or units of one */
+enum { LATIN1 = 10, WIDE = 11 }; /* the kinds of its parts: of bytes for units, and of others */
+enum { SHARED = 1024 };          /* bytes of a block that may share memory */
+static const uint64_t ABSENT = UINT32_MAX; /* the place of a payload that is not there yet */
 
 void *raise(napi_env env, const char *said) {
     bool is_pending = false;
@@ -75,6 +81,13 @@ napi_value copied(napi_env env, const uint8_t *bytes, size_t length) {
     return array;
 }
 
+napi_value array_of(napi_env env, const napi_value *parts, uint32_t count) {
+    napi_value array;
+    TRY(napi_create_array_with_length(env, count, &array));
+    for (uint32_t i = 0; i < count; i++) TRY(napi_set_element(env, array, i, parts[i]));
+    return array;
+}
+
 napi_value doubles(napi_env env, const void *numbers, size_t count) {
     void *at;
     napi_value array = new_array(env, napi_float64_array, count, sizeof(double), &at);
@@ -91,41 +104,164 @@ static napi_value latin1(napi_env env, const void *bytes, size_t length) {
 
 /* The tokens for decode.js */
 
+/* What an environment has of its own: the arrays that are kept; and what was read last, whose
+ * tokens and block are looked at until its values are made, and no script runs before. */
+typedef struct {
+    void *kept, *words, *payload;
+    dagcbor_compact_token *tokens;
+    size_t count;
+    const uint8_t *block;
+} Own;
+
+static Own *own_of(napi_env env) {
+    void *own = NULL;
+    napi_get_instance_data(env, &own);
+    return own;
+}
+
 /* read(block): its compact tape. How many tokens there are, where they stand in the array that is
  * kept, and else an array of their own. */
 static napi_value read_tape(napi_env env, napi_callback_info info) {
-    size_t length, count;
-    void *kept, *own;
-    const uint8_t *bytes = bytes_of(env, info, &length);
-    if (!bytes) return NULL;
-    TRY(napi_get_cb_info(env, info, NULL, NULL, NULL, &kept));
-    int32_t code = dagcbor_compact_tape(bytes, length, kept, KEPT_TOKENS, &count);
-    if (code < 0 || count <= KEPT_TOKENS) return number_of(env, code < 0 ? code : (int64_t)count);
-    napi_value array = new_array(env, napi_uint32_array, 3 * count, sizeof(uint32_t), &own);
-    if (array) dagcbor_compact_tape(bytes, length, own, count, &count);
+    size_t length;
+    void *tokens;
+    Own *own = own_of(env);
+    size_t *count = &own->count;
+    *count = 0;
+    if (!(own->block = bytes_of(env, info, &length))) return NULL;
+    own->tokens = own->kept;
+    int32_t code = dagcbor_compact_tape(own->block, length, own->kept, KEPT_TOKENS, count);
+    if (code < 0 || *count <= KEPT_TOKENS) return number_of(env, code < 0 ? code : (int64_t)*count);
+    napi_value array = new_array(env, napi_uint32_array, 3 * *count, sizeof(uint32_t), &tokens);
+    if (!array) return NULL;
+    own->tokens = tokens;
+    dagcbor_compact_tape(own->block, length, tokens, *count, count);
     return array;
 }
 
-static bool put_call(napi_env env, napi_value into, const char *name, napi_callback call,
-                     void *data) {
-    napi_value function;
-    return napi_create_function(env, name, NAPI_AUTO_LENGTH, call, data, &function) == napi_ok &&
-           napi_set_named_property(env, into, name, function) == napi_ok;
+/* Makes the tokens of texts from there on those of parts of one text, whose units are put: how many
+ * there are. It takes those alone whose units are bytes, or those alone that have others, and looks
+ * at so many bytes. */
+static size_t gather(const Own *own, size_t first, bool are_latin1, size_t most, uint16_t *units) {
+    size_t count = 0;
+    for (size_t i = first, looked = 0; i < own->count; i++) {
+        dagcbor_compact_token *token = &own->tokens[i];
+        if (token->kind != DAGCBOR_STRING) continue;
+        if ((looked += token->number) > most) break;
+        const uint8_t *text = own->block + token->place;
+        if (is_latin1(text, token->number) != are_latin1) continue;
+        size_t length = are_latin1 ? put_latin1(text, token->number, (uint8_t *)units + count)
+                                   : put_units(text, token->number, units + count);
+        *token = (dagcbor_compact_token){are_latin1 ? LATIN1 : WIDE, length, count};
+        count += length;
+    }
+    return count;
 }
 
-/* reader(): its `read`, and `kept`, the array that is kept, which nobody else may have. It stays as
- * long as the environment. */
-static napi_value reader(napi_env env, napi_callback_info info) {
-    napi_value made, array;
-    napi_ref reference;
-    void *kept;
-    (void)info;
-    TRY(napi_create_object(env, &made));
-    if (!(array = new_array(env, napi_uint32_array, 3 * KEPT_TOKENS, sizeof(uint32_t), &kept)))
-        return NULL;
-    TRY(napi_create_reference(env, array, 1, &reference));
-    TRY(napi_set_named_property(env, made, "kept", array));
-    return put_call(env, made, "read", read_tape, kept) ? made : raise(env, "no reader was made");
+/* texts(i): a text that has that of the token, which is beyond ASCII, and some of those behind it;
+ * their tokens say now which part each is. */
+static napi_value make_texts(napi_env env, napi_callback_info info) {
+    uint16_t room[WINDOW], *units = room;
+    uint32_t first;
+    const Own *own = own_of(env);
+    napi_value given = argument(env, info), text = NULL;
+    if (!given) return NULL;
+    TRY(napi_get_value_uint32(env, given, &first));
+    if (first >= own->count) return raise(env, "no such token");
+    const dagcbor_compact_token *token = &own->tokens[first];
+    size_t most = token->number < WINDOW ? WINDOW : token->number;
+    bool are_latin1 = is_latin1(own->block + token->place, token->number);
+    if (most > WINDOW && !(units = malloc(most * sizeof *units))) return no_memory(env);
+    size_t count = gather(own, first, are_latin1, most, units);
+    if (are_latin1) text = latin1(env, units, count);
+    else if (napi_create_string_utf16(env, units, count, &text) != napi_ok)
+        raise(env, "no text was made");
+    if (units != room) free(units);
+    return text;
+}
+
+/* The tokens of encode.js */
+
+/* A tape of encode.js: its tokens, of which the payloads are there of those before the first. */
+typedef struct {
+    dagcbor_token *tokens;
+    uint8_t *payload;
+    size_t room; /* for payloads */
+    uint32_t first, count, used;
+} Spelling;
+
+/* Puts the payloads that are not there, whose units stand one behind the other, with room for them.
+ * False where one has no UTF-8: its token stays. */
+static bool put_payloads(Spelling *it, const uint16_t *units) {
+    uint8_t *out = it->payload + it->used;
+    for (size_t i = it->first; i < it->count; i++) {
+        dagcbor_token *token = &it->tokens[i];
+        if (token->place != ABSENT) continue;
+        size_t place = (size_t)(out - it->payload), length = token->number;
+        if (token->kind == DAGCBOR_LINK)
+            for (size_t n = 0; n < length; n++) *out++ = (uint8_t)units[n];
+        else if (!(out = put_utf8(units, length, out))) return false;
+        units += length;
+        *token = (dagcbor_token){token->kind, (size_t)(out - it->payload) - place, place};
+    }
+    it->used = (uint32_t)(out - it->payload);
+    return true;
+}
+
+/* Puts the payloads that are not there, out of the texts. The number of their refusal, or 0. */
+static int32_t settle(napi_env env, Spelling *it, napi_value texts) {
+    uint16_t front[WINDOW], *units = front;
+    size_t length;
+    if (napi_get_value_string_utf16(env, texts, front, WINDOW, &length) != napi_ok) return 0;
+    if (length == WINDOW - 1) {
+        napi_get_value_string_utf16(env, texts, NULL, 0, &length);
+        if (!(units = malloc((length + 1) * sizeof *units))) return DAGCBOR_NO_MEMORY;
+        napi_get_value_string_utf16(env, texts, units, length + 1, &length);
+    }
+    bool has_room = 3 * length < it->room - it->used, is_put = has_room && put_payloads(it, units);
+    if (units != front) free(units);
+    return is_put ? 0 : has_room ? DAGCBOR_REQUIRE_UTF8 : DAGCBOR_NO_ROOM;
+}
+
+/* Spells the tape into so much room, or else into memory of its own. */
+static napi_value spelt(napi_env env, const Spelling *it, uint8_t *out, size_t room) {
+    size_t needed;
+    int32_t code = dagcbor_spell(it->payload, it->used, it->tokens, it->count,
+                                 dagcbor_into(out, room), room, &needed);
+    if (code != DAGCBOR_NO_ROOM) return number_of(env, code < 0 ? code : (int64_t)needed);
+    napi_value block = new_bytes(env, needed, &out);
+    if (!block) return NULL;
+    code = dagcbor_spell(it->payload, it->used, it->tokens, it->count, out, needed, &needed);
+    return code < 0 ? number_of(env, code) : block;
+}
+
+/* spell(count, used, texts, into, from, first, words, payload): puts the payloads, out of the
+ * texts, if there are any, of the tokens from the first on that have none. Without an array to put
+ * it into it answers how many bytes of payloads there are; and else the block: its length, where it
+ * is put there, and else an array of its own. The tape is that which is kept where none is given. */
+static napi_value spell(napi_env env, napi_callback_info info) {
+    size_t argc = 8, length = 0;
+    napi_value given[8];
+    const Own *own = own_of(env);
+    void *tokens = own->words, *payload = own->payload, *into;
+    uint32_t from;
+    Spelling it = {.room = WRITTEN_BYTES};
+    TRY(napi_get_cb_info(env, info, &argc, given, NULL, NULL));
+    TRY(napi_get_value_uint32(env, given[0], &it.count));
+    TRY(napi_get_value_uint32(env, given[1], &it.used));
+    if (argc > 5) {
+        TRY(napi_get_value_uint32(env, given[5], &it.first));
+        TRY(napi_get_typedarray_info(env, given[6], NULL, NULL, &tokens, NULL, NULL));
+        TRY(napi_get_typedarray_info(env, given[7], NULL, &it.room, &payload, NULL, NULL));
+    }
+    it.tokens = tokens;
+    it.payload = payload;
+    int32_t code = settle(env, &it, given[2]);
+    if (code == DAGCBOR_NO_MEMORY) return no_memory(env);
+    if (code < 0) return number_of(env, code);
+    if (napi_get_typedarray_info(env, given[3], NULL, &length, &into, NULL, NULL) != napi_ok)
+        return number_of(env, it.used);
+    TRY(napi_get_value_uint32(env, given[4], &from));
+    return spelt(env, &it, (uint8_t *)into + from, length - from < SHARED ? length - from : SHARED);
 }
 
 /* The other calls */
@@ -146,34 +282,47 @@ static napi_value place(napi_env env, napi_callback_info info) {
     return number_of(env, (int64_t)at);
 }
 
+/* The two arguments, which are bytes. */
+static bool both(napi_env env, napi_callback_info info, const uint8_t *bytes[2],
+                 size_t lengths[2]) {
+    size_t count = 2;
+    napi_value given[2];
+    if (napi_get_cb_info(env, info, &count, given, NULL, NULL) == napi_ok &&
+        (bytes[0] = bytes_in(env, given[0], &lengths[0])) &&
+        (bytes[1] = bytes_in(env, given[1], &lengths[1])))
+        return true;
+    no_bytes(env);
+    return false;
+}
+
 /* follow(block, path): a Float64Array of the kind of the last item to which a front of the path
  * leads, where it begins and ends, and how many bytes of the path lead there. */
 static napi_value follow(napi_env env, napi_callback_info info) {
-    size_t count = 2, length, path_length, places[3];
-    napi_value given[2];
-    TRY(napi_get_cb_info(env, info, &count, given, NULL, NULL));
-    const uint8_t *block = bytes_in(env, given[0], &length);
-    const uint8_t *path = bytes_in(env, given[1], &path_length);
-    if (!block || !path) return no_bytes(env);
-    int32_t code = dagcbor_follow(block, length, path, path_length, places);
-    if (code < 0) return number_of(env, code);
+    const uint8_t *given[2];
+    size_t lengths[2], places[3] = {0};
+    if (!both(env, info, given, lengths)) return NULL;
+    int32_t code = dagcbor_follow(given[0], lengths[0], given[1], lengths[1], places);
     double told[] = {code, (double)places[0], (double)places[1], (double)places[2]};
-    return doubles(env, told, 4);
+    return code < 0 ? number_of(env, code) : doubles(env, told, 4);
 }
 
 /* part(block, segment): a Float64Array of the kind of the part to which the segment leads, taken
  * whole, and where it begins and ends. */
 static napi_value part(napi_env env, napi_callback_info info) {
-    size_t count = 2, length, segment_length, place, end;
-    napi_value given[2];
-    TRY(napi_get_cb_info(env, info, &count, given, NULL, NULL));
-    const uint8_t *block = bytes_in(env, given[0], &length);
-    const uint8_t *segment = bytes_in(env, given[1], &segment_length);
-    if (!block || !segment) return no_bytes(env);
-    int32_t code = dagcbor_part(block, length, segment, segment_length, &place, &end);
-    if (code < 0) return number_of(env, code);
+    const uint8_t *given[2];
+    size_t lengths[2], place = 0, end = 0;
+    if (!both(env, info, given, lengths)) return NULL;
+    int32_t code = dagcbor_part(given[0], lengths[0], given[1], lengths[1], &place, &end);
     double told[] = {code, (double)place, (double)end};
-    return doubles(env, told, 3);
+    return code < 0 ? number_of(env, code) : doubles(env, told, 3);
+}
+
+/* verify(cid, block): the number of what is said of the two. */
+static napi_value verify(napi_env env, napi_callback_info info) {
+    const uint8_t *given[2];
+    size_t lengths[2];
+    if (!both(env, info, given, lengths)) return NULL;
+    return number_of(env, dagcbor_verify(given[0], lengths[0], given[1], lengths[1]));
 }
 
 /* tape(block): a BigUint64Array of three numbers for each token. */
@@ -200,15 +349,6 @@ static napi_value links(napi_env env, napi_callback_info info) {
     napi_value found = new_bytes(env, needed, &packed);
     if (found) dagcbor_links(bytes, length, dagcbor_into(packed, needed), needed, &needed);
     return found;
-}
-
-/* verify(cid, block): the number of what is said of the two. */
-static napi_value verify(napi_env env, napi_callback_info info) {
-    size_t count = 2, length, size;
-    napi_value given[2];
-    TRY(napi_get_cb_info(env, info, &count, given, NULL, NULL));
-    const uint8_t *cid = bytes_in(env, given[0], &length), *block = bytes_in(env, given[1], &size);
-    return cid && block ? number_of(env, dagcbor_verify(cid, length, block, size)) : no_bytes(env);
 }
 
 /* name(bytes): that of them as a block, a text of its bytes. */
@@ -255,18 +395,51 @@ static bool has_processor(void) {
 #endif
 }
 
+static void own_free(napi_env env, void *own, void *hint) {
+    (void)env, (void)hint;
+    free(own);
+}
+
+/* An array that is kept, which stays as long as the environment. */
+static bool put_array(napi_env env, napi_value exports, const char *name, napi_typedarray_type type,
+                      size_t count, void **at) {
+    napi_ref reference;
+    size_t size = type == napi_uint32_array ? sizeof(uint32_t) : 1;
+    napi_value array = new_array(env, type, count, size, at);
+    return array && napi_create_reference(env, array, 1, &reference) == napi_ok &&
+           napi_set_named_property(env, exports, name, array) == napi_ok;
+}
+
+static bool put_own(napi_env env, napi_value exports) {
+    Own *own = calloc(1, sizeof *own);
+    if (!own || napi_set_instance_data(env, own, own_free, NULL) != napi_ok) return false;
+    return put_array(env, exports, "kept", napi_uint32_array, 3 * KEPT_TOKENS, &own->kept) &&
+           put_array(env, exports, "words", napi_uint32_array, 6 * WRITTEN_TOKENS, &own->words) &&
+           put_array(env, exports, "payload", napi_uint8_array, WRITTEN_BYTES, &own->payload);
+}
+
+static bool put_call(napi_env env, napi_value exports, const char *name, napi_callback call) {
+    napi_value function;
+    return napi_create_function(env, name, NAPI_AUTO_LENGTH, call, NULL, &function) == napi_ok &&
+           napi_set_named_property(env, exports, name, function) == napi_ok;
+}
+
 NAPI_MODULE_INIT() {
     const struct {
         const char *name;
         napi_callback call;
-    } all[] = {{"reader", reader}, {"check", check}, {"place", place}, {"tape", tape},
+    } all[] = {{"read", read_tape}, {"texts", make_texts}, {"spell", spell},
+               {"check", check}, {"place", place}, {"tape", tape},
                {"follow", follow}, {"part", part}, {"links", links}, {"name", name},
                {"verify", verify}, {"cidText", cid_text}, {"cidFromText", cid_from_text},
                {"carOpen", car_open}, {"carPut", car_put}, {"carGo", car_go},
                {"carFound", car_found}};
+    napi_value shared = number_of(env, SHARED);
     if (!has_processor()) return raise(env, "dagcbor wants an x86-64-v2 processor");
+    if (!shared || !put_own(env, exports)) return raise(env, "a call of Node-API failed");
+    TRY(napi_set_named_property(env, exports, "shared", shared));
     for (size_t i = 0; i < sizeof all / sizeof *all; i++)
-        if (!put_call(env, exports, all[i].name, all[i].call, NULL))
+        if (!put_call(env, exports, all[i].name, all[i].call))
             return raise(env, "a call of Node-API failed");
     return exports;
 }

@@ -29,6 +29,13 @@ napi_value new_bytes(napi_env env, size_t length, uint8_t **at);
 napi_value copied(napi_env env, const uint8_t *bytes, size_t length);
 
 napi_value doubles(napi_env env, const void *numbers, size_t count); /* a Float64Array of them */
+napi_value array_of(napi_env env, const napi_value *parts, uint32_t count);
+
+/* Of texts */
+size_t put_latin1(const uint8_t *text, size_t length, uint8_t *units);
+size_t put_units(const uint8_t *text, size_t length, uint16_t *units);
+bool is_latin1(const uint8_t *text, size_t length);
+uint8_t *put_utf8(const uint16_t *units, size_t count, uint8_t *out);
 
 /* Of files of blocks */
 napi_value car_open(napi_env env, napi_callback_info info);

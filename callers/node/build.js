@@ -38,12 +38,12 @@ const out = (name) => join(__dirname, 'out', name);
 
 const build = () => {
   const [cc, ...words] = (process.env.CC || 'cc').split(' ');
-  const flags = ['-std=c11', '-O2', '-Wall', '-Wextra', '-shared', '-fPIC'];
+  const flags = ['-std=c11', '-O3', '-Wall', '-Wextra', '-shared', '-fPIC'];
   const hidden = ['-fvisibility=hidden', '-Wl,--exclude-libs,ALL'];
   const more = (process.env.CFLAGS || '').split(' ').filter(Boolean);
   const own = [join(__dirname, 'include'), join(crate, 'include'), join(__dirname, '../c')];
   const folders = [headers(), ...own].map((it) => `-I${it}`);
-  const sources = ['addon.c', 'car.c'].map((it) => join(__dirname, it));
+  const sources = ['addon.c', 'car.c', 'units.c'].map((it) => join(__dirname, it));
   const files = [...sources, library(), '-lm', '-o', out('dagcbor.node')];
   const all = [...words, ...flags, ...hidden, ...more, ...folders, ...files];
   execFileSync(cc, all, { stdio: 'inherit' });

@@ -41,4 +41,7 @@ const joined = (parts) => {
 // The bytes of a text of one unit for each.
 const fromLatin1 = (text) => Uint8Array.from(text, (unit) => unit.charCodeAt(0));
 
-module.exports = { fromLatin1, isBytes, joined, lengthOf, view, whole };
+// Whether a text has a surrogate that has no other.
+const isAlone = (text) => /[\ud800-\udfff]/.test(text) && /\p{Surrogate}/u.test(text);
+
+module.exports = { fromLatin1, isAlone, isBytes, joined, lengthOf, view, whole };

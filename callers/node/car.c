@@ -126,14 +126,12 @@ static napi_value batch_of(napi_env env, Walk *walk, size_t count) {
 /* [code, place, bytes, numbers]: why the work stopped, and where; four numbers of each section. */
 static napi_value answer_of(napi_env env, Walk *walk) {
     size_t count = walk->told.used / sizeof(Told);
-    napi_value answer, parts[4];
+    napi_value parts[4];
     TRY(napi_create_int32(env, walk->code, &parts[0]));
     TRY(napi_create_double(env, (double)(walk->check.car.place + walk->check.car.skip), &parts[1]));
     if (!(parts[2] = batch_of(env, walk, count))) return NULL;
     if (!(parts[3] = doubles(env, walk->told.start, 4 * count))) return NULL;
-    TRY(napi_create_array_with_length(env, 4, &answer));
-    for (uint32_t i = 0; i < 4; i++) TRY(napi_set_element(env, answer, i, parts[i]));
-    return answer;
+    return array_of(env, parts, 4);
 }
 
 /* Settles the promise. */
@@ -152,14 +150,61 @@ static void ended(napi_env env, napi_status status, void *given) {
         napi_reject_deferred(env, deferred, error);
 }
 
-/* carGo(walk): a promise of what is found in what was put, by a thread of the pool. */
+/* The script that computes SHA-256, of blocks of so many bytes or more. */
+typedef struct {
+    napi_env env;
+    napi_value call;
+    uint32_t least;
+} Script;
+
+static int is_digest_by(const Script *script, const uint8_t *block, size_t length,
+                        const uint8_t digest[32]) {
+    napi_env env = script->env;
+    napi_value bytes = copied(env, block, length), none, found;
+    if (!bytes || napi_get_undefined(env, &none) != napi_ok ||
+        napi_call_function(env, none, script->call, 1, &bytes, &found) != napi_ok)
+        return -1;
+    const uint8_t *at = bytes_in(env, found, &length);
+    if (at && length == 32) return memcmp(at, digest, 32) == 0;
+    napi_throw_type_error(env, NULL, "sha256 answers no Uint8Array of 32 bytes");
+    return -1;
+}
+
+static int is_digest(void *script, const uint8_t *block, size_t length, const uint8_t digest[32]) {
+    napi_env env = ((Script *)script)->env;
+    napi_handle_scope scope;
+    if (length < ((Script *)script)->least) return 0;
+    if (napi_open_handle_scope(env, &scope) != napi_ok) return -1;
+    int is_same = is_digest_by(script, block, length, digest);
+    napi_close_handle_scope(env, scope);
+    return is_same;
+}
+
+/* The answer itself: the script runs by this thread. */
+static napi_value go_by(napi_env env, Walk *walk, Script script) {
+    walk->check.car.host = &script;
+    walk->check.car.is_digest = is_digest;
+    walk->is_busy = true;
+    walk->code = go_on(walk);
+    walk->is_busy = false;
+    if (walk->code == CAR_NO_MEMORY) return no_memory(env);
+    return walk->code == CAR_FAILED ? raise(env, "no digest was computed") : answer_of(env, walk);
+}
+
+/* carGo(walk, sha256, least): what is found in what was put; a promise of it, by a thread of the
+ * pool, where no script computes digests. */
 napi_value car_go(napi_env env, napi_callback_info info) {
-    napi_value given, name, promise;
-    Walk *walk = walk_of(env, info, 1, &given);
+    napi_value given[3], name, promise;
+    napi_valuetype type;
+    uint32_t least;
+    Walk *walk = walk_of(env, info, 3, given);
     if (!walk) return NULL;
+    TRY(napi_typeof(env, given[1], &type));
+    TRY(napi_get_value_uint32(env, given[2], &least));
+    if (type != napi_undefined) return go_by(env, walk, (Script){env, given[1], least});
     TRY(napi_create_string_latin1(env, "dagcbor", NAPI_AUTO_LENGTH, &name));
     TRY(napi_create_async_work(env, NULL, name, at_work, ended, walk, &walk->work));
-    TRY(napi_create_reference(env, given, 1, &walk->kept));
+    TRY(napi_create_reference(env, given[0], 1, &walk->kept));
     TRY(napi_create_promise(env, &walk->deferred, &promise));
     walk->is_busy = true;
     if (napi_queue_async_work(env, walk->work) == napi_ok) return promise;
@@ -178,7 +223,7 @@ static napi_value missing_of(napi_env env, const Names *names) {
 /* carFound(walk): [roots, counts, missing]. Names are packed; the counts are those of the
  * verdicts, from the least number on; none are missing before a check is at its end. */
 napi_value car_found(napi_env env, napi_callback_info info) {
-    napi_value given, answer, parts[3];
+    napi_value given, parts[3];
     double counts[VERDICTS];
     Walk *walk = walk_of(env, info, 1, &given);
     if (!walk) return NULL;
@@ -189,7 +234,5 @@ napi_value car_found(napi_env env, napi_callback_info info) {
     if (!(parts[1] = doubles(env, counts, VERDICTS))) return NULL;
     parts[2] = walk->is_check ? missing_of(env, &check->names) : copied(env, NULL, 0);
     if (!parts[2]) return NULL;
-    TRY(napi_create_array_with_length(env, 3, &answer));
-    for (uint32_t i = 0; i < 3; i++) TRY(napi_set_element(env, answer, i, parts[i]));
-    return answer;
+    return array_of(env, parts, 3);
 }

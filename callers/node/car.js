@@ -8,16 +8,10 @@ const { DagCborError, KINDS, REASONS, refusal } = require('./errors.js');
 const { latin1 } = require('./platform.js');
 
 const PIECE = 1 << 18; // of bytes in memory, that are copied at once
-const [MORE, END] = [100, 101]; // of a walk
+const END = 101; // of a walk
+const CALL_LEAST = 1 << 13; // bytes of a block: of less the library is quicker than a call
 const [OTHER_BYTES, LEAST] = [-22, -23]; // of verdicts, the second the least one
 
-const FAULTS = {
-  [-24]: ['Truncated', 'the file is cut short'],
-  [-25]: ['InvalidLength', 'a length is not in shortest form or too large'],
-  [-26]: ['InvalidCid', 'no name stands before a block'],
-  [-27]: ['OtherHeader', 'the header is not that of version 1'],
-  [-35]: ['InvalidOffset', 'the offsets of version 2 are none'],
-};
 const OTHERS = { 9: 'not read', [-22]: 'other bytes', [-23]: 'not verified' };
 
 const pieces = function* (bytes) {
@@ -46,80 +40,63 @@ const verify = (cid, bytes) => {
 
 // Of the header a fault may be the refusal of a block.
 const faultOf = (code, place) => {
-  const [kind, reason] =
-    FAULTS[code] ?? ['NoBlock', `the header is no block: ${REASONS[code]?.[1] ?? code}`];
-  return new CarError(kind, reason, place);
+  const [kind, reason] = REASONS[code] ?? [undefined, code];
+  if (code < LEAST) return new CarError(kind, reason, place);
+  return new CarError('NoBlock', `the header is no block: ${reason}`, place);
 };
 
-// A file that is gone through: its front, and then batches of its sections.
+// A file that is gone through, its front and then batches of its sections: numbers of each, their
+// bytes, and where these begin.
 class Walk {
-  constructor(source, isCheck = false) {
+  #sha256;
+
+  constructor(source, { sha256 } = {}, isCheck = false) {
     const given = source instanceof Uint8Array ? pieces(source) : source;
-    const begin = given?.[Symbol.asyncIterator] ?? given?.[Symbol.iterator];
-    if (!begin) throw new TypeError('a Uint8Array or an iterable of Uint8Arrays is wanted');
-    this.source = begin.call(given);
+    if (!(given?.[Symbol.asyncIterator] ?? given?.[Symbol.iterator])) {
+      throw new TypeError('a Uint8Array or an iterable of Uint8Arrays is wanted');
+    }
+    if (sha256 !== undefined && typeof sha256 !== 'function') {
+      throw new TypeError('sha256 is no function');
+    }
+    this.#sha256 = sha256;
     this.car = native.carOpen(isCheck);
-    this.isHungry = true;
+    this.steps = this.#through(given);
   }
 
-  // What is found next: numbers of sections, their bytes, and where these begin; whether it is the
-  // end; a fault.
-  async step() {
+  async *#through(source) {
+    for await (const piece of source) {
+      native.carPut(this.car, piece ?? null);
+      if (yield* this.#found()) return;
+    }
+    native.carPut(this.car, undefined);
+    yield* this.#found();
+  }
+
+  // What is found in what was put. Answers whether it is the end, and not that more is wanted.
+  async *#found() {
     for (;;) {
-      if (this.isHungry) {
-        const { done, value } = await this.source.next();
-        native.carPut(this.car, done ? undefined : value ?? null);
-      }
-      const [code, place, bytes, numbers] = await native.carGo(this.car);
-      this.isHungry = code === MORE;
-      if (code === MORE && !numbers.length) continue;
-      const fault = code < 0 && faultOf(code, place);
-      return { isEnd: code === END, fault, place: place - bytes.length, bytes, numbers };
+      const [code, place, bytes, numbers] = await native.carGo(this.car, this.#sha256, CALL_LEAST);
+      if (code === 0 || numbers.length) yield { place: place - bytes.length, bytes, numbers };
+      if (code < 0) throw faultOf(code, place);
+      if (code > 0) return code === END;
     }
-  }
-
-  // Lets the source go where there is an error, and where `left` says so.
-  async guarded(work) {
-    try {
-      return await work();
-    } catch (error) {
-      await this.leave();
-      throw error;
-    }
-  }
-
-  async leave() {
-    await this.source.return?.();
   }
 
   // Behind the header, with the roots.
   async begin() {
-    const { fault } = await this.guarded(() => this.step());
-    if (fault) {
-      await this.leave();
-      throw fault;
-    }
+    await this.steps.next();
     this.roots = unpack(native.carFound(this.car)[0]);
     return this;
   }
 
   // What `make` makes of each section: of its batch, where that and it begin, and its numbers.
   async *sections(make) {
-    let isOver = false;
-    try {
-      while (!isOver) {
-        const { isEnd, fault, place, bytes, numbers } = await this.step();
-        let from = 0;
-        for (let i = 0; i < numbers.length; i += 4) {
-          const told = numbers.subarray(i, i + 4);
-          yield make(bytes, place, from, told);
-          from = told[3];
-        }
-        if (fault) throw fault;
-        isOver = isEnd;
+    for await (const { place, bytes, numbers } of this.steps) {
+      for (let [i, from] = [0, 0]; i < numbers.length; i += 4) {
+        const told = numbers.subarray(i, i + 4);
+        yield make(bytes, place, from, told);
+        from = told[3];
       }
-    } finally {
-      if (!isOver) await this.leave();
     }
   }
 }
@@ -148,13 +125,11 @@ const iteratorOf = (make) => class {
     this.#sections = walk.sections(make);
   }
 
-  static async fromBytes(bytes) {
-    return new this(await new Walk(bytes).begin());
+  static async fromIterable(source, options) {
+    return new this(await new Walk(source, options).begin());
   }
 
-  static async fromIterable(source) {
-    return new this(await new Walk(source).begin());
-  }
+  static fromBytes = this.fromIterable;
 
   async getRoots() {
     return [...this.#walk.roots];
@@ -185,12 +160,12 @@ class CarReader {
     }
   }
 
-  static async fromBytes(bytes) {
-    return CarReader.fromIterable(bytes);
+  static fromBytes(bytes, options) {
+    return CarReader.fromIterable(bytes, options);
   }
 
-  static async fromIterable(source) {
-    const walk = await new Walk(source).begin();
+  static async fromIterable(source, options) {
+    const walk = await new Walk(source, options).begin();
     const blocks = [];
     for await (const it of walk.sections(blockOf)) blocks.push(it);
     return new CarReader(walk.roots, blocks);
@@ -217,17 +192,15 @@ class CarReader {
   }
 }
 
-const checkCar = async (source) => {
-  const walk = await new Walk(source, true).begin();
-  return walk.guarded(async () => {
-    for (;;) {
-      const { isEnd, fault } = await walk.step();
-      if (!isEnd && !fault) continue;
-      const checked = found(native.carFound(walk.car));
-      if (isEnd) return checked;
-      throw Object.assign(fault, { checked });
-    }
-  });
+const checkCar = async (source, options) => {
+  const walk = await new Walk(source, options, true).begin();
+  const checked = () => found(native.carFound(walk.car));
+  try {
+    while (!(await walk.steps.next()).done);
+  } catch (error) {
+    throw error instanceof CarError ? Object.assign(error, { checked: checked() }) : error;
+  }
+  return checked();
 };
 
 const found = ([roots, counts, packed]) => {

@@ -7,15 +7,16 @@ const { native } = require('./library.js');
 const { lengthOf, view } = require('./bytes.js');
 const { cidOf } = require('./cid.js');
 const { refusal } = require('./errors.js');
-const { latin1, plain: plainly, utf8 } = require('./platform.js');
+const { latin1, plain: plainly } = require('./platform.js');
 
-// The kinds of tokens, and that of a text of ASCII.
-const [NULL, BOOL, INTEGER, STRING, BYTES, LIST, MAP, LINK, NEGATIVE, ASCII] = Array(10).keys();
+// The kinds of tokens; that of a text of ASCII, and of a part of a text of some width.
+const [NULL, BOOL, INTEGER, STRING, BYTES, LIST, MAP, LINK, NEGATIVE, ASCII, LATIN1, WIDE] =
+  Array(12).keys();
 const TRAILING_DATA = -14;
 
 // Three words for each token: its kind, its number, its place; of an integer the number's low word
 // and its high one. They stand in `kept`, or where they are many in an array of their own.
-const { read, kept } = native.reader();
+const { read, texts, kept } = native;
 let [words, block, at, turn] = [kept, undefined, 0, 0];
 
 // A text of a byte for each unit. A short one is cut out of a longer one, which then stays alive.
@@ -33,33 +34,39 @@ const plainText = (from, length) => {
   return cut.slice(from - cutFrom, to - cutFrom);
 };
 
+// Texts beyond ASCII, of which some that come have parts: one of a byte for each unit, and another.
+let [narrow, wide] = ['', ''];
+
 const textAt = (i) => {
+  if (words[i] === STRING) {
+    const made = texts(i / 3);
+    if (words[i] === LATIN1) narrow = made;
+    else wide = made;
+  }
   const number = words[i + 1];
   const from = words[i + 2];
-  return words[i] === ASCII ? plainText(from, number) : utf8(block, from, from + number);
+  if (words[i] === ASCII) return plainText(from, number);
+  return (words[i] === LATIN1 ? narrow : wide).slice(from, from + number);
 };
 
 // Keys in the order in which maps had them: each knows those that were met behind it, the last one
-// as `next`. `bytes` are those of the key, `turn` is the last one in which it was no property of
-// every object, `ends` how many maps ended with it, and `sample` is one like these.
+// as `next`. `units` are those of the key, and `turn` is the last one in which it was no property
+// of every object.
 const [MOST_KEYS, MOST_OTHERS] = [4096, 64];
-const newKey = (text, bytes) =>
-  ({ text, bytes, next: undefined, others: undefined, turn: 0, ends: 0, sample: undefined });
-let [root, keys] = [newKey('', []), 0];
-
-const bytesAt = (i) => {
-  const bytes = [];
-  for (let j = 0; j < words[i + 1]; j++) bytes.push(block[words[i + 2] + j]);
-  return bytes;
+const newKey = (text) => {
+  const units = Array.from(text, (it) => it.charCodeAt(0));
+  return { text, units, next: undefined, others: undefined, turn: 0 };
 };
+let [root, keys] = [newKey(''), 0];
 
 const otherKey = (before, i) => {
   const text = textAt(i);
   const { next, others } = before;
+  if (next?.text === text) return next;
   let found = others?.get(text);
   if (found === undefined) {
-    if (words[i + 1] > LONGEST) return newKey(text, []);
-    found = newKey(text, bytesAt(i));
+    found = newKey(text);
+    if (text.length > LONGEST) return found;
     keys += 1;
     if (next !== undefined) {
       if (others === undefined || others.size >= MOST_OTHERS) before.others = new Map();
@@ -70,16 +77,16 @@ const otherKey = (before, i) => {
   return found;
 };
 
-// The key of that token, behind another one.
+// The key of that token, behind another one. One of ASCII is told by its bytes.
 const keyBehind = (before, i) => {
   const { next } = before;
-  if (next === undefined) return otherKey(before, i);
-  const { bytes } = next;
+  if (next === undefined || words[i] !== ASCII) return otherKey(before, i);
+  const { units } = next;
   const count = words[i + 1];
   const from = words[i + 2];
   const all = block;
-  if (bytes.length !== count) return otherKey(before, i);
-  for (let j = 0; j < count; j++) if (bytes[j] !== all[from + j]) return otherKey(before, i);
+  if (units.length !== count) return otherKey(before, i);
+  for (let j = 0; j < count; j++) if (units[j] !== all[from + j]) return otherKey(before, i);
   return next;
 };
 
@@ -88,15 +95,22 @@ const [configurable, enumerable, writable] = [true, true, true];
 const define = (map, key, value) =>
   Object.defineProperty(map, key, { __proto__: null, value, configurable, enumerable, writable });
 
-// The engine makes a slow dictionary of an object with more than some 16 keys, unless there is one
-// that was once given them by definition, in the same order: so such ones are kept.
-const [FEW, MANY] = [12, 128];
+// The engine makes a slow dictionary of an object that has many more properties than there is room
+// for in itself: as many as those had that were first made by the same function.
+const [FEW, MANY] = [12, 48];
 
-const sampleOf = (map) => Object.keys(map).reduce((made, key) => define(made, key, null), {});
+function Wide(isFull) {
+  if (!isFull) return;
+  this.a = this.b = this.c = this.d = this.e = this.f = this.g = this.h = this.i = this.j = null;
+  this.k = this.l = this.m = this.n = this.o = this.p = this.q = this.r = this.s = this.t = null;
+  this.u = this.v = this.w = this.x = null;
+}
+Wide.prototype = Object.prototype;
+for (let i = 0; i < 8; i++) new Wide(true);
 
 const nextMap = (count) => {
   if (count > MANY) return wideMap(count);
-  const map = {};
+  const map = count > FEW ? new Wide(false) : {};
   let key = root;
   for (let left = count; left > 0; left--) {
     key = keyBehind(key, at);
@@ -108,7 +122,6 @@ const nextMap = (count) => {
       map[key.text] = nextValue();
     }
   }
-  if (count > FEW && key.sample === undefined && (key.ends += 1) > 1) key.sample = sampleOf(map);
   return map;
 };
 
@@ -158,7 +171,9 @@ const nextValue = () => {
     case INTEGER: return last === 0 ? number : integer(number, last, false);
     case MAP: return nextMap(number);
     case LIST: return nextList(number);
-    case STRING: return utf8(block, last, last + number);
+    case STRING:
+    case LATIN1:
+    case WIDE: return textAt(at - 3);
     case LINK: return cidOf(latin1(block, last, last + number));
     case BYTES: return view(block, last, last + number).slice();
     case NEGATIVE: return integer(number, last, true);
@@ -176,11 +191,11 @@ const decode = (bytes) => {
   at = 0;
   cutTo = 0;
   turn += 1;
-  if (keys > MOST_KEYS) [root, keys] = [newKey('', []), 0];
+  if (keys > MOST_KEYS) [root, keys] = [newKey(''), 0];
   const value = nextValue();
   words = kept;
   block = undefined;
-  cut = '';
+  cut = narrow = wide = '';
   return value;
 };
 

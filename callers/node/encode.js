@@ -1,219 +1,197 @@
-// Blocks out of values: the bytes are written here, and the library judges them before they go out.
+// Blocks out of values: what is in them is told as tokens, which the library spells, and then it
+// judges what it spelt.
 'use strict';
 const { native } = require('./library.js');
-const { isBytes, lengthOf } = require('./bytes.js');
+const { isAlone, isBytes, lengthOf } = require('./bytes.js');
 const { binaryOf, foreignOf } = require('./cid.js');
-const { DagCborError, REASONS, refusal } = require('./errors.js');
-const {
-  SHARED, isMap, isProxy, latin1, mayBeProxy, memory, newPool,
-} = require('./platform.js');
+const { DagCborError, REASONS, answered } = require('./errors.js');
+const { isMap, isProxy, latin1, mayBeProxy, newPool, utf8 } = require('./platform.js');
 
 const encoder = new TextEncoder();
+const [NULL, BOOL, INTEGER, STRING, BYTES, LIST, MAP, LINK, NEGATIVE] = Array(9).keys();
+const [UNSUPPORTED, MISMATCH, UTF8, OVERFLOW, DEPTH, TOO_LONG] = [-5, -4, -8, -10, -12, -21];
 const MOST_LEVELS = 128; // of lists and maps in each other, in any block
-const [UNSUPPORTED, MISMATCH, UTF8, OVERFLOW, DEPTH] = [-5, -4, -8, -10, -12];
-const SHORT = 24; // units of a text
-const [SMALL, LARGE] = [8192, 1 << 20]; // bytes of room
+const [WORDS, ABSENT] = [6, 2 ** 32 - 1]; // of a token; the place of a payload that is not put yet
+const LARGE = 1 << 20; // words and bytes
+const GATHERED = 1 << 13; // units of texts: the engine moves about what many are put together of
+const { shared: SHARED, spell, words: OWN_WORDS, payload: OWN_PAYLOAD } = native;
 
-// Short blocks lie one behind the other in a pool, up to `used`: memory of its own takes longer
-// than all else of a short block.
-let [pool, used] = [newPool(SMALL), 0];
-let spare = new Uint8Array(0); // for longer ones
+// Short blocks, of up to SHARED bytes, lie one behind the other in a pool, up to `used`: memory of
+// its own takes longer than all else of a short block.
+const POOL = 8192;
+let [pool, used] = [newPool(POOL), 0];
 
-// What is written stands in `out`, before `at`. A script that runs meanwhile, as that of a
-// property, may write another block: behind it. So the levels, where `path` has the keys that lead
-// to what is written, begin at `floor`.
-let [out, at, isBusy] = [pool, 0, false];
-let [floor, top] = [0, 0];
-const path = [];
-
-const no = (code, said) => {
-  const [kind, reason] = REASONS[code];
-  throw new DagCborError(kind, said ?? reason, path.slice(floor, top));
+const longer = (array, length) => {
+  const made = new array.constructor(Math.max(length, Math.min(2 * array.length, ABSENT)));
+  made.set(array);
+  return made;
 };
 
-const room = (count) => {
-  if (count <= out.length - at) return;
-  const wanted = 2 * (at + count);
-  const more = spare.length < wanted ? memory(wanted) : spare;
-  more.set(out.subarray(0, at));
-  out = more;
-  if (more.length <= LARGE) spare = more;
-};
+// The tokens of a value: six words for each, in pairs, the low one first, of its kind, its number
+// and the place of its payload. Texts and links, of a unit for each byte, are gathered in `texts`
+// until their payloads are put.
+let turns = 0;
 
-const put16 = (n) => {
-  out[at++] = n >>> 8;
-  out[at++] = n;
-};
+class Tape {
+  constructor(words = new Uint32Array(WORDS << 6), payload = new Uint8Array(1024)) {
+    this.words = words;
+    this.payload = payload;
+    this.at = 0;
+    this.used = 0; // of the payload
+    this.settled = 0; // tokens whose payloads are put
+    this.texts = '';
+    this.levels = 0;
+    this.turn = turns += 1;
+  }
 
-const put32 = (n) => {
-  put16(n >>> 16);
-  put16(n);
-};
+  put(kind, low, high, place) {
+    const { at } = this;
+    if (at === this.words.length) this.words = longer(this.words, 0);
+    const { words } = this;
+    words[at] = kind;
+    words[at + 2] = low;
+    words[at + 3] = high;
+    words[at + 4] = place;
+    this.at = at + WORDS;
+  }
 
-const WIDEST = 9;
-const widthOf = (n) => (n < 24 ? 1 : n < 2 ** 8 ? 2 : n < 2 ** 16 ? 3 : n < 2 ** 32 ? 5 : WIDEST);
+  putUnits(kind, text) {
+    if (this.texts.length + text.length > GATHERED && this.texts) this.settle();
+    this.put(kind, text.length, 0, text ? ABSENT : 0);
+    this.texts += text;
+  }
 
-// The head of a major type, which is a multiple of 32, and a safe integer from 0 on; and room for
-// so many bytes behind it.
-const putHead = (major, n, behind = 0) => {
-  room(WIDEST + behind);
-  if (n < 24) out[at++] = major + n;
-  else if (n < 2 ** 8) (out[at++] = major + 24), (out[at++] = n);
-  else if (n < 2 ** 16) (out[at++] = major + 25), put16(n);
-  else if (n < 2 ** 32) (out[at++] = major + 26), put32(n);
-  else (out[at++] = major + 27), put32(n / 2 ** 32), put32(n);
-};
+  room(count) {
+    const wanted = this.used + count;
+    if (wanted > ABSENT) this.no(TOO_LONG, 'a block of 4 GiB or more is not written');
+    if (wanted > this.payload.length) this.payload = longer(this.payload, wanted);
+  }
 
-const putNumber = (number) => {
-  if (!Number.isInteger(number)) no(UNSUPPORTED, 'a float');
-  if (!Number.isSafeInteger(number)) no(OVERFLOW, 'an integer beyond 2^53 is wanted as a BigInt');
-  if (number < 0) putHead(0x20, -1 - number);
-  else putHead(0, number);
-};
+  // Puts bytes, and answers where.
+  place(bytes, length) {
+    this.room(length);
+    const { used } = this;
+    if (length) this.payload.set(bytes, used); // those that are detached have none
+    this.used += length;
+    return used;
+  }
 
-const putBigInt = (big) => {
-  const [major, n] = big < 0n ? [0x20, -1n - big] : [0, big];
-  if (n >= 1n << 64n) no(OVERFLOW, 'a BigInt that is not in -2^64 .. 2^64 - 1');
-  if (n <= Number.MAX_SAFE_INTEGER) return putHead(major, Number(n));
-  room(WIDEST);
-  out[at++] = major + 27;
-  put32(Number(n >> 32n));
-  put32(Number(n & 0xffffffffn));
-};
+  enter(kind, count) {
+    if (this.levels === MOST_LEVELS) this.no(DEPTH);
+    this.put(kind, count, 0, 0);
+    this.levels += 1;
+  }
 
-const noText = () => no(UTF8, 'a text with a surrogate alone');
+  // Puts the payloads of texts and links. With a pool it answers the block, which lies there if the
+  // answer is its length.
+  settle(into, from) {
+    this.room(3 * this.texts.length + 1);
+    const { words, payload, settled } = this;
+    const count = this.at / WORDS;
+    const texts = this.texts || undefined;
+    const isKept = settled === 0 && words === OWN_WORDS && payload === OWN_PAYLOAD;
+    const told = isKept
+      ? spell(count, this.used, texts, into, from)
+      : spell(count, this.used, texts, into, from, settled, words, payload);
+    if (told === UTF8) this.noText();
+    answered(told);
+    if (!into) [this.settled, this.used, this.texts] = [count, told, ''];
+    return told;
+  }
 
-// Writes the UTF-8 of a text from there on, for which there is room, and answers where it ends.
-const putUtf8 = (text, to) => {
-  const into = out;
-  for (let i = 0; i < text.length; i++) {
-    let unit = text.charCodeAt(i);
-    if (unit < 0x80) {
-      into[to++] = unit;
-      continue;
-    }
-    if (unit < 0x800) {
-      into[to++] = 0xc0 | (unit >> 6);
-    } else {
-      if ((unit & 0xf800) !== 0xd800) into[to++] = 0xe0 | (unit >> 12);
-      else {
-        const low = text.charCodeAt((i += 1));
-        if (unit >= 0xdc00 || (low & 0xfc00) !== 0xdc00) noText();
-        unit = 0x10000 + ((unit & 0x3ff) << 10) + (low & 0x3ff);
-        into[to++] = 0xf0 | (unit >> 18);
-        into[to++] = 0x80 | ((unit >> 12) & 0x3f);
+  // The keys and indices that lead to the token there.
+  way(end) {
+    const { words, payload, texts } = this;
+    const way = [];
+    let [at, from] = [0, 0]; // a token, and a place in the texts
+    const key = () => {
+      const [length, place] = [words[at + 2], words[at + 4]];
+      return place === ABSENT ? texts.slice(from, from + length) : utf8(payload, place, place + length);
+    };
+    const next = () => {
+      if (words[at + 4] === ABSENT) from += words[at + 2];
+      at += WORDS;
+    };
+    const pass = () => { // over an item, unless the token is there or in it
+      if (at >= end) return false;
+      const [kind, count] = [words[at], words[at + 2]];
+      next();
+      for (let i = 0; i < count && (kind === LIST || kind === MAP); i++) {
+        way.push(kind === MAP ? key() : i);
+        if (kind === MAP) next();
+        if (!pass()) return false;
+        way.pop();
       }
-      into[to++] = 0x80 | ((unit >> 6) & 0x3f);
-    }
-    into[to++] = 0x80 | (unit & 0x3f);
+      return true;
+    };
+    pass();
+    return way;
   }
-  return to;
-};
 
-// Writes the head of a text whose bytes stand there, to which it is moved if need be.
-const putBefore = (from, length) => {
-  const behind = at + widthOf(length);
-  if (behind !== from) out.copyWithin(behind, from, from + length);
-  putHead(0x60, length);
-  at = behind + length;
-};
-
-const isAlone = (text) => /[\ud800-\udfff]/.test(text) && /\p{Surrogate}/u.test(text);
-
-const putLong = (text) => {
-  const count = text.length;
-  if (count > LARGE) return putHuge(text);
-  room(WIDEST + 3 * count);
-  const from = at + widthOf(count);
-  const { written } = encoder.encodeInto(text, out.subarray(from));
-  if (written !== count && isAlone(text)) noText();
-  putBefore(from, written);
-};
-
-const putHuge = (text) => {
-  if (isAlone(text)) noText();
-  const bytes = encoder.encode(text);
-  putHead(0x60, bytes.length, bytes.length);
-  out.set(bytes, at);
-  at += bytes.length;
-};
-
-// Writes the low byte of each unit, and answers all units in one.
-const putUnits = (text, from) => {
-  const into = out;
-  const count = text.length;
-  let all = 0;
-  for (let i = 0; i < count; i++) {
-    const unit = text.charCodeAt(i);
-    into[from + i] = unit;
-    all |= unit;
+  no(code, said, more = [], end = this.at) {
+    const [kind, reason] = REASONS[code];
+    throw new DagCborError(kind, said ?? reason, [...this.way(end), ...more]);
   }
-  return all;
-};
 
-// Most are short, and of ASCII. Of others it is guessed how many bytes their head has.
-const putText = (text) => {
-  const count = text.length;
-  if (count >= SHORT) return putLong(text);
-  room(WIDEST + 3 * count);
-  const isBeyond = count > 0 && text.charCodeAt(0) >= 0x80;
-  if (!isBeyond && putUnits(text, at + 1) < 0x80) {
-    out[at] = 0x60 + count;
-    at += 1 + count;
-    return;
+  // The first whose payload was not put has no UTF-8.
+  noText() {
+    let at = this.settled * WORDS;
+    while (this.words[at + 4] !== ABSENT) at += WORDS;
+    this.no(UTF8, LONE, [], at);
   }
-  const behind = at + (count > 7 && text.charCodeAt(0) >= 0x800 ? 2 : 1);
-  putBefore(behind, putUtf8(text, behind) - behind);
+}
+
+const LONE = 'a text with a surrogate alone';
+
+const putNumber = (tape, number) => {
+  if (!Number.isInteger(number)) tape.no(UNSUPPORTED, 'a float');
+  if (!Number.isSafeInteger(number)) {
+    tape.no(OVERFLOW, 'an integer beyond 2^53 is wanted as a BigInt');
+  }
+  const n = number < 0 ? -1 - number : number;
+  tape.put(number < 0 ? NEGATIVE : INTEGER, n, n < 2 ** 32 ? 0 : n / 2 ** 32, 0);
 };
 
-const putBytes = (bytes) => {
+const putBigInt = (tape, big) => {
+  const n = big < 0n ? -1n - big : big;
+  if (n >= 1n << 64n) tape.no(OVERFLOW, 'a BigInt that is not in -2^64 .. 2^64 - 1');
+  tape.put(big < 0n ? NEGATIVE : INTEGER, Number(n & 0xffffffffn), Number(n >> 32n), 0);
+};
+
+const putBytes = (tape, bytes) => {
   const length = lengthOf.call(bytes);
-  putHead(0x40, length, length);
-  if (length) out.set(bytes, at); // one that is detached has none
-  at += length;
+  const place = tape.place(bytes, length);
+  tape.put(BYTES, length, 0, place);
 };
 
-const putLink = (binary) => {
-  room(2);
-  out[at++] = 0xd8;
-  out[at++] = 0x2a;
-  putHead(0x40, 1 + binary.length, 1 + binary.length);
-  out[at++] = 0;
-  putUnits(binary, at);
-  at += binary.length;
-};
-
-const enter = () => {
-  if (top - floor === MOST_LEVELS) no(DEPTH);
-  top += 1;
-};
-
-const putList = (list) => {
+const putList = (tape, list) => {
   const count = list.length >>> 0; // of a proxy it may be anything
-  putHead(0x80, count);
-  enter();
-  for (let i = 0; i < count; i++) {
-    path[top - 1] = i;
-    putValue(list[i]);
-  }
-  top -= 1;
+  tape.enter(LIST, count);
+  for (let i = 0; i < count; i++) putValue(tape, list[i]);
+  tape.levels -= 1;
 };
 
 // The order of keys: the shorter first, then by their bytes, both in UTF-8.
 const shorterFirst = (one, other) => one.length - other.length || (one < other ? -1 : 1);
-const inUtf8 = (key) => latin1(encoder.encode(key));
+const isPlain = (texts) => /^[\0-\x7f]*$/.test(texts.join(''));
 
 // Where the keys stand that come first, second and so on.
-const sorted = (keys) => {
-  const spelt = /^[\0-\x7f]*$/.test(keys.join('')) ? keys : keys.map(inUtf8);
+const sorted = (tape, keys) => {
+  const inUtf8 = (key) => (isAlone(key) ? tape.no(UTF8, LONE, [key]) : latin1(encoder.encode(key)));
+  const spelt = isPlain(keys) ? keys : keys.map(inUtf8);
   const places = keys.map((_, place) => place);
   return places.sort((one, other) => shorterFirst(spelt[one], spelt[other]));
 };
 
 // Objects with the same few keys are many: their orders are kept, and from the second one on the
-// keys as they are written.
-const [SLOTS, MOST_KEYS, MOST_UNITS, ODD] = [1024, 32, 1024, 0x9e3779b1];
-let last = { keys: [], places: [], inOrder: [], hasSlash: false };
+// keys' UTF-8, of which one tape has a copy.
+const [SLOTS, MOST_KEYS, MOST_UNITS, ODD] = [1024, 128, 1024, 0x9e3779b1];
+const newOrder = (keys, places) => {
+  const inOrder = places.map((place) => keys[place]);
+  const hasSlash = keys.includes('/');
+  return { keys, places, inOrder, hasSlash, spelt: undefined, lengths: [], turn: 0, place: 0 };
+};
+let last = newOrder([], []);
 const orders = new Array(SLOTS).fill(last);
 
 const isSame = (keys, others) => {
@@ -233,22 +211,24 @@ const slotOf = (keys) => {
   return slot >>> 22;
 };
 
-const newOrder = (keys) => {
-  const places = sorted(keys);
-  const inOrder = places.map((place) => keys[place]);
-  return { keys, places, inOrder, hasSlash: keys.includes('/') };
+const spellKeys = (order) => {
+  const all = order.inOrder.join('');
+  order.spelt = encoder.encode(all);
+  const isAscii = order.spelt.length === all.length;
+  order.lengths = order.inOrder.map((key) => (isAscii ? key : encoder.encode(key)).length);
 };
 
-const orderOf = (keys) => {
+const orderOf = (tape, keys) => {
   if (isSame(last.keys, keys)) return last;
-  if (keys.length > MOST_KEYS) return newOrder(keys);
+  if (keys.length > MOST_KEYS) return newOrder(keys, sorted(tape, keys));
   const slot = slotOf(keys);
   const known = orders[slot];
   if (isSame(known.keys, keys)) {
+    if (known.spelt === undefined) spellKeys(known);
     last = known;
     return known;
   }
-  const made = newOrder(keys);
+  const made = newOrder(keys, sorted(tape, keys));
   if (keys.join('').length <= MOST_UNITS) orders[slot] = made;
   return made;
 };
@@ -257,44 +237,50 @@ const orderOf = (keys) => {
 // few or many, or is a Proxy, of which it might read other ones.
 const [FEW, MANY] = [8, 128];
 
-const valuesOf = (map, keys) => {
+const valuesOf = (tape, map, keys) => {
   if (keys.length <= FEW || keys.length > MANY || mayBeProxy(map)) return undefined;
   const values = Object.values(map);
-  if (values.length !== keys.length) no(UNSUPPORTED, 'an object that changes while it is read');
+  if (values.length !== keys.length) {
+    tape.no(UNSUPPORTED, 'an object that changes while it is read');
+  }
   return values;
 };
 
-const putEntries = (map, values, { places, inOrder }) => {
-  const count = inOrder.length;
-  putHead(0xa0, count);
-  enter();
-  for (let i = 0; i < count; i++) {
-    const key = inOrder[i];
-    path[top - 1] = key;
-    putText(key);
-    putValue(values === undefined ? map[key] : values[places[i]]);
+const putEntries = (tape, map, values, order) => {
+  const { places, inOrder, spelt, lengths } = order;
+  tape.enter(MAP, inOrder.length);
+  if (spelt !== undefined && order.turn !== tape.turn) {
+    order.turn = tape.turn;
+    order.place = tape.place(spelt, spelt.length);
   }
-  top -= 1;
+  let { place } = order;
+  for (let i = 0; i < inOrder.length; i++) {
+    if (spelt === undefined) tape.putUnits(STRING, inOrder[i]);
+    else tape.put(STRING, lengths[i], 0, place);
+    place += lengths[i];
+    putValue(tape, values === undefined ? map[inOrder[i]] : values[places[i]]);
+  }
+  tape.levels -= 1;
 };
 
 // Of an object's own properties those that are enumerable, and have texts as keys; unless it is a
 // CID that lost its class, as `multiformats` tells one. Each value is read once.
-const putMap = (map) => {
+const putMap = (tape, map) => {
   const keys = Object.keys(map);
-  const order = orderOf(keys);
+  const order = orderOf(tape, keys);
   const binary = order.hasSlash ? foreignOf(map) : undefined;
-  if (binary !== undefined) putLink(binary);
-  else putEntries(map, valuesOf(map, keys), order);
+  if (binary !== undefined) tape.putUnits(LINK, binary);
+  else putEntries(tape, map, valuesOf(tape, map, keys), order);
 };
 
-const putJsMap = (map) => {
+const putJsMap = (tape, map) => {
   const [keys, values] = [[], []];
   Map.prototype.forEach.call(map, (value, key) => {
-    if (typeof key !== 'string') no(MISMATCH, 'a key of a Map that is no text');
+    if (typeof key !== 'string') tape.no(MISMATCH, 'a key of a Map that is no text');
     keys.push(key);
     values.push(value);
   });
-  putEntries(map, values, orderOf(keys));
+  putEntries(tape, map, values, orderOf(tape, keys));
 };
 
 const [OTHER, PROXY] = [
@@ -303,76 +289,67 @@ const [OTHER, PROXY] = [
 ];
 
 // What is neither a list nor a plain object.
-const putOther = (value) => {
-  if (isBytes(value)) return putBytes(value);
+const putOther = (tape, value) => {
+  if (isBytes(value)) return putBytes(tape, value);
   const binary = binaryOf(value) ?? foreignOf(value);
-  if (binary !== undefined) putLink(binary);
-  else if (isMap(value)) putJsMap(value);
-  else if (Object.prototype.toString.call(value) !== '[object Object]') no(UNSUPPORTED, OTHER);
-  else if (isProxy(value)) no(UNSUPPORTED, PROXY); // that of a Date looks like a map
-  else putMap(value);
+  if (binary !== undefined) return tape.putUnits(LINK, binary);
+  if (isMap(value)) return putJsMap(tape, value);
+  if (Object.prototype.toString.call(value) !== '[object Object]') tape.no(UNSUPPORTED, OTHER);
+  if (isProxy(value)) tape.no(UNSUPPORTED, PROXY); // that of a Date looks like a map
+  return putMap(tape, value);
 };
 
 // Whether its prototype is null, or that of objects in some realm, which has none itself.
-const isPlain = (value) => {
+const isPlainObject = (value) => {
   const above = Object.getPrototypeOf(value);
   return above === Object.prototype || above === null || Object.getPrototypeOf(above) === null;
 };
 
-const putObject = (value) => {
-  if (value === null) room(1), (out[at++] = 0xf6);
-  else if (Array.isArray(value)) putList(value);
-  else if (isPlain(value)) putMap(value);
-  else putOther(value);
+const putObject = (tape, value) => {
+  if (value === null) tape.put(NULL, 0, 0, 0);
+  else if (Array.isArray(value)) putList(tape, value);
+  else if (isPlainObject(value)) putMap(tape, value);
+  else putOther(tape, value);
 };
 
-const putValue = (value) => {
+const putValue = (tape, value) => {
   switch (typeof value) {
-    case 'string': return putText(value);
-    case 'number': return putNumber(value);
-    case 'object': return putObject(value);
-    case 'boolean': return room(1), (out[at++] = value ? 0xf5 : 0xf4);
-    case 'bigint': return putBigInt(value);
-    case 'undefined': return no(UNSUPPORTED, 'undefined');
-    default: return no(UNSUPPORTED, 'a function or a symbol');
+    case 'string': return tape.putUnits(STRING, value);
+    case 'number': return putNumber(tape, value);
+    case 'object': return putObject(tape, value);
+    case 'boolean': return tape.put(BOOL, value ? 1 : 0, 0, 0);
+    case 'bigint': return putBigInt(tape, value);
+    case 'undefined': return tape.no(UNSUPPORTED, 'undefined');
+    default: return tape.no(UNSUPPORTED, 'a function or a symbol');
   }
 };
 
-// What was written from there on: a part of the pool, or a copy.
-const blockFrom = (from, isInner) => {
-  if (isInner || out !== pool || at - from > SHARED) return out.slice(from, at);
-  used = at;
-  return new Uint8Array(pool.buffer, from, at - from);
+// Its block: a part of the pool, or by itself.
+const blockOf = (tape) => {
+  const block = tape.settle(pool, used);
+  if (typeof block === 'number') {
+    used += block;
+    return new Uint8Array(pool.buffer, used - block, block);
+  }
+  if (block.length <= SHARED) [pool, used] = [newPool(POOL), 0];
+  return block;
 };
 
-const begin = () => {
-  if (used > SMALL - SHARED) {
-    pool = newPool(SMALL);
-    used = 0;
-  }
-  out = pool;
-  at = used;
-};
+// The arrays of a tape are kept for the next one, unless they are large. A script that runs
+// meanwhile, as that of a property, may write another block, on another tape.
+let [kept, isBusy] = [{ words: OWN_WORDS, payload: OWN_PAYLOAD }, false];
 
 const encode = (value) => {
   const isInner = isBusy;
-  if (!isInner) begin();
-  const from = at;
-  const outer = floor;
-  const levels = top;
-  floor = top;
+  const tape = isInner ? new Tape() : new Tape(kept.words, kept.payload);
   isBusy = true;
   try {
-    putValue(value);
-    const block = blockFrom(from, isInner);
-    const code = native.check(block);
-    if (code < 0) throw refusal(code);
-    return block;
+    putValue(tape, value);
+    return blockOf(tape);
   } finally {
-    at = from;
-    floor = outer;
-    top = levels;
     isBusy = isInner;
+    const { words, payload } = tape;
+    if (!isInner && words.length + payload.length <= LARGE) kept = { words, payload };
   }
 };
 

@@ -22,7 +22,10 @@ const REASONS = {
   [-21]: ['TooLong', 'a block of 4 GiB or more is not decoded'],
   [-22]: ['OtherBytes', 'the bytes are not those that the CID names'],
   [-23]: ['NotVerified', 'the CID is by another hash function than SHA-256 and the identity'],
+  [-24]: ['Truncated', 'the file is cut short'],
+  [-25]: ['InvalidLength', 'a length is not in shortest form or too large'],
   [-26]: ['InvalidCid', 'the bytes are no CID'],
+  [-27]: ['OtherHeader', 'the header is not that of version 1'],
   [-28]: ['UnknownBase', 'the first character of the text names no base that is read here'],
   [-29]: ['TooLong', 'the text is longer than that of any CID'],
   [-30]: ['InvalidCharacter', 'a character is not in the alphabet of the base'],
@@ -30,6 +33,7 @@ const REASONS = {
   [-32]: ['TrailingBits', 'bits that are not zero stand behind the last byte'],
   [-33]: ['LeadingZero', 'the text begins with a zero byte, as no CID does'],
   [-34]: ['InvalidVersion', 'version 0 has no prefix, and version 1 has one'],
+  [-35]: ['InvalidOffset', 'the offsets of version 2 are none'],
   [-37]: ['RequireUtf8', 'a path with a surrogate that has no other'],
 };
 

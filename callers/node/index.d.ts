@@ -184,6 +184,17 @@ export type AnyCid = { readonly bytes: Uint8Array };
 /** Bytes as they come: a stream of Node, say. */
 export type Source = AsyncIterable<Uint8Array> | Iterable<Uint8Array>;
 
+/**
+ * How a file is gone through. `sha256` computes the digests of blocks of 8 KB or more in the place
+ * of the library, as `(bytes) => createHash('sha256').update(bytes).digest()` of Node's `crypto`,
+ * and is trusted: a block whose digest it calls that of its CID is taken for the one that is named.
+ * The library is asked about each other, so verdicts are the same. It is called on the thread that
+ * asks, with a copy.
+ */
+export interface CarOptions {
+  readonly sha256?: (bytes: Uint8Array) => Uint8Array;
+}
+
 /** What is said of a section, in the words of `dagcar check`. */
 export type Verdict =
   | `ok ${Kind}`
@@ -211,16 +222,16 @@ export class CarError extends DagCborError {
 
 /** The sections of a file, one at a time, and its roots. */
 export class CarBlockIterator implements AsyncIterable<Block> {
-  static fromBytes(bytes: Uint8Array): Promise<CarBlockIterator>;
-  static fromIterable(source: Source): Promise<CarBlockIterator>;
+  static fromBytes(bytes: Uint8Array, options?: CarOptions): Promise<CarBlockIterator>;
+  static fromIterable(source: Source, options?: CarOptions): Promise<CarBlockIterator>;
   getRoots(): Promise<CID[]>;
   [Symbol.asyncIterator](): AsyncIterator<Block>;
 }
 
 /** A file in memory. */
 export class CarReader {
-  static fromBytes(bytes: Uint8Array): Promise<CarReader>;
-  static fromIterable(source: Source): Promise<CarReader>;
+  static fromBytes(bytes: Uint8Array, options?: CarOptions): Promise<CarReader>;
+  static fromIterable(source: Source, options?: CarOptions): Promise<CarReader>;
   getRoots(): Promise<CID[]>;
   /** Whether a verified block has the name. */
   has(cid: AnyCid): Promise<boolean>;
@@ -233,8 +244,8 @@ export class CarReader {
 
 /** The names in a file, one at a time, and its roots. */
 export class CarCIDIterator implements AsyncIterable<CID> {
-  static fromBytes(bytes: Uint8Array): Promise<CarCIDIterator>;
-  static fromIterable(source: Source): Promise<CarCIDIterator>;
+  static fromBytes(bytes: Uint8Array, options?: CarOptions): Promise<CarCIDIterator>;
+  static fromIterable(source: Source, options?: CarOptions): Promise<CarCIDIterator>;
   getRoots(): Promise<CID[]>;
   [Symbol.asyncIterator](): AsyncIterator<CID>;
 }
@@ -251,8 +262,8 @@ export interface BlockIndex {
 
 /** Where the sections of a file stand, one at a time, and its roots. */
 export class CarIndexer implements AsyncIterable<BlockIndex> {
-  static fromBytes(bytes: Uint8Array): Promise<CarIndexer>;
-  static fromIterable(source: Source): Promise<CarIndexer>;
+  static fromBytes(bytes: Uint8Array, options?: CarOptions): Promise<CarIndexer>;
+  static fromIterable(source: Source, options?: CarOptions): Promise<CarIndexer>;
   getRoots(): Promise<CID[]>;
   [Symbol.asyncIterator](): AsyncIterator<BlockIndex>;
 }
@@ -272,7 +283,10 @@ export interface CarCheck {
 }
 
 /** Goes through a whole file, with no more than a section and the names in memory. */
-export function checkCar(source: Uint8Array | Source): Promise<CarCheck>;
+export function checkCar(
+  source: Uint8Array | Source,
+  options?: CarOptions,
+): Promise<CarCheck>;
 
 /** Writes a file of version 1. */
 export class CarWriter {

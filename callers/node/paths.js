@@ -1,7 +1,7 @@
 // Paths in blocks, and over links from block to block: index.d.ts says what each call does.
 'use strict';
 const { native } = require('./library.js');
-const { lengthOf, view } = require('./bytes.js');
+const { isAlone, lengthOf, view } = require('./bytes.js');
 const { verify } = require('./car.js');
 const { CID, binaryOf } = require('./cid.js');
 const { decode } = require('./decode.js');
@@ -13,7 +13,7 @@ const REFUSED = { 'not read': NOT_READ, 'other bytes': OTHER_BYTES, 'not verifie
 
 const bytesOf = (text) => {
   if (typeof text !== 'string') throw new TypeError('a path is a text, or an array of texts');
-  if (/\p{Surrogate}/u.test(text)) throw refusal(NO_TEXT);
+  if (isAlone(text)) throw refusal(NO_TEXT);
   return new TextEncoder().encode(text);
 };
 

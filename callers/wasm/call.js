@@ -100,7 +100,7 @@ const main = async () => {
   const wrong = tables.flatMap((rows, i) => rows.filter((it) => !holds[i](module, it)))[0];
   const counts = tables.map((rows) => rows.length);
   console.log(wrong ? `wrong: ${wrong[0]}` : `${counts.join(', ')} rows`);
-  process.exitCode = wrong || counts.length !== holds.length || counts.includes(0) ? 1 : 0;
+  return wrong || counts.length !== holds.length || counts.includes(0) ? 1 : 0;
 };
 
-main();
+main().then((status) => { process.exitCode = status; });

@@ -2,7 +2,7 @@
 """The blocks of the tests of the types that these schemas make, as Rattle: spelled here by the rules alone, with nothing of the
 tool or of the library.
 
-    schemas/examples/blocks.py album repository > crates/schema_tests/src/tests/blocks.rt"""
+    schemas/examples/blocks.py album repository > crates/tests_schema/src/tests/blocks.rt"""
 
 import sys
 

@@ -11,6 +11,7 @@ const { test } = require('node:test');
 const {
   CID, CarBlockIterator, CarError, CarReader, CarWriter, DagCborError, checkCar, encode, name,
 } = require('..');
+const { native } = require('../library.js');
 const { vectorsOf, verdictOf } = require('./vectors.js');
 
 const HEADER = Buffer.from('\x11\xa2eroots\x80gversion\x01', 'latin1');
@@ -52,22 +53,30 @@ const told = async (open) => {
   return found;
 };
 
+// By the library, by the host, and by what is never right.
+const host = (bytes) => createHash('sha256').update(bytes).digest();
+const ways = [undefined, { sha256: host }, { sha256: () => new Uint8Array(32) }];
+
 test('the vectors hold', async () => {
   assert.ok(rows.length > 40);
-  for (const { bytes, missing, ...wanted } of rows) {
-    const opened = sources(bytes).map((it) => () => CarBlockIterator.fromIterable(it));
-    for (const open of [() => CarBlockIterator.fromBytes(bytes), ...opened]) {
-      assert.deepStrictEqual(await told(open), wanted);
+  for (const options of ways) {
+    for (const { bytes, missing, ...wanted } of rows) {
+      const opened = sources(bytes).map((it) => () => CarBlockIterator.fromIterable(it, options));
+      for (const open of [() => CarBlockIterator.fromBytes(bytes, options), ...opened]) {
+        assert.deepStrictEqual(await told(open), wanted);
+      }
+      for (const source of [bytes, ...sources(bytes)]) {
+        await checks(source, wanted, missing, options);
+      }
+      await reads(bytes, wanted, options);
     }
-    for (const source of [bytes, ...sources(bytes)]) await checks(source, wanted, missing);
-    await reads(bytes, wanted);
   }
 });
 
-const checks = async (source, wanted, missing) => {
+const checks = async (source, wanted, missing, options) => {
   let [found, fault] = [undefined, null];
   try {
-    found = await checkCar(source);
+    found = await checkCar(source, options);
     assert.deepStrictEqual(found.missing.map(String), missing);
     const areWell = wanted.told.every((it) => it[2] === 'not read' || it[2].startsWith('ok '));
     assert.strictEqual(found.isWell, areWell && !missing.length);
@@ -82,10 +91,10 @@ const checks = async (source, wanted, missing) => {
   return assert.deepStrictEqual(found.roots.map(String), wanted.roots);
 };
 
-const reads = async (bytes, wanted) => {
+const reads = async (bytes, wanted, options) => {
   let reader;
   try {
-    reader = await CarReader.fromBytes(bytes);
+    reader = await CarReader.fromBytes(bytes, options);
   } catch (error) {
     return assert.deepStrictEqual(faultOf(error), wanted.fault);
   }
@@ -128,6 +137,50 @@ const section = (block, cid = cidOf(block)) => {
   const length = cid.bytes.length + block.length;
   return Buffer.concat([Buffer.from(varint(length)), cid.bytes, block]);
 };
+
+test('each row by the host, whatever its length', async () => {
+  const found = async (bytes, isCheck, sha256) => {
+    const car = native.carOpen(isCheck);
+    native.carPut(car, bytes);
+    native.carPut(car, undefined);
+    const steps = [];
+    do steps.push(await native.carGo(car, sha256, 0)); while (steps.at(-1)[0] === 0);
+    return [steps, native.carFound(car)];
+  };
+  for (const { bytes } of rows) {
+    for (const isCheck of [false, true]) {
+      const wanted = await found(bytes, isCheck);
+      for (const { sha256 } of ways.slice(1)) {
+        assert.deepStrictEqual(await found(bytes, isCheck, sha256), wanted);
+      }
+    }
+  }
+});
+
+test('digests of the host', async () => {
+  const isLooked = native.shared > 0; // not by the WebAssembly module
+  const named = (digest) => new CID(Uint8Array.of(1, 0x71, 0x12, 0x20, ...digest));
+  const [right, other] = [1, 2].map((n) => encode([n, new Uint8Array(9000)]));
+  const lie = named(new Uint8Array(32));
+  const file = Buffer.concat([HEADER, section(right), section(other, lie), section(Buffer.of(5))]);
+  const checked = async (sha256) => (await checkCar(file, { sha256 })).verdicts;
+  const wanted = { 'ok integer': 1, 'ok list': 1, 'other bytes': 1 };
+  for (const sha256 of [undefined, host]) assert.deepStrictEqual(await checked(sha256), wanted);
+  for (const sha256 of [null, true, 'host', {}]) await assert.rejects(checked(sha256), TypeError);
+  if (!isLooked) return;
+  const trusted = await checked(() => new Uint8Array(32));
+  assert.deepStrictEqual(trusted, { 'ok integer': 1, 'ok list': 2 });
+  const answers = [undefined, 'x', new Uint8Array(31), [], Promise.resolve(new Uint8Array(32))];
+  for (const it of answers) await assert.rejects(checked(() => it), TypeError);
+  const failing = checked(() => { throw new RangeError('mine'); });
+  await assert.rejects(failing, { name: 'RangeError', message: 'mine' });
+  const given = [];
+  const keeping = (bytes) => host(given[given.length] = bytes);
+  const reader = await CarReader.fromBytes(file, { sha256: keeping });
+  assert.strictEqual(given.length, 2);
+  given.forEach((it) => it.fill(255)); // a copy each
+  assert.deepStrictEqual((await reader.get(cidOf(right))).bytes, right);
+});
 
 test('sections of each size', async () => {
   const sizes = [0, 1, 91, 92, 60000, 65536, 262144, 300000, 5e6];

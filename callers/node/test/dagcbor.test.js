@@ -238,7 +238,7 @@ test('a read that is broken off', () => {
 
 test('blocks that are written in each other', () => {
   const inner = { get a() { return encode({ b: [1, 'x'.repeat(5000)] }); }, b: 1 };
-  const failed = { get c() { try { encode([[[NaN]]]); } catch {} return 2; } };
+  const failed = { get c() { try { return encode([[[NaN]]]); } catch (error) { return 2; } } };
   const block = encode([1, inner, failed, 3]);
   const [one, { a }, { c }, three] = decode(block);
   assert.deepStrictEqual([one, decode(a), c, three], [1, { b: [1, 'x'.repeat(5000)] }, 2, 3]);

@@ -1,7 +1,7 @@
 /* Files of blocks for Python: sections one at a time, and the check of a whole file.
 
    What the library reads is a `bytes`, or was copied into memory that is this module's own: so the
-   interpreter's lock is let go while it reads. */
+   interpreter's lock is let go while it reads, unless digests are computed in Python. */
 #include "native.h"
 
 #include "car.h"
@@ -11,21 +11,41 @@ enum {
     SLICE = 1 << 22  /* of a file, that is checked before signals are asked for */
 };
 
-/* Where the bytes come from: a file's method `read`, or a buffer. */
+/* Where the bytes come from: a file's method `read`, or a buffer; and what SHA-256 is computed by, or
+   NULL. */
 typedef struct {
     PyObject *read;
     PyObject *buffer;
+    PyObject *sha256;
     Py_ssize_t at;
 } Source;
 
 static void source_free(Source *source) {
     Py_CLEAR(source->read);
     Py_CLEAR(source->buffer);
+    Py_CLEAR(source->sha256);
+}
+
+/* Whether `sha256(block).digest()` is the digest. */
+static int is_digest(void *sha256, const uint8_t *block, size_t length, const uint8_t digest[32]) {
+    PyObject *made = PyObject_CallFunction(sha256, "y#", (const char *)block, (Py_ssize_t)length);
+    PyObject *found = made ? PyObject_CallMethod(made, "digest", NULL) : NULL;
+    int is_same = -1;
+    if (found && PyBytes_Check(found))
+        is_same = length_of(found) == 32 && memcmp(bytes_of(found), digest, 32) == 0;
+    else if (found) PyErr_SetString(PyExc_TypeError, "sha256 wants a digest of bytes");
+    Py_XDECREF(found);
+    Py_XDECREF(made);
+    return is_same;
 }
 
 /* A `bytes` is lent as it is. Of any other buffer pieces are copied as they are wanted. */
-static int source_open(Source *source, Car *car, PyObject *given) {
+static int source_open(Source *source, Car *car, PyObject *given, PyObject *sha256) {
     memset(source, 0, sizeof *source);
+    if (!Py_IsNone(sha256)) {
+        car->host = source->sha256 = Py_NewRef(sha256);
+        car->is_digest = is_digest;
+    }
     if (PyObject_CheckBuffer(given)) {
         source->buffer = Py_NewRef(given);
         if (PyBytes_Check(given)) car_lend(car, bytes_of(given), length_of(given));
@@ -72,14 +92,16 @@ static int refill(Source *source, Car *car) {
     return done;
 }
 
-/* Raises the error of what stands at the next place of the file. */
-static void *refuse_car(State *state, const Car *car, int32_t code) {
+/* The error of what stands at the next place of the file; NULL with another one raised. */
+static PyObject *error_in(State *state, const Car *car, int32_t code) {
+    if (code == CAR_FAILED) return NULL;
     if (code == CAR_NO_MEMORY) return no_memory();
-    PyObject *error = PyObject_CallFunction(state->refused_car, "iK", (int)code,
-                                            (unsigned long long)car->place + car->skip);
-    if (error) PyErr_SetObject((PyObject *)Py_TYPE(error), error);
-    Py_XDECREF(error);
-    return NULL;
+    bool has_name = code <= DAGCBOR_TRUNCATED;
+    PyObject *said = PyUnicode_FromFormat("%s%s", has_name ? "" : "the header is no block: ",
+                                          reason_of_code(code));
+    PyObject *place = said ? PyLong_FromUnsignedLongLong(car->place + car->skip) : NULL;
+    return new_error(state->car_error, said, has_name ? dagcbor_name_of_code(code) : "NoBlock",
+                     place);
 }
 
 /* Takes the front of the file as far as its roots, which it answers. */
@@ -89,7 +111,7 @@ static PyObject *take_roots(State *state, Source *source, Car *car) {
     for (int i = 0; i < 2;) {
         int32_t code = steps[i](car);
         if (code == 0) i++;
-        else if (code != CAR_MORE) return refuse_car(state, car, code);
+        else if (code != CAR_MORE) return raise_error(error_in(state, car, code));
         else if (refill(source, car) < 0) return NULL;
     }
     return unpack(state, car->roots.start, car->roots.used);
@@ -105,14 +127,18 @@ typedef struct {
     bool is_busy; /* another call goes on, in which the lock was let go */
 } CarReader;
 
-PyObject *read_car(PyObject *module, PyObject *given) {
+PyObject *read_car(PyObject *module, PyObject *args, PyObject *named) {
+    static char *names[] = {"", "sha256", NULL};
     State *state = PyModule_GetState(module);
+    PyObject *given, *sha256 = Py_None;
+    if (!PyArg_ParseTupleAndKeywords(args, named, "O|$O:read_car", names, &given, &sha256))
+        return NULL;
     CarReader *reader = PyObject_GC_New(CarReader, state->car_reader);
     if (!reader) return NULL;
     car_start(&reader->car);
     reader->roots = NULL;
     reader->is_busy = false;
-    if (source_open(&reader->source, &reader->car, given) == 0) {
+    if (source_open(&reader->source, &reader->car, given, sha256) == 0) {
         reader->roots = take_roots(state, &reader->source, &reader->car);
         bytes_free(&reader->car.roots);
     }
@@ -127,6 +153,7 @@ static int reader_traverse(PyObject *self, visitproc visit, void *arg) {
     Py_VISIT(reader->roots);
     Py_VISIT(reader->source.read);
     Py_VISIT(reader->source.buffer);
+    Py_VISIT(reader->source.sha256);
     return 0;
 }
 
@@ -151,38 +178,31 @@ static void reader_dealloc(PyObject *self) {
 
 /* What is said of the next section, or why there is none, where all of it is at hand. */
 static int32_t next_section(const Car *car, size_t places[3]) {
-    int32_t code = car_section(car, SHORT_CALL, places);
-    if (code != CAR_MORE || car->length <= SHORT_CALL) return code;
+    int32_t code = car_section(car, car->is_digest ? SIZE_MAX : SHORT_CALL, places);
+    if (code != CAR_MORE || car->is_digest || car->length <= SHORT_CALL) return code;
     Py_BEGIN_ALLOW_THREADS
     code = car_section(car, SIZE_MAX, places);
     Py_END_ALLOW_THREADS
     return code;
 }
 
-/* The words of a verdict. */
-static PyObject *verdict_of(State *state, int32_t code) {
-    PyObject *number = PyLong_FromLong(code),
-             *verdict = number ? PyObject_GetItem(state->verdicts, number) : NULL;
-    Py_XDECREF(number);
-    return verdict;
+/* What is said of a section, in the words of `dagcar check`. */
+static PyObject *verdict_of(int32_t code) {
+    switch (code) {
+    case DAGCBOR_NOT_READ: return PyUnicode_FromString("not read");
+    case DAGCBOR_OTHER_BYTES: return PyUnicode_FromString("other bytes");
+    case DAGCBOR_NOT_VERIFIED: return PyUnicode_FromString("not verified");
+    }
+    return PyUnicode_FromFormat(code < 0 ? "refused %s" : "ok %s", dagcbor_name_of_code(code));
 }
 
 static PyObject *new_section(State *state, const Car *car, int32_t code, const size_t places[3]) {
-    const uint8_t *at = car->bytes;
-    size_t length = places[2] - places[1];
-    PyObject *section = PyStructSequence_New(state->section);
-    PyObject *parts[] = {
-        new_cid(state->cid, at + places[0], places[1] - places[0]),
-        PyBytes_FromStringAndSize((const char *)at + places[1], (Py_ssize_t)length),
-        verdict_of(state, code),
-    };
-    bool is_whole = section && parts[0] && parts[1] && parts[2];
-    for (int i = 0; i < 3; i++) {
-        if (section) PyStructSequence_SetItem(section, i, parts[i]);
-        else Py_XDECREF(parts[i]);
-    }
-    if (!is_whole) Py_CLEAR(section);
-    return section;
+    const char *at = (const char *)car->bytes;
+    return PyObject_CallFunction(
+        (PyObject *)state->section, "((NNN))",
+        new_cid(state->cid, car->bytes + places[0], places[1] - places[0]),
+        PyBytes_FromStringAndSize(at + places[1], (Py_ssize_t)(places[2] - places[1])),
+        verdict_of(code));
 }
 
 static PyObject *take_section(State *state, CarReader *reader) {
@@ -192,7 +212,7 @@ static PyObject *take_section(State *state, CarReader *reader) {
     while ((code = next_section(car, places)) == CAR_MORE)
         if (refill(&reader->source, car) < 0) return NULL;
     if (code == CAR_END) return NULL;
-    if (!is_verdict(code)) return refuse_car(state, car, code);
+    if (!is_verdict(code)) return raise_error(error_in(state, car, code));
     PyObject *section = new_section(state, car, code, places);
     if (section) car_pass(car, places[2]);
     return section;
@@ -257,14 +277,14 @@ PyStructSequence_Desc section_desc = {
 /* A whole file */
 
 /* How often each verdict was given. */
-static PyObject *count_verdicts(State *state, const Check *check) {
+static PyObject *count_verdicts(const Check *check) {
     PyObject *counts = PyDict_New();
     for (int at = 0; counts && at < VERDICTS; at++) {
         /* First the kinds and `not read`, then the refusals. */
         int32_t code = at <= DAGCBOR_NOT_READ ? at : DAGCBOR_NOT_READ - at;
         uint64_t times = check->verdicts[code - DAGCBOR_NOT_VERIFIED];
         if (!times) continue;
-        PyObject *verdict = verdict_of(state, code), *count = PyLong_FromUnsignedLongLong(times);
+        PyObject *verdict = verdict_of(code), *count = PyLong_FromUnsignedLongLong(times);
         if (!verdict || !count || PyDict_SetItem(counts, verdict, count) < 0) Py_CLEAR(counts);
         Py_XDECREF(verdict);
         Py_XDECREF(count);
@@ -295,7 +315,7 @@ static PyObject *found_in(State *state, Check *check, PyObject *roots, PyObject 
     Py_BEGIN_ALLOW_THREADS
     has_memory = check_inside(check);
     Py_END_ALLOW_THREADS
-    PyObject *counts = has_memory ? count_verdicts(state, check) : no_memory();
+    PyObject *counts = has_memory ? count_verdicts(check) : no_memory();
     PyObject *missing = counts ? list_missing(state, &check->names) : NULL, *found = NULL;
     if (missing) found = PyTuple_Pack(5, roots, counts, missing, held, error);
     Py_XDECREF(missing);
@@ -304,54 +324,41 @@ static PyObject *found_in(State *state, Check *check, PyObject *roots, PyObject 
     return found;
 }
 
-/* The error that stands, or NULL with what was raised where it is another one. */
-static PyObject *caught(State *state) {
-    PyObject *type, *error, *trace;
-    if (!PyErr_ExceptionMatches(state->error)) return NULL;
-    PyErr_Fetch(&type, &error, &trace);
-    PyErr_NormalizeException(&type, &error, &trace);
-    Py_XDECREF(type);
-    Py_XDECREF(trace);
-    return error;
-}
-
-/* Why the walk over the sections stopped, or below 0 with an error raised. */
+/* Why the walk over the sections stopped; CAR_FAILED where an error is raised. */
 static int32_t check_all(Source *source, Check *check) {
     for (;;) {
-        int32_t code;
-        Py_BEGIN_ALLOW_THREADS
-        code = check_sections(check, SLICE);
-        Py_END_ALLOW_THREADS
-        if (code == CAR_MORE && refill(source, &check->car) < 0) return -1;
-        if (code == 0 && PyErr_CheckSignals() < 0) return -1;
+        PyThreadState *held = check->car.is_digest ? NULL : PyEval_SaveThread();
+        int32_t code = check_sections(check, SLICE);
+        if (held) PyEval_RestoreThread(held);
+        if (code == CAR_MORE && refill(source, &check->car) < 0) return CAR_FAILED;
+        if (code == 0 && PyErr_CheckSignals() < 0) return CAR_FAILED;
         if (code != 0 && code != CAR_MORE) return code;
     }
 }
 
 static PyObject *checked(State *state, Source *source, Check *check) {
-    PyObject *roots = take_roots(state, source, &check->car), *found = NULL;
+    PyObject *roots = take_roots(state, source, &check->car), *error = NULL, *found = NULL;
     if (!roots) return NULL;
     int32_t code = CAR_NO_MEMORY;
     if (names_want(&check->names, check->car.roots.start, check->car.roots.used))
         code = check_all(source, check);
-    if (code == CAR_END) found = found_in(state, check, roots, Py_None);
-    else if (!PyErr_Occurred()) {
-        refuse_car(state, &check->car, code);
-        PyObject *error = caught(state);
-        if (error) found = found_in(state, check, roots, error);
-        Py_XDECREF(error);
-    }
+    if (code == CAR_END) error = Py_NewRef(Py_None);
+    else error = error_in(state, &check->car, code);
+    if (error) found = found_in(state, check, roots, error);
+    Py_XDECREF(error);
     Py_DECREF(roots);
     return found;
 }
 
-PyObject *check_car(PyObject *module, PyObject *given) {
+PyObject *check_car(PyObject *module, PyObject *args) {
     State *state = PyModule_GetState(module);
     Source source;
     Check check;
-    PyObject *found = NULL;
+    PyObject *given, *sha256, *found = NULL;
+    if (!PyArg_ParseTuple(args, "OO", &given, &sha256)) return NULL;
     if (!check_start(&check)) return PyErr_SetFromErrno(PyExc_OSError);
-    if (source_open(&source, &check.car, given) == 0) found = checked(state, &source, &check);
+    if (source_open(&source, &check.car, given, sha256) == 0)
+        found = checked(state, &source, &check);
     source_free(&source);
     check_free(&check);
     return found;
@@ -369,5 +376,5 @@ PyObject *verdict_on(PyObject *module, PyObject *args) {
     code = dagcbor_verify(bytes_of(name), length_of(name), bytes_of(block), length_of(block));
     Py_END_ALLOW_THREADS
     Py_DECREF(block);
-    return verdict_of(state, code);
+    return verdict_of(code);
 }

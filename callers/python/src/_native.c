@@ -1,5 +1,5 @@
-/* The library for Python, by the limited API: objects out of the tokens of a block, and tokens out
-   of objects.
+/* The library for Python, by the limited API: objects out of the tokens of a block, and a block out
+   of objects, which the library judges.
 
    A call reads a `bytes`, which nobody writes: what is handed over otherwise, and may be written by
    other threads and programs meanwhile, is copied into one first. The interpreter's lock is let go
@@ -21,9 +21,6 @@ enum {
     KNOWN_LENGTH = 64
 };
 
-static const char *const KINDS[] = {"null",  "bool", "integer", "string",
-                                    "bytes", "list", "map",     "link"};
-
 PyObject *to_bytes(PyObject *given) {
     Py_buffer view;
     if (PyBytes_Check(given)) return Py_NewRef(given);
@@ -39,19 +36,31 @@ static bool is_foreign_cid(PyObject *given) {
            PyObject_HasAttrString(given, "codec") && PyObject_HasAttrString(given, "hashfun");
 }
 
-void *refuse_code(State *state, int32_t code, PyObject *place) {
-    PyObject *error = PyObject_CallFunction(state->refused, "iO", (int)code, place);
-    if (error) PyErr_SetObject(state->error, error);
+PyObject *new_error(PyObject *type, PyObject *said, const char *kind, PyObject *place) {
+    PyObject *error = said && place ? PyObject_CallFunction(type, "OzO", said, kind, place) : NULL;
+    Py_XDECREF(said);
+    Py_XDECREF(place);
+    return error;
+}
+
+void *raise_error(PyObject *error) {
+    if (error) PyErr_SetObject((PyObject *)Py_TYPE(error), error);
     Py_XDECREF(error);
     return NULL;
 }
 
-/* The same of bytes that are refused there. */
+/* The error of a number of the library. Of the place the reference is taken. */
+static PyObject *error_of(State *state, int32_t code, PyObject *place) {
+    PyObject *said = place ? PyUnicode_FromString(reason_of_code(code)) : NULL;
+    return new_error(state->error, said, dagcbor_name_of_code(code), place);
+}
+
+static void *refuse(State *state, int32_t code) {
+    return raise_error(error_of(state, code, Py_NewRef(Py_None)));
+}
+
 static void *refuse_at(State *state, int32_t code, size_t place) {
-    PyObject *at = PyLong_FromSize_t(place);
-    if (at) refuse_code(state, code, at);
-    Py_XDECREF(at);
-    return NULL;
+    return raise_error(error_of(state, code, PyLong_FromSize_t(place)));
 }
 
 /* The same of a block, in which the place is found. */
@@ -60,6 +69,13 @@ static void *refuse_block(State *state, int32_t code, PyObject *block) {
     dagcbor_tokens(bytes_of(block), length_of(block), dagcbor_tape_into(NULL, 0), 0, &needed,
                    &place);
     return refuse_at(state, code, place);
+}
+
+static PyObject *refusal(PyObject *module, PyObject *args) {
+    int code;
+    PyObject *place = Py_None;
+    if (!PyArg_ParseTuple(args, "i|O", &code, &place)) return NULL;
+    return error_of(PyModule_GetState(module), code, Py_NewRef(place));
 }
 
 /* CIDs */
@@ -79,7 +95,7 @@ static void cid_dealloc(PyObject *self) {
     Py_DECREF(type);
 }
 
-static PyObject *cid_from_text(PyTypeObject *type, State *state, PyObject *given) {
+static PyObject *cid_from_text(PyTypeObject *type, PyObject *given) {
     uint8_t cid[DAGCBOR_CID_MOST];
     size_t needed;
     Py_ssize_t length;
@@ -87,68 +103,61 @@ static PyObject *cid_from_text(PyTypeObject *type, State *state, PyObject *given
     if (!text) return NULL;
     int32_t code =
         dagcbor_cid_from_text((const uint8_t *)text, (size_t)length, cid, sizeof cid, &needed);
-    return code < 0 ? refuse_code(state, code, Py_None) : new_cid(type, cid, needed);
+    if (code < 0) return refuse(PyType_GetModuleState(type), code);
+    return new_cid(type, cid, needed);
 }
 
 /* Whether the bytes are a CID: its text is not wanted, but whether it has one. */
-static int32_t judge_cid(const uint8_t *bytes, size_t length) {
+static bool are_cid(const uint8_t *bytes, size_t length) {
     uint8_t text[DAGCBOR_CID_TEXT_MOST];
     size_t needed;
-    return dagcbor_cid_text(bytes, length, text, sizeof text, &needed);
+    return dagcbor_cid_text(bytes, length, text, sizeof text, &needed) == 0;
 }
 
-static PyObject *cid_from_bytes(PyTypeObject *type, State *state, PyObject *given) {
+/* A CID of bytes that are to be one. */
+static PyObject *judged_cid(PyTypeObject *type, const uint8_t *bytes, size_t length) {
+    if (are_cid(bytes, length)) return new_cid(type, bytes, length);
+    return refuse(PyType_GetModuleState(type), DAGCBOR_INVALID_CID);
+}
+
+static PyObject *cid_from_bytes(PyTypeObject *type, PyObject *given) {
     bool is_foreign = !PyObject_CheckBuffer(given) && is_foreign_cid(given);
-    PyObject *cid = NULL, *bytes = is_foreign ? PyObject_Bytes(given) : to_bytes(given);
-    if (!bytes) return NULL;
-    int32_t code = judge_cid(bytes_of(bytes), length_of(bytes));
-    if (code < 0) refuse_code(state, code, Py_None);
-    else cid = new_cid(type, bytes_of(bytes), length_of(bytes));
-    Py_DECREF(bytes);
+    PyObject *bytes = is_foreign ? PyObject_Bytes(given) : to_bytes(given);
+    PyObject *cid = bytes ? judged_cid(type, bytes_of(bytes), length_of(bytes)) : NULL;
+    Py_XDECREF(bytes);
     return cid;
 }
 
 /* CID.of(codec, hash_code, digest) */
 static PyObject *cid_of(PyObject *type, PyObject *args) {
-    State *state = PyType_GetModuleState((PyTypeObject *)type);
     uint8_t bytes[4 * 10 + 64];
-    PyObject *codec, *hash_code, *digest, *cid = NULL;
+    PyObject *codec, *hash_code, *digest;
     if (!PyArg_ParseTuple(args, "O!O!S:of", &PyLong_Type, &codec, &PyLong_Type, &hash_code, &digest))
         return NULL;
-    size_t length = length_of(digest);
+    size_t length = length_of(digest), at = 0;
     uint64_t numbers[] = {1, PyLong_AsUnsignedLongLong(codec), 0, length};
     if (!PyErr_Occurred()) numbers[2] = PyLong_AsUnsignedLongLong(hash_code);
     if (PyErr_Occurred()) return NULL;
-    if (length > 64) return refuse_code(state, DAGCBOR_INVALID_CID, Py_None);
-    size_t at = 0;
     for (int i = 0; i < 4; i++) at += put_length(bytes + at, numbers[i]);
-    memcpy(bytes + at, bytes_of(digest), length);
-    int32_t code = judge_cid(bytes, at + length);
-    if (code < 0) refuse_code(state, code, Py_None);
-    else cid = new_cid((PyTypeObject *)type, bytes, at + length);
-    return cid;
+    if (length <= 64) memcpy(bytes + at, bytes_of(digest), length);
+    return judged_cid((PyTypeObject *)type, bytes, length <= 64 ? at + length : 0);
 }
 
-/* The parts of a CID: its version, codec and hash function, and where its digest begins. Version 0
-   is a bare SHA-256 of DAG-PB. */
+/* The parts of a CID: its version, codec, hash function and the length of its digest, and where that
+   begins. Version 0 is a bare SHA-256 of DAG-PB. */
 typedef struct {
-    uint64_t numbers[3];
+    uint64_t numbers[4];
     size_t digest;
 } CidParts;
 
 static CidParts cid_parts(PyObject *self) {
-    const uint8_t *bytes = bytes_of(((Cid *)self)->bytes);
-    if (bytes[0] == 0x12) return (CidParts){{0, 0x70, 0x12}, 2};
+    PyObject *cid = ((Cid *)self)->bytes;
+    const uint8_t *bytes = bytes_of(cid);
+    if (bytes[0] == 0x12) return (CidParts){{0, 0x70, 0x12, 32}, 2};
     CidParts parts = {{0}, 0};
-    for (int i = 0; i < 4; i++) {
-        uint64_t number = 0;
-        int shift = 0;
-        do {
-            number |= (uint64_t)(bytes[parts.digest] % 128) << shift;
-            shift += 7;
-        } while (bytes[parts.digest++] >= 128);
-        if (i < 3) parts.numbers[i] = number;
-    }
+    for (int i = 0; i < 4; i++)
+        parts.digest += take_varint(bytes + parts.digest, length_of(cid) - parts.digest,
+                                    &parts.numbers[i]);
     return parts;
 }
 
@@ -159,19 +168,16 @@ static PyObject *cid_number(PyObject *self, void *which) {
 static PyObject *cid_digest(PyObject *self, void *unused) {
     (void)unused;
     PyObject *bytes = ((Cid *)self)->bytes;
-    size_t begin = cid_parts(self).digest;
-    return PyBytes_FromStringAndSize((const char *)bytes_of(bytes) + begin,
-                                     (Py_ssize_t)(length_of(bytes) - begin));
+    CidParts parts = cid_parts(self);
+    return PyBytes_FromStringAndSize((const char *)bytes_of(bytes) + parts.digest,
+                                     (Py_ssize_t)parts.numbers[3]);
 }
 
 static PyObject *cid_new(PyTypeObject *type, PyObject *args, PyObject *named) {
+    static char *names[] = {"", NULL};
     PyObject *given;
-    State *state = PyType_GetModuleState(type);
-    if (named && PyDict_Size(named))
-        return PyErr_SetString(PyExc_TypeError, "CID() takes no keyword"), NULL;
-    if (!state || !PyArg_ParseTuple(args, "O:CID", &given)) return NULL;
-    return PyUnicode_Check(given) ? cid_from_text(type, state, given)
-                                  : cid_from_bytes(type, state, given);
+    if (!PyArg_ParseTupleAndKeywords(args, named, "O:CID", names, &given)) return NULL;
+    return PyUnicode_Check(given) ? cid_from_text(type, given) : cid_from_bytes(type, given);
 }
 
 static PyObject *cid_str(PyObject *self) {
@@ -349,43 +355,33 @@ static dagcbor_token *room_for(size_t tokens) {
     return room ? room : no_memory();
 }
 
-static PyObject *loads_bytes(State *state, PyObject *block) {
+/* The value of the item from an offset on, and where it ends, which is asked for where others may
+   follow. */
+static PyObject *read_value(State *state, PyObject *block, size_t start, size_t *end) {
     dagcbor_token few[FEW_TOKENS], *tape = few;
-    const uint8_t *bytes = bytes_of(block);
-    size_t length = length_of(block), room = FEW_TOKENS, needed = length, place = 0;
+    const uint8_t *bytes = bytes_of(block) + start;
+    size_t length = length_of(block) - start, needed = length, place = 0;
     PyObject *value = NULL;
     int32_t code = 0;
-    if (length > MANY_TOKENS) code = dagcbor_tokens(bytes, length, few, 0, &needed, &place);
-    if (code >= 0 && needed > room) {
-        room = needed;
-        if (!(tape = room_for(room))) return NULL;
+    if (end || length <= FEW_TOKENS || length > MANY_TOKENS)
+        code = dagcbor_tokens(bytes, length, few, FEW_TOKENS, &needed, &place);
+    if (needed > FEW_TOKENS && (code >= 0 || (end && code == DAGCBOR_TRAILING_DATA))) {
+        if (!(tape = room_for(needed))) return NULL;
+        code = dagcbor_tokens(bytes, length, tape, needed, &needed, &place);
     }
-    if (code >= 0) code = dagcbor_tokens(bytes, length, tape, room, &needed, &place);
-    if (code >= 0) value = value_of(state, (const char *)bytes, length, tape);
-    else refuse_at(state, code, place);
+    if (code < 0 && !(end && code == DAGCBOR_TRAILING_DATA))
+        refuse_at(state, code, start + place);
+    else value = value_of(state, (const char *)bytes, place, tape);
+    if (end) *end = start + place;
     if (tape != few) PyMem_Free(tape);
     return value;
 }
 
-/* The first value from an offset on, and where it ends. */
-static PyObject *first_value(State *state, PyObject *block, size_t start) {
-    dagcbor_token few[FEW_TOKENS], *tape = few;
-    const uint8_t *bytes = bytes_of(block) + start;
-    size_t length = length_of(block) - start, needed, place;
-    PyObject *found = NULL;
-    int32_t code = dagcbor_tokens(bytes, length, few, FEW_TOKENS, &needed, &place);
-    if (code < 0 && code != DAGCBOR_TRAILING_DATA) return refuse_at(state, code, start + place);
-    if (needed > FEW_TOKENS) {
-        if (!(tape = room_for(needed))) return NULL;
-        dagcbor_tokens(bytes, length, tape, needed, &needed, &place);
-    }
-    PyObject *value = value_of(state, (const char *)bytes, place, tape);
-    if (value) found = Py_BuildValue("Nn", value, (Py_ssize_t)(start + place));
-    if (tape != few) PyMem_Free(tape);
-    return found;
+static PyObject *loads_bytes(State *state, PyObject *block) {
+    return read_value(state, block, 0, NULL);
 }
 
-/* Tokens out of objects */
+/* A block out of objects */
 
 /* A step to a part: the key, or none and an index. */
 typedef struct {
@@ -395,7 +391,7 @@ typedef struct {
 
 typedef struct {
     State *state;
-    Tape tape;
+    Room block;
     PyObject *replace; /* what `default` is, or NULL */
     Room entries; /* of the maps that are being written */
     Step path[MOST_LEVELS];
@@ -403,8 +399,8 @@ typedef struct {
 } Writer;
 
 /* Raises the error of a value that has no block. */
-static int refuse(Writer *writer, const char *kind, const char *said, PyObject *value) {
-    PyObject *type = NULL, *message = NULL, *error = NULL, *place = PyTuple_New(writer->level);
+static int refuse_value(Writer *writer, const char *kind, const char *said, PyObject *value) {
+    PyObject *type = NULL, *message = NULL, *place = PyTuple_New(writer->level);
     for (int i = 0; place && i < writer->level; i++) {
         Step step = writer->path[i];
         PyObject *part = step.key ? Py_NewRef(step.key) : PyLong_FromSsize_t(step.index);
@@ -413,23 +409,19 @@ static int refuse(Writer *writer, const char *kind, const char *said, PyObject *
     }
     if (place) type = PyType_GetName(Py_TYPE(value));
     if (type) message = PyUnicode_FromFormat("%U: %s", type, said);
-    if (message) error = PyObject_CallFunction(writer->state->error, "OsO", message, kind, place);
-    if (error) PyErr_SetObject(writer->state->error, error);
-    Py_XDECREF(error);
-    Py_XDECREF(message);
+    raise_error(new_error(writer->state->error, message, kind, place));
     Py_XDECREF(type);
-    Py_XDECREF(place);
     return -1;
 }
 
 static int raise_unless(bool has_memory) { return has_memory ? 0 : (PyErr_NoMemory(), -1); }
 
-static int add_token(Writer *writer, uint64_t kind, uint64_t number) {
-    return raise_unless(tape_add(&writer->tape, kind, number));
+static int add_head(Writer *writer, uint64_t kind, uint64_t number) {
+    return raise_unless(put_head(&writer->block, kind, number));
 }
 
 static int add_payload(Writer *writer, uint64_t kind, const void *bytes, size_t length) {
-    return raise_unless(tape_put(&writer->tape, kind, bytes, length));
+    return raise_unless(put_payload(&writer->block, kind, bytes, length));
 }
 
 static int add_bytes(Writer *writer, uint64_t kind, PyObject *bytes) {
@@ -450,7 +442,7 @@ static const char *utf8_of(Writer *writer, PyObject *text, size_t *length) {
     if (bytes) return *length = (size_t)count, bytes;
     if (PyErr_ExceptionMatches(PyExc_UnicodeError)) {
         PyErr_Clear();
-        refuse(writer, "RequireUtf8", "a surrogate, which has no UTF-8", text);
+        refuse_value(writer, "RequireUtf8", "a surrogate, which has no UTF-8", text);
     }
     return NULL;
 }
@@ -469,10 +461,10 @@ static int add_long_integer(Writer *writer, PyObject *given, bool is_negative) {
     unsigned long long n = PyLong_AsUnsignedLongLong(number);
     Py_DECREF(number);
     if (!PyErr_Occurred())
-        return add_token(writer, is_negative ? DAGCBOR_NEGATIVE : DAGCBOR_INTEGER, n);
+        return add_head(writer, is_negative ? DAGCBOR_NEGATIVE : DAGCBOR_INTEGER, n);
     if (!PyErr_ExceptionMatches(PyExc_OverflowError)) return -1;
     PyErr_Clear();
-    return refuse(writer, "CastOverflow", "not in -2 ** 64 .. 2 ** 64 - 1", given);
+    return refuse_value(writer, "CastOverflow", "not in -2 ** 64 .. 2 ** 64 - 1", given);
 }
 
 static int add_integer(Writer *writer, PyObject *given) {
@@ -480,8 +472,8 @@ static int add_integer(Writer *writer, PyObject *given) {
     long long n = PyLong_AsLongLongAndOverflow(given, &beyond);
     if (beyond) return add_long_integer(writer, given, beyond < 0);
     if (n == -1 && PyErr_Occurred()) return -1;
-    return n < 0 ? add_token(writer, DAGCBOR_NEGATIVE, (uint64_t)(-1 - n))
-                 : add_token(writer, DAGCBOR_INTEGER, (uint64_t)n);
+    return n < 0 ? add_head(writer, DAGCBOR_NEGATIVE, (uint64_t)(-1 - n))
+                 : add_head(writer, DAGCBOR_INTEGER, (uint64_t)n);
 }
 
 static int add_value(Writer *writer, PyObject *value);
@@ -500,8 +492,8 @@ static int add_part(Writer *writer, Step step, PyObject *part) {
 static int add_list(Writer *writer, PyObject *list) {
     bool is_tuple = PyTuple_Check(list);
     Py_ssize_t count = is_tuple ? PyTuple_Size(list) : PyList_Size(list);
-    if (writer->level == MOST_LEVELS) return refuse(writer, "DepthOverflow", "too deep", list);
-    if (add_token(writer, DAGCBOR_LIST, (uint64_t)count) < 0) return -1;
+    if (writer->level == MOST_LEVELS) return refuse_value(writer, "DepthOverflow", "too deep", list);
+    if (add_head(writer, DAGCBOR_LIST, (uint64_t)count) < 0) return -1;
     for (Py_ssize_t i = 0; i < count; i++) {
         if (!is_tuple && PyList_Size(list) != count)
             return PyErr_SetString(PyExc_RuntimeError, "list changed size during dumps"), -1;
@@ -518,9 +510,9 @@ static int hold_entries(Writer *writer, PyObject *map, Py_ssize_t *held) {
     while (PyDict_Next(map, &at, &key, &value)) {
         Entry *entry = room_take(&writer->entries, sizeof *entry);
         if (!entry) return raise_unless(false);
-        *entry = (Entry){NULL, 0, 0, Py_NewRef(key), Py_NewRef(value)};
+        *entry = (Entry){NULL, 0, Py_NewRef(key), Py_NewRef(value)};
         ++*held; /* first: what makes an error may run code that takes the key out of the map */
-        if (!PyUnicode_Check(key)) return refuse(writer, "Mismatch", "a key that is no str", key);
+        if (!PyUnicode_Check(key)) return refuse_value(writer, "Mismatch", "a key that is no str", key);
         entry->text = utf8_of(writer, key, &entry->length);
         if (!entry->text) return -1;
     }
@@ -529,10 +521,10 @@ static int hold_entries(Writer *writer, PyObject *map, Py_ssize_t *held) {
 
 static int add_entries(Writer *writer, size_t start, Py_ssize_t count) {
     sort_entries((Entry *)(writer->entries.start + start), (size_t)count);
-    if (add_token(writer, DAGCBOR_MAP, (uint64_t)count) < 0) return -1;
+    if (add_head(writer, DAGCBOR_MAP, (uint64_t)count) < 0) return -1;
     for (Py_ssize_t i = 0; i < count; i++) {
-        Entry entry =
-            ((Entry *)(writer->entries.start + start))[i]; /* what follows may move them */
+        /* What follows may move them. */
+        Entry entry = ((Entry *)(writer->entries.start + start))[i];
         if (add_payload(writer, DAGCBOR_STRING, entry.text, entry.length) < 0) return -1;
         if (add_part(writer, (Step){entry.key, 0}, entry.value) < 0) return -1;
     }
@@ -542,7 +534,7 @@ static int add_entries(Writer *writer, size_t start, Py_ssize_t count) {
 static int add_map(Writer *writer, PyObject *map) {
     size_t start = writer->entries.used;
     Py_ssize_t held = 0;
-    if (writer->level == MOST_LEVELS) return refuse(writer, "DepthOverflow", "too deep", map);
+    if (writer->level == MOST_LEVELS) return refuse_value(writer, "DepthOverflow", "too deep", map);
     int done = hold_entries(writer, map, &held);
     if (done == 0) done = add_entries(writer, start, held);
     for (Py_ssize_t i = 0; i < held; i++) {
@@ -559,8 +551,8 @@ static int add_foreign_cid(Writer *writer, PyObject *given) {
     PyObject *bytes = PyObject_Bytes(given);
     int done = -1;
     if (!bytes) return -1;
-    if (judge_cid(bytes_of(bytes), length_of(bytes)) < 0)
-        refuse(writer, "InvalidCid", "its bytes are no CID", given);
+    if (!are_cid(bytes_of(bytes), length_of(bytes)))
+        refuse_value(writer, "InvalidCid", "its bytes are no CID", given);
     else done = add_bytes(writer, DAGCBOR_LINK, bytes);
     Py_DECREF(bytes);
     return done;
@@ -579,9 +571,9 @@ static int add_replaced(Writer *writer, PyObject *value) {
 static int add_value(Writer *writer, PyObject *value) {
     if (PyUnicode_Check(value)) return add_text(writer, value);
     if (Py_IsTrue(value) || Py_IsFalse(value))
-        return add_token(writer, DAGCBOR_BOOL, Py_IsTrue(value));
+        return add_head(writer, DAGCBOR_BOOL, Py_IsTrue(value));
     if (PyLong_Check(value)) return add_integer(writer, value);
-    if (Py_IsNone(value)) return add_token(writer, DAGCBOR_NULL, 0);
+    if (Py_IsNone(value)) return add_head(writer, DAGCBOR_NULL, 0);
     if (PyDict_Check(value)) return add_map(writer, value);
     if (PyList_Check(value) || PyTuple_Check(value)) return add_list(writer, value);
     if (PyBytes_Check(value)) return add_bytes(writer, DAGCBOR_BYTES, value);
@@ -591,24 +583,20 @@ static int add_value(Writer *writer, PyObject *value) {
         return add_buffer(writer, value);
     if (!PyFloat_Check(value) && is_foreign_cid(value)) return add_foreign_cid(writer, value);
     if (writer->replace) return add_replaced(writer, value);
-    return refuse(writer, "Unsupported",
-                  PyFloat_Check(value)
-                      ? "floats are left out of these blocks"
-                      : "not None, bool, int, str, bytes, list, tuple, dict or CID, which dumps("
-                        "default=..) may make of it",
-                  value);
+    return refuse_value(writer, "Unsupported",
+                        PyFloat_Check(value)
+                            ? "floats are left out of these blocks"
+                            : "not None, bool, int, str, bytes, list, tuple, dict or CID, which "
+                              "dumps(default=..) may make of it",
+                        value);
 }
 
-/* The block of the tokens. */
-static PyObject *spell(Writer *writer) {
-    size_t size = writer->tape.size, needed;
-    PyObject *block = PyBytes_FromStringAndSize(NULL, (Py_ssize_t)size);
-    if (!block) return NULL;
-    int32_t code = tape_spell(&writer->tape, (uint8_t *)PyBytes_AsString(block), &needed);
-    if (code >= 0 && needed == size) return block;
-    Py_DECREF(block);
-    if (code < 0) return refuse_code(writer->state, code, Py_None);
-    return PyErr_SetString(PyExc_SystemError, "the size of a block was foretold wrong"), NULL;
+/* What was written, which is a block. */
+static PyObject *written(Writer *writer) {
+    const Room *block = &writer->block;
+    int32_t code = dagcbor_check((const uint8_t *)block->start, block->used);
+    if (code < 0) return refuse(writer->state, code);
+    return PyBytes_FromStringAndSize(block->start, (Py_ssize_t)block->used);
 }
 
 static PyObject *dumps(PyObject *module, PyObject *const *args, Py_ssize_t count, PyObject *names) {
@@ -621,59 +609,63 @@ static PyObject *dumps(PyObject *module, PyObject *const *args, Py_ssize_t count
     writer.state = PyModule_GetState(module);
     writer.replace = is_default && !Py_IsNone(args[1]) ? args[1] : NULL;
     writer.level = 0;
-    tape_start(&writer.tape);
+    room_start(&writer.block);
     room_start(&writer.entries);
-    PyObject *block = add_value(&writer, args[0]) < 0 ? NULL : spell(&writer);
-    tape_free(&writer.tape);
+    PyObject *block = add_value(&writer, args[0]) < 0 ? NULL : written(&writer);
+    room_free(&writer.block);
     room_free(&writer.entries);
     return block;
 }
 
 /* The other calls */
 
+typedef PyObject *Call(State *state, PyObject *block);
+
+/* What the call answers of a `bytes` with what is given. */
+static PyObject *of_bytes(PyObject *module, PyObject *given, Call *call) {
+    PyObject *bytes = to_bytes(given);
+    PyObject *answer = bytes ? call(PyModule_GetState(module), bytes) : NULL;
+    Py_XDECREF(bytes);
+    return answer;
+}
+
+static PyObject *as_bytes(PyObject *module, PyObject *given) {
+    (void)module;
+    return to_bytes(given);
+}
+
 static PyObject *loads(PyObject *module, PyObject *given) {
-    PyObject *block = to_bytes(given),
-             *value = block ? loads_bytes(PyModule_GetState(module), block) : NULL;
-    Py_XDECREF(block);
-    return value;
+    return of_bytes(module, given, loads_bytes);
 }
 
 static PyObject *loads_first(PyObject *module, PyObject *args, PyObject *named) {
     static char *names[] = {"", "start", NULL};
-    PyObject *given, *found = NULL;
+    PyObject *given, *value = NULL;
     Py_ssize_t start = 0;
+    size_t end;
     if (!PyArg_ParseTupleAndKeywords(args, named, "O|n:loads_first", names, &given, &start))
         return NULL;
     PyObject *block = to_bytes(given);
     if (!block) return NULL;
     if (start < 0 || start > PyBytes_Size(block))
         PyErr_SetString(PyExc_IndexError, "start is outside the bytes");
-    else found = first_value(PyModule_GetState(module), block, (size_t)start);
+    else value = read_value(PyModule_GetState(module), block, (size_t)start, &end);
     Py_DECREF(block);
-    return found;
+    return value ? Py_BuildValue("Nn", value, (Py_ssize_t)end) : NULL;
 }
 
-static PyObject *check(PyObject *module, PyObject *given) {
-    PyObject *block = to_bytes(given), *kind = NULL;
-    if (!block) return NULL;
+static PyObject *check_bytes(State *state, PyObject *block) {
     const uint8_t *bytes = bytes_of(block);
     size_t length = length_of(block);
     PyThreadState *held = length > SHORT_CALL ? PyEval_SaveThread() : NULL;
     int32_t code = dagcbor_check(bytes, length);
     if (held) PyEval_RestoreThread(held);
-    if (code < 0) refuse_block(PyModule_GetState(module), code, block);
-    else kind = PyUnicode_FromString(KINDS[code]);
-    Py_DECREF(block);
-    return kind;
+    if (code < 0) return refuse_block(state, code, block);
+    return PyUnicode_FromString(dagcbor_name_of_code(code));
 }
 
-/* The bytes of a part of a block as data. */
-static PyObject *part_of(State *state, PyObject *block, size_t begin, size_t end) {
-    PyObject *part = PyBytes_FromStringAndSize((const char *)bytes_of(block) + begin,
-                                               (Py_ssize_t)(end - begin));
-    PyObject *value = part ? loads_bytes(state, part) : NULL;
-    Py_XDECREF(part);
-    return value;
+static PyObject *check(PyObject *module, PyObject *given) {
+    return of_bytes(module, given, check_bytes);
 }
 
 /* The block and the path that a call is given: the block, and the path's text, which is `path`'s. */
@@ -685,28 +677,9 @@ static PyObject *block_and_path(PyObject *args, PyObject **path, const char **te
     return *text ? to_bytes(given) : NULL;
 }
 
-/* The data to which a path leads in a block. */
-static PyObject *find(PyObject *module, PyObject *args) {
-    State *state = PyModule_GetState(module);
-    PyObject *path, *value = NULL;
-    const char *text;
-    Py_ssize_t length;
-    size_t place, end;
-    PyObject *block = block_and_path(args, &path, &text, &length);
-    if (!block) return NULL;
-    int32_t code = dagcbor_find(bytes_of(block), length_of(block), (const uint8_t *)text,
-                                (size_t)length, &place, &end);
-    if (code >= 0) value = part_of(state, block, place, end);
-    else if (code == DAGCBOR_NO_SUCH_PATH) PyErr_SetObject(PyExc_KeyError, path);
-    else refuse_block(state, code, block);
-    Py_DECREF(block);
-    return value;
-}
-
-/* The data and the path that is left, as far as a path leads in a block; None for the data where it
- * goes on nowhere. */
+/* The kind and the bytes of the last item to which a front of a path leads in a block, and what is
+   left of the path. */
 static PyObject *follow(PyObject *module, PyObject *args) {
-    State *state = PyModule_GetState(module);
     PyObject *path, *answer = NULL;
     const char *text;
     Py_ssize_t length;
@@ -715,12 +688,11 @@ static PyObject *follow(PyObject *module, PyObject *args) {
     if (!block) return NULL;
     int32_t code = dagcbor_follow(bytes_of(block), length_of(block), (const uint8_t *)text,
                                   (size_t)length, places);
-    if (code >= 0) {
-        Py_ssize_t left = length - (Py_ssize_t)places[2];
-        bool goes_on = left == 0 || code == DAGCBOR_LINK;
-        PyObject *value = goes_on ? part_of(state, block, places[0], places[1]) : Py_NewRef(Py_None);
-        if (value) answer = Py_BuildValue("NNs#", value, PyBool_FromLong(goes_on), text + places[2], left);
-    } else refuse_block(state, code, block);
+    if (code < 0) refuse_block(PyModule_GetState(module), code, block);
+    else
+        answer = Py_BuildValue("sy#s#", dagcbor_name_of_code(code), bytes_of(block) + places[0],
+                               (Py_ssize_t)(places[1] - places[0]), text + places[2],
+                               length - (Py_ssize_t)places[2]);
     Py_DECREF(block);
     return answer;
 }
@@ -767,37 +739,36 @@ static PyObject *unpack_bytes(PyObject *module, PyObject *packed) {
     return unpack(PyModule_GetState(module), bytes_of(packed), length_of(packed));
 }
 
-static PyObject *links(PyObject *module, PyObject *given) {
-    State *state = PyModule_GetState(module);
+static PyObject *links_of(State *state, PyObject *block) {
     uint8_t few[FEW_LINK_BYTES], *out = few;
     size_t needed;
-    PyObject *block = to_bytes(given), *found = NULL;
-    if (!block) return NULL;
     int32_t code = dagcbor_links(bytes_of(block), length_of(block), few, sizeof few, &needed);
-    if (code >= 0 && needed > sizeof few) {
-        out = PyMem_Malloc(needed);
-        if (out) code = dagcbor_links(bytes_of(block), length_of(block), out, needed, &needed);
-        else PyErr_NoMemory();
+    if (code < 0) return refuse_block(state, code, block);
+    if (needed > sizeof few) {
+        if (!(out = PyMem_Malloc(needed))) return no_memory();
+        dagcbor_links(bytes_of(block), length_of(block), out, needed, &needed);
     }
-    if (code < 0) refuse_block(state, code, block);
-    else if (out) found = unpack(state, out, needed);
+    PyObject *found = unpack(state, out, needed);
     if (out != few) PyMem_Free(out);
-    Py_DECREF(block);
     return found;
 }
 
-static PyObject *name(PyObject *module, PyObject *given) {
-    State *state = PyModule_GetState(module);
+static PyObject *links(PyObject *module, PyObject *given) {
+    return of_bytes(module, given, links_of);
+}
+
+static PyObject *name_of(State *state, PyObject *block) {
     uint8_t out[36];
-    PyObject *block = to_bytes(given);
-    if (!block) return NULL;
     const uint8_t *bytes = bytes_of(block);
     size_t length = length_of(block);
     PyThreadState *held = length > SHORT_CALL ? PyEval_SaveThread() : NULL;
     dagcbor_name(bytes, length, out);
     if (held) PyEval_RestoreThread(held);
-    Py_DECREF(block);
     return new_cid(state->cid, out, sizeof out);
+}
+
+static PyObject *name(PyObject *module, PyObject *given) {
+    return of_bytes(module, given, name_of);
 }
 
 /* The module */
@@ -811,9 +782,8 @@ static PyMethodDef methods[] = {
      "dumps(value, *, default=None): the one block of the data. Keys come in the order of blocks, "
      "whatever the dict's. What `default(it)` gives is written for what is no data."},
     {"check", check, METH_O, "check(block): the kind of a block."},
-    {"find", find, METH_VARARGS, "The data to which a text leads in a block; else a KeyError."},
     {"follow", follow, METH_VARARGS,
-     "The data, whether the path leads to it or goes on at it, and the path that is left."},
+     "The kind and the bytes of the last item on a path, and the path that is left."},
     {"part", part, METH_VARARGS,
      "The bytes of the part to which one segment leads, taken whole; None where it leads nowhere."},
     {"links", links, METH_O,
@@ -821,12 +791,15 @@ static PyMethodDef methods[] = {
      "at."},
     {"name", name, METH_O,
      "name(block): the CID of any bytes as a block: version 1, DAG-CBOR, SHA-256."},
-    {"read_car", read_car, METH_O,
-     "read_car(source): the roots of a file of blocks (CAR), and its sections one at a time."},
-    {"check_car", check_car, METH_O,
+    {"read_car", (PyCFunction)(void (*)(void))read_car, METH_VARARGS | METH_KEYWORDS,
+     "read_car(source, *, sha256=None): the roots of a file of blocks (CAR), and its sections one "
+     "at a time. sha256, as that of hashlib, computes digests in the place of the library."},
+    {"check_car", check_car, METH_VARARGS,
      "The roots, the verdicts' counts, what is missing, the names held, packed; and an error."},
+    {"refusal", refusal, METH_VARARGS, "The error of a number of the library, and of a place."},
     {"verdict", verdict_on, METH_VARARGS, "verdict(cid, block): that on the two."},
     {"unpack", unpack_bytes, METH_O, "unpack(packed): the CIDs."},
+    {"to_bytes", as_bytes, METH_O, "to_bytes(buffer): what it holds; itself, where it is `bytes`."},
     {NULL, NULL, 0, NULL},
 };
 
@@ -846,12 +819,10 @@ static int start(PyObject *module) {
         return PyErr_SetString(PyExc_ImportError, "dagcbor wants an x86-64-v2 processor"), -1;
     PyObject *errors = PyImport_ImportModule("dagcbor._errors");
     if (!errors) return -1;
-    state->refused = PyObject_GetAttrString(errors, "refused");
     state->error = PyObject_GetAttrString(errors, "DagCborError");
-    state->refused_car = PyObject_GetAttrString(errors, "refused_car");
-    state->verdicts = PyObject_GetAttrString(errors, "VERDICTS");
+    state->car_error = PyObject_GetAttrString(errors, "CarError");
     Py_DECREF(errors);
-    if (!state->refused || !state->error || !state->refused_car || !state->verdicts) return -1;
+    if (!state->error || !state->car_error) return -1;
     state->cid = (PyTypeObject *)PyType_FromModuleAndSpec(module, &cid_spec, NULL);
     if (!state->cid || PyModule_AddType(module, state->cid) < 0) return -1;
     state->car_reader = (PyTypeObject *)PyType_FromModuleAndSpec(module, &car_reader_spec, NULL);
@@ -863,10 +834,8 @@ static int start(PyObject *module) {
 static int traverse(PyObject *module, visitproc visit, void *arg) {
     State *state = PyModule_GetState(module);
     Py_VISIT(state->cid);
-    Py_VISIT(state->refused);
     Py_VISIT(state->error);
-    Py_VISIT(state->refused_car);
-    Py_VISIT(state->verdicts);
+    Py_VISIT(state->car_error);
     Py_VISIT(state->car_reader);
     Py_VISIT(state->section);
     return 0;
@@ -875,10 +844,8 @@ static int traverse(PyObject *module, visitproc visit, void *arg) {
 static int clear(PyObject *module) {
     State *state = PyModule_GetState(module);
     Py_CLEAR(state->cid);
-    Py_CLEAR(state->refused);
     Py_CLEAR(state->error);
-    Py_CLEAR(state->refused_car);
-    Py_CLEAR(state->verdicts);
+    Py_CLEAR(state->car_error);
     Py_CLEAR(state->car_reader);
     Py_CLEAR(state->section);
     return 0;

@@ -7,18 +7,16 @@
 #include <Python.h>
 
 #include "dagcbor.h"
+#include "reasons.h"
 #include <stdbool.h>
 
-/* What the module holds. Of dagcbor._errors: refused(code, place), refused_car(code, place),
- * DagCborError(message, kind, place), and VERDICTS, the words of each by its number */
+/* What the module holds. The errors are those of dagcbor._errors. */
 typedef struct {
     PyTypeObject *cid;
     PyTypeObject *car_reader;
     PyTypeObject *section;
-    PyObject *refused;
-    PyObject *refused_car;
     PyObject *error;
-    PyObject *verdicts;
+    PyObject *car_error;
 } State;
 
 typedef struct {
@@ -48,14 +46,18 @@ PyObject *new_cid(PyTypeObject *type, const uint8_t *bytes, size_t length);
 /* The CIDs that are packed: a byte of length before each. */
 PyObject *unpack(State *state, const uint8_t *packed, size_t length);
 
-/* Raises the error of a number of the library, and of a place or None. */
-void *refuse_code(State *state, int32_t code, PyObject *place);
+/* An error of the type. Of the words and the place the references are taken; where one is NULL its own
+ * error stands, and no other is made. */
+PyObject *new_error(PyObject *type, PyObject *said, const char *kind, PyObject *place);
+
+/* Raises it, and lets it go. */
+void *raise_error(PyObject *error);
 
 /* Of files of blocks */
 extern PyType_Spec car_reader_spec;
 extern PyStructSequence_Desc section_desc;
-PyObject *read_car(PyObject *module, PyObject *source);
-PyObject *check_car(PyObject *module, PyObject *source);
+PyObject *read_car(PyObject *module, PyObject *args, PyObject *named);
+PyObject *check_car(PyObject *module, PyObject *args);
 PyObject *verdict_on(PyObject *module, PyObject *args);
 
 #endif

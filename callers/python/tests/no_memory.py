@@ -2,6 +2,7 @@
 
 An answer is right, or there is no memory."""
 
+import hashlib
 import io
 import sys
 
@@ -37,14 +38,18 @@ def read(file):
     return [(bytes(it.cid), it.block, it.verdict) for it in read_car(io.BytesIO(file))]
 
 
-def checked(file):
-    found = check_car(io.BytesIO(file))
+def checked(file, sha256=None):
+    found = check_car(io.BytesIO(file), sha256=sha256)
     return [found.verdicts, found.missing, [bytes(it) for it in found.held]]
+
+
+def hashed(file):
+    return checked(file, hashlib.sha256)
 
 
 def refused(file):
     """Not by a `raise`: with no memory for it, Python 3.11 may say SystemError."""
-    _, verdicts, _, _, error = _native.check_car(file)
+    _, verdicts, _, _, error = _native.check_car(file, None)
     return [error.kind, error.place, verdicts]
 
 
@@ -70,6 +75,7 @@ CALLS = [
     (read, FILE, [(cid(it), it, verdict) for it, verdict in (
         (BLOCK, "ok map"), (dumps(CIDS[:50]), "ok list"))]),
     (checked, FILE, [VERDICTS, MISSING, [cid(BLOCK), cid(dumps(CIDS[:50]))]]),
+    (hashed, FILE, [VERDICTS, MISSING, [cid(BLOCK), cid(dumps(CIDS[:50]))]]),
     (refused, FILE + b"\0", ["InvalidCid", len(FILE), VERDICTS]),
     (written, {name(BLOCK): BLOCK, name(dumps(CIDS[:50])): dumps(CIDS[:50])}, FILE),
     (dumps, VALUE, BLOCK), (loads, BLOCK, VALUE), (loads, bytearray(BLOCK), VALUE),

@@ -1,6 +1,7 @@
 """Files of blocks: each source of bytes is answered as conformance/cars.py answers, which knows
 nothing of the library, and as the program `dagcar` does where it is built."""
 
+import hashlib
 import io
 import mmap
 import os
@@ -57,10 +58,10 @@ def sources(file):
     yield from (bytearray(file), memoryview(file), io.BytesIO(file), Dripping(file), Large([file]))
 
 
-def answered(source):
+def answered(source, sha256=None):
     """As `wanted`: the roots, the sections, and the kind and place of the fault."""
     try:
-        reader = read_car(source)
+        reader = read_car(source, sha256=sha256)
     except CarError as error:
         return None, [], (error.kind, error.place)
     sections, fault = [], None
@@ -82,10 +83,10 @@ def wanted(file):
     return roots, told, fault and (cars.VARIANTS[fault[0]], fault[1])
 
 
-def checked(source):
+def checked(source, sha256=None):
     """As `wanted_check`."""
     try:
-        found, fault = check_car(source), None
+        found, fault = check_car(source, sha256=sha256), None
     except CarError as error:
         found, fault = error.checked, (error.kind, error.place)
     if found is None:
@@ -106,14 +107,83 @@ def wanted_check(file):
     return (roots, counts, lost, held, well), fault
 
 
+# No SHA-256: what it does not find to be the block is left to the library.
+@pytest.mark.parametrize("sha256", [None, hashlib.sha256, hashlib.blake2s, hashlib.md5])
 @pytest.mark.parametrize("vector", load(["files"]), ids=lambda it: it["id"])
-def test_files(vector):
+def test_files(vector, sha256):
     file = block_of(vector)
     roots, told, fault = wanted(file)
     for source in sources(file):
-        assert answered(source) == (roots, told, fault)
+        assert answered(source, sha256) == (roots, told, fault)
     for source in sources(file):
-        assert checked(source) == wanted_check(file)
+        assert checked(source, sha256) == wanted_check(file)
+
+
+class Sha256:
+    """Knows what it was asked of."""
+
+    def __init__(self):
+        self.asked = []
+
+    def __call__(self, block):
+        self.asked.append(block)
+        return hashlib.sha256(block)
+
+
+def test_what_sha256_is_asked_of():
+    file = header() + section(ROOT) + section(UNORDERED) + section(b"raw", cid(b"raw", codec=0x55))
+    other = section(b"other", cid(b"raw", codec=0x55)) + section(b"other", cid(b"raw"))
+    rest = section(ROOT, cid(ROOT, code=0x13)) + section(b"\x05", cid(b"\x05", code=0))
+    rest += section(b"foo", cid(b"foo")[2:]) + section(b"foo", cid(b"foo", codec=0x200))
+    long = section(b"\xf6")
+    long = bytes([long[0] | 0x80, 0]) + long[1:]  # of a length that is not in shortest form
+    for call in answered, checked:
+        for behind in b"", long, section(ROOT)[:-1]:
+            sha256 = Sha256()
+            assert call(file + other + rest + behind, sha256) == call(file + other + rest + behind)
+            assert sha256.asked == [ROOT, UNORDERED, b"raw", b"other", b"other"]
+
+
+def test_sha256_is_believed():
+    class Digest:
+        def digest(self):
+            return hashlib.sha256(ROOT).digest()
+
+    assert answered(header() + section(NUMBERS, cid(ROOT)), lambda it: Digest())[1][0][2] == "ok list"
+
+
+def test_a_sha256_that_fails():
+    class Digest:
+        def digest(self):
+            return "text"
+
+    def failing(block):
+        if block == NUMBERS:
+            raise ZeroDivisionError
+        return hashlib.sha256(block)
+
+    reader = read_car(PLAIN, sha256=failing)
+    assert next(reader).verdict == "ok map"
+    for _ in range(2):
+        with pytest.raises(ZeroDivisionError):
+            next(reader)
+    with pytest.raises(ZeroDivisionError):
+        check_car(PLAIN, sha256=failing)
+    for sha256 in (1, hashlib, lambda it: it, lambda it: Digest()):
+        with pytest.raises((TypeError, AttributeError)):
+            check_car(PLAIN, sha256=sha256)
+        with pytest.raises((TypeError, AttributeError)):
+            list(read_car(PLAIN, sha256=sha256))
+    with pytest.raises(TypeError):
+        read_car(PLAIN, hashlib.sha256)
+
+    def asking(block):
+        with pytest.raises(ValueError, match="already at work"):
+            next(reader)
+        return hashlib.sha256(block)
+
+    reader = read_car(PLAIN, sha256=asking)
+    assert [it.verdict for it in reader] == ["ok map", "ok list"]
 
 
 def test_names_that_are_not_packed():
@@ -171,7 +241,8 @@ def test_each_byte_damaged(file):
     for number, it in enumerate(damaged(file)):
         one, all_one = answered(it), checked(it)
         assert answered(io.BytesIO(it)) == one == answered(Dripping(it))
-        assert checked(Large([it[:70], it[70:]])) == all_one
+        assert checked(Large([it[:70], it[70:]])) == all_one == checked(it, hashlib.sha256)
+        assert answered(io.BytesIO(it), hashlib.sha256) == one
         assert all_one[1] == one[2]
         if inside[0] <= number // 2 < inside[1] and len(it) == len(file):
             roots, told, fault = wanted(it)
@@ -252,7 +323,7 @@ def test_check_travels():
     error = pickle.loads(pickle.dumps(caught.value))
     assert (error.kind, error.place) == ("InvalidCid", len(PLAIN))
     assert error.checked.verdicts == {"ok map": 1, "ok list": 1} == found.verdicts
-    assert isinstance(error, DagCborError) and str(error).startswith("no name stands before a block, at ")
+    assert isinstance(error, DagCborError) and str(error).startswith("the bytes are no CID, at ")
 
 
 @pytest.mark.parametrize("bytes_, kind, said", [

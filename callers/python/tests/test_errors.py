@@ -5,7 +5,7 @@ import pickle
 
 import pytest
 from conformance import block_of, cidtexts, load
-from dagcbor import CID, DagCborError, check, dumps, links, loads, name
+from dagcbor import CID, DagCborError, _native, check, dumps, links, loads, name
 
 
 def refusal(call, *args):
@@ -135,3 +135,12 @@ def test_no_cid_argument():
         CID(value=b"")
     with pytest.raises(UnicodeError):
         CID("\ud800")
+
+
+def test_each_number_that_is_named_has_words():
+    unsaid = {-20, -21, -42}  # of want of room and of memory, and of tokens, which none here makes
+    for code in [9, *range(-60, 0)]:
+        error = _native.refusal(code, 5)
+        has_words = "no reason is known" not in str(error)
+        assert has_words == (error.kind != "none" and code not in unsaid), code
+        assert error.place == 5 and _native.refusal(code).place is None

@@ -1,104 +1,74 @@
+//! The calls of the library, and what they give as values of Rust.
+
 use crate::answer::answer_of;
 use crate::item::{Cids, Items, Token};
 use crate::{Cid, Kind, Refusal, Refused};
 use core::ops::Range;
 #[cfg(feature = "alloc")]
-use {
-    crate::item::{self, Item},
-    alloc::{vec, vec::Vec},
-};
+use {crate::Item, alloc::vec, alloc::vec::Vec};
 
-extern "C" {
-    fn dagcbor_check(bytes: *const u8, length: usize) -> i32;
-    fn dagcbor_tape(
-        bytes: *const u8,
-        length: usize,
-        tape: *mut Token,
-        room: usize,
-        needed: *mut usize,
-    ) -> i32;
-    fn dagcbor_tokens(
-        bytes: *const u8,
-        length: usize,
-        tape: *mut Token,
-        room: usize,
-        needed: *mut usize,
-        place: *mut usize,
-    ) -> i32;
-    fn dagcbor_spell(
-        bytes: *const u8,
-        length: usize,
-        tape: *const Token,
-        count: usize,
-        out: *mut u8,
-        room: usize,
-        needed: *mut usize,
-    ) -> i32;
-    fn dagcbor_links(
-        bytes: *const u8,
-        length: usize,
-        out: *mut u8,
-        room: usize,
-        needed: *mut usize,
-    ) -> i32;
-    fn dagcbor_part(
-        block: *const u8,
-        length: usize,
-        segment: *const u8,
-        segment_length: usize,
-        place: *mut usize,
-        end: *mut usize,
-    ) -> i32;
-    fn dagcbor_follow(
-        block: *const u8,
-        length: usize,
-        path: *const u8,
-        path_length: usize,
-        places: *mut [usize; 3],
-    ) -> i32;
-    fn dagcbor_name(bytes: *const u8, length: usize, out: *mut [u8; 36]);
-    fn dagcbor_car_span(bytes: *const u8, length: usize, places: *mut [u64; 2]) -> i32;
-    fn dagcbor_car_header(
-        bytes: *const u8,
-        length: usize,
-        out: *mut u8,
-        room: usize,
-        needed: *mut usize,
-        behind: *mut usize,
-    ) -> i32;
-    fn dagcbor_car_section(bytes: *const u8, length: usize, places: *mut [usize; 3]) -> i32;
-    fn dagcbor_verify(cid: *const u8, cid_length: usize, block: *const u8, length: usize) -> i32;
-    fn dagcbor_cid_text(
-        bytes: *const u8,
-        length: usize,
-        out: *mut u8,
-        room: usize,
-        needed: *mut usize,
-    ) -> i32;
-    fn dagcbor_cid_from_text(
-        text: *const u8,
-        length: usize,
-        out: *mut u8,
-        room: usize,
-        needed: *mut usize,
-    ) -> i32;
+/// Declares functions of the library, and a call of each, which takes slices to read, at most one
+/// slice as room, and places of numbers. `include/dagcbor.h` says what each answers.
+macro_rules! calls {
+    ($($name:ident($($bytes:ident: $item:ty),*; $($room:ident: $entry:ty)?; $($put:ident: $number:ty),*)
+        $(-> $answer:ty)?;)*) => {
+        mod library {
+            use super::*;
+
+            extern "C" {$(
+                pub fn $name(
+                    $($bytes: *const $item, _: usize,)*
+                    $($room: *mut $entry, _: usize,)?
+                    $($put: *mut $number,)*
+                ) $(-> $answer)?;
+            )*}
+        }
+
+        $(
+            pub(crate) fn $name(
+                $($bytes: &[$item],)*
+                $($room: &mut [$entry],)?
+                $($put: &mut $number,)*
+            ) $(-> $answer)? {
+                // SAFETY: what goes in are slices and references. So pointers are not null, also
+                // those of empty slices, and aligned; so many elements stand there; nobody writes
+                // shared ones, nobody else uses a unique one, and no two of these overlap. A slice
+                // has fewer than 2^63 bytes, and tokens are fewer than 2^58: an address has no
+                // more than 57 bits, and a token 24 bytes.
+                unsafe {
+                    library::$name(
+                        $($bytes.as_ptr(), $bytes.len(),)*
+                        $($room.as_mut_ptr(), $room.len(),)?
+                        $($put,)*
+                    )
+                }
+            }
+        )*
+    };
 }
 
-// What the calls below owe to the library, and slices have: a pointer is not null, also that of an
-// empty slice; it is aligned; so many elements stand there, of at most isize::MAX bytes; nobody
-// writes a shared slice, nobody else uses a unique one, and the two do not overlap.
+calls! {
+    dagcbor_check(block: u8;;) -> i32;
+    dagcbor_tape(block: u8; tape: Token; needed: usize) -> i32;
+    dagcbor_tokens(block: u8; tape: Token; needed: usize, place: usize) -> i32;
+    dagcbor_spell(bytes: u8, tape: Token; out: u8; needed: usize) -> i32;
+    dagcbor_links(block: u8; out: u8; needed: usize) -> i32;
+    dagcbor_part(block: u8, segment: u8;; place: usize, end: usize) -> i32;
+    dagcbor_follow(block: u8, path: u8;; places: [usize; 3]) -> i32;
+    dagcbor_name(block: u8;; out: [u8; 36]);
+    dagcbor_verify(cid: u8, block: u8;;) -> i32;
+    dagcbor_car_span(bytes: u8;; places: [u64; 2]) -> i32;
+    dagcbor_car_header(bytes: u8; out: u8; needed: usize, behind: usize) -> i32;
+    dagcbor_car_section(bytes: u8;; places: [usize; 3]) -> i32;
+    dagcbor_cid_text(cid: u8; out: u8; needed: usize) -> i32;
+    dagcbor_cid_from_text(text: u8; out: u8; needed: usize) -> i32;
+}
 
 /// The greatest length of the binary form of a CID.
 pub const MOST_OF_CID: usize = 86;
 
-/// The greatest length of the text of a CID, as it is written.
-pub(crate) const MOST_OF_TEXT: usize = 139;
-
 /// What is answered where a path leads nowhere.
 const NO_SUCH_PATH: i32 = -36;
-
-/// Tokens are fewer than this.
-const MOST_TOKENS: usize = 1 << 58;
 
 /// Room for so many is taken before they are counted.
 #[cfg(feature = "alloc")]
@@ -106,49 +76,36 @@ const FEW_TOKENS: usize = 1 << 16;
 
 /// The kind of a block, exactly where the bytes are one.
 pub fn check(block: &[u8]) -> Result<Kind, Refused> {
-    // SAFETY: see above.
-    let code = unsafe { dagcbor_check(block.as_ptr(), block.len()) };
-    answer_of(code, 0).map_err(|refusal| refusal.at(place_in(block)))
+    answer_in(block, dagcbor_check(block))
 }
 
-/// Where bytes are refused.
+/// What the number says of the block, and where.
+pub(crate) fn answer_in(block: &[u8], code: i32) -> Result<Kind, Refused> {
+    answer_of(code, 0).map_err(|refusal| refusal.at(first_fault(block).1))
+}
+
+/// Why the bytes are no block, and where.
 #[cold]
-fn place_in(block: &[u8]) -> usize {
-    let (mut needed, mut place, mut none) = (0, 0, [Token::default(); 0]);
-    // SAFETY: see above.
-    unsafe {
-        dagcbor_tokens(
-            block.as_ptr(),
-            block.len(),
-            none.as_mut_ptr(),
-            none.len(),
-            &mut needed,
-            &mut place,
-        )
-    };
-    place
+fn first_fault(block: &[u8]) -> (Result<Kind, Refusal>, usize) {
+    let (mut needed, mut place) = (0, 0);
+    let code = dagcbor_tokens(block, &mut [], &mut needed, &mut place);
+    (answer_of(code, needed), place)
+}
+
+/// The first item, and the bytes that follow it.
+#[cfg(feature = "serde")]
+pub(crate) fn split_item(bytes: &[u8]) -> Result<(&[u8], &[u8]), Refused> {
+    match first_fault(bytes) {
+        (Ok(_) | Err(Refusal::TrailingData), end) => Ok(bytes.split_at(end)),
+        (Err(refusal), place) => Err(refusal.at(place)),
+    }
 }
 
 /// The block's name, a CID: version 1, DAG-CBOR, by the SHA-256 of the bytes. Any bytes have one.
 pub fn name(block: &[u8]) -> Cid {
     let mut out = [0; 36];
-    // SAFETY: see above.
-    unsafe { dagcbor_name(block.as_ptr(), block.len(), &mut out) };
+    dagcbor_name(block, &mut out);
     Cid::held(&out)
-}
-
-/// The kind of the last item to which a front of the path leads; where it begins and ends, and how
-/// many bytes of the path lead there.
-pub(crate) fn put_followed(
-    block: &[u8],
-    path: &str,
-    places: &mut [usize; 3],
-) -> Result<Kind, Refused> {
-    // SAFETY: see above.
-    let code = unsafe {
-        dagcbor_follow(block.as_ptr(), block.len(), path.as_ptr(), path.len(), places)
-    };
-    answer_of(code, 0).map_err(|refusal| refusal.at(place_in(block)))
 }
 
 /// The kind of the part of the block's item to which the segment leads, taken whole, and where it
@@ -158,146 +115,32 @@ pub(crate) fn part_at(
     segment: &str,
 ) -> Result<Option<(Kind, Range<usize>)>, Refused> {
     let (mut place, mut end) = (0, 0);
-    // SAFETY: see above.
-    let code = unsafe {
-        dagcbor_part(
-            block.as_ptr(),
-            block.len(),
-            segment.as_ptr(),
-            segment.len(),
-            &mut place,
-            &mut end,
-        )
-    };
-    if code == NO_SUCH_PATH {
-        return Ok(None);
-    }
-    let kind = answer_of(code, 0).map_err(|refusal| refusal.at(place_in(block)))?;
-    Ok(Some((kind, place..end)))
-}
-
-/// What the library answers of the front of a file of blocks.
-pub(crate) fn put_span(bytes: &[u8], places: &mut [u64; 2]) -> i32 {
-    // SAFETY: see above.
-    unsafe { dagcbor_car_span(bytes.as_ptr(), bytes.len(), places) }
-}
-
-/// What it answers of the header.
-pub(crate) fn put_header(
-    bytes: &[u8],
-    room: &mut [u8],
-    needed: &mut usize,
-    behind: &mut usize,
-) -> i32 {
-    // SAFETY: see above.
-    unsafe {
-        dagcbor_car_header(
-            bytes.as_ptr(),
-            bytes.len(),
-            room.as_mut_ptr(),
-            room.len(),
-            needed,
-            behind,
-        )
+    match dagcbor_part(block, segment.as_bytes(), &mut place, &mut end) {
+        NO_SUCH_PATH => Ok(None),
+        code => Ok(Some((answer_in(block, code)?, place..end))),
     }
 }
 
-/// What it answers of a section.
-pub(crate) fn put_section(bytes: &[u8], places: &mut [usize; 3]) -> i32 {
-    // SAFETY: see above.
-    unsafe { dagcbor_car_section(bytes.as_ptr(), bytes.len(), places) }
-}
-
-/// What it answers of a block under a name.
-pub(crate) fn put_verdict(cid: &[u8], block: &[u8]) -> i32 {
-    // SAFETY: see above.
-    unsafe { dagcbor_verify(cid.as_ptr(), cid.len(), block.as_ptr(), block.len()) }
-}
-
-/// How many characters the text of the CID has that the bytes are. They stand in the room, where all
-/// texts have place.
-pub(crate) fn put_cid_text(bytes: &[u8], room: &mut [u8; MOST_OF_TEXT]) -> Result<usize, Refusal> {
-    let mut needed = 0;
-    // SAFETY: see above.
-    let code = unsafe {
-        dagcbor_cid_text(
-            bytes.as_ptr(),
-            bytes.len(),
-            room.as_mut_ptr(),
-            room.len(),
-            &mut needed,
-        )
-    };
-    answer_of(code, needed).map(|_| needed)
-}
-
-/// How many bytes the CID of the text has. They stand in the room, where all CIDs have place.
-pub(crate) fn put_cid_of_text(text: &str, room: &mut [u8; MOST_OF_CID]) -> Result<usize, Refusal> {
-    let mut needed = 0;
-    // SAFETY: see above.
-    let code = unsafe {
-        dagcbor_cid_from_text(
-            text.as_ptr(),
-            text.len(),
-            room.as_mut_ptr(),
-            room.len(),
-            &mut needed,
-        )
-    };
-    answer_of(code, needed).map(|_| needed)
+/// What was put into the room, where it has place for all.
+fn in_room<T>(code: i32, room: &[T], needed: usize) -> Result<&[T], Refusal> {
+    answer_of(code, needed)?;
+    room.get(..needed).ok_or(Refusal::NoRoom { needed })
 }
 
 /// The items of a block, whose tokens are put into the room. Room for as many as the block has bytes
 /// is enough.
 pub fn tape_into<'a, 't>(block: &'a [u8], room: &'t mut [Token]) -> Result<Items<'a, 't>, Refusal> {
-    let needed = put_tape(block, room)?;
-    match room.get(..needed) {
-        Some(tokens) => Ok(Items::new(block, tokens)),
-        None => Err(Refusal::NoRoom { needed }),
-    }
-}
-
-/// How many tokens the block has. They stand in the room where it has place for all.
-fn put_tape(block: &[u8], room: &mut [Token]) -> Result<usize, Refusal> {
-    assert!(room.len() < MOST_TOKENS);
     let mut needed = 0;
-    // SAFETY: see above.
-    let code = unsafe {
-        dagcbor_tape(
-            block.as_ptr(),
-            block.len(),
-            room.as_mut_ptr(),
-            room.len(),
-            &mut needed,
-        )
-    };
-    answer_of(code, needed).map(|_| needed)
+    let code = dagcbor_tape(block, room, &mut needed);
+    Ok(Items::new(block, in_room(code, room, needed)?))
 }
 
 /// The links of the first item, which are put into the room: each with a byte in front. What follows
 /// the item is not looked at.
 pub fn links_into<'a>(block: &[u8], room: &'a mut [u8]) -> Result<Cids<'a>, Refusal> {
-    let needed = put_links(block, room)?;
-    match room.get(..needed) {
-        Some(packed) => Ok(Cids(packed)),
-        None => Err(Refusal::NoRoom { needed }),
-    }
-}
-
-/// How many bytes the links take. They stand in the room where it has place for all.
-fn put_links(block: &[u8], room: &mut [u8]) -> Result<usize, Refusal> {
     let mut needed = 0;
-    // SAFETY: see above.
-    let code = unsafe {
-        dagcbor_links(
-            block.as_ptr(),
-            block.len(),
-            room.as_mut_ptr(),
-            room.len(),
-            &mut needed,
-        )
-    };
-    answer_of(code, needed).map(|_| needed)
+    let code = dagcbor_links(block, room, &mut needed);
+    Ok(Cids(in_room(code, room, needed)?))
 }
 
 /// What the tokens tell, with their payloads out of the bytes, put into the room and judged: the
@@ -307,21 +150,9 @@ pub fn spell_into<'a>(
     tape: &[Token],
     room: &'a mut [u8],
 ) -> Result<&'a [u8], Refusal> {
-    assert!(tape.len() < MOST_TOKENS);
     let mut needed = 0;
-    // SAFETY: see above.
-    let code = unsafe {
-        dagcbor_spell(
-            bytes.as_ptr(),
-            bytes.len(),
-            tape.as_ptr(),
-            tape.len(),
-            room.as_mut_ptr(),
-            room.len(),
-            &mut needed,
-        )
-    };
-    answer_of(code, needed).map(|_| &room[..needed])
+    let code = dagcbor_spell(bytes, tape, room, &mut needed);
+    in_room(code, room, needed)
 }
 
 /// A block's tokens.
@@ -358,7 +189,7 @@ pub fn tape(block: &[u8]) -> Result<Tape<'_>, Refused> {
 #[cfg(feature = "alloc")]
 pub fn take_tape(bytes: &[u8]) -> Result<(Tape<'_>, &[u8]), Refused> {
     match tokens_of(bytes) {
-        (Ok(_) | Err(Refusal::TrailingData), tape, place) => Ok((tape, &bytes[place..])),
+        (Ok(_) | Err(Refusal::TrailingData), tape, end) => Ok((tape, &bytes[end..])),
         (Err(refusal), _, place) => Err(refusal.at(place)),
     }
 }
@@ -366,27 +197,15 @@ pub fn take_tape(bytes: &[u8]) -> Result<(Tape<'_>, &[u8]), Refused> {
 /// What is said of the bytes, and where; and the tokens before that place.
 #[cfg(feature = "alloc")]
 fn tokens_of(block: &[u8]) -> (Result<Kind, Refusal>, Tape<'_>, usize) {
-    let (mut needed, mut place, mut room) = (0, 0, block.len().min(FEW_TOKENS));
-    let mut tokens: Vec<Token> = Vec::new();
+    let (mut needed, mut place) = (0, 0);
+    let mut tokens = vec![Token::default(); block.len().min(FEW_TOKENS)];
     loop {
-        tokens.reserve_exact(room);
-        // SAFETY: see above; of the room nothing is read.
-        let code = unsafe {
-            dagcbor_tokens(
-                block.as_ptr(),
-                block.len(),
-                tokens.as_mut_ptr(),
-                room,
-                &mut needed,
-                &mut place,
-            )
-        };
-        if needed <= room {
-            // SAFETY: so many tokens were put there.
-            unsafe { tokens.set_len(needed) };
+        let code = dagcbor_tokens(block, &mut tokens, &mut needed, &mut place);
+        let is_whole = needed <= tokens.len();
+        tokens.resize(needed, Token::default());
+        if is_whole {
             return (answer_of(code, needed), Tape { block, tokens }, place);
         }
-        room = needed;
     }
 }
 
@@ -416,10 +235,10 @@ impl<'a> IntoIterator for &'a Links {
 /// The links of the first item. What follows it is not looked at.
 #[cfg(feature = "alloc")]
 pub fn links(block: &[u8]) -> Result<Links, Refusal> {
-    let mut packed = Vec::new();
-    let needed = put_links(block, &mut packed)?;
+    let (mut packed, mut needed) = (Vec::new(), 0);
+    answer_of(dagcbor_links(block, &mut [], &mut needed), needed)?;
     packed.resize(needed, 0);
-    put_links(block, &mut packed)?;
+    links_into(block, &mut packed)?;
     Ok(Links(packed))
 }
 
@@ -428,27 +247,14 @@ pub fn links(block: &[u8]) -> Result<Links, Refusal> {
 pub fn spell(items: &[Item<'_>]) -> Result<Vec<u8>, Refusal> {
     let (mut payloads, mut tokens) = (Vec::new(), Vec::with_capacity(items.len()));
     for it in items {
+        let (kind, number, payload) = it.parts();
         let place = payloads.len() as u64;
-        let mut with = |payload: &[u8]| {
-            payloads.extend_from_slice(payload);
-            payload.len() as u64
-        };
-        let (kind, number) = match *it {
-            Item::Null => (item::NULL, 0),
-            Item::Bool(value) => (item::BOOL, u64::from(value)),
-            Item::Integer(n) => (item::INTEGER, n),
-            Item::Negative(n) => (item::NEGATIVE, n),
-            Item::Text(text) => (item::TEXT, with(text.as_bytes())),
-            Item::Bytes(bytes) => (item::BYTES, with(bytes)),
-            Item::List(count) => (item::LIST, count),
-            Item::Map(count) => (item::MAP, count),
-            Item::Link(cid) => (item::LINK, with(cid.as_bytes())),
-        };
         tokens.push(Token {
             kind,
             number,
             place,
         });
+        payloads.extend_from_slice(payload);
     }
     // No head has more bytes than nine, and that of a link no more than six.
     let mut block = vec![0; payloads.len() + 9 * tokens.len()];

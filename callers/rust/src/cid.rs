@@ -1,7 +1,10 @@
-use crate::calls::{put_cid_of_text, put_cid_text, spell_into, MOST_OF_CID, MOST_OF_TEXT};
-use crate::item::LINK;
-use crate::{Refusal, Token};
-use core::{cmp::Ordering, fmt, hash, str};
+use crate::answer::answer_of;
+use crate::calls::{dagcbor_cid_from_text, dagcbor_cid_text};
+use crate::{spell_into, Kind, Refusal, Token, MOST_OF_CID};
+use core::{fmt, str};
+
+/// The greatest length of the text of a CID, as it is written.
+const MOST_OF_TEXT: usize = 139;
 
 /// A CID: the name of a block. It compares as its bytes.
 ///
@@ -13,21 +16,23 @@ use core::{cmp::Ordering, fmt, hash, str};
 /// assert_eq!(cid.to_string().parse(), Ok(cid));
 /// assert_eq!(Cid::new_v1(0x71, 0x12, cid.digest()), Ok(cid));
 /// ```
-#[derive(Clone, Copy)]
+#[derive(Clone, Copy, PartialEq, Eq, PartialOrd, Ord, Hash)]
 pub struct Cid {
+    bytes: [u8; MOST_OF_CID], // with zeros behind it, so that the order is that of its bytes
     length: u8,
-    bytes: [u8; MOST_OF_CID],
 }
 
 impl Cid {
     /// The bytes are a CID.
     pub(crate) fn held(bytes: &[u8]) -> Cid {
-        let mut cid = Cid {
-            length: bytes.len() as u8,
-            bytes: [0; MOST_OF_CID],
-        };
-        cid.bytes[..bytes.len()].copy_from_slice(bytes);
-        cid
+        Cid::hold(bytes).expect("a CID has at most 86 bytes")
+    }
+
+    /// Bytes that may be a CID, which is not looked at: none where they are too many.
+    pub(crate) fn hold(held: &[u8]) -> Option<Cid> {
+        let (mut bytes, length) = ([0; MOST_OF_CID], held.len() as u8);
+        bytes.get_mut(..held.len())?.copy_from_slice(held);
+        Some(Cid { bytes, length })
     }
 
     /// That of version 1, of a codec, and a digest of at most 64 bytes by a hash function.
@@ -116,7 +121,7 @@ impl TryFrom<&[u8]> for Cid {
     /// They are a CID where there is a block that is the link of them, which takes five bytes more.
     fn try_from(bytes: &[u8]) -> Result<Cid, Refusal> {
         let link = Token {
-            kind: LINK,
+            kind: Kind::Link as u64,
             number: bytes.len() as u64,
             place: 0,
         };
@@ -132,9 +137,10 @@ impl str::FromStr for Cid {
     type Err = Refusal;
 
     fn from_str(text: &str) -> Result<Cid, Refusal> {
-        let mut room = [0; MOST_OF_CID];
-        let count = put_cid_of_text(text, &mut room)?;
-        Ok(Cid::held(&room[..count]))
+        let (mut room, mut needed) = ([0; MOST_OF_CID], 0);
+        let code = dagcbor_cid_from_text(text.as_bytes(), &mut room, &mut needed);
+        answer_of(code, needed)?;
+        Ok(Cid::held(&room[..needed]))
     }
 }
 
@@ -149,9 +155,9 @@ impl TryFrom<&str> for Cid {
 /// The text: `Qm..` of version 0, and base32 behind `b` of version 1.
 impl fmt::Display for Cid {
     fn fmt(&self, f: &mut fmt::Formatter<'_>) -> fmt::Result {
-        let mut room = [0; MOST_OF_TEXT];
-        let count = put_cid_text(self.as_bytes(), &mut room).map_err(|_| fmt::Error)?;
-        f.pad(str::from_utf8(&room[..count]).map_err(|_| fmt::Error)?)
+        let (mut room, mut needed) = ([0; MOST_OF_TEXT], 0);
+        dagcbor_cid_text(self.as_bytes(), &mut room, &mut needed);
+        f.pad(str::from_utf8(&room[..needed]).map_err(|_| fmt::Error)?)
     }
 }
 
@@ -164,31 +170,5 @@ impl fmt::Debug for Cid {
 impl AsRef<[u8]> for Cid {
     fn as_ref(&self) -> &[u8] {
         self.as_bytes()
-    }
-}
-
-impl PartialEq for Cid {
-    fn eq(&self, other: &Cid) -> bool {
-        self.as_bytes() == other.as_bytes()
-    }
-}
-
-impl Eq for Cid {}
-
-impl PartialOrd for Cid {
-    fn partial_cmp(&self, other: &Cid) -> Option<Ordering> {
-        Some(self.cmp(other))
-    }
-}
-
-impl Ord for Cid {
-    fn cmp(&self, other: &Cid) -> Ordering {
-        self.as_bytes().cmp(other.as_bytes())
-    }
-}
-
-impl hash::Hash for Cid {
-    fn hash<H: hash::Hasher>(&self, state: &mut H) {
-        self.as_bytes().hash(state);
     }
 }

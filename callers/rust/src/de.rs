@@ -1,9 +1,11 @@
-//! Types out of the tokens of a block.
+//! Types out of the bytes of a block, which the library has judged before.
 
-use crate::item::Lent;
-use crate::{take_tape, tape, Error, Items, Token};
-use serde::de::{self, Deserialize, DeserializeSeed, Error as _, Unexpected, Visitor};
-use serde::forward_to_deserialize_any;
+use crate::calls::split_item;
+use crate::ser::{BYTES, INTEGER, LIST, MAP, NEGATIVE, NULL, TAG, TEXT, TRUE};
+use crate::{check, Error};
+use core::str;
+use serde::de::value::{BorrowedBytesDeserializer, BorrowedStrDeserializer, MapAccessDeserializer};
+use serde::de::{self, Deserialize, DeserializeSeed, Error as _, Expected, Unexpected, Visitor};
 
 /// By a newtype of this name serde's formats tell CIDs from bytes. That of the crate `cid` is the
 /// same, so its CIDs are read and written as links too.
@@ -11,6 +13,10 @@ pub(crate) const CID_NAME: &str = "$__serde__private__identifier__for__cid";
 
 /// Options are in each other no deeper.
 const MOST_OPTIONS: u32 = 256;
+
+/// The first bytes of null, and of a link.
+const FIRST_OF_NULL: u8 = 0xf6;
+const FIRST_OF_LINK: u8 = 0xd8;
 
 /// The value that a block holds. Texts and bytes may be lent by the block.
 ///
@@ -30,7 +36,8 @@ const MOST_OPTIONS: u32 = 256;
 /// # Ok::<(), dagcbor::Error>(())
 /// ```
 pub fn from_slice<'a, T: Deserialize<'a>>(block: &'a [u8]) -> Result<T, Error> {
-    read(tape(block)?.items())
+    check(block)?;
+    read(block)
 }
 
 /// The value of the first item, and the bytes that follow it.
@@ -41,8 +48,8 @@ pub fn from_slice<'a, T: Deserialize<'a>>(block: &'a [u8]) -> Result<T, Error> {
 /// # Ok::<(), dagcbor::Error>(())
 /// ```
 pub fn take_from_slice<'a, T: Deserialize<'a>>(bytes: &'a [u8]) -> Result<(T, &'a [u8]), Error> {
-    let (tape, rest) = take_tape(bytes)?;
-    Ok((read(tape.items())?, rest))
+    let (first, rest) = split_item(bytes)?;
+    Ok((read(first)?, rest))
 }
 
 /// The value of the block that a reader gives, up to its end.
@@ -53,153 +60,206 @@ pub fn from_reader<T: de::DeserializeOwned>(mut reader: impl std::io::Read) -> R
     from_slice(&block)
 }
 
-fn read<'de, T: Deserialize<'de>>(items: Items<'de, '_>) -> Result<T, Error> {
+fn read<'de, T: Deserialize<'de>>(block: &'de [u8]) -> Result<T, Error> {
     T::deserialize(&mut Reader {
-        block: items.block,
-        tokens: items.tokens(),
-        at: 0,
+        rest: block,
+        length: block.len(),
         options: 0,
     })
 }
 
-/// The tokens of a block, and at which the reader is.
-struct Reader<'de, 't> {
-    block: &'de [u8],
-    tokens: &'t [Token],
-    at: usize,
+/// What is left of a block. That it is one is judged: here it is only seen that nothing is read
+/// behind its end.
+struct Reader<'de> {
+    rest: &'de [u8],
+    length: usize, // of the block
     options: u32,
 }
 
-impl<'de> Reader<'de, '_> {
-    /// The next item. A block has those that its heads tell.
-    #[inline]
-    fn peek(&self) -> Lent<'de> {
-        Lent::of(self.block, &self.tokens[self.at])
+/// Never, of a block.
+#[cold]
+fn no_block() -> Error {
+    Error::custom("the bytes are no block, which the library says they are")
+}
+
+impl<'de> Reader<'de> {
+    /// The first byte of the next item.
+    #[inline(always)]
+    fn first(&self) -> Result<u8, Error> {
+        self.rest.first().copied().ok_or_else(no_block)
     }
 
-    /// Where the head of a token stands: behind the token before it and its payload.
-    #[cold]
-    fn place_of(&self, at: usize) -> usize {
-        let Some(before) = at.checked_sub(1) else {
-            return 0;
-        };
-        let token = &self.tokens[before];
-        token.place as usize
-            + match Lent::of(self.block, token) {
-                Lent::Text(text) => text.len(),
-                Lent::Bytes(bytes) | Lent::Link(bytes) => bytes.len(),
-                _ => 0,
+    /// Passes the head of an item: its major type, and its argument.
+    #[inline(always)]
+    fn head(&mut self) -> Result<(u8, u64), Error> {
+        let (first, behind) = self.rest.split_first().ok_or_else(no_block)?;
+        let (argument, rest) = match (first % 32, behind) {
+            (n @ 0..=23, rest) => (n.into(), rest),
+            (24, [a, rest @ ..]) => ((*a).into(), rest),
+            (25, [a, b, rest @ ..]) => (u16::from_be_bytes([*a, *b]).into(), rest),
+            (26, [a, b, c, d, rest @ ..]) => (u32::from_be_bytes([*a, *b, *c, *d]).into(), rest),
+            (27, [a, b, c, d, e, f, g, h, rest @ ..]) => {
+                (u64::from_be_bytes([*a, *b, *c, *d, *e, *f, *g, *h]), rest)
             }
+            _ => return Err(no_block()),
+        };
+        self.rest = rest;
+        Ok((first / 32, argument))
+    }
+
+    /// Passes so many bytes.
+    #[inline]
+    fn bytes(&mut self, count: u64) -> Result<&'de [u8], Error> {
+        if count > self.rest.len() as u64 {
+            return Err(no_block());
+        }
+        let (bytes, rest) = self.rest.split_at(count as usize);
+        self.rest = rest;
+        Ok(bytes)
+    }
+
+    #[inline]
+    fn text(&mut self, count: u64) -> Result<&'de str, Error> {
+        str::from_utf8(self.bytes(count)?).map_err(|_| no_block())
+    }
+
+    /// Whether null is next, which is passed then.
+    #[inline]
+    fn has_null(&mut self) -> bool {
+        let found = self.rest.first() == Some(&FIRST_OF_NULL);
+        self.rest = &self.rest[usize::from(found)..];
+        found
     }
 
     /// Passes an item, with what is in it.
-    fn pass(&mut self) {
+    fn pass(&mut self) -> Result<(), Error> {
         let mut left = 1;
         while left > 0 {
-            left = left - 1
-                + match self.peek() {
-                    Lent::List(count) => count,
-                    Lent::Map(count) => 2 * count,
-                    _ => 0,
-                };
-            self.at += 1;
+            left -= 1;
+            match self.head()? {
+                (BYTES | TEXT, count) => drop(self.bytes(count)?),
+                (LIST, count) => left += count,
+                (MAP, count) => left += 2 * count,
+                (TAG, _) => left += 1,
+                _ => {}
+            }
         }
+        Ok(())
     }
 
-    /// An item that is one of those wanted.
+    /// Where the next item stands in the block.
+    #[inline]
+    fn place(&self) -> usize {
+        self.length - self.rest.len()
+    }
+
+    /// Refuses the next item, which is not of the sort that the type reads.
+    #[cold]
+    fn unwanted<T>(&mut self, expected: &dyn Expected) -> Result<T, Error> {
+        let place = self.place();
+        let found = match self.head()? {
+            (INTEGER, n) => Unexpected::Unsigned(n),
+            (NEGATIVE, _) => Unexpected::Other("integer below 0"),
+            (BYTES, count) => Unexpected::Bytes(self.bytes(count)?),
+            (TEXT, count) => Unexpected::Str(self.text(count)?),
+            (LIST, _) => Unexpected::Other("list"),
+            (MAP, _) => Unexpected::Other("map"),
+            (TAG, _) => Unexpected::Other("link"),
+            (_, NULL) => Unexpected::Other("null"),
+            (_, value) => Unexpected::Bool(value == TRUE),
+        };
+        Err(Error::invalid_type(found, expected).or_at(place))
+    }
+
+    /// The value of an item with a first byte that is wanted. Where the type refuses it, what is
+    /// said without a place gets the place of the item.
+    #[inline(always)]
     fn visit<V: Visitor<'de>>(
         &mut self,
-        is_wanted: fn(&Lent) -> bool,
+        is_wanted: impl Fn(u8) -> bool,
         visitor: V,
     ) -> Result<V::Value, Error> {
-        let (item, at) = (self.peek(), self.at);
-        if !is_wanted(&item) {
-            let error = Error::invalid_type(unexpected(&item), &visitor);
-            return Err(error.or_at(self.place_of(at)));
+        let place = self.place();
+        if !is_wanted(self.first()?) {
+            return self.unwanted(&visitor);
         }
-        self.at += 1;
-        let value = match item {
-            Lent::Null => visitor.visit_none(),
-            Lent::Bool(value) => visitor.visit_bool(value),
-            Lent::Integer(n) => visitor.visit_u64(n),
-            Lent::Negative(n) => match i64::try_from(n) {
+        let value = match self.head()? {
+            (INTEGER, n) => visitor.visit_u64(n),
+            (NEGATIVE, n) => match i64::try_from(n) {
                 Ok(n) => visitor.visit_i64(-1 - n),
                 Err(_) => visitor.visit_i128(-1 - i128::from(n)),
             },
-            Lent::Text(text) => visitor.visit_borrowed_str(text),
-            Lent::Bytes(bytes) => visitor.visit_borrowed_bytes(bytes),
-            Lent::List(left) => {
-                let mut parts = Parts {
-                    reader: &mut *self,
-                    left,
-                };
-                let value = visitor.visit_seq(&mut parts);
-                value.and_then(|it| parts.all_taken(it))
+            (BYTES, count) => visitor.visit_borrowed_bytes(self.bytes(count)?),
+            (TEXT, count) => visitor.visit_borrowed_str(self.text(count)?),
+            (LIST, count) => self.parts(count, |parts| visitor.visit_seq(parts)),
+            (MAP, count) => self.parts(count, |parts| visitor.visit_map(parts)),
+            (TAG, _) => {
+                let (_, count) = self.head()?;
+                let cid = self.bytes(count)?.get(1..).unwrap_or_default();
+                visitor.visit_newtype_struct(BorrowedBytesDeserializer::new(cid))
             }
-            Lent::Map(left) => {
-                let mut parts = Parts {
-                    reader: &mut *self,
-                    left,
-                };
-                let value = visitor.visit_map(&mut parts);
-                value.and_then(|it| parts.all_taken(it))
-            }
-            Lent::Link(cid) => visitor.visit_newtype_struct(Link(cid)),
+            (_, NULL) => visitor.visit_none(),
+            (_, value) => visitor.visit_bool(value == TRUE),
         };
-        value.map_err(|it| it.or_at(self.place_of(at)))
+        value.map_err(|it| it.or_at(place))
+    }
+
+    /// The value of all parts of a list, or of all entries of a map.
+    #[inline]
+    fn parts<T>(
+        &mut self,
+        count: u64,
+        read: impl FnOnce(&mut Parts<'_, 'de>) -> Result<T, Error>,
+    ) -> Result<T, Error> {
+        let mut parts = Parts {
+            reader: self,
+            left: count,
+        };
+        let value = read(&mut parts)?;
+        match parts.left {
+            0 => Ok(value),
+            left => Err(Error::custom(format_args!("the type leaves {left} parts"))),
+        }
     }
 }
 
-fn unexpected<'a>(item: &Lent<'a>) -> Unexpected<'a> {
-    match *item {
-        Lent::Null => Unexpected::Other("null"),
-        Lent::Bool(value) => Unexpected::Bool(value),
-        Lent::Integer(n) => Unexpected::Unsigned(n),
-        Lent::Negative(_) => Unexpected::Other("integer below 0"),
-        Lent::Text(text) => Unexpected::Str(text),
-        Lent::Bytes(bytes) => Unexpected::Bytes(bytes),
-        Lent::List(_) => Unexpected::Other("list"),
-        Lent::Map(_) => Unexpected::Other("map"),
-        Lent::Link(_) => Unexpected::Other("link"),
-    }
-}
-
-/// The methods that read an item of one sort.
+/// The methods that read an item of one sort, by its first byte.
 macro_rules! of_sort {
     ($($sort:pat => $($method:ident($($name:ident: $type:ty),*))*;)*) => {$($(
+        #[inline]
         fn $method<V: Visitor<'de>>(self, $($name: $type,)* visitor: V) -> Result<V::Value, Error> {
-            $(let _ = $name;)*
             self.visit(|it| matches!(it, $sort), visitor)
         }
     )*)*};
 }
 
-impl<'de> de::Deserializer<'de> for &mut Reader<'de, '_> {
+impl<'de> de::Deserializer<'de> for &mut Reader<'de> {
     type Error = Error;
 
     of_sort! {
         _ => deserialize_any();
-        Lent::Bool(_) => deserialize_bool();
-        Lent::Integer(_) | Lent::Negative(_) =>
+        0x00..=0x3b =>
             deserialize_u8() deserialize_u16() deserialize_u32() deserialize_u64()
-            deserialize_i8() deserialize_i16() deserialize_i32() deserialize_i64();
-        Lent::Text(_) =>
+            deserialize_i8() deserialize_i16() deserialize_i32() deserialize_i64()
+            deserialize_i128() deserialize_u128();
+        0x40..=0x5b => deserialize_bytes() deserialize_byte_buf();
+        0x60..=0x7b =>
             deserialize_char() deserialize_str() deserialize_string() deserialize_identifier();
-        Lent::Bytes(_) => deserialize_bytes() deserialize_byte_buf();
-        Lent::List(_) =>
-            deserialize_seq() deserialize_tuple(count: usize)
-            deserialize_tuple_struct(name: &'static str, count: usize);
-        Lent::Map(_) =>
+        0x80..=0x9b =>
+            deserialize_seq() deserialize_tuple(_count: usize)
+            deserialize_tuple_struct(_name: &'static str, _count: usize);
+        0xa0..=0xbb =>
             deserialize_map()
-            deserialize_struct(name: &'static str, fields: &'static [&'static str]);
+            deserialize_struct(_name: &'static str, _fields: &'static [&'static str]);
+        0xf4 | 0xf5 => deserialize_bool();
+        0xf9..=0xfb => deserialize_f32() deserialize_f64(); // which no block has
     }
 
     fn deserialize_unit<V: Visitor<'de>>(self, visitor: V) -> Result<V::Value, Error> {
-        if let Lent::Null = self.peek() {
-            self.at += 1;
+        if self.has_null() {
             return visitor.visit_unit();
         }
-        self.visit(|_| false, visitor)
+        self.unwanted(&visitor)
     }
 
     fn deserialize_unit_struct<V: Visitor<'de>>(
@@ -210,43 +270,13 @@ impl<'de> de::Deserializer<'de> for &mut Reader<'de, '_> {
         self.deserialize_unit(visitor)
     }
 
-    fn deserialize_i128<V: Visitor<'de>>(self, visitor: V) -> Result<V::Value, Error> {
-        let n = match self.peek() {
-            Lent::Integer(n) => i128::from(n),
-            Lent::Negative(n) => -1 - i128::from(n),
-            _ => return self.visit(|_| false, visitor),
-        };
-        self.at += 1;
-        let value = visitor.visit_i128(n);
-        value.map_err(|it: Error| it.or_at(self.place_of(self.at - 1)))
-    }
-
-    fn deserialize_u128<V: Visitor<'de>>(self, visitor: V) -> Result<V::Value, Error> {
-        let n = match self.peek() {
-            Lent::Integer(n) => u128::from(n),
-            _ => return self.visit(|_| false, visitor),
-        };
-        self.at += 1;
-        let value = visitor.visit_u128(n);
-        value.map_err(|it: Error| it.or_at(self.place_of(self.at - 1)))
-    }
-
-    fn deserialize_f32<V: Visitor<'de>>(self, visitor: V) -> Result<V::Value, Error> {
-        self.visit(|_| false, visitor)
-    }
-
-    fn deserialize_f64<V: Visitor<'de>>(self, visitor: V) -> Result<V::Value, Error> {
-        self.visit(|_| false, visitor)
-    }
-
     fn deserialize_option<V: Visitor<'de>>(self, visitor: V) -> Result<V::Value, Error> {
-        if let Lent::Null = self.peek() {
-            self.at += 1;
+        if self.has_null() {
             return visitor.visit_none();
         }
         if self.options == MOST_OPTIONS {
             let said = "the type has too many options in each other";
-            return Err(Error::custom(said).or_at(self.place_of(self.at)));
+            return Err(Error::custom(said).or_at(self.place()));
         }
         self.options += 1;
         let value = visitor.visit_some(&mut *self);
@@ -260,33 +290,37 @@ impl<'de> de::Deserializer<'de> for &mut Reader<'de, '_> {
         visitor: V,
     ) -> Result<V::Value, Error> {
         if name == CID_NAME {
-            return self.visit(|it| matches!(it, Lent::Link(_)), visitor);
+            return self.visit(|first| first == FIRST_OF_LINK, visitor);
         }
         visitor.visit_newtype_struct(self)
     }
 
+    /// The name of a variant alone, or a map of one entry from its name to its data.
     fn deserialize_enum<V: Visitor<'de>>(
         self,
         _: &'static str,
         _: &'static [&'static str],
         visitor: V,
     ) -> Result<V::Value, Error> {
-        let at = self.at;
-        let has_data = match self.peek() {
-            Lent::Text(_) => false,
-            Lent::Map(1) => true,
-            _ => return self.visit(|_| false, visitor),
+        let place = self.place();
+        let value = match self.first()? {
+            0x60..=0x7b => {
+                let (_, count) = self.head()?;
+                visitor.visit_enum(BorrowedStrDeserializer::new(self.text(count)?))
+            }
+            0xa1 => {
+                let (_, count) = self.head()?;
+                self.parts(count, |it| {
+                    visitor.visit_enum(MapAccessDeserializer::new(it))
+                })
+            }
+            _ => return self.unwanted(&visitor),
         };
-        self.at += usize::from(has_data);
-        let value = visitor.visit_enum(Variant {
-            reader: &mut *self,
-            has_data,
-        });
-        value.map_err(|it| it.or_at(self.place_of(at)))
+        value.map_err(|it| it.or_at(place))
     }
 
     fn deserialize_ignored_any<V: Visitor<'de>>(self, visitor: V) -> Result<V::Value, Error> {
-        self.pass();
+        self.pass()?;
         visitor.visit_unit()
     }
 
@@ -296,19 +330,13 @@ impl<'de> de::Deserializer<'de> for &mut Reader<'de, '_> {
 }
 
 /// The parts of a list, or the entries of a map, that are left.
-struct Parts<'a, 'de, 't> {
-    reader: &'a mut Reader<'de, 't>,
+struct Parts<'a, 'de> {
+    reader: &'a mut Reader<'de>,
     left: u64,
 }
 
-impl<'de> Parts<'_, 'de, '_> {
-    fn all_taken<T>(&self, value: T) -> Result<T, Error> {
-        match self.left {
-            0 => Ok(value),
-            left => Err(Error::custom(format_args!("the type leaves {left} parts"))),
-        }
-    }
-
+impl<'de> Parts<'_, 'de> {
+    #[inline]
     fn next<S: DeserializeSeed<'de>>(&mut self, seed: S) -> Result<Option<S::Value>, Error> {
         if self.left == 0 {
             return Ok(None);
@@ -318,9 +346,10 @@ impl<'de> Parts<'_, 'de, '_> {
     }
 }
 
-impl<'de> de::SeqAccess<'de> for &mut Parts<'_, 'de, '_> {
+impl<'de> de::SeqAccess<'de> for &mut Parts<'_, 'de> {
     type Error = Error;
 
+    #[inline]
     fn next_element_seed<S: DeserializeSeed<'de>>(
         &mut self,
         seed: S,
@@ -329,13 +358,14 @@ impl<'de> de::SeqAccess<'de> for &mut Parts<'_, 'de, '_> {
     }
 
     fn size_hint(&self) -> Option<usize> {
-        Some(self.left as usize) // so many tokens are there
+        Some(self.left as usize) // at most so many as the block has bytes
     }
 }
 
-impl<'de> de::MapAccess<'de> for &mut Parts<'_, 'de, '_> {
+impl<'de> de::MapAccess<'de> for &mut Parts<'_, 'de> {
     type Error = Error;
 
+    #[inline]
     fn next_key_seed<S: DeserializeSeed<'de>>(
         &mut self,
         seed: S,
@@ -343,83 +373,12 @@ impl<'de> de::MapAccess<'de> for &mut Parts<'_, 'de, '_> {
         self.next(seed)
     }
 
+    #[inline]
     fn next_value_seed<S: DeserializeSeed<'de>>(&mut self, seed: S) -> Result<S::Value, Error> {
         seed.deserialize(&mut *self.reader)
     }
 
     fn size_hint(&self) -> Option<usize> {
         Some(self.left as usize)
-    }
-}
-
-/// A variant: its name alone, or the one key of a map with its data as the value.
-struct Variant<'a, 'de, 't> {
-    reader: &'a mut Reader<'de, 't>,
-    has_data: bool,
-}
-
-impl<'a, 'de, 't> Variant<'a, 'de, 't> {
-    fn data(self) -> Result<&'a mut Reader<'de, 't>, Error> {
-        if self.has_data {
-            return Ok(self.reader);
-        }
-        Err(Error::custom("the variant has data, which is not there"))
-    }
-}
-
-impl<'de> de::EnumAccess<'de> for Variant<'_, 'de, '_> {
-    type Error = Error;
-    type Variant = Self;
-
-    fn variant_seed<S: DeserializeSeed<'de>>(self, seed: S) -> Result<(S::Value, Self), Error> {
-        Ok((seed.deserialize(&mut *self.reader)?, self))
-    }
-}
-
-impl<'de> de::VariantAccess<'de> for Variant<'_, 'de, '_> {
-    type Error = Error;
-
-    /// Null as data is none.
-    fn unit_variant(self) -> Result<(), Error> {
-        if self.has_data {
-            return Deserialize::deserialize(self.reader);
-        }
-        Ok(())
-    }
-
-    fn newtype_variant_seed<S: DeserializeSeed<'de>>(self, seed: S) -> Result<S::Value, Error> {
-        seed.deserialize(self.data()?)
-    }
-
-    fn tuple_variant<V: Visitor<'de>>(self, count: usize, visitor: V) -> Result<V::Value, Error> {
-        de::Deserializer::deserialize_tuple(self.data()?, count, visitor)
-    }
-
-    fn struct_variant<V: Visitor<'de>>(
-        self,
-        _: &'static [&'static str],
-        visitor: V,
-    ) -> Result<V::Value, Error> {
-        de::Deserializer::deserialize_map(self.data()?, visitor)
-    }
-}
-
-/// The bytes of a link, for the visitor of a newtype.
-struct Link<'de>(&'de [u8]);
-
-impl<'de> de::Deserializer<'de> for Link<'de> {
-    type Error = Error;
-
-    fn deserialize_any<V: Visitor<'de>>(self, visitor: V) -> Result<V::Value, Error> {
-        visitor.visit_borrowed_bytes(self.0)
-    }
-
-    fn is_human_readable(&self) -> bool {
-        false
-    }
-
-    forward_to_deserialize_any! {
-        bool i8 i16 i32 i64 i128 u8 u16 u32 u64 u128 f32 f64 char str string bytes byte_buf option
-        unit unit_struct newtype_struct seq tuple tuple_struct map struct enum identifier ignored_any
     }
 }

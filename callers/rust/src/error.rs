@@ -7,6 +7,7 @@ use alloc::{
 use core::fmt;
 
 /// Why a type is not read, or a value not written, and where.
+#[derive(Debug)]
 pub struct Error(Box<Inner>);
 
 #[derive(Debug)]
@@ -79,12 +80,6 @@ impl fmt::Display for Error {
             before = "/";
         }
         Ok(())
-    }
-}
-
-impl fmt::Debug for Error {
-    fn fmt(&self, f: &mut fmt::Formatter<'_>) -> fmt::Result {
-        write!(f, "Error({self})")
     }
 }
 

@@ -4,6 +4,7 @@ use crate::de::CID_NAME;
 use crate::Cid;
 use alloc::{collections::BTreeMap, string::String, vec::Vec};
 use core::fmt;
+use serde::de::value::{MapAccessDeserializer, SeqAccessDeserializer};
 use serde::de::{self, Deserialize, Deserializer, MapAccess, SeqAccess, Visitor};
 use serde::ser::{Serialize, Serializer};
 
@@ -56,7 +57,8 @@ impl Ipld {
 
 /// The index that the step is, in decimal without a sign and without zeros in front.
 fn index_of(step: &str) -> Option<usize> {
-    let is_plain = step.bytes().all(|it| it.is_ascii_digit()) && (step == "0" || !step.starts_with('0'));
+    let is_plain =
+        step.bytes().all(|it| it.is_ascii_digit()) && (step == "0" || !step.starts_with('0'));
     is_plain.then(|| step.parse().ok())?
 }
 
@@ -161,20 +163,12 @@ impl<'de> Visitor<'de> for OfIpld {
         Cid::deserialize(link).map(Ipld::Link)
     }
 
-    fn visit_seq<A: SeqAccess<'de>>(self, mut parts: A) -> Result<Ipld, A::Error> {
-        let mut list = Vec::new();
-        while let Some(item) = parts.next_element()? {
-            list.push(item);
-        }
-        Ok(Ipld::List(list))
+    fn visit_seq<A: SeqAccess<'de>>(self, parts: A) -> Result<Ipld, A::Error> {
+        Deserialize::deserialize(SeqAccessDeserializer::new(parts)).map(Ipld::List)
     }
 
-    fn visit_map<A: MapAccess<'de>>(self, mut parts: A) -> Result<Ipld, A::Error> {
-        let mut map = BTreeMap::new();
-        while let Some((key, value)) = parts.next_entry()? {
-            map.insert(key, value);
-        }
-        Ok(Ipld::Map(map))
+    fn visit_map<A: MapAccess<'de>>(self, parts: A) -> Result<Ipld, A::Error> {
+        Deserialize::deserialize(MapAccessDeserializer::new(parts)).map(Ipld::Map)
     }
 }
 

@@ -1,5 +1,6 @@
-use crate::Cid;
-use core::slice;
+use crate::answer::KINDS;
+use crate::{Cid, Kind};
+use core::{slice, str};
 
 /// A head of a block as the library tells it: `include/dagcbor.h` says what the numbers are.
 #[repr(C)]
@@ -13,15 +14,9 @@ pub struct Token {
     pub place: u64,
 }
 
-pub(crate) const NULL: u64 = 0;
-pub(crate) const BOOL: u64 = 1;
-pub(crate) const INTEGER: u64 = 2;
-pub(crate) const TEXT: u64 = 3;
-pub(crate) const BYTES: u64 = 4;
-pub(crate) const LIST: u64 = 5;
-pub(crate) const MAP: u64 = 6;
-pub(crate) const LINK: u64 = 7;
-pub(crate) const NEGATIVE: u64 = 8;
+/// The kind of a token of an integer below 0, beside the kinds of items.
+#[cfg(feature = "alloc")]
+const NEGATIVE: u64 = 8;
 
 /// An item of a block, with its payload lent. What is in a list or a map follows it.
 #[derive(Clone, Copy, Debug, PartialEq, Eq, Hash)]
@@ -46,10 +41,48 @@ pub enum Item<'a> {
     Link(Cid),
 }
 
+impl<'a> Item<'a> {
+    /// The kind and the number of its token, and its payload.
+    #[cfg(feature = "alloc")]
+    pub(crate) fn parts(&self) -> (u64, u64, &[u8]) {
+        fn with(kind: Kind, payload: &[u8]) -> (u64, u64, &[u8]) {
+            (kind as u64, payload.len() as u64, payload)
+        }
+        match self {
+            Item::Null => (Kind::Null as u64, 0, &[]),
+            Item::Bool(value) => (Kind::Bool as u64, u64::from(*value), &[]),
+            Item::Integer(n) => (Kind::Integer as u64, *n, &[]),
+            Item::Negative(n) => (NEGATIVE, *n, &[]),
+            Item::Text(text) => with(Kind::String, text.as_bytes()),
+            Item::Bytes(bytes) => with(Kind::Bytes, bytes),
+            Item::List(count) => (Kind::List as u64, *count, &[]),
+            Item::Map(count) => (Kind::Map as u64, *count, &[]),
+            Item::Link(cid) => with(Kind::Link, cid.as_bytes()),
+        }
+    }
+
+    /// The item of a token of the block.
+    fn of(block: &'a [u8], token: &Token) -> Item<'a> {
+        let number = token.number;
+        let payload = || &block[token.place as usize..][..number as usize];
+        match KINDS.get(token.kind as usize) {
+            Some(Kind::Null) => Item::Null,
+            Some(Kind::Bool) => Item::Bool(number == 1),
+            Some(Kind::Integer) => Item::Integer(number),
+            Some(Kind::String) => Item::Text(str::from_utf8(payload()).unwrap_or_default()),
+            Some(Kind::Bytes) => Item::Bytes(payload()),
+            Some(Kind::List) => Item::List(number),
+            Some(Kind::Map) => Item::Map(number),
+            Some(Kind::Link) => Item::Link(Cid::held(payload())),
+            None => Item::Negative(number),
+        }
+    }
+}
+
 /// The items of a block, in its order.
 #[derive(Clone, Debug)]
 pub struct Items<'a, 't> {
-    pub(crate) block: &'a [u8],
+    block: &'a [u8],
     tokens: slice::Iter<'t, Token>,
 }
 
@@ -68,61 +101,11 @@ impl<'a, 't> Items<'a, 't> {
     }
 }
 
-/// An item, with its payload lent.
-#[derive(Clone, Copy)]
-pub(crate) enum Lent<'a> {
-    Null,
-    Bool(bool),
-    Integer(u64),
-    Negative(u64),
-    Text(&'a str),
-    Bytes(&'a [u8]),
-    List(u64),
-    Map(u64),
-    Link(&'a [u8]),
-}
-
-impl<'a> Lent<'a> {
-    /// The item of a token of the block.
-    #[inline]
-    pub(crate) fn of(block: &'a [u8], token: &Token) -> Lent<'a> {
-        let Token {
-            kind,
-            number,
-            place,
-        } = *token;
-        let payload = || &block[place as usize..][..number as usize];
-        match kind {
-            NULL => Lent::Null,
-            BOOL => Lent::Bool(number == 1),
-            INTEGER => Lent::Integer(number),
-            NEGATIVE => Lent::Negative(number),
-            // SAFETY: the token is one of the block, and its texts are UTF-8, which is proved.
-            TEXT => Lent::Text(unsafe { core::str::from_utf8_unchecked(payload()) }),
-            BYTES => Lent::Bytes(payload()),
-            LIST => Lent::List(number),
-            MAP => Lent::Map(number),
-            LINK => Lent::Link(payload()),
-            _ => unreachable!("the library tells no token of kind {kind}"),
-        }
-    }
-}
-
 impl<'a> Iterator for Items<'a, '_> {
     type Item = Item<'a>;
 
     fn next(&mut self) -> Option<Item<'a>> {
-        Some(match Lent::of(self.block, self.tokens.next()?) {
-            Lent::Null => Item::Null,
-            Lent::Bool(value) => Item::Bool(value),
-            Lent::Integer(n) => Item::Integer(n),
-            Lent::Negative(n) => Item::Negative(n),
-            Lent::Text(text) => Item::Text(text),
-            Lent::Bytes(bytes) => Item::Bytes(bytes),
-            Lent::List(count) => Item::List(count),
-            Lent::Map(count) => Item::Map(count),
-            Lent::Link(cid) => Item::Link(Cid::held(cid)),
-        })
+        self.tokens.next().map(|it| Item::of(self.block, it))
     }
 
     fn size_hint(&self) -> (usize, Option<usize>) {

@@ -36,6 +36,8 @@ mod car;
 mod cid;
 mod item;
 mod paths;
+#[cfg(feature = "std")]
+mod streams;
 
 #[cfg(feature = "serde")]
 mod de;
@@ -46,13 +48,11 @@ mod ipld;
 #[cfg(feature = "serde")]
 mod ser;
 
-pub use answer::{Kind, Refusal, Refused};
+pub use answer::{CarRefusal, CarRefused, Kind, Refusal, Refused};
 pub use calls::{check, links_into, name, spell_into, tape_into, MOST_OF_CID};
 #[cfg(feature = "alloc")]
 pub use calls::{links, spell, take_tape, tape, Links, Tape};
-pub use car::{verify, Car, CarRefusal, CarRefused, Section, Verdict};
-#[cfg(feature = "std")]
-pub use car::{CarError, CarReader, CarWriter, OwnedSection};
+pub use car::{verify, Car, Section, Verdict};
 pub use cid::Cid;
 #[cfg(all(feature = "serde", feature = "std"))]
 pub use de::from_reader;
@@ -70,3 +70,5 @@ pub use paths::{resolve, resolve_segments, Unresolved};
 pub use ser::to_vec;
 #[cfg(all(feature = "serde", feature = "std"))]
 pub use ser::to_writer;
+#[cfg(feature = "std")]
+pub use streams::{CarError, CarReader, CarWriter, OwnedSection};

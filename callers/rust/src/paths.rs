@@ -1,34 +1,54 @@
-use crate::calls::{check, part_at, put_followed};
-use crate::{Kind, Refused};
+use crate::calls::{answer_in, dagcbor_follow, part_at};
+use crate::{check, Kind, Refused};
 #[cfg(feature = "alloc")]
 use {
-    crate::{name, verify, Cid, Verdict},
+    crate::{links_into, name, verify, Cid, Verdict, MOST_OF_CID},
     alloc::vec::Vec,
     core::fmt,
 };
 
-/// The kind and the bytes of the last item to which a front of the path leads, and what is left of the
-/// path.
-fn follow<'b, 'p>(block: &'b [u8], path: &'p str) -> Result<(Kind, &'b [u8], &'p str), Refused> {
-    let mut places = [0; 3];
-    let kind = put_followed(block, path, &mut places)?;
-    let [begin, end, passed] = places;
-    Ok((kind, &block[begin..end], &path[passed..]))
+/// A path, or a list of segments, each taken whole.
+trait Path: Copy {
+    /// The kind and the bytes of the last item to which a front of it leads, and what is left of it.
+    fn follow(self, block: &[u8]) -> Result<(Kind, &[u8], Self), Refused>;
+
+    fn is_at_end(self) -> bool;
 }
 
-/// The same of segments, each taken whole.
-fn follow_segments<'b, 'p>(
-    block: &'b [u8],
-    segments: &'p [&'p str],
-) -> Result<(Kind, &'b [u8], &'p [&'p str]), Refused> {
-    let (mut kind, mut item, mut left) = (check(block)?, block, segments);
-    while let [segment, more @ ..] = left {
-        match part_at(item, segment)? {
-            Some((found, place)) => (kind, item, left) = (found, &item[place], more),
-            None => break,
-        }
+impl Path for &str {
+    fn follow(self, block: &[u8]) -> Result<(Kind, &[u8], Self), Refused> {
+        let mut places = [0; 3];
+        let code = dagcbor_follow(block, self.as_bytes(), &mut places);
+        let kind = answer_in(block, code)?;
+        let [begin, end, passed] = places;
+        Ok((kind, &block[begin..end], &self[passed..]))
     }
-    Ok((kind, item, left))
+
+    fn is_at_end(self) -> bool {
+        self.is_empty()
+    }
+}
+
+impl Path for &[&str] {
+    fn follow(self, block: &[u8]) -> Result<(Kind, &[u8], Self), Refused> {
+        let (mut kind, mut item, mut left) = (check(block)?, block, self);
+        while let [segment, more @ ..] = left {
+            match part_at(item, segment)? {
+                Some((found, place)) => (kind, item, left) = (found, &item[place], more),
+                None => break,
+            }
+        }
+        Ok((kind, item, left))
+    }
+
+    fn is_at_end(self) -> bool {
+        self.is_empty()
+    }
+}
+
+fn find_by(block: &[u8], path: impl Path) -> Result<Option<&[u8]>, Refused> {
+    let (_, item, left) = path.follow(block)?;
+    Ok(left.is_at_end().then_some(item))
 }
 
 /// The bytes of the item to which a path leads in a block, which are a block by themselves; none
@@ -44,8 +64,7 @@ fn follow_segments<'b, 'p>(
 /// # Ok::<(), dagcbor::Refused>(())
 /// ```
 pub fn find<'b>(block: &'b [u8], path: &str) -> Result<Option<&'b [u8]>, Refused> {
-    let (_, item, left) = follow(block, path)?;
-    Ok(left.is_empty().then_some(item))
+    find_by(block, path)
 }
 
 /// As [`find`], of a list of segments, each taken whole: it reaches keys that are empty or have
@@ -59,8 +78,7 @@ pub fn find<'b>(block: &'b [u8], path: &str) -> Result<Option<&'b [u8]>, Refused
 /// # Ok::<(), dagcbor::Refused>(())
 /// ```
 pub fn find_segments<'b>(block: &'b [u8], segments: &[&str]) -> Result<Option<&'b [u8]>, Refused> {
-    let (_, item, left) = follow_segments(block, segments)?;
-    Ok(left.is_empty().then_some(item))
+    find_by(block, segments)
 }
 
 /// Why a path over links came to no end.
@@ -114,7 +132,7 @@ pub fn resolve<B: AsRef<[u8]>, E>(
     root: &Cid,
     path: &str,
 ) -> Result<Option<Vec<u8>>, Unresolved<E>> {
-    resolve_path(get, root, Path::Text(path))
+    resolve_by(get, root, path)
 }
 
 /// As [`resolve`], of a list of segments, each taken whole.
@@ -124,80 +142,56 @@ pub fn resolve_segments<B: AsRef<[u8]>, E>(
     root: &Cid,
     segments: &[&str],
 ) -> Result<Option<Vec<u8>>, Unresolved<E>> {
-    resolve_path(get, root, Path::Segments(segments))
+    resolve_by(get, root, segments)
 }
 
 #[cfg(feature = "alloc")]
-#[derive(Clone, Copy)]
-enum Path<'p> {
-    Text(&'p str),
-    Segments(&'p [&'p str]),
-}
-
-/// The kind and the bytes of the last item to which a front leads, and what is left, if any is.
-#[cfg(feature = "alloc")]
-type Followed<'b, 'p> = (Kind, &'b [u8], Option<Path<'p>>);
-
-#[cfg(feature = "alloc")]
-impl<'p> Path<'p> {
-    fn follow(self, block: &[u8]) -> Result<Followed<'_, 'p>, Refused> {
-        Ok(match self {
-            Path::Text(text) => {
-                let (kind, item, left) = follow(block, text)?;
-                (kind, item, (!left.is_empty()).then_some(Path::Text(left)))
-            }
-            Path::Segments(segments) => {
-                let (kind, item, left) = follow_segments(block, segments)?;
-                (kind, item, (!left.is_empty()).then_some(Path::Segments(left)))
-            }
-        })
-    }
-}
-
-#[cfg(feature = "alloc")]
-fn resolve_path<B: AsRef<[u8]>, E>(
+fn resolve_by<B: AsRef<[u8]>, E>(
     mut get: impl FnMut(&Cid) -> Result<Option<B>, E>,
     root: &Cid,
-    path: Path<'_>,
+    path: impl Path,
 ) -> Result<Option<Vec<u8>>, Unresolved<E>> {
-    let (mut cid, mut left) = (*root, path);
+    let (mut cid, mut path) = (*root, path);
     loop {
         let held = match cid.hash_code() {
             IDENTITY => None,
-            _ => Some(get(&cid).map_err(Unresolved::Get)?.ok_or(Unresolved::Missing(cid))?),
+            _ => Some(
+                get(&cid)
+                    .map_err(Unresolved::Get)?
+                    .ok_or(Unresolved::Missing(cid))?,
+            ),
         };
         let block = held.as_ref().map_or(cid.digest(), AsRef::as_ref);
-        let (kind, item, more) = follow_in(&cid, block, left)?;
-        match more {
-            None => return Ok(Some(item.to_vec())),
-            Some(more) if kind == Kind::Link => (cid, left) = (link_of(item), more),
-            Some(_) => return Ok(None),
+        let no_block = |verdict| Unresolved::NoBlock(cid, verdict);
+        judge_under(&cid, block).map_err(no_block)?;
+        let followed = path.follow(block);
+        let (kind, item, left) = followed.map_err(|it| no_block(Verdict::Refused(it.refusal)))?;
+        match kind {
+            _ if left.is_at_end() => return Ok(Some(item.to_vec())),
+            Kind::Link => (cid, path) = (link_of(item), left),
+            _ => return Ok(None),
         }
     }
 }
 
-/// Follows the path in the block, where it is that of the name.
+/// Whether the bytes are those of the name, and of DAG-CBOR.
 #[cfg(feature = "alloc")]
-fn follow_in<'b, 'p, E>(
-    cid: &Cid,
-    block: &'b [u8],
-    path: Path<'p>,
-) -> Result<Followed<'b, 'p>, Unresolved<E>> {
-    if name(block) != *cid {
-        match verify(cid, block) {
-            Verdict::Ok(_) => {}
-            verdict => return Err(Unresolved::NoBlock(*cid, verdict)),
-        }
+fn judge_under(cid: &Cid, block: &[u8]) -> Result<(), Verdict> {
+    if name(block) == *cid {
+        return Ok(());
     }
-    path.follow(block).map_err(|it| Unresolved::NoBlock(*cid, Verdict::Refused(it.refusal)))
+    match verify(cid, block) {
+        Verdict::Ok(_) => Ok(()),
+        verdict => Err(verdict),
+    }
 }
 
 /// The CID of a link's bytes.
 #[cfg(feature = "alloc")]
 fn link_of(item: &[u8]) -> Cid {
-    let mut room = [0; 1 + crate::MOST_OF_CID];
-    match crate::links_into(item, &mut room).map(|mut it| it.next()) {
-        Ok(Some(cid)) => cid,
-        _ => unreachable!("it is a link"),
-    }
+    let mut room = [0; 1 + MOST_OF_CID];
+    let cids = links_into(item, &mut room);
+    cids.ok()
+        .and_then(|mut it| it.next())
+        .expect("a link has a CID")
 }

@@ -2,12 +2,15 @@
 
 use crate::de::CID_NAME;
 use crate::{check, Cid, Error, Refusal};
-use alloc::{string::String, vec::Vec};
-use core::{fmt, iter, ops::Range};
+use alloc::{string::String, string::ToString, vec::Vec};
+use core::{cmp::Ordering, fmt, ops::Range};
 use serde::ser::{self, Error as _, Serialize};
 
 /// So many lists and maps may be around a value.
 const MOST_LEVELS: usize = 127;
+
+/// More entries than these are sorted by the lengths of their keys first.
+const FEW_ENTRIES: usize = 20;
 
 /// The block of a value. Keys of maps come in the order of blocks, whatever the value's.
 ///
@@ -43,34 +46,93 @@ pub fn to_writer<T: Serialize + ?Sized>(
     Ok(writer.write_all(&to_vec(value)?)?)
 }
 
-// The major types of heads.
-const INTEGER: u8 = 0;
-const NEGATIVE: u8 = 1;
-const BYTES: u8 = 2;
-const TEXT: u8 = 3;
-const LIST: u8 = 4;
-const MAP: u8 = 5;
-const SIMPLE: u8 = 7;
+/// That of a type, a field or a variant.
+type Name = &'static str;
 
-/// The shortest head, and its length.
-fn head(major: u8, n: u64) -> ([u8; 9], usize) {
-    let (width, information) = match n {
-        0..=23 => (0, n as u8),
-        24..=0xff => (1, 24),
-        0x100..=0xffff => (2, 25),
-        0x1_0000..=0xffff_ffff => (4, 26),
-        _ => (8, 27),
-    };
-    let mut head = [0; 9];
-    head[0] = 32 * major + information;
-    head[1..].copy_from_slice(&(n << (8 * (8 - width.max(1)))).to_be_bytes());
-    (head, 1 + width)
+// The major types of heads, and arguments of the last one.
+pub(crate) const INTEGER: u8 = 0;
+pub(crate) const NEGATIVE: u8 = 1;
+pub(crate) const BYTES: u8 = 2;
+pub(crate) const TEXT: u8 = 3;
+pub(crate) const LIST: u8 = 4;
+pub(crate) const MAP: u8 = 5;
+pub(crate) const TAG: u8 = 6;
+const SIMPLE: u8 = 7;
+const FALSE: u64 = 20;
+pub(crate) const TRUE: u64 = 21;
+pub(crate) const NULL: u64 = 22;
+
+/// Puts the shortest head behind the bytes.
+#[inline(always)]
+fn put_head(out: &mut Vec<u8>, major: u8, n: u64) {
+    let first = |information| 32 * major + information;
+    match n {
+        0..=23 => out.push(first(n as u8)),
+        24..=0xff => out.extend_from_slice(&[first(24), n as u8]),
+        0x100..=0xffff => {
+            let [a, b] = (n as u16).to_be_bytes();
+            out.extend_from_slice(&[first(25), a, b]);
+        }
+        0x1_0000..=0xffff_ffff => {
+            out.push(first(26));
+            out.extend_from_slice(&(n as u32).to_be_bytes());
+        }
+        _ => {
+            out.push(first(27));
+            out.extend_from_slice(&n.to_be_bytes());
+        }
+    }
 }
 
-/// An entry of a map that is being written: where it and the text of its key stand.
+/// As above, not inlined: most texts are short.
+#[inline(never)]
+fn put_long_head(out: &mut Vec<u8>, major: u8, n: u64) {
+    put_head(out, major, n);
+}
+
+/// The number that up to eight bytes spell.
+#[inline]
+fn number_of(bytes: &[u8]) -> u64 {
+    match bytes.try_into() {
+        Ok(eight) => u64::from_be_bytes(eight),
+        Err(_) => bytes.iter().fold(0, |n, it| n << 8 | u64::from(*it)),
+    }
+}
+
+/// An entry of a map that is written: where its key stands, with its head, and where it ends.
 struct Entry {
-    place: Range<usize>,
+    front: u64, // of the key: eight bytes, zeros behind a shorter one
     key: Range<usize>,
+    end: usize,
+}
+
+impl Entry {
+    /// That of the key that ends the block.
+    #[inline]
+    fn of_last(block: &[u8], start: usize) -> Entry {
+        let end = block.len();
+        let from = end.min(start + 8).wrapping_sub(8);
+        let bytes = block.get(from..).and_then(|it| it.get(..8));
+        let front = bytes.map_or_else(|| number_of(&block[start..]), number_of);
+        let front = front << (64 - 8 * (end - start).min(8)); // without what is before a shorter key
+        let key = start..end;
+        Entry { front, key, end }
+    }
+
+    /// The order of keys in blocks: since their heads tell their lengths, that of their bytes.
+    #[inline]
+    fn order(&self, other: &Entry, block: &[u8]) -> Ordering {
+        let keys = || block[self.key.clone()].cmp(&block[other.key.clone()]);
+        self.front.cmp(&other.front).then_with(keys)
+    }
+}
+
+/// Whether each key comes behind the one before it.
+#[inline]
+fn are_in_order(entries: &[Entry], block: &[u8]) -> bool {
+    entries
+        .windows(2)
+        .all(|it| it[0].order(&it[1], block).is_lt())
 }
 
 /// What is written so far.
@@ -85,123 +147,117 @@ struct Writer {
 
 impl Writer {
     #[inline]
-    fn add(&mut self, major: u8, n: u64) -> Result<(), Error> {
-        if self.level > MOST_LEVELS {
-            return Err(Refusal::DepthOverflow.into());
-        }
-        if n <= 23 {
-            self.block.push(32 * major + n as u8);
-        } else {
-            self.add_long(major, n);
-        }
+    fn put(&mut self, major: u8, n: u64) -> Result<(), Error> {
+        put_head(&mut self.block, major, n);
         Ok(())
     }
 
-    #[inline(never)]
-    fn add_long(&mut self, major: u8, n: u64) {
-        let (head, count) = head(major, n);
-        self.block.extend_from_slice(&head); // of a length that is known
-        self.block.truncate(self.block.len() - head.len() + count);
-    }
-
-    fn add_payload(&mut self, major: u8, payload: &[u8]) -> Result<(), Error> {
-        self.add(major, payload.len() as u64)?;
+    #[inline]
+    fn put_payload(&mut self, major: u8, payload: &[u8]) -> Result<(), Error> {
+        match payload.len() {
+            n @ 0..=23 => self.block.push(32 * major + n as u8),
+            n => put_long_head(&mut self.block, major, n as u64),
+        }
         self.payload = self.block.len();
         self.block.extend_from_slice(payload);
         Ok(())
     }
 
-    fn text(&self, place: Range<usize>) -> String {
-        String::from_utf8_lossy(&self.block[place]).into_owned()
+    /// The last text that was put.
+    fn text(&self) -> String {
+        String::from_utf8_lossy(&self.block[self.payload..]).into_owned()
     }
 
-    fn add_natural(&mut self, n: u64) -> Result<(), Error> {
-        self.add(INTEGER, n)
-    }
-
-    fn add_signed(&mut self, n: i64) -> Result<(), Error> {
-        match u64::try_from(n) {
-            Ok(n) => self.add(INTEGER, n),
-            Err(_) => self.add(NEGATIVE, !n as u64),
-        }
-    }
-
-    fn add_integer(&mut self, n: i128) -> Result<(), Error> {
-        match (u64::try_from(n), u64::try_from(-1 - n)) {
-            (Ok(n), _) => self.add(INTEGER, n),
-            (_, Ok(n)) => self.add(NEGATIVE, n),
-            _ => Err(Error::custom("an integer is not in -2^64 .. 2^64 - 1")),
-        }
-    }
-
-    /// Adds the value, which is bytes or a text, as the link that it is.
-    fn add_link<T: Serialize + ?Sized>(&mut self, value: &T) -> Result<(), Error> {
+    /// Puts the value, which is bytes or a text, as the link that it is.
+    fn put_link<T: Serialize + ?Sized>(&mut self, value: &T) -> Result<(), Error> {
         let at = self.block.len();
         value.serialize(&mut *self)?;
-        match self.block[at] / 32 {
-            BYTES => {}
-            TEXT => {
-                let cid: Cid = self.text(self.payload..self.block.len()).parse()?;
-                self.block.truncate(at);
-                self.add_payload(BYTES, cid.as_bytes())?;
-            }
+        let cid = match self.block[at] / 32 {
+            BYTES => Cid::hold(&self.block[self.payload..]).ok_or(Refusal::Msg)?,
+            TEXT => self.text().parse()?,
             _ => return Err(Refusal::Msg.into()),
-        }
-        let (head, count) = head(BYTES, 1 + (self.block.len() - self.payload) as u64);
-        let front = [0xd8, 0x2a].into_iter().chain(head.into_iter().take(count));
-        self.block.splice(at..self.payload, front.chain(iter::once(0)));
+        };
+        self.block.truncate(at);
+        self.block.extend_from_slice(&[0xd8, 0x2a]);
+        self.put(BYTES, 1 + cid.as_bytes().len() as u64)?;
+        self.block.push(0);
+        self.block.extend_from_slice(cid.as_bytes());
         Ok(())
+    }
+
+    /// Whether a part may follow, in the lists and maps that are begun.
+    #[inline]
+    fn check_level(&self) -> Result<(), Error> {
+        if self.level > MOST_LEVELS {
+            return Err(Refusal::DepthOverflow.into());
+        }
+        Ok(())
+    }
+
+    /// Begins the map of a variant with data, by its name.
+    fn begin_variant(&mut self, name: Name) -> Result<(), Error> {
+        self.put(MAP, 1)?;
+        self.level += 1;
+        self.check_level()?;
+        self.put_payload(TEXT, name.as_bytes())
     }
 
     /// Begins a list or map, of so many parts where that is known, behind the name of the variant
     /// that it is of.
+    #[inline]
     fn begin(
         &mut self,
         major: u8,
         parts: Option<usize>,
-        variant: Option<&'static str>,
+        variant: Option<Name>,
     ) -> Result<Parts<'_>, Error> {
         if let Some(name) = variant {
             self.begin_variant(name)?;
         }
         let (head, told) = (self.block.len(), parts.unwrap_or(0));
-        self.add(major, told as u64)?;
+        self.put(major, told as u64)?;
         self.level += 1;
         Ok(Parts {
             head: head..self.block.len(),
-            first: self.entries.len(),
-            writer: self,
-            major,
             told,
             count: 0,
+            first: self.entries.len(),
             variant,
+            writer: self,
         })
     }
 
-    fn begin_variant(&mut self, name: &str) -> Result<(), Error> {
-        self.add(MAP, 1)?;
-        self.level += 1;
-        self.add_payload(TEXT, name.as_bytes())
-    }
-
-    /// Puts the last map's entries, which are those from there on, in the order of blocks.
+    /// Puts the last map's entries, which are those from there on, in the order of their keys.
+    #[inline(never)]
     fn sort(&mut self, first: usize) -> Result<(), Error> {
         let (entries, block) = (&mut self.entries[first..], &mut self.block);
-        let order = |it: &Entry| (it.key.len(), &block[it.key.clone()]);
-        if entries.windows(2).all(|it| order(&it[0]) < order(&it[1])) {
-            return Ok(());
+        let mut begin = block.len();
+        for it in entries.iter_mut().rev() {
+            it.end = begin;
+            begin = it.key.start;
         }
-        let begin = entries[0].place.start;
-        entries.sort_unstable_by(|one, other| order(one).cmp(&order(other)));
-        let is_twice = |it: &&[Entry]| order(&it[0]) == order(&it[1]);
-        if let Some(twice) = entries.windows(2).find(is_twice) {
-            let key = twice[1].key.clone();
-            return Err(Error::from(Refusal::UnorderedKey).within(self.text(key)));
+        let is_sorted = entries.len() > FEW_ENTRIES && {
+            entries.sort_by_key(|it| it.key.len()); // enough, where texts came in order
+            are_in_order(entries, block)
+        };
+        if !is_sorted {
+            entries.sort_unstable_by(|one, other| one.order(other, block));
+            let is_twice = |it: &&[Entry]| it[0].order(&it[1], block).is_eq();
+            if let Some(twice) = entries.windows(2).find(is_twice) {
+                let key = String::from_utf8_lossy(&block[twice[0].key.clone()]);
+                return Err(Error::from(Refusal::UnorderedKey).within(&key[1..]));
+            }
         }
         self.sorted.clear();
+        let mut run = begin..begin; // of entries that stay one behind the other
         for it in entries {
-            self.sorted.extend_from_slice(&block[it.place.clone()]);
+            if it.key.start != run.end {
+                self.sorted.extend_from_slice(&block[run]);
+                run = it.key.start..it.end;
+            }
+            run.end = it.end;
         }
+        self.sorted.extend_from_slice(&block[run]);
         block[begin..].copy_from_slice(&self.sorted);
         Ok(())
     }
@@ -211,73 +267,87 @@ impl Writer {
 struct Parts<'a> {
     writer: &'a mut Writer,
     head: Range<usize>,
-    major: u8,
-    told: usize,  // so many parts, in the head
-    first: usize, // of its entries
+    told: usize, // so many parts, in the head
     count: usize,
-    variant: Option<&'static str>,
+    first: usize, // of its entries
+    variant: Option<Name>,
 }
 
 impl Parts<'_> {
-    fn of_variant(&self, error: Error) -> Error {
+    /// Says where it is, in the data of the variant.
+    fn within_variant(&self, error: Error) -> Error {
         match self.variant {
             Some(name) => error.within(name),
             None => error,
         }
     }
 
-    fn add_item<T: Serialize + ?Sized>(&mut self, value: &T) -> Result<(), Error> {
-        let added = value.serialize(&mut *self.writer);
-        added.map_err(|it| self.of_variant(it.within(self.count)))?;
+    #[inline]
+    fn put_item<T: Serialize + ?Sized>(&mut self, value: &T) -> Result<(), Error> {
+        let level = self.writer.check_level();
+        let put = level.and_then(|()| value.serialize(&mut *self.writer));
+        put.map_err(|it| self.within_variant(it.within(self.count)))?;
         self.count += 1;
         Ok(())
     }
 
-    fn add_key<T: Serialize + ?Sized>(&mut self, key: &T) -> Result<(), Error> {
-        let at = self.writer.block.len();
-        let added = key.serialize(&mut *self.writer);
-        added.map_err(|it| self.of_variant(it))?;
-        if self.writer.block[at] / 32 != TEXT {
-            return Err(self.of_variant(Error::custom("Map keys must be strings")));
+    #[inline(always)]
+    fn put_key<T: Serialize + ?Sized>(&mut self, key: &T) -> Result<(), Error> {
+        let start = self.writer.block.len();
+        let level = self.writer.check_level();
+        let put = level.and_then(|()| key.serialize(&mut *self.writer));
+        put.map_err(|it| self.within_variant(it))?;
+        if self.writer.block[start] / 32 != TEXT {
+            return Err(self.within_variant(Error::custom("Map keys must be strings")));
         }
-        let end = self.writer.block.len();
-        self.writer.entries.push(Entry {
-            place: at..end,
-            key: self.writer.payload..end,
-        });
+        let entry = Entry::of_last(&self.writer.block, start);
+        self.writer.entries.push(entry);
         self.count += 1;
         Ok(())
     }
 
-    fn add_value<T: Serialize + ?Sized>(&mut self, value: &T) -> Result<(), Error> {
-        let added = value.serialize(&mut *self.writer);
-        let last = self.first + self.count - 1;
-        let key = &self.writer.entries[last].key;
-        added.map_err(|it| self.of_variant(it.within(self.writer.text(key.clone()))))?;
-        self.writer.entries[last].place.end = self.writer.block.len();
-        Ok(())
+    #[inline(always)]
+    fn put_value<T: Serialize + ?Sized>(&mut self, value: &T) -> Result<(), Error> {
+        let key = self.writer.payload..self.writer.block.len();
+        value.serialize(&mut *self.writer).map_err(|it| {
+            let key = String::from_utf8_lossy(&self.writer.block[key]);
+            self.within_variant(it.within(key))
+        })
     }
 
     fn finish(self) -> Result<(), Error> {
         self.writer.level -= 1 + usize::from(self.variant.is_some());
-        let sorted = self.writer.sort(self.first);
+        if !are_in_order(&self.writer.entries[self.first..], &self.writer.block) {
+            let sorted = self.writer.sort(self.first);
+            sorted.map_err(|it| self.within_variant(it))?;
+        }
         self.writer.entries.truncate(self.first);
         if self.told != self.count {
-            let (head, count) = head(self.major, self.count as u64);
-            let front = head.into_iter().take(count);
-            self.writer.block.splice(self.head.clone(), front);
+            let (mut head, major) = (Vec::new(), self.writer.block[self.head.start] / 32);
+            put_head(&mut head, major, self.count as u64);
+            self.writer.block.splice(self.head, head);
         }
-        sorted.map_err(|it| self.of_variant(it))
+        Ok(())
     }
 }
 
-/// The methods that write an integer.
-macro_rules! integers {
-    ($($add:ident $wide:ty: $($method:ident $type:ty),*;)*) => {$($(
-        fn $method(self, n: $type) -> Result<(), Error> {
-            self.$add(<$wide>::from(n))
+/// The methods that write a value by its head, or by a method of another.
+macro_rules! values {
+    ($($method:ident($($name:ident: $type:ty),*) $self:ident => $put:expr;)*) => {$(
+        #[inline]
+        fn $method($self, $($name: $type),*) -> Result<(), Error> {
+            $put
         }
-    )*)*};
+    )*};
+}
+
+/// The methods that begin a list or a map.
+macro_rules! begins {
+    ($($method:ident($($name:ident: $type:ty),*) => $major:ident, $count:expr, $variant:expr;)*) => {$(
+        fn $method(self, $($name: $type),*) -> Result<Parts<'a>, Error> {
+            self.begin($major, $count, $variant)
+        }
+    )*};
 }
 
 impl<'a> ser::Serializer for &'a mut Writer {
@@ -291,137 +361,84 @@ impl<'a> ser::Serializer for &'a mut Writer {
     type SerializeStruct = Parts<'a>;
     type SerializeStructVariant = Parts<'a>;
 
-    integers! {
-        add_natural u64:
-            serialize_u8 u8, serialize_u16 u16, serialize_u32 u32, serialize_u64 u64;
-        add_signed i64:
-            serialize_i8 i8, serialize_i16 i16, serialize_i32 i32, serialize_i64 i64;
-        add_integer i128: serialize_i128 i128;
+    values! {
+        serialize_bool(value: bool) self => self.put(SIMPLE, FALSE + u64::from(value));
+        serialize_u8(n: u8) self => self.put(INTEGER, n.into());
+        serialize_u16(n: u16) self => self.put(INTEGER, n.into());
+        serialize_u32(n: u32) self => self.put(INTEGER, n.into());
+        serialize_u64(n: u64) self => self.put(INTEGER, n);
+        serialize_u128(n: u128) self => self.serialize_i128(n.try_into().unwrap_or(i128::MAX));
+        serialize_i8(n: i8) self => self.serialize_i64(n.into());
+        serialize_i16(n: i16) self => self.serialize_i64(n.into());
+        serialize_i32(n: i32) self => self.serialize_i64(n.into());
+        serialize_f32(_n: f32) self => Err(Error::custom("floats are not written"));
+        serialize_f64(_n: f64) self => Err(Error::custom("floats are not written"));
+        serialize_char(value: char) self => self.serialize_str(value.encode_utf8(&mut [0; 4]));
+        serialize_str(text: &str) self => self.put_payload(TEXT, text.as_bytes());
+        serialize_bytes(bytes: &[u8]) self => self.put_payload(BYTES, bytes);
+        serialize_none() self => self.put(SIMPLE, NULL);
+        serialize_unit() self => self.put(SIMPLE, NULL);
+        serialize_unit_struct(_name: Name) self => self.put(SIMPLE, NULL);
+        serialize_unit_variant(_name: Name, _at: u32, name: Name) self => self.serialize_str(name);
     }
 
-    fn serialize_u128(self, n: u128) -> Result<(), Error> {
-        self.add_integer(i128::try_from(n).unwrap_or(i128::MAX))
+    begins! {
+        serialize_seq(count: Option<usize>) => LIST, count, None;
+        serialize_tuple(count: usize) => LIST, Some(count), None;
+        serialize_tuple_struct(_name: Name, count: usize) => LIST, Some(count), None;
+        serialize_tuple_variant(_name: Name, _at: u32, variant: Name, count: usize)
+            => LIST, Some(count), Some(variant);
+        serialize_map(count: Option<usize>) => MAP, count, None;
+        serialize_struct(_name: Name, count: usize) => MAP, Some(count), None;
+        serialize_struct_variant(_name: Name, _at: u32, variant: Name, count: usize)
+            => MAP, Some(count), Some(variant);
     }
 
-    fn serialize_bool(self, value: bool) -> Result<(), Error> {
-        self.add(SIMPLE, 20 + u64::from(value))
+    fn serialize_i64(self, n: i64) -> Result<(), Error> {
+        match u64::try_from(n) {
+            Ok(n) => self.put(INTEGER, n),
+            Err(_) => self.put(NEGATIVE, !n as u64),
+        }
     }
 
-    fn serialize_f32(self, _: f32) -> Result<(), Error> {
-        Err(Error::custom("floats are not written"))
-    }
-
-    fn serialize_f64(self, _: f64) -> Result<(), Error> {
-        Err(Error::custom("floats are not written"))
-    }
-
-    fn serialize_char(self, value: char) -> Result<(), Error> {
-        self.serialize_str(value.encode_utf8(&mut [0; 4]))
-    }
-
-    fn serialize_str(self, text: &str) -> Result<(), Error> {
-        self.add_payload(TEXT, text.as_bytes())
-    }
-
-    fn serialize_bytes(self, bytes: &[u8]) -> Result<(), Error> {
-        self.add_payload(BYTES, bytes)
-    }
-
-    fn serialize_none(self) -> Result<(), Error> {
-        self.add(SIMPLE, 22)
+    fn serialize_i128(self, n: i128) -> Result<(), Error> {
+        match (u64::try_from(n), u64::try_from(!n)) {
+            (Ok(n), _) => self.put(INTEGER, n),
+            (_, Ok(n)) => self.put(NEGATIVE, n),
+            _ => Err(Error::custom("an integer is not in -2^64 .. 2^64 - 1")),
+        }
     }
 
     fn serialize_some<T: Serialize + ?Sized>(self, value: &T) -> Result<(), Error> {
         value.serialize(self)
     }
 
-    fn serialize_unit(self) -> Result<(), Error> {
-        self.add(SIMPLE, 22)
-    }
-
-    fn serialize_unit_struct(self, _: &'static str) -> Result<(), Error> {
-        self.add(SIMPLE, 22)
-    }
-
-    fn serialize_unit_variant(
-        self,
-        _: &'static str,
-        _: u32,
-        variant: &'static str,
-    ) -> Result<(), Error> {
-        self.serialize_str(variant)
-    }
-
     fn serialize_newtype_struct<T: Serialize + ?Sized>(
         self,
-        name: &'static str,
+        name: Name,
         value: &T,
     ) -> Result<(), Error> {
-        if name == CID_NAME {
-            return self.add_link(value);
+        match name {
+            CID_NAME => self.put_link(value),
+            _ => value.serialize(self),
         }
-        value.serialize(self)
     }
 
     fn serialize_newtype_variant<T: Serialize + ?Sized>(
         self,
-        _: &'static str,
+        _: Name,
         _: u32,
-        variant: &'static str,
+        variant: Name,
         value: &T,
     ) -> Result<(), Error> {
         self.begin_variant(variant)?;
-        let added = value.serialize(&mut *self);
+        let put = value.serialize(&mut *self);
         self.level -= 1;
-        added.map_err(|it| it.within(variant))
-    }
-
-    fn serialize_seq(self, count: Option<usize>) -> Result<Parts<'a>, Error> {
-        self.begin(LIST, count, None)
-    }
-
-    fn serialize_tuple(self, count: usize) -> Result<Parts<'a>, Error> {
-        self.begin(LIST, Some(count), None)
-    }
-
-    fn serialize_tuple_struct(
-        self,
-        _: &'static str,
-        count: usize,
-    ) -> Result<Parts<'a>, Error> {
-        self.begin(LIST, Some(count), None)
-    }
-
-    fn serialize_tuple_variant(
-        self,
-        _: &'static str,
-        _: u32,
-        variant: &'static str,
-        count: usize,
-    ) -> Result<Parts<'a>, Error> {
-        self.begin(LIST, Some(count), Some(variant))
-    }
-
-    fn serialize_map(self, count: Option<usize>) -> Result<Parts<'a>, Error> {
-        self.begin(MAP, count, None)
-    }
-
-    fn serialize_struct(self, _: &'static str, count: usize) -> Result<Parts<'a>, Error> {
-        self.begin(MAP, Some(count), None)
-    }
-
-    fn serialize_struct_variant(
-        self,
-        _: &'static str,
-        _: u32,
-        variant: &'static str,
-        count: usize,
-    ) -> Result<Parts<'a>, Error> {
-        self.begin(MAP, Some(count), Some(variant))
+        put.map_err(|it| it.within(variant))
     }
 
     fn collect_str<T: fmt::Display + ?Sized>(self, value: &T) -> Result<(), Error> {
-        self.serialize_str(&alloc::string::ToString::to_string(value))
+        self.serialize_str(&value.to_string())
     }
 
     fn is_human_readable(&self) -> bool {
@@ -429,55 +446,35 @@ impl<'a> ser::Serializer for &'a mut Writer {
     }
 }
 
-/// What a list or a map is, by the trait that says how its parts come.
+/// What a list or a map is, by each trait that says how its parts come.
 macro_rules! of_parts {
-    ($($kind:ident $method:ident $($part:ident: $type:ty)?;)*) => {$(
+    ($($kind:ident $($method:ident($($key:ident: $type:ty)?) => $put:ident),*;)*) => {$(
         impl ser::$kind for Parts<'_> {
             type Ok = ();
             type Error = Error;
 
-            of_parts!(@ $method $($part: $type)?);
+            $(fn $method<T: Serialize + ?Sized>(
+                &mut self,
+                $($key: $type,)?
+                value: &T,
+            ) -> Result<(), Error> {
+                $(self.put_key($key)?;)?
+                self.$put(value)
+            })*
 
             fn end(self) -> Result<(), Error> {
                 self.finish()
             }
         }
     )*};
-    (@ $method:ident) => {
-        fn $method<T: Serialize + ?Sized>(&mut self, value: &T) -> Result<(), Error> {
-            self.add_item(value)
-        }
-    };
-    (@ $method:ident $part:ident: $type:ty) => {
-        fn $method<T: Serialize + ?Sized>(&mut self, $part: $type, value: &T) -> Result<(), Error> {
-            self.add_key($part)?;
-            self.add_value(value)
-        }
-    };
 }
 
 of_parts! {
-    SerializeSeq serialize_element;
-    SerializeTuple serialize_element;
-    SerializeTupleStruct serialize_field;
-    SerializeTupleVariant serialize_field;
-    SerializeStruct serialize_field key: &'static str;
-    SerializeStructVariant serialize_field key: &'static str;
-}
-
-impl ser::SerializeMap for Parts<'_> {
-    type Ok = ();
-    type Error = Error;
-
-    fn serialize_key<T: Serialize + ?Sized>(&mut self, key: &T) -> Result<(), Error> {
-        self.add_key(key)
-    }
-
-    fn serialize_value<T: Serialize + ?Sized>(&mut self, value: &T) -> Result<(), Error> {
-        self.add_value(value)
-    }
-
-    fn end(self) -> Result<(), Error> {
-        self.finish()
-    }
+    SerializeSeq serialize_element() => put_item;
+    SerializeTuple serialize_element() => put_item;
+    SerializeTupleStruct serialize_field() => put_item;
+    SerializeTupleVariant serialize_field() => put_item;
+    SerializeStruct serialize_field(key: Name) => put_value;
+    SerializeStructVariant serialize_field(key: Name) => put_value;
+    SerializeMap serialize_key() => put_key, serialize_value() => put_value;
 }

@@ -119,6 +119,28 @@ fn keys_come_in_the_order_of_blocks() {
     assert_eq!(lent, map);
 }
 
+/// The library refuses a block whose keys are in another order.
+#[test]
+fn many_keys_of_all_lengths() {
+    let mut seed = 1u64;
+    let mut below = |n: u64| {
+        seed = seed.wrapping_mul(6364136223846793005).wrapping_add(1);
+        (seed >> 33) % n
+    };
+    for count in (0..60).chain([300, 5000]) {
+        let mut map = HashMap::new();
+        for _ in 0..count {
+            let length = [0, 1, 5, 6, 7, 8, 9, 22, 23, 24, 25, 255, 256][below(13) as usize];
+            let text: String = (0..length).map(|_| ['a', 'b'][below(2) as usize]).collect();
+            map.insert(text, BTreeMap::from([("aa", count), ("b", below(300))]));
+        }
+        let lent: HashMap<String, BTreeMap<&str, u64>> = map;
+        let block = to_vec(&lent).unwrap();
+        assert_eq!(to_vec(&lent.iter().collect::<BTreeMap<_, _>>()).unwrap(), block);
+        assert_eq!(from_slice::<HashMap<String, BTreeMap<&str, u64>>>(&block).unwrap(), lent);
+    }
+}
+
 #[test]
 fn what_the_block_lends() {
     #[derive(Debug, PartialEq, Deserialize)]

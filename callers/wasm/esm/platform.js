@@ -4,11 +4,8 @@ import { lengthOf, view } from './bytes.js';
 const [fromUtf8, fromPlain] = ['utf-8', 'latin1'].map((it) =>
   new TextDecoder(it, { ignoreBOM: true }));
 
-export const memory = (size) => new Uint8Array(size);
-
 // Nothing holds others back from transferring memory: so no two blocks share any.
-export const SHARED = 0;
-export const newPool = memory;
+export const newPool = () => new Uint8Array();
 
 const sizeOf = Object.getOwnPropertyDescriptor(Map.prototype, 'size').get;
 

@@ -4,7 +4,7 @@ use Rattle.ipld_tree.specs.Cid.{CidParts}
 use Rattle.ipld_links.specs.Reaching.{Stored}
 use Rattle.atproto_mst.specs.Keys.{Entry}
 use Rattle.atproto_mst.specs.Nodes.{NodeRow, NodeParts, IsNodeAt, key_of}
-use Rattle.atproto_mst.specs.Walks.{WalksLink, WalksRows, WalksNode, Walks}
+use Rattle.atproto_mst.specs.Walks.{WalksLink, WalksRows, WalksNode, WalksTree}
 use Rattle.atproto_mst.proofs.Nodes.{same_node_at}
 
 -- two listings of one tree are the same, or something else holds
@@ -34,19 +34,19 @@ node_agrees C V W same p es fs (vb, vm, vl, vr, ve) (wb, wm, wl, wr, we) =
     inl (ve ∙ ap₂ (λ below behind. below ++ behind) first more ∙ sym we)))
 
 pub walks_agree : (C : Type 0) (stored others : Stored) → ((name : CidParts) (p q : NodeParts) → IsNodeAt stored name p → IsNodeAt others name q → (p ≡ q) ⊎ C)
-    → (m n : ℕ) (name : CidParts) (es fs : List Entry) → Walks m stored name es → Walks n others name fs → (es ≡ fs) ⊎ C
+    → (m n : ℕ) (name : CidParts) (es fs : List Entry) → WalksTree m stored name es → WalksTree n others name fs → (es ≡ fs) ⊎ C
 walks_agree C stored others agree zero n name es fs v w = absurd v
 walks_agree C stored others agree (suc m) zero name es fs v w = absurd w
 walks_agree C stored others agree (suc m) (suc n) name es fs (p, vp, v) (q, wq, w) =
     both (agree name p q vp wq) (λ same.
-    node_agrees C (Walks m stored) (Walks n others) (walks_agree C stored others agree m n) p es fs v (subst (λ x. WalksNode (Walks n others) x fs) (sym same) w))
+    node_agrees C (WalksTree m stored) (WalksTree n others) (walks_agree C stored others agree m n) p es fs v (subst (λ x. WalksNode (WalksTree n others) x fs) (sym same) w))
 
 -- the nodes of one store agree
 pub one_store : (C : Type 0) (stored : Stored) (name : CidParts) (p q : NodeParts) → IsNodeAt stored name p → IsNodeAt stored name q → (p ≡ q) ⊎ C
 one_store C stored name p q h k = inl (same_node_at stored name p q h k)
 
 -- a walk has one listing
-pub one_walk : (stored : Stored) (m n : ℕ) (name : CidParts) (es fs : List Entry) → Walks m stored name es → Walks n stored name fs → es ≡ fs
+pub one_walk : (stored : Stored) (m n : ℕ) (name : CidParts) (es fs : List Entry) → WalksTree m stored name es → WalksTree n stored name fs → es ≡ fs
 one_walk stored m n name es fs v w = elim (walks_agree ⊥ stored stored (one_store ⊥ stored) m n name es fs v w) [
   | inl same ↦ same
   | inr x ↦ absurd x

@@ -1,26 +1,19 @@
 -- A root binds the entries of its tree, and what is found of a key.
-use Rattle.std.proofs.Common.{◌≡◌, ◌⊎◌, inl, inr, ℕ, List, Bool, true, false, refl, sym, ap, ◌∙◌, subst}
-use Rattle.std.proofs.lemmas.Slice.Eq.{bytes_eq-Decides}
-use Rattle.std.specs.Str.{bytes_eq}
+use Rattle.std.proofs.Common.{◌≡◌, ◌⊎◌, inl, inr, ℕ, List, refl, sym, ap, ◌∙◌, subst}
 use Rattle.sha2.specs.Sha256.{sha256}
 use Rattle.ipld_links.specs.Names.{block_name}
 use Rattle.ipld_links.specs.Reaching.{Stored}
 use Rattle.atproto_mst.specs.Nodes.{IsNode}
 use Rattle.atproto_mst.specs.Walks.{most_layers}
 use Rattle.atproto_mst.specs.Finding.{lookup}
-use Rattle.atproto_mst.specs.Laws.{Collides, RootBinds, RecordsBind}
+use Rattle.atproto_mst.specs.Laws.{RootBinds, RecordsBind}
+use Rattle.ipld_links.specs.Collisions.{Collides}
+use Rattle.ipld_links.proofs.Colliding.{of_one_hash}
 use Rattle.atproto_mst.proofs.Nodes.{same_node}
 use Rattle.atproto_mst.proofs.Agreeing.{walks_agree}
 use Rattle.atproto_mst.proofs.Canonical.{mst_walked}
 use Rattle.atproto_mst.proofs.Seeking.{finds_walked}
 use Rattle.atproto_mst.proofs.Searching.{NodesAgree, finds_agree}
-
-of_one_hash : (x y : List ℕ) → sha256 x ≡ sha256 y → (x ≡ y) ⊎ Collides
-of_one_hash x y e = by (bytes_eq x y) refl
-  where
-    by : (t : Bool) → bytes_eq x y ≡ t → (x ≡ y) ⊎ Collides
-    by true is = inl ((bytes_eq-Decides x y).0 is)
-    by false is = inr (x, y, (λ same. (let yes = (bytes_eq-Decides x y).1 same in cc)), e)
 
 one_digest : (x y : List ℕ) → block_name x ≡ block_name y → sha256 x ≡ sha256 y
 one_digest x y e = ap (λ q. q.digest) e

@@ -13,7 +13,7 @@ use Rattle.dagcbor_car.specs.Car.{Section}
 use Rattle.atproto_mst.specs.Trees.{Leaf, lower_run, row_tree, entry_tree, entry_trees, map_of, node_section, subtree, node, subtree_nodes, nodes, nodes_between}
 use Rattle.atproto_mst.specs.Nodes.{tree_of_row, row_told}
 use Rattle.atproto_mst.specs.Placed.{told, all_told, upper_rest}
-use Rattle.atproto_mst.specs.Sinks.{Takes, TakesFirst, RefusesOne}
+use Rattle.atproto_mst.specs.Sinks.{HandsOver, HandsOverFirst, RefusesOne}
 use Rattle.atproto_mst.specs.declared.error.MstError.{MstError}
 use Rattle.atproto_mst.specs.declared.leaves.Placed.{Placed}
 use Rattle.repository_types.specs.declared.repository.Entry.{Entry as Row}
@@ -57,8 +57,8 @@ no_nodes_of_empty (suc n) = refl
 pub no_nodes_over_none : (n : ℕ) (ps : List Placed) (b : Bool) → b ≡ true → b ≡ (length ps == 0) → subtree_nodes n (all_told ps) ≡ []
 no_nodes_over_none n ps b h e = subst (λ es. subtree_nodes n es ≡ []) (sym (told_empty ps b h e)) (no_nodes_of_empty n)
 
-pub takes_no_nodes : {S W : Type 0} (holds : S → W → List Section → Type 0) (s : S) (more : List Section) → more ≡ [] → Takes holds s more s
-takes_no_nodes holds s more e = subst (λ xs. Takes holds s xs s) (sym e) (takes_none holds s)
+pub takes_no_nodes : {S W : Type 0} (holds : S → W → List Section → Type 0) (s : S) (more : List Section) → more ≡ [] → HandsOver holds s more s
+takes_no_nodes holds s more e = subst (λ xs. HandsOver holds s xs s) (sym e) (takes_none holds s)
 
 some_below : (m : ℕ) (ps : List Placed) (b : Bool) → b ≡ false → b ≡ (length ps == 0) → Some (block_name (spelling (node m (all_told ps)))) ≡ subtree (suc m) (all_told ps)
 unfolding subtree node
@@ -103,41 +103,41 @@ left_refused holds refuses old n es lower e l h =
     (takes_none holds old) (nodes_are n es lower (upper_rest n es) (node n es) l refl refl) h
 
 pub left_begun : {S W : Type 0} (holds : S → W → List Section → Type 0) (old new : S) (n : ℕ) (es lower : List Leaf) → lower ≡ lower_run n es
-    → TakesFirst holds old (subtree_nodes n lower) new → TakesFirst holds old (nodes n es) new
+    → HandsOverFirst holds old (subtree_nodes n lower) new → HandsOverFirst holds old (nodes n es) new
 left_begun holds old new n es lower l h =
     first_within holds old old new [] (subtree_nodes n lower) (nodes_between (subtree_nodes n) n (upper_rest n es) ++ (node_section (node n es) ∷ [])) (nodes n es)
     (takes_none holds old) (nodes_are n es lower (upper_rest n es) (node n es) l refl refl) h
 
 pub rows_begun : {S W : Type 0} (holds : S → W → List Section → Type 0) (old mid new : S) (n : ℕ) (es lower rest : List Leaf) → lower ≡ lower_run n es → rest ≡ upper_rest n es
-    → Takes holds old (subtree_nodes n lower) mid → TakesFirst holds mid (nodes_between (subtree_nodes n) n rest) new → TakesFirst holds old (nodes n es) new
+    → HandsOver holds old (subtree_nodes n lower) mid → HandsOverFirst holds mid (nodes_between (subtree_nodes n) n rest) new → HandsOverFirst holds old (nodes n es) new
 rows_begun holds old mid new n es lower rest l r k h =
     first_within holds old mid new (subtree_nodes n lower) (nodes_between (subtree_nodes n) n rest) (node_section (node n es) ∷ []) (nodes n es)
     k (nodes_are n es lower rest (node n es) l r refl) h
 
 pub last_begun : {S W : Type 0} (holds : S → W → List Section → Type 0) (old mid late new : S) (n : ℕ) (es lower rest : List Leaf) (t : Tree) → lower ≡ lower_run n es → rest ≡ upper_rest n es → t ≡ node n es
-    → Takes holds old (subtree_nodes n lower) mid → Takes holds mid (nodes_between (subtree_nodes n) n rest) late → TakesFirst holds late (node_section t ∷ []) new → TakesFirst holds old (nodes n es) new
+    → HandsOver holds old (subtree_nodes n lower) mid → HandsOver holds mid (nodes_between (subtree_nodes n) n rest) late → HandsOverFirst holds late (node_section t ∷ []) new → HandsOverFirst holds old (nodes n es) new
 last_begun holds old mid late new n es lower rest t l r s k m h =
     first_within holds old late new (subtree_nodes n lower ++ nodes_between (subtree_nodes n) n rest) (node_section t ∷ []) [] (nodes n es)
     (takes_then holds old mid late (subtree_nodes n lower) (nodes_between (subtree_nodes n) n rest) k m)
     (append_assoc (subtree_nodes n lower) (nodes_between (subtree_nodes n) n rest) (node_section t ∷ []) ∙ nodes_are n es lower rest t l r s) h
 
 pub rows_refused : {S W : Type 0} (holds : S → W → List Section → Type 0) (refuses : W → Section → MstError → Type 0) (old mid : S) (n : ℕ) (es lower rest : List Leaf) (e : MstError) → lower ≡ lower_run n es → rest ≡ upper_rest n es
-    → Takes holds old (subtree_nodes n lower) mid → RefusesOne holds refuses mid (nodes_between (subtree_nodes n) n rest) e → RefusesOne holds refuses old (nodes n es) e
+    → HandsOver holds old (subtree_nodes n lower) mid → RefusesOne holds refuses mid (nodes_between (subtree_nodes n) n rest) e → RefusesOne holds refuses old (nodes n es) e
 rows_refused holds refuses old mid n es lower rest e l r k h =
     refuses_within holds refuses old mid (subtree_nodes n lower) (nodes_between (subtree_nodes n) n rest) (node_section (node n es) ∷ []) (nodes n es) e
     k (nodes_are n es lower rest (node n es) l r refl) h
 
 pub last_refused : {S W : Type 0} (holds : S → W → List Section → Type 0) (refuses : W → Section → MstError → Type 0) (old mid late : S) (n : ℕ) (es lower rest : List Leaf) (t : Tree) (e : MstError) → lower ≡ lower_run n es → rest ≡ upper_rest n es → t ≡ node n es
-    → Takes holds old (subtree_nodes n lower) mid → Takes holds mid (nodes_between (subtree_nodes n) n rest) late → RefusesOne holds refuses late (node_section t ∷ []) e → RefusesOne holds refuses old (nodes n es) e
+    → HandsOver holds old (subtree_nodes n lower) mid → HandsOver holds mid (nodes_between (subtree_nodes n) n rest) late → RefusesOne holds refuses late (node_section t ∷ []) e → RefusesOne holds refuses old (nodes n es) e
 last_refused holds refuses old mid late n es lower rest t e l r s k m h =
     refuses_within holds refuses old late (subtree_nodes n lower ++ nodes_between (subtree_nodes n) n rest) (node_section t ∷ []) [] (nodes n es) e
     (takes_then holds old mid late (subtree_nodes n lower) (nodes_between (subtree_nodes n) n rest) k m)
     (append_assoc (subtree_nodes n lower) (nodes_between (subtree_nodes n) n rest) (node_section t ∷ []) ∙ nodes_are n es lower rest t l r s) h
 
 pub node_taken : {S W : Type 0} (holds : S → W → List Section → Type 0) (old mid late new : S) (n : ℕ) (es lower rest : List Leaf) (t : Tree) → lower ≡ lower_run n es → rest ≡ upper_rest n es → t ≡ node n es
-    → Takes holds old (subtree_nodes n lower) mid → Takes holds mid (nodes_between (subtree_nodes n) n rest) late → Takes holds late (node_section t ∷ []) new → Takes holds old (nodes n es) new
+    → HandsOver holds old (subtree_nodes n lower) mid → HandsOver holds mid (nodes_between (subtree_nodes n) n rest) late → HandsOver holds late (node_section t ∷ []) new → HandsOver holds old (nodes n es) new
 node_taken holds old mid late new n es lower rest t l r s k m h =
-    subst (λ xs. Takes holds old xs new) (nodes_are n es lower rest t l r s)
+    subst (λ xs. HandsOver holds old xs new) (nodes_are n es lower rest t l r s)
     (takes_then holds old mid new (subtree_nodes n lower) (nodes_between (subtree_nodes n) n rest ++ (node_section t ∷ [])) k
     (takes_then holds mid late new (nodes_between (subtree_nodes n) n rest) (node_section t ∷ []) m h))
 

@@ -12,7 +12,7 @@ use Rattle.atproto_mst.specs.Trees.{Leaf, leaves, lower_run, node_section, nodes
 use Rattle.atproto_mst.specs.Placed.{upper_rest}
 use Rattle.atproto_mst.specs.Entries.{AreStored, IsMst}
 use Rattle.atproto_mst.specs.Nodes.{NodeRow, key_of}
-use Rattle.atproto_mst.specs.Walks.{WalksLink, WalksRows, Walks, most_layers}
+use Rattle.atproto_mst.specs.Walks.{WalksLink, WalksRows, WalksTree, most_layers}
 use Rattle.atproto_mst.proofs.Parts.{row_at, rows_over, parts_over, shared_within_first, key_again, IsLeaf, node_is_node}
 use Rattle.atproto_mst.proofs.Layers.{top_within}
 
@@ -109,8 +109,8 @@ rows_walked W stored n f previous (e ∷ es) l s =
     let more = next_leaves e es l in
     rows_by W stored n previous e es (nat_lt e.layer n) (rows_walked W stored n f previous es more) (f (lower_run n es) (lower_below n es) (lower_are_leaves n es more)) (rows_walked W stored n f e.key es more) s
 
-node_walked : (stored : Stored) (m n : ℕ) → WalksBelow stored n (Walks m stored) → (es : List Leaf) → AreLeaves es → AreStored stored (nodes n es)
-    → Walks (suc m) stored (block_name (spelling (node n es))) (entries_under es)
+node_walked : (stored : Stored) (m n : ℕ) → WalksBelow stored n (WalksTree m stored) → (es : List Leaf) → AreLeaves es → AreStored stored (nodes n es)
+    → WalksTree (suc m) stored (block_name (spelling (node n es))) (entries_under es)
 unfolding nodes
 node_walked stored m n f es l h =
     let s = stored_apart stored (subtree_nodes n (lower_run n es)) (nodes_between (subtree_nodes n) n es ++ (node_section (node n es) ∷ [])) h in
@@ -121,12 +121,12 @@ node_walked stored m n f es l h =
         entries_under (lower_run n es),
         entries_under (upper_rest n es),
         f (lower_run n es) (lower_below n es) (lower_are_leaves n es l) s.0,
-        rows_walked (Walks m stored) stored n f [] es l t.0,
+        rows_walked (WalksTree m stored) stored n f [] es l t.0,
         runs_split n es,
       ),
     )
 
-subtrees_walked : (stored : Stored) (n : ℕ) → WalksBelow stored n (Walks n stored)
+subtrees_walked : (stored : Stored) (n : ℕ) → WalksBelow stored n (WalksTree n stored)
 unfolding subtree subtree_nodes node nodes
 subtrees_walked stored zero [] b l s = refl
 subtrees_walked stored zero (e ∷ es) b l s = absurd (omega (arith, b.0))
@@ -145,18 +145,18 @@ rows_more V W f previous [] es h = h
 rows_more V W f previous (r ∷ rs) es h =
     (h.0, (h.1.0, h.1.1, link_more V W f r.after h.1.0 h.1.2, rows_more V W f (key_of previous r) rs h.1.1 h.1.3, h.1.4))
 
-walks_more : (m : ℕ) (stored : Stored) (name : CidParts) (es : List Entry) → Walks m stored name es → Walks (suc m) stored name es
+walks_more : (m : ℕ) (stored : Stored) (name : CidParts) (es : List Entry) → WalksTree m stored name es → WalksTree (suc m) stored name es
 walks_more zero stored name es h = absurd h
 walks_more (suc m) stored name es h =
     let w = h.2 in
     let f = walks_more m stored in (
       h.0,
       h.1,
-      (w.0, w.1, link_more (Walks m stored) (Walks (suc m) stored) f h.0.left w.0 w.2, rows_more (Walks m stored) (Walks (suc m) stored) f [] h.0.rows w.1 w.3, w.4),
+      (w.0, w.1, link_more (WalksTree m stored) (WalksTree (suc m) stored) f h.0.left w.0 w.2, rows_more (WalksTree m stored) (WalksTree (suc m) stored) f [] h.0.rows w.1 w.3, w.4),
     )
 
-walks_within : (k m n : ℕ) (stored : Stored) (name : CidParts) (es : List Entry) → n ≡ k + m → Walks m stored name es → Walks n stored name es
-walks_within zero m n stored name es e h = let same : m ≡ n = omega arith in subst (λ x. Walks x stored name es) same h
+walks_within : (k m n : ℕ) (stored : Stored) (name : CidParts) (es : List Entry) → n ≡ k + m → WalksTree m stored name es → WalksTree n stored name es
+walks_within zero m n stored name es e h = let same : m ≡ n = omega arith in subst (λ x. WalksTree x stored name es) same h
 walks_within (suc k) m n stored name es e h = walks_within k (suc m) n stored name es (omega arith) (walks_more m stored name es h)
 
 -- ---- the tree of entries
@@ -173,14 +173,14 @@ pub leaves_counted : (es : List Entry) → length (leaves es) ≡ length es
 leaves_counted [] = refl
 leaves_counted (e ∷ es) = ap suc (leaves_counted es)
 
-tree_walked : (stored : Stored) (root : CidParts) (es : List Entry) → IsMst stored root es → Walks (suc (top_layer (leaves es))) stored root es
+tree_walked : (stored : Stored) (root : CidParts) (es : List Entry) → IsMst stored root es → WalksTree (suc (top_layer (leaves es))) stored root es
 unfolding mst nodes_of
 tree_walked stored root es h =
-    subst (λ name. Walks (suc (top_layer (leaves es))) stored name es) (sym h.root_is)
-    (subst (Walks (suc (top_layer (leaves es))) stored (root_of es)) (entries_again es)
+    subst (λ name. WalksTree (suc (top_layer (leaves es))) stored name es) (sym h.root_is)
+    (subst (WalksTree (suc (top_layer (leaves es))) stored (root_of es)) (entries_again es)
     (node_walked stored (top_layer (leaves es)) (top_layer (leaves es)) (subtrees_walked stored (top_layer (leaves es))) (leaves es) (each_leaf es h.valid.keys h.valid.values, omega (arith, leaves_counted es, h.valid.count)) h.all))
 
 -- a walk finds the entries of the tree that is stored
-pub mst_walked : (stored : Stored) (root : CidParts) (es : List Entry) → IsMst stored root es → Walks most_layers stored root es
+pub mst_walked : (stored : Stored) (root : CidParts) (es : List Entry) → IsMst stored root es → WalksTree most_layers stored root es
 mst_walked stored root es h =
     walks_within (128 - top_layer (leaves es)) (suc (top_layer (leaves es))) most_layers stored root es (omega (arith, top_within es)) (tree_walked stored root es h)

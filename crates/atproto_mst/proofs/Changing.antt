@@ -15,7 +15,7 @@ use Rattle.ipld_tree.specs.Cid.{CidParts}
 use Rattle.atproto_mst.specs.Keys.{Entry, IsKey, HaveKeys, ComesBefore, Rise}
 use Rattle.atproto_mst.specs.Entries.{entries}
 use Rattle.atproto_mst.specs.Finding.{lookup, by_order}
-use Rattle.atproto_mst.specs.Changes.{set_entry, unset_entry, StandsAt, WouldStandAt}
+use Rattle.atproto_mst.specs.Changes.{set_entry, unset_entry, IsKeyAt, WouldBeKeyAt}
 use Rattle.atproto_mst.specs.declared.entries.MstEntry.{MstEntry}
 use Rattle.atproto_mst.proofs.Seeking.{Below, below_trans, same_keys, below_turned, not_same, other_first, this_first, no_record_before}
 
@@ -39,12 +39,12 @@ sorted_of (e ∷ f ∷ es) r (suc k) d le lt =
     subst (λ n. is_lt (slice_cmp nat_cmp (get_or (e ∷ f ∷ es) n d).key.items (get_or (f ∷ es) k d).key.items) ≡ false) {x = suc (k + 1)} (omega arith)
     (sorted_of (f ∷ es) r.1 k d (omega arith) (omega (arith, lt)))
 
-first_below : (key : List ℕ) (e : Entry) (i : ℕ) (es : List Entry) → Rise (e ∷ es) → StandsAt key i es → Below e.0 key
+first_below : (key : List ℕ) (e : Entry) (i : ℕ) (es : List Entry) → Rise (e ∷ es) → IsKeyAt key i es → Below e.0 key
 first_below key e i [] r s = absurd s
 first_below key e zero (f ∷ es) r s = subst (λ k. Below e.0 k) s r.0
 first_below key e (suc i) (f ∷ es) r s = below_trans e.0 f.0 key r.0 s.0
 
-stands : (key : List ℕ) (es : List MstEntry) (i : ℕ) → i < length es → HoldsAt (λ y. slice_cmp nat_cmp y.key.items key ≡ Equal) es i → Rise (entries es) → StandsAt key i (entries es)
+stands : (key : List ℕ) (es : List MstEntry) (i : ℕ) → i < length es → HoldsAt (λ y. slice_cmp nat_cmp y.key.items key ≡ Equal) es i → Rise (entries es) → IsKeyAt key i (entries es)
 stands key [] i lt h r = absurd (omega (arith, lt))
 stands key (e ∷ es) zero lt h r = exact_bytes e.key.items key (h e)
 stands key (e ∷ es) (suc i) lt h r =
@@ -52,7 +52,7 @@ stands key (e ∷ es) (suc i) lt h r =
     (first_below key (e.key.items, e.value) i (entries es) r more, more)
 
 would_stand : (key : List ℕ) (es : List MstEntry) (i : ℕ) → i ≤ length es → AllWithin (λ y. slice_cmp nat_cmp y.key.items key ≡ Less) es 0 i → AllWithin (λ y. slice_cmp nat_cmp y.key.items key ≡ Greater) es i (length es)
-    → WouldStandAt key i (entries es)
+    → WouldBeKeyAt key i (entries es)
 would_stand key [] zero le low high = tt
 would_stand key [] (suc i) le low high = absurd (omega (arith, le))
 would_stand key (e ∷ es) zero le low high = below_turned e.key.items key (high zero e (omega arith) (omega arith))
@@ -62,26 +62,26 @@ would_stand key (e ∷ es) (suc i) le low high = (
 )
 
 pub place_found : (key : List ℕ) (es : List MstEntry) (r : Result ℕ ℕ) → IsSearchInRange r (length es) → IsBinarySearchResult (λ y. slice_cmp nat_cmp y.key.items key) es r → Rise (entries es)
-    → MatchResult r (λ i. StandsAt key i (entries es)) (λ i. WouldStandAt key i (entries es))
+    → MatchResult r (λ i. IsKeyAt key i (entries es)) (λ i. WouldBeKeyAt key i (entries es))
 place_found key es (Ok i) range found rise = stands key es i range found rise
 place_found key es (Err i) range found rise =
     let parts = found (searchable_from_sorted nat_list_cmp_total (λ y. y.key.items) es key (sorted_of es rise)) in
     would_stand key es i range parts.0 parts.1
 
-pub stands_in : (key : List ℕ) (i : ℕ) (xs es : List MstEntry) → xs ≡ es → (Rise (entries xs) → StandsAt key i (entries xs)) → Rise (entries es) → StandsAt key i (entries es)
-stands_in key i xs es e h rise = subst (λ l. StandsAt key i (entries l)) e (h (subst (λ l. Rise (entries l)) (sym e) rise))
+pub stands_in : (key : List ℕ) (i : ℕ) (xs es : List MstEntry) → xs ≡ es → (Rise (entries xs) → IsKeyAt key i (entries xs)) → Rise (entries es) → IsKeyAt key i (entries es)
+stands_in key i xs es e h rise = subst (λ l. IsKeyAt key i (entries l)) e (h (subst (λ l. Rise (entries l)) (sym e) rise))
 
-pub would_in : (key : List ℕ) (i : ℕ) (xs es : List MstEntry) → xs ≡ es → (Rise (entries xs) → WouldStandAt key i (entries xs)) → Rise (entries es) → WouldStandAt key i (entries es)
-would_in key i xs es e h rise = subst (λ l. WouldStandAt key i (entries l)) e (h (subst (λ l. Rise (entries l)) (sym e) rise))
+pub would_in : (key : List ℕ) (i : ℕ) (xs es : List MstEntry) → xs ≡ es → (Rise (entries xs) → WouldBeKeyAt key i (entries xs)) → Rise (entries es) → WouldBeKeyAt key i (entries es)
+would_in key i xs es e h rise = subst (λ l. WouldBeKeyAt key i (entries l)) e (h (subst (λ l. Rise (entries l)) (sym e) rise))
 
 -- ---- what stands there
 
-pub record_at : (key : List ℕ) (es : List MstEntry) (i : ℕ) (d : MstEntry) → StandsAt key i (entries es) → Rise (entries es) → lookup key (entries es) ≡ Some (get_or es i d).value
+pub record_at : (key : List ℕ) (es : List MstEntry) (i : ℕ) (d : MstEntry) → IsKeyAt key i (entries es) → Rise (entries es) → lookup key (entries es) ≡ Some (get_or es i d).value
 record_at key [] i d s r = absurd s
 record_at key (e ∷ es) zero d s r = this_first key e.key.items e.value (entries es) s
 record_at key (e ∷ es) (suc i) d s r = other_first key e.key.items e.value (entries es) (not_same e.key.items key s.0) ∙ record_at key es i d s.1 r.1
 
-pub no_record_at : (key : List ℕ) (es : List Entry) (i : ℕ) → WouldStandAt key i es → Rise es → lookup key es ≡ None
+pub no_record_at : (key : List ℕ) (es : List Entry) (i : ℕ) → WouldBeKeyAt key i es → Rise es → lookup key es ≡ None
 no_record_at key es zero s r = no_record_before key es s r
 no_record_at key [] (suc i) s r = refl
 no_record_at key (e ∷ es) (suc i) s r = other_first key e.0 e.1 es (not_same e.0 key s.0) ∙ no_record_at key es i s.1 r.1
@@ -95,7 +95,7 @@ at_equal X o a b c e = ap (λ x. by_order x a b c) e
 at_greater : (X : Type 0) (o : Ordering) (a b c : X) → o ≡ Greater → by_order o a b c ≡ c
 at_greater X o a b c e = ap (λ x. by_order x a b c) e
 
-pub set_at : (key : List ℕ) (value : CidParts) (es : List MstEntry) (i : ℕ) (x d : MstEntry) → StandsAt key i (entries es) → x.key.items ≡ (get_or es i d).key.items → x.value ≡ value
+pub set_at : (key : List ℕ) (value : CidParts) (es : List MstEntry) (i : ℕ) (x d : MstEntry) → IsKeyAt key i (entries es) → x.key.items ≡ (get_or es i d).key.items → x.value ≡ value
     → entries (set es i x) ≡ set_entry key value (entries es)
 set_at key value [] i x d s k v = absurd s
 set_at key value (e ∷ es) zero x d s k v =
@@ -105,7 +105,7 @@ set_at key value (e ∷ es) (suc i) x d s k v =
     ap (λ n. (e.key.items, e.value) ∷ n) (set_at key value es i x d s.1 k v)
     ∙ sym (at_greater (List Entry) (slice_cmp nat_cmp key e.key.items) ((key, value) ∷ entries (e ∷ es)) ((key, value) ∷ entries es) ((e.key.items, e.value) ∷ set_entry key value (entries es)) (above_turned e.key.items key s.0))
 
-pub insert_at : (key : List ℕ) (value : CidParts) (es : List MstEntry) (i : ℕ) (x : MstEntry) → WouldStandAt key i (entries es) → x.key.items ≡ key → x.value ≡ value
+pub insert_at : (key : List ℕ) (value : CidParts) (es : List MstEntry) (i : ℕ) (x : MstEntry) → WouldBeKeyAt key i (entries es) → x.key.items ≡ key → x.value ≡ value
     → entries (insert es i x) ≡ set_entry key value (entries es)
 insert_at key value [] zero x s k v = ap (λ n. (n, x.value) ∷ []) k ∙ ap (λ n. (key, n) ∷ []) v
 insert_at key value (e ∷ es) zero x s k v =
@@ -126,7 +126,7 @@ unset_other_first key k v es not = by (bytes_eq k key) refl
     by true e = absurd (not ((bytes_eq-Decides k key).0 e))
     by false e = ap (λ b. if b then es else (k, v) ∷ unset_entry key es) e
 
-pub remove_at : (key : List ℕ) (es : List MstEntry) (i : ℕ) → StandsAt key i (entries es) → entries (remove es i) ≡ unset_entry key (entries es)
+pub remove_at : (key : List ℕ) (es : List MstEntry) (i : ℕ) → IsKeyAt key i (entries es) → entries (remove es i) ≡ unset_entry key (entries es)
 remove_at key [] i s = absurd s
 remove_at key (e ∷ es) zero s = sym (unset_this_first key e.key.items e.value (entries es) s)
 remove_at key (e ∷ es) (suc i) s =

@@ -8,31 +8,31 @@ use Rattle.ipld_links.specs.Sets.{Among}
 use Rattle.ipld_links.specs.Reaching.{Stored}
 use Rattle.atproto_mst.specs.Keys.{Entry, ComesBefore, Rise}
 use Rattle.atproto_mst.specs.Nodes.{NodeRow, NodeParts, IsNodeAt, key_of}
-use Rattle.atproto_mst.specs.Walks.{WalksLink, WalksRows, WalksNode, Walks}
+use Rattle.atproto_mst.specs.Walks.{WalksLink, WalksRows, WalksNode, WalksTree}
 use Rattle.atproto_mst.specs.Finding.{lookup}
 use Rattle.atproto_mst.specs.Changes.{Changed, IsChange, AreChanges}
-use Rattle.atproto_mst.specs.Levels.{Item, an_entry, a_link, link_items, row_items, node_items, links_of, Opens, OpensIf, Drops, StepsDown}
+use Rattle.atproto_mst.specs.Levels.{LevelItem, an_entry, a_link, link_items, row_items, node_items, links_of, OpensItems, OpensIf, DropsShared, StepsDown}
 use Rattle.atproto_mst.proofs.Agreeing.{one_walk}
 use Rattle.atproto_mst.proofs.Changing.{before_trans}
 use Rattle.atproto_mst.proofs.Seeking.{Below, not_same, other_first}
 
 -- ---- the entries of items
 
-abbrev pub Shows : (CidParts → List Entry → Type 0) → Item → List Entry → Type 0
+abbrev pub Shows : (CidParts → List Entry → Type 0) → LevelItem → List Entry → Type 0
 Shows W (an_entry e) es = es ≡ e ∷ []
 Shows W (a_link name) es = W name es
 
 -- where this says which entries a link has
-abbrev pub Lists : (CidParts → List Entry → Type 0) → List Item → List Entry → Type 0
+abbrev pub Lists : (CidParts → List Entry → Type 0) → List LevelItem → List Entry → Type 0
 Lists W [] es = es ≡ []
 Lists W (x ∷ xs) es = (now more : List Entry) × Shows W x now × Lists W xs more × (es ≡ now ++ more)
 
-lists_joined : (W : CidParts → List Entry → Type 0) (xs ys : List Item) (es fs : List Entry) → Lists W xs es → Lists W ys fs → Lists W (xs ++ ys) (es ++ fs)
+lists_joined : (W : CidParts → List Entry → Type 0) (xs ys : List LevelItem) (es fs : List Entry) → Lists W xs es → Lists W ys fs → Lists W (xs ++ ys) (es ++ fs)
 lists_joined W [] ys es fs h k = subst (λ l. Lists W ys (l ++ fs)) (sym h) k
 lists_joined W (x ∷ xs) ys es fs (now, more, one, rest, is) k =
     (now, more ++ fs, one, lists_joined W xs ys more fs rest k, ap (λ l. l ++ fs) is ∙ append_assoc now more fs)
 
-lists_one : (W : CidParts → List Entry → Type 0) (x : Item) (es : List Entry) → Shows W x es → Lists W (x ∷ []) es
+lists_one : (W : CidParts → List Entry → Type 0) (x : LevelItem) (es : List Entry) → Shows W x es → Lists W (x ∷ []) es
 lists_one W x es h = (es, [], h, refl, sym (append-nil es))
 
 module _ (V W : CidParts → List Entry → Type 0) (f : (name : CidParts) (es : List Entry) → V name es → W name es) where
@@ -56,7 +56,7 @@ module _ (V W : CidParts → List Entry → Type 0) (f : (name : CidParts) (es :
 
 -- the entries of a tree
 abbrev pub Holds : Stored → CidParts → List Entry → Type 0
-Holds stored name es = (m : ℕ) × Walks m stored name es
+Holds stored name es = (m : ℕ) × WalksTree m stored name es
 
 one_holding : (stored : Stored) (name : CidParts) (es fs : List Entry) → Holds stored name es → Holds stored name fs → es ≡ fs
 one_holding stored name es fs (m, h) (n, k) = one_walk stored m n name es fs h k
@@ -225,12 +225,12 @@ module _ (stored held : Stored) (agree : (name : CidParts) (p q : NodeParts) →
   link_opened : (name : CidParts) (p : NodeParts) (es : List Entry) → IsNodeAt stored name p → Holds held name es → Lists (Holds held) (node_items p) es
   link_opened name p es at (zero, h) = absurd h
   link_opened name p es at (suc m, (q, there, walk)) =
-      node_lists (Walks m held) (Holds held) (λ n fs h. (m, h)) p es (subst (λ x. WalksNode (Walks m held) x es) (sym (agree name p q at there)) walk)
+      node_lists (WalksTree m held) (Holds held) (λ n fs h. (m, h)) p es (subst (λ x. WalksNode (WalksTree m held) x es) (sym (agree name p q at there)) walk)
 
-  abbrev Left : List CidParts → List Item → List Item → List Entry → Type 0
+  abbrev Left : List CidParts → List LevelItem → List LevelItem → List Entry → Type 0
   Left dropped xs ys es = (less : List Entry) × Lists (Holds held) ys less × Leaves (Holds held) dropped (links_of xs) es less
 
-  opened : (dropped : List CidParts) (xs ys : List Item) (es : List Entry) → Lists (Holds held) xs es → RiseAll es → Opens stored dropped xs ys → Left dropped xs ys es
+  opened : (dropped : List CidParts) (xs ys : List LevelItem) (es : List Entry) → Lists (Holds held) xs es → RiseAll es → OpensItems stored dropped xs ys → Left dropped xs ys es
   opened dropped [] ys es is r none =
       ([], subst (λ l. Lists (Holds held) l []) (sym none) refl, subst (λ l. Leaves (Holds held) dropped [] l []) (sym is) (leaves_none (Holds held) dropped))
   opened dropped (an_entry e ∷ xs) ys es (now, more, one, rest, is) r (first, others, this, opens, all) =
@@ -263,15 +263,15 @@ module _ (stored held : Stored) (agree : (name : CidParts) (p q : NodeParts) →
             ])),
       )
 
-  stays : (xs ys : List Item) (es : List Entry) → Lists (Holds held) xs es → RiseAll es → ys ≡ xs → Left [] xs ys es
+  stays : (xs ys : List LevelItem) (es : List Entry) → Lists (Holds held) xs es → RiseAll es → ys ≡ xs → Left [] xs ys es
   stays xs ys es l r is = (
     es,
     subst (λ zs. Lists (Holds held) zs es) (sym is) l,
     record { behind = λ k h. h; rise = r; none = λ k h. h; each = λ k. inl refl; gone = λ k name fs v d. absurd d },
   )
 
-  opened_or_stays : (dropped : List CidParts) (xs ys : List Item) (es : List Entry) → Lists (Holds held) xs es → RiseAll es
-      → Opens stored dropped xs ys ⊎ ((dropped ≡ []) × (ys ≡ xs)) → Left dropped xs ys es
+  opened_or_stays : (dropped : List CidParts) (xs ys : List LevelItem) (es : List Entry) → Lists (Holds held) xs es → RiseAll es
+      → OpensItems stored dropped xs ys ⊎ ((dropped ≡ []) × (ys ≡ xs)) → Left dropped xs ys es
   opened_or_stays dropped xs ys es l r (inl o) = opened dropped xs ys es l r o
   opened_or_stays dropped xs ys es l r (inr (none, is)) = subst (λ d. Left d xs ys es) (sym none) (stays xs ys es l r is)
 
@@ -317,7 +317,7 @@ module _ (W : CidParts → List Entry → Type 0) (dropped names wider : List Ci
   ]
 
 -- what is left of both has all their changes
-pub record Tells (held : Stored) (es fs : List Entry) (xs ys : List Item) : Type 0 where
+pub record Tells (held : Stored) (es fs : List Entry) (xs ys : List LevelItem) : Type 0 where
   pub less : List Entry
   pub others : List Entry
   pub old : Lists (Holds held) xs less
@@ -327,23 +327,23 @@ pub record Tells (held : Stored) (es fs : List Entry) (xs ys : List Item) : Type
   pub all : (cs : List Changed) → AreChanges less others cs → AreChanges es fs cs
 
 -- a step as each level takes it
-abbrev pub Steps : Stored → List Item → List Item → List Item → List Item → Type 0
+abbrev pub Steps : Stored → List LevelItem → List LevelItem → List LevelItem → List LevelItem → Type 0
 Steps stored xs ys below beside = (dropped : List CidParts)
     × ((q : CidParts) → Among q dropped → Among q (links_of xs) × Among q (links_of ys))
-    × (Opens stored dropped xs below ⊎ ((dropped ≡ []) × (below ≡ xs))) × (Opens stored dropped ys beside ⊎ ((dropped ≡ []) × (beside ≡ ys)))
+    × (OpensItems stored dropped xs below ⊎ ((dropped ≡ []) × (below ≡ xs))) × (OpensItems stored dropped ys beside ⊎ ((dropped ≡ []) × (beside ≡ ys)))
 
-steps_by : (stored : Stored) (a b : Bool) (xs ys below beside : List Item) (dropped : List CidParts) → Drops (a && b) (links_of xs) (links_of ys) dropped
+steps_by : (stored : Stored) (a b : Bool) (xs ys below beside : List LevelItem) (dropped : List CidParts) → DropsShared (a && b) (links_of xs) (links_of ys) dropped
     → OpensIf stored dropped a xs below → OpensIf stored dropped b ys beside → Steps stored xs ys below beside
 steps_by stored true true xs ys below beside dropped common one two = (dropped, λ q m. (common q).0 m, inl one, inl two)
 steps_by stored true false xs ys below beside dropped none one two = (dropped, λ q m. absurd (subst (Among q) none m), inl one, inr (none, two))
 steps_by stored false true xs ys below beside dropped none one two = (dropped, λ q m. absurd (subst (Among q) none m), inr (none, one), inl two)
 steps_by stored false false xs ys below beside dropped none one two = (dropped, λ q m. absurd (subst (Among q) none m), inr (none, one), inr (none, two))
 
-pub steps_of : {asked : Bool × Bool} (stored : Stored) (xs ys below beside : List Item) → StepsDown stored asked xs ys below beside → Steps stored xs ys below beside
+pub steps_of : {asked : Bool × Bool} (stored : Stored) (xs ys below beside : List LevelItem) → StepsDown stored asked xs ys below beside → Steps stored xs ys below beside
 steps_of {asked} stored xs ys below beside s = steps_by stored asked.0 asked.1 xs ys below beside s.dropped s.drops s.one s.other
 
 pub tells_below : (stored held : Stored) → ((name : CidParts) (p q : NodeParts) → IsNodeAt stored name p → IsNodeAt held name q → p ≡ q)
-    → (es fs : List Entry) (xs ys below beside : List Item) → Steps stored xs ys below beside → Tells held es fs xs ys → Tells held es fs below beside
+    → (es fs : List Entry) (xs ys below beside : List LevelItem) → Steps stored xs ys below beside → Tells held es fs xs ys → Tells held es fs below beside
 tells_below stored held agree es fs xs ys below beside (dropped, common, one, two) t =
     let (less, old, leaves) = opened_or_stays stored held agree dropped xs below t.less t.old t.old_rise one in
     let (others, new, leave) = opened_or_stays stored held agree dropped ys beside t.others t.new t.new_rise two in
@@ -363,7 +363,7 @@ only_entries W [] fs h = h
 only_entries W (e ∷ es) fs (now, more, one, rest, is) = is ∙ ap (λ l. l ++ more) one ∙ ap (λ l. e ∷ l) (only_entries W es more rest)
 
 -- at the end there are no links
-pub told : (held : Stored) (es fs es_left fs_left : List Entry) (xs ys : List Item) → Tells held es fs xs ys → xs ≡ map an_entry es_left → ys ≡ map an_entry fs_left
+pub told : (held : Stored) (es fs es_left fs_left : List Entry) (xs ys : List LevelItem) → Tells held es fs xs ys → xs ≡ map an_entry es_left → ys ≡ map an_entry fs_left
     → (cs : List Changed) → (Rise es_left → Rise fs_left → AreChanges es_left fs_left cs) → AreChanges es fs cs
 told held es fs es_left fs_left xs ys t is_old is_new cs h =
     let one = only_entries (Holds held) es_left t.less (subst (λ l. Lists (Holds held) l t.less) is_old t.old) in

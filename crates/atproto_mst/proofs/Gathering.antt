@@ -8,10 +8,10 @@ use Rattle.ipld_links.specs.Reaching.{Stored}
 use Rattle.atproto_mst.specs.Keys.{Entry}
 use Rattle.atproto_mst.specs.Entries.{entry_of, entries}
 use Rattle.atproto_mst.specs.Nodes.{NodeRow, NodeParts, IsNodeAt, key_of, row_told}
-use Rattle.atproto_mst.specs.Walks.{WalksLink, WalksRows, WalksNode, Walks}
-use Rattle.atproto_mst.specs.Stops.{IsNamed, NodeFault, RowFault, ComeBehind, last_key, StopsBehind, StopsInRows, StopsInNode, Stops}
-use Rattle.atproto_mst.specs.Gathering.{Gathers, AddsRow, key_behind}
-use Rattle.atproto_mst.specs.InLayers.{IsRowOf, IfLinked, AreRowsOf, IsOfLayer, IsEmpty, IsRightBelow}
+use Rattle.atproto_mst.specs.Walks.{WalksLink, WalksRows, WalksNode, WalksTree}
+use Rattle.atproto_mst.specs.Stops.{IsStoredNamed, NodeFault, RowFault, ComeBehind, last_key, StopsBehind, StopsInRows, StopsInNode, StopsWalk}
+use Rattle.atproto_mst.specs.Gathering.{GathersEntries, AddsRow, key_behind}
+use Rattle.atproto_mst.specs.InLayers.{IsLayerRow, IfLinked, AreRowsOf, IsOfLayer, IsEmpty, IsRightBelow}
 use Rattle.atproto_mst.specs.declared.entries.MstEntry.{MstEntry}
 use Rattle.atproto_mst.specs.declared.error.MstError.{MstError}
 use Rattle.atproto_mst.specs.declared.error.MstError.TheVariants.{OutOfMemory}
@@ -31,22 +31,22 @@ or_more f (inr b) = inr (f b)
 last_of_row : (r : NodeRow) (previous : List ℕ) (old new : Found) → AddsRow r previous old new → last_key [] (entries new.items) ≡ key_of previous r
 last_of_row r previous old new a = ap (last_key []) a.all ∙ last_joined [] (entries old.items) ((key_of previous r, r.value) ∷ [])
 
-last_of_gathered : (W : List Entry → Type 0) (old new : Found) (g : Gathers W old new) → last_key [] (entries new.items) ≡ last_key (last_key [] (entries old.items)) g.found
+last_of_gathered : (W : List Entry → Type 0) (old new : Found) (g : GathersEntries W old new) → last_key [] (entries new.items) ≡ last_key (last_key [] (entries old.items)) g.found
 last_of_gathered W old new g = ap (last_key []) g.all ∙ last_joined [] (entries old.items) g.found
 
 -- ---- rows
 
-gathers_none : (W : List Entry → Type 0) (v : Found) → W [] → Gathers W v v
+gathers_none : (W : List Entry → Type 0) (v : Found) → W [] → GathersEntries W v v
 gathers_none W v h = record { found = []; walked = h; behind = record { keys = tt; rise = tt; behind = tt }; all = sym (append-nil (entries v.items)) }
 
-pub gathers_no_link : (W : CidParts → List Entry → Type 0) (l : Option CidParts) → l ≡ None → (v : Found) → Gathers (WalksLink W l) v v
-gathers_no_link W l h v = subst (λ x. Gathers (WalksLink W x) v v) (sym h) (gathers_none (WalksLink W None) v refl)
+pub gathers_no_link : (W : CidParts → List Entry → Type 0) (l : Option CidParts) → l ≡ None → (v : Found) → GathersEntries (WalksLink W l) v v
+gathers_no_link W l h v = subst (λ x. GathersEntries (WalksLink W x) v v) (sym h) (gathers_none (WalksLink W None) v refl)
 
 in_row : (a : List Entry) (e : Entry) (b c : List Entry) → ((a ++ (e ∷ [])) ++ b) ++ c ≡ a ++ (e ∷ (b ++ c))
 in_row a e b c = simp append_assoc
 
 gathers_row : (W : CidParts → List Entry → Type 0) (r : NodeRow) (rs : List NodeRow) (previous : List ℕ) (old mid late new : Found)
-    → AddsRow r previous old mid → Gathers (WalksLink W r.after) mid late → Gathers (WalksRows W (key_of previous r) rs) late new → Gathers (WalksRows W previous (r ∷ rs)) old new
+    → AddsRow r previous old mid → GathersEntries (WalksLink W r.after) mid late → GathersEntries (WalksRows W (key_of previous r) rs) late new → GathersEntries (WalksRows W previous (r ∷ rs)) old new
 gathers_row W r rs previous old mid late new a g h = record {
   found = (key_of previous r, r.value) ∷ (g.found ++ h.found);
   walked = (a.row.shares, (g.found, h.found, g.walked, h.walked, refl));
@@ -64,7 +64,7 @@ entries_taken (suc n) [] = refl
 entries_taken (suc n) (e ∷ es) = ap (λ xs. entry_of e ∷ xs) (entries_taken n es)
 
 -- a row's key stays where it stands
-pub key_kept : (W : List Entry → Type 0) (r : NodeRow) (previous : List ℕ) (old mid late : Found) → AddsRow r previous old mid → Gathers W mid late → key_behind (length mid.items) late.items ≡ key_of previous r
+pub key_kept : (W : List Entry → Type 0) (r : NodeRow) (previous : List ℕ) (old mid late : Found) → AddsRow r previous old mid → GathersEntries W mid late → key_behind (length mid.items) late.items ≡ key_of previous r
 key_kept W r previous old mid late a g =
     let here : length (entries mid.items) ≡ length mid.items = length-map mid.items entry_of in
     ap (last_key []) (entries_taken (length mid.items) late.items
@@ -73,13 +73,13 @@ key_kept W r previous old mid late a g =
     ∙ take_all (length mid.items) (entries mid.items) (omega (arith, here)))
     ∙ last_of_row r previous old mid a
 
-pub still_there : (W : List Entry → Type 0) (mid late : Found) → Gathers W mid late → length mid.items ≤ length late.items
+pub still_there : (W : List Entry → Type 0) (mid late : Found) → GathersEntries W mid late → length mid.items ≤ length late.items
 still_there W mid late g = omega (arith, length-map mid.items entry_of, length-map late.items entry_of, ap length g.all, length-append (entries mid.items) g.found)
 
 -- From these rows on it goes as it does from the first: what they walk, and where they stop.
 pub record GoesOn (W : CidParts → List Entry → Type 0) (S : List ℕ → CidParts → MstError → Type 0) (first : Found) (all : List NodeRow)
     (found : Found) (key : List ℕ) (rest : List NodeRow) : Type 0 where
-  pub walks : (new : Found) → Gathers (WalksRows W key rest) found new → Gathers (WalksRows W [] all) first new
+  pub walks : (new : Found) → GathersEntries (WalksRows W key rest) found new → GathersEntries (WalksRows W [] all) first new
   pub stops : (e : MstError) → StopsInRows W S (last_key [] (entries found.items)) key rest e → StopsInRows W S (last_key [] (entries first.items)) [] all e
 
 module _ (W : CidParts → List Entry → Type 0) (S : List ℕ → CidParts → MstError → Type 0) (first : Found) (all : List NodeRow) where
@@ -94,20 +94,20 @@ module _ (W : CidParts → List Entry → Type 0) (S : List ℕ → CidParts →
       pub stops_behind_row : (e : MstError) → StopsBehind S (last_key [] (entries mid.items)) r.after e → StopsInRows W S (last_key [] (entries first.items)) [] all e
       stops_behind_row e h = go.stops e (inr (a.row, inl (subst (λ k. StopsBehind S k r.after e) (last_of_row r previous old mid a) h)))
 
-      stops_later : (late : Found) → Gathers (WalksLink W r.after) mid late → (e : MstError) → StopsInRows W S (last_key [] (entries late.items)) (key_of previous r) rs e
+      stops_later : (late : Found) → GathersEntries (WalksLink W r.after) mid late → (e : MstError) → StopsInRows W S (last_key [] (entries late.items)) (key_of previous r) rs e
           → StopsInRows W S (last_key [] (entries old.items)) previous (r ∷ rs) e
       stops_later late g e h =
           let row = last_of_row r previous old mid a in
           let behind = last_of_gathered (WalksLink W r.after) mid late g ∙ ap (λ k. last_key k g.found) row in
           inr (a.row, inr (g.found, g.walked, subst (λ k. ComeBehind k g.found) row g.behind, subst (λ k. StopsInRows W S k (key_of previous r) rs e) behind h))
 
-      pub goes_behind_row : (late : Found) → Gathers (WalksLink W r.after) mid late → GoesOn W S first all late (key_behind (length mid.items) late.items) rs
+      pub goes_behind_row : (late : Found) → GathersEntries (WalksLink W r.after) mid late → GoesOn W S first all late (key_behind (length mid.items) late.items) rs
       goes_behind_row late g = subst (λ k. GoesOn W S first all late k rs) (sym (key_kept (WalksLink W r.after) r previous old mid late a g)) (record {
         walks = λ new h. go.walks new (gathers_row W r rs previous old mid late new a g h);
         stops = λ e h. go.stops e (stops_later late g e h);
       })
 
-  pub goes_to_end : (found : Found) (key : List ℕ) → GoesOn W S first all found key [] → Gathers (WalksRows W [] all) first found
+  pub goes_to_end : (found : Found) (key : List ℕ) → GoesOn W S first all found key [] → GathersEntries (WalksRows W [] all) first found
   goes_to_end found key go = go.walks found (gathers_none (WalksRows W key []) found refl)
 
 -- rows as they are held
@@ -135,7 +135,7 @@ pub settled_at_start : (F : CidParts → Type 0) (n : ℕ) (all : List NodeRow) 
 settled_at_start F n all = record { on = λ h. (refl, h); back = λ e h. h }
 
 pub settled_behind_row : (F : CidParts → Type 0) (n : ℕ) (all : List NodeRow) (fits row below next : Bool) (key : List ℕ) (r : NodeRow) (rs : List NodeRow) → SettledBy F n all fits key (r ∷ rs)
-    → Decides row (IsRowOf n key r) → Decides below (IfLinked F r.after) → Decides next ((fits ≡ true) × (row ≡ true) × (below ≡ true)) → SettledBy F n all next (key_of key r) rs
+    → Decides row (IsLayerRow n key r) → Decides below (IfLinked F r.after) → Decides next ((fits ≡ true) × (row ≡ true) × (below ≡ true)) → SettledBy F n all next (key_of key r) rs
 settled_behind_row F n all fits row below next key r rs s is link step = record {
   on = λ h. (let k = s.on h in (step.1 (k.0, is.1 k.1.0, link.1 k.1.1), k.1.2));
   back = λ e h. (let k = step.0 e in s.back k.0 (is.0 k.1, link.0 k.2, h));
@@ -146,35 +146,35 @@ settled_at_end F n all fits key s = (λ e. s.back e tt, λ h. (s.on h).0)
 
 -- ---- a node
 
-module _ (stored : Stored) (m : ℕ) (p : NodeParts) (old mid : Found) (g : Gathers (WalksLink (Walks m stored) p.left) old mid) where
-  pub gathers_node : (new : Found) → Gathers (WalksRows (Walks m stored) [] p.rows) mid new → Gathers (WalksNode (Walks m stored) p) old new
+module _ (stored : Stored) (m : ℕ) (p : NodeParts) (old mid : Found) (g : GathersEntries (WalksLink (WalksTree m stored) p.left) old mid) where
+  pub gathers_node : (new : Found) → GathersEntries (WalksRows (WalksTree m stored) [] p.rows) mid new → GathersEntries (WalksNode (WalksTree m stored) p) old new
   gathers_node new h = record {
     found = g.found ++ h.found;
     walked = (g.found, h.found, g.walked, h.walked, refl);
     behind = joined_behind (last_key [] (entries old.items)) g.found h.found g.behind
-        (subst (λ k. ComeBehind k h.found) (last_of_gathered (WalksLink (Walks m stored) p.left) old mid g) h.behind);
+        (subst (λ k. ComeBehind k h.found) (last_of_gathered (WalksLink (WalksTree m stored) p.left) old mid g) h.behind);
     all = h.all ∙ ap (λ x. x ++ h.found) g.all ∙ append_assoc (entries old.items) g.found h.found;
   }
 
-  pub stops_in_node : (e : MstError) → StopsInRows (Walks m stored) (Stops m stored) (last_key [] (entries mid.items)) [] p.rows e
-      → StopsInNode (Walks m stored) (Stops m stored) (last_key [] (entries old.items)) p e
-  stops_in_node e h = inr (g.found, g.walked, g.behind, subst (λ k. StopsInRows (Walks m stored) (Stops m stored) k [] p.rows e) (last_of_gathered (WalksLink (Walks m stored) p.left) old mid g) h)
+  pub stops_in_node : (e : MstError) → StopsInRows (WalksTree m stored) (StopsWalk m stored) (last_key [] (entries mid.items)) [] p.rows e
+      → StopsInNode (WalksTree m stored) (StopsWalk m stored) (last_key [] (entries old.items)) p e
+  stops_in_node e h = inr (g.found, g.walked, g.behind, subst (λ k. StopsInRows (WalksTree m stored) (StopsWalk m stored) k [] p.rows e) (last_of_gathered (WalksLink (WalksTree m stored) p.left) old mid g) h)
 
 -- ---- a node under its name
 
 pub gathers_named : (stored : Stored) (name : CidParts) (m layers : ℕ) (p : NodeParts) → IsNodeAt stored name p → suc m ≡ layers → (old new : Found)
-    → Gathers (WalksNode (Walks m stored) p) old new → Gathers (Walks layers stored name) old new
-gathers_named stored name m layers p at same old new g = subst (λ k. Gathers (Walks k stored name) old new) same (record { found = g.found; walked = (p, at, g.walked); behind = g.behind; all = g.all })
+    → GathersEntries (WalksNode (WalksTree m stored) p) old new → GathersEntries (WalksTree layers stored name) old new
+gathers_named stored name m layers p at same old new g = subst (λ k. GathersEntries (WalksTree k stored name) old new) same (record { found = g.found; walked = (p, at, g.walked); behind = g.behind; all = g.all })
 
 pub stops_named : (stored : Stored) (name : CidParts) (m layers : ℕ) (p : NodeParts) → IsNodeAt stored name p → suc m ≡ layers → (before : List ℕ) (e : MstError)
-    → StopsInNode (Walks m stored) (Stops m stored) before p e → Stops layers stored before name e
-stops_named stored name m layers p at same before e h = subst (λ k. Stops k stored before name e) same (inr (p, at, h))
+    → StopsInNode (WalksTree m stored) (StopsWalk m stored) before p e → StopsWalk layers stored before name e
+stops_named stored name m layers p at same before e h = subst (λ k. StopsWalk k stored before name e) same (inr (p, at, h))
 
 -- no node is under the name
 pub no_node : (stored : Stored) (name : CidParts) (m layers : ℕ) → suc m ≡ layers → (before : List ℕ) (e : MstError)
-    → ((e ≡ OutOfMemory) × IsNamed stored name) ⊎ NodeFault stored name e → (e ≡ OutOfMemory) ⊎ Stops layers stored before name e
+    → ((e ≡ OutOfMemory) × IsStoredNamed stored name) ⊎ NodeFault stored name e → (e ≡ OutOfMemory) ⊎ StopsWalk layers stored before name e
 no_node stored name m layers same before e (inl memory) = inl memory.0
-no_node stored name m layers same before e (inr fault) = inr (subst (λ k. Stops k stored before name e) same (inl fault))
+no_node stored name m layers same before e (inr fault) = inr (subst (λ k. StopsWalk k stored before name e) same (inl fault))
 
 -- whether a node stands right below a layer
 pub below_decided : (stored : Stored) (name : CidParts) (above layer : ℕ) (p : NodeParts) (lower fits all : Bool) → IsNodeAt stored name p → layer ≡ above - 1 → Decides lower ((1 ≤ above) × ¬ IsEmpty p)

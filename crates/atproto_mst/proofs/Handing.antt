@@ -5,16 +5,16 @@ use Rattle.dagcbor_car.specs.Car.{Section}
 use Rattle.ipld_links.specs.Sets.{Among}
 use Rattle.atproto_mst.specs.declared.error.MstError.{MstError}
 use Rattle.atproto_mst.specs.declared.error.MstError.TheVariants.{OutOfMemory}
-use Rattle.atproto_mst.specs.Sinks.{Takes, TakesFirst, RefusesOne}
+use Rattle.atproto_mst.specs.Sinks.{HandsOver, HandsOverFirst, RefusesOne}
 
 append_none : (xs : List Section) → xs ++ [] ≡ xs
 append_none [] = refl
 append_none (x ∷ xs) = ap (λ t. x ∷ t) (append_none xs)
 
-pub takes_none : {S W : Type 0} (holds : S → W → List Section → Type 0) (s : S) → Takes holds s [] s
+pub takes_none : {S W : Type 0} (holds : S → W → List Section → Type 0) (s : S) → HandsOver holds s [] s
 takes_none holds s world before h = subst (λ xs. holds s world xs) (sym (append_none before)) h
 
-pub takes_then : {S W : Type 0} (holds : S → W → List Section → Type 0) (old mid new : S) (a b : List Section) → Takes holds old a mid → Takes holds mid b new → Takes holds old (a ++ b) new
+pub takes_then : {S W : Type 0} (holds : S → W → List Section → Type 0) (old mid new : S) (a b : List Section) → HandsOver holds old a mid → HandsOver holds mid b new → HandsOver holds old (a ++ b) new
 takes_then holds old mid new a b h k world before x =
     subst (λ xs. holds new world xs) (append_assoc before a b) (k world (before ++ a) (h world before x))
 
@@ -31,7 +31,7 @@ pub among_mid : (s : Section) (a b d all : List Section) → a ++ (b ++ d) ≡ a
 among_mid s a b d all e h = subst (λ xs. Among s xs) e (among_right s a (b ++ d) (among_left s b d h))
 
 pub refuses_within : {S W : Type 0} (holds : S → W → List Section → Type 0) (refuses : W → Section → MstError → Type 0) (old mid : S) (a b d all : List Section) (e : MstError)
-    → Takes holds old a mid → a ++ (b ++ d) ≡ all → RefusesOne holds refuses mid b e → RefusesOne holds refuses old all e
+    → HandsOver holds old a mid → a ++ (b ++ d) ≡ all → RefusesOne holds refuses mid b e → RefusesOne holds refuses old all e
 refuses_within holds refuses old mid a b d all e h same k world before x = elim (k world (before ++ a) (h world before x)) [
   | inl m ↦ inl m
   | inr r ↦ inr (r.0, among_mid r.0 a b d all same r.1, r.2)
@@ -41,15 +41,15 @@ pub wants_memory : {S W : Type 0} (holds : S → W → List Section → Type 0) 
     → e ≡ OutOfMemory → RefusesOne holds refuses old all e
 wants_memory holds refuses old all e m world before x = inl m
 
-pub first_none : {S W : Type 0} (holds : S → W → List Section → Type 0) (s : S) (all : List Section) → TakesFirst holds s all s
+pub first_none : {S W : Type 0} (holds : S → W → List Section → Type 0) (s : S) (all : List Section) → HandsOverFirst holds s all s
 first_none holds s all = ([], all, refl, takes_none holds s)
 
-pub first_kept : {S W : Type 0} (holds : S → W → List Section → Type 0) (old new : S) (all : List Section) → Takes holds old [] new → TakesFirst holds old all new
+pub first_kept : {S W : Type 0} (holds : S → W → List Section → Type 0) (old new : S) (all : List Section) → HandsOver holds old [] new → HandsOverFirst holds old all new
 first_kept holds old new all h = ([], all, refl, h)
 
 -- the first of a part, behind another part
 pub first_within : {S W : Type 0} (holds : S → W → List Section → Type 0) (old mid new : S) (a b d all : List Section)
-    → Takes holds old a mid → a ++ (b ++ d) ≡ all → TakesFirst holds mid b new → TakesFirst holds old all new
+    → HandsOver holds old a mid → a ++ (b ++ d) ≡ all → HandsOverFirst holds mid b new → HandsOverFirst holds old all new
 first_within holds old mid new a b d all h same k = (
   a ++ k.0,
   k.1 ++ d,

@@ -6,7 +6,7 @@ use Rattle.ipld_links.specs.Reaching.{Stored}
 use Rattle.ipld_links.specs.Sets.{Among}
 use Rattle.atproto_mst.specs.declared.error.MstError.{MstError}
 use Rattle.atproto_mst.specs.declared.error.MstError.TheVariants.{OutOfMemory}
-use Rattle.atproto_mst.specs.Sinks.{Takes, RefusesOne, not_stored}
+use Rattle.atproto_mst.specs.Sinks.{HandsOver, RefusesOne, not_stored}
 
 one_kept : (stored : Stored) (s : Section) (ss : List Section) → (b : Bool) → is_some (stored s.0) ≡ b → not_stored stored (s ∷ ss) ≡ (if b then not_stored stored ss else s ∷ not_stored stored ss)
 one_kept stored s ss b e = ap (λ x. if x then not_stored stored ss else s ∷ not_stored stored ss) e
@@ -25,7 +25,7 @@ module _ {S W : Type 0} (H : S → W → List Section → Type 0) (R : W → Sec
   pub passed_over : (x : S) → is_some (stored s.0) ≡ true → H x w (front ++ not_stored stored before) → H x w (front ++ not_stored stored (before ++ (s ∷ [])))
   passed_over x e h = subst (λ l. H x w (front ++ l)) (sym (kept_more stored before s true e ∙ append-nil (not_stored stored before))) h
 
-  pub handed_on : (old new : S) → is_some (stored s.0) ≡ false → Takes H old (s ∷ []) new → H old w (front ++ not_stored stored before) → H new w (front ++ not_stored stored (before ++ (s ∷ [])))
+  pub handed_on : (old new : S) → is_some (stored s.0) ≡ false → HandsOver H old (s ∷ []) new → H old w (front ++ not_stored stored before) → H new w (front ++ not_stored stored (before ++ (s ∷ [])))
   handed_on old new e t h =
       subst (λ l. H new w l) (append_assoc front (not_stored stored before) (s ∷ []) ∙ ap (λ l. front ++ l) (sym (kept_more stored before s false e)))
       (t w (front ++ not_stored stored before) h)

@@ -11,8 +11,8 @@ use Rattle.atproto_mst.specs.Keys.{Entry, key_layer}
 use Rattle.atproto_mst.specs.Trees.{Leaf, leaf_of, leaves, lower_run, shared, row_tree, entry_tree, entry_trees, map_of, node_section, nodes_between, subtree, node, subtree_nodes, nodes, top_layer, nodes_of, root_of}
 use Rattle.atproto_mst.specs.Entries.{AreStored}
 use Rattle.atproto_mst.specs.Nodes.{NodeRow, NodeParts, tree_of_row, tree_of_node, IsNodeAt, key_of}
-use Rattle.atproto_mst.specs.Walks.{WalksLink, WalksRows, WalksNode, Walks}
-use Rattle.atproto_mst.specs.InLayers.{IsRowOf, IfLinked, AreRowsOf, IsOfLayer, IsEmpty, IsRightBelow, first_layer, IsRoot}
+use Rattle.atproto_mst.specs.Walks.{WalksLink, WalksRows, WalksNode, WalksTree}
+use Rattle.atproto_mst.specs.InLayers.{IsLayerRow, IfLinked, AreRowsOf, IsOfLayer, IsEmpty, IsRightBelow, first_layer, IsRoot}
 use Rattle.atproto_mst.proofs.Nodes.{same_node_at}
 use Rattle.atproto_mst.proofs.Runs.{lower_first, top_first}
 use Rattle.atproto_mst.proofs.Canonical.{AreBelow}
@@ -91,7 +91,7 @@ module _ (stored : Stored) (n : ℕ) (F : CidParts → Type 0) (W : CidParts →
   link_over None es f w = subst (IsOver stored n None) (sym w) (none_over stored n)
   link_over (Some name) es f w = over name es f w
 
-  row_over : (previous : List ℕ) (r : NodeRow) (rs : List NodeRow) (below more : List Entry) → IsRowOf n previous r → r.shared ≤ length previous → IsOver stored n r.after below
+  row_over : (previous : List ℕ) (r : NodeRow) (rs : List NodeRow) (below more : List Entry) → IsLayerRow n previous r → r.shared ≤ length previous → IsOver stored n r.after below
       → AreOver stored n (key_of previous r) rs more → AreOver stored n previous (r ∷ rs) ((key_of previous r, r.value) ∷ (below ++ more))
   row_over previous r rs below more is shares b m =
       let top : n ≤ key_layer (key_of previous r) = omega (arith, is.0) in
@@ -176,14 +176,14 @@ unfolding subtree subtree_nodes node nodes
 whole_over stored n name [] some w = absurd (some refl)
 whole_over stored n name (e ∷ es) some w = record { link = ap (λ x. Some x) w.named; held = w.held; below = w.within }
 
-pub below_over : (stored : Stored) (n m : ℕ) (name : CidParts) (es : List Entry) → IsRightBelow stored n name → Walks m stored name es → IsOver stored n (Some name) es
+pub below_over : (stored : Stored) (n m : ℕ) (name : CidParts) (es : List Entry) → IsRightBelow stored n name → WalksTree m stored name es → IsOver stored n (Some name) es
 below_over stored zero m name es f w = absurd f
 below_over stored (suc n) zero name es f w = absurd w
 below_over stored (suc n) (suc m) name es (p, at, some, f) (q, there, walked) =
-    let walked = subst (λ x. WalksNode (Walks m stored) x es) (same_node_at stored name q p there at) walked in
+    let walked = subst (λ x. WalksNode (WalksTree m stored) x es) (same_node_at stored name q p there at) walked in
     let over = below_over stored n m in
-    whole_over stored n name es (some_entry stored n (IsRightBelow stored n) (Walks m stored) over p es some f walked)
-    (node_over stored n (IsRightBelow stored n) (Walks m stored) over name p es at f walked)
+    whole_over stored n name es (some_entry stored n (IsRightBelow stored n) (WalksTree m stored) over p es some f walked)
+    (node_over stored n (IsRightBelow stored n) (WalksTree m stored) over name p es at f walked)
 
 -- ---- the root
 
@@ -215,12 +215,12 @@ root_top stored W l (r ∷ rs) below more es f link (shares, (under, behind, wal
     (ap leaves (all ∙ ap (λ x. below ++ x) is) ∙ map-append leaf_of below ((key_of [] r, r.value) ∷ (under ++ behind))) (ap key_layer (first_key r))
 
 -- a root whose nodes stand in their layers is that of its entries, whose nodes are stored
-pub root_over : (stored : Stored) (m : ℕ) (name : CidParts) (p : NodeParts) (es : List Entry) → IsNodeAt stored name p → IsRoot stored p → WalksNode (Walks m stored) p es
+pub root_over : (stored : Stored) (m : ℕ) (name : CidParts) (p : NodeParts) (es : List Entry) → IsNodeAt stored name p → IsRoot stored p → WalksNode (WalksTree m stored) p es
     → (name ≡ root_of es) × AreStored stored (nodes_of es)
 root_over stored m name p es at f w =
     let n = first_layer p.rows in
-    let whole = node_over stored n (IsRightBelow stored n) (Walks m stored) (below_over stored n m) name p es at f w in
-    let top = root_top stored (Walks m stored) p.left p.rows w.0 w.1 es f.0 w.2 w.3 w.4 whole.within in (
+    let whole = node_over stored n (IsRightBelow stored n) (WalksTree m stored) (below_over stored n m) name p es at f w in
+    let top = root_top stored (WalksTree m stored) p.left p.rows w.0 w.1 es f.0 w.2 w.3 w.4 whole.within in (
       whole.named ∙ ap (λ t. block_name (spelling t)) (tree_is es (leaves es) n refl top),
       subst (AreStored stored) (nodes_is es (leaves es) n refl top) whole.held,
     )

@@ -11,10 +11,10 @@ use Rattle.atproto_mst.specs.Keys.{Entry}
 use Rattle.atproto_mst.specs.Trees.{nodes_of}
 use Rattle.atproto_mst.specs.Entries.{AreStored, IsMst}
 use Rattle.atproto_mst.specs.Nodes.{NodeRow, NodeParts, IsNode, IsNodeAt, key_of}
-use Rattle.atproto_mst.specs.Walks.{WalksLink, WalksRows, WalksNode, Walks, most_layers}
+use Rattle.atproto_mst.specs.Walks.{WalksLink, WalksRows, WalksNode, WalksTree, most_layers}
 use Rattle.atproto_mst.specs.Stops.{NodeFault}
-use Rattle.atproto_mst.specs.Levels.{Item, an_entry, a_link, link_items, row_items, node_items, links_of, Opens, IsOfShape, LinksRefused}
-use Rattle.atproto_mst.specs.Differing.{IsRootOf, NamesBind, HasLink, IsLedTo, LacksNode}
+use Rattle.atproto_mst.specs.Levels.{LevelItem, an_entry, a_link, link_items, row_items, node_items, links_of, OpensItems, IsOfShape, LevelLinksRefused}
+use Rattle.atproto_mst.specs.Differing.{IsRootOfEntries, NamesBind, HasLink, IsLedTo, LacksNode}
 use Rattle.atproto_mst.specs.declared.error.MstError.{MstError}
 use Rattle.atproto_mst.specs.declared.error.MstError.TheVariants as error
 use Rattle.atproto_mst.proofs.Canonical.{mst_walked}
@@ -58,7 +58,7 @@ abbrev pub AreLed : ℕ → Stored → CidParts → List CidParts → Type 0
 AreLed m stored root names = (q : CidParts) → Among q names → IsLedTo m stored root q
 
 -- what a level opens to is led to by one node more
-led_below : (m : ℕ) (stored : Stored) (root : CidParts) (dropped : List CidParts) (xs ys : List Item) → Opens stored dropped xs ys → AreLed m stored root (links_of xs) → AreLed (suc m) stored root (links_of ys)
+led_below : (m : ℕ) (stored : Stored) (root : CidParts) (dropped : List CidParts) (xs ys : List LevelItem) → OpensItems stored dropped xs ys → AreLed m stored root (links_of xs) → AreLed (suc m) stored root (links_of ys)
 led_below m stored root dropped [] ys none led q h = absurd (subst (λ l. Among q (links_of l)) none h)
 led_below m stored root dropped (an_entry e ∷ xs) ys (first, more, this, opens, is) led q h =
     led_below m stored root dropped xs more opens led q (subst (λ l. Among q (links_of l)) (is ∙ ap (λ l. l ++ more) this) h)
@@ -70,13 +70,13 @@ led_below m stored root dropped (a_link name ∷ xs) ys (first, more, inr (not, 
       | inr there ↦ led_below m stored root dropped xs more opens (λ n a. led n (inr a)) q there
     ]
 
-led_or_stays : (m : ℕ) (stored : Stored) (root : CidParts) (dropped : List CidParts) (xs ys : List Item) → Opens stored dropped xs ys ⊎ ((dropped ≡ []) × (ys ≡ xs))
+led_or_stays : (m : ℕ) (stored : Stored) (root : CidParts) (dropped : List CidParts) (xs ys : List LevelItem) → OpensItems stored dropped xs ys ⊎ ((dropped ≡ []) × (ys ≡ xs))
     → AreLed m stored root (links_of xs) → AreLed (suc m) stored root (links_of ys)
 led_or_stays m stored root dropped xs ys (inl o) led = led_below m stored root dropped xs ys o led
 led_or_stays m stored root dropped xs ys (inr (none, is)) led = λ q h. led_more m stored root q (led q (subst (λ l. Among q (links_of l)) is h))
 
 -- both levels are of names that their roots lead to
-pub record BothLed (m : ℕ) (stored : Stored) (old new : CidParts) (xs ys : List Item) : Type 0 where
+pub record BothLed (m : ℕ) (stored : Stored) (old new : CidParts) (xs ys : List LevelItem) : Type 0 where
   pub before : AreLed m stored old (links_of xs)
   pub after : AreLed m stored new (links_of ys)
 
@@ -87,7 +87,7 @@ root_led stored root q (inr h) = absurd h
 pub both_begin : (stored : Stored) (old new : CidParts) → BothLed 1 stored old new (a_link old ∷ []) (a_link new ∷ [])
 both_begin stored old new = record { before = root_led stored old; after = root_led stored new }
 
-pub both_below : (m : ℕ) (stored : Stored) (old new : CidParts) (xs ys below beside : List Item) → Steps stored xs ys below beside → BothLed m stored old new xs ys → BothLed (suc m) stored old new below beside
+pub both_below : (m : ℕ) (stored : Stored) (old new : CidParts) (xs ys below beside : List LevelItem) → Steps stored xs ys below beside → BothLed m stored old new xs ys → BothLed (suc m) stored old new below beside
 both_below m stored old new xs ys below beside (dropped, common, one, two) led = record {
   before = led_or_stays m stored old dropped xs below one led.before;
   after = led_or_stays m stored new dropped ys beside two led.after;
@@ -96,8 +96,8 @@ both_below m stored old new xs ys below beside (dropped, common, one, two) led =
 abbrev pub DiffStops : Stored → CidParts → CidParts → MstError → Type 0
 DiffStops stored old new e = (e ≡ error.OutOfMemory) ⊎ (IsOfShape e ⊎ (LacksNode stored old e ⊎ LacksNode stored new e))
 
-pub both_stop : (k m : ℕ) (stored : Stored) (old new : CidParts) (xs ys : List Item) → most_layers ≡ k + m → BothLed m stored old new xs ys → (e : MstError)
-    → LinksRefused stored (links_of xs) e ⊎ LinksRefused stored (links_of ys) e → DiffStops stored old new e
+pub both_stop : (k m : ℕ) (stored : Stored) (old new : CidParts) (xs ys : List LevelItem) → most_layers ≡ k + m → BothLed m stored old new xs ys → (e : MstError)
+    → LevelLinksRefused stored (links_of xs) e ⊎ LevelLinksRefused stored (links_of ys) e → DiffStops stored old new e
 both_stop k m stored old new xs ys within led e (inl (inl memory)) = inl memory
 both_stop k m stored old new xs ys within led e (inl (inr (inl shape))) = inr (inl shape)
 both_stop k m stored old new xs ys within led e (inl (inr (inr (name, a, fault)))) = inr (inr (inl (name, led_within k m most_layers stored old name within (led.before name a), fault)))
@@ -122,12 +122,12 @@ walked_node W name p es (below, more, link, rest, is) (inl e) = (below, subst (�
 walked_node W name p es (below, more, link, rest, is) (inr h) = walked_rows W name p.rows [] more rest h
 
 abbrev IsWalked : Stored → CidParts → Type 0
-IsWalked stored name = (m : ℕ) × (es : List Entry) × Walks m stored name es
+IsWalked stored name = (m : ℕ) × (es : List Entry) × WalksTree m stored name es
 
 walked_above : (stored : Stored) (name above : CidParts) (p : NodeParts) → IsWalked stored above → IsNodeAt stored above p → HasLink p name → IsWalked stored name
 walked_above stored name above p (zero, es, w) at h = absurd w
 walked_above stored name above p (suc m, es, (q, there, walk)) at h =
-    let below = walked_node (Walks m stored) name p es (subst (λ x. WalksNode (Walks m stored) x es) (same_node_at stored above q p there at) walk) h in
+    let below = walked_node (WalksTree m stored) name p es (subst (λ x. WalksNode (WalksTree m stored) x es) (same_node_at stored above q p there at) walk) h in
     (m, below.0, below.1)
 
 walked_led : (m : ℕ) (stored : Stored) (root name : CidParts) → IsWalked stored root → IsLedTo m stored root name → IsWalked stored name
@@ -191,10 +191,10 @@ module _ (stored : Stored) (es fs : List Entry) (bind : NamesBind stored (nodes_
   node_held : (s : Section) → Among s all_nodes → held all_nodes s.0 ≡ Some s.1
   node_held s m = held_one s all_nodes (λ t a. bind.of_nodes s t m a) m
 
-  pub first_held : (root : CidParts) → IsRootOf root es → IsMst (held all_nodes) root es
+  pub first_held : (root : CidParts) → IsRootOfEntries root es → IsMst (held all_nodes) root es
   first_held root h = record { valid = h.0; root_is = h.1; all = all_held all_nodes (nodes_of es) (λ s m. node_held s (section_left s (nodes_of es) (nodes_of fs) m)) }
 
-  pub second_held : (root : CidParts) → IsRootOf root fs → IsMst (held all_nodes) root fs
+  pub second_held : (root : CidParts) → IsRootOfEntries root fs → IsMst (held all_nodes) root fs
   second_held root h = record { valid = h.0; root_is = h.1; all = all_held all_nodes (nodes_of fs) (λ s m. node_held s (section_right s (nodes_of es) (nodes_of fs) m)) }
 
   -- what is stored under the name of a node is that node

@@ -8,10 +8,10 @@ use Rattle.ipld_links.specs.Reaching.{Stored}
 use Rattle.atproto_mst.specs.Keys.{Entry, HaveCids, AreEntries}
 use Rattle.atproto_mst.specs.Entries.{entry_of, entries, IsMst}
 use Rattle.atproto_mst.specs.Nodes.{NodeRow, NodeParts, IsCidIfAny, IsNodeAt, key_of}
-use Rattle.atproto_mst.specs.Walks.{WalksLink, WalksRows, WalksNode, Walks, most_layers}
-use Rattle.atproto_mst.specs.Stops.{ComeBehind, StopsBehind, StopsInRows, StopsInNode, Stops, MstRefused, OneReason, last_key}
+use Rattle.atproto_mst.specs.Walks.{WalksLink, WalksRows, WalksNode, WalksTree, most_layers}
+use Rattle.atproto_mst.specs.Stops.{ComeBehind, StopsBehind, StopsInRows, StopsInNode, StopsWalk, MstRefused, OneReason, last_key}
 use Rattle.atproto_mst.specs.InLayers.{IsOfLayer, IsRightBelow, first_layer, IsRoot}
-use Rattle.atproto_mst.specs.Gathering.{Gathers}
+use Rattle.atproto_mst.specs.Gathering.{GathersEntries}
 use Rattle.atproto_mst.specs.declared.error.MstError.{MstError}
 use Rattle.atproto_mst.specs.declared.error.MstError.TheVariants as error
 use Rattle.atproto_mst.proofs.Agreeing.{one_walk}
@@ -41,11 +41,11 @@ cids_of_rows W give [] k previous es w = subst HaveCids (sym w) tt
 cids_of_rows W give (r ∷ rs) k previous es (shares, (below, more, link, rows, is)) =
     subst HaveCids (sym is) (k.0.0, cids_joined below more (cids_behind W give r.after below link) (cids_of_rows W give rs k.1 (key_of previous r) more rows))
 
-pub walk_cids : (stored : Stored) (m : ℕ) → GivesCids (Walks m stored)
+pub walk_cids : (stored : Stored) (m : ℕ) → GivesCids (WalksTree m stored)
 walk_cids stored zero name es w = absurd w
 walk_cids stored (suc m) name es (p, at, (below, more, link, rows, is)) =
-    subst HaveCids (sym is) (cids_joined below more (cids_behind (Walks m stored) (walk_cids stored m) p.left below link)
-    (cids_of_rows (Walks m stored) (walk_cids stored m) p.rows at.node.rows [] more rows))
+    subst HaveCids (sym is) (cids_joined below more (cids_behind (WalksTree m stored) (walk_cids stored m) p.left below link)
+    (cids_of_rows (WalksTree m stored) (walk_cids stored m) p.rows at.node.rows [] more rows))
 
 -- ---- where a walk stops, the tree is not another
 
@@ -64,42 +64,42 @@ no_other_in_rows W S never (r ∷ rs) before previous (inr (row, inl stop)) = no
 no_other_in_rows W S never (r ∷ rs) before previous (inr (row, inr (below, link, behind, stop))) =
     no_other_in_rows W S never rs (last_key (key_of previous r) below) (key_of previous r) stop
 
-no_other : (stored : Stored) (m : ℕ) → NoOther (Stops m stored)
+no_other : (stored : Stored) (m : ℕ) → NoOther (StopsWalk m stored)
 no_other stored zero before name h = absurd (cc h)
 no_other stored (suc m) before name (inl fault) = absurd fault
-no_other stored (suc m) before name (inr (p, at, inl stop)) = no_other_behind (Stops m stored) (no_other stored m) before p.left stop
+no_other stored (suc m) before name (inr (p, at, inl stop)) = no_other_behind (StopsWalk m stored) (no_other stored m) before p.left stop
 no_other stored (suc m) before name (inr (p, at, inr (below, link, behind, stop))) =
-    no_other_in_rows (Walks m stored) (Stops m stored) (no_other stored m) p.rows (last_key before below) [] stop
+    no_other_in_rows (WalksTree m stored) (StopsWalk m stored) (no_other stored m) p.rows (last_key before below) [] stop
 
-refused_by_stop : (stored : Stored) (root : CidParts) (e : MstError) → Stops most_layers stored [] root e → MstRefused stored root e
+refused_by_stop : (stored : Stored) (root : CidParts) (e : MstError) → StopsWalk most_layers stored [] root e → MstRefused stored root e
 refused_by_stop stored root error.OutOfMemory h = tt
 refused_by_stop stored root error.OtherTree h = absurd (no_other stored most_layers [] root h)
 refused_by_stop stored root _ h = h
 
 -- ---- what is gathered of the root, behind nothing
 
-pub refused_by : (stored : Stored) (root : CidParts) (e : MstError) → (e ≡ error.OutOfMemory) ⊎ Stops most_layers stored [] root e → MstRefused stored root e
+pub refused_by : (stored : Stored) (root : CidParts) (e : MstError) → (e ≡ error.OutOfMemory) ⊎ StopsWalk most_layers stored [] root e → MstRefused stored root e
 refused_by stored root e (inl m) = subst (MstRefused stored root) (sym m) tt
 refused_by stored root e (inr s) = refused_by_stop stored root e s
 
-pub stops_for_memory : (stored : Stored) (root : CidParts) (e : MstError) → (e ≡ error.OutOfMemory) ⊎ Stops most_layers stored [] root e → (es : List Entry) → IsMst stored root es → e ≡ error.OutOfMemory
+pub stops_for_memory : (stored : Stored) (root : CidParts) (e : MstError) → (e ≡ error.OutOfMemory) ⊎ StopsWalk most_layers stored [] root e → (es : List Entry) → IsMst stored root es → e ≡ error.OutOfMemory
 stops_for_memory stored root e (inl m) es h = m
 stops_for_memory stored root e (inr s) es h = absurd (stops_never_walks stored most_layers [] root e es s (mst_walked stored root es h) (all_behind es h.valid.keys h.valid.rise))
 
 module _ (stored : Stored) (root : CidParts) (p : NodeParts) (at : IsNodeAt stored root p) (first : Found) (empty : first.items ≡ []) where
   -- the walk from the root stops
-  pub stops_at_root : (e : MstError) → (e ≡ error.OutOfMemory) ⊎ StopsInNode (Walks 128 stored) (Stops 128 stored) (last_key [] (entries first.items)) p e → (e ≡ error.OutOfMemory) ⊎ Stops most_layers stored [] root e
+  pub stops_at_root : (e : MstError) → (e ≡ error.OutOfMemory) ⊎ StopsInNode (WalksTree 128 stored) (StopsWalk 128 stored) (last_key [] (entries first.items)) p e → (e ≡ error.OutOfMemory) ⊎ StopsWalk most_layers stored [] root e
   stops_at_root e (inl m) = inl m
-  stops_at_root e (inr s) = inr (stops_named stored root 128 most_layers p at refl [] e (subst (λ es. StopsInNode (Walks 128 stored) (Stops 128 stored) (last_key [] (entries es)) p e) empty s))
+  stops_at_root e (inr s) = inr (stops_named stored root 128 most_layers p at refl [] e (subst (λ es. StopsInNode (WalksTree 128 stored) (StopsWalk 128 stored) (last_key [] (entries es)) p e) empty s))
 
-  module _ (found : Found) (gathered : Gathers (WalksNode (Walks 128 stored) p) first found) where
+  module _ (found : Found) (gathered : GathersEntries (WalksNode (WalksTree 128 stored) p) first found) where
     found_is : entries found.items ≡ gathered.found
     found_is = gathered.all ∙ ap (λ es. entries es ++ gathered.found) empty
 
-    walked : WalksNode (Walks 128 stored) p (entries found.items)
-    walked = subst (WalksNode (Walks 128 stored) p) (sym found_is) gathered.walked
+    walked : WalksNode (WalksTree 128 stored) p (entries found.items)
+    walked = subst (WalksNode (WalksTree 128 stored) p) (sym found_is) gathered.walked
 
-    walks_found : Walks most_layers stored root (entries found.items)
+    walks_found : WalksTree most_layers stored root (entries found.items)
     walks_found = (p, at, walked)
 
     are_entries : AreEntries (entries found.items)
@@ -130,7 +130,7 @@ module _ (stored : Stored) (root : CidParts) (p : NodeParts) (at : IsNodeAt stor
 
 -- ---- there is one reason, beside memory
 
-walked_or_stopped : (stored : Stored) (root : CidParts) (e : MstError) → Stops most_layers stored [] root e → MstRefused stored root error.OtherTree → ⊥
+walked_or_stopped : (stored : Stored) (root : CidParts) (e : MstError) → StopsWalk most_layers stored [] root e → MstRefused stored root error.OtherTree → ⊥
 walked_or_stopped stored root e s (es, w, valid, other) = stops_never_walks stored most_layers [] root e es s w (all_behind es valid.keys valid.rise)
 
 pub one_reason : OneReason

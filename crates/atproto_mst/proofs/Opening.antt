@@ -10,8 +10,8 @@ use Rattle.ipld_links.specs.Reaching.{Stored}
 use Rattle.ipld_links.specs.declared.cid_set.CidSet.{CidSet}
 use Rattle.atproto_mst.specs.Entries.{entry_of, entries}
 use Rattle.atproto_mst.specs.Nodes.{NodeRow, NodeParts, IsNodeAt, key_of, node_told}
-use Rattle.atproto_mst.specs.Stops.{IsNamed, NodeFault}
-use Rattle.atproto_mst.specs.Levels.{Item, an_entry, a_link, link_items, row_items, node_items, held_items, links_of, Opens, Drops, IsOfShape, LinksRefused}
+use Rattle.atproto_mst.specs.Stops.{IsStoredNamed, NodeFault}
+use Rattle.atproto_mst.specs.Levels.{LevelItem, an_entry, a_link, link_items, row_items, node_items, held_items, links_of, OpensItems, DropsShared, IsOfShape, LevelLinksRefused}
 use Rattle.atproto_mst.specs.declared.entries.MstEntry.{MstEntry}
 use Rattle.atproto_mst.specs.declared.error.MstError.{MstError}
 use Rattle.atproto_mst.specs.declared.error.MstError.TheVariants as error
@@ -20,7 +20,7 @@ use Rattle.repository_types.specs.declared.repository.Node.{Node}
 
 -- ---- items, joined
 
-pub links_joined : (xs ys : List Item) → links_of (xs ++ ys) ≡ links_of xs ++ links_of ys
+pub links_joined : (xs ys : List LevelItem) → links_of (xs ++ ys) ≡ links_of xs ++ links_of ys
 links_joined [] ys = refl
 links_joined (an_entry e ∷ xs) ys = links_joined xs ys
 links_joined (a_link name ∷ xs) ys = ap (λ l. name ∷ l) (links_joined xs ys)
@@ -35,22 +35,22 @@ pub pushed : (old new : List LevelEntry) (h : LevelEntry) → new ≡ old ++ h �
 pushed old new h is = ap held_items is ∙ held_joined old (h ∷ [])
     ∙ ap (λ l. held_items old ++ (an_entry (entry_of h.entry) ∷ l)) (append-nil (link_items h.after))
 
-pub opens_joined : (stored : Stored) (dropped : List CidParts) (xs ys a b : List Item) → Opens stored dropped xs a → Opens stored dropped ys b → Opens stored dropped (xs ++ ys) (a ++ b)
-opens_joined stored dropped [] ys a b h k = subst (λ l. Opens stored dropped ys (l ++ b)) (sym h) k
+pub opens_joined : (stored : Stored) (dropped : List CidParts) (xs ys a b : List LevelItem) → OpensItems stored dropped xs a → OpensItems stored dropped ys b → OpensItems stored dropped (xs ++ ys) (a ++ b)
+opens_joined stored dropped [] ys a b h k = subst (λ l. OpensItems stored dropped ys (l ++ b)) (sym h) k
 opens_joined stored dropped (x ∷ xs) ys a b (first, more, one, rest, is) k =
     (first, more ++ b, one, opens_joined stored dropped xs ys more b rest k, ap (λ l. l ++ b) is ∙ append_assoc first more b)
 
 -- an entry, and what its link opens to
-pub opens_entry : (stored : Stored) (dropped : List CidParts) (h : LevelEntry) (p : NodeParts) (old mid new : List Item) → Opens stored dropped (link_items h.after) (node_items p)
+pub opens_entry : (stored : Stored) (dropped : List CidParts) (h : LevelEntry) (p : NodeParts) (old mid new : List LevelItem) → OpensItems stored dropped (link_items h.after) (node_items p)
     → mid ≡ old ++ (an_entry (entry_of h.entry) ∷ link_items p.left) → new ≡ mid ++ row_items [] p.rows
-    → (more : List Item) × Opens stored dropped (held_items (h ∷ [])) more × (new ≡ old ++ more)
+    → (more : List LevelItem) × OpensItems stored dropped (held_items (h ∷ [])) more × (new ≡ old ++ more)
 opens_entry stored dropped h p old mid new o is_mid is_new = (
   an_entry (entry_of h.entry) ∷ node_items p,
   (
     an_entry (entry_of h.entry) ∷ [],
     node_items p,
     refl,
-    subst (λ l. Opens stored dropped l (node_items p)) (sym (append-nil (link_items h.after))) o,
+    subst (λ l. OpensItems stored dropped l (node_items p)) (sym (append-nil (link_items h.after))) o,
     refl,
   ),
   is_new ∙ ap (λ l. l ++ row_items [] p.rows) is_mid ∙ append_assoc old (an_entry (entry_of h.entry) ∷ link_items p.left) (row_items [] p.rows),
@@ -70,13 +70,13 @@ links_next hs i h names new all lt is inv pushed =
 pub links_ended : (hs : List LevelEntry) (i : ℕ) (names all : List CidParts) → length hs ≤ i → names ++ links_of (held_items (drop i hs)) ≡ all → names ≡ all
 links_ended hs i names all le inv = sym (append-nil names) ∙ ap (λ l. names ++ links_of (held_items l)) (sym (drop_all i hs le)) ∙ inv
 
-pub rows_next : (rows : List NodeRow) (r : NodeRow) (rs : List NodeRow) (key : List ℕ) (before after all : List Item) → rows ≡ r ∷ rs → before ++ row_items key rows ≡ all
+pub rows_next : (rows : List NodeRow) (r : NodeRow) (rs : List NodeRow) (key : List ℕ) (before after all : List LevelItem) → rows ≡ r ∷ rs → before ++ row_items key rows ≡ all
     → after ≡ before ++ (an_entry (key_of key r, r.value) ∷ link_items r.after) → after ++ row_items (key_of key r) rs ≡ all
 rows_next rows r rs key before after all is inv pushed =
     ap (λ l. l ++ row_items (key_of key r) rs) pushed ∙ append_assoc before (an_entry (key_of key r, r.value) ∷ link_items r.after) (row_items (key_of key r) rs)
     ∙ ap (λ l. before ++ row_items key l) (sym is) ∙ inv
 
-pub rows_ended : (rows : List NodeRow) (key : List ℕ) (before all : List Item) → rows ≡ [] → before ++ row_items key rows ≡ all → before ≡ all
+pub rows_ended : (rows : List NodeRow) (key : List ℕ) (before all : List LevelItem) → rows ≡ [] → before ++ row_items key rows ≡ all → before ≡ all
 rows_ended rows key before all is inv = sym (append-nil before) ∙ ap (λ l. before ++ row_items key l) (sym is) ∙ inv
 
 map_joined : (xs ys : List MstEntry) → map (λ e. an_entry (entry_of e)) (xs ++ ys) ≡ map (λ e. an_entry (entry_of e)) xs ++ map (λ e. an_entry (entry_of e)) ys
@@ -148,7 +148,7 @@ other_passed names others i n set lt is not h q = (
 )
 
 pub drops_all : (names others first second : List CidParts) (b : Bool) (r : Result CidSet AllocError) → b ≡ true → first ≡ names → second ≡ others
-    → IfOk r (λ s. HasCommonOf s first second) → IfOk r (λ s. Drops b names others (members s))
+    → IfOk r (λ s. HasCommonOf s first second) → IfOk r (λ s. DropsShared b names others (members s))
 drops_all names others first second false (Ok s) e is_first is_second h = absurd (cc e)
 drops_all names others first second true (Ok s) e is_first is_second h =
     subst (λ x. HasCommonOf s x others) is_first (subst (HasCommonOf s first) is_second h)
@@ -156,18 +156,18 @@ drops_all names others first second b (Err e) n is_first is_second h = tt
 
 -- ---- refusals
 
-pub shape_refused : (stored : Stored) (names : List CidParts) (e : MstError) → (e ≡ error.OutOfMemory) ⊎ IsOfShape e → LinksRefused stored names e
+pub shape_refused : (stored : Stored) (names : List CidParts) (e : MstError) → (e ≡ error.OutOfMemory) ⊎ IsOfShape e → LevelLinksRefused stored names e
 shape_refused stored names e (inl m) = inl m
 shape_refused stored names e (inr s) = inr (inl s)
 
-pub more_refused : (stored : Stored) (names more : List CidParts) (e : MstError) → ((q : CidParts) → Among q names → Among q more) → LinksRefused stored names e → LinksRefused stored more e
+pub more_refused : (stored : Stored) (names more : List CidParts) (e : MstError) → ((q : CidParts) → Among q names → Among q more) → LevelLinksRefused stored names e → LevelLinksRefused stored more e
 more_refused stored names more e f (inl m) = inl m
 more_refused stored names more e f (inr (inl s)) = inr (inl s)
 more_refused stored names more e f (inr (inr (name, among, fault))) = inr (inr (name, f name among, fault))
 
 -- the links of an entry alone are those of its link
-pub entry_refused : (stored : Stored) (h : LevelEntry) (e : MstError) → LinksRefused stored (links_of (link_items h.after)) e → LinksRefused stored (links_of (held_items (h ∷ []))) e
-entry_refused stored h e r = subst (λ l. LinksRefused stored (links_of l) e) (sym (append-nil (link_items h.after))) r
+pub entry_refused : (stored : Stored) (h : LevelEntry) (e : MstError) → LevelLinksRefused stored (links_of (link_items h.after)) e → LevelLinksRefused stored (links_of (held_items (h ∷ []))) e
+entry_refused stored h e r = subst (λ l. LevelLinksRefused stored (links_of l) e) (sym (append-nil (link_items h.after))) r
 
 pub matched : {T E P P' : Type 0} (Q Q' : E → Type 0) (r : Result T E) → (P → P') → ((e : E) → Q e → Q' e) → OnOk r P → IfErr r Q → MatchResult r (λ _. P') Q'
 matched Q Q' (Ok x) f g p q = f p
@@ -183,44 +183,44 @@ pub none_there : (x : Option CidParts) (b : Bool) → b ≡ false → b ≡ is_s
 none_there None b e h = refl
 none_there (Some x) b e h = absurd (cc (e, h))
 
-opens_node : (stored : Stored) (dropped : List CidParts) (name : CidParts) (p : NodeParts) → ¬ Among name dropped → IsNodeAt stored name p → Opens stored dropped (a_link name ∷ []) (node_items p)
+opens_node : (stored : Stored) (dropped : List CidParts) (name : CidParts) (p : NodeParts) → ¬ Among name dropped → IsNodeAt stored name p → OpensItems stored dropped (a_link name ∷ []) (node_items p)
 opens_node stored dropped name p not at = (node_items p, [], inr (not, (p, at, refl)), refl, sym (append-nil (node_items p)))
 
-fault_refused : (stored : Stored) (name : CidParts) (e : MstError) → ((e ≡ error.OutOfMemory) × IsNamed stored name) ⊎ NodeFault stored name e → LinksRefused stored (name ∷ []) e
+fault_refused : (stored : Stored) (name : CidParts) (e : MstError) → ((e ≡ error.OutOfMemory) × IsStoredNamed stored name) ⊎ NodeFault stored name e → LevelLinksRefused stored (name ∷ []) e
 fault_refused stored name e (inl m) = inl m.0
 fault_refused stored name e (inr f) = inr (inr (name, inl refl, f))
 
 node_read : (stored : Stored) (dropped : List CidParts) (name : CidParts) (not : ¬ Among name dropped) (r : Result Node MstError)
-    → MatchResult r (λ n. IsNodeAt stored name (node_told n)) (λ e. ((e ≡ error.OutOfMemory) × IsNamed stored name) ⊎ NodeFault stored name e)
-    → MatchResult r (λ n. Opens stored dropped (a_link name ∷ []) (node_items (node_told n))) (LinksRefused stored (name ∷ []))
+    → MatchResult r (λ n. IsNodeAt stored name (node_told n)) (λ e. ((e ≡ error.OutOfMemory) × IsStoredNamed stored name) ⊎ NodeFault stored name e)
+    → MatchResult r (λ n. OpensItems stored dropped (a_link name ∷ []) (node_items (node_told n))) (LevelLinksRefused stored (name ∷ []))
 node_read stored dropped name not (Ok n) h = opens_node stored dropped name (node_told n) not h
 node_read stored dropped name not (Err e) h = fault_refused stored name e h
 
 -- the node of a link that is not dropped
 pub node_opened : (stored : Stored) (dropped : List CidParts) (link : Option CidParts) (name : CidParts) → link ≡ Some name → ¬ Among name dropped → (r : Result Node MstError)
-    → MatchResult r (λ n. IsNodeAt stored name (node_told n)) (λ e. ((e ≡ error.OutOfMemory) × IsNamed stored name) ⊎ NodeFault stored name e)
-    → MatchResult r (λ n. Opens stored dropped (link_items link) (node_items (node_told n))) (LinksRefused stored (links_of (link_items link)))
+    → MatchResult r (λ n. IsNodeAt stored name (node_told n)) (λ e. ((e ≡ error.OutOfMemory) × IsStoredNamed stored name) ⊎ NodeFault stored name e)
+    → MatchResult r (λ n. OpensItems stored dropped (link_items link) (node_items (node_told n))) (LevelLinksRefused stored (links_of (link_items link)))
 node_opened stored dropped link name is not r h =
-    subst (λ l. MatchResult r (λ n. Opens stored dropped (link_items l) (node_items (node_told n))) (LinksRefused stored (links_of (link_items l)))) (sym is) (node_read stored dropped name not r h)
+    subst (λ l. MatchResult r (λ n. OpensItems stored dropped (link_items l) (node_items (node_told n))) (LevelLinksRefused stored (links_of (link_items l)))) (sym is) (node_read stored dropped name not r h)
 
 -- ---- a level
 
 -- the entries opened so far, behind the rows of the node on the left
-pub level_next : (stored : Stored) (dropped : List CidParts) (hs : List LevelEntry) (h : LevelEntry) (rows old new : List Item)
-    → (more : List Item) × Opens stored dropped (held_items hs) more × (old ≡ rows ++ more)
-    → (more : List Item) × Opens stored dropped (held_items (h ∷ [])) more × (new ≡ old ++ more)
-    → (more : List Item) × Opens stored dropped (held_items (hs ++ h ∷ [])) more × (new ≡ rows ++ more)
+pub level_next : (stored : Stored) (dropped : List CidParts) (hs : List LevelEntry) (h : LevelEntry) (rows old new : List LevelItem)
+    → (more : List LevelItem) × OpensItems stored dropped (held_items hs) more × (old ≡ rows ++ more)
+    → (more : List LevelItem) × OpensItems stored dropped (held_items (h ∷ [])) more × (new ≡ old ++ more)
+    → (more : List LevelItem) × OpensItems stored dropped (held_items (hs ++ h ∷ [])) more × (new ≡ rows ++ more)
 level_next stored dropped hs h rows old new (before, opened, was) (more, opens, is) = (
   before ++ more,
-  subst (λ l. Opens stored dropped l (before ++ more)) (sym (held_joined hs (h ∷ []))) (opens_joined stored dropped (held_items hs) (held_items (h ∷ [])) before more opened opens),
+  subst (λ l. OpensItems stored dropped l (before ++ more)) (sym (held_joined hs (h ∷ []))) (opens_joined stored dropped (held_items hs) (held_items (h ∷ [])) before more opened opens),
   is ∙ ap (λ l. l ++ more) was ∙ append_assoc rows before more,
 )
 
-pub level_ended : (stored : Stored) (dropped : List CidParts) (left : Option CidParts) (p : NodeParts) (hs : List LevelEntry) (all : List Item) → Opens stored dropped (link_items left) (node_items p)
-    → (more : List Item) × Opens stored dropped (held_items hs) more × (all ≡ row_items [] p.rows ++ more)
-    → Opens stored dropped (link_items left ++ held_items hs) (link_items p.left ++ all)
+pub level_ended : (stored : Stored) (dropped : List CidParts) (left : Option CidParts) (p : NodeParts) (hs : List LevelEntry) (all : List LevelItem) → OpensItems stored dropped (link_items left) (node_items p)
+    → (more : List LevelItem) × OpensItems stored dropped (held_items hs) more × (all ≡ row_items [] p.rows ++ more)
+    → OpensItems stored dropped (link_items left ++ held_items hs) (link_items p.left ++ all)
 level_ended stored dropped left p hs all first (more, opened, is) =
-    subst (Opens stored dropped (link_items left ++ held_items hs)) (append_assoc (link_items p.left) (row_items [] p.rows) more ∙ ap (λ l. link_items p.left ++ l) (sym is))
+    subst (OpensItems stored dropped (link_items left ++ held_items hs)) (append_assoc (link_items p.left) (row_items [] p.rows) more ∙ ap (λ l. link_items p.left ++ l) (sym is))
     (opens_joined stored dropped (link_items left) (held_items hs) (node_items p) more first opened)
 
 -- the links of one of the entries are links of the level
@@ -233,5 +233,5 @@ links_within left all before rest h is q m =
     let all_there = subst (Among q) (ap links_of (sym (held_joined before (h ∷ rest)) ∙ ap held_items (sym is))) there in
     subst (Among q) (sym (links_joined (link_items left) (held_items all))) (among_right q (links_of (link_items left)) (links_of (held_items all)) all_there)
 
-pub left_within : (left : Option CidParts) (rest : List Item) (q : CidParts) → Among q (links_of (link_items left)) → Among q (links_of (link_items left ++ rest))
+pub left_within : (left : Option CidParts) (rest : List LevelItem) (q : CidParts) → Among q (links_of (link_items left)) → Among q (links_of (link_items left ++ rest))
 left_within left rest q m = subst (Among q) (sym (links_joined (link_items left) rest)) (among_left q (links_of (link_items left)) (links_of rest) m)

@@ -13,8 +13,8 @@ use Rattle.ipld_tree.specs.Cid.{CidParts}
 use Rattle.ipld_links.specs.Reaching.{Stored}
 use Rattle.atproto_mst.specs.Keys.{Entry, ComesBefore, Rise}
 use Rattle.atproto_mst.specs.Nodes.{NodeRow, key_of}
-use Rattle.atproto_mst.specs.Walks.{WalksLink, WalksRows, Walks}
-use Rattle.atproto_mst.specs.Finding.{lookup, by_order, seek, seek_in, FindsBelow, Finds}
+use Rattle.atproto_mst.specs.Walks.{WalksLink, WalksRows, WalksTree}
+use Rattle.atproto_mst.specs.Finding.{lookup, by_order, seek, seek_in, FindsBelow, FindsRecord}
 use Rattle.atproto_mst.specs.declared.find.Sought.{Sought}
 use Rattle.atproto_mst.specs.declared.find.Sought.TheVariants as sought
 use Rattle.atproto_mst.proofs.Rising.{rise_left, rise_right}
@@ -123,12 +123,12 @@ found_below W F key (sought.Below (Some next)) es h d = subst (λ x. F next x) (
 found_below W F key sought.KeyFront es h d = absurd d
 
 -- what a walk finds is found from the root
-pub finds_walked : (m : ℕ) (stored : Stored) (name : CidParts) (es : List Entry) (key : List ℕ) → Walks m stored name es → Rise es → Finds m stored key name (lookup key es)
+pub finds_walked : (m : ℕ) (stored : Stored) (name : CidParts) (es : List Entry) (key : List ℕ) → WalksTree m stored name es → Rise es → FindsRecord m stored key name (lookup key es)
 finds_walked zero stored name es key w r = absurd w
 finds_walked (suc m) stored name es key w r = (
   w.0,
   w.1,
-  subst (λ x. FindsBelow (Finds m stored key) (seek_in key w.0) (lookup key x)) (sym w.2.4)
-      (found_below (Walks m stored) (Finds m stored key) key (seek_in key w.0) (w.2.0 ++ w.2.1) (λ next below v rise. finds_walked m stored next below key v rise)
-      (seek_decides (Walks m stored) key [] w.0.left w.0.rows w.2.0 w.2.1 w.2.2 w.2.3 (subst Rise w.2.4 r))),
+  subst (λ x. FindsBelow (FindsRecord m stored key) (seek_in key w.0) (lookup key x)) (sym w.2.4)
+      (found_below (WalksTree m stored) (FindsRecord m stored key) key (seek_in key w.0) (w.2.0 ++ w.2.1) (λ next below v rise. finds_walked m stored next below key v rise)
+      (seek_decides (WalksTree m stored) key [] w.0.left w.0.rows w.2.0 w.2.1 w.2.2 w.2.3 (subst Rise w.2.4 r))),
 )

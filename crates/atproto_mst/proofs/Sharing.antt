@@ -9,8 +9,8 @@ use Rattle.atproto_mst.specs.Entries.{IsMst}
 use Rattle.atproto_mst.specs.Walks.{most_layers}
 use Rattle.atproto_mst.specs.Stops.{MstRefused}
 use Rattle.atproto_mst.specs.Changes.{Changed, changes, AreChanges}
-use Rattle.atproto_mst.specs.Levels.{Item, an_entry, a_link, IsOfShape}
-use Rattle.atproto_mst.specs.Differing.{IsRootOf, NamesBind, AreChangesOf, DiffRefused}
+use Rattle.atproto_mst.specs.Levels.{LevelItem, an_entry, a_link, IsOfShape}
+use Rattle.atproto_mst.specs.Differing.{IsRootOfEntries, NamesBind, AreChangesOf, DiffRefused}
 use Rattle.atproto_mst.specs.declared.diffs.Change.{Change}
 use Rattle.atproto_mst.specs.declared.error.MstError.{MstError}
 use Rattle.atproto_mst.specs.declared.error.MstError.TheVariants as error
@@ -23,11 +23,11 @@ use Rattle.atproto_mst.proofs.Merging.{no_changes}
 -- ---- the walk
 
 -- of whatever entries the roots are, the levels have all changes
-abbrev pub TellsOf : Stored → CidParts → CidParts → List Item → List Item → Type 0
-TellsOf stored old new xs ys = (es fs : List Entry) → IsRootOf old es → IsRootOf new fs → NamesBind stored (nodes_of es ++ nodes_of fs)
+abbrev pub TellsOf : Stored → CidParts → CidParts → List LevelItem → List LevelItem → Type 0
+TellsOf stored old new xs ys = (es fs : List Entry) → IsRootOfEntries old es → IsRootOfEntries new fs → NamesBind stored (nodes_of es ++ nodes_of fs)
     → Tells (held (nodes_of es ++ nodes_of fs)) es fs xs ys
 
-module _ (stored : Stored) (old new : CidParts) (xs ys : List Item) where
+module _ (stored : Stored) (old new : CidParts) (xs ys : List LevelItem) where
   pub led_begins : xs ≡ a_link old ∷ [] → ys ≡ a_link new ∷ [] → BothLed 1 stored old new xs ys
   led_begins is_old is_new = subst (λ l. BothLed 1 stored old new l ys) (sym is_old) (subst (λ l. BothLed 1 stored old new (a_link old ∷ []) l) (sym is_new) (both_begin stored old new))
 
@@ -38,7 +38,7 @@ module _ (stored : Stored) (old new : CidParts) (xs ys : List Item) where
       (tells_trees (held nodes) es fs old new (most_layers, mst_walked (held nodes) old es (first_held stored es fs bind old h))
       (most_layers, mst_walked (held nodes) new fs (second_held stored es fs bind new k)) h.0.rise k.0.rise))
 
-  pub telling_goes_on : (below beside : List Item) → Steps stored xs ys below beside → TellsOf stored old new xs ys → TellsOf stored old new below beside
+  pub telling_goes_on : (below beside : List LevelItem) → Steps stored xs ys below beside → TellsOf stored old new xs ys → TellsOf stored old new below beside
   telling_goes_on below beside s t es fs h k bind =
       tells_below stored (held (nodes_of es ++ nodes_of fs)) (held_agrees stored es fs bind) es fs xs ys below beside s (t es fs h k bind)
 

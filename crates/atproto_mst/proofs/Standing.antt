@@ -9,7 +9,7 @@ use Rattle.atproto_mst.specs.Keys.{Entry, key_layer}
 use Rattle.atproto_mst.specs.Trees.{Leaf, leaves, lower_run, shared, node_section, nodes_between, subtree, node, subtree_nodes, nodes, top_layer, mst, nodes_of}
 use Rattle.atproto_mst.specs.Entries.{AreStored, IsMst}
 use Rattle.atproto_mst.specs.Nodes.{NodeRow, NodeParts, IsNodeAt}
-use Rattle.atproto_mst.specs.InLayers.{IsRowOf, IfLinked, AreRowsOf, IsOfLayer, IsEmpty, IsRightBelow, first_layer, IsRoot}
+use Rattle.atproto_mst.specs.InLayers.{IsLayerRow, IfLinked, AreRowsOf, IsOfLayer, IsEmpty, IsRightBelow, first_layer, IsRoot}
 use Rattle.atproto_mst.proofs.Nodes.{same_node_at}
 use Rattle.atproto_mst.proofs.Parts.{row_at, rows_over, parts_over, key_again, IsLeaf, node_is_node}
 use Rattle.atproto_mst.proofs.Canonical.{AreBelow, AreLeaves, lower_are_leaves, lower_below, next_leaves, stored_apart, each_leaf, leaves_counted}
@@ -19,7 +19,7 @@ use Rattle.atproto_mst.proofs.Layered.{first_key}
 abbrev StandBelow : Stored → ℕ → (CidParts → Type 0) → Type 0
 StandBelow stored n F = (es : List Leaf) → AreBelow n es → AreLeaves es → AreStored stored (subtree_nodes n es) → IfLinked F (subtree n es)
 
-row_stands : (n : ℕ) (previous : List ℕ) (e : Leaf) (t : Option CidParts) → IsLeaf e → e.layer < suc n → nat_lt e.layer n ≡ false → IsRowOf n previous (row_at previous e t)
+row_stands : (n : ℕ) (previous : List ℕ) (e : Leaf) (t : Option CidParts) → IsLeaf e → e.layer < suc n → nat_lt e.layer n ≡ false → IsLayerRow n previous (row_at previous e t)
 row_stands n previous e t leaf within top =
     let key = key_again previous e.key in
     (ap key_layer key ∙ sym leaf.2 ∙ omega (arith, within, ltb-false e.layer n top), ap (shared previous) (sym key))

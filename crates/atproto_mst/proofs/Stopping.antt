@@ -5,8 +5,8 @@ use Rattle.ipld_links.specs.Names.{block_name}
 use Rattle.ipld_links.specs.Reaching.{Stored}
 use Rattle.atproto_mst.specs.Keys.{Entry}
 use Rattle.atproto_mst.specs.Nodes.{NodeRow, NodeParts, IsNode, IsNodeAt, key_of}
-use Rattle.atproto_mst.specs.Walks.{WalksLink, WalksRows, WalksNode, Walks}
-use Rattle.atproto_mst.specs.Stops.{NodeFault, RowFault, IsRow, ComeBehind, last_key, StopsBehind, StopsInRows, StopsInNode, Stops}
+use Rattle.atproto_mst.specs.Walks.{WalksLink, WalksRows, WalksNode, WalksTree}
+use Rattle.atproto_mst.specs.Stops.{NodeFault, RowFault, IsRow, ComeBehind, last_key, StopsBehind, StopsInRows, StopsInNode, StopsWalk}
 use Rattle.atproto_mst.specs.declared.error.MstError.{MstError}
 use Rattle.atproto_mst.specs.declared.error.MstError.TheVariants as error
 use Rattle.atproto_mst.proofs.Nodes.{same_node_at}
@@ -71,15 +71,15 @@ never_in_node W S one never p before e es (inr (other, to, behind, stop)) (below
     (subst (λ x. StopsInRows W S (last_key before x) [] p.rows e) (one_behind W one p.left other below to link) stop) rows
     (behind_right before below more (subst (ComeBehind before) is f))
 
-never : (stored : Stored) (m : ℕ) → NeverWalks (Walks m stored) (Stops m stored)
+never : (stored : Stored) (m : ℕ) → NeverWalks (WalksTree m stored) (StopsWalk m stored)
 never stored zero before name e es s w f = absurd w
 never stored (suc m) before name e es (inl fault) (q, is, w) f = no_fault stored name e q fault is
 never stored (suc m) before name e es (inr (p, at, s)) (q, is, w) f =
-    never_in_node (Walks m stored) (Stops m stored) (one_walk stored m m) (never stored m) q before e es
-    (subst (λ x. StopsInNode (Walks m stored) (Stops m stored) before x e) (same_node_at stored name p q at is) s) w f
+    never_in_node (WalksTree m stored) (StopsWalk m stored) (one_walk stored m m) (never stored m) q before e es
+    (subst (λ x. StopsInNode (WalksTree m stored) (StopsWalk m stored) before x e) (same_node_at stored name p q at is) s) w f
 
 pub stops_never_walks : (stored : Stored) (m : ℕ) (before : List ℕ) (name : CidParts) (e : MstError) (es : List Entry)
-    → Stops m stored before name e → Walks m stored name es → ComeBehind before es → ⊥
+    → StopsWalk m stored before name e → WalksTree m stored name es → ComeBehind before es → ⊥
 stops_never_walks stored m = never stored m
 
 -- ---- there is one first fault
@@ -154,11 +154,11 @@ module _ (W : CidParts → List Entry → Type 0) (S : List ℕ → CidParts →
       one_fault_in_rows p.rows (last_key before below) [] e f s
       (subst (λ x. StopsInRows W S (last_key before x) [] p.rows f) (one_behind W listing p.left other below to link) t)
 
-pub one_fault : (stored : Stored) (m : ℕ) → OneFault (Stops m stored)
+pub one_fault : (stored : Stored) (m : ℕ) → OneFault (StopsWalk m stored)
 one_fault stored zero before name e f s t = s ∙ sym t
 one_fault stored (suc m) before name e f (inl a) (inl b) = one_node_fault stored name e f a b
 one_fault stored (suc m) before name e f (inl a) (inr (p, at, t)) = absurd (no_fault stored name e p a at)
 one_fault stored (suc m) before name e f (inr (p, at, s)) (inl b) = absurd (no_fault stored name f p b at)
 one_fault stored (suc m) before name e f (inr (p, at, s)) (inr (q, is, t)) =
-    one_fault_in_node (Walks m stored) (Stops m stored) (one_walk stored m m) (never stored m) (one_fault stored m) p before e f s
-    (subst (λ x. StopsInNode (Walks m stored) (Stops m stored) before x f) (same_node_at stored name q p is at) t)
+    one_fault_in_node (WalksTree m stored) (StopsWalk m stored) (one_walk stored m m) (never stored m) (one_fault stored m) p before e f s
+    (subst (λ x. StopsInNode (WalksTree m stored) (StopsWalk m stored) before x f) (same_node_at stored name q p is at) t)

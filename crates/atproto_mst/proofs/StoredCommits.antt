@@ -11,14 +11,14 @@ use Rattle.atproto_mst.specs.Keys.{Entry}
 use Rattle.atproto_mst.specs.Entries.{IsMst}
 use Rattle.atproto_mst.specs.Commits.{commit_tree}
 use Rattle.atproto_mst.specs.UnreadCommits.{UnreadCommit}
-use Rattle.atproto_mst.specs.Repos.{IsBlockAt, IsStoredCommit, CommitRefused, RepoRefused}
+use Rattle.atproto_mst.specs.Repos.{IsOwnBlock, IsStoredCommit, CommitRefused, RepoRefused}
 use Rattle.repository_types.specs.declared.repository.Commit.{Commit}
 use Rattle.atproto_mst.specs.declared.repo_error.RepoError.{RepoError}
 use Rattle.atproto_mst.specs.declared.repo_error.RepoError.TheVariants as error
 use Rattle.atproto_mst.proofs.ShownCommits.{no_commit, one_commit, one_data}
 
 -- the block under the name is no commit
-pub unread_refused : (stored : Stored) (name : CidParts) (b : List ℕ) (e : RepoError) → IsBlockAt stored name b → UnreadCommit b e → CommitRefused stored name e
+pub unread_refused : (stored : Stored) (name : CidParts) (b : List ℕ) (e : RepoError) → IsOwnBlock stored name b → UnreadCommit b e → CommitRefused stored name e
 unread_refused stored name b error.OutOfMemory at h = tt
 unread_refused stored name b error.Missing at h = absurd h
 unread_refused stored name b error.OtherBytes at h = absurd h

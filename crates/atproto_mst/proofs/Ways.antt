@@ -4,8 +4,8 @@ use Rattle.ipld_tree.specs.Cid.{CidParts}
 use Rattle.ipld_links.specs.Reaching.{Stored}
 use Rattle.atproto_mst.specs.Nodes.{NodeParts, IsNodeAt}
 use Rattle.atproto_mst.specs.Walks.{most_layers}
-use Rattle.atproto_mst.specs.Finding.{seek_in, FindsBelow, Finds, WayBelow, IsWay}
-use Rattle.atproto_mst.specs.Laws.{AgreeOn, WaysDecideRecords, WaysLead}
+use Rattle.atproto_mst.specs.Finding.{seek_in, FindsBelow, FindsRecord, WayBelow, IsWay}
+use Rattle.atproto_mst.specs.Laws.{AreSameUnder, WaysDecideRecords, WaysLead}
 use Rattle.atproto_mst.specs.declared.find.Sought.{Sought}
 use Rattle.atproto_mst.specs.declared.find.Sought.TheVariants as sought
 use Rattle.atproto_mst.proofs.Nodes.{same_node_at}
@@ -53,10 +53,10 @@ below_leads F W (sought.Below (Some next)) names h w = h next names w
 below_leads F W sought.KeyFront names h w = absurd w
 
 -- a way leads to an answer
-pub way_leads : (m : ℕ) (stored : Stored) (key : List ℕ) (name : CidParts) (names : List CidParts) → IsWay m stored key name names → (found : Option CidParts) × Finds m stored key name found
+pub way_leads : (m : ℕ) (stored : Stored) (key : List ℕ) (name : CidParts) (names : List CidParts) → IsWay m stored key name names → (found : Option CidParts) × FindsRecord m stored key name found
 way_leads zero stored key name names w = absurd w
 way_leads (suc m) stored key name names w =
-    let below = below_leads (Finds m stored key) (IsWay m stored key) (seek_in key w.0) w.2.0 (way_leads m stored key) w.2.2 in
+    let below = below_leads (FindsRecord m stored key) (IsWay m stored key) (seek_in key w.0) w.2.0 (way_leads m stored key) w.2.2 in
     (below.0, (w.0, w.1, below.1))
 
 node_there : (stored other : Stored) (name : CidParts) (p : NodeParts) → stored name ≡ other name → IsNodeAt stored name p → IsNodeAt other name p
@@ -70,10 +70,10 @@ way_below_there V W (sought.Below (Some next)) names h w = h next w
 way_below_there V W sought.KeyFront names h w = absurd w
 
 -- another store that agrees has the same way
-pub way_there : (m : ℕ) (stored other : Stored) (key : List ℕ) (name : CidParts) (names : List CidParts) → AgreeOn names stored other → IsWay m stored key name names → IsWay m other key name names
+pub way_there : (m : ℕ) (stored other : Stored) (key : List ℕ) (name : CidParts) (names : List CidParts) → AreSameUnder names stored other → IsWay m stored key name names → IsWay m other key name names
 way_there zero stored other key name names a w = absurd w
 way_there (suc m) stored other key name names a w =
-    let agree = subst (λ ns. AgreeOn ns stored other) w.2.1 a in (
+    let agree = subst (λ ns. AreSameUnder ns stored other) w.2.1 a in (
       w.0,
       node_there stored other name w.0 (agree name (inl refl)) w.1,
       (
@@ -91,18 +91,18 @@ found_below_there F G W (sought.Below (Some next)) names found h w f = h next w 
 found_below_there F G W sought.KeyFront names found h w f = absurd f
 
 -- and the same answers
-pub found_there : (m : ℕ) (stored other : Stored) (key : List ℕ) (name : CidParts) (names : List CidParts) (found : Option CidParts) → AgreeOn names stored other → IsWay m stored key name names
-    → Finds m stored key name found → Finds m other key name found
+pub found_there : (m : ℕ) (stored other : Stored) (key : List ℕ) (name : CidParts) (names : List CidParts) (found : Option CidParts) → AreSameUnder names stored other → IsWay m stored key name names
+    → FindsRecord m stored key name found → FindsRecord m other key name found
 found_there zero stored other key name names found a w f = absurd f
 found_there (suc m) stored other key name names found a w f =
-    let agree = subst (λ ns. AgreeOn ns stored other) w.2.1 a in
-    let here = subst (λ p. FindsBelow (Finds m stored key) (seek_in key p) found) (same_node_at stored name f.0 w.0 f.1 w.1) f.2 in (
+    let agree = subst (λ ns. AreSameUnder ns stored other) w.2.1 a in
+    let here = subst (λ p. FindsBelow (FindsRecord m stored key) (seek_in key p) found) (same_node_at stored name f.0 w.0 f.1 w.1) f.2 in (
       w.0,
       node_there stored other name w.0 (agree name (inl refl)) w.1,
-      found_below_there (Finds m stored key) (Finds m other key) (IsWay m stored key) (seek_in key w.0) w.2.0 found (λ next. found_there m stored other key next w.2.0 found (λ q n. agree q (inr n))) w.2.2 here,
+      found_below_there (FindsRecord m stored key) (FindsRecord m other key) (IsWay m stored key) (seek_in key w.0) w.2.0 found (λ next. found_there m stored other key next w.2.0 found (λ q n. agree q (inr n))) w.2.2 here,
     )
 
-turned : (stored other : Stored) (names : List CidParts) → AgreeOn names stored other → AgreeOn names other stored
+turned : (stored other : Stored) (names : List CidParts) → AreSameUnder names stored other → AreSameUnder names other stored
 turned stored other names a q n = sym (a q n)
 
 pub records_decided : WaysDecideRecords

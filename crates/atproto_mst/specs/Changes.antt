@@ -25,22 +25,22 @@ unset_entry key [] = []
 unset_entry key (e ∷ es) = if bytes_eq e.0 key then es else e ∷ unset_entry key es
 
 -- why a record is not put: the key is none; or memory is wanted, for a key that has no record yet
-abbrev pub PutRefused : List ℕ → List Entry → MstError → Type 0
-PutRefused key es KeyLength = ¬ IsKey key
-PutRefused key es OutOfMemory = IsKey key × (Rise es → lookup key es ≡ None)
-PutRefused key es _ = ⊥
+abbrev pub SetRefused : List ℕ → List Entry → MstError → Type 0
+SetRefused key es KeyLength = ¬ IsKey key
+SetRefused key es OutOfMemory = IsKey key × (Rise es → lookup key es ≡ None)
+SetRefused key es _ = ⊥
 
 -- the first keys, so many, come before this key; the next is it
-abbrev pub StandsAt : List ℕ → ℕ → List Entry → Type 0
-StandsAt key i [] = ⊥
-StandsAt key zero (e ∷ es) = e.0 ≡ key
-StandsAt key (suc i) (e ∷ es) = (slice_cmp nat_cmp e.0 key ≡ Less) × StandsAt key i es
+abbrev pub IsKeyAt : List ℕ → ℕ → List Entry → Type 0
+IsKeyAt key i [] = ⊥
+IsKeyAt key zero (e ∷ es) = e.0 ≡ key
+IsKeyAt key (suc i) (e ∷ es) = (slice_cmp nat_cmp e.0 key ≡ Less) × IsKeyAt key i es
 
 -- the first keys, so many, come before this key, and it before the others
-abbrev pub WouldStandAt : List ℕ → ℕ → List Entry → Type 0
-WouldStandAt key zero es = ComesBefore key es
-WouldStandAt key (suc i) [] = ⊥
-WouldStandAt key (suc i) (e ∷ es) = (slice_cmp nat_cmp e.0 key ≡ Less) × WouldStandAt key i es
+abbrev pub WouldBeKeyAt : List ℕ → ℕ → List Entry → Type 0
+WouldBeKeyAt key zero es = ComesBefore key es
+WouldBeKeyAt key (suc i) [] = ⊥
+WouldBeKeyAt key (suc i) (e ∷ es) = (slice_cmp nat_cmp e.0 key ≡ Less) × WouldBeKeyAt key i es
 
 -- ---- all that differs
 

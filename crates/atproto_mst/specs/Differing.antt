@@ -15,8 +15,8 @@ use Rattle.atproto_mst.specs.Changes.{Changed, AreChanges}
 use Rattle.atproto_mst.specs.declared.error.MstError.{MstError}
 
 -- the root is that of the tree of these entries
-abbrev pub IsRootOf : CidParts → List Entry → Type 0
-IsRootOf root es = AreEntries es × (root ≡ root_of es)
+abbrev pub IsRootOfEntries : CidParts → List Entry → Type 0
+IsRootOfEntries root es = AreEntries es × (root ≡ root_of es)
 
 -- Nodes of one name have one block; and bytes that are stored under the name of a node, and have
 -- that name, are its block.
@@ -27,7 +27,7 @@ pub record NamesBind (stored : Stored) (nodes : List Section) : Type 0 where
 
 -- Of whatever entries the roots are, these are the changes between them, where names bind.
 abbrev pub AreChangesOf : Stored → CidParts → CidParts → List Changed → Type 0
-AreChangesOf stored old new cs = (es fs : List Entry) → IsRootOf old es → IsRootOf new fs
+AreChangesOf stored old new cs = (es fs : List Entry) → IsRootOfEntries old es → IsRootOfEntries new fs
     → NamesBind stored (nodes_of es ++ nodes_of fs) → AreChanges es fs cs
 
 -- ---- why they are not told

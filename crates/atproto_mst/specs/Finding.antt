@@ -50,10 +50,10 @@ FindsBelow F (sought.Below (Some next)) found = F next found
 FindsBelow F sought.KeyFront found = ⊥
 
 -- from the root of this name, over at most so many nodes
-abbrev pub Finds : ℕ → Stored → List ℕ → CidParts → Option CidParts → Type 0
-Finds zero stored key name found = ⊥
-Finds (suc m) stored key name found = (p : NodeParts) × IsNodeAt stored name p
-    × FindsBelow (Finds m stored key) (seek_in key p) found
+abbrev pub FindsRecord : ℕ → Stored → List ℕ → CidParts → Option CidParts → Type 0
+FindsRecord zero stored key name found = ⊥
+FindsRecord (suc m) stored key name found = (p : NodeParts) × IsNodeAt stored name p
+    × FindsBelow (FindsRecord m stored key) (seek_in key p) found
 
 -- the first fault on the way
 abbrev pub FaultBelow : (CidParts → MstError → Type 0) → Sought → MstError → Type 0

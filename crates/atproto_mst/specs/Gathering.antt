@@ -8,7 +8,7 @@ use Rattle.atproto_mst.specs.Stops.{last_key, ComeBehind, IsRow}
 use Rattle.atproto_mst.specs.declared.entries.MstEntry.{MstEntry}
 
 -- entries that are so stand behind those that there were, and their keys come behind the last key
-pub record Gathers (W : List Entry → Type 0) (old new : Vec MstEntry Global) : Type 0 where
+pub record GathersEntries (W : List Entry → Type 0) (old new : Vec MstEntry Global) : Type 0 where
   pub found : List Entry
   pub walked : W found
   pub behind : ComeBehind (last_key [] (entries old.items)) found

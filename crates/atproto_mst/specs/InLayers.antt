@@ -9,8 +9,8 @@ use Rattle.atproto_mst.specs.Nodes.{NodeRow, NodeParts, IsNodeAt, key_of}
 
 -- the key is of layer n, and the row leaves out all that it shares with the key before it in its
 -- node
-abbrev pub IsRowOf : ℕ → List ℕ → NodeRow → Type 0
-IsRowOf n previous r = (key_layer (key_of previous r) ≡ n)
+abbrev pub IsLayerRow : ℕ → List ℕ → NodeRow → Type 0
+IsLayerRow n previous r = (key_layer (key_of previous r) ≡ n)
     × (r.shared ≡ shared previous (key_of previous r))
 
 -- the node behind the link, if there is one, is so
@@ -21,7 +21,7 @@ IfLinked F (Some name) = F name
 -- rows of layer n behind a key, where nodes behind links are so
 abbrev pub AreRowsOf : (CidParts → Type 0) → ℕ → List ℕ → List NodeRow → Type 0
 AreRowsOf F n previous [] = ⊤
-AreRowsOf F n previous (r ∷ rs) = IsRowOf n previous r × IfLinked F r.after
+AreRowsOf F n previous (r ∷ rs) = IsLayerRow n previous r × IfLinked F r.after
     × AreRowsOf F n (key_of previous r) rs
 
 -- a node of layer n

@@ -45,8 +45,8 @@ Rise [] = ⊤
 Rise (e ∷ es) = ComesBefore e.0 es × Rise es
 
 -- they have keys, which rise
-abbrev pub AreInOrder : List Entry → Type 0
-AreInOrder es = HaveKeys es × Rise es
+abbrev pub HaveRisingKeys : List Entry → Type 0
+HaveRisingKeys es = HaveKeys es × Rise es
 
 -- the entries of a repository: keys of 1 to 1024 bytes, which rise, and CIDs; fewer than 2 ^ 64 of them
 pub record AreEntries (es : List Entry) : Type 0 where

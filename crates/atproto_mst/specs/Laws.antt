@@ -1,20 +1,16 @@
 -- What holds of all trees.
 use Rattle.std.specs.Prelude.{◌≡◌, ◌≢◌, ◌⊎◌, ◌↔◌, ℕ, List, Option, None, Some}
-use Rattle.sha2.specs.Sha256.{sha256}
 use Rattle.ipld_tree.specs.Cid.{CidParts}
+use Rattle.ipld_links.specs.Collisions.{Collides}
 use Rattle.ipld_links.specs.Sets.{Among}
 use Rattle.ipld_links.specs.Reaching.{Stored}
-use Rattle.atproto_mst.specs.Keys.{Entry, IsKey, Rise, AreInOrder}
+use Rattle.atproto_mst.specs.Keys.{Entry, IsKey, Rise, HaveRisingKeys}
 use Rattle.atproto_mst.specs.Trees.{root_of}
 use Rattle.atproto_mst.specs.Entries.{IsMst}
 use Rattle.atproto_mst.specs.Walks.{most_layers}
 use Rattle.atproto_mst.specs.Changes.{set_entry, unset_entry, Changed, AreChanges}
-use Rattle.atproto_mst.specs.Finding.{lookup, Finds, FindStops, IsWay}
+use Rattle.atproto_mst.specs.Finding.{lookup, FindsRecord, FindStops, IsWay}
 use Rattle.atproto_mst.specs.declared.error.MstError.{MstError}
-
--- two different byte strings have one SHA-256
-abbrev pub Collides : Type 0
-Collides = (x y : List ℕ) × (x ≢ y) × (sha256 x ≡ sha256 y)
 
 -- equal entries have an equal root
 abbrev pub OneRoot : Type 0
@@ -30,27 +26,27 @@ RootBinds = (stored others : Stored) (root : CidParts) (es fs : List Entry)
 -- that root has, wherever it is stored whole; or two different byte strings of one SHA-256 are at hand.
 abbrev pub RecordsBind : Type 0
 RecordsBind = (stored others : Stored) (root : CidParts) (key : List ℕ) (es : List Entry)
-    (found : Option CidParts) → Finds most_layers stored key root found → IsMst others root es
+    (found : Option CidParts) → FindsRecord most_layers stored key root found → IsMst others root es
     → (found ≡ lookup key es) ⊎ Collides
 
 -- ---- what the nodes on the way of a key decide
 
 -- both stores have the same bytes under each of the names, or both have none
-abbrev pub AgreeOn : List CidParts → Stored → Stored → Type 0
-AgreeOn names stored other = (q : CidParts) → Among q names → stored q ≡ other q
+abbrev pub AreSameUnder : List CidParts → Stored → Stored → Type 0
+AreSameUnder names stored other = (q : CidParts) → Among q names → stored q ≡ other q
 
 -- A store that agrees with another on the names of a key's way has the same answers.
 abbrev pub WaysDecideRecords : Type 0
 WaysDecideRecords = (stored other : Stored) (root : CidParts) (key : List ℕ) (names : List CidParts)
-    → IsWay most_layers stored key root names → AgreeOn names stored other
+    → IsWay most_layers stored key root names → AreSameUnder names stored other
     → (found : Option CidParts)
-    → Finds most_layers stored key root found ↔ Finds most_layers other key root found
+    → FindsRecord most_layers stored key root found ↔ FindsRecord most_layers other key root found
 
 -- It has one, and no fault stops the search.
 abbrev pub WaysLead : Type 0
 WaysLead = (stored other : Stored) (root : CidParts) (key : List ℕ) (names : List CidParts)
-    → IsWay most_layers stored key root names → AgreeOn names stored other
-    → ((found : Option CidParts) × Finds most_layers other key root found)
+    → IsWay most_layers stored key root names → AreSameUnder names stored other
+    → ((found : Option CidParts) × FindsRecord most_layers other key root found)
     × ((e : MstError) → ¬ FindStops most_layers other key root e)
 
 -- ---- changes
@@ -60,14 +56,14 @@ pub record SetsOne : Type 0 where
   pub this : (key : List ℕ) (value : CidParts) (es : List Entry) → lookup key (set_entry key value es) ≡ Some value
   pub others : (key k : List ℕ) (value : CidParts) (es : List Entry) → k ≢ key
       → lookup k (set_entry key value es) ≡ lookup k es
-  pub in_order : (key : List ℕ) (value : CidParts) (es : List Entry) → IsKey key → AreInOrder es
-      → AreInOrder (set_entry key value es)
+  pub in_order : (key : List ℕ) (value : CidParts) (es : List Entry) → IsKey key → HaveRisingKeys es
+      → HaveRisingKeys (set_entry key value es)
 
 -- A key that is unset has no record, and each other key the one that it had. What was in order is.
 pub record UnsetsOne : Type 0 where
   pub this : (key : List ℕ) (es : List Entry) → Rise es → lookup key (unset_entry key es) ≡ None
   pub others : (key k : List ℕ) (es : List Entry) → k ≢ key → lookup k (unset_entry key es) ≡ lookup k es
-  pub in_order : (key : List ℕ) (es : List Entry) → AreInOrder es → AreInOrder (unset_entry key es)
+  pub in_order : (key : List ℕ) (es : List Entry) → HaveRisingKeys es → HaveRisingKeys (unset_entry key es)
 
 -- The changes between entries are told in one way alone.
 abbrev pub OneDiff : Type 0

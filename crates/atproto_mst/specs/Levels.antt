@@ -13,32 +13,32 @@ use Rattle.atproto_mst.specs.declared.levels.Level.{Level}
 use Rattle.atproto_mst.specs.declared.levels.LevelEntry.{LevelEntry}
 
 -- an entry, or a link to the tree between its neighbours
-pub data Item : Type 0 where
-  an_entry : Entry → Item
-  a_link : CidParts → Item
+pub data LevelItem : Type 0 where
+  an_entry : Entry → LevelItem
+  a_link : CidParts → LevelItem
 
-abbrev pub link_items : Option CidParts → List Item
+abbrev pub link_items : Option CidParts → List LevelItem
 link_items None = []
 link_items (Some name) = a_link name ∷ []
 
 -- of rows behind a key
-abbrev pub row_items : List ℕ → List NodeRow → List Item
+abbrev pub row_items : List ℕ → List NodeRow → List LevelItem
 row_items previous [] = []
 row_items previous (r ∷ rs) = an_entry (key_of previous r, r.value)
     ∷ (link_items r.after ++ row_items (key_of previous r) rs)
 
-abbrev pub node_items : NodeParts → List Item
+abbrev pub node_items : NodeParts → List LevelItem
 node_items p = link_items p.left ++ row_items [] p.rows
 
-abbrev pub held_items : List LevelEntry → List Item
+abbrev pub held_items : List LevelEntry → List LevelItem
 held_items [] = []
 held_items (h ∷ hs) = an_entry (entry_of h.entry) ∷ (link_items h.after ++ held_items hs)
 
-abbrev pub level_items : Level → List Item
+abbrev pub level_items : Level → List LevelItem
 level_items l = link_items l.left ++ held_items l.entries.items
 
 -- the names of the links
-abbrev pub links_of : List Item → List CidParts
+abbrev pub links_of : List LevelItem → List CidParts
 links_of [] = []
 links_of (an_entry e ∷ xs) = links_of xs
 links_of (a_link name ∷ xs) = name ∷ links_of xs
@@ -46,33 +46,33 @@ links_of (a_link name ∷ xs) = name ∷ links_of xs
 -- ---- a level down
 
 -- An entry stays. A link of these names is dropped; in place of another stands what its node has.
-abbrev pub OpensItem : Stored → List CidParts → Item → List Item → Type 0
+abbrev pub OpensItem : Stored → List CidParts → LevelItem → List LevelItem → Type 0
 OpensItem stored dropped (an_entry e) xs = xs ≡ an_entry e ∷ []
 OpensItem stored dropped (a_link name) xs = (Among name dropped × (xs ≡ []))
     ⊎ ((¬ Among name dropped) × ((p : NodeParts) × IsNodeAt stored name p × (xs ≡ node_items p)))
 
 -- each of the items
-abbrev pub Opens : Stored → List CidParts → List Item → List Item → Type 0
-Opens stored dropped [] xs = xs ≡ []
-Opens stored dropped (y ∷ ys) xs = (first more : List Item) × OpensItem stored dropped y first
-    × Opens stored dropped ys more × (xs ≡ first ++ more)
+abbrev pub OpensItems : Stored → List CidParts → List LevelItem → List LevelItem → Type 0
+OpensItems stored dropped [] xs = xs ≡ []
+OpensItems stored dropped (y ∷ ys) xs = (first more : List LevelItem) × OpensItem stored dropped y first
+    × OpensItems stored dropped ys more × (xs ≡ first ++ more)
 
 -- each, or none where they stay
-abbrev pub OpensIf : Stored → List CidParts → Bool → List Item → List Item → Type 0
-OpensIf stored dropped true ys xs = Opens stored dropped ys xs
+abbrev pub OpensIf : Stored → List CidParts → Bool → List LevelItem → List LevelItem → Type 0
+OpensIf stored dropped true ys xs = OpensItems stored dropped ys xs
 OpensIf stored dropped false ys xs = xs ≡ ys
 
 -- where two levels are opened, the names that stand in both are dropped, and else none
-abbrev pub Drops : Bool → List CidParts → List CidParts → List CidParts → Type 0
-Drops true names others dropped = (q : CidParts)
+abbrev pub DropsShared : Bool → List CidParts → List CidParts → List CidParts → Type 0
+DropsShared true names others dropped = (q : CidParts)
     → Among q dropped ↔ (Among q names × Among q others)
-Drops false names others dropped = dropped ≡ []
+DropsShared false names others dropped = dropped ≡ []
 
 -- of two trees, a level down in each of which it is asked for
 pub record StepsDown (stored : Stored) (asked : Bool × Bool)
-    (before after below others : List Item) : Type 0 where
+    (before after below others : List LevelItem) : Type 0 where
   pub dropped : List CidParts
-  pub drops : Drops (asked.0 && asked.1) (links_of before) (links_of after) dropped
+  pub drops : DropsShared (asked.0 && asked.1) (links_of before) (links_of after) dropped
   pub one : OpensIf stored dropped asked.0 before below
   pub other : OpensIf stored dropped asked.1 after others
 
@@ -85,6 +85,6 @@ IsOfShape (error.NoNode name) = ⊥
 IsOfShape _ = ⊤
 
 -- memory is wanted, the tree is none, or one of the links leads to no node
-abbrev pub LinksRefused : Stored → List CidParts → MstError → Type 0
-LinksRefused stored names e = (e ≡ error.OutOfMemory)
+abbrev pub LevelLinksRefused : Stored → List CidParts → MstError → Type 0
+LevelLinksRefused stored names e = (e ≡ error.OutOfMemory)
     ⊎ (IsOfShape e ⊎ ((name : CidParts) × Among name names × NodeFault stored name e))

@@ -15,13 +15,13 @@ use Rattle.atproto_mst.specs.declared.repo_error.RepoError.{RepoError}
 use Rattle.atproto_mst.specs.declared.repo_error.RepoError.TheVariants as error
 
 -- the block is stored under the name, which is its own
-abbrev pub IsBlockAt : Stored → CidParts → List ℕ → Type 0
-IsBlockAt stored name b = (stored name ≡ Some b) × (name ≡ block_name b)
+abbrev pub IsOwnBlock : Stored → CidParts → List ℕ → Type 0
+IsOwnBlock stored name b = (stored name ≡ Some b) × (name ≡ block_name b)
 
 -- under the name its block is stored, which is the commit's spelling; commits are of version 3
 abbrev pub IsStoredCommit : Stored → CidParts → Commit → Type 0
 IsStoredCommit stored name c = (c.version ≡ 3)
-    × ((b : List ℕ) × IsBlockAt stored name b × AreSpellingOf (commit_tree c) b)
+    × ((b : List ℕ) × IsOwnBlock stored name b × AreSpellingOf (commit_tree c) b)
 
 -- the commit is stored under the name, and the tree that it names is that of the records
 abbrev pub IsRepo : Stored → CidParts → Commit → List MstEntry → Type 0
@@ -34,9 +34,9 @@ abbrev pub CommitRefused : Stored → CidParts → RepoError → Type 0
 CommitRefused stored name error.OutOfMemory = ⊤
 CommitRefused stored name error.Missing = stored name ≡ None
 CommitRefused stored name error.OtherBytes = (b : List ℕ) × (stored name ≡ Some b) × (name ≢ block_name b)
-CommitRefused stored name (error.NoCommit e) = (b : List ℕ) × IsBlockAt stored name b
+CommitRefused stored name (error.NoCommit e) = (b : List ℕ) × IsOwnBlock stored name b
     × UnreadCommit b (error.NoCommit e)
-CommitRefused stored name (error.OtherVersion n) = (b : List ℕ) × (c : Commit) × IsBlockAt stored name b
+CommitRefused stored name (error.OtherVersion n) = (b : List ℕ) × (c : Commit) × IsOwnBlock stored name b
     × AreSpellingOf (commit_tree c) b × (c.version ≡ n) × (n ≢ 3)
 CommitRefused stored name _ = ⊥
 

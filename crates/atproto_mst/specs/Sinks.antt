@@ -7,14 +7,14 @@ use Rattle.atproto_mst.specs.declared.error.MstError.{MstError}
 use Rattle.atproto_mst.specs.declared.error.MstError.TheVariants.{OutOfMemory}
 
 -- these were handed over behind those that were before
-abbrev pub Takes : {S W : Type 0} → (S → W → List Section → Type 0) → S → List Section → S → Type 0
-Takes {S} {W} holds old taken new = (world : W) (before : List Section) → holds old world before
+abbrev pub HandsOver : {S W : Type 0} → (S → W → List Section → Type 0) → S → List Section → S → Type 0
+HandsOver {S} {W} holds old taken new = (world : W) (before : List Section) → holds old world before
     → holds new world (before ++ taken)
 
 -- of these the first were handed over, and no others
-abbrev pub TakesFirst : {S W : Type 0} → (S → W → List Section → Type 0) → S → List Section → S → Type 0
-TakesFirst holds old nodes new = (first rest : List Section) × (nodes ≡ first ++ rest)
-    × Takes holds old first new
+abbrev pub HandsOverFirst : {S W : Type 0} → (S → W → List Section → Type 0) → S → List Section → S → Type 0
+HandsOverFirst holds old nodes new = (first rest : List Section) × (nodes ≡ first ++ rest)
+    × HandsOver holds old first new
 
 -- memory was wanted, or one of the nodes was refused, for this
 abbrev pub RefusesOne : {S W : Type 0} → (S → W → List Section → Type 0) → (W → Section → MstError → Type 0)

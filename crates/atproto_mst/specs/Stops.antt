@@ -9,13 +9,13 @@ use Rattle.ipld_links.specs.Reaching.{Stored}
 use Rattle.atproto_mst.specs.Keys.{Entry, IsKey, HaveKeys, ComesBefore, Rise, AreEntries}
 use Rattle.atproto_mst.specs.Entries.{IsMst}
 use Rattle.atproto_mst.specs.Nodes.{NodeRow, NodeParts, IsNode, IsNodeAt, key_of}
-use Rattle.atproto_mst.specs.Walks.{WalksLink, Walks, most_layers}
+use Rattle.atproto_mst.specs.Walks.{WalksLink, WalksTree, most_layers}
 use Rattle.atproto_mst.specs.declared.error.MstError.{MstError}
 use Rattle.atproto_mst.specs.declared.error.MstError.TheVariants as error
 
 -- bytes are stored under the name, of which it is the name as a block's
-abbrev pub IsNamed : Stored → CidParts → Type 0
-IsNamed stored name = (b : List ℕ) × (stored name ≡ Some b) × (name ≡ block_name b)
+abbrev pub IsStoredNamed : Stored → CidParts → Type 0
+IsStoredNamed stored name = (b : List ℕ) × (stored name ≡ Some b) × (name ≡ block_name b)
 
 -- no node of this name is there, and why
 abbrev pub NodeFault : Stored → CidParts → MstError → Type 0
@@ -75,10 +75,10 @@ StopsInNode W S before p e = StopsBehind S before p.left e
     × StopsInRows W S (last_key before below) [] p.rows e)
 
 -- From the root of this name, behind this key, where at most so many nodes stand below each other.
-abbrev pub Stops : ℕ → Stored → List ℕ → CidParts → MstError → Type 0
-Stops zero stored before name e = e ≡ error.TooDeep name
-Stops (suc m) stored before name e = NodeFault stored name e
-    ⊎ ((p : NodeParts) × IsNodeAt stored name p × StopsInNode (Walks m stored) (Stops m stored) before p e)
+abbrev pub StopsWalk : ℕ → Stored → List ℕ → CidParts → MstError → Type 0
+StopsWalk zero stored before name e = e ≡ error.TooDeep name
+StopsWalk (suc m) stored before name e = NodeFault stored name e
+    ⊎ ((p : NodeParts) × IsNodeAt stored name p × StopsInNode (WalksTree m stored) (StopsWalk m stored) before p e)
 
 -- ---- why a tree is not read
 
@@ -86,9 +86,9 @@ Stops (suc m) stored before name e = NodeFault stored name e
 -- stored; or the walk stops, at the first fault on its way.
 abbrev pub MstRefused : Stored → CidParts → MstError → Type 0
 MstRefused stored root error.OutOfMemory = ⊤
-MstRefused stored root error.OtherTree = (es : List Entry) × Walks most_layers stored root es
+MstRefused stored root error.OtherTree = (es : List Entry) × WalksTree most_layers stored root es
     × AreEntries es × ¬ IsMst stored root es
-MstRefused stored root e = Stops most_layers stored [] root e
+MstRefused stored root e = StopsWalk most_layers stored [] root e
 
 -- of a tree that is refused there is one reason, beside memory
 abbrev pub OneReason : Type 0

@@ -24,9 +24,9 @@ WalksNode W p es = (below more : List Entry) × WalksLink W p.left below × Walk
     × (es ≡ below ++ more)
 
 -- the entries of the tree whose root has this name, where at most so many nodes stand below each other
-abbrev pub Walks : ℕ → Stored → CidParts → List Entry → Type 0
-Walks zero stored name es = ⊥
-Walks (suc m) stored name es = (p : NodeParts) × IsNodeAt stored name p × WalksNode (Walks m stored) p es
+abbrev pub WalksTree : ℕ → Stored → CidParts → List Entry → Type 0
+WalksTree zero stored name es = ⊥
+WalksTree (suc m) stored name es = (p : NodeParts) × IsNodeAt stored name p × WalksNode (WalksTree m stored) p es
 
 -- the greatest number of nodes below each other: one a layer, of 0 to 128
 abbrev pub most_layers : ℕ

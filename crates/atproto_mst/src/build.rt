@@ -7,7 +7,7 @@ ghost use Rattle.atproto_mst.specs.Trees.{lower_run, entry_tree, entry_trees, no
 ghost use Rattle.atproto_mst.specs.Trees.{subtree, node, subtree_nodes, nodes, nodes_between};
 ghost use Rattle.atproto_mst.specs.Nodes.{tree_of_row, tree_of_node, row_told, node_told};
 ghost use Rattle.atproto_mst.specs.Placed.{told, all_told};
-ghost use Rattle.atproto_mst.specs.Sinks.{Takes, TakesFirst, RefusesOne};
+ghost use Rattle.atproto_mst.specs.Sinks.{HandsOver, HandsOverFirst, RefusesOne};
 
 use crate::error::MstError;
 use crate::keys::shared_front;
@@ -30,11 +30,11 @@ fn name_subtree<S: NodeSink>(
 ) -> Result<Option<Cid>, MstError>
     ensures name { IfOk result (λ name. name ≡ subtree layer (all_told leaves.now)) }
     ensures taken { OnOk result
-        (Takes S.holds sink.old (subtree_nodes layer (all_told leaves.now)) sink.new) }
+        (HandsOver S.holds sink.old (subtree_nodes layer (all_told leaves.now)) sink.new) }
     ensures refused { IfErr result
         (RefusesOne S.holds S.refuses sink.old (subtree_nodes layer (all_told leaves.now))) }
     ensures begun { IfErr result
-        (λ _. TakesFirst S.holds sink.old (subtree_nodes layer (all_told leaves.now)) sink.new) }
+        (λ _. HandsOverFirst S.holds sink.old (subtree_nodes layer (all_told leaves.now)) sink.new) }
 {
     if layer == 0 || leaves.is_empty() {
         return Ok(None);
@@ -55,11 +55,11 @@ pub(crate) fn name_node<S: NodeSink>(
     ensures name { IfOk result
         (λ name. name ≡ block_name (spelling (node layer (all_told leaves.now)))) }
     ensures taken { OnOk result
-        (Takes S.holds sink.old (nodes layer (all_told leaves.now)) sink.new) }
+        (HandsOver S.holds sink.old (nodes layer (all_told leaves.now)) sink.new) }
     ensures refused { IfErr result
         (RefusesOne S.holds S.refuses sink.old (nodes layer (all_told leaves.now))) }
     ensures begun { IfErr result
-        (λ _. TakesFirst S.holds sink.old (nodes layer (all_told leaves.now)) sink.new) }
+        (λ _. HandsOverFirst S.holds sink.old (nodes layer (all_told leaves.now)) sink.new) }
 {
     let (lower, rest) = split_lower(leaves, layer);
     let left = name_subtree(alloc, lower, layer, sink)?;
@@ -79,11 +79,11 @@ fn name_rows<S: NodeSink>(
     requires { lower_run layer (all_told leaves.now) ≡ [] }
     ensures rows { IfOk result (λ rows. map tree_of_row (map row_told rows.items)
         ≡ entry_trees (subtree layer) layer [] (all_told leaves.now)) }
-    ensures taken { OnOk result (Takes S.holds sink.old
+    ensures taken { OnOk result (HandsOver S.holds sink.old
         (nodes_between (subtree_nodes layer) layer (all_told leaves.now)) sink.new) }
     ensures refused { IfErr result (RefusesOne S.holds S.refuses sink.old
         (nodes_between (subtree_nodes layer) layer (all_told leaves.now))) }
-    ensures begun { IfErr result (λ _. TakesFirst S.holds sink.old
+    ensures begun { IfErr result (λ _. HandsOverFirst S.holds sink.old
         (nodes_between (subtree_nodes layer) layer (all_told leaves.now)) sink.new) }
 {
     let mut rows = Vec::new(alloc);
@@ -127,11 +127,11 @@ fn row_of(
 fn hand_over<S: NodeSink>(alloc: Global, node: &Node, sink: &mut S) -> Result<Cid, MstError>
     ensures name { IfOk result (λ name. name ≡ block_name (spelling
         (tree_of_node (node_told node.now)))) }
-    ensures taken { OnOk result (Takes S.holds sink.old (node_section
+    ensures taken { OnOk result (HandsOver S.holds sink.old (node_section
         (tree_of_node (node_told node.now)) ∷ []) sink.new) }
     ensures refused { IfErr result (RefusesOne S.holds S.refuses sink.old (node_section
         (tree_of_node (node_told node.now)) ∷ [])) }
-    ensures begun { IfErr result (λ _. TakesFirst S.holds sink.old (node_section
+    ensures begun { IfErr result (λ _. HandsOverFirst S.holds sink.old (node_section
         (tree_of_node (node_told node.now)) ∷ []) sink.new) }
 {
     let block = spell_node(alloc, node)?;

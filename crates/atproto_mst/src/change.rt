@@ -7,7 +7,7 @@ ghost use Rattle.std.specs.Cmp.Lexicographic.{slice_cmp};
 ghost use Rattle.atproto_mst.specs.Keys.{IsKey, Rise};
 ghost use Rattle.atproto_mst.specs.Entries.{entries};
 ghost use Rattle.atproto_mst.specs.Finding.{lookup};
-ghost use Rattle.atproto_mst.specs.Changes.{set_entry, unset_entry, PutRefused, StandsAt, WouldStandAt};
+ghost use Rattle.atproto_mst.specs.Changes.{set_entry, unset_entry, SetRefused, IsKeyAt, WouldBeKeyAt};
 
 use crate::entries::{LONGEST_KEY, MstEntry};
 use crate::error::MstError;
@@ -29,7 +29,7 @@ pub fn put_entry(
     ensures before { Rise (entries all.old.items) → IfOk result
         (λ before. before ≡ lookup key.now (entries all.old.items)) }
     ensures key { OnOk result (IsKey key.now) }
-    ensures refused { IfErr result (PutRefused key.now (entries all.old.items)) }
+    ensures refused { IfErr result (SetRefused key.now (entries all.old.items)) }
     ensures kept { OnErr result (all.new.items ≡ all.old.items) }
 {
     let length = key.len();
@@ -73,7 +73,7 @@ fn new_entry(alloc: Global, key: &[u8], value: Cid) -> Result<MstEntry, AllocErr
 fn find_place(all: &[MstEntry], key: &[u8]) -> Result<usize, usize>
     ensures bound { IsSearchInRange result (length all.now) }
     ensures place { Rise (entries all.now) → MatchResult result
-        (λ i. StandsAt key.now i (entries all.now)) (λ i. WouldStandAt key.now i (entries all.now)) }
+        (λ i. IsKeyAt key.now i (entries all.now)) (λ i. WouldBeKeyAt key.now i (entries all.now)) }
 {
     all.binary_search_by(
         |entry: &MstEntry| -> Ordering

@@ -6,8 +6,8 @@ ghost use Rattle.atproto_mst.specs.Keys.{Entry};
 ghost use Rattle.atproto_mst.specs.Entries.{IsMst};
 ghost use Rattle.atproto_mst.specs.Nodes.{node_told};
 ghost use Rattle.atproto_mst.specs.Walks.{most_layers};
-ghost use Rattle.atproto_mst.specs.Stops.{IsNamed};
-ghost use Rattle.atproto_mst.specs.Finding.{lookup, seek_in, Finds, FindStops};
+ghost use Rattle.atproto_mst.specs.Stops.{IsStoredNamed};
+ghost use Rattle.atproto_mst.specs.Finding.{lookup, seek_in, FindsRecord, FindStops};
 ghost use Rattle.atproto_mst.specs.declared.error.MstError.TheVariants.{OutOfMemory};
 
 use crate::error::MstError;
@@ -59,9 +59,9 @@ pub fn find_record(
     root: &Cid,
     key: &[u8],
 ) -> Result<Option<Cid>, MstError>
-    ensures found { IfOk result (Finds most_layers (stored_in blocks.now) key.now root.now) }
+    ensures found { IfOk result (FindsRecord most_layers (stored_in blocks.now) key.now root.now) }
     ensures refused { IfErr result
-        (λ e. ((e ≡ OutOfMemory) × IsNamed (stored_in blocks.now) root.now)
+        (λ e. ((e ≡ OutOfMemory) × IsStoredNamed (stored_in blocks.now) root.now)
         ⊎ FindStops most_layers (stored_in blocks.now) key.now root.now e) }
     ensures whole { (es : List Entry) → IsMst (stored_in blocks.now) root.now es →
         MatchResult result (λ found. found ≡ lookup key.now es) (λ e. e ≡ OutOfMemory) }

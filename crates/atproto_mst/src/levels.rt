@@ -7,9 +7,9 @@ ghost use Rattle.ipld_links.specs.Reaching.{stored_in};
 ghost use Rattle.ipld_links.specs.Sets.{Among, members};
 ghost use Rattle.atproto_mst.specs.Entries.{entry_of, entries};
 ghost use Rattle.atproto_mst.specs.Nodes.{node_told, row_told, key_of};
-ghost use Rattle.atproto_mst.specs.Levels.{Item, an_entry, a_link, link_items, row_items};
+ghost use Rattle.atproto_mst.specs.Levels.{LevelItem, an_entry, a_link, link_items, row_items};
 ghost use Rattle.atproto_mst.specs.Levels.{node_items, held_items, level_items, links_of};
-ghost use Rattle.atproto_mst.specs.Levels.{Opens, OpensIf, IsOfShape, LinksRefused};
+ghost use Rattle.atproto_mst.specs.Levels.{OpensItems, OpensIf, IsOfShape, LevelLinksRefused};
 ghost use Rattle.atproto_mst.specs.declared.error.MstError.TheVariants.{OutOfMemory};
 
 use crate::entries::{LONGEST_KEY, MstEntry};
@@ -124,7 +124,7 @@ pub(crate) fn open_if(
     ensures { MatchResult result
         (λ below. OpensIf (stored_in blocks.now) (members dropped.now) asked (level_items level)
         (level_items below))
-        (LinksRefused (stored_in blocks.now) (links_of (level_items level))) }
+        (LevelLinksRefused (stored_in blocks.now) (links_of (level_items level))) }
 {
     if asked {
         open_level(alloc, blocks, dropped, level)
@@ -141,9 +141,9 @@ fn open_level(
     level: Level,
 ) -> Result<Level, MstError>
     ensures { MatchResult result
-        (λ below. Opens (stored_in blocks.now) (members dropped.now) (level_items level)
+        (λ below. OpensItems (stored_in blocks.now) (members dropped.now) (level_items level)
         (level_items below))
-        (LinksRefused (stored_in blocks.now) (links_of (level_items level))) }
+        (LevelLinksRefused (stored_in blocks.now) (links_of (level_items level))) }
 {
     let Level { left, entries } = level;
     let node = node_below(alloc, blocks, dropped, &left)?;
@@ -167,10 +167,10 @@ fn open_entry(
     opened: &mut Vec<LevelEntry>,
 ) -> Result<(), MstError>
     ensures { MatchResult result
-        (λ _. (more : List Item) × Opens (stored_in blocks.now) (members dropped.now)
+        (λ _. (more : List LevelItem) × OpensItems (stored_in blocks.now) (members dropped.now)
         (held_items (held ∷ [])) more
         × (held_items opened.new.items ≡ held_items opened.old.items ++ more))
-        (LinksRefused (stored_in blocks.now) (links_of (held_items (held ∷ [])))) }
+        (LevelLinksRefused (stored_in blocks.now) (links_of (held_items (held ∷ [])))) }
 {
     let LevelEntry { entry, after } = held;
     let node = node_below(alloc, blocks, dropped, &after)?;
@@ -186,9 +186,9 @@ fn node_below(
     link: &Option<Cid>,
 ) -> Result<Node, MstError>
     ensures { MatchResult result
-        (λ node. Opens (stored_in blocks.now) (members dropped.now) (link_items link.now)
+        (λ node. OpensItems (stored_in blocks.now) (members dropped.now) (link_items link.now)
         (node_items (node_told node)))
-        (LinksRefused (stored_in blocks.now) (links_of (link_items link.now))) }
+        (LevelLinksRefused (stored_in blocks.now) (links_of (link_items link.now))) }
 {
     let Some(name) = link else {
         return Ok(no_node(alloc));

@@ -6,12 +6,12 @@ ghost use Rattle.ipld_links.specs.Reaching.{stored_in};
 ghost use Rattle.atproto_mst.specs.Keys.{Entry, IsKey};
 ghost use Rattle.atproto_mst.specs.Entries.{entries, IsMst};
 ghost use Rattle.atproto_mst.specs.Nodes.{row_told, node_told, key_of};
-ghost use Rattle.atproto_mst.specs.Walks.{Walks, WalksLink, WalksRows, WalksNode};
-ghost use Rattle.atproto_mst.specs.Stops.{RowFault, Stops, StopsBehind, StopsInRows, StopsInNode};
+ghost use Rattle.atproto_mst.specs.Walks.{WalksTree, WalksLink, WalksRows, WalksNode};
+ghost use Rattle.atproto_mst.specs.Stops.{RowFault, StopsWalk, StopsBehind, StopsInRows, StopsInNode};
 ghost use Rattle.atproto_mst.specs.Stops.{MstRefused, last_key};
-ghost use Rattle.atproto_mst.specs.InLayers.{first_layer, IsRowOf, IfLinked, AreRowsOf, IsOfLayer};
+ghost use Rattle.atproto_mst.specs.InLayers.{first_layer, IsLayerRow, IfLinked, AreRowsOf, IsOfLayer};
 ghost use Rattle.atproto_mst.specs.InLayers.{IsEmpty, IsRightBelow};
-ghost use Rattle.atproto_mst.specs.Gathering.{Gathers, AddsRow, key_behind};
+ghost use Rattle.atproto_mst.specs.Gathering.{GathersEntries, AddsRow, key_behind};
 ghost use Rattle.atproto_mst.specs.declared.error.MstError.TheVariants.{OutOfMemory};
 
 use crate::entries::{LONGEST_KEY, MstEntry};
@@ -72,8 +72,8 @@ fn gather(
     found: &mut Vec<MstEntry>,
 ) -> Result<bool, MstError>
     ensures walked { OnOk result
-        (Gathers (Walks layers (stored_in blocks.now) name.now) found.old found.new) }
-    ensures stopped { IfErr result (λ e. (e ≡ OutOfMemory) ⊎ Stops layers (stored_in blocks.now)
+        (GathersEntries (WalksTree layers (stored_in blocks.now) name.now) found.old found.new) }
+    ensures stopped { IfErr result (λ e. (e ≡ OutOfMemory) ⊎ StopsWalk layers (stored_in blocks.now)
         (last_key [] (entries found.old.items)) name.now e) }
     ensures fits { IfOk result
         (λ fits. Decides fits (IsRightBelow (stored_in blocks.now) above name.now)) }
@@ -109,10 +109,10 @@ fn gather_node(
     found: &mut Vec<MstEntry>,
 ) -> Result<bool, MstError>
     ensures walked { OnOk result
-        (Gathers (WalksNode (Walks layers (stored_in blocks.now)) (node_told node.now)) found.old
+        (GathersEntries (WalksNode (WalksTree layers (stored_in blocks.now)) (node_told node.now)) found.old
         found.new) }
     ensures stopped { IfErr result (λ e. (e ≡ OutOfMemory)
-        ⊎ StopsInNode (Walks layers (stored_in blocks.now)) (Stops layers (stored_in blocks.now))
+        ⊎ StopsInNode (WalksTree layers (stored_in blocks.now)) (StopsWalk layers (stored_in blocks.now))
         (last_key [] (entries found.old.items)) (node_told node.now) e) }
     ensures fits { IfOk result (λ fits. Decides fits
         (IsOfLayer (IsRightBelow (stored_in blocks.now) layer) layer (node_told node.now))) }
@@ -134,9 +134,9 @@ fn gather_below(
     found: &mut Vec<MstEntry>,
 ) -> Result<bool, MstError>
     ensures walked { OnOk result
-        (Gathers (WalksLink (Walks layers (stored_in blocks.now)) link.now) found.old found.new) }
+        (GathersEntries (WalksLink (WalksTree layers (stored_in blocks.now)) link.now) found.old found.new) }
     ensures stopped { IfErr result (λ e. (e ≡ OutOfMemory)
-        ⊎ StopsBehind (Stops layers (stored_in blocks.now))
+        ⊎ StopsBehind (StopsWalk layers (stored_in blocks.now))
         (last_key [] (entries found.old.items)) link.now e) }
     ensures fits { IfOk result
         (λ fits. Decides fits (IfLinked (IsRightBelow (stored_in blocks.now) above) link.now)) }
@@ -159,10 +159,10 @@ fn gather_rows(
     found: &mut Vec<MstEntry>,
 ) -> Result<bool, MstError>
     ensures walked { OnOk result
-        (Gathers (WalksRows (Walks layers (stored_in blocks.now)) [] (map row_told rows.now))
+        (GathersEntries (WalksRows (WalksTree layers (stored_in blocks.now)) [] (map row_told rows.now))
         found.old found.new) }
     ensures stopped { IfErr result (λ e. (e ≡ OutOfMemory)
-        ⊎ StopsInRows (Walks layers (stored_in blocks.now)) (Stops layers (stored_in blocks.now))
+        ⊎ StopsInRows (WalksTree layers (stored_in blocks.now)) (StopsWalk layers (stored_in blocks.now))
         (last_key [] (entries found.old.items)) [] (map row_told rows.now) e) }
     ensures fits { IfOk result (λ fits. Decides fits
         (AreRowsOf (IsRightBelow (stored_in blocks.now) layer) layer [] (map row_told rows.now))) }
@@ -196,7 +196,7 @@ fn add_row(
         (row_told row.now) e) }
     ensures fits { IfOk result
         (λ fits. Decides fits
-        (IsRowOf layer (key_behind previous found.old.items) (row_told row.now))) }
+        (IsLayerRow layer (key_behind previous found.old.items) (row_told row.now))) }
 {
     let before = key_of_last(&found[..previous]);
     let key = make_key(alloc, before, row)?;

@@ -2,7 +2,7 @@
 
 ghost use Rattle.std.specs.Prelude.{◌≡◌, [], ◌∷◌, List, OnOk, IfErr};
 ghost use Rattle.dagcbor_car.specs.Car.{Section};
-ghost use Rattle.atproto_mst.specs.Sinks.{Takes, RefusesOne};
+ghost use Rattle.atproto_mst.specs.Sinks.{HandsOver, RefusesOne};
 
 use crate::error::MstError;
 use ipld_tree::Cid;
@@ -24,8 +24,8 @@ pub trait NodeSink {
     /// what it holds.
     fn take(&mut self, name: Cid, block: Vec<u8>) -> Result<(), MstError>
         ensures taken { OnOk result
-            (Takes holds self.old ((name, block.items) ∷ []) self.new) }
+            (HandsOver holds self.old ((name, block.items) ∷ []) self.new) }
         ensures refused { IfErr result
             (RefusesOne holds refuses self.old ((name, block.items) ∷ [])) }
-        ensures kept { IfErr result (λ _. Takes holds self.old [] self.new) };
+        ensures kept { IfErr result (λ _. HandsOver holds self.old [] self.new) };
 }

@@ -3,7 +3,7 @@
 ghost use Rattle.std.specs.Prelude.{◌≡◌, ◌⊎◌, MatchResult};
 ghost use Rattle.ipld_links.specs.Reaching.{stored_in};
 ghost use Rattle.atproto_mst.specs.Nodes.{IsNodeAt, node_told};
-ghost use Rattle.atproto_mst.specs.Stops.{IsNamed, NodeFault};
+ghost use Rattle.atproto_mst.specs.Stops.{IsStoredNamed, NodeFault};
 ghost use Rattle.atproto_mst.specs.declared.error.MstError.TheVariants.{OutOfMemory};
 
 use crate::error::MstError;
@@ -22,7 +22,7 @@ pub(crate) fn node_at(
 ) -> Result<Node, MstError>
     ensures { MatchResult result
         (λ node. IsNodeAt (stored_in blocks.now) name.now (node_told node))
-        (λ e. ((e ≡ OutOfMemory) × IsNamed (stored_in blocks.now) name.now)
+        (λ e. ((e ≡ OutOfMemory) × IsStoredNamed (stored_in blocks.now) name.now)
         ⊎ NodeFault (stored_in blocks.now) name.now e) }
 {
     let Some(block) = stored_bytes(blocks, name) else {

@@ -5,7 +5,7 @@ ghost use Rattle.ipld_links.specs.Reaching.{stored_in};
 ghost use Rattle.atproto_mst.specs.Keys.{Entry};
 ghost use Rattle.atproto_mst.specs.Entries.{IsMst};
 ghost use Rattle.atproto_mst.specs.Walks.{most_layers};
-ghost use Rattle.atproto_mst.specs.Stops.{IsNamed};
+ghost use Rattle.atproto_mst.specs.Stops.{IsStoredNamed};
 ghost use Rattle.atproto_mst.specs.Finding.{FindStops, IsWay};
 ghost use Rattle.atproto_mst.specs.declared.error.MstError.TheVariants.{OutOfMemory};
 
@@ -28,7 +28,7 @@ pub fn record_way(
     ensures way { IfOk result
         (λ v. IsWay most_layers (stored_in blocks.now) key.now root.now v.items) }
     ensures refused { IfErr result
-        (λ e. ((e ≡ OutOfMemory) × IsNamed (stored_in blocks.now) root.now)
+        (λ e. ((e ≡ OutOfMemory) × IsStoredNamed (stored_in blocks.now) root.now)
         ⊎ FindStops most_layers (stored_in blocks.now) key.now root.now e) }
     ensures whole { (es : List Entry) → IsMst (stored_in blocks.now) root.now es →
         IfErr result (λ e. e ≡ OutOfMemory) }

@@ -4,7 +4,7 @@ ghost use Rattle.std.specs.Prelude.{◌≡◌, ◌⊎◌, ⊤, MatchResult, IfOk
 ghost use Rattle.atproto_mst.specs.Keys.{AreEntries};
 ghost use Rattle.atproto_mst.specs.Trees.{root_of, nodes_of};
 ghost use Rattle.atproto_mst.specs.Entries.{entries, EntriesRefused};
-ghost use Rattle.atproto_mst.specs.Sinks.{Takes, TakesFirst, RefusesOne};
+ghost use Rattle.atproto_mst.specs.Sinks.{HandsOver, HandsOverFirst, RefusesOne};
 
 use crate::build::name_node;
 use crate::entries::{MstEntry, check_entries, place, top_of};
@@ -24,13 +24,13 @@ pub fn write_mst<S: NodeSink>(
     ensures root { IfOk result
         (λ root. root ≡ root_of (entries all.now)) }
     ensures valid { OnOk result (AreEntries (entries all.now)) }
-    ensures taken { OnOk result (Takes S.holds sink.old
+    ensures taken { OnOk result (HandsOver S.holds sink.old
         (nodes_of (entries all.now)) sink.new) }
     ensures refused { IfErr result
         (λ e. (EntriesRefused e (entries all.now) × (sink.new ≡ sink.old))
         ⊎ (AreEntries (entries all.now) × RefusesOne S.holds S.refuses sink.old
         (nodes_of (entries all.now)) e)) }
-    ensures begun { IfErr result (λ _. TakesFirst S.holds sink.old
+    ensures begun { IfErr result (λ _. HandsOverFirst S.holds sink.old
         (nodes_of (entries all.now)) sink.new) }
 {
     check_entries(all)?;

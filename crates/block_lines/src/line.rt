@@ -46,6 +46,9 @@ pub fn say_both<W: Write, V: Write>(
     Ok(well)
 }
 
+/// Room for a line of a CID and two words, so that most lines take memory once.
+const ROOM: usize = 160;
+
 /// The texts, one behind the other, and a line feed.
 pub fn line_of(
     alloc: Global,
@@ -55,7 +58,7 @@ pub fn line_of(
 ) -> Result<Vec<u8>, AllocError>
     ensures { IfOk result (λ v. v.items ≡ line (first.now ++ (second.now ++ third.now))) }
 {
-    let mut out = Vec::new(alloc);
+    let mut out = Vec::with_capacity(alloc, ROOM)?;
     out.extend_from_slice(first)?;
     out.extend_from_slice(second)?;
     out.extend_from_slice(third)?;

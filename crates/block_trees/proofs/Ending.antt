@@ -7,7 +7,7 @@ use Rattle.sqlite_disk.specs.Disk.{MoreFaults}
 use Rattle.sqlite_trees.specs.declared.error.StoreError.{StoreError}
 use Rattle.sqlite_trees.specs.declared.error.StoreError.TheVariants.{OutOfMemory}
 use Rattle.sqlite_exec.specs.Calls.{OnlyReads}
-use Rattle.block_trees.specs.Ends.{Ends, Quiet, WritesIn}
+use Rattle.block_trees.specs.Ends.{EndsOnRows, Quiet, WritesIn}
 use Rattle.block_trees.proofs.Causes.{cause_then, only_reads, only_writes}
 
 module _ {S : Type 0} (g : Ghosts S) where
@@ -80,7 +80,7 @@ schema_then old mid new p q = record {
 }
 
 -- what only reads writes nothing
-pub as_writes : {S T : Type 0} {F : Type 0} {These : ℕ → Type 0} {x : T} (g : Ghosts S) (old new : S) → Ends g OnlyReads F (Ok x) old new → Ends g (WritesIn These) F (Ok x) old new
+pub as_writes : {S T : Type 0} {F : Type 0} {These : ℕ → Type 0} {x : T} (g : Ghosts S) (old new : S) → EndsOnRows g OnlyReads F (Ok x) old new → EndsOnRows g (WritesIn These) F (Ok x) old new
 as_writes {S} {T} {F} {These} g old new e = record {
   frame = λ clean. reads_writes These (g.view old) (g.view new) (e.frame clean);
   sound = e.sound;
@@ -103,12 +103,12 @@ module _ {S : Type 0} {These : ℕ → Type 0} (g : Ghosts S) where
   pub goes_itself : (a : S) → Goes g These a a
   goes_itself a = record { frame = λ clean. writes_itself These (g.view a); schema = schema_itself (g.view a); quiet = quiet_itself g a }
 
-  pub goes : {T F : Type 0} {x : T} (old new : S) → Ends g (WritesIn These) F (Ok x) old new → Goes g These old new
+  pub goes : {T F : Type 0} {x : T} (old new : S) → EndsOnRows g (WritesIn These) F (Ok x) old new → Goes g These old new
   goes old new e = record { frame = e.frame; schema = e.schema; quiet = e.quiet }
 
   module _ {U V G H : Type 0} (old mid new : S) (first : Goes g These old mid) where
     -- and another that did
-    pub goes_ok : {y : U} (z : V) → Ends g (WritesIn These) G (Ok y) mid new → Ends g (WritesIn These) H (Ok z) old new
+    pub goes_ok : {y : U} (z : V) → EndsOnRows g (WritesIn These) G (Ok y) mid new → EndsOnRows g (WritesIn These) H (Ok z) old new
     goes_ok z e = record {
       frame = λ clean. writes_then These (g.view old) (g.view mid) (g.view new) (first.frame (omega (arith, e.quiet.clean))) (e.frame clean);
       sound = λ clean. let was : IsClean (g.view mid) = omega (arith, e.quiet.clean) in sym (only_writes (g.view old) (g.view mid) (first.frame was).frame) ∙ e.sound clean;
@@ -120,7 +120,7 @@ module _ {S : Type 0} {These : ℕ → Type 0} (g : Ghosts S) where
     }
 
     -- and one that failed
-    pub goes_err : {e : StoreError} → (G → H) → Ends {T = U} g (WritesIn These) G (Err e) mid new → Ends {T = V} g (WritesIn These) H (Err e) old new
+    pub goes_err : {e : StoreError} → (G → H) → EndsOnRows {T = U} g (WritesIn These) G (Err e) mid new → EndsOnRows {T = V} g (WritesIn These) H (Err e) old new
     goes_err {e} wider h = record {
       frame = tt;
       sound = tt;
@@ -131,17 +131,17 @@ module _ {S : Type 0} {These : ℕ → Type 0} (g : Ghosts S) where
       quiet = quiet_then g old mid new first.quiet h.quiet;
     }
 
-module _ {S T U V : Type 0} {F G H : Type 0} {These : ℕ → Type 0} {x : T} (g : Ghosts S) (old mid new : S) (first : Ends g (WritesIn These) F (Ok x) old mid) where
+module _ {S T U V : Type 0} {F G H : Type 0} {These : ℕ → Type 0} {x : T} (g : Ghosts S) (old mid new : S) (first : EndsOnRows g (WritesIn These) F (Ok x) old mid) where
   -- a step that succeeded, and another
-  pub then_ok : {y : U} (z : V) → Ends g (WritesIn These) G (Ok y) mid new → Ends g (WritesIn These) H (Ok z) old new
+  pub then_ok : {y : U} (z : V) → EndsOnRows g (WritesIn These) G (Ok y) mid new → EndsOnRows g (WritesIn These) H (Ok z) old new
   then_ok z e = goes_ok g old mid new (goes g old mid first) z e
 
   -- one that succeeded, and one that failed
-  pub then_err : {e : StoreError} → (G → H) → Ends {T = U} g (WritesIn These) G (Err e) mid new → Ends {T = V} g (WritesIn These) H (Err e) old new
+  pub then_err : {e : StoreError} → (G → H) → EndsOnRows {T = U} g (WritesIn These) G (Err e) mid new → EndsOnRows {T = V} g (WritesIn These) H (Err e) old new
   then_err wider h = goes_err g old mid new (goes g old mid first) wider h
 
 -- a walk that memory was wanting for
-pub walk_stops : {S T : Type 0} (g : Ghosts S) (old new : S) → (IsClean (g.view new) → OnlyReads (g.view old) (g.view new)) → KeepsSchema (g.view old) (g.view new) → Quiet g old new → Ends {T = T} g OnlyReads ⊥ (Err OutOfMemory) old new
+pub walk_stops : {S T : Type 0} (g : Ghosts S) (old new : S) → (IsClean (g.view new) → OnlyReads (g.view old) (g.view new)) → KeepsSchema (g.view old) (g.view new) → Quiet g old new → EndsOnRows {T = T} g OnlyReads ⊥ (Err OutOfMemory) old new
 walk_stops g old new frame schema quiet = record {
   frame = tt;
   sound = tt;
@@ -155,7 +155,7 @@ walk_stops g old new frame schema quiet = record {
 -- a walk whose next step failed
 pub walk_fails : {S T : Type 0} (g : Ghosts S) (old mid new : S) (e : StoreError) → (IsClean (g.view mid) → OnlyReads (g.view old) (g.view mid)) → KeepsSchema (g.view old) (g.view mid) → Quiet g old mid
     → Tells (g.blamed new) e → KeepsCommitted (g.view mid) (g.view new) → (IsClean (g.view new) → HasCause (g.view mid) (MoreFaults (g.faults mid) (g.faults new)) ⊥ e) → KeepsSchema (g.view mid) (g.view new) → Quiet g mid new
-    → Ends {T = T} g OnlyReads ⊥ (Err e) old new
+    → EndsOnRows {T = T} g OnlyReads ⊥ (Err e) old new
 walk_fails g old mid new e frame schema quiet told kept cause next later = record {
   frame = tt;
   sound = tt;
@@ -167,14 +167,14 @@ walk_fails g old mid new e frame schema quiet told kept cause next later = recor
 }
 
 -- one that succeeded, and whatever the other answered
-pub then_ends : {S T U F G H : Type 0} {These : ℕ → Type 0} {x : T} (g : Ghosts S) (old mid new : S) (r : Result U StoreError) → Ends g (WritesIn These) F (Ok x) old mid → (G → H) → Ends g (WritesIn These) G r mid new → Ends g (WritesIn These) H r old new
+pub then_ends : {S T U F G H : Type 0} {These : ℕ → Type 0} {x : T} (g : Ghosts S) (old mid new : S) (r : Result U StoreError) → EndsOnRows g (WritesIn These) F (Ok x) old mid → (G → H) → EndsOnRows g (WritesIn These) G r mid new → EndsOnRows g (WritesIn These) H r old new
 then_ends g old mid new (Ok y) first wider e = then_ok g old mid new first y e
 then_ends g old mid new (Err e) first wider h = then_err g old mid new first wider h
 
 -- an edit of one of the trees, whatever it answered
 pub set_ends : {S X : Type 0} (g : Ghosts S) (These : ℕ → Type 0) (tree : ℕ) (G H : Type 0) (r : Result X StoreError) (old new : S) (edit : List Row → List Row) → These tree → (G → H)
     → OnOk r (IsClean (g.view new) → SetsTree (g.view old) (g.view new) tree edit) → OnOk r (IsClean (g.view new) → OnlyWrites (g.view old) (g.view new)) → IfErr r (IsFailure (g.view old) (g.view new)) → IfErr r (Tells (g.blamed new))
-    → (IsClean (g.view new) → IfErr r (HasCause (g.view old) (MoreFaults (g.faults old) (g.faults new)) G)) → KeepsSchema (g.view old) (g.view new) → Quiet g old new → Ends g (WritesIn These) H r old new
+    → (IsClean (g.view new) → IfErr r (HasCause (g.view old) (MoreFaults (g.faults old) (g.faults new)) G)) → KeepsSchema (g.view old) (g.view new) → Quiet g old new → EndsOnRows g (WritesIn These) H r old new
 set_ends g These tree G H (Ok x) old new edit this wider set frame err told cause schema quiet = record {
   frame = λ clean. writes_set These tree (g.view old) (g.view new) edit this (frame clean) (set clean);
   sound = λ clean. (set clean).sound;

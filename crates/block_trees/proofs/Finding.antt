@@ -17,7 +17,7 @@ use Rattle.sqlite_trees.specs.Tree.{IsIndex, from_key, sought, order_of}
 use Rattle.sqlite_trees.proofs.TreeLemmas.{prefix_cmp-one}
 use Rattle.std.proofs.lemmas.Map.Lookups.{exact_bytes}
 use Rattle.ipld_links.specs.Sets.{Among}
-use Rattle.block_trees.specs.Rows.{name_tree, name_entry, IsOther, IsListed, IsNameEntry, AreNameEntries, FindsName, name_cmp, EntersName, FindsFirst, Seeks}
+use Rattle.block_trees.specs.Rows.{name_tree, name_entry, IsOther, IsListed, IsNameEntry, AreNameEntries, FindsName, name_cmp, EntersName, FindsFirst, SeeksEntry}
 use Rattle.ipld_tree.specs.declared.cid_error.CidError.{CidError}
 use Rattle.ipld_tree.specs.Cid.{CidParts, cid_bytes}
 
@@ -165,6 +165,6 @@ pub index_rises : (v : View) → v.shape name_tree ≡ shape.Index plain → IsO
 index_rises v at ordered = subst (λ s. IsShaped s (v.trees name_tree)) at (ordered name_tree)
 
 -- the entry that the cursor gave first
-pub seeks : (es : List Row) (name : List ℕ) (mid new : View) (row : Row) (is_there : Bool) → IsIndex plain es → from_key plain (Blob name ∷ []) es ≡ left_of mid 0 → Advances mid new 0 row is_there → Seeks es name row is_there
+pub seeks : (es : List Row) (name : List ℕ) (mid new : View) (row : Row) (is_there : Bool) → IsIndex plain es → from_key plain (Blob name ∷ []) es ≡ left_of mid 0 → Advances mid new 0 row is_there → SeeksEntry es name row is_there
 seeks es name mid new row true up at h = (up, (left_of new 0, at ∙ stepped mid new 0 row h))
 seeks es name mid new row false up at h = (up, at ∙ ended mid new 0 row h)

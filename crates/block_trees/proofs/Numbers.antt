@@ -12,7 +12,7 @@ use Rattle.sqlite_trees.specs.Tree.{rowid, has_rowid, IsTable}
 use Rattle.sqlite_trees.specs.View.{View, IsShaped, IsOrdered, is_int, Finds}
 use Rattle.sqlite_exec.specs.Write.{IsLast}
 use Rattle.ipld_links.specs.Sets.{Among}
-use Rattle.block_trees.specs.Rows.{block_row, last_id, IsFreeId, FreesId, ReadsRow, IsRowIn, IsRowOf}
+use Rattle.block_trees.specs.Rows.{block_row, last_id, IsFreeId, FreesId, ReadsBlockRow, IsRowIn, IsRowOf}
 use Rattle.block_trees.specs.RootRows.{IsAboveAll}
 use Rattle.block_trees.proofs.Finding.{all_among}
 
@@ -107,7 +107,7 @@ first_above rows r h = subst (λ xs. IsAboveAll xs (pos 1)) (sym h) tt
 -- ---- the row with a number
 
 pub reads_found : (rows : List Row) (id : ℤ) (name : List ℕ) (r : Row) (found : Option (List ℕ)) → IsShaped shape.Table rows → Finds rows id r true
-    → MatchOption found ((i : ℤ) (b : List ℕ) → r ≢ block_row i name b) (λ b. r ≡ column r 0 ∷ Blob name ∷ Blob b ∷ []) → ReadsRow rows id name found
+    → MatchOption found ((i : ℤ) (b : List ℕ) → r ≢ block_row i name b) (λ b. r ≡ column r 0 ∷ Blob name ∷ Blob b ∷ []) → ReadsBlockRow rows id name found
 reads_found rows id name r None table finds other = λ b there.
     elim (subst (Among (block_row id name b)) finds (among_filter (has_rowid id) (block_row id name b) rows (has_own id (block_row id name b) refl) there))
     [ inl same ↦ other id b (sym same) | inr none ↦ none ]
@@ -116,7 +116,7 @@ reads_found rows id name r (Some b) table finds is =
     let number = number_is id r (all_among (λ y. IsTrue (is_int (rowid y))) r rows table.1 here.0) here.1 in
     finds ∙ ap (λ x. x ∷ []) (is ∙ ap (λ v. v ∷ Blob name ∷ Blob b ∷ []) number)
 
-pub reads_none : (rows : List Row) (id : ℤ) (name : List ℕ) (r : Row) → Finds rows id r false → ReadsRow rows id name None
+pub reads_none : (rows : List Row) (id : ℤ) (name : List ℕ) (r : Row) → Finds rows id r false → ReadsBlockRow rows id name None
 reads_none rows id name r finds b there = subst (Among (block_row id name b)) finds (among_filter (has_rowid id) (block_row id name b) rows (has_own id (block_row id name b) refl) there)
 
 pub row_in : (rows : List Row) (id : ℤ) (name b : List ℕ) (r : Row) (found : Bool) → IsShaped shape.Table rows → Finds rows id r true

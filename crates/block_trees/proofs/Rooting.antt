@@ -13,7 +13,7 @@ use Rattle.sqlite_exec.proofs.CheckLemmas.{placed, from_no_key}
 use Rattle.ipld_links.specs.Sets.{Among}
 use Rattle.ipld_links.proofs.Members.{among_push}
 use Rattle.ipld_tree.specs.Cid.{CidParts}
-use Rattle.block_trees.specs.RootRows.{root_tree, root_row, IsRootShape, IsRowOfRoot, IsRootIn, AreRoots, HasRoot, FindsRoot, IsAboveAll, LeavesOut, TakesFirst, TakesRoot}
+use Rattle.block_trees.specs.RootRows.{root_tree, root_row, IsRootShape, IsRowOfRoot, IsRootIn, AreRoots, HasRoot, FindsRoot, IsAboveAll, LeavesOut, TakesOutRoot, TakesRoot}
 use Rattle.block_trees.proofs.Finding.{all_among}
 use Rattle.block_trees.proofs.Numbers.{has_own}
 use Rattle.block_trees.proofs.Surveying.{among_middle}
@@ -148,7 +148,7 @@ pub record TakesSome (old now : List Row) (name : List ℕ) (taken : Bool) : Typ
 pub takes_none : (rows : List Row) (name : List ℕ) → TakesSome rows rows name false
 takes_none rows name = record { were = λ t. absurd (true≢false (sym t)); same = λ e. refl; leaves = λ rest l. l }
 
-pub takes_more : (old mid new : List Row) (name : List ℕ) (taken : Bool) → TakesSome old mid name taken → TakesFirst mid new name true → TakesSome old new name true
+pub takes_more : (old mid new : List Row) (name : List ℕ) (taken : Bool) → TakesSome old mid name taken → TakesOutRoot mid new name true → TakesSome old new name true
 takes_more old mid new name taken h t = record {
   were = λ yes. by taken refl;
   same = λ e. absurd (true≢false e);
@@ -159,7 +159,7 @@ takes_more old mid new name taken h t = record {
     by true e = h.were e
     by false e = subst (λ rows. HasRoot rows name) (h.same e) t.0
 
-pub takes_done : (old mid new : List Row) (name : List ℕ) (taken : Bool) → TakesSome old mid name taken → TakesFirst mid new name false → TakesRoot old new name taken
+pub takes_done : (old mid new : List Row) (name : List ℕ) (taken : Bool) → TakesSome old mid name taken → TakesOutRoot mid new name false → TakesRoot old new name taken
 takes_done old mid new name taken h t = (
   (h.were, λ has. by taken refl has),
   h.leaves new (subst (LeavesOut (IsRowOfRoot name) mid) (sym t.1) (leaves_all mid name t.0)),

@@ -15,7 +15,7 @@ abbrev pub Quiet : {S : Type 0} → Ghosts S → S → S → Type 0
 Quiet g old new = IsQuiet g.view g.faults g.recovers g.is_shielded old new
 
 -- How a call on rows ends. Where it succeeds, it changes no more than this; a row is refused only where it is too long.
-pub record Ends {S T : Type 0} (g : Ghosts S) (Changes : View → View → Type 0) (IsLong : Type 0) (result : Result T StoreError) (old new : S) : Type 0 where
+pub record EndsOnRows {S T : Type 0} (g : Ghosts S) (Changes : View → View → Type 0) (IsLong : Type 0) (result : Result T StoreError) (old new : S) : Type 0 where
   pub frame : OnOk result (IsClean (g.view new) → Changes (g.view old) (g.view new))
   pub sound : OnOk result (IsClean (g.view new) → (g.view old).is_broken ≡ false)
   pub told : IfErr result (Tells (g.blamed new))

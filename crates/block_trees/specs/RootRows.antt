@@ -71,9 +71,9 @@ LeavesOut {X} IsSo (x ∷ old) new = (IsSo x × LeavesOut IsSo old new)
     ⊎ ((¬ IsSo x) × ((more : List X) × (new ≡ x ∷ more) × LeavesOut IsSo old more))
 
 -- none is of the name, and nothing is changed; or one is, and more would be left out of the old rows than of the new
-abbrev pub TakesFirst : List Row → List Row → List ℕ → Bool → Type 0
-TakesFirst old new name false = (¬ HasRoot old name) × (new ≡ old)
-TakesFirst old new name true = HasRoot old name
+abbrev pub TakesOutRoot : List Row → List Row → List ℕ → Bool → Type 0
+TakesOutRoot old new name false = (¬ HasRoot old name) × (new ≡ old)
+TakesOutRoot old new name true = HasRoot old name
     × ((rest : List Row) → LeavesOut (IsRowOfRoot name) new rest → LeavesOut (IsRowOfRoot name) old rest)
 
 -- each row of the name is taken out, if there is one

@@ -61,10 +61,10 @@ IsOther name [] = ⊤
 IsOther name (e ∷ more) = (id : ℤ) → e ≢ name_entry name id
 
 -- entries rise, and the first that is not below the name is this one, or none is there
-abbrev pub Seeks : List Row → List ℕ → Row → Bool → Type 0
-Seeks es name e true = IsIndex plain es
+abbrev pub SeeksEntry : List Row → List ℕ → Row → Bool → Type 0
+SeeksEntry es name e true = IsIndex plain es
     × ((more : List Row) × (from_key plain (Blob name ∷ []) es ≡ e ∷ more))
-Seeks es name e false = IsIndex plain es × (from_key plain (Blob name ∷ []) es ≡ [])
+SeeksEntry es name e false = IsIndex plain es × (from_key plain (Blob name ∷ []) es ≡ [])
 
 -- names stand in the order of their bytes
 abbrev pub name_cmp : List ℕ → List ℕ → Ordering
@@ -109,15 +109,15 @@ FreesId rows None = (r : Row) × Among r rows × (rowid r ≡ Int last_id)
 FreesId rows (Some id) = IsFreeId rows id
 
 -- the bytes in the row with the number, where it has the name; or no such row is there
-abbrev pub ReadsRow : List Row → ℤ → List ℕ → Option (List ℕ) → Type 0
-ReadsRow rows id name None = (b : List ℕ) → Among (block_row id name b) rows → ⊥
-ReadsRow rows id name (Some b) = filter (has_rowid id) rows ≡ block_row id name b ∷ []
+abbrev pub ReadsBlockRow : List Row → ℤ → List ℕ → Option (List ℕ) → Type 0
+ReadsBlockRow rows id name None = (b : List ℕ) → Among (block_row id name b) rows → ⊥
+ReadsBlockRow rows id name (Some b) = filter (has_rowid id) rows ≡ block_row id name b ∷ []
 
 -- what the index and the table have of a name: no entry, an entry that leads to no row of the name, or these bytes
-abbrev pub Gets : Trees → List ℕ → Found → Type 0
-Gets trees name Nothing = FindsName (trees name_tree) name None
-Gets trees name NoRow = (id : ℤ) × Among (name_entry name id) (trees name_tree) × ReadsRow (trees block_tree) id name None
-Gets trees name (Block v) = (id : ℤ) × Among (name_entry name id) (trees name_tree) × ReadsRow (trees block_tree) id name (Some v.items)
+abbrev pub LooksUp : Trees → List ℕ → Found → Type 0
+LooksUp trees name Nothing = FindsName (trees name_tree) name None
+LooksUp trees name NoRow = (id : ℤ) × Among (name_entry name id) (trees name_tree) × ReadsBlockRow (trees block_tree) id name None
+LooksUp trees name (Block v) = (id : ℤ) × Among (name_entry name id) (trees name_tree) × ReadsBlockRow (trees block_tree) id name (Some v.items)
 
 -- the number of a row leads to a row of the name
 abbrev pub IsRowOf : List Row → ℤ → List ℕ → Type 0
@@ -130,35 +130,35 @@ ClearsRow old new id name = (IsRowOf old id name × (new ≡ without_rowid id ol
 
 -- in a database, whose index is not changed, the row with the number is taken out where it is of
 -- the name; or nothing is changed
-abbrev pub TakesRow : Trees → Trees → ℤ → List ℕ → Type 0
-TakesRow old new id name = (new name_tree ≡ old name_tree) × ClearsRow (old block_tree) (new block_tree) id name
+abbrev pub TakesOutRow : Trees → Trees → ℤ → List ℕ → Type 0
+TakesOutRow old new id name = (new name_tree ≡ old name_tree) × ClearsRow (old block_tree) (new block_tree) id name
 
 -- the entry is taken out of the index, and the row of the name with it, if there is one
-abbrev pub TakesEntry : Trees → Trees → ℤ → List ℕ → Type 0
-TakesEntry old new id name = (new name_tree ≡ remove_entry plain (name_entry name id) (old name_tree))
+abbrev pub TakesOutEntry : Trees → Trees → ℤ → List ℕ → Type 0
+TakesOutEntry old new id name = (new name_tree ≡ remove_entry plain (name_entry name id) (old name_tree))
     × ClearsRow (old block_tree) (new block_tree) id name
 
 -- the name is not listed, and nothing is changed; or its entry is taken out
-abbrev pub Takes : Trees → Trees → List ℕ → Bool → Type 0
-Takes old new name false = FindsName (old name_tree) name None × (new ≡ old)
-Takes old new name true = (id : ℤ) × Among (name_entry name id) (old name_tree) × TakesEntry old new id name
+abbrev pub TakesOutName : Trees → Trees → List ℕ → Bool → Type 0
+TakesOutName old new name false = FindsName (old name_tree) name None × (new ≡ old)
+TakesOutName old new name true = (id : ℤ) × Among (name_entry name id) (old name_tree) × TakesOutEntry old new id name
 
 -- ---- adding
 
 -- the row with the number is of the name, and has these bytes; or no such row is there
 abbrev pub IsRowIn : List Row → ℤ → List ℕ → List ℕ → Bool → Type 0
-IsRowIn rows id name b true = ReadsRow rows id name (Some b)
+IsRowIn rows id name b true = ReadsBlockRow rows id name (Some b)
 IsRowIn rows id name b false = Among (block_row id name b) rows → ⊥
 
 -- a row of their own has the name and the bytes, and the name leads to it
-abbrev pub Writes : Trees → Trees → List ℕ → List ℕ → Type 0
-Writes old new name b = (id : ℤ) × IsFreeId (old block_tree) id
+abbrev pub WritesBlockRow : Trees → Trees → List ℕ → List ℕ → Type 0
+WritesBlockRow old new name b = (id : ℤ) × IsFreeId (old block_tree) id
     × (new block_tree ≡ put_row (block_row id name b) (old block_tree))
     × (new name_tree ≡ insert_entry plain (name_entry name id) (old name_tree))
 
 -- what comes of a block whose name is not listed: it is new, or no number is left
 abbrev pub Appends : Trees → Trees → List ℕ → List ℕ → Added → Type 0
-Appends old new name b New = Writes old new name b
+Appends old new name b New = WritesBlockRow old new name b
 Appends old new name b Stored = ⊥
 Appends old new name b NoNumber = FreesId (old block_tree) None × (new ≡ old)
 
@@ -166,13 +166,13 @@ Appends old new name b NoNumber = FreesId (old block_tree) None × (new ≡ old)
 -- anew; or it is, and nothing is changed; or no number is left
 abbrev pub Renews : Trees → Trees → ℤ → List ℕ → List ℕ → Added → Type 0
 Renews old new id name b New = (Among (block_row id name b) (old block_tree) → ⊥)
-    × ((mid : Trees) × TakesEntry old mid id name × Writes mid new name b)
-Renews old new id name b Stored = ReadsRow (old block_tree) id name (Some b) × (new ≡ old)
+    × ((mid : Trees) × TakesOutEntry old mid id name × WritesBlockRow mid new name b)
+Renews old new id name b Stored = ReadsBlockRow (old block_tree) id name (Some b) × (new ≡ old)
 Renews old new id name b NoNumber = FreesId (old block_tree) None × (new ≡ old)
 
 -- what comes of a block that is to be kept
-abbrev pub Adds : Trees → Trees → List ℕ → List ℕ → Added → Type 0
-Adds old new name b added = (FindsName (old name_tree) name None × Appends old new name b added)
+abbrev pub AddsBlockRow : Trees → Trees → List ℕ → List ℕ → Added → Type 0
+AddsBlockRow old new name b added = (FindsName (old name_tree) name None × Appends old new name b added)
     ⊎ ((id : ℤ) × Among (name_entry name id) (old name_tree) × Renews old new id name b added)
 
 -- the row or its entry is too long for a database

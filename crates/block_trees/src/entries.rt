@@ -8,9 +8,9 @@ ghost use Rattle.sqlite_value.specs.Keys.{plain};
 ghost use Rattle.sqlite_trees.specs.View.{IsClean, IsStorable, SetsTree};
 ghost use Rattle.sqlite_trees.specs.Tree.{put_row, insert_entry, remove_entry};
 ghost use Rattle.sqlite_exec.specs.Calls.{OnlyReads};
-ghost use Rattle.block_trees.specs.Ends.{Ends, WritesIn, IsOfBlocks, HasNames, HasBlocks, HasTable};
+ghost use Rattle.block_trees.specs.Ends.{EndsOnRows, WritesIn, IsOfBlocks, HasNames, HasBlocks, HasTable};
 ghost use Rattle.block_trees.specs.RootRows.{IsAboveAll};
-ghost use Rattle.block_trees.specs.Rows.{block_tree, name_tree, block_row, name_entry, IsOther, Seeks, FindsName, EntersName, FindsFirst, FreesId, last_id, ReadsRow, IsRowIn, Gets, Adds, Appends, Renews, IsTooLong, Takes, TakesEntry, TakesRow};
+ghost use Rattle.block_trees.specs.Rows.{block_tree, name_tree, block_row, name_entry, IsOther, SeeksEntry, FindsName, EntersName, FindsFirst, FreesId, last_id, ReadsBlockRow, IsRowIn, LooksUp, AddsBlockRow, Appends, Renews, IsTooLong, TakesOutName, TakesOutEntry, TakesOutRow};
 
 use ipld_tree::{Cid, CidError};
 use sqlite_exec::write::last;
@@ -89,8 +89,8 @@ fn number_in(entry: &Row, name: &[u8]) -> Option<i64>
 fn seek_name<S: Store>(store: &mut S, row: &mut Row, name: &[u8]) -> Result<bool, StoreError>
     requires names { HasNames S.Store store.old }
     ensures ok { IfOk result (λ is_there. IsClean (S.Store.view store.new)
-        → Seeks ((S.Store.view store.old).trees name_tree) name.now row.new is_there) }
-    ensures ends { Ends S.Store OnlyReads ⊥ result store.old store.new }
+        → SeeksEntry ((S.Store.view store.old).trees name_tree) name.now row.new is_there) }
+    ensures ends { EndsOnRows S.Store OnlyReads ⊥ result store.old store.new }
 {
     row.clear();
     row.push(ValueRef::Blob(name))?;
@@ -103,7 +103,7 @@ pub fn find<S: Store>(store: &mut S, row: &mut Row, name: &[u8]) -> Result<Optio
     requires names { HasNames S.Store store.old }
     ensures ok { IfOk result (λ o. IsClean (S.Store.view store.new)
         → FindsName ((S.Store.view store.old).trees name_tree) name.now o) }
-    ensures ends { Ends S.Store OnlyReads ⊥ result store.old store.new }
+    ensures ends { EndsOnRows S.Store OnlyReads ⊥ result store.old store.new }
 {
     let is_there = seek_name(store, row, name)?;
     if is_there {
@@ -132,7 +132,7 @@ pub fn first_from<S: Store>(
     requires names { HasNames S.Store store.old }
     ensures ok { IfOk result (λ f. IsClean (S.Store.view store.new)
         → FindsFirst ((S.Store.view store.old).trees name_tree) bound.now f) }
-    ensures ends { Ends S.Store OnlyReads ⊥ result store.old store.new }
+    ensures ends { EndsOnRows S.Store OnlyReads ⊥ result store.old store.new }
 {
     let is_there = seek_name(store, row, bound)?;
     if is_there {
@@ -153,7 +153,7 @@ pub(crate) fn free_number<S: Store>(
         → FreesId ((S.Store.view store.old).trees table) o) }
     ensures above { IfOk result (λ o. IsClean (S.Store.view store.new)
         → IfSome o (IsAboveAll ((S.Store.view store.old).trees table))) }
-    ensures ends { Ends S.Store OnlyReads ⊥ result store.old store.new }
+    ensures ends { EndsOnRows S.Store OnlyReads ⊥ result store.old store.new }
 {
     if last(store, table, row)? {
         Ok(number_above(row.get(0)))
@@ -180,8 +180,8 @@ pub fn get<S: Store>(
     requires names { HasNames S.Store store.old }
     requires blocks { HasBlocks S.Store store.old }
     ensures ok { IfOk result (λ found. IsClean (S.Store.view store.new)
-        → Gets (S.Store.view store.old).trees name.now found) }
-    ensures ends { Ends S.Store OnlyReads ⊥ result store.old store.new }
+        → LooksUp (S.Store.view store.old).trees name.now found) }
+    ensures ends { EndsOnRows S.Store OnlyReads ⊥ result store.old store.new }
 {
     let Some(id) = find(store, row, name)? else {
         return Ok(Found::Nothing);
@@ -202,9 +202,9 @@ fn read<S: Store>(
 ) -> Result<Option<Vec<u8>>, StoreError>
     requires blocks { HasBlocks S.Store store.old }
     ensures ok { IfOk result (λ o. IsClean (S.Store.view store.new)
-        → ReadsRow ((S.Store.view store.old).trees block_tree) id name.now
+        → ReadsBlockRow ((S.Store.view store.old).trees block_tree) id name.now
         (option_map (λ v. v.items) o)) }
-    ensures ends { Ends S.Store OnlyReads ⊥ result store.old store.new }
+    ensures ends { EndsOnRows S.Store OnlyReads ⊥ result store.old store.new }
 {
     if store.get(BLOCKS, id, row)? {
         Ok(bytes_in(alloc, row, name)?)
@@ -247,7 +247,7 @@ fn is_stored<S: Store>(
     requires blocks { HasBlocks S.Store store.old }
     ensures ok { IfOk result (λ is_there. IsClean (S.Store.view store.new)
         → IsRowIn ((S.Store.view store.old).trees block_tree) id name.now bytes.now is_there) }
-    ensures ends { Ends S.Store OnlyReads ⊥ result store.old store.new }
+    ensures ends { EndsOnRows S.Store OnlyReads ⊥ result store.old store.new }
 {
     if store.get(BLOCKS, id, row)? {
         Ok(is_row(row, name, bytes))
@@ -267,9 +267,9 @@ pub fn add<S: Store>(
     requires blocks { HasBlocks S.Store store.old }
     requires names { HasNames S.Store store.old }
     ensures ok { IfOk result (λ added. IsClean (S.Store.view store.new)
-        → Adds (S.Store.view store.old).trees (S.Store.view store.new).trees
+        → AddsBlockRow (S.Store.view store.old).trees (S.Store.view store.new).trees
         name.now bytes.now added) }
-    ensures ends { Ends S.Store (WritesIn IsOfBlocks)
+    ensures ends { EndsOnRows S.Store (WritesIn IsOfBlocks)
         (IsTooLong (S.Store.view store.old).reals name.now bytes.now)
         result store.old store.new }
 {
@@ -291,7 +291,7 @@ fn append<S: Store>(
     ensures ok { IfOk result (λ added. IsClean (S.Store.view store.new)
         → Appends (S.Store.view store.old).trees (S.Store.view store.new).trees
         name.now bytes.now added) }
-    ensures ends { Ends S.Store (WritesIn IsOfBlocks)
+    ensures ends { EndsOnRows S.Store (WritesIn IsOfBlocks)
         (IsTooLong (S.Store.view store.old).reals name.now bytes.now)
         result store.old store.new }
 {
@@ -315,7 +315,7 @@ fn renew<S: Store>(
     ensures ok { IfOk result (λ added. IsClean (S.Store.view store.new)
         → Renews (S.Store.view store.old).trees (S.Store.view store.new).trees
         id name.now bytes.now added) }
-    ensures ends { Ends S.Store (WritesIn IsOfBlocks)
+    ensures ends { EndsOnRows S.Store (WritesIn IsOfBlocks)
         (IsTooLong (S.Store.view store.old).reals name.now bytes.now)
         result store.old store.new }
 {
@@ -348,7 +348,7 @@ fn put<S: Store>(
         → (S.Store.view store.new).trees name_tree
         ≡ insert_entry plain (name_entry name.now id)
         ((S.Store.view store.old).trees name_tree)) }
-    ensures ends { Ends S.Store (WritesIn IsOfBlocks)
+    ensures ends { EndsOnRows S.Store (WritesIn IsOfBlocks)
         (IsTooLong (S.Store.view store.old).reals name.now bytes.now)
         result store.old store.new }
 {
@@ -366,7 +366,7 @@ fn list<S: Store>(store: &mut S, row: &mut Row, id: i64, name: &[u8]) -> Result<
     ensures ok { OnOk result (IsClean (S.Store.view store.new)
         → SetsTree (S.Store.view store.old) (S.Store.view store.new) name_tree
         (insert_entry plain (name_entry name.now id))) }
-    ensures ends { Ends S.Store (WritesIn IsOfBlocks)
+    ensures ends { EndsOnRows S.Store (WritesIn IsOfBlocks)
         (¬ IsStorable ((S.Store.view store.old).reals name_tree) (name_entry name.now id))
         result store.old store.new }
 {
@@ -381,8 +381,8 @@ pub fn take<S: Store>(store: &mut S, row: &mut Row, name: &[u8]) -> Result<bool,
     requires blocks { HasBlocks S.Store store.old }
     requires names { HasNames S.Store store.old }
     ensures ok { IfOk result (λ taken. IsClean (S.Store.view store.new)
-        → Takes (S.Store.view store.old).trees (S.Store.view store.new).trees name.now taken) }
-    ensures ends { Ends S.Store (WritesIn IsOfBlocks) ⊥ result store.old store.new }
+        → TakesOutName (S.Store.view store.old).trees (S.Store.view store.new).trees name.now taken) }
+    ensures ends { EndsOnRows S.Store (WritesIn IsOfBlocks) ⊥ result store.old store.new }
 {
     let Some(id) = find(store, row, name)? else {
         return Ok(false);
@@ -401,8 +401,8 @@ fn take_entry<S: Store>(
     requires blocks { HasBlocks S.Store store.old }
     requires names { HasNames S.Store store.old }
     ensures ok { OnOk result (IsClean (S.Store.view store.new)
-        → TakesEntry (S.Store.view store.old).trees (S.Store.view store.new).trees id name.now) }
-    ensures ends { Ends S.Store (WritesIn IsOfBlocks) ⊥ result store.old store.new }
+        → TakesOutEntry (S.Store.view store.old).trees (S.Store.view store.new).trees id name.now) }
+    ensures ends { EndsOnRows S.Store (WritesIn IsOfBlocks) ⊥ result store.old store.new }
 {
     take_row(store, row, id, name)?;
     unlist(store, row, id, name)
@@ -412,8 +412,8 @@ fn take_entry<S: Store>(
 fn take_row<S: Store>(store: &mut S, row: &mut Row, id: i64, name: &[u8]) -> Result<(), StoreError>
     requires blocks { HasBlocks S.Store store.old }
     ensures ok { OnOk result (IsClean (S.Store.view store.new)
-        → TakesRow (S.Store.view store.old).trees (S.Store.view store.new).trees id name.now) }
-    ensures ends { Ends S.Store (WritesIn IsOfBlocks) ⊥ result store.old store.new }
+        → TakesOutRow (S.Store.view store.old).trees (S.Store.view store.new).trees id name.now) }
+    ensures ends { EndsOnRows S.Store (WritesIn IsOfBlocks) ⊥ result store.old store.new }
 {
     let found = store.get(BLOCKS, id, row)?;
     if found && is_blob(row.get(1), name) {
@@ -429,7 +429,7 @@ fn unlist<S: Store>(store: &mut S, row: &mut Row, id: i64, name: &[u8]) -> Resul
     ensures ok { OnOk result (IsClean (S.Store.view store.new)
         → SetsTree (S.Store.view store.old) (S.Store.view store.new) name_tree
         (remove_entry plain (name_entry name.now id))) }
-    ensures ends { Ends S.Store (WritesIn IsOfBlocks) ⊥ result store.old store.new }
+    ensures ends { EndsOnRows S.Store (WritesIn IsOfBlocks) ⊥ result store.old store.new }
 {
     row.clear();
     row.push(ValueRef::Blob(name))?;

@@ -4,8 +4,8 @@ ghost use Rattle.std.specs.Prelude.{◌≡◌, ◌≢◌, MatchOption, IfOk, OnO
 ghost use Rattle.sqlite_trees.specs.View.{IsClean};
 ghost use Rattle.sqlite_trees.specs.Tree.{put_row, without_rowid};
 ghost use Rattle.sqlite_exec.specs.Calls.{OnlyReads};
-ghost use Rattle.block_trees.specs.Ends.{Ends, WritesIn, IsOfRoots, HasTable, MayHaveRoots};
-ghost use Rattle.block_trees.specs.RootRows.{root_tree, root_row, IsRootIn, AreRoots, FindsRoot, AddsRoot, AppendsRoot, TakesFirst, TakesRoot, IsRootTooLong};
+ghost use Rattle.block_trees.specs.Ends.{EndsOnRows, WritesIn, IsOfRoots, HasTable, MayHaveRoots};
+ghost use Rattle.block_trees.specs.RootRows.{root_tree, root_row, IsRootIn, AreRoots, FindsRoot, AddsRoot, AppendsRoot, TakesOutRoot, TakesRoot, IsRootTooLong};
 
 use crate::entries::{Added, CURSOR, free_number, integer, is_blob};
 use ipld_tree::Cid;
@@ -54,7 +54,7 @@ pub fn list<S: Store>(
     ensures ok { IfOk result (λ o. IsClean (S.Store.view store.new)
         → MatchOption o ((names : _) → ¬ AreRoots ((S.Store.view store.old).trees root_tree) names)
         (λ v. AreRoots ((S.Store.view store.old).trees root_tree) v.items)) }
-    ensures ends { Ends S.Store OnlyReads ⊥ result store.old store.new }
+    ensures ends { EndsOnRows S.Store OnlyReads ⊥ result store.old store.new }
 {
     let mut names = Vec::new(alloc);
     row.clear();
@@ -76,7 +76,7 @@ pub fn list<S: Store>(
 fn find<S: Store>(store: &mut S, row: &mut Row, name: &[u8]) -> Result<Option<i64>, StoreError>
     ensures ok { IfOk result (λ o. IsClean (S.Store.view store.new)
         → FindsRoot ((S.Store.view store.old).trees root_tree) name.now o) }
-    ensures ends { Ends S.Store OnlyReads ⊥ result store.old store.new }
+    ensures ends { EndsOnRows S.Store OnlyReads ⊥ result store.old store.new }
 {
     row.clear();
     store.seek(CURSOR, ROOTS, row, Direction::Forward)?;
@@ -98,7 +98,7 @@ pub fn add<S: Store>(store: &mut S, row: &mut Row, name: &[u8]) -> Result<Added,
     ensures ok { IfOk result (λ added. IsClean (S.Store.view store.new)
         → AddsRoot ((S.Store.view store.old).trees root_tree) ((S.Store.view store.new).trees root_tree)
         name.now added) }
-    ensures ends { Ends S.Store (WritesIn IsOfRoots)
+    ensures ends { EndsOnRows S.Store (WritesIn IsOfRoots)
         (IsRootTooLong (S.Store.view store.old).reals name.now)
         result store.old store.new }
 {
@@ -114,7 +114,7 @@ fn append<S: Store>(store: &mut S, row: &mut Row, name: &[u8]) -> Result<Added, 
     ensures ok { IfOk result (λ added. IsClean (S.Store.view store.new)
         → AppendsRoot ((S.Store.view store.old).trees root_tree) ((S.Store.view store.new).trees root_tree)
         name.now added) }
-    ensures ends { Ends S.Store (WritesIn IsOfRoots)
+    ensures ends { EndsOnRows S.Store (WritesIn IsOfRoots)
         (IsRootTooLong (S.Store.view store.old).reals name.now)
         result store.old store.new }
 {
@@ -131,7 +131,7 @@ fn put<S: Store>(store: &mut S, row: &mut Row, id: i64, name: &[u8]) -> Result<(
     ensures ok { OnOk result (IsClean (S.Store.view store.new)
         → (S.Store.view store.new).trees root_tree
         ≡ put_row (root_row id name.now) ((S.Store.view store.old).trees root_tree)) }
-    ensures ends { Ends S.Store (WritesIn IsOfRoots)
+    ensures ends { EndsOnRows S.Store (WritesIn IsOfRoots)
         (IsRootTooLong (S.Store.view store.old).reals name.now)
         result store.old store.new }
 {
@@ -147,7 +147,7 @@ pub fn take<S: Store>(store: &mut S, row: &mut Row, name: &[u8]) -> Result<bool,
     ensures ok { IfOk result (λ taken. IsClean (S.Store.view store.new)
         → TakesRoot ((S.Store.view store.old).trees root_tree) ((S.Store.view store.new).trees root_tree)
         name.now taken) }
-    ensures ends { Ends S.Store (WritesIn IsOfRoots) ⊥ result store.old store.new }
+    ensures ends { EndsOnRows S.Store (WritesIn IsOfRoots) ⊥ result store.old store.new }
 {
     let mut taken = false;
     'rows: for _count in 0..u64::MAX {
@@ -164,9 +164,9 @@ pub fn take<S: Store>(store: &mut S, row: &mut Row, name: &[u8]) -> Result<bool,
 fn take_first<S: Store>(store: &mut S, row: &mut Row, name: &[u8]) -> Result<bool, StoreError>
     requires roots { MayHaveRoots S.Store store.old }
     ensures ok { IfOk result (λ taken. IsClean (S.Store.view store.new)
-        → TakesFirst ((S.Store.view store.old).trees root_tree) ((S.Store.view store.new).trees root_tree)
+        → TakesOutRoot ((S.Store.view store.old).trees root_tree) ((S.Store.view store.new).trees root_tree)
         name.now taken) }
-    ensures ends { Ends S.Store (WritesIn IsOfRoots) ⊥ result store.old store.new }
+    ensures ends { EndsOnRows S.Store (WritesIn IsOfRoots) ⊥ result store.old store.new }
 {
     let Some(id) = find(store, row, name)? else {
         return Ok(false);
@@ -181,7 +181,7 @@ fn delete<S: Store>(store: &mut S, id: i64) -> Result<(), StoreError>
     ensures ok { OnOk result (IsClean (S.Store.view store.new)
         → (S.Store.view store.new).trees root_tree
         ≡ without_rowid id ((S.Store.view store.old).trees root_tree)) }
-    ensures ends { Ends S.Store (WritesIn IsOfRoots) ⊥ result store.old store.new }
+    ensures ends { EndsOnRows S.Store (WritesIn IsOfRoots) ⊥ result store.old store.new }
 {
     store.delete(ROOTS, id)
 }

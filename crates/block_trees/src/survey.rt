@@ -7,7 +7,7 @@ ghost use Rattle.sqlite_value.specs.Value.{owned};
 ghost use Rattle.sqlite_value.specs.Order.{column};
 ghost use Rattle.sqlite_trees.specs.View.{IsClean};
 ghost use Rattle.sqlite_exec.specs.Calls.{OnlyReads};
-ghost use Rattle.block_trees.specs.Ends.{Ends, HasNames};
+ghost use Rattle.block_trees.specs.Ends.{EndsOnRows, HasNames};
 ghost use Rattle.block_trees.specs.Rows.{name_tree, IsNameEntry, IsKeyed};
 
 use crate::entries::{CURSOR, NAMES};
@@ -64,7 +64,7 @@ pub fn survey<S: Store>(
         → MatchOption o (IsKeyed ((S.Store.view store.old).trees name_tree) → ⊥)
         (λ n. IsKeyed ((S.Store.view store.old).trees name_tree)
         × (n ≡ length ((S.Store.view store.old).trees name_tree)))) }
-    ensures ends { Ends S.Store OnlyReads ⊥ result store.old store.new }
+    ensures ends { EndsOnRows S.Store OnlyReads ⊥ result store.old store.new }
 {
     let mut last = Row::new(alloc);
     row.clear();

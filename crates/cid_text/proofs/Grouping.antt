@@ -1,6 +1,6 @@
 -- Bytes in groups of bits: what is written and read so far.
-use Rattle.std.proofs.Common.{◌≡◌, ℕ, zero, suc, ◌+◌, ◌-◌, ◌*◌, ◌/◌, ◌%◌, ◌^◌, ◌<◌, ◌≤◌, List, [], ◌∷◌, ◌++◌, length, take, replicate, map, refl, sym, ap, ◌∙◌, subst, arith, append_assoc, append-nil, length-append, slice_index, Contains, length-take-le, take_all, pow-add, pow_pos, div-add-mod', flat_map}
-use Rattle.std.proofs.lemmas.List.{length-map, map-append, length-replicate}
+use Rattle.std.proofs.Common.{◌≡◌, ℕ, zero, suc, ◌+◌, ◌-◌, ◌*◌, ◌/◌, ◌%◌, ◌^◌, ◌<◌, ◌≤◌, List, [], ◌∷◌, ◌++◌, length, take, replicate, map, refl, sym, ap, ◌∙◌, subst, arith, append_assoc, append-nil, length-append, slice_index, Contains, length-take-le, take_all, pow-add, pow_pos, div-add-mod', flat_map, get_or, drop, take-append-drop}
+use Rattle.std.proofs.lemmas.List.{length-map, map-append, length-replicate, take_more}
 use Rattle.std.proofs.lemmas.List.Concat.{flat_map-append}
 use Rattle.std.proofs.lemmas.Nat.{div_below, mod_below, le-div, same_from_place, mul-le}
 use Rattle.std.specs.Int.Digits.{AllBelowBase}
@@ -197,3 +197,56 @@ pub room_for_last : {w : ℕ} {symbols start out : List ℕ} {held rest : ℕ} (
 room_for_last {w} {symbols} {start} {out} {held} {rest} bytes g some few =
     let long = length-all_bits 8 bytes in
     room_for_group (length bytes) g (omega arith) (omega arith) some (omega arith)
+
+-- one byte more
+pub byte_next : {symbols start out : List ℕ} {rest : ℕ} (bytes : List ℕ) (i : ℕ) → i < length bytes → get_or bytes i 0 < 256 → IsGrouped 5 symbols start out (flat_map (bits 8) (take i bytes)) (8 * i) rest → IsGrouped 5 symbols start out (flat_map (bits 8) (take (i + 1) bytes)) (8 * (i + 1)) (rest * 256 + get_or bytes i 0)
+byte_next {symbols} {start} {out} {rest} bytes i here small g =
+    let more = ap (flat_map (bits 8)) (take_more bytes i 0 here) ∙ one_more 8 (get_or bytes i 0) (take i bytes) in
+    let held : 8 * i + 8 ≡ 8 * (i + 1) = omega arith in
+    subst (λ h. IsGrouped 5 symbols start out (flat_map (bits 8) (take (i + 1) bytes)) h (rest * 256 + get_or bytes i 0)) held
+    (subst (λ b. IsGrouped 5 symbols start out b (8 * i + 8) (rest * 256 + get_or bytes i 0)) (sym more) (byte_held (get_or bytes i 0) g small))
+
+-- ---- five bytes, eight groups
+
+-- the groups of the bytes
+abbrev own_groups : List ℕ → List ℕ
+own_groups bytes = groups 5 (group_count 5 (length bytes)) (message_bits 5 bytes)
+
+-- a text of five bytes, and the one of what follows them
+pub text_joins : (symbols five rest : List ℕ) → length five ≡ 5 → text_in_groups 5 symbols (five ++ rest) ≡ text_in_groups 5 symbols five ++ text_in_groups 5 symbols rest
+unfolding text_in_groups
+text_joins symbols five rest whole =
+    let some : 0 < 5 = omega arith in
+    let g = grouping_of 5 five some in
+    let h = grouping_of 5 rest some in
+    let long = grouping_length 5 five (own_groups five) g in
+    let short = g.short in
+    let full : g.fill ≡ 0 = omega (arith, long, short, whole) in
+    let same_five : flat_map (bits 5) (own_groups five) ≡ flat_map (bits 8) five = g.same ∙ ap (λ n. flat_map (bits 8) five ++ replicate n 0) full ∙ append-nil (flat_map (bits 8) five) in
+    sym (text_of_grouping 5 symbols (five ++ rest) (own_groups five ++ own_groups rest) some (record {
+      below = all_append (λ v. v < 2 ^ 5) (own_groups five) (own_groups rest) g.below h.below;
+      fill = h.fill;
+      short = h.short;
+      same = flat_map-append (bits 5) (own_groups five) (own_groups rest) ∙ (λ i. same_five i ++ h.same i) ∙ sym (append_assoc (flat_map (bits 8) five) (flat_map (bits 8) rest) (replicate h.fill 0)) ∙ ap (λ b. b ++ replicate h.fill 0) (sym (flat_map-append (bits 8) five rest));
+    })) ∙ map-append (slice_index symbols) (own_groups five) (own_groups rest)
+
+groups_count : (w n : ℕ) (b : List ℕ) → length (groups w n b) ≡ n
+unfolding groups
+groups_count w zero b = refl
+groups_count w (suc n) b = ap suc (groups_count w n (drop w b))
+
+pub text_length : (w : ℕ) (symbols bytes : List ℕ) → length (text_in_groups w symbols bytes) ≡ group_count w (length bytes)
+unfolding text_in_groups
+text_length w symbols bytes = length-map (groups w (group_count w (length bytes)) (message_bits w bytes)) (slice_index symbols) ∙ groups_count w (group_count w (length bytes)) (message_bits w bytes)
+
+-- what is out and the text of what is left have the length of the whole
+pub left_length : (symbols start out left bytes : List ℕ) → out ++ text_in_groups 5 symbols left ≡ start ++ text_in_groups 5 symbols bytes → length out + group_count 5 (length left) ≡ length start + group_count 5 (length bytes)
+left_length symbols start out left bytes e =
+    omega (arith, ap length e, length-append out (text_in_groups 5 symbols left), length-append start (text_in_groups 5 symbols bytes), text_length 5 symbols left, text_length 5 symbols bytes)
+
+-- the text of the next five bytes is out
+pub five_out : (symbols start out left bytes five behind : List ℕ) → five ≡ take 5 left → behind ≡ drop 5 left → length behind + 5 ≡ length left → out ++ text_in_groups 5 symbols left ≡ start ++ text_in_groups 5 symbols bytes → (out ++ text_in_groups 5 symbols five) ++ text_in_groups 5 symbols behind ≡ start ++ text_in_groups 5 symbols bytes
+five_out symbols start out left bytes five behind front back long e =
+    let whole : length five ≡ 5 = ap length front ∙ length-take-le 5 left (omega (arith, long)) in
+    let parts : five ++ behind ≡ left = (λ i. front i ++ back i) ∙ take-append-drop 5 left in
+    append_assoc out (text_in_groups 5 symbols five) (text_in_groups 5 symbols behind) ∙ ap (λ t. out ++ t) (sym (text_joins symbols five behind whole) ∙ ap (text_in_groups 5 symbols) parts) ∙ e

@@ -17,12 +17,7 @@ pub const LONGEST_WRITTEN: usize = 139;
 pub const READ_ROOM: usize = 346;
 
 /// Appends the bytes in groups of so many bits, each as the symbol at its place.
-pub fn push_groups(
-    width: u32,
-    symbols: &[u8],
-    bytes: &[u8],
-    out: &mut ArrayVec<u8, LONGEST_WRITTEN>,
-)
+fn push_groups(width: u32, symbols: &[u8], bytes: &[u8], out: &mut ArrayVec<u8, LONGEST_WRITTEN>)
     requires base { IsBase width symbols.now }
     requires room { array_vec_len out.old + group_count width (length bytes.now) ≤ 139 }
     ensures { out.new.items ≡ out.old.items ++ text_in_groups width symbols.now bytes.now }
@@ -43,6 +38,38 @@ pub fn push_groups(
     if held > 0 {
         out.push(symbols[(rest * (1u32 << (width - held))) as usize]);
     }
+}
+
+/// Appends five bytes as eight symbols of base32.
+#[inline(always)]
+fn push_eight(symbols: &[u8], five: &[u8; 5], out: &mut ArrayVec<u8, LONGEST_WRITTEN>)
+    requires base { IsBase 5 symbols.now }
+    requires room { array_vec_len out.old + 8 ≤ 139 }
+    ensures { out.new.items ≡ out.old.items ++ text_in_groups 5 symbols.now five.now }
+{
+    let mut rest = 0;
+    for &byte in five {
+        rest = rest * 256 + u64::from(byte);
+    }
+    for place in 0..8u32 {
+        let unit = 1u64 << (35 - 5 * place);
+        out.push(symbols[(rest / unit) as usize]);
+        rest %= unit;
+    }
+}
+
+/// Appends the bytes in base32.
+pub fn push_32(symbols: &[u8], bytes: &[u8], out: &mut ArrayVec<u8, LONGEST_WRITTEN>)
+    requires base { IsBase 5 symbols.now }
+    requires room { array_vec_len out.old + group_count 5 (length bytes.now) ≤ 139 }
+    ensures { out.new.items ≡ out.old.items ++ text_in_groups 5 symbols.now bytes.now }
+{
+    let mut rest = bytes;
+    while let Some((five, behind)) = rest.split_first_chunk::<5>() {
+        push_eight(symbols, five, out);
+        rest = behind;
+    }
+    push_groups(5, symbols, rest, out);
 }
 
 /// The bytes that the text is of.

@@ -5,7 +5,7 @@ ghost use Rattle.cid_text.specs.Alphabets.{AreBytes};
 ghost use Rattle.cid_text.specs.Texts.{cid_text, IsTextOf};
 
 use crate::base58::push_58;
-use crate::groups::{LONGEST_WRITTEN, push_groups};
+use crate::groups::{LONGEST_WRITTEN, push_32};
 use arrayvec::ArrayVec;
 use ipld_tree::Cid;
 
@@ -32,7 +32,7 @@ pub fn cid_text(cid: &Cid) -> CidText
         push_58(&bytes, &mut text);
     } else {
         text.push(b'b');
-        push_groups(5, b"abcdefghijklmnopqrstuvwxyz234567", &bytes, &mut text);
+        push_32(b"abcdefghijklmnopqrstuvwxyz234567", &bytes, &mut text);
     }
     text
 }

@@ -24,7 +24,7 @@ use Rattle.cid_text.specs.Alphabets.{AreBytes}
 use Rattle.cid_text.specs.Texts.{text_of_form, IsTextOf}
 use Rattle.cid_text.proofs.Texting.{written_0, written_1, text_0, text_1}
 use Rattle.dag_json.specs.DagJson.{joined, json_text, member_text, dag_json, item_texts, has_reserved_key, items_reserved, entries_reserved}
-use Rattle.dag_json.specs.Reading.{has_slash, decoded_data, document_of, alone, most_levels, within_steps, ReadsData, ReadsItems, ReadsMembers, ReadsWhole, ReadsTokens, ReadsText, HasBytes, ItemsHaveBytes, EntriesHaveBytes, IsTellable}
+use Rattle.dag_json.specs.Reading.{has_slash, decoded_data, document_of, alone, most_levels, within_steps, ReadsData, ReadsItems, ReadsMembers, ReadsWhole, ReadsTokens, ReadsJson, HasBytes, ItemsHaveBytes, EntriesHaveBytes, IsTellable}
 use Rattle.dag_json.specs.declared.error.DagJsonError.TheVariants.{TooDeep}
 use Rattle.dag_json.proofs.Integers.{number_read, number_written, number_utf8}
 use Rattle.dag_json.proofs.Plain.{same_text, plain_utf8, plain_cid, plain_base64}
@@ -375,7 +375,7 @@ document_written : (t : Tree) → Good t → any_need t ≤ 256 → document_of 
 document_written t g within =
     ap (alone (json_tokens (json_of t))) (ap (value most_levels) (sym (append-nil (json_tokens (json_of t)))) ∙ value-json_tokens (json_of t) most_levels [] (omega (arith, g.deep, within)))
 
-pub text_read : (t : Tree) → IsTellable t → ReadsText (dag_json t) (Ok t)
+pub text_read : (t : Tree) → IsTellable t → ReadsJson (dag_json t) (Ok t)
 text_read t h =
     let g = good t h.well_formed h.spellable h.are_bytes h.unreserved in
     let steps : Ok t ≡ within_steps (Ok t) = sym (ap (λ b. cond b (Ok t) (Err TooDeep)) (le-leb (any_need t) 256 h.within)) in

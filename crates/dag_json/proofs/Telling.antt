@@ -8,17 +8,17 @@ use Rattle.ipld_tree.specs.Cid.{CidParts, cid_bytes}
 use Rattle.ipld_tree.specs.Tree.{Tree, items_of, list, mapping, link, has_key, ordered_entries}
 use Rattle.cid_text.proofs.Texting.{one_cid}
 use Rattle.cid_text.proofs.TextFaults.{one_of_text}
-use Rattle.dag_json.specs.Reading.{Read, read_map, has_slash, document_of, within_steps, ReadsLink, ReadsBytes, ReadsNamed, ReadsSlashed, ReadsReserved, ReadsData, ReadsItems, ReadsMembers, ReadsTokens, ReadsText}
+use Rattle.dag_json.specs.Reading.{Read, read_map, has_slash, document_of, within_steps, ReadsLinkText, ReadsBytes, ReadsReservedKey, ReadsSlashed, ReadsReserved, ReadsData, ReadsItems, ReadsMembers, ReadsTokens, ReadsJson}
 use Rattle.dag_json.specs.declared.error.DagJsonError.TheVariants.{NoCid}
 use Rattle.dag_json.proofs.Slots.{KeyAndTree}
 
-link_once : (s : List ℕ) (r q : Read Tree) → ReadsLink s r → ReadsLink s q → r ≡ q
+link_once : (s : List ℕ) (r q : Read Tree) → ReadsLinkText s r → ReadsLinkText s q → r ≡ q
 link_once s (Ok t) (Ok u) h k = ap Ok (h.2 ∙ ap (λ (c : CidParts). link (cid_bytes c)) (one_cid s h.0 k.0 h.1 k.1) ∙ sym k.2)
 link_once s (Ok t) (Err f) h k = absurd (k.2 h.0 h.1)
 link_once s (Err e) (Ok u) h k = absurd (h.2 k.0 k.1)
 link_once s (Err e) (Err f) h k = ap Err (h.1 ∙ ap NoCid (one_of_text s h.0 k.0 h.3 k.3) ∙ sym k.1)
 
-named_once : (k : List ℕ) (j : Json) (r q : Read Tree) → ReadsNamed k j r → ReadsNamed k j q → r ≡ q
+named_once : (k : List ℕ) (j : Json) (r q : Read Tree) → ReadsReservedKey k j r → ReadsReservedKey k j q → r ≡ q
 named_once k json.null r q h g = h ∙ sym g
 named_once k _ r q h g = h ∙ sym g
 
@@ -74,7 +74,7 @@ mutual
 tokens_once : (ts : List Token) (r q : Read Tree) → ReadsTokens ts r → ReadsTokens ts q → r ≡ q
 tokens_once ts r q h g = outcome (document_of ts) h g (λ j x y. x.2 ∙ ap within_steps (data_once j x.0 y.0 x.1 y.1) ∙ sym y.2) (λ e x y. x ∙ sym y)
 
-pub text_once : (s : List ℕ) (r q : Read Tree) → ReadsText s r → ReadsText s q → r ≡ q
+pub text_once : (s : List ℕ) (r q : Read Tree) → ReadsJson s r → ReadsJson s q → r ≡ q
 text_once s r q (inl h) (inl g) = h.1 ∙ sym g.1
 text_once s r q (inl h) (inr g) = absurd (h.0 g.0)
 text_once s r q (inr h) (inl g) = absurd (g.0 h.0)

@@ -53,8 +53,8 @@ number_data s =
 -- ---- links and bytes
 
 -- the text of a CID, as any that `cid_text` reads
-abbrev pub ReadsLink : List ℕ → Read Tree → Type 0
-ReadsLink s r = MatchResult r
+abbrev pub ReadsLinkText : List ℕ → Read Tree → Type 0
+ReadsLinkText s r = MatchResult r
     (λ t. (c : CidParts) × IsTextOf s c × (t ≡ link (cid_bytes c)))
     (λ e. (f : CidTextError) × (e ≡ NoCid f) × ((c : CidParts) → ¬ IsTextOf s c) × IsTextFault f s)
 
@@ -72,18 +72,18 @@ has_slash no_members = false
 has_slash (member k j ms) = bytes_eq k (codes "/") || has_slash ms
 
 -- at the key `/` of a map without other keys, bytes are {"bytes": "..."}
-abbrev pub ReadsNamed : List ℕ → Json → Read Tree → Type 0
-ReadsNamed k (json.string s) r =
+abbrev pub ReadsReservedKey : List ℕ → Json → Read Tree → Type 0
+ReadsReservedKey k (json.string s) r =
     r ≡ (if bytes_eq k (codes "bytes") then bytes_data s else Err ReservedKey)
-ReadsNamed k _ r = r ≡ Err ReservedKey
+ReadsReservedKey k _ r = r ≡ Err ReservedKey
 
 abbrev pub ReadsBytes : Members → Read Tree → Type 0
-ReadsBytes (member k j no_members) r = ReadsNamed k j r
+ReadsBytes (member k j no_members) r = ReadsReservedKey k j r
 ReadsBytes _ r = r ≡ Err ReservedKey
 
 -- and a link is the text of a CID
 abbrev pub ReadsSlashed : Json → Read Tree → Type 0
-ReadsSlashed (json.string s) r = ReadsLink s r
+ReadsSlashed (json.string s) r = ReadsLinkText s r
 ReadsSlashed (json.object ms) r = ReadsBytes ms r
 ReadsSlashed _ r = r ≡ Err ReservedKey
 
@@ -161,12 +161,12 @@ abbrev pub ReadsTokens : List Token → Read Tree → Type 0
 ReadsTokens ts r = MatchResult (document_of ts) (λ j. ReadsWhole j r) (λ e. r ≡ Err e)
 
 -- what is read of a text
-abbrev pub ReadsText : List ℕ → Read Tree → Type 0
-ReadsText s r = (¬ IsUtf8 s × (r ≡ Err NoText)) ⊎ (IsUtf8 s × ReadsTokens (tokens s) r)
+abbrev pub ReadsJson : List ℕ → Read Tree → Type 0
+ReadsJson s r = (¬ IsUtf8 s × (r ≡ Err NoText)) ⊎ (IsUtf8 s × ReadsTokens (tokens s) r)
 
 -- a text is read in one way: as one tree, or refused for one cause
 abbrev pub TextsTellData : Type 0
-TextsTellData = (s : List ℕ) (r q : Read Tree) → ReadsText s r → ReadsText s q → r ≡ q
+TextsTellData = (s : List ℕ) (r q : Read Tree) → ReadsJson s r → ReadsJson s q → r ≡ q
 
 -- bytes, and those of links, are numbers below 256
 abbrev mutual
@@ -198,4 +198,4 @@ pub record IsTellable (t : Tree) : Type 0 where
 
 -- what is written of such a tree is read back as that tree
 abbrev pub TextsAreReadBack : Type 0
-TextsAreReadBack = (t : Tree) → IsTellable t → ReadsText (dag_json t) (Ok t)
+TextsAreReadBack = (t : Tree) → IsTellable t → ReadsJson (dag_json t) (Ok t)

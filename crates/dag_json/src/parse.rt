@@ -6,7 +6,7 @@ ghost use Rattle.json.specs.Lex.{tokens};
 ghost use Rattle.json.specs.Value.{value_view};
 ghost use Rattle.ipld_tree.specs.Ipld.{tree_of};
 ghost use Rattle.dag_json.specs.Reading.{document_of, most_levels, opens_past, ReadsWhole};
-ghost use Rattle.dag_json.specs.Reading.{ReadsTokens, ReadsText};
+ghost use Rattle.dag_json.specs.Reading.{ReadsTokens, ReadsJson};
 
 use crate::error::{DagJsonError, Refusal};
 use crate::place::{offset_behind, offset_inside};
@@ -146,9 +146,9 @@ fn data_from_text(alloc: Global, text: &str) -> Result<Ipld, Refusal>
 /// The data that the text is, in DAG-JSON. Which byte of the text a refusal names is not said, but for
 /// one that is no UTF-8: that names the first byte of what is none.
 pub fn data_from_json(alloc: Global, text: &[u8]) -> Result<Ipld, Refusal>
-    ensures data { IfOk result (λ v. ReadsText text.now (Ok (tree_of v))) }
+    ensures data { IfOk result (λ v. ReadsJson text.now (Ok (tree_of v))) }
     ensures refused { IfErr result (λ e. e.cause ≢ DagJsonError.OutOfMemory
-        → ReadsText text.now (Err e.cause)) }
+        → ReadsJson text.now (Err e.cause)) }
     ensures memory { IfErr result (λ e. e.cause ≡ DagJsonError.OutOfMemory → IsUtf8 text.now) }
     ensures place { IfErr result (λ e. e.offset ≤ length text.now) }
     ensures no_text { IfErr result

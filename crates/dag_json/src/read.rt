@@ -9,8 +9,8 @@ ghost use Rattle.ipld_tree.specs.Cid.{cid_bytes};
 ghost use Rattle.json.specs.Json as json;
 ghost use Rattle.ipld_tree.specs.Tree.{Tree, ordered_entries};
 ghost use Rattle.ipld_tree.specs.Ipld.{tree_of, trees_of, pairs_of};
-ghost use Rattle.dag_json.specs.Reading.{read_map, has_slash, bytes_data, ReadsLink, ReadsBytes};
-ghost use Rattle.dag_json.specs.Reading.{ReadsNamed, ReadsSlashed};
+ghost use Rattle.dag_json.specs.Reading.{read_map, has_slash, bytes_data, ReadsLinkText, ReadsBytes};
+ghost use Rattle.dag_json.specs.Reading.{ReadsReservedKey, ReadsSlashed};
 ghost use Rattle.dag_json.specs.Reading.{ReadsReserved, ReadsData, ReadsItems, ReadsMembers};
 
 use crate::error::DagJsonError;
@@ -68,7 +68,7 @@ fn put_entry(
 
 /// The link of this text.
 fn link_of(text: &str) -> Result<Ipld, DagJsonError>
-    ensures { ReadsLink text.now (read_map tree_of result) }
+    ensures { ReadsLinkText text.now (read_map tree_of result) }
 {
     match cid_from_text(text.as_bytes()) {
         Ok(cid) => Ok(Ipld::Link(cid)),
@@ -108,9 +108,9 @@ fn named_bytes(
     value: &Value<'_>,
     place: &mut usize,
 ) -> Result<Ipld, DagJsonError>
-    ensures data { IfOk result (λ v. ReadsNamed key.now (value_view value.now) (Ok (tree_of v))) }
+    ensures data { IfOk result (λ v. ReadsReservedKey key.now (value_view value.now) (Ok (tree_of v))) }
     ensures refused { IfErr result (λ e. e ≢ DagJsonError.OutOfMemory
-        → ReadsNamed key.now (value_view value.now) (Err e)) }
+        → ReadsReservedKey key.now (value_view value.now) (Err e)) }
 {
     match value {
         Value::String(text) => {

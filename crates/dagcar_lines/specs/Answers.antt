@@ -7,7 +7,7 @@ use Rattle.ipld_tree.specs.Tree.{Tree}
 use Rattle.ipld_tree.specs.Spelling.{IsSpelling}
 use Rattle.ipld_tree.specs.Cid.{CidParts}
 use Rattle.cid_text.specs.Texts.{cid_text}
-use Rattle.dag_json.specs.Reading.{ReadsText}
+use Rattle.dag_json.specs.Reading.{ReadsJson}
 use Rattle.dag_json.specs.declared.error.DagJsonError.{DagJsonError}
 use Rattle.dagcbor_items.specs.Slices.{IsBlock}
 use Rattle.dagcbor_items.specs.Stops.{StandsAt}
@@ -103,9 +103,9 @@ IsJudged b well out told = ((t : Tree) × IsBlock b t × (well ≡ true)
 -- what `make` gives of a text: the block of the data that it is; or nothing, and a line that tells
 -- why it is none. At which byte is not said here.
 abbrev pub IsMade : List ℕ → Bool → List ℕ → List ℕ → Type 0
-IsMade b well out told = ((t : Tree) × ReadsText b (Ok t) × IsSpelling out t × (well ≡ true)
+IsMade b well out told = ((t : Tree) × ReadsJson b (Ok t) × IsSpelling out t × (well ≡ true)
     × (told ≡ []))
-    ⊎ ((e : DagJsonError) × (offset : ℕ) × ReadsText b (Err e) × (well ≡ false) × (out ≡ [])
+    ⊎ ((e : DagJsonError) × (offset : ℕ) × ReadsJson b (Err e) × (well ≡ false) × (out ≡ [])
     × (told ≡ cause_line e offset))
 
 -- what `name` says of bytes: the CID of the block, of DAG-CBOR and by SHA-256 (multicodec table), or

@@ -6,6 +6,7 @@ ghost use Rattle.serde_ipld_dagcbor.specs.Slices.{IsBlock};
 
 use crate::bag::Bag;
 use crate::declared::Declared;
+use crate::derived::Derived;
 use crate::record::Record;
 use dagcbor_paths::find_slice;
 use serde_ipld_dagcbor::{
@@ -64,6 +65,17 @@ fn reads_source<'de, T: DeserializeOwned<'de> + Drop>(
     count
 }
 
+/// Reads the record by its derive, so many times.
+fn reads_derived(alloc: Global, block: &[u8], times: u64) -> u64 {
+    let mut count = 0u64;
+    for _ in 0..times {
+        count = count.saturating_add(u64::from(dagcbor_serde::from_slice::<Derived>(
+            alloc, block,
+        ).is_ok()));
+    }
+    count
+}
+
 /// Writes the value, so many times.
 fn writes<T: Serialize>(alloc: Global, value: &T, times: u64) -> u64 {
     repeated(times, || to_vec(alloc, value).is_ok())
@@ -79,6 +91,18 @@ fn writes_again<'de, T: Deserialize<'de> + Serialize + Drop>(
         Ok(value) => writes(alloc, &value, times),
         Err(_) => 0,
     }
+}
+
+/// Writes the record that the block holds by its derive, so many times.
+fn writes_derived(alloc: Global, block: &[u8], times: u64) -> u64 {
+    let Ok(value) = dagcbor_serde::from_slice::<Derived>(alloc, block) else {
+        return 0;
+    };
+    let mut count = 0u64;
+    for _ in 0..times {
+        count = count.saturating_add(u64::from(dagcbor_serde::to_vec(alloc, &value).is_ok()));
+    }
+    count
 }
 
 /// Writes the numbers that the block holds as a list whose number of items comes last.
@@ -127,6 +151,8 @@ pub fn successes(alloc: Global, name: &str, block: &[u8], times: u64) -> Option<
         "to_vec::<BTreeMap>" => writes_again::<BTreeMap<String, u8>>(alloc, block, times),
         "to_vec::<HashMap>" => writes_again::<HashMap<String, u8>>(alloc, block, times),
         "to_vec::<Bytes>" => writes_again::<Bytes>(alloc, block, times),
+        "dagcbor_serde::from_slice::<Derived>" => reads_derived(alloc, block, times),
+        "dagcbor_serde::to_vec::<Derived>" => writes_derived(alloc, block, times),
         _ => return None,
     })
 }

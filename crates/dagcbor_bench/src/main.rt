@@ -5,6 +5,7 @@
 mod bag;
 mod calls;
 mod declared;
+mod derived;
 mod record;
 
 use calls::successes;

@@ -28,7 +28,7 @@ use Rattle.dagcbor_blocks.specs.Sound.{IsSoundEntry}
 use Rattle.dagcbor_blocks.specs.Blocks.{Held, block_at, HoldsAlso, HoldsOther, ExceedsSteps, Puts, HoldsRead, GetRefused}
 use Rattle.ipld_links.specs.Sets.{Among}
 use Rattle.ipld_links.specs.Blocks.{HasBlock}
-use Rattle.dagcbor_blocks.specs.Steps.{HasTree, DepthRefused, Stores}
+use Rattle.dagcbor_blocks.specs.Steps.{HasTree, DepthRefused, StoresBlock}
 use Rattle.dagcbor_blocks.proofs.Unique.{front_unique, whole_front}
 use Rattle.ipld_links.proofs.Members.{same_at}
 use Rattle.dagcbor_blocks.specs.declared.error.BlockError.{BlockError}
@@ -153,7 +153,7 @@ not_checked b _ told r h = subst (DepthRefused b) (sym h) (exceeds b _ r (λ sam
 
 -- ---- putting
 
-pub put_done : SpellingsAreUnique → (tree : Option Tree) (v : Vec ℕ Global) (name : CidParts) (old new : Held) (r : Result CidParts BlockError) → AreSpellingOf tree v.items → HasBlock v.items → name ≡ block_name v.items → Stores name v.items old r new → Puts tree old r new
+pub put_done : SpellingsAreUnique → (tree : Option Tree) (v : Vec ℕ Global) (name : CidParts) (old new : Held) (r : Result CidParts BlockError) → AreSpellingOf tree v.items → HasBlock v.items → name ≡ block_name v.items → StoresBlock name v.items old r new → Puts tree old r new
 put_done law None v name old new r a has named h = absurd a
 put_done law (Some t) v name old new (Ok n) a has named h =
     let u = front_unique law v.items [] [] has.0 t (whole_front has.1.0) (whole_front a) in (

@@ -10,7 +10,7 @@ use Rattle.ipld_links.specs.Reaching.{stored_in, ListsReachable}
 use Rattle.dagcbor_car.specs.Reached.{sections_at}
 use Rattle.ipld_links.proofs.Reaching.{none_found}
 use Rattle.dagcbor_blocks.specs.Blocks.{Held}
-use Rattle.dagcbor_blocks.specs.Reaching.{stored, MayLead, LeadsNowhere, tree_bytes, OfReachable, TreeRefused}
+use Rattle.dagcbor_blocks.specs.Reaching.{stored, MayLead, IsNotHeld, tree_bytes, OfReachable, TreeRefused}
 use Rattle.dagcbor_blocks.specs.declared.tree_error.WriteTreeError.TheVariants as trees
 use Rattle.dagcbor_blocks.proofs.Keeping.{shown, block_at_shown}
 
@@ -21,7 +21,7 @@ same_stored blocks = λ i name. sym (block_at_shown name blocks.entries) i
 pub reachable_held : (blocks : BTreeMap CidParts (Vec ℕ Global)) (root : CidParts) (names : List CidParts) → ListsReachable (stored_in blocks) root names → ListsReachable (stored (shown blocks.entries)) root names
 reachable_held blocks root names h = subst (λ s. ListsReachable s root names) (same_stored blocks) h
 
-pub none_reachable : (blocks : Held) (root : CidParts) → LeadsNowhere blocks root → ListsReachable (stored blocks) root []
+pub none_reachable : (blocks : Held) (root : CidParts) → IsNotHeld blocks root → ListsReachable (stored blocks) root []
 none_reachable blocks root h = none_found (stored blocks) root (nothing (stored blocks root) h.0, h.1)
   where
     nothing : (o : Option (List ℕ)) → is_some o ≡ false → o ≡ None

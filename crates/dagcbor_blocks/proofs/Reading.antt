@@ -13,7 +13,7 @@ use Rattle.dagcbor_car.specs.declared.error.CarError.{CarError}
 use Rattle.dagcbor_car.specs.declared.each.ReadCarError.{ReadCarError}
 use Rattle.dagcbor_car.specs.declared.each.ReadCarError.TheVariants as stop
 use Rattle.dagcbor_blocks.specs.Blocks.{Held, held_blocks, block_at, HoldsAlso}
-use Rattle.dagcbor_blocks.specs.Bytes.{PutsBytes, BytesRefused}
+use Rattle.dagcbor_blocks.specs.Bytes.{PutsBytes, PutBytesRefused}
 use Rattle.dagcbor_blocks.specs.Cars.{IsReadTo, KeepsAll, ReadRefused}
 use Rattle.dagcbor_blocks.specs.declared.put_error.PutBlockError.{PutBlockError}
 use Rattle.dagcbor_blocks.specs.declared.store.Blocks.{Blocks}
@@ -119,7 +119,7 @@ module _ {E : Type 0} (roots : List (List ℕ)) (start : Reading) (before : Held
   stopped ss extent mid it (stop.Header e) more behind new h k = absurd k
   stopped ss extent mid it (stop.Section n e) more behind new h k = inr (roots, ss, extent, mid, subst (λ (b : Blocks). IsReadTo roots ss start before extent mid (held_blocks b)) (sym k.2) (read_to h), inl (k.0, k.1))
   stopped ss extent mid it (stop.Block n name e) more behind new h k =
-      inr (roots, ss, extent, mid, subst (IsReadTo roots ss start before extent mid) (sym k.4.0) (read_to h), inl (k.0, more, k.1, k.2, k.3, subst (λ held. BytesRefused k.0 held e) (sym k.4.0) k.4.1))
+      inr (roots, ss, extent, mid, subst (IsReadTo roots ss start before extent mid) (sym k.4.0) (read_to h), inl (k.0, more, k.1, k.2, k.3, subst (λ held. PutBytesRefused k.0 held e) (sym k.4.0) k.4.1))
 
   pub read_stopped : (extent : Option ℕ) (source : Reading) (old : Blocks) (e : ReadCarError E PutBlockError) (more : Option ℕ) (behind : Reading) (new : Blocks) → IsReadAt roots [] start before extent source (held_blocks old) → RunsEach Keeps extent source old (Err e) more behind new → ReadRefused start before e behind (held_blocks new)
   read_stopped extent source old e more behind new h (ss, rest, mid, it, t, inl k) = stopped ss rest mid it e more behind new (read_along roots ss extent rest start source mid before old it h t) k

@@ -24,7 +24,7 @@ use Rattle.dagcbor_blocks.specs.Blocks.{Held, block_at, HoldsAlso, HoldsOther, F
 use Rattle.ipld_links.specs.Sound.{IsSound}
 use Rattle.ipld_links.proofs.Sounding.{never_unsound}
 use Rattle.dagcbor_blocks.specs.Sound.{IsSoundEntry}
-use Rattle.dagcbor_blocks.specs.Bytes.{BytesRefused}
+use Rattle.dagcbor_blocks.specs.Bytes.{PutBytesRefused}
 use Rattle.dagcbor_blocks.specs.Cars.{StopsAt, NotBegun, ReadRefused}
 use Rattle.dagcbor_blocks.specs.Laws.{IsReadBack, WrittenThenRead}
 use Rattle.dagcbor_blocks.specs.declared.put_error.PutBlockError.{PutBlockError}
@@ -79,12 +79,12 @@ no_other blocks ss after s finds m within h other =
 
 module _ (roots : List (List ℕ)) (blocks ss after : Held) (s : Section) (finds : FindsMembers blocks) (m : Among s blocks) (within : (e : Section) → Among e ss → Among e blocks) (h : HoldsAlso [] ss after) where
   -- a section that is held is not refused
-  not_refused : IsSound s → (e : PutBlockError) → BytesRefused s after e → (e ≡ OutOfMemory → ⊥) → ⊥
+  not_refused : IsSound s → (e : PutBlockError) → PutBytesRefused s after e → (e ≡ OutOfMemory → ⊥) → ⊥
   not_refused sound (Unsound e) r n = never_unsound s e sound r
   not_refused sound Collision r n = no_other blocks ss after s finds m within h r.1
   not_refused sound OutOfMemory r n = n refl
 
-  pub for_memory : ∥ IsSound s ∥₁ → (n : ℕ) (name : CidParts) (e : PutBlockError) → BytesRefused s after e → IsReadBack roots blocks (Err (stop.Block n name e)) after
+  pub for_memory : ∥ IsSound s ∥₁ → (n : ℕ) (name : CidParts) (e : PutBlockError) → PutBytesRefused s after e → IsReadBack roots blocks (Err (stop.Block n name e)) after
   for_memory sound n name OutOfMemory r = tt
   for_memory sound n name e r = absurd (not_there sound (λ k. not_refused k e r (λ same. cc same)))
 

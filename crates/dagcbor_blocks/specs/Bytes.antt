@@ -10,16 +10,16 @@ use Rattle.dagcbor_blocks.specs.declared.put_error.PutBlockError.{PutBlockError}
 use Rattle.dagcbor_blocks.specs.declared.put_error.PutBlockError.TheVariants.{Unsound, Collision, OutOfMemory}
 
 -- why bytes are not kept under a name: memory is wanted only for a sound block
-abbrev pub BytesRefused : Section → Held → PutBlockError → Type 0
-BytesRefused s held (Unsound e) = IsUnsound s e
-BytesRefused s held Collision = IsSound s × HoldsOther s.0 s.1 held
-BytesRefused s held OutOfMemory = IsSound s
+abbrev pub PutBytesRefused : Section → Held → PutBlockError → Type 0
+PutBytesRefused s held (Unsound e) = IsUnsound s e
+PutBytesRefused s held Collision = IsSound s × HoldsOther s.0 s.1 held
+PutBytesRefused s held OutOfMemory = IsSound s
 
 -- A sound block is kept under its name. A refusal changes nothing.
 abbrev pub PutsBytes : Section → Held → Result (Unit {0}) PutBlockError → Held → Type 0
 PutsBytes s old result new = MatchResult result
     (λ _. IsSound s × HoldsAlso old (s ∷ []) new)
-    (λ e. (new ≡ old) × BytesRefused s old e)
+    (λ e. (new ≡ old) × PutBytesRefused s old e)
 
 -- whether a block is held under the name
 abbrev pub is_held : CidParts → Held → Bool
@@ -31,5 +31,5 @@ HoldsOthers name old new = (q : CidParts) (b : List ℕ)
     → (block_at q new ≡ Some b) ↔ ((q ≢ name) × (block_at q old ≡ Some b))
 
 -- the names of the held blocks, each once, in their order
-abbrev pub AreNames : Held → Vec CidParts Global → Type 0
-AreNames blocks v = (v.items ≡ map (λ e. e.0) blocks) × IsStrictlySortedBy cid_cmp v.items
+abbrev pub AreHeldNames : Held → Vec CidParts Global → Type 0
+AreHeldNames blocks v = (v.items ≡ map (λ e. e.0) blocks) × IsStrictlySortedBy cid_cmp v.items

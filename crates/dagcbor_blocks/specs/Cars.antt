@@ -15,7 +15,7 @@ use Rattle.dagcbor_car.specs.Each.{NoneNext, AreTooMany}
 use Rattle.dagcbor_car.specs.declared.each.ReadCarError.{ReadCarError}
 use Rattle.dagcbor_car.specs.declared.each.ReadCarError.TheVariants as stop
 use Rattle.dagcbor_blocks.specs.Blocks.{Held, HoldsAlso}
-use Rattle.dagcbor_blocks.specs.Bytes.{BytesRefused}
+use Rattle.dagcbor_blocks.specs.Bytes.{PutBytesRefused}
 use Rattle.dagcbor_blocks.specs.declared.put_error.PutBlockError.{PutBlockError}
 
 -- ---- the file
@@ -52,7 +52,7 @@ abbrev pub StopsAt : {E : Type 0} → ℕ → Option ℕ → Reading → Held �
 StopsAt count extent old held (stop.Header e) new = ⊥
 StopsAt count extent old held (stop.Section n e) new = (n ≡ count) × NoneNext extent old e new
 StopsAt count extent old held (stop.Block n name e) new = (s : Section) × (more : Option ℕ)
-    × (n ≡ count) × TakesSectionBytes extent old s more new × (name ≡ s.0) × BytesRefused s held e
+    × (n ≡ count) × TakesSectionBytes extent old s more new × (name ≡ s.0) × PutBytesRefused s held e
 
 -- no file begins, for this cause; memory is wanted only for a header
 abbrev pub NotBegun : {E : Type 0} → Reading → ReadCarError E PutBlockError → Reading → Type 0

@@ -21,8 +21,8 @@ abbrev pub MayLead : Held → CidParts → Type 0
 MayLead blocks name = (is_held name blocks ≡ true) ⊎ IsInline name
 
 -- no block is held under the name, which is not by the identity
-abbrev pub LeadsNowhere : Held → CidParts → Type 0
-LeadsNowhere blocks name = (is_held name blocks ≡ false) × ¬ IsInline name
+abbrev pub IsNotHeld : Held → CidParts → Type 0
+IsNotHeld blocks name = (is_held name blocks ≡ false) × ¬ IsInline name
 
 -- ---- a file of them
 
@@ -40,7 +40,7 @@ OfReachable blocks root Holds = MayLead blocks root
 -- takes none
 abbrev pub TreeRefused : {E : Type 0} → Held → CidParts → Bool → Written → WriteTreeError E
     → Written → Type 0
-TreeRefused blocks root takes_memory old NotHeld new = LeadsNowhere blocks root × (new ≡ old)
+TreeRefused blocks root takes_memory old NotHeld new = IsNotHeld blocks root × (new ≡ old)
 TreeRefused blocks root takes_memory old (Write e) new = OfReachable blocks root
     (λ names. Stops (Some (tree_bytes blocks root names)) old new (unwritten.Write e))
 TreeRefused {E} blocks root takes_memory old OutOfMemory new = (takes_memory ≡ false → new ≡ old)

@@ -35,8 +35,8 @@ StoreRefused name b old OutOfMemory = ⊤
 StoreRefused name b old _ = ⊥
 
 -- A block is stored under its name, which is answered. A refusal changes nothing.
-abbrev pub Stores : CidParts → List ℕ → Held → Result CidParts BlockError → Held → Type 0
-Stores name b old result new = MatchResult result
+abbrev pub StoresBlock : CidParts → List ℕ → Held → Result CidParts BlockError → Held → Type 0
+StoresBlock name b old result new = MatchResult result
     (λ n. (n ≡ name) × HoldsAlso old ((name, b) ∷ []) new)
     (λ e. (new ≡ old) × StoreRefused name b old e)
 

@@ -3,7 +3,7 @@
 ghost use Rattle.std.specs.Prelude.{◌≡◌, ◌≢◌, [], true, IfOk, IfSome, OnErr};
 ghost use Rattle.dagcbor_blocks.specs.Blocks.{held_blocks, Puts, Gets, ListsMissing};
 ghost use Rattle.ipld_links.specs.Sound.{IsSound};
-ghost use Rattle.dagcbor_blocks.specs.Steps.{HasTree, ChecksDepth, Stores};
+ghost use Rattle.dagcbor_blocks.specs.Steps.{HasTree, ChecksDepth, StoresBlock};
 ghost use Rattle.dagcbor_blocks.specs.Steps.{AddsOne, AddsMissing};
 
 use crate::error::BlockError;
@@ -51,7 +51,7 @@ impl Blocks {
     /// Keeps a sound block under its name.
     pub(crate) fn store(&mut self, name: Cid, bytes: Vec<u8>) -> Result<Cid, BlockError>
         requires { IsSound (name, bytes.items) }
-        ensures { Stores name bytes.items (held_blocks self.old) result (held_blocks self.new) }
+        ensures { StoresBlock name bytes.items (held_blocks self.old) result (held_blocks self.new) }
     {
         // What is known of a CID comes with its version.
         let _version = name.version();

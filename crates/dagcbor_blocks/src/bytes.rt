@@ -2,7 +2,7 @@
 
 ghost use Rattle.std.specs.Prelude.{◌≡◌, ◌≢◌, [], length, IfOk, OnErr, MatchOption, None};
 ghost use Rattle.dagcbor_blocks.specs.Blocks.{held_blocks, block_at, IsHeld};
-ghost use Rattle.dagcbor_blocks.specs.Bytes.{PutsBytes, is_held, HoldsOthers, AreNames};
+ghost use Rattle.dagcbor_blocks.specs.Bytes.{PutsBytes, is_held, HoldsOthers, AreHeldNames};
 
 use crate::error::BlockError;
 use crate::put_error::PutBlockError;
@@ -60,7 +60,7 @@ impl Blocks {
 
     /// The names of the held blocks, in their order.
     pub fn names(&self) -> Result<Vec<Cid>, AllocError>
-        ensures names { IfOk result (AreNames (held_blocks self.now)) }
+        ensures names { IfOk result (AreHeldNames (held_blocks self.now)) }
         ensures memory { OnErr result (held_blocks self.now ≢ []) }
     {
         let mut names = Vec::new(self.alloc);

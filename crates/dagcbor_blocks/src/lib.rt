@@ -1,6 +1,6 @@
 //! DAG-CBOR blocks under their names.
 //!
-//! Two blocks, and the first again (`src/tests/store.rt` of `crates/dagcbor_files`):
+//! Two blocks, and the first again (`src/tests/store.rt` of `crates/tests_car`):
 //!
 //! ```rust
 //! let mut blocks = Blocks::new(alloc);

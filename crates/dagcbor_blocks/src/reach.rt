@@ -3,7 +3,7 @@
 ghost use Rattle.std.specs.Prelude.{IfOk, OnErr, MatchBool};
 ghost use Rattle.ipld_links.specs.Reaching.{ListsReachable};
 ghost use Rattle.dagcbor_blocks.specs.Blocks.{held_blocks};
-ghost use Rattle.dagcbor_blocks.specs.Reaching.{stored, MayLead, LeadsNowhere};
+ghost use Rattle.dagcbor_blocks.specs.Reaching.{stored, MayLead, IsNotHeld};
 
 use crate::store::Blocks;
 use ipld_links::{IDENTITY, Reached, reach_from};
@@ -28,7 +28,7 @@ impl Blocks {
     /// Whether a block is held under the name, or the name is by the identity.
     pub(crate) fn may_lead(&self, name: &Cid) -> bool
         ensures { MatchBool result (MayLead (held_blocks self.now) name.now)
-            (LeadsNowhere (held_blocks self.now) name.now) }
+            (IsNotHeld (held_blocks self.now) name.now) }
     {
         if name.hash_code() == IDENTITY {
             return true;

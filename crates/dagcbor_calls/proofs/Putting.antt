@@ -10,7 +10,7 @@ use Rattle.ipld_tree.specs.Tree.{Tree, any_need, links_of}
 use Rattle.ipld_tree.specs.Spelling.{IsFront}
 use Rattle.dagcbor_items.specs.Slices.{LinksRefused}
 use Rattle.dagcbor_items.specs.Walks.{Finds}
-use Rattle.dagcbor_calls.specs.Packed.{packed_cids, packed_links, with_front, put_at, PutsBytes, HasPut, HoldsPacked}
+use Rattle.dagcbor_calls.specs.Packed.{packed_cids, packed_links, with_front, put_at, PacksBytes, HasPut, HoldsPacked}
 use Rattle.dagcbor_calls.specs.declared.links.PackedLinks.{PackedLinks}
 use Rattle.dagcbor_calls.proofs.Packing.{packed_push}
 
@@ -44,7 +44,7 @@ put_behind bs more before h =
 
 -- ---- a sink's memory
 
-pub put_more : (name : ℕ) (before bs more : List ℕ) (p q : PackedLinks) → HasPut name before bs p → PutsBytes more p q → HasPut name before (bs ++ more) q
+pub put_more : (name : ℕ) (before bs more : List ℕ) (p q : PackedLinks) → HasPut name before bs p → PacksBytes more p q → HasPut name before (bs ++ more) q
 put_more name before bs more p q h g =
     let l = length-append bs more in
     record {
@@ -58,7 +58,7 @@ put_more name before bs more p q h g =
           g.stands ∙ ap (λ n. put_at n more p.out.now) exact ∙ ap (λ old. put_at (length bs) more old) first ∙ put_behind bs more before (omega (arith, l, room));
     }
 
-pub took : (links : List (List ℕ)) (cid : List ℕ) (p mid q : PackedLinks) → PutsBytes (length cid ∷ []) p mid → PutsBytes cid mid q → HoldsPacked p links → HoldsPacked q (links ++ cid ∷ [])
+pub took : (links : List (List ℕ)) (cid : List ℕ) (p mid q : PackedLinks) → PacksBytes (length cid ∷ []) p mid → PacksBytes cid mid q → HoldsPacked p links → HoldsPacked q (links ++ cid ∷ [])
 took [] cid p mid q g k h = absurd h
 took ([] ∷ more) cid p mid q g k h = absurd h
 took ((name ∷ []) ∷ []) cid p mid q g k h = absurd h

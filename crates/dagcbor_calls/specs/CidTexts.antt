@@ -12,7 +12,7 @@ room_code done bytes old = if nat_lt (length old) (length bytes) then negsuc 20 
 
 -- how many bytes there are, which stand at the front of the memory where there is room for them
 -- all, and else nothing changed there
-pub record IsPut (done : ℤ) (bytes old new : List ℕ) (needed : ℕ) (code : ℤ) : Type 0 where
+pub record IsPutText (done : ℤ) (bytes old new : List ℕ) (needed : ℕ) (code : ℤ) : Type 0 where
   pub counted : needed ≡ length bytes
   pub stand : new ≡ with_front bytes old
   pub told : code ≡ room_code done bytes old
@@ -25,13 +25,13 @@ pub record PutsNone (old new : List ℕ) (needed : ℕ) : Type 0 where
 -- the text of the CID that the bytes are is put; or they are none, and -26 is answered
 abbrev pub IsCidTextAnswer : List ℕ → List ℕ → List ℕ → ℕ → ℤ → Type 0
 IsCidTextAnswer b old new needed code =
-    ((c : CidParts) × AreCidParts c × (b ≡ cid_bytes c) × IsPut (pos 0) (cid_text c) old new needed code)
+    ((c : CidParts) × AreCidParts c × (b ≡ cid_bytes c) × IsPutText (pos 0) (cid_text c) old new needed code)
     ⊎ ((¬ IsCid b) × (code ≡ negsuc 25) × PutsNone old new needed)
 
 -- the binary form of the CID that the text is one of is put; or it is that of none, and the number
 -- of the one fault in it is answered
 abbrev pub IsCidFromTextAnswer : List ℕ → List ℕ → List ℕ → ℕ → ℤ → Type 0
 IsCidFromTextAnswer text old new needed code =
-    ((c : CidParts) × IsTextOf text c × IsPut (pos 0) (cid_bytes c) old new needed code)
+    ((c : CidParts) × IsTextOf text c × IsPutText (pos 0) (cid_bytes c) old new needed code)
     ⊎ ((e : CidTextError) × ((c : CidParts) → ¬ IsTextOf text c) × IsTextFault e text
     × (code ≡ text_fault_code e) × PutsNone old new needed)

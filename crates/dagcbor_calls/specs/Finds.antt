@@ -7,7 +7,7 @@ use Rattle.ipld_tree.specs.Tree.{Tree}
 use Rattle.dagcbor_items.specs.Slices.{IsBlock, SliceRefused}
 use Rattle.dagcbor_items.specs.TreeKinds.{kind_of}
 use Rattle.dagcbor_paths.specs.Paths.{segments, At}
-use Rattle.dagcbor_paths.specs.Finding.{StandAt, LeadsInto, StopsAt}
+use Rattle.dagcbor_paths.specs.Finding.{StandAt, LeadsInto, EndsWay}
 use Rattle.dagcbor_paths.specs.declared.find.Item.{Item}
 use Rattle.dagcbor_calls.specs.Codes.{kind_code, refusal_code}
 
@@ -77,7 +77,7 @@ pub record IsFollowedTo (b path : List ℕ) (begin end count : ℕ) (code : ℤ)
   pub found : Tree
   pub left : List ℕ
   pub led : LeadsInto b (segments path) (segments left) tree found
-  pub stopped : StopsAt (segments left) found
+  pub stopped : EndsWay (segments left) found
   pub passed : IsPassed path left count
   pub part : List ℕ
   pub is_block : IsBlock part found

@@ -31,7 +31,7 @@ put_at at bytes old = if nat_lt (length old) (at + length bytes) then old
     else take at old ++ (bytes ++ drop (at + length bytes) old)
 
 -- the bytes were put behind those before, and counted
-pub record PutsBytes (bytes : List ℕ) (old new : PackedLinks) : Type 0 where
+pub record PacksBytes (bytes : List ℕ) (old new : PackedLinks) : Type 0 where
   pub same_reference : new.out.ghost_name ≡ old.out.ghost_name
   pub counted : new.needed ≡ min (old.needed + length bytes) (2 ^ 64 - 1)
   pub stands : new.out.now ≡ put_at old.needed bytes old.out.now

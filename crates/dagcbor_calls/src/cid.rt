@@ -2,7 +2,7 @@
 
 ghost use Rattle.std.specs.Prelude.{◌≡◌};
 ghost use Rattle.dagcbor_calls.specs.Codes.{text_fault_code};
-ghost use Rattle.dagcbor_calls.specs.CidTexts.{IsPut, IsCidTextAnswer, IsCidFromTextAnswer};
+ghost use Rattle.dagcbor_calls.specs.CidTexts.{IsPutText, IsCidTextAnswer, IsCidFromTextAnswer};
 
 use crate::code::{NO_CID, NO_ROOM};
 use arrayvec::ArrayVec;
@@ -28,7 +28,7 @@ fn text_fault_code(fault: &CidTextError) -> i32
 /// Puts the bytes at the front of `out`, where there is room for them: the number of what is done, and
 /// else -21.
 pub fn put_front(done: i32, bytes: &[u8], out: &mut [u8], needed: &mut usize) -> i32
-    ensures { IsPut done bytes.now out.old out.new needed.new result }
+    ensures { IsPutText done bytes.now out.old out.new needed.new result }
 {
     *needed = bytes.len();
     if out.len() < bytes.len() {

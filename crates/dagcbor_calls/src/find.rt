@@ -3,7 +3,7 @@
 ghost use Rattle.std.specs.Prelude.{◌≡◌, [], ◌∷◌, length, IfOk, IfSome};
 ghost use Rattle.dagcbor_paths.specs.Paths.{segments};
 ghost use Rattle.dagcbor_paths.specs.Parts.{EndsWith};
-ghost use Rattle.dagcbor_paths.specs.Finding.{StandAt, StopsIn};
+ghost use Rattle.dagcbor_paths.specs.Finding.{StandAt, StopsInBlock};
 ghost use Rattle.dagcbor_calls.specs.Finds.{TellsFound, IsFindAnswer, IsPartAnswer};
 ghost use Rattle.dagcbor_calls.specs.Finds.{IsFollowAnswer, IsPassed};
 
@@ -79,7 +79,7 @@ fn passed(path: &str, left: &str) -> usize
 /// Puts where the item stands at which a walk along the path stopped in the block, and how many bytes
 /// of the path were passed; the number of the item's kind.
 fn put_stop(block: &[u8], path: &str, stop: &Stop<'_, '_>, places: &mut [usize; 3]) -> i32
-    requires { StopsIn block.now path.now stop.now }
+    requires { StopsInBlock block.now path.now stop.now }
     ensures { IsFollowAnswer block.now path.now places.old places.new result }
 {
     let begin = stop.item.place;

@@ -1,7 +1,7 @@
 //! The links of an item, packed: each a byte of its CID's length, and the CID.
 
 ghost use Rattle.std.specs.Prelude.{◌≡◌, false};
-ghost use Rattle.dagcbor_calls.specs.Packed.{HoldsPacked, PutsBytes, put_at, Fills, PutsLinks};
+ghost use Rattle.dagcbor_calls.specs.Packed.{HoldsPacked, PacksBytes, put_at, Fills, PutsLinks};
 
 use arrayvec::ArrayVec;
 use dagcbor_heads::DecodeError;
@@ -29,7 +29,7 @@ impl<'a> PackedLinks<'a> {
 
     /// Puts the bytes behind those before, and counts them.
     pub(crate) fn put(&mut self, bytes: &[u8])
-        ensures { PutsBytes bytes.now self.old self.new }
+        ensures { PacksBytes bytes.now self.old self.new }
     {
         put_at(self.out, self.needed, bytes);
         self.needed = self.needed.saturating_add(bytes.len());

@@ -29,8 +29,8 @@ use Rattle.ipld_links.proofs.Members.{among_push, push_among, map_among, among_f
 
 -- ---- the roots
 
-pub after_header : (alloc : Global) (roots : List CidParts) (held : HeldNames) (start missing : CidSet) → HoldsNone held → members start ≡ [] → AddsAll roots held start missing → IsAfter record { alloc = alloc; held = held; missing = missing; failed = false } (forms roots) []
-after_header alloc roots held start missing none empty h = record {
+pub after_header : (roots : List CidParts) (held : HeldNames) (start missing : CidSet) → HoldsNone held → members start ≡ [] → AddsAll roots held start missing → IsAfter record { held = held; missing = missing; failed = false } (forms roots) []
+after_header roots held start missing none empty h = record {
   held = λ c. (λ m. absurd (none c m), λ m. absurd m.1);
   names = λ q m. absurd (none q m);
   missing = λ form. (there form, λ l. back form l.0 l.1);
@@ -176,7 +176,7 @@ more_cids : (links : List (List ℕ)) (held : HeldNames) (old new : CidSet) → 
 more_cids links held old new joins h q m = elim ((joins q).0 m) [ inl o ↦ h q o | inr w ↦ w.0.0 ]
 
 pub links_followed : {E : Type 0} (b : List ℕ) (old : CarCheck) (after : CidSet) (r : Result (Unit {0}) E) → AddsLinks b old.held old.missing r after
-    → OnOk r (FollowsLinks b old record { alloc = old.alloc; held = old.held; missing = after; failed = old.failed })
+    → OnOk r (FollowsLinks b old record { held = old.held; missing = after; failed = old.failed })
 links_followed b old after (Ok u) found = (refl, found)
 links_followed b old after (Err e) found = tt
 

@@ -34,7 +34,6 @@ use std::convert::Infallible;
 /// nothing is known, and `take` and `missing` are refused.
 #[derive(Drop)]
 pub struct CarCheck {
-    alloc: Global,
     held: HeldNames,
     missing: CidSet,
     failed: bool,
@@ -48,9 +47,8 @@ impl CarCheck {
     {
         let held = HeldNames::new(alloc);
         let mut missing = CidSet::new(alloc);
-        missing.add_all(alloc, roots, &held)?;
+        missing.add_all(roots, &held)?;
         Ok(CarCheck {
-            alloc,
             held,
             missing,
             failed: false,
@@ -113,7 +111,7 @@ impl CarCheck {
         ensures followed { OnOk result (FollowsLinks block.now self.old self.new) }
         ensures same { self.new.failed ≡ self.old.failed }
     {
-        self.missing.add_links(self.alloc, block, &self.held)
+        self.missing.add_links(block, &self.held)
     }
 
     /// The roots and the links that lead to no verified block, each once, in their order.

@@ -1,13 +1,11 @@
 //! What the programs share: why a run ends before its input does, bytes to any writer, the words of a
-//! call; and devices for their tests.
+//! call.
 #![tactic(auto)]
 
-mod devices;
 mod fault;
 mod output;
 mod words;
 
-pub use devices::{Pieces, Stingy};
 pub use fault::ToolError;
 pub use output::{give_up, write_all};
 pub use words::arguments;

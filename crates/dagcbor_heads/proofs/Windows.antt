@@ -1,5 +1,5 @@
 -- Copies of a source's first bytes, and what is known of its bytes behind those that were taken.
-use Rattle.std.proofs.Common.{◌≡◌, ℕ, ◌+◌, ◌-◌, ◌<◌, ◌≤◌, min, List, [], ◌∷◌, ◌++◌, length, take, drop, Bool, true, false, ◌&&◌, Option, None, Some, IfSome, refl, sym, ap, ap₂, subst, ◌∙◌, arith, length-append, append_assoc, length-take, length-drop, drop-drop, le-leb, bytes_eq, nat_le, if◌then◌else◌, MatchOption}
+use Rattle.std.proofs.Common.{◌≡◌, ℕ, ◌+◌, ◌-◌, ◌<◌, ◌≤◌, min, List, [], ◌∷◌, ◌++◌, length, take, drop, Bool, true, false, ◌&&◌, Option, None, Some, IfSome, refl, sym, ap, ap₂, subst, ◌∙◌, arith, length-append, append_assoc, length-take, length-drop, drop-drop, take-append-drop, le-leb, bytes_eq, nat_le, if◌then◌else◌, MatchOption, MatchBool}
 use Rattle.std.proofs.lemmas.List.{take_min, take-append-le, drop-append-le}
 use Rattle.std.proofs.lemmas.Slice.Eq.{bytes_eq-Decides}
 use Rattle.std.proofs.Math.Facts.{leb_yes}
@@ -9,7 +9,7 @@ use Rattle.dagcbor_heads.specs.Head.{head}
 use Rattle.dagcbor_heads.specs.Splits.{SplitsHead}
 use Rattle.dagcbor_heads.specs.IoReading.{bytes_told, may_consume, BeginsWithHeadOf, Refills, TakesHeadOf, Windowed}
 use Rattle.dagcbor_heads.specs.Reading.{Reading, Stays}
-use Rattle.dagcbor_heads.specs.Fronts.{TakesHead}
+use Rattle.dagcbor_heads.specs.Fronts.{TakesHead, TakesSome}
 use Rattle.dagcbor_heads.specs.Looking.{LooksAtTaken}
 use Rattle.std.proofs.Math.Seq.{drop-append_seam}
 use Rattle.dagcbor_heads.proofs.HeadForms.{begins}
@@ -101,6 +101,13 @@ copied_first copies x taken source most few e =
     let t = told_of copies taken source most x e in
     let rest = drop (length copies) t.b in
     (rest, t.is ∙ ap (drop taken) (shown_whole t.b copies t.begins) ∙ drop-append-le taken copies rest few)
+
+-- what is at hand begins the bytes that are left
+pub at_hand_first : {left : Option (List ℕ)} (s : List ℕ) (w : Windowed) (source : Option (List ℕ)) (most : Option ℕ) → left ≡ bytes_told w.copies w.taken source most → w.taken ≤ length w.copies → s ≡ drop w.taken w.copies
+    → (b : List ℕ) → left ≡ Some b → (rest : List ℕ) × (b ≡ s ++ rest)
+at_hand_first {left} s w source most before within is b l =
+    let k = copied_first w.copies b w.taken source most within (sym before ∙ l) in
+    (k.0, k.1 ∙ ap (λ x. x ++ k.0) (sym is))
 
 pub more_taken : (copies x : List ℕ) (taken : ℕ) (source : Option (List ℕ)) (most : Option ℕ) (n : ℕ) → bytes_told copies taken source most ≡ Some x → bytes_told copies (taken + n) source most ≡ Some (drop n x)
 more_taken copies x taken source most n e =
@@ -213,3 +220,40 @@ module _ (old new : Reading) (w after : Windowed) (source : Option (List ℕ)) (
       → IfSome found (λ h. LooksAtTaken 2 0 old new)
   head_at_once_looked None was is shown h = tt
   head_at_once_looked (Some x) was is shown h = head_looked was is shown h
+
+  some_taken : (n : ℕ) → Stays old new → w.taken ≤ length w.copies → n ≤ length (drop w.taken w.copies) → after ≡ record {
+    copies = w.copies;
+    taken = w.taken + n;
+    shown = [];
+    faults = w.faults;
+    looked = w.looked + n;
+  } → old.looked ≡ w.looked → new.looked ≡ after.looked → new.shown ≡ after.shown → TakesSome n old new
+  some_taken n same within few e was is shown =
+      let x = drop w.taken w.copies in record {
+        bytes = take n x;
+        counted = (let l = length-take n x in omega (arith, l, few));
+        takes = record {
+          taken = λ b l. (
+            let k = copied_first w.copies b w.taken source most within (sym before ∙ l) in
+            (
+              drop n b,
+              sym (take-append-drop n b) ∙ ap (λ s. s ++ drop n b) (ap (take n) k.1 ∙ take-append-le n x k.0 few),
+              behind ∙ ap (λ (v : Windowed). bytes_told v.copies v.taken source most) e ∙ more_taken w.copies b w.taken source most n (sym before ∙ l),
+            )
+          );
+          same = same;
+        };
+        looked = omega (arith, was, is, ap (λ (v : Windowed). v.looked) e);
+        none_shown = shown ∙ ap (λ (v : Windowed). v.shown) e;
+      }
+
+  pub taken_at_hand : (done : Bool) (n : ℕ) → Stays old new → (after ≡ w → new ≡ old) → w.taken ≤ length w.copies → old.looked ≡ w.looked → new.looked ≡ after.looked → new.shown ≡ after.shown
+      → MatchBool done ((n ≤ length (drop w.taken w.copies)) × (after ≡ record {
+        copies = w.copies;
+        taken = w.taken + n;
+        shown = [];
+        faults = w.faults;
+        looked = w.looked + n;
+      })) (after ≡ w) → MatchBool done (TakesSome n old new) (new ≡ old)
+  taken_at_hand true n same none within was is shown h = some_taken n same within h.0 h.1 was is shown
+  taken_at_hand false n same none within was is shown h = none h

@@ -1,5 +1,5 @@
 -- What stands at the front of the bytes that a reader has left, and what a call takes from there.
-use Rattle.std.specs.Prelude.{◌≡◌, ℕ, ◌/◌, ◌^◌, ◌<◌, ◌≤◌, List, [], ◌∷◌, ◌++◌, length, Some}
+use Rattle.std.specs.Prelude.{◌≡◌, ℕ, ◌/◌, ◌^◌, ◌+◌, ◌<◌, ◌≤◌, List, [], ◌∷◌, ◌++◌, length, Some}
 use Rattle.dagcbor_heads.specs.Head.{head}
 use Rattle.dagcbor_heads.specs.Reading.{Reading, Keeps, Stays}
 
@@ -47,6 +47,14 @@ pub record Takes (old : Reading) (bytes : List ℕ) (new : Reading) : Type 0 whe
   pub taken : (b : List ℕ) → old.left ≡ Some b → (rest : List ℕ) × (b ≡ bytes ++ rest)
       × (new.left ≡ Some rest)
   pub same : Stays old new
+
+-- so many bytes stood at the front, and were taken, each looked at once and none behind them shown
+pub record TakesSome (n : ℕ) (old new : Reading) : Type 0 where
+  pub bytes : List ℕ
+  pub counted : length bytes ≡ n
+  pub takes : Takes old bytes new
+  pub looked : new.looked ≡ old.looked + n
+  pub none_shown : new.shown ≡ []
 
 -- this head stood at the front, with this first byte, and was taken
 pub record TakesHead (old : Reading) (major argument first : ℕ) (new : Reading) : Type 0 where

@@ -139,6 +139,22 @@ impl<R: Read> Read for Input<'_, R> {
         }
     }
 
+    #[inline(always)]
+    fn at_hand(&self) -> &[u8] {
+        match self {
+            Input::Slice(reader) => reader.at_hand(),
+            Input::Reader(reader) => reader.at_hand(),
+        }
+    }
+
+    #[inline(always)]
+    fn take_at_hand(&mut self, n: usize) -> bool {
+        match self {
+            Input::Slice(reader) => reader.take_at_hand(n),
+            Input::Reader(reader) => reader.take_at_hand(n),
+        }
+    }
+
     fn step_in(&mut self) -> bool {
         match self {
             Input::Slice(reader) => reader.step_in(),

@@ -108,6 +108,14 @@ impl<R: BufRead> Read for IoRefReader<'_, R> {
         self.window.take_head()
     }
 
+    fn at_hand(&self) -> &[u8] {
+        self.window.at_hand()
+    }
+
+    fn take_at_hand(&mut self, n: usize) -> bool {
+        self.window.take(n)
+    }
+
     fn step_in(&mut self) -> bool {
         self.steps.spend()
     }

@@ -5,7 +5,7 @@ ghost use Rattle.std.specs.Prelude.{MatchResult, MatchBool, Some, IsSome, List, 
 ghost use Rattle.dagcbor_heads.specs.Reading.{Reading, Shows, Fails, Advances};
 ghost use Rattle.dagcbor_heads.specs.Reading.{fresh_reading, default_steps, with_steps};
 ghost use Rattle.dagcbor_heads.specs.Head.{head};
-ghost use Rattle.dagcbor_heads.specs.Fronts.{Takes, TakesHead};
+ghost use Rattle.dagcbor_heads.specs.Fronts.{Takes, TakesHead, TakesSome};
 ghost use Rattle.dagcbor_heads.specs.Looking.{LooksAtTaken, LooksAtMost};
 
 use crate::error::DecodeError;
@@ -74,6 +74,23 @@ pub trait Read: Drop {
             (λ _. LooksAtMost 18 (reading self.old) (reading self.new)) }
     {
         None
+    }
+
+    /// A front of the bytes left, for which nothing is asked of the source. It may have none.
+    fn at_hand(&self) -> &[u8]
+        ensures { (b : List ℕ) → (reading self.now).left ≡ Some b
+            → (rest : List ℕ) × (b ≡ result.now ++ rest) }
+    {
+        &[]
+    }
+
+    /// Takes the next n bytes, where they are at hand. Else nothing is taken, and nothing counted.
+    fn take_at_hand(&mut self, n: usize) -> bool
+        ensures { MatchBool result
+            (TakesSome n (reading self.old) (reading self.new))
+            (reading self.new ≡ reading self.old) }
+    {
+        false
     }
 }
 
@@ -223,6 +240,16 @@ impl Read for SliceReader<'_> {
         self.rest = &self.rest[n..];
         self.shown = 0;
         self.looked.add(n);
+    }
+
+    #[inline(always)]
+    fn at_hand(&self) -> &[u8] {
+        self.rest
+    }
+
+    #[inline(always)]
+    fn take_at_hand(&mut self, n: usize) -> bool {
+        self.lend(n as u64).is_some()
     }
 
     fn step_in(&mut self) -> bool {

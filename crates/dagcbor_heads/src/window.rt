@@ -1,7 +1,7 @@
 //! What a reader over a buffered source shows.
 
 ghost use Rattle.std.specs.Prelude.{◌≡◌, ◌+◌, ◌<◌, ◌≤◌, ◌++◌, ◌∷◌, ◌/◌, [], min, length, take, drop, List, ℕ};
-ghost use Rattle.std.specs.Prelude.{IfSome, MatchResult, MatchOption, Some};
+ghost use Rattle.std.specs.Prelude.{IfSome, MatchResult, MatchOption, MatchBool, Some};
 ghost use Rattle.dagcbor_heads.specs.Head.{head};
 ghost use Rattle.dagcbor_heads.specs.IoReading.{Refills, bytes_told, BeginsWithHeadOf, TakesHeadOf};
 
@@ -191,10 +191,34 @@ impl Window {
 
     /// What was copied and not taken.
     #[inline(always)]
-    fn behind(&self) -> &[u8]
-        ensures { result.now ≡ drop self.now.taken self.now.copies }
+    pub(crate) fn at_hand(&self) -> &[u8]
+        ensures bytes { result.now ≡ drop self.now.taken self.now.copies }
+        ensures most { self.now.taken ≤ length self.now.copies }
     {
         &self.bytes[..self.end][self.start..]
+    }
+
+    /// Takes the next n bytes, where they were copied. The source is not asked.
+    #[inline(always)]
+    pub(crate) fn take(&mut self, n: usize) -> bool
+        ensures most { self.old.taken ≤ length self.old.copies }
+        ensures taken { MatchBool result
+            ((n ≤ length (drop self.old.taken self.old.copies)) × (self.new ≡ record {
+              copies = self.old.copies;
+              taken = self.old.taken + n;
+              shown = [];
+              faults = self.old.faults;
+              looked = self.old.looked + n;
+            }))
+            (self.new ≡ self.old) }
+    {
+        if self.end - self.start < n {
+            return false;
+        }
+        self.start += n;
+        self.shown = 0;
+        self.looked.add(n);
+        true
     }
 
     /// Takes the head at the front, where all of it was copied: its major type, its argument and its
@@ -204,7 +228,7 @@ impl Window {
             (self.new ≡ self.old)
             (λ h. TakesHeadOf self.old h.0 h.1 h.2 self.new) }
     {
-        let (major, argument, first, count) = whole_head(self.behind())?;
+        let (major, argument, first, count) = whole_head(self.at_hand())?;
         self.start += count;
         self.shown = 0;
         self.looked.add(count);

@@ -6,6 +6,7 @@ use Rattle.std.specs.Cow.{cow_str_bytes}
 use Rattle.std.specs.declared.borrow.CowStr.{CowStr}
 use Rattle.std.specs.declared.alloc.Global.{Global}
 use Rattle.dagcbor_heads.specs.Reading.{Reading, Stays}
+use Rattle.dagcbor_heads.specs.Looking.{LooksAtTaken}
 use Rattle.dagcbor_heads.specs.Refusals.{RefusesOrLacksMemory, RefusesOrLacksMemoryUnlent}
 use Rattle.dagcbor_heads.specs.Names.{Names}
 use Rattle.dagcbor_heads.specs.declared.error.DecodeError.{DecodeError}
@@ -48,6 +49,13 @@ abbrev pub TakesKey : Option (List ℕ) → Reading → Result (Bor (List ℕ)) 
 TakesKey previous old result new = MatchResult result
     (λ k. Follows previous k.now × TakesFront (leaf view_text) old k.now new)
     (λ b. TakesString 3 old b.now new × (IsUtf8 b.now → ¬ Follows previous b.now))
+
+-- this key stood at the front and follows the one before it, and was taken, each of its bytes
+-- looked at once
+pub record TakesKnownKey (previous : Option (List ℕ)) (key : List ℕ) (old new : Reading) : Type 0 where
+  pub follows : Follows previous key
+  pub takes : TakesFront (leaf view_text) old key new
+  pub looked : LooksAtTaken 2 0 old new
 
 -- a slice begins with this name, whose head has one byte, and it follows the key before it
 pub record HasName (previous : Option (List ℕ)) (name : List ℕ) (r : Reading) : Type 0 where

@@ -1,5 +1,5 @@
 -- Heads of some major types, and strings of bytes.
-use Rattle.std.specs.Prelude.{◌≡◌, ℕ, ◌^◌, ◌<◌, ◌≤◌, List, ◌++◌, length, Option, Some, Result, MatchResult, ⊤}
+use Rattle.std.specs.Prelude.{false, ◌≡◌, ℕ, ◌^◌, ◌<◌, ◌≤◌, List, ◌++◌, length, Option, Some, Result, MatchResult, ⊤}
 use Rattle.dagcbor_heads.specs.Head.{head}
 use Rattle.dagcbor_heads.specs.Reading.{Reading}
 use Rattle.dagcbor_heads.specs.Fronts.{Takes}
@@ -43,6 +43,13 @@ BeginsSomeString kind b = (n : ℕ) × (rest : List ℕ) × (0 < n) × (n < 2 ^ 
 abbrev pub LacksForString : {E : Type 0} → ℕ → Option (List ℕ) → DecodeError E → Type 0
 LacksForString kind left OutOfMemory = (b : List ℕ) → left ≡ Some b → BeginsSomeString kind b
 LacksForString kind left _ = ⊤
+
+-- memory is wanting for a copy of a text that begins the bytes that are left: nothing was taken or
+-- looked at
+pub record LacksToCopy (old new : Reading) : Type 0 where
+  pub same : new ≡ old
+  pub unlent : old.lends ≡ false
+  pub some : (b : List ℕ) → old.left ≡ Some b → BeginsSomeString 3 b
 
 -- a string of the major type stands at the front
 pub record HasString (kind : ℕ) (r : Reading) : Type 0 where

@@ -8,7 +8,7 @@ ghost use Rattle.dagcbor_heads.specs.Looking.{Looks, LooksAtTaken};
 ghost use Rattle.ipld_tree.specs.Key.{comes_before};
 ghost use Rattle.dagcbor_items.specs.Places.{Follows};
 ghost use Rattle.ipld_tree.specs.Spelling.{text_spelling};
-ghost use Rattle.dagcbor_items.specs.Entries.{ReadsKey, TakesKey, IsNoKey, HasName};
+ghost use Rattle.dagcbor_items.specs.Entries.{ReadsKey, TakesKey, TakesKnownKey, IsNoKey, HasName};
 ghost use Rattle.dagcbor_items.specs.Majors.{LacksForString};
 ghost use Rattle.dagcbor_items.specs.Shapes.{view_text, leaf};
 ghost use Rattle.dagcbor_items.specs.TypedReads.{TakesFront};
@@ -100,6 +100,17 @@ fn is_same(text: &[u8], wanted: &[u8]) -> bool
     true
 }
 
+/// Whether the key is this name.
+#[inline(always)]
+pub fn is_name(key: &str, name: &str) -> bool
+    ensures { MatchBool result (key.now ≡ name.now) (¬ (key.now ≡ name.now)) }
+{
+    if key.len() != name.len() {
+        return false;
+    }
+    is_same(key.as_bytes(), name.as_bytes())
+}
+
 /// The text at the front, whose head has one byte, and the bytes behind it, where it is this name.
 #[inline(always)]
 fn split_name<'b>(front: &'b [u8], name: &str) -> Option<(&'b str, &'b [u8])>
@@ -151,6 +162,45 @@ pub fn take_name<'de, R: Read>(
     }
     let _taken = input.lend(1 + name.len() as u64)?;
     Some(key)
+}
+
+/// Takes this name, where it is at hand, its head has one byte, and it may stand behind the key
+/// before it. Else nothing is taken.
+#[inline(always)]
+fn take_name_at_hand<R: Read>(reader: &mut R, last: &Option<CowStr<'_>>, name: &str) -> bool
+    ensures { MatchBool result
+        (TakesKnownKey (option_map cow_str_bytes last.now) name.now (R.reading reader.old)
+        (R.reading reader.new))
+        (R.reading reader.new ≡ R.reading reader.old) }
+{
+    let Some((_key, _behind)) = split_name(reader.at_hand(), name) else {
+        return false;
+    };
+    if !follows(last, name) {
+        return false;
+    }
+    reader.take_at_hand(1 + name.len())
+}
+
+/// Takes the one of the names that is at hand and may stand behind the key before it. It may take
+/// nothing.
+#[inline(always)]
+pub fn take_one_of<'n, R: Read>(
+    reader: &mut R,
+    previous: &Option<CowStr<'_>>,
+    names: &[&'n str],
+) -> Option<&'n str>
+    ensures { MatchOption result
+        (R.reading reader.new ≡ R.reading reader.old)
+        (λ key. TakesKnownKey (option_map cow_str_bytes previous.now) key.now
+        (R.reading reader.old) (R.reading reader.new)) }
+{
+    for name in names {
+        if take_name_at_hand(reader, previous, name) {
+            return Some(name);
+        }
+    }
+    None
 }
 
 /// What refuses a text's bytes that are no key.

@@ -28,7 +28,7 @@ mod walk;
 
 pub use any::read_any;
 pub use judge::{behind_link, follows, is_cid, is_text};
-pub use key::{no_key, read_key, take_key, take_name};
+pub use key::{is_name, no_key, read_key, take_key, take_name, take_one_of};
 pub use kind::{Kind, kind_at, kind_of_front};
 pub use link::{pull_link, take_link};
 pub use majors::pull_major;

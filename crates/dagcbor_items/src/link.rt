@@ -74,21 +74,24 @@ fn split_tagged(front: &[u8]) -> Option<(&[u8], &[u8])>
     split_payload(behind, count)
 }
 
-/// Takes the link at the front, where the input is a slice that has all of it. It may take nothing.
+/// Takes the link at the front, where all of it is at hand. It may take nothing.
 #[inline(always)]
 pub fn take_link<R: Read>(input: &mut Input<'_, R>) -> Option<Cid>
     ensures taken { MatchOption result
-        (input.new ≡ input.old)
+        (input_reading R.reading input.new ≡ input_reading R.reading input.old)
         (λ c. TakesFront (leaf view_link) (input_reading R.reading input.old) (cid_bytes c)
         (input_reading R.reading input.new)) }
     ensures looked { IfSome result
         (λ _. LooksAtTaken 2 0 (input_reading R.reading input.old)
         (input_reading R.reading input.new)) }
 {
-    let front = input.rest()?;
+    let front = input.at_hand();
     let (payload, behind) = split_tagged(front)?;
     let cid = cid_behind_zero(payload)?;
-    let _link = input.lend((front.len() - behind.len()) as u64)?;
+    let count = front.len() - behind.len();
+    if !input.take_at_hand(count) {
+        return None;
+    }
     Some(cid)
 }
 

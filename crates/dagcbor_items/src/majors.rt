@@ -38,7 +38,7 @@ pub(crate) fn peek_major<R: Read>(
 #[tactic(auto, using(crate::proofs::PartRefusals::named_kind, crate::proofs::PartRefusals::byte_kind))]
 #[cold]
 #[inline(never)]
-pub(crate) fn pull_major_slowly<R: Read>(
+fn pull_major_slowly<R: Read>(
     name: &str,
     reader: &mut R,
     low: u8,

@@ -8,7 +8,7 @@ ghost use Rattle.dagcbor_items.specs.LeafReads.{ReadsUnsigned, ReadsSigned, Read
 ghost use Rattle.dagcbor_heads.specs.Looking.{Looks};
 ghost use Rattle.dagcbor_items.specs.AnsweredVariants.{OfHead, OfNumber};
 
-use crate::majors::{pull_major, pull_major_slowly};
+use crate::majors::pull_major;
 use dagcbor_heads::{DecodeError, Read, ReadResult, peek_one};
 
 /// The number of a head of major type 0 or 1.
@@ -46,25 +46,8 @@ fn signed_of(number: i128, greatest: u64) -> Option<i128>
     Some(number)
 }
 
-/// A number from 0 to `greatest`, byte by byte: a refusal names its cause.
-#[tactic(auto, using(crate::proofs::PartRefusals::kind_number))]
-#[cold]
-#[inline(never)]
-fn pull_unsigned_slowly<R: Read>(name: &str, reader: &mut R, greatest: u64) -> ReadResult<u64, R>
-    ensures number { ReadsUnsigned name.now (greatest + 1) (R.reading reader.old) result
-        (R.reading reader.new) }
-    ensures most { IfOk result (λ n. n ≤ greatest) }
-    ensures looked { Looks 3 (R.reading reader.old) result (R.reading reader.new) }
-    ensures variant { IfErr result OfNumber }
-{
-    let (major, argument) = pull_major_slowly(name, reader, 0, 1)?;
-    if major > 0 || argument > greatest {
-        return Err(DecodeError::out_of_range(name));
-    }
-    Ok(argument)
-}
-
 /// A number from 0 to `greatest`.
+#[tactic(auto, using(crate::proofs::PartRefusals::kind_number))]
 #[inline(always)]
 pub fn pull_unsigned<R: Read>(name: &str, reader: &mut R, greatest: u64) -> ReadResult<u64, R>
     ensures number { ReadsUnsigned name.now (greatest + 1) (R.reading reader.old) result
@@ -73,16 +56,11 @@ pub fn pull_unsigned<R: Read>(name: &str, reader: &mut R, greatest: u64) -> Read
     ensures looked { Looks 3 (R.reading reader.old) result (R.reading reader.new) }
     ensures variant { IfErr result OfNumber }
 {
-    if let Some((major, argument, first)) = reader.take_head() {
-        if major > 1 {
-            return Err(DecodeError::mismatch(name, first));
-        }
-        if major > 0 || argument > greatest {
-            return Err(DecodeError::out_of_range(name));
-        }
-        return Ok(argument);
+    let (major, argument) = pull_major(name, reader, 0, 1)?;
+    if major > 0 || argument > greatest {
+        return Err(DecodeError::out_of_range(name));
     }
-    pull_unsigned_slowly(name, reader, greatest)
+    Ok(argument)
 }
 
 /// A number from -1 - `greatest` to `greatest`.

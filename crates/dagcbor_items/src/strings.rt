@@ -1,24 +1,30 @@
 //! Reading texts, characters and byte strings.
 
 ghost use Rattle.std.specs.Prelude.{◌≡◌, ◌<◌, ◌↔◌, true, IfOk, IfSome, MatchOption, IsUtf8, IfErr};
-ghost use Rattle.std.specs.Prelude.{length, string_bytes};
+ghost use Rattle.std.specs.Prelude.{length, string_bytes, false, List, ℕ, ◌+◌};
+ghost use Rattle.ipld_tree.specs.Tree.{text};
+ghost use Rattle.ipld_tree.specs.Spelling.{IsFront};
 ghost use Rattle.std.specs.Str.{chars};
 ghost use Rattle.std.specs.Cow.{cow_slice_items, cow_str_bytes, IsBorrowedSlice, IsBorrowedStr};
 ghost use Rattle.dagcbor_heads.specs.Names.{Names};
 ghost use Rattle.dagcbor_heads.specs.declared.name.Name.{Name};
 ghost use Rattle.dagcbor_heads.specs.declared.error.DecodeError.{DecodeError};
 ghost use Rattle.dagcbor_heads.specs.Inputs.{input_reading, OverInput};
-ghost use Rattle.dagcbor_heads.specs.Looking.{Looks};
-ghost use Rattle.dagcbor_items.specs.Majors.{LacksForString, ReadsString};
+ghost use Rattle.dagcbor_heads.specs.Looking.{Looks, LooksAtTaken};
+ghost use Rattle.dagcbor_items.specs.Majors.{LacksForString, LacksToCopy, ReadsString};
 ghost use Rattle.dagcbor_items.specs.Untyped.{StartsWithMajor};
-ghost use Rattle.dagcbor_items.specs.Shapes.{only};
+ghost use Rattle.dagcbor_items.specs.Shapes.{only, view_text, leaf};
+ghost use Rattle.dagcbor_items.specs.TypedReads.{TakesFront};
 ghost use Rattle.dagcbor_items.specs.LeafReads.{ReadsStr, ReadsOwnedText, ReadsChar};
 ghost use Rattle.dagcbor_items.specs.LeafReads.{ReadsByteSlice, ReadsOwnedBytes};
 ghost use Rattle.dagcbor_items.specs.AnsweredVariants.{OfChar, OfHead, OfText};
 
+use crate::judge::split_payload;
 use crate::majors::peek_major;
 use crate::utf8::as_text;
-use dagcbor_heads::{DecodeError, Input, Name, Read, ReadResult, pull_head, pull_payload};
+use dagcbor_heads::{
+    DecodeError, Input, Name, Read, ReadResult, pull_head, pull_payload, split_head,
+};
 use std::alloc::{AllocError, Global};
 use std::borrow::{CowSlice, CowStr};
 
@@ -138,6 +144,63 @@ pub(crate) fn no_text<E>(name: &str) -> DecodeError<E>
     }
 }
 
+/// The text at the front, and how many bytes it has with its head.
+#[inline(always)]
+fn split_text(front: &[u8]) -> Option<(&str, usize)>
+    ensures { IfSome result (λ p. (rest : List ℕ) × IsFront front.now (text p.0.now) rest
+        × (p.1 + length rest ≡ length front.now)) }
+{
+    let (major, count, behind) = split_head(front)?;
+    if major != 3 {
+        return None;
+    }
+    let (payload, rest) = split_payload(behind, count)?;
+    Some((as_text(payload)?, front.len() - rest.len()))
+}
+
+/// A text in memory of its own. An empty one takes none.
+fn copy_text(alloc: Global, text: &str) -> Result<String, AllocError>
+    ensures text { IfOk result (λ s. string_bytes s ≡ text.now) }
+    ensures memory { IfErr result (λ _. 0 < length text.now) }
+{
+    if text.len() == 0 {
+        return Ok(String::new(alloc));
+    }
+    String::from_str(alloc, text)
+}
+
+/// Takes the text at the front into memory of its own, where the input lends nothing and all of it
+/// is at hand. Else nothing is taken, and where memory is wanted.
+fn take_copied<R: Read>(
+    alloc: Global,
+    input: &mut Input<'_, R>,
+) -> Result<Option<String>, AllocError>
+    ensures taken { IfOk result (λ o. MatchOption o
+        (input_reading R.reading input.new ≡ input_reading R.reading input.old)
+        (λ s. TakesFront (leaf view_text) (input_reading R.reading input.old) (string_bytes s)
+        (input_reading R.reading input.new))) }
+    ensures lends { IfOk result
+        (λ o. IfSome o (λ _. (input_reading R.reading input.old).lends ≡ false)) }
+    ensures looked { IfOk result
+        (λ o. IfSome o (λ _. LooksAtTaken 2 0 (input_reading R.reading input.old)
+        (input_reading R.reading input.new))) }
+    ensures wanted { IfErr result
+        (λ _. LacksToCopy (input_reading R.reading input.old) (input_reading R.reading input.new)) }
+{
+    if input.rest().is_some() {
+        return Ok(None);
+    }
+    let Some((text, count)) = split_text(input.at_hand()) else {
+        return Ok(None);
+    };
+    let copy = copy_text(alloc, text)?;
+    if input.take_at_hand(count) {
+        Ok(Some(copy))
+    } else {
+        Ok(None)
+    }
+}
+
 /// What refuses a payload that is no text, read byte by byte: a refusal names its cause.
 #[tactic(auto, using(crate::proofs::PartRefusals::byte_text))]
 #[cold]
@@ -180,7 +243,11 @@ pub fn pull_str<'de, R: Read>(
             None => Err(no_text(name)),
         };
     }
-    pull_str_slowly(alloc, name, input)
+    match take_copied(alloc, input) {
+        Ok(Some(text)) => Ok(CowStr::Owned(text)),
+        Ok(None) => pull_str_slowly(alloc, name, input),
+        Err(_) => Err(DecodeError::OutOfMemory),
+    }
 }
 
 /// The text in memory of its own. An empty one takes none.

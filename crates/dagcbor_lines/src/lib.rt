@@ -1,7 +1,7 @@
 //! The lines of the program `dagcbor`: lines of hexadecimal text are tested against DAG-CBOR, or
 //! their links are listed.
 //!
-//! Each line is answered by one (`program_tests`):
+//! Each line is answered by one (`tests_programs`):
 //!
 //! ```rust
 //! const LINES: &[u8] = b"1817\nzz\n\nF6\n63616263\r\nF5\n420102";

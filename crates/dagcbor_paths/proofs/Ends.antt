@@ -22,14 +22,14 @@ use Rattle.dagcbor_items.specs.TreeKinds.{kind_of, IsKindAt}
 use Rattle.dagcbor_items.specs.declared.kind.Kind.{Kind}
 use Rattle.dagcbor_items.proofs.SliceReads.{whole_front}
 use Rattle.dagcbor_paths.specs.Paths.{segments, At}
-use Rattle.dagcbor_paths.specs.Parts.{Begins, EndsWith, FindsPart}
-use Rattle.dagcbor_paths.specs.Finding.{IsItem, FindsItemIn, FindsAlong, LeadsInto, LeadsNowhere, StopsAt, StopsIn, Walked, Follows, TellsItem}
+use Rattle.dagcbor_paths.specs.Parts.{BeginsWithTree, EndsWith, FindsPart}
+use Rattle.dagcbor_paths.specs.Finding.{IsItem, FindsItemIn, FindsAlong, LeadsInto, HasNoPart, EndsWay, StopsInBlock, Walked, FollowsPath, TellsItem}
 use Rattle.dagcbor_paths.specs.declared.find.Item.{Item}
 use Rattle.dagcbor_paths.proofs.Leading.{at_then, at_behind}
 
 -- ---- the item
 
-pub no_first_item : (b : List ℕ) (t : Tree) → length b ≡ 0 → Begins b t → ⊥
+pub no_first_item : (b : List ℕ) (t : Tree) → length b ≡ 0 → BeginsWithTree b t → ⊥
 no_first_item b t none k = let f = front_first b k.0 t k.1 in omega (arith, none, ap length f.3)
 
 kind_told : (b rest : List ℕ) (t : Tree) (first : ℕ) (kind : Kind) → Some first ≡ slice_get b 0 → IsKindAt first kind → IsFront b t rest → kind ≡ kind_of t
@@ -43,7 +43,7 @@ front_taken b s rest is =
     let long : length b - length rest ≡ length s = omega (arith, ap length is, length-append s rest) in
     ap (λ n. take n b) long ∙ ap (take (length s)) is ∙ take-append_seam s rest
 
-pub item_told : (b at rest : List ℕ) (first : ℕ) (item : Item) (t : Tree) → EndsWith b at → SplitsItem at 256 rest → Some first ≡ slice_get at 0 → IsKindAt first item.kind → item.place ≡ length b - length at → item.bytes.now ≡ take (length at - length rest) at → Begins at t → IsItem b t item
+pub item_told : (b at rest : List ℕ) (first : ℕ) (item : Item) (t : Tree) → EndsWith b at → SplitsItem at 256 rest → Some first ≡ slice_get at 0 → IsKindAt first item.kind → item.place ≡ length b - length at → item.bytes.now ≡ take (length at - length rest) at → BeginsWithTree at t → IsItem b t item
 item_told b at rest first item t ends split is kind place part k =
     let same = front_unique at rest k.0 split.0 t split.1 k.1 in
     let whole : at ≡ spelling t ++ rest = k.1.is ∙ ap (λ x. spelling t ++ x) (sym same.1) in
@@ -75,7 +75,7 @@ link_shown _ s e = absurd cc
 
 -- a link was pulled, or none stands there
 abbrev pub PullsLink : List ℕ → Option CidParts → Type 0
-PullsLink b result = (t : Tree) → Begins b t → MatchOption result ((cid : List ℕ) → t ≢ link cid) (λ c. t ≡ link (cid_bytes c))
+PullsLink b result = (t : Tree) → BeginsWithTree b t → MatchOption result ((cid : List ℕ) → t ≢ link cid) (λ c. t ≡ link (cid_bytes c))
 
 pub link_told : (b : List ℕ) (old new : Reading) (r : Result CidParts (DecodeError Infallible)) → old.left ≡ Some b → ReadsLink old r new → PullsLink b (result_ok r)
 link_told b old new (Ok c) l h = λ t k.
@@ -96,16 +96,16 @@ link_told b old new (Err e) l h = λ t k cid is.
 
 -- what is known of it
 abbrev pub Walks : List ℕ → List (List ℕ) → List ℕ → List (List ℕ) → Type 0
-Walks b path at left = (t : Tree) → Begins b t → (u : Tree) × Walked t path left u at
+Walks b path at left = (t : Tree) → BeginsWithTree b t → (u : Tree) × Walked t path left u at
 
 pub walk_begun : (b : List ℕ) (path : List (List ℕ)) → Walks b path b path
 walk_begun b path = λ t k. (t, record { passed = []; whole = refl; leads = refl; begins = k })
 
-pub walk_over : (b at : List ℕ) (path left : List (List ℕ)) → Walks b path at left → left ≡ [] → Follows b path at left
-walk_over b at path left w none = λ t k. let x = w t k in (x.0, x.1, subst (λ y. StopsAt y x.0) (sym none) tt)
+pub walk_over : (b at : List ℕ) (path left : List (List ℕ)) → Walks b path at left → left ≡ [] → FollowsPath b path at left
+walk_over b at path left w none = λ t k. let x = w t k in (x.0, x.1, subst (λ y. EndsWay y x.0) (sym none) tt)
 
-pub walk_stopped : {A : Type 0} (bytes_of : A → List ℕ) (b at segment : List ℕ) (path left more : List (List ℕ)) → Walks b path at left → left ≡ segment ∷ more → FindsPart {A = A} bytes_of at segment None → Follows b path at left
-walk_stopped bytes_of b at segment path left more w is none = λ t k. let x = w t k in (x.0, x.1, subst (λ y. StopsAt y x.0) (sym is) (none x.0 x.1.begins))
+pub walk_stopped : {A : Type 0} (bytes_of : A → List ℕ) (b at segment : List ℕ) (path left more : List (List ℕ)) → Walks b path at left → left ≡ segment ∷ more → FindsPart {A = A} bytes_of at segment None → FollowsPath b path at left
+walk_stopped bytes_of b at segment path left more w is none = λ t k. let x = w t k in (x.0, x.1, subst (λ y. EndsWay y x.0) (sym is) (none x.0 x.1.begins))
 
 pub walk_goes_on : {A : Type 0} (bytes_of : A → List ℕ) (a : A) (b at segment : List ℕ) (path left more : List (List ℕ)) → Walks b path at left → left ≡ segment ∷ more → FindsPart bytes_of at segment (Some a) → Walks b path (bytes_of a) more
 walk_goes_on bytes_of a b at segment path left more w is found = λ t k.
@@ -125,10 +125,10 @@ ends_further b at part e f = (e.0 ++ f.0, e.1 ∙ ap (λ x. e.0 ++ x) f.1 ∙ sy
 
 -- ---- its end
 
-block_begins : (b : List ℕ) (t : Tree) → IsBlock b t → Begins b t
+block_begins : (b : List ℕ) (t : Tree) → IsBlock b t → BeginsWithTree b t
 block_begins b t h = ([], whole_front h.0, h.1)
 
-pub led_into : (b at : List ℕ) (path left : List (List ℕ)) → Follows b path at left → (t : Tree) → IsBlock b t → (u : Tree) × LeadsInto b path left t u × StopsAt left u × Begins at u
+pub led_into : (b at : List ℕ) (path left : List (List ℕ)) → FollowsPath b path at left → (t : Tree) → IsBlock b t → (u : Tree) × LeadsInto b path left t u × EndsWay left u × BeginsWithTree at u
 led_into b at path left w t h =
     let x = w t (block_begins b t h) in
     (x.0, record { block = h; passed = x.1.passed; whole = x.1.whole; leads = x.1.leads }, x.2, x.1.begins)
@@ -136,15 +136,15 @@ led_into b at path left w t h =
 pub leads_all : (b : List ℕ) (path left : List (List ℕ)) (t u : Tree) → LeadsInto b path left t u → left ≡ [] → At path t u
 leads_all b path left t u k none = subst (λ p. At p t u) (sym (k.whole ∙ ap (λ x. k.passed ++ x) none ∙ append-nil k.passed)) k.leads
 
-pub nowhere : (left : List (List ℕ)) (u : Tree) → left ≢ [] → StopsAt left u → LeadsNowhere left u
+pub nowhere : (left : List (List ℕ)) (u : Tree) → left ≢ [] → EndsWay left u → HasNoPart left u
 nowhere [] u some h = absurd (some refl)
 nowhere (s ∷ more) u some h = h
 
-leads_to_none : (left : List (List ℕ)) (u found : Tree) → LeadsNowhere left u → ¬ At left u found
+leads_to_none : (left : List (List ℕ)) (u found : Tree) → HasNoPart left u → ¬ At left u found
 leads_to_none [] u found none h = none
 leads_to_none (s ∷ more) u found none h = none h.0 h.1
 
-pub nothing_found : (b : List ℕ) (path left : List (List ℕ)) (t u : Tree) → LeadsInto b path left t u → LeadsNowhere left u → FindsItemIn b path None
+pub nothing_found : (b : List ℕ) (path left : List (List ℕ)) (t u : Tree) → LeadsInto b path left t u → HasNoPart left u → FindsItemIn b path None
 nothing_found b path left t u k none = (
   t,
   k.block,
@@ -152,37 +152,37 @@ nothing_found b path left t u k none = (
       leads_to_none left u found none (at_behind k.passed left t u found (k.block.0.well_formed, k.block.0.spellable) k.leads (subst (λ p. At p t found) k.whole h)),
 )
 
-pub no_part_of_link : (left : List (List ℕ)) (cid : List ℕ) → left ≢ [] → LeadsNowhere left (link cid)
+pub no_part_of_link : (left : List (List ℕ)) (cid : List ℕ) → left ≢ [] → HasNoPart left (link cid)
 no_part_of_link [] cid some = absurd (some refl)
 no_part_of_link (s ∷ more) cid some = λ part h. h
 
-pub ends_at_item : (b at : List ℕ) (path left : List (List ℕ)) (item : Item) → Follows b path at left → left ≡ [] → ((t : Tree) → Begins at t → IsItem b t item) → (t : Tree) → IsBlock b t → FindsItemIn b path (Some item)
+pub ends_at_item : (b at : List ℕ) (path left : List (List ℕ)) (item : Item) → FollowsPath b path at left → left ≡ [] → ((t : Tree) → BeginsWithTree at t → IsItem b t item) → (t : Tree) → IsBlock b t → FindsItemIn b path (Some item)
 ends_at_item b at path left item w none told t h =
     let k = led_into b at path left w t h in
     (t, k.0, h, leads_all b path left t k.0 k.1 none, told k.0 k.3)
 
-pub ends_at_none : {A : Type 0} (b at : List ℕ) (path left : List (List ℕ)) → Follows b path at left → ((t : Tree) → Begins at t → ⊥) → (t : Tree) → IsBlock b t → A
+pub ends_at_none : {A : Type 0} (b at : List ℕ) (path left : List (List ℕ)) → FollowsPath b path at left → ((t : Tree) → BeginsWithTree at t → ⊥) → (t : Tree) → IsBlock b t → A
 ends_at_none b at path left w told t h = let k = led_into b at path left w t h in absurd (told k.0 k.3)
 
-pub item_or_none : (b at : List ℕ) (path left : List (List ℕ)) (o : Option Item) → Follows b path at left → left ≡ [] → TellsItem b at o → (t : Tree) → IsBlock b t → FindsItemIn b path o
+pub item_or_none : (b at : List ℕ) (path left : List (List ℕ)) (o : Option Item) → FollowsPath b path at left → left ≡ [] → TellsItem b at o → (t : Tree) → IsBlock b t → FindsItemIn b path o
 item_or_none b at path left None w none told t h = ends_at_none b at path left w told t h
 item_or_none b at path left (Some item) w none told t h = ends_at_item b at path left item w none told t h
 
 some_left : (segment : List ℕ) (left more : List (List ℕ)) → left ≡ segment ∷ more → left ≢ []
 some_left segment left more is none = let differ : segment ∷ more ≡ [] = sym is ∙ none in absurd (cc differ)
 
-pub ends_at_link : (b at segment : List ℕ) (cid : CidParts) (path left more : List (List ℕ)) → Follows b path at left → left ≡ segment ∷ more → ((t : Tree) → Begins at t → AreCidParts cid × (t ≡ link (cid_bytes cid))) → (t : Tree) → IsBlock b t → (u : Tree) × AreCidParts cid × LeadsInto b path left u (link (cid_bytes cid)) × (left ≢ [])
+pub ends_at_link : (b at segment : List ℕ) (cid : CidParts) (path left more : List (List ℕ)) → FollowsPath b path at left → left ≡ segment ∷ more → ((t : Tree) → BeginsWithTree at t → AreCidParts cid × (t ≡ link (cid_bytes cid))) → (t : Tree) → IsBlock b t → (u : Tree) × AreCidParts cid × LeadsInto b path left u (link (cid_bytes cid)) × (left ≢ [])
 ends_at_link b at segment cid path left more w is told t h =
     let k = led_into b at path left w t h in
     (t, (told k.0 k.3).0, subst (LeadsInto b path left t) (told k.0 k.3).1 k.1, some_left segment left more is)
 
-pub ends_nowhere : (b at segment : List ℕ) (path left more : List (List ℕ)) → Follows b path at left → left ≡ segment ∷ more → ((t : Tree) → Begins at t → (cid : List ℕ) → t ≢ link cid) → (t : Tree) → IsBlock b t
-    → (v u : Tree) × LeadsInto b path left v u × LeadsNowhere left u × ((cid : List ℕ) → u ≢ link cid)
+pub ends_nowhere : (b at segment : List ℕ) (path left more : List (List ℕ)) → FollowsPath b path at left → left ≡ segment ∷ more → ((t : Tree) → BeginsWithTree at t → (cid : List ℕ) → t ≢ link cid) → (t : Tree) → IsBlock b t
+    → (v u : Tree) × LeadsInto b path left v u × HasNoPart left u × ((cid : List ℕ) → u ≢ link cid)
 ends_nowhere b at segment path left more w is told t h =
     let k = led_into b at path left w t h in
     (t, k.0, k.1, nowhere left k.0 (some_left segment left more is) k.2, told k.0 k.3)
 
-pub ends_before : (b at segment : List ℕ) (path left more : List (List ℕ)) → Follows b path at left → left ≡ segment ∷ more → (t : Tree) → IsBlock b t → FindsItemIn b path None
+pub ends_before : (b at segment : List ℕ) (path left more : List (List ℕ)) → FollowsPath b path at left → left ≡ segment ∷ more → (t : Tree) → IsBlock b t → FindsItemIn b path None
 ends_before b at segment path left more w is t h =
     let k = led_into b at path left w t h in
     nothing_found b path left t k.0 k.1 (nowhere left k.0 (some_left segment left more is) k.2)
@@ -210,11 +210,11 @@ item_along bytes_of a b path (Some item) found told t h = let p = found t (block
 
 -- ---- as far as it leads
 
-pub item_begins : (b at : List ℕ) (path left : List (List ℕ)) (o : Option Item) → Follows b path at left → TellsItem b at o → (t : Tree) → IsBlock b t → IsSome o
+pub item_begins : (b at : List ℕ) (path left : List (List ℕ)) (o : Option Item) → FollowsPath b path at left → TellsItem b at o → (t : Tree) → IsBlock b t → IsSome o
 item_begins b at path left None w told t h = ends_at_none b at path left w told t h
 item_begins b at path left (Some item) w told t h = search rules
 
-pub stopped_in : (b at path : List ℕ) (left : Bor (List ℕ)) (o : Option Item) (item : Item) → Follows b (segments path) at (segments left.now) → EndsWith path left.now → TellsItem b at o → o ≡ Some item → (t : Tree) → IsBlock b t → StopsIn b path (record { item = item; left = left })
+pub stopped_in : (b at path : List ℕ) (left : Bor (List ℕ)) (o : Option Item) (item : Item) → FollowsPath b (segments path) at (segments left.now) → EndsWith path left.now → TellsItem b at o → o ≡ Some item → (t : Tree) → IsBlock b t → StopsInBlock b path (record { item = item; left = left })
 stopped_in b at path left o item w behind told is t h =
     let k = led_into b at (segments path) (segments left.now) w t h in
     record {

@@ -5,7 +5,7 @@ use Rattle.ipld_tree.specs.Spelling.{item_count, items_spelling, IsFront, AreFro
 use Rattle.ipld_tree.proofs.Fronts.{item_opened, item_closed, items_after}
 use Rattle.dagcbor_items.specs.Judging.{SplitsItems}
 use Rattle.dagcbor_paths.specs.Paths.{IsItemAt}
-use Rattle.dagcbor_paths.specs.Parts.{Begins}
+use Rattle.dagcbor_paths.specs.Parts.{BeginsWithTree}
 
 -- an index is below the count
 pub index_below : (n : ℕ) (ts : Items) (t : Tree) → IsItemAt n ts t → n < item_count ts
@@ -15,7 +15,7 @@ index_below (suc n) (item u us) t h = omega (arith, index_below n us t h)
 
 -- behind so many items, the one of the index begins
 pub item_begins : (n : ℕ) (ts us : Items) (b at rest : List ℕ) → AreFronts b ts rest → items_need ts ≤ 256 → AreFronts b us at → item_count us ≡ n → n < item_count ts
-    → (t : Tree) × IsItemAt n ts t × Begins at t
+    → (t : Tree) × IsItemAt n ts t × BeginsWithTree at t
 item_begins n no_items us b at rest f need g e few = absurd (omega (arith, few))
 item_begins zero (item t ts) no_items b at rest f need g e few =
     let o = item_opened b rest t ts f in

@@ -5,7 +5,7 @@ use Rattle.ipld_tree.specs.Tree.{Tree, link}
 use Rattle.dagcbor_items.specs.Slices.{IsBlock}
 use Rattle.dagcbor_items.specs.TreeKinds.{kind_of}
 use Rattle.dagcbor_paths.specs.Paths.{segments, IsPart, At}
-use Rattle.dagcbor_paths.specs.Parts.{Begins, EndsWith, GivesPart}
+use Rattle.dagcbor_paths.specs.Parts.{BeginsWithTree, EndsWith, GivesPart}
 use Rattle.dagcbor_paths.specs.declared.find.Item.{Item}
 use Rattle.dagcbor_paths.specs.declared.find.Stop.{Stop}
 use Rattle.dagcbor_paths.specs.declared.find.Found.{Found}
@@ -30,7 +30,7 @@ FindsItemIn b path (Some item) = (t u : Tree) × IsBlock b t × At path t u × I
 
 -- the part to which the path leads of the tree with which the bytes begin, or none
 abbrev pub FindsAlong : {A : Type 0} → (A → List ℕ) → List ℕ → List (List ℕ) → Option A → Type 0
-FindsAlong bytes_of b path result = (t : Tree) → Begins b t → GivesPart bytes_of (At path t) result
+FindsAlong bytes_of b path result = (t : Tree) → BeginsWithTree b t → GivesPart bytes_of (At path t) result
 
 -- ---- as far as the path leads
 
@@ -42,9 +42,9 @@ pub record LeadsInto (b : List ℕ) (path left : List (List ℕ)) (t u : Tree) :
   pub leads : At passed t u
 
 -- no first segment leads from the tree to a part
-abbrev pub LeadsNowhere : List (List ℕ) → Tree → Type 0
-LeadsNowhere [] u = ⊥
-LeadsNowhere (segment ∷ more) u = (part : Tree) → ¬ IsPart segment u part
+abbrev pub HasNoPart : List (List ℕ) → Tree → Type 0
+HasNoPart [] u = ⊥
+HasNoPart (segment ∷ more) u = (part : Tree) → ¬ IsPart segment u part
 
 -- The path leads to the item; or a part of it to a link, with segments left; or a part of it to an item
 -- that is no link, from which the next segment leads nowhere.
@@ -53,21 +53,21 @@ IsFoundIn b path (found.Item item) = FindsItemIn b path (Some item)
 IsFoundIn b path (found.Link cid left) = (t : Tree) × AreCidParts cid
     × LeadsInto b path (segments left.now) t (link (cid_bytes cid)) × (segments left.now ≢ [])
 IsFoundIn b path (found.Nothing left) = (t u : Tree) × LeadsInto b path (segments left.now) t u
-    × LeadsNowhere (segments left.now) u × ((cid : List ℕ) → u ≢ link cid)
+    × HasNoPart (segments left.now) u × ((cid : List ℕ) → u ≢ link cid)
 
 -- ---- the walk
 
 -- nothing is left, or a first segment that leads nowhere
-abbrev pub StopsAt : List (List ℕ) → Tree → Type 0
-StopsAt [] u = ⊤
-StopsAt (segment ∷ more) u = (part : Tree) → ¬ IsPart segment u part
+abbrev pub EndsWay : List (List ℕ) → Tree → Type 0
+EndsWay [] u = ⊤
+EndsWay (segment ∷ more) u = (part : Tree) → ¬ IsPart segment u part
 
 -- The last item to which a front of the path leads in the block, and what is left of the path.
-pub record StopsIn (b path : List ℕ) (stop : Stop) : Type 0 where
+pub record StopsInBlock (b path : List ℕ) (stop : Stop) : Type 0 where
   pub tree : Tree
   pub found : Tree
   pub led : LeadsInto b (segments path) (segments stop.left.now) tree found
-  pub stopped : StopsAt (segments stop.left.now) found
+  pub stopped : EndsWay (segments stop.left.now) found
   pub item : IsItem b found stop.item
   pub behind : EndsWith path stop.left.now
 
@@ -76,23 +76,23 @@ pub record Walked (t : Tree) (path left : List (List ℕ)) (u : Tree) (at : List
   pub passed : List (List ℕ)
   pub whole : path ≡ passed ++ left
   pub leads : At passed t u
-  pub begins : Begins at u
+  pub begins : BeginsWithTree at u
 
 -- as far as the path leads from the tree with which the bytes begin
-abbrev pub Follows : List ℕ → List (List ℕ) → List ℕ → List (List ℕ) → Type 0
-Follows b path at left = (t : Tree) → Begins b t
-    → (u : Tree) × Walked t path left u at × StopsAt left u
+abbrev pub FollowsPath : List ℕ → List (List ℕ) → List ℕ → List (List ℕ) → Type 0
+FollowsPath b path at left = (t : Tree) → BeginsWithTree b t
+    → (u : Tree) × Walked t path left u at × EndsWay left u
 
 -- the item with which these last bytes of the block begin
 abbrev pub TellsItem : List ℕ → List ℕ → Option Item → Type 0
-TellsItem b at result = (t : Tree) → Begins at t → MatchOption result ⊥ (λ item. IsItem b t item)
+TellsItem b at result = (t : Tree) → BeginsWithTree at t → MatchOption result ⊥ (λ item. IsItem b t item)
 
 -- the CID of the link with which the bytes begin
 abbrev pub TellsLink : List ℕ → Option CidParts → Type 0
-TellsLink b result = (t : Tree) → Begins b t
+TellsLink b result = (t : Tree) → BeginsWithTree b t
     → MatchOption result ((cid : List ℕ) → t ≢ link cid) (λ c. AreCidParts c × (t ≡ link (cid_bytes c)))
 
 -- what stands where the walk of a path ended
-abbrev pub TellsEnd : List ℕ → List ℕ → List (List ℕ) → Found → Type 0
-TellsEnd b at left result = (path : List (List ℕ)) → Follows b path at left → (t : Tree) → IsBlock b t
+abbrev pub AnswersEnd : List ℕ → List ℕ → List (List ℕ) → Found → Type 0
+AnswersEnd b at left result = (path : List (List ℕ)) → FollowsPath b path at left → (t : Tree) → IsBlock b t
     → IsFoundIn b path result

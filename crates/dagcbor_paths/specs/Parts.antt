@@ -10,13 +10,13 @@ abbrev pub EndsWith : List ℕ → List ℕ → Type 0
 EndsWith b end = (before : List ℕ) × (b ≡ before ++ end)
 
 -- the bytes begin with a tree that is read within `default_steps`
-abbrev pub Begins : List ℕ → Tree → Type 0
-Begins b t = (rest : List ℕ) × IsFront b t rest × (any_need t ≤ default_steps)
+abbrev pub BeginsWithTree : List ℕ → Tree → Type 0
+BeginsWithTree b t = (rest : List ℕ) × IsFront b t rest × (any_need t ≤ default_steps)
 
 -- a tree that is so begins at these bytes, exactly where there is one
 abbrev pub GivesPart : {A : Type 0} → (A → List ℕ) → (Tree → Type 0) → Option A → Type 0
 GivesPart bytes_of IsSo result = MatchOption result ((t : Tree) → ¬ IsSo t)
-    (λ a. (t : Tree) × IsSo t × Begins (bytes_of a) t)
+    (λ a. (t : Tree) × IsSo t × BeginsWithTree (bytes_of a) t)
 
 -- of items that stand there, the one of the index is found
 abbrev pub FindsItem : {A : Type 0} → (A → List ℕ) → (b : List ℕ) → (count n : ℕ) → Option A → Type 0
@@ -32,4 +32,4 @@ FindsValue bytes_of b count key result = (es : Entries) (rest : List ℕ) → Ar
 
 -- of the tree that stands there, the part is found to which the segment leads
 abbrev pub FindsPart : {A : Type 0} → (A → List ℕ) → List ℕ → List ℕ → Option A → Type 0
-FindsPart bytes_of b segment result = (t : Tree) → Begins b t → GivesPart bytes_of (IsPart segment t) result
+FindsPart bytes_of b segment result = (t : Tree) → BeginsWithTree b t → GivesPart bytes_of (IsPart segment t) result

@@ -6,8 +6,8 @@ ghost use Rattle.ipld_tree.specs.Tree.{Tree};
 ghost use Rattle.dagcbor_items.specs.Slices.{IsBlock, SliceRefused};
 ghost use Rattle.dagcbor_paths.specs.Paths.{segments};
 ghost use Rattle.dagcbor_paths.specs.Parts.{EndsWith};
-ghost use Rattle.dagcbor_paths.specs.Finding.{FindsAlong, Follows, TellsItem, TellsLink, TellsEnd};
-ghost use Rattle.dagcbor_paths.specs.Finding.{FindsItemIn, IsFoundIn, StopsIn};
+ghost use Rattle.dagcbor_paths.specs.Finding.{FindsAlong, FollowsPath, TellsItem, TellsLink, AnswersEnd};
+ghost use Rattle.dagcbor_paths.specs.Finding.{FindsItemIn, IsFoundIn, StopsInBlock};
 
 use crate::parts::part_at;
 use crate::segments::next_segment;
@@ -50,7 +50,7 @@ pub enum Found<'b, 'p> {
 /// As far as the path leads from the item at the front: the bytes that begin there, and the path that
 /// is left.
 fn follow<'b, 'p>(bytes: &'b [u8], path: &'p str) -> (&'b [u8], &'p str)
-    ensures led { Follows bytes.now (segments path.now) result.0.now (segments result.1.now) }
+    ensures led { FollowsPath bytes.now (segments path.now) result.0.now (segments result.1.now) }
     ensures within { EndsWith bytes.now result.0.now }
     ensures behind { EndsWith path.now result.1.now }
 {
@@ -105,7 +105,7 @@ fn first_link(bytes: &[u8]) -> Option<Cid>
 /// What the block has at these last bytes of it, where a walk ended with this path left.
 fn found_at<'b, 'p>(block: &[u8], at: &'b [u8], left: &'p str) -> Found<'b, 'p>
     requires { EndsWith block.now at.now }
-    ensures { TellsEnd block.now at.now (segments left.now) result }
+    ensures { AnswersEnd block.now at.now (segments left.now) result }
 {
     if let Some((_segment, _more)) = next_segment(left) {
         return match first_link(at) {
@@ -198,7 +198,7 @@ pub fn follow_slice<'b, 'p>(
     block: &'b [u8],
     path: &'p str,
 ) -> Result<Stop<'b, 'p>, DecodeError<Infallible>>
-    ensures stops { IfOk result (StopsIn block.now path.now) }
+    ensures stops { IfOk result (StopsInBlock block.now path.now) }
     ensures refused { IfErr result (λ e. SliceRefused e block.now) }
     ensures memory { IfErr result (λ e. e ≢ OutOfMemory) }
 {

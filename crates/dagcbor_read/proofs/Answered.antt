@@ -1,6 +1,5 @@
 -- What calls say that answered, or were refused, on a Deserializer that had not failed.
-use Rattle.std.proofs.Common.{◌≡◌, ℕ, List, Global, ◌<◌, ◌-◌, true, false, refl, subst, Option, None, Some, IfSome, Result, Ok, Err, is_err}
-use Rattle.std.specs.Borrow.{Bor}
+use Rattle.std.proofs.Common.{◌≡◌, ℕ, List, Global, ◌<◌, ◌-◌, true, false, refl, subst, Option, None, Some, IfSome, Ok, Err}
 use Rattle.std.specs.Cow.{cow_str_bytes}
 use Rattle.std.specs.declared.borrow.CowStr.{CowStr}
 use Rattle.dagcbor_heads.specs.Refusals.{Refuses}
@@ -9,11 +8,10 @@ use Rattle.ipld_tree.specs.Tree.{Tree, text}
 use Rattle.dagcbor_items.specs.Untyped.{TakesItem}
 use Rattle.dagcbor_items.specs.Places.{Follows}
 use Rattle.dagcbor_items.specs.ItemCauses.{KeyCause}
-use Rattle.dagcbor_items.specs.Entries.{HasKey, TakesKey, IsNoKey}
-use Rattle.dagcbor_items.proofs.Keys.{no_key_refused}
+use Rattle.dagcbor_items.specs.Entries.{HasKey}
 use Rattle.dagcbor_read.specs.Deserializers.{DeState, Call}
 use Rattle.dagcbor_items.specs.TypedReads.{HasFront, TakesFront, MayLack, Anything}
-use Rattle.dagcbor_read.proofs.Progressing.{call_answered, call_of, call_told}
+use Rattle.dagcbor_read.proofs.Progressing.{call_answered, call_told}
 use Rattle.dagcbor_read.specs.Accessors.{AccessorState, ReadsElement, after_element, ReadsNextKey, KeepsKey, after_key}
 use Rattle.dagcbor_items.specs.Shapes.{Shape}
 use Rattle.dagcbor_items.proofs.StringItems.{text_taken}
@@ -88,14 +86,3 @@ kept_refused E last None old new e f h = (call_told (KeepsKey last None) old new
 
 pub at_some : {o : Option (List ℕ)} {k : List ℕ} (P : List ℕ → Type 0) → o ≡ Some k → IfSome o P → P k
 at_some {o} {k} P e h = subst (λ x. IfSome x P) e h
-
--- a text was taken that is no key
-pub no_key_told : {E : Type 0} (last : Option (List ℕ)) (left : ℕ) (old new : DeState)
-    (found : Result (Bor (List ℕ)) (Bor (List ℕ))) (bytes : Bor (List ℕ)) (e : DecodeError E)
-    → found ≡ Err bytes → 0 < left → old.failed ≡ false
-    → (new.failed ≡ is_err found) × TakesKey last old.input found new.input → IsNoKey bytes.now e
-    → Call (ReadsNextKey last left) old (Err e) new
-no_key_told {E} last left old new found bytes e is some sound h why =
-    let k = subst (λ x. (new.failed ≡ is_err x) × TakesKey last old.input x new.input) is h in
-    call_of (ReadsNextKey last left) old new (Err e) sound
-    (k.0, (some, no_key_refused {E = E} last bytes.now e why k.1.0 k.1.1))

@@ -1,25 +1,19 @@
 //! The reader's state between calls.
 
 ghost use Rattle.std.specs.Prelude.{◌≡◌, [], false, true, MatchResult, Some, IfErr, ◌+◌, ◌≤◌, ◌^◌};
-ghost use Rattle.std.specs.Prelude.{MatchOption, ◌<◌, is_err, IfNone};
+ghost use Rattle.std.specs.Prelude.{◌<◌, IfNone};
 ghost use Rattle.std.specs.Prelude.{IfOk, IfSome, codes, pos, negsuc, ◌≤ℤ◌, ◌↔◌, option_map};
 ghost use Rattle.dagcbor_heads.specs.Reading.{fresh_reading, default_steps};
 ghost use Rattle.dagcbor_heads.specs.Inputs.{not_lending};
 ghost use Rattle.dagcbor_heads.specs.declared.error.DecodeError.TheVariants.{Failed};
 ghost use Rattle.dagcbor_heads.specs.Looking.{Looks, LooksOnce, LooksAtTaken};
 ghost use Rattle.dagcbor_items.specs.Looks.{LooksAtAny};
-ghost use Rattle.dagcbor_read.specs.Deserializers.{de_state, Call, Ends, Over};
-ghost use Rattle.dagcbor_read.specs.Deserializers.{LooksAtFirst};
-ghost use Rattle.dagcbor_items.specs.Entries.{TakesKey, HasName, ReadsKey};
-ghost use Rattle.dagcbor_read.specs.Named.{TakesName};
-ghost use Rattle.ipld_tree.specs.Cid.{cid_bytes};
-ghost use Rattle.dagcbor_items.specs.Shapes.{view_link, leaf};
-ghost use Rattle.dagcbor_items.specs.TypedReads.{TakesFront};
+ghost use Rattle.dagcbor_read.specs.Deserializers.{de_state, Call, Ends, Over, LooksAtFirst};
+ghost use Rattle.dagcbor_items.specs.Entries.{ReadsKey};
 ghost use Rattle.dagcbor_items.specs.Untyped.{ReadsItem};
 ghost use Rattle.dagcbor_items.specs.Links.{ReadsLink};
 ghost use Rattle.dagcbor_items.specs.AnsweredVariants.{OfItem, OfLink, OfHead, OfNumber, OfByte};
-ghost use Rattle.dagcbor_items.specs.AnsweredVariants.{OfChar};
-ghost use Rattle.dagcbor_items.specs.AnsweredVariants.{OfText, OfKey};
+ghost use Rattle.dagcbor_items.specs.AnsweredVariants.{OfChar, OfText, OfKey};
 ghost use Rattle.dagcbor_items.specs.LeafReads.{ReadsUnsigned, ReadsSigned, ReadsU128, ReadsI128};
 ghost use Rattle.dagcbor_items.specs.LeafReads.{ReadsNull, ReadsBool, ReadsStr, ReadsOwnedText};
 ghost use Rattle.dagcbor_items.specs.LeafReads.{ReadsChar, ReadsByteSlice, ReadsOwnedBytes};
@@ -46,11 +40,22 @@ use dagcbor_heads::{
 use dagcbor_items::{
     Kind, gather_links, kind_at, pull_bool, pull_char, pull_i128, pull_link, pull_major, pull_null,
     pull_owned_bytes, pull_owned_text, pull_signed, pull_slice, pull_str, pull_u128, pull_unsigned,
-    read_any, read_key, skip_any, take_key, take_link, take_name,
+    read_any, read_key, skip_any, take_link, take_one_of,
 };
 use ipld_tree::{Cid, Ipld};
 use std::alloc::Global;
 use std::borrow::{CowSlice, CowStr};
+
+/// What is read, where nothing was refused so far; else the function answers `Failed`. A refusal
+/// ends the function too, and is remembered.
+macro_rules! call {
+    ($de:ident, $read:expr) => {{
+        $de.begin()?;
+        let value = $read?;
+        $de.failed = false;
+        value
+    }};
+}
 
 /// Reads values from a slice, which lends its bytes, or from another reader. After a refusal, other
 /// than `TrailingData`, each later reading call answers `Failed`.
@@ -110,9 +115,7 @@ impl<'de, R: Read> Deserializer<'de, R> {
             (λ e. ((de_state R.reading self.old).failed ≡ true) × (e ≡ Failed)
             × (de_state R.reading self.new ≡ de_state R.reading self.old)) }
     {
-        if self.failed {
-            return Err(DecodeError::Failed);
-        }
+        self.check()?;
         self.failed = true;
         Ok(())
     }
@@ -124,9 +127,7 @@ impl<'de, R: Read> Deserializer<'de, R> {
         ensures looked { LooksOnce (de_state R.reading self.old).input
             (de_state R.reading self.new).input }
     {
-        self.begin()?;
-        let first = peek_one("item", &mut self.input)?;
-        self.failed = false;
+        let first = call!(self, peek_one("item", &mut self.input));
         Ok(kind_at(first))
     }
 
@@ -137,9 +138,7 @@ impl<'de, R: Read> Deserializer<'de, R> {
             (de_state R.reading self.new).input }
         ensures variant { IfErr result OfItem }
     {
-        if self.failed {
-            return Err(DecodeError::Failed);
-        }
+        self.check()?;
         let result = read_any(alloc, &mut self.input);
         self.failed = result.is_err();
         result
@@ -152,44 +151,11 @@ impl<'de, R: Read> Deserializer<'de, R> {
         ensures looked { Looks 3 (de_state R.reading self.old).input result
             (de_state R.reading self.new).input }
     {
-        if let Some(cid) = self.take_cid() {
+        self.check()?;
+        if let Some(cid) = take_link(&mut self.input) {
             return Ok(cid);
         }
-        self.deserialize_cid_slowly()
-    }
-
-    /// Takes the link at the front, where nothing was refused and a slice has all of it.
-    #[inline(always)]
-    fn take_cid(&mut self) -> Option<Cid>
-        ensures taken { MatchOption result
-            (self.new ≡ self.old)
-            (λ c. ((de_state R.reading self.old).failed ≡ false)
-            × ((de_state R.reading self.new).failed ≡ false)
-            × TakesFront (leaf view_link) (de_state R.reading self.old).input (cid_bytes c)
-            (de_state R.reading self.new).input) }
-        ensures looked { IfSome result
-            (λ _. LooksAtTaken 2 0 (de_state R.reading self.old).input
-            (de_state R.reading self.new).input) }
-    {
-        if self.failed {
-            return None;
-        }
-        take_link(&mut self.input)
-    }
-
-    /// As `deserialize_cid`, where no slice has the link whole.
-    #[cold]
-    #[inline(never)]
-    fn deserialize_cid_slowly(&mut self) -> ReadResult<Cid, R>
-        ensures link { Over R.reading (Call ReadsLink) self.old result self.new }
-        ensures variant { IfErr result OfLink }
-        ensures looked { Looks 3 (de_state R.reading self.old).input result
-            (de_state R.reading self.new).input }
-    {
-        self.begin()?;
-        let cid = pull_link(&mut self.input)?;
-        self.failed = false;
-        Ok(cid)
+        Ok(call!(self, pull_link(&mut self.input)))
     }
 
     /// Whether the input ends here: `TrailingData` where a byte is left, which stays, and reading
@@ -199,10 +165,7 @@ impl<'de, R: Read> Deserializer<'de, R> {
         ensures looked { LooksOnce (de_state R.reading self.old).input
             (de_state R.reading self.new).input }
     {
-        self.begin()?;
-        let at_end = is_at_end(&mut self.input)?;
-        self.failed = false;
-        if at_end {
+        if call!(self, is_at_end(&mut self.input)) {
             Ok(())
         } else {
             Err(DecodeError::TrailingData)
@@ -218,10 +181,7 @@ impl<'de, R: Read> Deserializer<'de, R> {
         ensures looked { Looks 3 (de_state R.reading self.old).input result
             (de_state R.reading self.new).input }
     {
-        self.begin()?;
-        let number = pull_unsigned(name, &mut self.input, greatest)?;
-        self.failed = false;
-        Ok(number)
+        Ok(call!(self, pull_unsigned(name, &mut self.input, greatest)))
     }
 
     fn signed(&mut self, name: &str, greatest: u64) -> ReadResult<i128, R>
@@ -233,10 +193,7 @@ impl<'de, R: Read> Deserializer<'de, R> {
         ensures looked { Looks 3 (de_state R.reading self.old).input result
             (de_state R.reading self.new).input }
     {
-        self.begin()?;
-        let number = pull_signed(name, &mut self.input, greatest)?;
-        self.failed = false;
-        Ok(number)
+        Ok(call!(self, pull_signed(name, &mut self.input, greatest)))
     }
 
     /// Reads a number from 0 to 255.
@@ -338,10 +295,7 @@ impl<'de, R: Read> Deserializer<'de, R> {
         ensures looked { Looks 4 (de_state R.reading self.old).input result
             (de_state R.reading self.new).input }
     {
-        self.begin()?;
-        let number = pull_u128(&mut self.input)?;
-        self.failed = false;
-        Ok(number)
+        Ok(call!(self, pull_u128(&mut self.input)))
     }
 
     /// Reads any number, but none in a tag.
@@ -351,10 +305,7 @@ impl<'de, R: Read> Deserializer<'de, R> {
         ensures looked { Looks 4 (de_state R.reading self.old).input result
             (de_state R.reading self.new).input }
     {
-        self.begin()?;
-        let number = pull_i128(&mut self.input)?;
-        self.failed = false;
-        Ok(number)
+        Ok(call!(self, pull_i128(&mut self.input)))
     }
 
     /// Reads a null.
@@ -364,10 +315,7 @@ impl<'de, R: Read> Deserializer<'de, R> {
         ensures looked { Looks 2 (de_state R.reading self.old).input result
             (de_state R.reading self.new).input }
     {
-        self.begin()?;
-        pull_null(&mut self.input)?;
-        self.failed = false;
-        Ok(())
+        Ok(call!(self, pull_null(&mut self.input)))
     }
 
     /// As `deserialize_unit`, whatever the name.
@@ -387,10 +335,7 @@ impl<'de, R: Read> Deserializer<'de, R> {
         ensures looked { Looks 2 (de_state R.reading self.old).input result
             (de_state R.reading self.new).input }
     {
-        self.begin()?;
-        let value = pull_bool(&mut self.input)?;
-        self.failed = false;
-        Ok(value)
+        Ok(call!(self, pull_bool(&mut self.input)))
     }
 
     /// Reads a text, lent where the input lends.
@@ -402,10 +347,7 @@ impl<'de, R: Read> Deserializer<'de, R> {
         ensures looked { Looks 3 (de_state R.reading self.old).input result
             (de_state R.reading self.new).input }
     {
-        self.begin()?;
-        let text = pull_str(alloc, "string", &mut self.input)?;
-        self.failed = false;
-        Ok(text)
+        Ok(call!(self, pull_str(alloc, "string", &mut self.input)))
     }
 
     /// As `deserialize_str`.
@@ -429,10 +371,7 @@ impl<'de, R: Read> Deserializer<'de, R> {
         ensures looked { Looks 3 (de_state R.reading self.old).input result
             (de_state R.reading self.new).input }
     {
-        self.begin()?;
-        let bytes = pull_slice(alloc, &mut self.input)?;
-        self.failed = false;
-        Ok(bytes)
+        Ok(call!(self, pull_slice(alloc, &mut self.input)))
     }
 
     /// Reads a text.
@@ -442,10 +381,7 @@ impl<'de, R: Read> Deserializer<'de, R> {
         ensures looked { Looks 3 (de_state R.reading self.old).input result
             (de_state R.reading self.new).input }
     {
-        self.begin()?;
-        let text = pull_owned_text(alloc, &mut self.input)?;
-        self.failed = false;
-        Ok(text)
+        Ok(call!(self, pull_owned_text(alloc, &mut self.input)))
     }
 
     /// Reads a byte string.
@@ -455,10 +391,7 @@ impl<'de, R: Read> Deserializer<'de, R> {
         ensures looked { Looks 3 (de_state R.reading self.old).input result
             (de_state R.reading self.new).input }
     {
-        self.begin()?;
-        let bytes = pull_owned_bytes(alloc, &mut self.input)?;
-        self.failed = false;
-        Ok(bytes)
+        Ok(call!(self, pull_owned_bytes(alloc, &mut self.input)))
     }
 
     /// Reads a text of one character.
@@ -468,10 +401,7 @@ impl<'de, R: Read> Deserializer<'de, R> {
         ensures looked { Looks 3 (de_state R.reading self.old).input result
             (de_state R.reading self.new).input }
     {
-        self.begin()?;
-        let c = pull_char(alloc, &mut self.input)?;
-        self.failed = false;
-        Ok(c)
+        Ok(call!(self, pull_char(alloc, &mut self.input)))
     }
 
     /// Nothing was refused so far.
@@ -486,58 +416,21 @@ impl<'de, R: Read> Deserializer<'de, R> {
         Ok(())
     }
 
-    /// Takes the text at the front, where a slice has all of it and nothing was refused: the key,
-    /// lent, or the bytes that are none behind the one before it, which count as refused.
-    #[inline(always)]
-    pub(crate) fn take_key(
-        &mut self,
-        last: &Option<CowStr<'de>>,
-    ) -> Option<Result<&'de str, &'de [u8]>>
-        ensures key { MatchOption result
-            (self.new ≡ self.old)
-            (λ r. ((de_state R.reading self.old).failed ≡ false)
-            × ((de_state R.reading self.new).failed ≡ is_err r)
-            × TakesKey (option_map cow_str_bytes last.now) (de_state R.reading self.old).input r
-            (de_state R.reading self.new).input) }
-        ensures lends { IfSome result
-            (λ _. (de_state R.reading self.old).input.lends ≡ true) }
-        ensures looked { IfSome result
-            (λ _. LooksAtTaken 2 0 (de_state R.reading self.old).input
-            (de_state R.reading self.new).input) }
-    {
-        if self.failed {
-            return None;
-        }
-        let found = take_key(&mut self.input, last)?;
-        self.failed = found.is_err();
-        Some(found)
-    }
-
-    /// Takes this name, where a slice begins with it and it may stand behind the key before it: the
-    /// name, lent.
-    #[inline(always)]
-    pub(crate) fn take_name(&mut self, last: &Option<CowStr<'de>>, name: &str) -> Option<&'de str>
-        requires { (de_state R.reading self.old).failed ≡ false }
-        ensures { MatchOption result
-            ((self.new ≡ self.old) × (¬ HasName (option_map cow_str_bytes last.now) name.now
-            (de_state R.reading self.old).input))
-            (λ key. (key.now ≡ name.now)
-            × TakesName (option_map cow_str_bytes last.now) name.now (de_state R.reading self.old)
-            (de_state R.reading self.new)) }
-    {
-        take_name(&mut self.input, last, name)
-    }
-
-    /// A key behind the one before it.
+    /// A key behind the one before it: the one of the names, where it is at hand.
     pub(crate) fn read_key(
         &mut self,
         alloc: Global,
+        names: &[&'de str],
         last: &Option<CowStr<'de>>,
     ) -> ReadResult<CowStr<'de>, R>
         ensures key { Over R.reading
             (Call (ReadsKey (option_map cow_str_bytes last.now))) self.old result self.new }
     {
         self.begin()?;
+        if let Some(name) = take_one_of(&mut self.input, last, names) {
+            self.failed = false;
+            return Ok(CowStr::Borrowed(name));
+        }
         let key = read_key(alloc, &mut self.input, last)?;
         self.failed = false;
         Ok(key)
@@ -581,9 +474,7 @@ impl<'de, R: Read> Deserializer<'de, R> {
         ensures looked { Looks 3 (de_state R.reading self.old).input result
             (de_state R.reading self.new).input }
     {
-        self.begin()?;
-        let count = enter(name, &mut self.input, major)?;
-        self.failed = false;
+        let count = call!(self, enter(name, &mut self.input, major));
         let steps = usize::from(more) + 1;
         Ok(Accessor::new(Name::new(name), major == 5, count as usize, steps))
     }
@@ -655,10 +546,7 @@ impl<'de, R: Read> Deserializer<'de, R> {
         ensures looked { LooksAtFirst (λ is_null. is_null) (de_state R.reading self.old).input
             result (de_state R.reading self.new).input }
     {
-        self.begin()?;
-        let is_null = enter_option(&mut self.input)?;
-        self.failed = false;
-        Ok(is_null)
+        Ok(call!(self, enter_option(&mut self.input)))
     }
 
     /// Reads a value as its type does, and remembers a refusal of the type's own.
@@ -669,9 +557,7 @@ impl<'de, R: Read> Deserializer<'de, R> {
         ensures lies { IfOk result (T.lies (de_state R.reading self.old).input.lends) }
         ensures answers { Over R.reading (HandsOn T.answers) self.old result self.new }
     {
-        if self.failed {
-            return Err(DecodeError::Failed);
-        }
+        self.check()?;
         match T::deserialize(alloc, self) {
             Ok(value) => Ok(value),
             Err(e) => {
@@ -728,10 +614,7 @@ impl<'de, R: Read> Deserializer<'de, R> {
         ensures looked { LooksAtFirst (λ a. (enum_state a).in_map)
             (de_state R.reading self.old).input result (de_state R.reading self.new).input }
     {
-        self.begin()?;
-        let form = spend_form(name, &mut self.input)?;
-        self.failed = false;
-        Ok(form)
+        Ok(call!(self, spend_form(name, &mut self.input)))
     }
 
     /// Skips an item of any kind, with what `deserialize_any` refuses. Over a slice it takes no
@@ -742,10 +625,7 @@ impl<'de, R: Read> Deserializer<'de, R> {
             (de_state R.reading self.new).input }
         ensures variant { IfErr result OfItem }
     {
-        self.begin()?;
-        skip_any(alloc, &mut self.input)?;
-        self.failed = false;
-        Ok(())
+        Ok(call!(self, skip_any(alloc, &mut self.input)))
     }
 
     /// Reads an item of any kind, with what `deserialize_any` refuses, and keeps its links alone:
@@ -756,10 +636,7 @@ impl<'de, R: Read> Deserializer<'de, R> {
             (de_state R.reading self.new).input }
         ensures variant { IfErr result OfItem }
     {
-        self.begin()?;
-        let links = gather_links(alloc, &mut self.input)?;
-        self.failed = false;
-        Ok(links)
+        Ok(call!(self, gather_links(alloc, &mut self.input)))
     }
 
     /// The values that are left in the input.
@@ -780,12 +657,9 @@ impl<'de, R: Read> Deserializer<'de, R> {
         ensures lies { IfOk result
             (λ o. IfSome o (T.lies (de_state R.reading self.old).input.lends)) }
     {
-        self.begin()?;
-        if is_at_end(&mut self.input)? {
-            self.failed = false;
+        if call!(self, is_at_end(&mut self.input)) {
             return Ok(None);
         }
-        self.failed = false;
         let value = self.read_part(alloc)?;
         Ok(Some(value))
     }

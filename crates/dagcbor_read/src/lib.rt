@@ -15,7 +15,6 @@ mod access;
 mod deserialize;
 mod deserializer;
 pub mod laws;
-mod owned;
 mod shown;
 mod source;
 mod stream;
@@ -31,9 +30,8 @@ pub use access::structs::{
 pub use access::variants::{Variants, read_enum};
 pub use deserialize::{Deserialize, DeserializeOwned};
 pub use deserializer::Deserializer;
-pub use owned::from_slice_owned;
 pub use shown::Shown;
 pub use source::{from_reader, from_reader_once};
 pub use stream::{StreamDeserializer, iter_from_reader};
 pub use types::data::IgnoredAny;
-pub use whole::{from_slice, from_slice_with_depth};
+pub use whole::{from_slice, from_slice_owned, from_slice_with_depth};

@@ -1,13 +1,13 @@
-//! Reading one value.
+//! Reading one value from a slice.
 
-ghost use Rattle.std.specs.Prelude.{◌≡◌, ◌⊎◌, ◌≤◌, true, Some, IfOk, IfErr};
+ghost use Rattle.std.specs.Prelude.{◌≡◌, ◌⊎◌, ◌≤◌, true, false, Some, IfOk, IfErr};
 ghost use Rattle.dagcbor_heads.specs.Reading.{default_steps};
 ghost use Rattle.dagcbor_heads.specs.declared.error.DecodeError.TheVariants.{OutOfMemory};
 ghost use Rattle.dagcbor_read.specs.Whole.{IsWhole, HoldsNoValue, OfWhole};
 ghost use Rattle.dagcbor_read.specs.Whole.{IsForBehind, LacksMemoryIf};
 ghost use Rattle.dagcbor_read.specs.Parts.{HandsWholeOn};
 
-use crate::deserialize::Deserialize;
+use crate::deserialize::{Deserialize, DeserializeOwned};
 use crate::deserializer::Deserializer;
 use dagcbor_heads::{DEFAULT_STEPS, DecodeError, SliceReader};
 use std::alloc::Global;
@@ -68,4 +68,23 @@ pub fn from_slice_with_depth<'a, T: Deserialize<'a>>(
     }
     de.end()?;
     result
+}
+
+/// What `from_slice` answers, from bytes that need not outlive the value.
+pub fn from_slice_owned<'de, T: DeserializeOwned<'de>>(
+    alloc: Global,
+    bytes: &[u8],
+) -> Result<T, DecodeError<Infallible>>
+    ensures value { IfOk result (λ v. IsWhole T.shape default_steps bytes.now (T.meaning v)) }
+    ensures refused { IfErr result
+        (λ e. (e ≡ OutOfMemory) ⊎ HoldsNoValue T.shape default_steps bytes.now) }
+    ensures behind { IfErr result (IsForBehind T.shape default_steps bytes.now) }
+    ensures never { IfErr result OfWhole }
+    ensures memory { IfErr result (LacksMemoryIf (T.shape.memory false)) }
+    ensures answers { HandsWholeOn T.answers (Some bytes.now) default_steps false result }
+{
+    let mut owning = Deserializer::from_reader(SliceReader::new(bytes));
+    let value = T::deserialize(alloc, &mut owning)?;
+    owning.end()?;
+    Ok(value)
 }

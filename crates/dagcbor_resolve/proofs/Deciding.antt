@@ -12,8 +12,8 @@ use Rattle.ipld_links.specs.Verdicts.{IsVerified, IsVerdict}
 use Rattle.ipld_links.specs.declared.verdict.Verdict.{Verdict}
 use Rattle.ipld_links.specs.declared.verdict.Verdict.TheVariants.{Block, Refused, OtherBytes, NotRead, Unverified}
 use Rattle.ipld_links.proofs.Sounding.{no_block}
-use Rattle.dagcbor_resolve.specs.Resolving.{AreNamed, GoesOn, IsNoBlock, EndsAs, ResolvesIn, IsEndlessAfter, GoesOver}
-use Rattle.dagcbor_resolve.specs.Laws.{LeadsTo, Leads, AgreeOn, WaysDecideEnds, WaysDecideItems}
+use Rattle.dagcbor_resolve.specs.Resolving.{AreNamed, LeadsOn, IsNoBlock, EndsAs, ResolvesIn, IsEndlessAfter, GoesOver}
+use Rattle.dagcbor_resolve.specs.Laws.{LeadsInBlock, Leads, AgreeOn, WaysDecideEnds, WaysDecideItems}
 use Rattle.dagcbor_resolve.specs.declared.resolution.End.{End}
 use Rattle.dagcbor_resolve.specs.declared.resolution.End.TheVariants as ends
 use Rattle.dagcbor_resolve.specs.declared.resolution.Resolved.{Resolved}
@@ -23,7 +23,7 @@ use Rattle.dagcbor_resolve.proofs.Telling.{bytes_unique}
 -- ---- in one store
 
 -- it goes on to one block at most
-pub go_unique : (s : Stored) (name next also : CidParts) (path left more : List (List ℕ)) → GoesOn s name path next left → GoesOn s name path also more → (next ≡ also) × (left ≡ more)
+pub go_unique : (s : Stored) (name next also : CidParts) (path left more : List (List ℕ)) → LeadsOn s name path next left → LeadsOn s name path also more → (next ≡ also) × (left ≡ more)
 go_unique s name next also path left more g k =
     let is = bytes_unique s name g.1.0 k.1.0 g.1.2.0 k.1.2.0 in
     let h = subst (λ z. LeadsInto z path left g.1.1 (link (cid_bytes next))) is g.1.3 in
@@ -32,11 +32,11 @@ go_unique s name next also path left more g k =
     (cid_unique next also g.0 k.0 cids, same.1)
 
 -- it does not go on from where it leads to something, or to nothing
-led_no_further : (s : Stored) (name next : CidParts) (path left : List (List ℕ)) (found : Option Tree) (x : List ℕ) → AreBytesOf s name x → LeadsTo x path found → GoesOn s name path next left → ⊥
+led_no_further : (s : Stored) (name next : CidParts) (path left : List (List ℕ)) (found : Option Tree) (x : List ℕ) → AreBytesOf s name x → LeadsInBlock x path found → LeadsOn s name path next left → ⊥
 led_no_further s name next path left found x h k g =
-    no_end_at_link g.1.0 path left g.1.1 next found g.1.3 g.1.4 (subst (λ z. LeadsTo z path found) (bytes_unique s name x g.1.0 h g.1.2.0) k)
+    no_end_at_link g.1.0 path left g.1.1 next found g.1.3 g.1.4 (subst (λ z. LeadsInBlock z path found) (bytes_unique s name x g.1.0 h g.1.2.0) k)
 
-no_block_goes_on : (s : Stored) (name next : CidParts) (path left : List (List ℕ)) (v : Verdict) (b : List ℕ) → AreBytesOf s name b → IsVerdict (name, b) v → IsNoBlock v → GoesOn s name path next left → ⊥
+no_block_goes_on : (s : Stored) (name next : CidParts) (path left : List (List ℕ)) (v : Verdict) (b : List ℕ) → AreBytesOf s name b → IsVerdict (name, b) v → IsNoBlock v → LeadsOn s name path next left → ⊥
 no_block_goes_on s name next path left (Block kind) b h v none g = none
 no_block_goes_on s name next path left (Refused e) b h v none g =
     no_block e b v.2 v.3 g.1.1 (subst (λ z. IsBlock z g.1.1) (bytes_unique s name g.1.0 b g.1.2.0 h) g.1.3.block)
@@ -64,7 +64,7 @@ turned s o names a q m b = ((a q m b).1, (a q m b).0)
 named_there : (s o : Stored) (name : CidParts) (b : List ℕ) → Agree s o name → AreNamed s name b → AreNamed o name b
 named_there s o name b a h = ((a b).0 h.0, h.1, h.2)
 
-goes_there : (s o : Stored) (name next : CidParts) (path left : List (List ℕ)) → Agree s o name → GoesOn s name path next left → GoesOn o name path next left
+goes_there : (s o : Stored) (name next : CidParts) (path left : List (List ℕ)) → Agree s o name → LeadsOn s name path next left → LeadsOn o name path next left
 goes_there s o name next path left a g = (g.0, (g.1.0, g.1.1, named_there s o name g.1.0 a g.1.2, g.1.3, g.1.4))
 
 ends_there : (s o : Stored) (name : CidParts) (path : List (List ℕ)) (end : End) → Agree s o name → EndsAs s name path end → EndsAs o name path end

@@ -6,7 +6,7 @@ use Rattle.ipld_links.specs.Sets.{Among, members, AddsCid}
 use Rattle.ipld_links.specs.Reaching.{Stored, NoneTwice}
 use Rattle.ipld_links.specs.declared.cid_set.CidSet.{CidSet}
 use Rattle.ipld_links.proofs.Members.{among_push, push_among}
-use Rattle.dagcbor_resolve.specs.Resolving.{GoesOn, GoesOver, AreOnTheWay, AreOnceEach}
+use Rattle.dagcbor_resolve.specs.Resolving.{LeadsOn, GoesOver, AreOnTheWay, AreOnceEach}
 
 -- ---- the way
 
@@ -18,7 +18,7 @@ WentTo stored root path names name left = (more : List CidParts) → GoesOver st
 pub went_nowhere : (stored : Stored) (root : CidParts) (path : List (List ℕ)) → WentTo stored root path [] root path
 went_nowhere stored root path more over = (more, refl, over)
 
-pub went_on : (stored : Stored) (root name next : CidParts) (path left behind : List (List ℕ)) (names after : List CidParts) → WentTo stored root path names name left → after ≡ names ++ name ∷ [] → GoesOn stored name left next behind → WentTo stored root path after next behind
+pub went_on : (stored : Stored) (root name next : CidParts) (path left behind : List (List ℕ)) (names after : List CidParts) → WentTo stored root path names name left → after ≡ names ++ name ∷ [] → LeadsOn stored name left next behind → WentTo stored root path after next behind
 went_on stored root name next path left behind names after went is g more over =
     subst (AreOnTheWay stored root path) (sym (append_assoc names (name ∷ []) (next ∷ more)) ∙ ap (λ ns. ns ++ next ∷ more) (sym is)) (went (next ∷ more) (behind, g, over))
 

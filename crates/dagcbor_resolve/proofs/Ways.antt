@@ -2,7 +2,7 @@
 use Rattle.std.proofs.Common.{◌≡◌, ℕ, suc, ◌+◌, List, arith}
 use Rattle.ipld_tree.specs.Cid.{CidParts}
 use Rattle.ipld_links.specs.Reaching.{Stored}
-use Rattle.dagcbor_resolve.specs.Resolving.{GoesOn, ResolvesIn, IsEndlessAfter, Resolves}
+use Rattle.dagcbor_resolve.specs.Resolving.{LeadsOn, ResolvesIn, IsEndlessAfter, Resolves}
 use Rattle.dagcbor_resolve.specs.declared.resolution.Resolved.{Resolved}
 
 -- links led over so many blocks from the root to this one, where these segments are left
@@ -13,7 +13,7 @@ Led stored root path count name left = (n : ℕ) (r : Resolved) → ResolvesIn n
 pub led_nowhere : (stored : Stored) (root : CidParts) (path : List (List ℕ)) → Led stored root path 0 root path
 led_nowhere stored root path n r h = (n, omega arith, h)
 
-pub led_on : (stored : Stored) (root name next : CidParts) (path left more : List (List ℕ)) (count : ℕ) → Led stored root path count name left → GoesOn stored name left next more → Led stored root path (count + 1) next more
+pub led_on : (stored : Stored) (root name next : CidParts) (path left more : List (List ℕ)) (count : ℕ) → Led stored root path count name left → LeadsOn stored name left next more → Led stored root path (count + 1) next more
 led_on stored root name next path left more count led g n r h = let k = led (suc n) r (next, more, g, h) in (k.0, omega (arith, k.1), k.2)
 
 pub led_to_end : (stored : Stored) (root name : CidParts) (path left : List (List ℕ)) (count : ℕ) (r : Resolved) → Led stored root path count name left → ResolvesIn 0 stored name left r → ((n : ℕ) → IsEndlessAfter n r.end) → Resolves stored root path r

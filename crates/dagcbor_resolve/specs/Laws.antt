@@ -1,34 +1,30 @@
 -- What holds of all stores.
 use Rattle.std.specs.Prelude.{◌≡◌, ◌≢◌, ◌⊎◌, ◌↔◌, ℕ, zero, suc, List, Option, None, Some, MatchOption, ⊤}
-use Rattle.sha2.specs.Sha256.{sha256}
 use Rattle.ipld_tree.specs.Cid.{CidParts}
 use Rattle.ipld_tree.specs.Tree.{Tree, link}
 use Rattle.dagcbor_items.specs.Slices.{IsBlock}
 use Rattle.dagcbor_paths.specs.Paths.{At}
-use Rattle.dagcbor_paths.specs.Finding.{LeadsInto, LeadsNowhere}
+use Rattle.dagcbor_paths.specs.Finding.{LeadsInto, HasNoPart}
+use Rattle.ipld_links.specs.Collisions.{Collides}
 use Rattle.ipld_links.specs.Sets.{Among}
 use Rattle.ipld_links.specs.Reaching.{Stored, AreBytesOf}
-use Rattle.dagcbor_resolve.specs.Resolving.{AreNamed, GoesOn, Resolves, AreOnTheWay}
+use Rattle.dagcbor_resolve.specs.Resolving.{AreNamed, LeadsOn, Resolves, AreOnTheWay}
 use Rattle.dagcbor_resolve.specs.declared.resolution.End.{End}
 use Rattle.dagcbor_resolve.specs.declared.resolution.End.TheVariants as ends
 use Rattle.dagcbor_resolve.specs.declared.resolution.Resolved.{Resolved}
 
 -- the path leads from the block to a tree, or a part of it to an item that is no link, and then nowhere
-abbrev pub LeadsTo : List ℕ → List (List ℕ) → Option Tree → Type 0
-LeadsTo b path (Some u) = (t : Tree) × IsBlock b t × At path t u
-LeadsTo b path None = (t u : Tree) × (left : List (List ℕ)) × LeadsInto b path left t u × LeadsNowhere left u
+abbrev pub LeadsInBlock : List ℕ → List (List ℕ) → Option Tree → Type 0
+LeadsInBlock b path (Some u) = (t : Tree) × IsBlock b t × At path t u
+LeadsInBlock b path None = (t u : Tree) × (left : List (List ℕ)) × LeadsInto b path left t u × HasNoPart left u
     × ((cid : List ℕ) → u ≢ link cid)
 
 -- Over so many links, the path leads from the root to a tree, or to none: each block on the way is
 -- stored, and is the one that its name says.
 abbrev pub Leads : ℕ → Stored → CidParts → List (List ℕ) → Option Tree → Type 0
-Leads zero stored name path found = (b : List ℕ) × AreNamed stored name b × LeadsTo b path found
+Leads zero stored name path found = (b : List ℕ) × AreNamed stored name b × LeadsInBlock b path found
 Leads (suc n) stored name path found = (next : CidParts) × (left : List (List ℕ))
-    × GoesOn stored name path next left × Leads n stored next left found
-
--- two different byte strings have one SHA-256
-abbrev pub Collides : Type 0
-Collides = (x y : List ℕ) × (x ≢ y) × (sha256 x ≡ sha256 y)
+    × LeadsOn stored name path next left × Leads n stored next left found
 
 -- A root and a path say what is found, and that nothing is: where two stores lead to answers, these are
 -- equal, or two different byte strings of one SHA-256 are at hand.

@@ -5,7 +5,7 @@ use Rattle.ipld_tree.specs.Tree.{Tree, link}
 use Rattle.dagcbor_items.specs.Slices.{IsBlock}
 use Rattle.dagcbor_items.specs.TreeKinds.{kind_of}
 use Rattle.dagcbor_paths.specs.Paths.{segments, At}
-use Rattle.dagcbor_paths.specs.Finding.{StandAt, LeadsInto, LeadsNowhere}
+use Rattle.dagcbor_paths.specs.Finding.{StandAt, LeadsInto, HasNoPart}
 use Rattle.ipld_links.specs.Sets.{Among}
 use Rattle.ipld_links.specs.Reaching.{Stored, AreBytesOf, NoneTwice, Lists}
 use Rattle.ipld_links.specs.Verdicts.{IsVerified, IsDagCbor, IsVerdict}
@@ -23,8 +23,8 @@ AreNamed stored name b = AreBytesOf stored name b × IsVerified (name, b) × IsD
 
 -- In the block under the name, a first part of the path leads to a link to the next one, at which these
 -- segments are left.
-abbrev pub GoesOn : Stored → CidParts → List (List ℕ) → CidParts → List (List ℕ) → Type 0
-GoesOn stored name path next left = AreCidParts next × ((b : List ℕ) × (t : Tree) × AreNamed stored name b
+abbrev pub LeadsOn : Stored → CidParts → List (List ℕ) → CidParts → List (List ℕ) → Type 0
+LeadsOn stored name path next left = AreCidParts next × ((b : List ℕ) × (t : Tree) × AreNamed stored name b
     × LeadsInto b path left t (link (cid_bytes next)) × (left ≢ []))
 
 -- the verdict is not that the bytes are a block
@@ -40,7 +40,7 @@ EndsAs stored name path (ends.Item kind place end) = (b : List ℕ) × (t u : Tr
     × IsBlock b t × At path t u × (kind ≡ kind_of u)
     × ((part : List ℕ) × IsBlock part u × StandAt b place part × (end ≡ place + length part))
 EndsAs stored name path (ends.NoSuchPath left) = (b : List ℕ) × (t u : Tree) × AreNamed stored name b
-    × LeadsInto b path (segments left.now) t u × LeadsNowhere (segments left.now) u
+    × LeadsInto b path (segments left.now) t u × HasNoPart (segments left.now) u
     × ((cid : List ℕ) → u ≢ link cid)
 EndsAs stored name path ends.NotHeld = (b : List ℕ) → ¬ AreBytesOf stored name b
 EndsAs stored name path (ends.NoBlock verdict) = (b : List ℕ) × AreBytesOf stored name b
@@ -52,7 +52,7 @@ abbrev pub ResolvesIn : ℕ → Stored → CidParts → List (List ℕ) → Reso
 ResolvesIn zero stored name path r = (r.block ≡ name) × (segments r.path.now ≡ path)
     × EndsAs stored name path r.end
 ResolvesIn (suc n) stored name path r = (next : CidParts) × (left : List (List ℕ))
-    × GoesOn stored name path next left × ResolvesIn n stored next left r
+    × LeadsOn stored name path next left × ResolvesIn n stored next left r
 
 -- it gives up only behind so many blocks
 abbrev pub IsEndlessAfter : ℕ → End → Type 0
@@ -68,8 +68,8 @@ Resolves stored root path r = (n : ℕ) × ResolvesIn n stored root path r × Is
 -- The path goes on from the block under the name to the one under the first of these, and so from each
 -- to the next, and from the last to none.
 abbrev pub GoesOver : Stored → CidParts → List (List ℕ) → List CidParts → Type 0
-GoesOver stored name path [] = (next : CidParts) (left : List (List ℕ)) → ¬ GoesOn stored name path next left
-GoesOver stored name path (next ∷ more) = (left : List (List ℕ)) × GoesOn stored name path next left
+GoesOver stored name path [] = (next : CidParts) (left : List (List ℕ)) → ¬ LeadsOn stored name path next left
+GoesOver stored name path (next ∷ more) = (left : List (List ℕ)) × LeadsOn stored name path next left
     × GoesOver stored next left more
 
 -- these are the names of the blocks on the way of the path, in its order: the root's, and those it goes
@@ -87,7 +87,7 @@ pub record AreOnceEach (names once : List CidParts) : Type 0 where
 
 abbrev pub IsStep : Stored → CidParts → List (List ℕ) → Step → Type 0
 IsStep stored name path (steps.Ends end) = EndsAs stored name path end × ((n : ℕ) → IsEndlessAfter n end)
-IsStep stored name path (steps.GoesOn next left) = GoesOn stored name path next (segments left.now)
+IsStep stored name path (steps.GoesOn next left) = LeadsOn stored name path next (segments left.now)
 
 -- the bytes that are under the name
 abbrev pub FindsBytes : {A : Type 0} → (A → List ℕ) → Stored → CidParts → Option A → Type 0

@@ -13,8 +13,8 @@ use Rattle.dagcbor_write.specs.Order.{PutsInOrder, entries_bytes}
 use Rattle.dagcbor_write.proofs.Mapping.{in_order}
 use Rattle.dagcbor_write.proofs.Spelling.{head_is_spelled}
 use Rattle.dagcbor_serde.specs.Building.{Level, whole, in_list, in_map, in_link, rests, for_key, for_value, for_map, State, state, begin, begin_map, close, list_of, close_map}
-use Rattle.dagcbor_serde.specs.Holds.{IsGood, Holds, HoldsEntries, PutsEntries, PutsEach, AreInOrder, whole_at, Opens, HoldsAll, part, StepsBy, Lands, Begins}
-use Rattle.dagcbor_write.specs.Spans.{IsWithin, entry_at}
+use Rattle.dagcbor_serde.specs.Holds.{IsGood, Holds, HoldsEntries, PutsEntries, PutsEach, AreInOrder, Opens, HoldsAll, part, StepsBy, Lands, Begins}
+use Rattle.dagcbor_write.specs.Spans.{whole_at, IsWithin, entry_at}
 use Rattle.dagcbor_serde.specs.declared.frame.Frame.{Frame}
 use Rattle.dagcbor_write.specs.declared.collect.gathered.Span.{Span}
 use Rattle.dagcbor_serde.specs.declared.frame.Stage.TheVariants as stage

@@ -11,8 +11,8 @@ use Rattle.dagcbor_write.specs.Trees.{Pair}
 use Rattle.dagcbor_write.specs.Maps.{Texts, IsSpellingOf, AreSpellingsOf}
 use Rattle.dagcbor_write.proofs.Mapping.{pairwise_push}
 use Rattle.dagcbor_serde.specs.Building.{Level, whole, in_list, in_map, in_link, rests, for_key, for_value, for_map, put, put_key, put_unit, put_bytes, as_link, begin_key, flatten}
-use Rattle.dagcbor_serde.specs.Holds.{IsGood, Holds, HoldsEntries, Part, part, whole_at}
-use Rattle.dagcbor_write.specs.Spans.{entry_at, IsWithin}
+use Rattle.dagcbor_serde.specs.Holds.{IsGood, Holds, HoldsEntries, Part, part}
+use Rattle.dagcbor_write.specs.Spans.{whole_at, entry_at, IsWithin}
 use Rattle.dagcbor_serde.specs.declared.frame.Frame.{Frame}
 use Rattle.dagcbor_write.specs.declared.collect.gathered.Span.{Span}
 use Rattle.dagcbor_serde.specs.declared.frame.Stage.TheVariants as stage

@@ -5,9 +5,8 @@ use Rattle.std.proofs.lemmas.List.Elements.{All-push, recursion_from_All}
 use Rattle.std.specs.List.{AllByRecursion}
 use Rattle.dagcbor_write.specs.Order.{entries_bytes}
 use Rattle.dagcbor_write.specs.declared.collect.gathered.Span.{Span}
-use Rattle.dagcbor_write.specs.Spans.{entry_at, IsWithin}
+use Rattle.dagcbor_write.specs.Spans.{whole_at, entry_at, IsWithin}
 use Rattle.dagcbor_write.proofs.Spans.{range_stays, all_stay, entry_stays, last_entry, one_range}
-use Rattle.dagcbor_serde.specs.Holds.{whole_at}
 
 -- bytes that are appended leave the entries as they are
 pub entries_stay : (bs more : List ℕ) (ss : List Span) → All (IsWithin (length bs)) ss → map (entry_at (bs ++ more)) ss ≡ map (entry_at bs) ss

@@ -4,7 +4,7 @@ use Rattle.serde.specs.Event.{Log}
 use Rattle.ipld_tree.specs.Tree.{Tree, text, link, IsTree, AreItems, items_of}
 use Rattle.ipld_tree.specs.Spelled.{spelled, spelled_items}
 use Rattle.dagcbor_write.specs.declared.collect.gathered.Span.{Span}
-use Rattle.dagcbor_write.specs.Spans.{entry_at, IsWithin}
+use Rattle.dagcbor_write.specs.Spans.{entry_at, whole_at, IsWithin}
 use Rattle.dagcbor_write.specs.Trees.{Pair}
 use Rattle.dagcbor_write.specs.Maps.{Texts, AreSpellingsOf}
 use Rattle.dagcbor_write.specs.Order.{PutsInOrder, KeysDiffer, goes_before, entries_bytes}
@@ -19,10 +19,6 @@ abbrev pub IsGood : Tree → List ℕ → Type 0
 IsGood t b = (spelled t ≡ Some b) × IsTree t
 
 -- ---- entries
-
--- the key and the value that stand there, one behind the other
-abbrev pub whole_at : List ℕ → Span → List ℕ
-whole_at b s = slice_range b s.start s.end
 
 -- the entries stand in the order of their bytes, and no key is that of the one before it
 abbrev pub AreInOrder : List Texts → Type 0

@@ -5,9 +5,9 @@ ghost use Rattle.std.specs.Prelude.{◌≤◌, length};
 
 use crate::error::Misfit;
 use crate::link::LINK;
-use arrayvec::ArrayVec;
 use dagcbor_heads::{Name as Kept, split_head};
 use serde::{Case, Format, Kind, Name, find};
+use smallvec::SmallVec;
 use std::alloc::Global;
 use std::str::from_utf8;
 
@@ -32,7 +32,7 @@ pub(crate) struct Block<'r> {
     /// How many items or entries of the innermost list or map are not read yet.
     left: u64,
     /// How many are not read yet of those around it, the outermost first.
-    around: Counts,
+    around: SmallVec<u64, 8>,
     link: LinkStage,
 }
 
@@ -42,57 +42,6 @@ pub(crate) struct Mark<'r> {
     left: u64,
     depth: usize,
     link: LinkStage,
-}
-
-/// Numbers of items, of which the first need no memory of their own.
-#[derive(Drop)]
-struct Counts {
-    near: ArrayVec<u64, 8>,
-    far: Vec<u64>,
-}
-
-impl Counts {
-    fn new(alloc: Global) -> Counts {
-        Counts {
-            near: ArrayVec::new(),
-            far: Vec::new(alloc),
-        }
-    }
-
-    #[inline(always)]
-    fn len(&self) -> usize {
-        self.near.len().saturating_add(self.far.len())
-    }
-
-    #[inline(always)]
-    fn push(&mut self, count: u64) -> Result<(), Misfit> {
-        match self.near.try_push(count) {
-            Ok(()) => Ok(()),
-            Err(_) => self.push_far(count),
-        }
-    }
-
-    #[cold]
-    #[inline(never)]
-    fn push_far(&mut self, count: u64) -> Result<(), Misfit> {
-        match self.far.push(count) {
-            Ok(()) => Ok(()),
-            Err(_) => Err(Misfit::OutOfMemory),
-        }
-    }
-
-    #[inline(always)]
-    fn pop(&mut self) -> u64 {
-        match self.far.pop() {
-            Some(count) => count,
-            None => self.near.pop().unwrap_or(0),
-        }
-    }
-
-    fn truncate(&mut self, len: usize) {
-        self.far.truncate(len.saturating_sub(self.near.len()));
-        self.near.truncate(len);
-    }
 }
 
 /// The argument of the head at the front, where it has this major type, and what is behind it.
@@ -113,15 +62,17 @@ fn behind_name<'a>(rest: &'a [u8], name: &str) -> Option<&'a [u8]> {
         return None;
     }
     let (key, behind) = behind.split_at(name.len());
-    if key == name.as_bytes() {
-        Some(behind)
-    } else {
-        None
+    for (at, byte) in name.as_bytes().iter().enumerate() {
+        if key[at] != *byte {
+            return None;
+        }
     }
+    Some(behind)
 }
 
-#[cold]
-#[inline(never)]
+/// Why no item of the wanted kind is taken. Made in place: an answer whose room a call is handed is
+/// cleared first.
+#[inline(always)]
 fn mismatch(rest: &[u8]) -> Misfit {
     match rest.first() {
         Some(first) => Misfit::Mismatch(*first),
@@ -129,11 +80,21 @@ fn mismatch(rest: &[u8]) -> Misfit {
     }
 }
 
+/// What was taken, or else why nothing was.
+macro_rules! taken {
+    ($block:ident, $taken:expr) => {
+        match $taken {
+            Some(taken) => taken,
+            None => return Err(mismatch($block.rest)),
+        }
+    };
+}
+
 /// Whether this is the name of a link, for which no map is asked but that of a link.
 #[inline(always)]
 fn is_link_name(names: &[Name<'_>]) -> bool {
     match names {
-        [name] => name.case == LINK.case && name.name == LINK.name,
+        [name] => name.case == LINK.case && matches!(name.name.as_bytes(), b"/"),
         _ => false,
     }
 }
@@ -167,7 +128,7 @@ impl<'r> Block<'r> {
         Block {
             rest: bytes,
             left: 0,
-            around: Counts::new(alloc),
+            around: SmallVec::new(alloc),
             link: LinkStage::Nowhere,
         }
     }
@@ -190,13 +151,13 @@ impl<'r> Block<'r> {
 
     /// The argument of the head at the front, where it has this major type.
     #[inline(always)]
-    fn take_argument(&mut self, major: u8) -> Result<u64, Misfit> {
+    fn take_argument(&mut self, major: u8) -> Option<u64> {
         match split_argument(self.rest, major) {
             Some((argument, behind)) if self.is_outside() => {
                 self.rest = behind;
-                Ok(argument)
+                Some(argument)
             }
-            _ => Err(mismatch(self.rest)),
+            _ => None,
         }
     }
 
@@ -206,77 +167,70 @@ impl<'r> Block<'r> {
         matches!(self.link, LinkStage::Nowhere)
     }
 
+    /// The bytes of the string at the front, where it has this major type.
     #[inline(always)]
-    fn take_payload(&mut self, n: u64) -> Result<&'r [u8], Misfit> {
+    fn take_payload(&mut self, major: u8) -> Option<&'r [u8]> {
+        let n = self.take_argument(major)?;
         let rest = self.rest;
         if n > rest.len() as u64 {
-            return Err(Misfit::Unread);
+            return None;
         }
         let (payload, behind) = rest.split_at(n as usize);
         self.rest = behind;
-        Ok(payload)
+        Some(payload)
     }
 
     #[inline(always)]
-    fn take_text(&mut self) -> Result<&'r str, Misfit> {
-        let n = self.take_argument(3)?;
-        match from_utf8(self.take_payload(n)?) {
-            Ok(text) => Ok(text),
-            Err(_) => Err(Misfit::Invalid),
-        }
+    fn take_text(&mut self) -> Option<&'r str> {
+        from_utf8(self.take_payload(3)?).ok()
     }
 
-    fn take_bytes(&mut self) -> Result<&'r [u8], Misfit> {
+    fn take_bytes(&mut self) -> Option<&'r [u8]> {
         match self.link {
-            LinkStage::Nowhere => {
-                let n = self.take_argument(2)?;
-                self.take_payload(n)
-            }
+            LinkStage::Nowhere => self.take_payload(2),
             LinkStage::Named => self.take_cid(),
-            _ => Err(mismatch(self.rest)),
+            _ => None,
         }
     }
 
     /// The binary form behind the tag and the zero byte.
-    fn take_cid(&mut self) -> Result<&'r [u8], Misfit> {
-        let Some((6, _, payload)) = split_head(self.rest) else {
-            return Err(mismatch(self.rest));
-        };
+    fn take_cid(&mut self) -> Option<&'r [u8]> {
+        let (_, _, payload) = split_head(self.rest)?;
         self.rest = payload;
         self.link = LinkStage::Nowhere;
-        let n = self.take_argument(2)?;
-        let cid = self.take_payload(n)?;
+        let (_, cid) = self.take_payload(2)?.split_first()?;
         self.link = LinkStage::Read;
-        match cid.split_first() {
-            Some((_, cid)) => Ok(cid),
-            None => Err(Misfit::Invalid),
-        }
+        Some(cid)
     }
 
     /// The major type and the argument of the integer at the front, and what is behind it.
     #[inline(always)]
-    fn number(&self) -> Result<(u8, u64, &'r [u8]), Misfit> {
+    fn number(&self) -> Option<(u8, u64, &'r [u8])> {
         match split_head(self.rest) {
             Some((major, argument, behind)) if major < 2 && self.is_outside() => {
-                Ok((major, argument, behind))
+                Some((major, argument, behind))
             }
-            _ => Err(mismatch(self.rest)),
+            _ => None,
         }
     }
 
     /// The integer at the front, and what is behind it.
-    fn integer(&self) -> Result<(i128, &'r [u8]), Misfit> {
+    fn integer(&self) -> Option<(i128, &'r [u8])> {
         let (major, argument, behind) = self.number()?;
         let v = argument as i128;
-        Ok((if major == 0 { v } else { -1 - v }, behind))
+        Some((if major == 0 { v } else { -1 - v }, behind))
     }
 
     /// Goes into a list or map of so many items or entries.
     #[inline(always)]
     fn enter(&mut self, count: u64) -> Result<(), Misfit> {
-        self.around.push(self.left)?;
-        self.left = count;
-        Ok(())
+        match self.around.push(self.left) {
+            Ok(()) => {
+                self.left = count;
+                Ok(())
+            }
+            Err(_) => Err(Misfit::OutOfMemory),
+        }
     }
 
     /// Whether an item or entry comes; at the end it goes out of the list or map.
@@ -286,44 +240,43 @@ impl<'r> Block<'r> {
             self.left -= 1;
             return true;
         }
-        self.left = self.around.pop();
+        self.left = self.around.pop().unwrap_or(0);
         false
     }
 
     /// The index of the key among the names.
     #[inline(always)]
-    fn take_key(&mut self, names: &[Name<'_>]) -> Result<usize, Misfit> {
+    fn take_key(&mut self, names: &[Name<'_>]) -> Option<usize> {
         for (at, name) in names.iter().enumerate() {
             if !matches!(name.case, Case::AsIs) || !name.aliases.is_empty() || name.skipped {
                 break;
             }
             if let Some(behind) = behind_name(self.rest, name.name) {
                 self.rest = behind;
-                return Ok(at);
+                return Some(at);
             }
         }
-        self.take_other_key(names)
+        self.take_name(names)
     }
 
+    /// The index of the text at the front among the names.
     #[inline(never)]
-    fn take_other_key(&mut self, names: &[Name<'_>]) -> Result<usize, Misfit> {
-        Ok(find(names, self.take_text()?))
+    fn take_name(&mut self, names: &[Name<'_>]) -> Option<usize> {
+        Some(find(names, self.take_text()?))
     }
 
     /// The name of a link, and its end.
-    #[cold]
-    #[inline(never)]
-    fn next_link_key(&mut self, names: &[Name<'_>]) -> Result<Option<usize>, Misfit> {
+    fn next_link_key(&mut self, names: &[Name<'_>]) -> Option<Option<usize>> {
         match self.link {
             LinkStage::Begun if is_link_name(names) => {
                 self.link = LinkStage::Named;
-                Ok(Some(0))
+                Some(Some(0))
             }
             LinkStage::Read => {
                 self.link = LinkStage::Nowhere;
-                Ok(None)
+                Some(None)
             }
-            _ => Err(mismatch(self.rest)),
+            _ => None,
         }
     }
 }
@@ -350,7 +303,7 @@ impl<'r> Format for Block<'r> {
 
     #[inline(always)]
     fn i64(&mut self, _input: &[u8]) -> Result<i64, Misfit> {
-        let (major, argument, behind) = self.number()?;
+        let (major, argument, behind) = taken!(self, self.number());
         let Ok(v) = i64::try_from(argument) else {
             return Err(Misfit::OutOfRange);
         };
@@ -360,7 +313,7 @@ impl<'r> Format for Block<'r> {
 
     #[inline(always)]
     fn u64(&mut self, _input: &[u8]) -> Result<u64, Misfit> {
-        let (major, argument, behind) = self.number()?;
+        let (major, argument, behind) = taken!(self, self.number());
         if major != 0 {
             return Err(Misfit::OutOfRange);
         }
@@ -369,13 +322,13 @@ impl<'r> Format for Block<'r> {
     }
 
     fn i128(&mut self, _input: &[u8]) -> Result<i128, Misfit> {
-        let (v, behind) = self.integer()?;
+        let (v, behind) = taken!(self, self.integer());
         self.rest = behind;
         Ok(v)
     }
 
     fn u128(&mut self, _input: &[u8]) -> Result<u128, Misfit> {
-        let (found, behind) = self.integer()?;
+        let (found, behind) = taken!(self, self.integer());
         let Ok(v) = u128::try_from(found) else {
             return Err(Misfit::OutOfRange);
         };
@@ -392,34 +345,36 @@ impl<'r> Format for Block<'r> {
     }
 
     fn char(&mut self, _input: &[u8]) -> Result<char, Misfit> {
-        match self.take_text()?.parse::<char>() {
+        match taken!(self, self.take_text()).parse::<char>() {
             Ok(c) => Ok(c),
             Err(_) => Err(Misfit::Invalid),
         }
     }
 
     fn plain_str(&mut self, input: &[u8]) -> Result<(usize, usize), Misfit> {
-        let text = self.take_text()?;
+        let text = taken!(self, self.take_text());
         let end = input.len().saturating_sub(self.rest.len());
         Ok((end.saturating_sub(text.len()), end))
     }
 
     fn plain_bytes(&mut self, input: &[u8]) -> Result<(usize, usize), Misfit> {
-        let bytes = self.take_bytes()?;
+        let bytes = taken!(self, self.take_bytes());
         let end = input.len().saturating_sub(self.rest.len());
         Ok((end.saturating_sub(bytes.len()), end))
     }
 
     #[inline(always)]
     fn string(&mut self, alloc: Global, _input: &[u8]) -> Result<String, Misfit> {
-        match String::from_str(alloc, self.take_text()?) {
+        let text = taken!(self, self.take_text());
+        match String::from_str(alloc, text) {
             Ok(text) => Ok(text),
             Err(_) => Err(Misfit::OutOfMemory),
         }
     }
 
     fn byte_buf(&mut self, alloc: Global, _input: &[u8]) -> Result<Vec<u8>, Misfit> {
-        match Vec::from_slice(alloc, self.take_bytes()?) {
+        let bytes = taken!(self, self.take_bytes());
+        match Vec::from_slice(alloc, bytes) {
             Ok(bytes) => Ok(bytes),
             Err(_) => Err(Misfit::OutOfMemory),
         }
@@ -462,7 +417,7 @@ impl<'r> Format for Block<'r> {
 
     #[inline(always)]
     fn begin_seq(&mut self, _input: &[u8]) -> Result<(), Misfit> {
-        let count = self.take_argument(4)?;
+        let count = taken!(self, self.take_argument(4));
         self.enter(count)
     }
 
@@ -476,14 +431,14 @@ impl<'r> Format for Block<'r> {
             self.link = LinkStage::Begun;
             return Ok(());
         }
-        let count = self.take_argument(5)?;
+        let count = taken!(self, self.take_argument(5));
         self.enter(count)
     }
 
     /// A list of the fields is no struct.
     #[inline(always)]
     fn begin_struct(&mut self, _input: &[u8]) -> Result<bool, Misfit> {
-        let count = self.take_argument(5)?;
+        let count = taken!(self, self.take_argument(5));
         self.enter(count)?;
         Ok(false)
     }
@@ -491,16 +446,16 @@ impl<'r> Format for Block<'r> {
     #[inline(always)]
     fn next_key(&mut self, _input: &[u8], names: &[Name<'_>]) -> Result<Option<usize>, Misfit> {
         if !self.is_outside() || is_link_name(names) {
-            return self.next_link_key(names);
+            return Ok(taken!(self, self.next_link_key(names)));
         }
         if !self.comes() {
             return Ok(None);
         }
-        Ok(Some(self.take_key(names)?))
+        Ok(Some(taken!(self, self.take_key(names))))
     }
 
     fn variant(&mut self, _input: &[u8], names: &[Name<'_>]) -> Result<usize, Misfit> {
-        Ok(find(names, self.take_text()?))
+        Ok(taken!(self, self.take_name(names)))
     }
 
     fn next_entry(&mut self, _input: &[u8]) -> Result<bool, Misfit> {

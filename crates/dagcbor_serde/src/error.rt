@@ -42,9 +42,8 @@ pub(crate) enum Refusal {
 }
 
 impl Refusal {
-    /// The public cause.
-    #[cold]
-    #[inline(never)]
+    /// The public cause. Made in place: an answer whose room a call is handed is cleared first.
+    #[inline(always)]
     pub(crate) fn cause(self) -> WriteError {
         match self {
             Refusal::OutOfMemory => WriteError::OutOfMemory,

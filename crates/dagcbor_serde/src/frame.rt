@@ -8,9 +8,10 @@ use crate::error::Refusal;
 use dagcbor_heads::head_bytes;
 
 /// What is open, and what it wants next.
-#[derive(Clone, Copy, Drop, PartialEq, Eq)]
+#[derive(Clone, Copy, Default, Drop, PartialEq, Eq)]
 pub(crate) enum Stage {
     /// The whole, before its item.
+    #[default]
     Vacant,
     /// The whole, behind its item.
     Full,
@@ -31,7 +32,7 @@ pub(crate) enum Stage {
 }
 
 /// What is open. Its bytes stand behind those of what is around it, and its entries behind theirs.
-#[derive(Clone, Copy, Drop)]
+#[derive(Clone, Copy, Default, Drop)]
 pub(crate) struct Frame {
     pub(crate) stage: Stage,
     /// Where its bytes begin: those of a list or a map with one byte, in whose place its head comes.

@@ -13,14 +13,15 @@ ghost use Rattle.dagcbor_serde.specs.Holds.{IsGood, HoldsAll, StepsBy, MovesTop,
 ghost use Rattle.dagcbor_serde.specs.Holds.{Begins, PutsEach};
 ghost use Rattle.dagcbor_serde.specs.Refusing.{LacksMemory, CidRefused, BytesRefused, ItemRefused, TextRefused, NumberRefused, OnlyAt};
 
-use crate::entries::{are_in_order, push_entries, put_in_order};
+use crate::entries::{are_in_order, push_entries};
 use crate::error::Refusal;
 use crate::frame::{
     Frame, Stage, append, append_head, append_link, misplaced, replace_behind, set_head,
 };
-use dagcbor_write::Span;
+use dagcbor_write::{Span, put_in_order};
 use ipld_tree::Cid;
 use serde::{Case, NameKind};
+use smallvec::SmallVec;
 use std::alloc::Global;
 use std::mem;
 
@@ -45,11 +46,11 @@ pub(crate) struct Sink {
     /// The bytes of all that is open, the whole first.
     bytes: Vec<u8>,
     /// Where the entries of the open maps stand.
-    spans: Vec<Span>,
+    spans: SmallVec<Span, 8>,
     /// The innermost that is open.
     top: Frame,
     /// Those around it, the whole first.
-    below: Vec<Frame>,
+    below: SmallVec<Frame, 4>,
     /// Room for bytes that change their place.
     room: Vec<u8>,
     /// Room for a name in another case.
@@ -64,9 +65,9 @@ impl Sink {
         Sink {
             alloc,
             bytes: out,
-            spans: Vec::new(alloc),
+            spans: SmallVec::new(alloc),
             top: Frame::new(Stage::Vacant, 0, 0),
-            below: Vec::new(alloc),
+            below: SmallVec::new(alloc),
             room: Vec::new(alloc),
             name: String::new(alloc),
         }

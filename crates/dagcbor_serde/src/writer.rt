@@ -49,6 +49,21 @@ impl Writer {
     }
 }
 
+/// Sends an event to the sink and notes it. After one that is refused, none is taken.
+macro_rules! send {
+    ($writer:ident, $sent:expr, $note:expr) => {{
+        if $writer.failed {
+            return Err(WriteError::Misplaced);
+        }
+        if let Err(refusal) = $sent {
+            $writer.failed = true;
+            return Err(refusal.cause());
+        }
+        $writer.log = $writer.log.then(&$note);
+        Ok(())
+    }};
+}
+
 impl Serializer for Writer {
     type Error = WriteError;
 
@@ -56,67 +71,27 @@ impl Serializer for Writer {
 
     #[inline(always)]
     fn bool(&mut self, v: bool) -> Result<(), WriteError> {
-        if self.failed {
-            return Err(WriteError::Misplaced);
-        }
-        if let Err(refusal) = self.sink.bool(v) {
-            self.failed = true;
-            return Err(refusal.cause());
-        }
-        self.log = self.log.then(&Note::Bool(v));
-        Ok(())
+        send!(self, self.sink.bool(v), Note::Bool(v))
     }
 
     #[inline(always)]
     fn i64(&mut self, v: i64) -> Result<(), WriteError> {
-        if self.failed {
-            return Err(WriteError::Misplaced);
-        }
-        if let Err(refusal) = self.sink.signed(v) {
-            self.failed = true;
-            return Err(refusal.cause());
-        }
-        self.log = self.log.then(&Note::I64(v));
-        Ok(())
+        send!(self, self.sink.signed(v), Note::I64(v))
     }
 
     #[inline(always)]
     fn u64(&mut self, v: u64) -> Result<(), WriteError> {
-        if self.failed {
-            return Err(WriteError::Misplaced);
-        }
-        if let Err(refusal) = self.sink.unsigned(v) {
-            self.failed = true;
-            return Err(refusal.cause());
-        }
-        self.log = self.log.then(&Note::U64(v));
-        Ok(())
+        send!(self, self.sink.unsigned(v), Note::U64(v))
     }
 
     #[inline(always)]
     fn i128(&mut self, v: i128) -> Result<(), WriteError> {
-        if self.failed {
-            return Err(WriteError::Misplaced);
-        }
-        if let Err(refusal) = self.sink.signed_wide(v) {
-            self.failed = true;
-            return Err(refusal.cause());
-        }
-        self.log = self.log.then(&Note::I128(v));
-        Ok(())
+        send!(self, self.sink.signed_wide(v), Note::I128(v))
     }
 
     #[inline(always)]
     fn u128(&mut self, v: u128) -> Result<(), WriteError> {
-        if self.failed {
-            return Err(WriteError::Misplaced);
-        }
-        if let Err(refusal) = self.sink.unsigned_wide(v) {
-            self.failed = true;
-            return Err(refusal.cause());
-        }
-        self.log = self.log.then(&Note::U128(v));
-        Ok(())
+        send!(self, self.sink.unsigned_wide(v), Note::U128(v))
     }
 
     fn f32(&mut self, _v: f32) -> Result<(), WriteError> {
@@ -131,184 +106,84 @@ impl Serializer for Writer {
 
     #[inline(always)]
     fn char(&mut self, v: char) -> Result<(), WriteError> {
-        if self.failed {
-            return Err(WriteError::Misplaced);
-        }
-        if let Err(refusal) = self.sink.char(v) {
-            self.failed = true;
-            return Err(refusal.cause());
-        }
-        self.log = self.log.then(&Note::Char(v));
-        Ok(())
+        send!(self, self.sink.char(v), Note::Char(v))
     }
 
     #[inline(always)]
     fn str(&mut self, v: &str) -> Result<(), WriteError> {
-        if self.failed {
-            return Err(WriteError::Misplaced);
-        }
-        if let Err(refusal) = self.sink.text(v) {
-            self.failed = true;
-            return Err(refusal.cause());
-        }
-        self.log = self.log.then(&Note::Text(v));
-        Ok(())
+        send!(self, self.sink.text(v), Note::Text(v))
     }
 
     #[inline(always)]
     fn bytes(&mut self, v: &[u8]) -> Result<(), WriteError> {
-        if self.failed {
-            return Err(WriteError::Misplaced);
-        }
-        if let Err(refusal) = self.sink.bytes(v) {
-            self.failed = true;
-            return Err(refusal.cause());
-        }
-        self.log = self.log.then(&Note::Bytes(v));
-        Ok(())
+        send!(self, self.sink.bytes(v), Note::Bytes(v))
     }
 
     #[inline(always)]
     fn unit(&mut self) -> Result<(), WriteError> {
-        if self.failed {
-            return Err(WriteError::Misplaced);
-        }
-        if let Err(refusal) = self.sink.unit() {
-            self.failed = true;
-            return Err(refusal.cause());
-        }
-        self.log = self.log.then(&Note::Unit);
-        Ok(())
+        send!(self, self.sink.unit(), Note::Unit)
     }
 
     #[inline(always)]
     fn str_cased(&mut self, name: &str, case: Case) -> Result<(), WriteError> {
-        if self.failed {
-            return Err(WriteError::Misplaced);
-        }
-        if let Err(refusal) = self.sink.unit_variant(name, case) {
-            self.failed = true;
-            return Err(refusal.cause());
-        }
-        self.log = self.log.then(&Note::UnitVariant(name, case));
-        Ok(())
+        send!(
+            self,
+            self.sink.unit_variant(name, case),
+            Note::UnitVariant(name, case)
+        )
     }
 
     #[inline(always)]
     fn begin_seq(&mut self, len: Option<usize>) -> Result<(), WriteError> {
-        if self.failed {
-            return Err(WriteError::Misplaced);
-        }
-        if let Err(refusal) = self.sink.begin_seq() {
-            self.failed = true;
-            return Err(refusal.cause());
-        }
-        self.log = self.log.then(&Note::BeginSeq(len));
-        Ok(())
+        send!(self, self.sink.begin_seq(), Note::BeginSeq(len))
     }
 
     #[inline(always)]
     fn end_seq(&mut self) -> Result<(), WriteError> {
-        if self.failed {
-            return Err(WriteError::Misplaced);
-        }
-        if let Err(refusal) = self.sink.end_seq() {
-            self.failed = true;
-            return Err(refusal.cause());
-        }
-        self.log = self.log.then(&Note::EndSeq);
-        Ok(())
+        send!(self, self.sink.end_seq(), Note::EndSeq)
     }
 
     #[inline(always)]
     fn begin_map(&mut self, len: Option<usize>) -> Result<(), WriteError> {
-        if self.failed {
-            return Err(WriteError::Misplaced);
-        }
-        if let Err(refusal) = self.sink.begin_map() {
-            self.failed = true;
-            return Err(refusal.cause());
-        }
-        self.log = self.log.then(&Note::BeginMap(len));
-        Ok(())
+        send!(self, self.sink.begin_map(), Note::BeginMap(len))
     }
 
     #[inline(always)]
     fn end_map(&mut self) -> Result<(), WriteError> {
-        if self.failed {
-            return Err(WriteError::Misplaced);
-        }
-        if let Err(refusal) = self.sink.end_map() {
-            self.failed = true;
-            return Err(refusal.cause());
-        }
-        self.log = self.log.then(&Note::EndMap);
-        Ok(())
+        send!(self, self.sink.end_map(), Note::EndMap)
     }
 
     #[inline(always)]
     fn key_cased(&mut self, name: &str, case: Case) -> Result<(), WriteError> {
-        if self.failed {
-            return Err(WriteError::Misplaced);
-        }
-        if let Err(refusal) = self.sink.field_key(name, case) {
-            self.failed = true;
-            return Err(refusal.cause());
-        }
-        self.log = self.log.then(&Note::FieldKey(name, case));
-        Ok(())
+        send!(
+            self,
+            self.sink.field_key(name, case),
+            Note::FieldKey(name, case)
+        )
     }
 
     #[inline(always)]
     fn variant_key(&mut self, name: &str, case: Case) -> Result<(), WriteError> {
-        if self.failed {
-            return Err(WriteError::Misplaced);
-        }
-        if let Err(refusal) = self.sink.variant_key(name, case) {
-            self.failed = true;
-            return Err(refusal.cause());
-        }
-        self.log = self.log.then(&Note::VariantKey(name, case));
-        Ok(())
+        send!(
+            self,
+            self.sink.variant_key(name, case),
+            Note::VariantKey(name, case)
+        )
     }
 
     #[inline(always)]
     fn begin_key(&mut self) -> Result<(), WriteError> {
-        if self.failed {
-            return Err(WriteError::Misplaced);
-        }
-        if let Err(refusal) = self.sink.begin_key() {
-            self.failed = true;
-            return Err(refusal.cause());
-        }
-        self.log = self.log.then(&Note::BeginKey);
-        Ok(())
+        send!(self, self.sink.begin_key(), Note::BeginKey)
     }
 
     #[inline(always)]
     fn end_key(&mut self) -> Result<(), WriteError> {
-        if self.failed {
-            return Err(WriteError::Misplaced);
-        }
-        if let Err(refusal) = self.sink.end_key() {
-            self.failed = true;
-            return Err(refusal.cause());
-        }
-        self.log = self.log.then(&Note::EndKey);
-        Ok(())
+        send!(self, self.sink.end_key(), Note::EndKey)
     }
 
     #[inline(always)]
     fn flatten_next(&mut self) -> Result<(), WriteError> {
-        if self.failed {
-            return Err(WriteError::Misplaced);
-        }
-        if let Err(refusal) = self.sink.flatten() {
-            self.failed = true;
-            return Err(refusal.cause());
-        }
-        self.log = self.log.then(&Note::Flatten);
-        Ok(())
+        send!(self, self.sink.flatten(), Note::Flatten)
     }
 
     fn collect_str<T: Display>(&mut self, value: &T) -> Result<(), WriteError> {

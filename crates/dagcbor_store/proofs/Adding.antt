@@ -12,9 +12,9 @@ use Rattle.ipld_links.specs.Sets.{Among}
 use Rattle.block_trees.specs.Ends.{Quiet, KeepsOthers, IsOfBlocks, IsOfRoots}
 use Rattle.block_trees.specs.Rows.{block_tree, name_tree, block_row, name_entry, IsStored, IsListed, IsTooLong}
 use Rattle.block_trees.specs.RootRows.{root_tree, AreRoots}
-use Rattle.dagcbor_store.specs.Stored.{IsAddedTo, IsAdded, IsSame, IsUndone, Fails, IsUnfit, PutRefused, IsCommitted}
+use Rattle.dagcbor_store.specs.Stored.{IsAddedTo, IsAdded, IsSame, IsUndone, FailsByStore, IsUnfit, PutRefused, IsCommitted}
 use Rattle.dagcbor_store.specs.Roots.{GainsRoots, MayKeepRoots, AreRootsAdded}
-use Rattle.dagcbor_store.specs.Cars.{IsNameIn, IsSectionIn, HoldsSections, IsFilled, IsAddedAll, Adds, NotKept}
+use Rattle.dagcbor_store.specs.Cars.{IsNameIn, IsSectionIn, HoldsSections, IsFilled, IsAddedAll, AddsSections, NotKept}
 use Rattle.dagcbor_store.specs.declared.error.StoreRefusal.{StoreRefusal}
 use Rattle.dagcbor_store.specs.declared.error.StoreRefusal.TheVariants as refusal
 use Rattle.block_trees.proofs.Causes.{cause_then}
@@ -120,10 +120,10 @@ gained old mid new roots ss h c = subst (λ (t : Trees). GainsRoots old.trees t 
 -- ---- stores
 
 module _ {S : Type 0} (g : Ghosts S) (roots : List CidParts) where
-  pub adds_none : (old new : S) → MayKeepRoots (g.view old) roots → (IsClean (g.view new) → AreRootsAdded (g.view old) (g.view new) roots) → Quiet g old new → Adds g roots [] old new
+  pub adds_none : (old new : S) → MayKeepRoots (g.view old) roots → (IsClean (g.view new) → AreRootsAdded (g.view old) (g.view new) roots) → Quiet g old new → AddsSections g roots [] old new
   adds_none old new keeps a quiet = record { keeps = keeps; added = λ clean. added_none (g.view old) (g.view new) roots (a clean); quiet = quiet }
 
-  pub adds_more : (ss : List Section) (s : Section) (old mid new : S) → Adds g roots ss old mid → (IsClean (g.view new) → IsAdded (g.view mid) (g.view new) s.0 s.1) → Quiet g mid new → Adds g roots (ss ++ s ∷ []) old new
+  pub adds_more : (ss : List Section) (s : Section) (old mid new : S) → AddsSections g roots ss old mid → (IsClean (g.view new) → IsAdded (g.view mid) (g.view new) s.0 s.1) → Quiet g mid new → AddsSections g roots (ss ++ s ∷ []) old new
   adds_more ss s old mid new h a quiet = record {
     keeps = h.keeps;
     added = λ clean. added_more (g.view old) (g.view mid) (g.view new) roots ss s (h.added (omega (arith, quiet.clean))) (a clean);
@@ -162,7 +162,7 @@ undone_then a b c p q = record {
 module _ {S : Type 0} (g : Ghosts S) where
   -- a failure behind a call that kept what was committed
   pub fails_behind : (U V : Type 0) (old mid new : S) (told : StoreRefusal) → Quiet g old mid → (IsClean (g.view new) → IsClean (g.view mid))
-      → (IsClean (g.view mid) → ((g.view mid).is_broken ≡ (g.view old).is_broken) × KeepsLast (g.view old) (g.view mid) × (U → V)) → Fails g U mid new told → Fails g V old new told
+      → (IsClean (g.view mid) → ((g.view mid).is_broken ≡ (g.view old).is_broken) × KeepsLast (g.view old) (g.view mid) × (U → V)) → FailsByStore g U mid new told → FailsByStore g V old new told
   fails_behind U V old mid new told before was same f = (
     f.0,
     f.1,
@@ -176,12 +176,12 @@ module _ {S : Type 0} (g : Ghosts S) where
   )
 
   -- behind roots and sections that were added
-  pub fails_from : (U V : Type 0) (roots : List CidParts) (ss : List Section) (old mid new : S) (told : StoreRefusal) → Adds g roots ss old mid → (IsClean (g.view new) → IsClean (g.view mid)) → (IsClean (g.view mid) → U → V) → Fails g U mid new told → Fails g V old new told
+  pub fails_from : (U V : Type 0) (roots : List CidParts) (ss : List Section) (old mid new : S) (told : StoreRefusal) → AddsSections g roots ss old mid → (IsClean (g.view new) → IsClean (g.view mid)) → (IsClean (g.view mid) → U → V) → FailsByStore g U mid new told → FailsByStore g V old new told
   fails_from U V roots ss old mid new told h was gives =
       fails_behind U V old mid new told h.quiet was (λ clean. let a = h.added clean in (a.broken, last_added (g.view old) (g.view mid) roots ss a, gives clean))
 
   -- a failure before a rollback
-  pub fails_until : (U : Type 0) (old mid new : S) (told : StoreRefusal) → Quiet g mid new → g.blamed new ≡ g.blamed mid → (IsClean (g.view new) → IsUndone (g.view mid) (g.view new)) → Fails g U old mid told → Fails g U old new told
+  pub fails_until : (U : Type 0) (old mid new : S) (told : StoreRefusal) → Quiet g mid new → g.blamed new ≡ g.blamed mid → (IsClean (g.view new) → IsUndone (g.view mid) (g.view new)) → FailsByStore g U old mid told → FailsByStore g U old new told
   fails_until U old mid new told quiet blame undone f = (
     f.0,
     f.1,
@@ -193,7 +193,7 @@ module _ {S : Type 0} (g : Ghosts S) where
         ),
   )
 
-  pub not_kept : (roots : List CidParts) (ss : List Section) (s : Section) (old mid refused new : S) (told : StoreRefusal) → Adds g roots ss old mid → Quiet g mid refused → Quiet g refused new → g.blamed new ≡ g.blamed refused
+  pub not_kept : (roots : List CidParts) (ss : List Section) (s : Section) (old mid refused new : S) (told : StoreRefusal) → AddsSections g roots ss old mid → Quiet g mid refused → Quiet g refused new → g.blamed new ≡ g.blamed refused
       → (IsClean (g.view new) → IsUndone (g.view refused) (g.view new)) → PutRefused g s mid refused told → NotKept g ss s old new told
   not_kept roots ss s old mid refused new refusal.NoNumber h quiet last blame undone p = inr (inl (
     refl,
@@ -207,7 +207,7 @@ module _ {S : Type 0} (g : Ghosts S) where
       long : IsClean (g.view mid) → IsTooLong (g.view mid).reals (cid_bytes s.0) s.1 → IsTooLong (g.view old).reals (cid_bytes s.0) s.1
       long clean = subst (λ r. IsTooLong r (cid_bytes s.0) s.1) (h.added clean).reals
 
-      by : (IsUnfit s told × (refused ≡ mid)) ⊎ Fails g (IsTooLong (g.view mid).reals (cid_bytes s.0) s.1) mid refused told → NotKept g ss s old new told
+      by : (IsUnfit s told × (refused ≡ mid)) ⊎ FailsByStore g (IsTooLong (g.view mid).reals (cid_bytes s.0) s.1) mid refused told → NotKept g ss s old new told
       by (inl u) = inl u.0
       by (inr f) = inr (inr (fails_until (IsTooLong (g.view old).reals (cid_bytes s.0) s.1) old refused new told last blame undone
           (fails_from (IsTooLong (g.view mid).reals (cid_bytes s.0) s.1) (IsTooLong (g.view old).reals (cid_bytes s.0) s.1) roots ss old mid refused told h (λ clean. omega (arith, quiet.clean)) long f)))
@@ -216,6 +216,6 @@ module _ {S : Type 0} (g : Ghosts S) where
   last_put s old new refusal.NoNumber clean p = last_same (g.view old) (g.view new) (p clean).1
   last_put s old new told clean p = by p
     where
-      by : (IsUnfit s told × (new ≡ old)) ⊎ Fails g (IsTooLong (g.view old).reals (cid_bytes s.0) s.1) old new told → KeepsLast (g.view old) (g.view new)
+      by : (IsUnfit s told × (new ≡ old)) ⊎ FailsByStore g (IsTooLong (g.view old).reals (cid_bytes s.0) s.1) old new told → KeepsLast (g.view old) (g.view new)
       by (inl u) = subst (λ x. KeepsLast (g.view old) (g.view x)) (sym u.1) (last_itself (g.view old))
       by (inr f) = last_undone (g.view old) (g.view new) (f.3 clean).1

@@ -13,8 +13,8 @@ use Rattle.sqlite_trees.specs.declared.error.StoreError.TheVariants as stored
 use Rattle.ipld_tree.specs.Cid.{CidParts, cid_bytes, IsCid}
 use Rattle.dagcbor_car.specs.Car.{Section}
 use Rattle.ipld_links.specs.Sets.{Among}
-use Rattle.block_trees.specs.Rows.{block_tree, name_tree, block_row, name_entry, IsStored, IsListed, FreesId, Gets, Writes, Adds, Takes, IsKeyed, IsTooLong}
-use Rattle.dagcbor_store.specs.Stored.{AreAllRoots, IsReady, IsSame, IsUndone, IsNamed, GetsSome, GetRefused, IsDamaged, IsVerified, Fails, TellsOfStore, IsAdded, IsAddedTo, IsTaken, IsToldAdded, PutRefused}
+use Rattle.block_trees.specs.Rows.{block_tree, name_tree, block_row, name_entry, IsStored, IsListed, FreesId, LooksUp, WritesBlockRow, AddsBlockRow, TakesOutName, IsKeyed, IsTooLong}
+use Rattle.dagcbor_store.specs.Stored.{AreAllRoots, IsReady, IsSame, IsUndone, IsNamedBy, GetsSome, GetRefused, IsDamaged, AnswersVerified, FailsByStore, TellsOfStore, IsAdded, IsAddedTo, IsTaken, IsToldAdded, PutRefused}
 use Rattle.block_trees.specs.RootRows.{root_tree, IsRootShape}
 use Rattle.block_trees.specs.Ends.{WritesIn, KeepsOthers, IsOfBlocks}
 use Rattle.block_trees.specs.declared.entries.Found.{Found}
@@ -28,29 +28,29 @@ use Rattle.dagcbor_store.proofs.Keeping.{stored_found, stored_there, stored_as_f
 
 -- ---- getting
 
-pub gets_some : (v : View) (name : CidParts) (found : Found) (r : Result (Option (Vec ℕ Global)) StoreRefusal) → IsKeyed (v.trees name_tree) → Gets v.trees (cid_bytes name) found → IsVerified name found r
+pub gets_some : (v : View) (name : CidParts) (found : Found) (r : Result (Option (Vec ℕ Global)) StoreRefusal) → IsKeyed (v.trees name_tree) → LooksUp v.trees (cid_bytes name) found → AnswersVerified name found r
     → IfOk r (λ o. GetsSome v name (option_map (λ (b : Vec ℕ Global). b.items) o))
 gets_some v name Nothing r keyed f is = subst (λ x. IfOk x (λ o. GetsSome v name (option_map (λ (b : Vec ℕ Global). b.items) o))) (sym is) (f keyed.0)
 gets_some v name NoRow r keyed f is = subst (λ x. IfOk x (λ o. GetsSome v name (option_map (λ (b : Vec ℕ Global). b.items) o))) (sym is) tt
 gets_some v name (Block b) r keyed f (inl is) = subst (λ x. IfOk x (λ o. GetsSome v name (option_map (λ (b : Vec ℕ Global). b.items) o))) (sym is.0) (stored_found v.trees (cid_bytes name) b.items f.0 f.1 f.2, λ d s. stored_as_found v.trees (cid_bytes name) d b.items f.0 keyed f.1 f.2 s)
 gets_some v name (Block b) r keyed f (inr is) = subst (λ x. IfOk x (λ o. GetsSome v name (option_map (λ (b : Vec ℕ Global). b.items) o))) (sym is.0) tt
 
-damaged : (v : View) (name : CidParts) (found : Found) → IsKeyed (v.trees name_tree) → Gets v.trees (cid_bytes name) found → (r : Result (Option (Vec ℕ Global)) StoreRefusal) → IsVerified name found r → (e : StoreRefusal) → r ≡ Err e → (e ≡ refusal.Damaged name) × IsDamaged v name
+damaged : (v : View) (name : CidParts) (found : Found) → IsKeyed (v.trees name_tree) → LooksUp v.trees (cid_bytes name) found → (r : Result (Option (Vec ℕ Global)) StoreRefusal) → AnswersVerified name found r → (e : StoreRefusal) → r ≡ Err e → (e ≡ refusal.Damaged name) × IsDamaged v name
 damaged v name Nothing keyed f r is e err = absurd (cc (sym is ∙ err))
 damaged v name NoRow keyed f r is e err =
     (cc (sym err ∙ is), ((f.0, f.1), λ b s named. f.2 b (among_unfiltered (has_rowid f.0) (block_row f.0 (cid_bytes name) b) (v.trees block_tree) (stored_there v.trees (cid_bytes name) b f.0 keyed f.1 s)).0))
 damaged v name (Block d) keyed f r (inl is) e err = absurd (cc (sym is.0 ∙ err))
 damaged v name (Block d) keyed f r (inr is) e err =
-    (cc (sym err ∙ is.0), ((f.0, f.1), λ b s named. is.1 (subst (IsNamed name) (stored_as_found v.trees (cid_bytes name) b d.items f.0 keyed f.1 f.2 s) named)))
+    (cc (sym err ∙ is.0), ((f.0, f.1), λ b s named. is.1 (subst (IsNamedBy name) (stored_as_found v.trees (cid_bytes name) b d.items f.0 keyed f.1 f.2 s) named)))
 
-told_damaged : (name : CidParts) (found : Found) (r : Result (Option (Vec ℕ Global)) StoreRefusal) → IsVerified name found r → (e : StoreRefusal) → r ≡ Err e → e ≡ refusal.Damaged name
+told_damaged : (name : CidParts) (found : Found) (r : Result (Option (Vec ℕ Global)) StoreRefusal) → AnswersVerified name found r → (e : StoreRefusal) → r ≡ Err e → e ≡ refusal.Damaged name
 told_damaged name Nothing r is e err = absurd (cc (sym is ∙ err))
 told_damaged name NoRow r is e err = cc (sym err ∙ is)
 told_damaged name (Block d) r (inl is) e err = absurd (cc (sym is.0 ∙ err))
 told_damaged name (Block d) r (inr is) e err = cc (sym err ∙ is.0)
 
-pub get_refused : {S : Type 0} (g : Ghosts S) (name : CidParts) (old new : S) (found : Found) (r : Result (Option (Vec ℕ Global)) StoreRefusal) → IsVerified name found r
-    → (IsClean (g.view new) → IsKeyed ((g.view old).trees name_tree) × Gets (g.view old).trees (cid_bytes name) found × IsSame (g.view old) (g.view new)) → IfErr r (GetRefused g name old new)
+pub get_refused : {S : Type 0} (g : Ghosts S) (name : CidParts) (old new : S) (found : Found) (r : Result (Option (Vec ℕ Global)) StoreRefusal) → AnswersVerified name found r
+    → (IsClean (g.view new) → IsKeyed ((g.view old).trees name_tree) × LooksUp (g.view old).trees (cid_bytes name) found × IsSame (g.view old) (g.view new)) → IfErr r (GetRefused g name old new)
 get_refused g name old new found (Ok o) is h = tt
 get_refused g name old new found (Err e) is h =
     subst (GetRefused g name old new) (sym (told_damaged name found (Err e) is e refl))
@@ -91,7 +91,7 @@ ready_blocks old new h keyed r = ready_written old new h.frame (λ o. (keyed o, 
     not_blocks (inl e) = cc e
     not_blocks (inr e) = cc e
 
-pub keyed_added : (old new : Trees) (name b : List ℕ) (added : Added) → IsCid name → Adds old new name b added → IsKeyed (old name_tree) → IsKeyed (new name_tree)
+pub keyed_added : (old new : Trees) (name b : List ℕ) (added : Added) → IsCid name → AddsBlockRow old new name b added → IsKeyed (old name_tree) → IsKeyed (new name_tree)
 keyed_added old new name b New cid (inl a) keyed = let w = a.1 in keyed_since old new name b w.0 keyed (a.0 keyed.0) w.1 w.2 w.3 cid
 keyed_added old new name b New cid (inr (id, at, a)) keyed =
     let mid = a.1.0 in
@@ -103,7 +103,7 @@ keyed_added old new name b Stored cid (inr (id, at, a)) keyed = subst (λ (t : T
 keyed_added old new name b NoNumber cid (inl a) keyed = subst (λ (t : Trees). IsKeyed (t name_tree)) (sym a.1.1) keyed
 keyed_added old new name b NoNumber cid (inr (id, at, a)) keyed = subst (λ (t : Trees). IsKeyed (t name_tree)) (sym a.1) keyed
 
-pub keyed_taken : (old new : Trees) (name : List ℕ) (taken : Bool) → Takes old new name taken → IsKeyed (old name_tree) → IsKeyed (new name_tree)
+pub keyed_taken : (old new : Trees) (name : List ℕ) (taken : Bool) → TakesOutName old new name taken → IsKeyed (old name_tree) → IsKeyed (new name_tree)
 keyed_taken old new name false t keyed = subst (λ (x : Trees). IsKeyed (x name_tree)) (sym t.1) keyed
 keyed_taken old new name true t keyed = keyed_left old new name t.0 keyed t.1 t.2.0
 
@@ -124,7 +124,7 @@ added_view old new name b h sound o trees = record {
 -- the name was taken out, if it was listed, and is written with the bytes
 written_anew : (old mid new : Trees) (name : CidParts) (b : List ℕ) → IsKeyed (mid name_tree) → (IsListed (mid name_tree) (cid_bytes name) → ⊥) → ((q d : List ℕ) → (q ≡ cid_bytes name → ⊥) → IsStored mid q d ↔ IsStored old q d)
     → ((q : List ℕ) → (q ≡ cid_bytes name → ⊥) → IsListed (mid name_tree) q ↔ IsListed (old name_tree) q) → ((id : ℤ) (q d : List ℕ) → Among (block_row id q d) (mid block_tree) ↔ (Among (block_row id q d) (old block_tree) × ((q ≡ cid_bytes name) × Among (name_entry q id) (old name_tree) → ⊥)))
-    → (IsStored old (cid_bytes name) b → ⊥) → KeepsOthers IsOfBlocks old new → Writes mid new (cid_bytes name) b → IsAddedTo old new name b
+    → (IsStored old (cid_bytes name) b → ⊥) → KeepsOthers IsOfBlocks old new → WritesBlockRow mid new (cid_bytes name) b → IsAddedTo old new name b
 written_anew old mid new name b keyed none stays lists table other beside w = record {
   stored = λ d. (
     λ s. elim ((since (cid_bytes name) d).0 s) [ inl is ↦ is.1 | inr was ↦ absurd (none (was.id, was.listed)) ],
@@ -188,7 +188,7 @@ stored_already old name b id keyed at row = record {
     rows i q d m (yes e) (no apart) = inr (m, λ u. apart (number i q u.0 u.1))
     rows i q d m (no apart) decided = inr (m, λ u. apart u.0)
 
-new_added : (old new : Trees) (name : CidParts) (b : List ℕ) → IsKeyed (old name_tree) → KeepsOthers IsOfBlocks old new → Adds old new (cid_bytes name) b New → IsAddedTo old new name b
+new_added : (old new : Trees) (name : CidParts) (b : List ℕ) → IsKeyed (old name_tree) → KeepsOthers IsOfBlocks old new → AddsBlockRow old new (cid_bytes name) b New → IsAddedTo old new name b
 new_added old new name b keyed beside (inl a) =
     let none = a.0 keyed.0 in
     written_anew old old new name b keyed none (λ q d apart. (λ s. s, λ s. s)) (λ q apart. (λ l. l, λ l. l))
@@ -205,28 +205,28 @@ new_added old new name b keyed beside (inr (id, at, a)) =
     (rows_taken old mid (cid_bytes name) id keyed at t.1)
     (λ s. a.0 (subst (λ i. Among (block_row i (cid_bytes name) b) (old block_tree)) (keyed.1 (cid_bytes name) s.id id s.listed at) s.row)) beside a.1.2
 
-stored_added : (old new : Trees) (name : CidParts) (b : List ℕ) → IsKeyed (old name_tree) → Adds old new (cid_bytes name) b Stored → IsAddedTo old new name b
+stored_added : (old new : Trees) (name : CidParts) (b : List ℕ) → IsKeyed (old name_tree) → AddsBlockRow old new (cid_bytes name) b Stored → IsAddedTo old new name b
 stored_added old new name b keyed (inl a) = absurd a.1
 stored_added old new name b keyed (inr (id, at, a)) = subst (λ (t : Trees). IsAddedTo old t name b) (sym a.1) (stored_already old name b id keyed at a.0)
 
-none_added : (old new : Trees) (name b : List ℕ) → Adds old new name b NoNumber → FreesId (old block_tree) None × (new ≡ old)
+none_added : (old new : Trees) (name b : List ℕ) → AddsBlockRow old new name b NoNumber → FreesId (old block_tree) None × (new ≡ old)
 none_added old new name b (inl a) = a.1
 none_added old new name b (inr (id, at, a)) = a
 
 pub is_added : (old new : View) (name : CidParts) (b : List ℕ) (added : Added) (r : Result (Unit {0}) StoreRefusal) → WritesIn IsOfBlocks old new → old.is_broken ≡ false → IsTrue old.is_open → IsKeyed (old.trees name_tree)
-    → Adds old.trees new.trees (cid_bytes name) b added → IsToldAdded added r → OnOk r (IsAdded old new name b)
+    → AddsBlockRow old.trees new.trees (cid_bytes name) b added → IsToldAdded added r → OnOk r (IsAdded old new name b)
 is_added old new name b New r h sound o keyed a is = subst (λ x. OnOk x (IsAdded old new name b)) (sym is) (added_view old new name b h.frame sound o (new_added old.trees new.trees name b keyed h.others a))
 is_added old new name b Stored r h sound o keyed a is = subst (λ x. OnOk x (IsAdded old new name b)) (sym is) (added_view old new name b h.frame sound o (stored_added old.trees new.trees name b keyed a))
 is_added old new name b NoNumber r h sound o keyed a is = subst (λ x. OnOk x (IsAdded old new name b)) (sym is) tt
 
 pub not_added : {S : Type 0} (g : Ghosts S) (s : Section) (old new : S) (added : Added) (r : Result (Unit {0}) StoreRefusal)
-    → (IsClean (g.view new) → Adds (g.view old).trees (g.view new).trees (cid_bytes s.0) s.1 added × OnlyWrites (g.view old) (g.view new)) → IsToldAdded added r → IfErr r (PutRefused g s old new)
+    → (IsClean (g.view new) → AddsBlockRow (g.view old).trees (g.view new).trees (cid_bytes s.0) s.1 added × OnlyWrites (g.view old) (g.view new)) → IsToldAdded added r → IfErr r (PutRefused g s old new)
 not_added g s old new New r h is = subst (λ x. IfErr x (PutRefused g s old new)) (sym is) tt
 not_added g s old new Stored r h is = subst (λ x. IfErr x (PutRefused g s old new)) (sym is) tt
 not_added g s old new NoNumber r h is = subst (λ x. IfErr x (PutRefused g s old new)) (sym is)
     (λ clean. let k = h clean in let n = none_added (g.view old).trees (g.view new).trees (cid_bytes s.0) s.1 k.0 in (n.0, record { trees = n.1; committed = ap (λ (v : View). v.committed) k.1; is_open = ap (λ (v : View). v.is_open) k.1; broken = ap (λ (v : View). v.is_broken) k.1 }))
 
-pub is_taken : (old new : View) (name : CidParts) (taken : Bool) → WritesIn IsOfBlocks old new → IsTrue old.is_open → IsKeyed (old.trees name_tree) → Takes old.trees new.trees (cid_bytes name) taken → IsTaken old new name taken
+pub is_taken : (old new : View) (name : CidParts) (taken : Bool) → WritesIn IsOfBlocks old new → IsTrue old.is_open → IsKeyed (old.trees name_tree) → TakesOutName old.trees new.trees (cid_bytes name) taken → IsTaken old new name taken
 is_taken old new name true h o keyed t =
     let rows = rows_left old.trees new.trees (cid_bytes name) t.0 t.2.1 in
     record {
@@ -279,7 +279,7 @@ cause_until v a b c U stored.Broken up h = h
 cause_until v a b c U stored.Unstorable up h = h
 
 pub fails_since : {S : Type 0} (g : Ghosts S) (U : Type 0) (old mid new : S) (e : StoreError) (told : StoreRefusal) → TellsOfStore e told → g.blamed new ≡ g.blamed mid → Tells (g.blamed mid) e → g.faults mid ≤ g.faults new
-    → (IsClean (g.view new) → HasCause (g.view old) (MoreFaults (g.faults old) (g.faults mid)) U e × IsUndone (g.view old) (g.view new)) → Fails g U old new told
+    → (IsClean (g.view new) → HasCause (g.view old) (MoreFaults (g.faults old) (g.faults mid)) U e × IsUndone (g.view old) (g.view new)) → FailsByStore g U old new told
 fails_since g U old mid new e told t blame tells up h =
     (e, t, subst (λ b. Tells b e) (sym blame) tells, λ clean. (cause_until (g.view old) (g.faults old) (g.faults mid) (g.faults new) U e up (h clean).0, (h clean).1))
 
@@ -287,7 +287,7 @@ pub not_number : (e : StoreError) → TellsOfStore e refusal.NoNumber → ⊥
 not_number stored.OutOfMemory h = cc
 not_number _ h = cc
 
-pub put_failed : {S : Type 0} (g : Ghosts S) (s : Section) (old new : S) (told : StoreRefusal) → Fails g (IsTooLong (g.view old).reals (cid_bytes s.0) s.1) old new told → PutRefused g s old new told
+pub put_failed : {S : Type 0} (g : Ghosts S) (s : Section) (old new : S) (told : StoreRefusal) → FailsByStore g (IsTooLong (g.view old).reals (cid_bytes s.0) s.1) old new told → PutRefused g s old new told
 put_failed g s old new refusal.NoNumber f = absurd (not_number f.0 f.1)
 put_failed g s old new _ f = inr f
 

@@ -16,7 +16,7 @@ use Rattle.sqlite_trees.specs.declared.store.Store.{Ghosts}
 use Rattle.sqlite_trees.specs.declared.store.Shape.{Shape}
 use Rattle.sqlite_trees.specs.declared.error.StoreError.{StoreError}
 use Rattle.sqlite_exec.specs.Calls.{OnlyReads}
-use Rattle.block_trees.specs.Ends.{Quiet, Ends}
+use Rattle.block_trees.specs.Ends.{Quiet, EndsOnRows}
 use Rattle.ipld_tree.specs.Cid.{IsCid}
 use Rattle.ipld_links.specs.Sets.{Among}
 use Rattle.block_trees.specs.Rows.{block_tree, name_tree, block_row, name_entry, IsStored, IsListed, IsNameEntry, AreNameEntries, FindsName, IsFreeId, IsRowOf, ClearsRow, IsKeyed}
@@ -77,17 +77,17 @@ Ready g s = IsClean (g.view s) → IsReady (g.view s)
 
 module _ {S T : Type 0} (g : Ghosts S) (old new : S) where
   -- a call that only read leaves a store ready
-  pub ready_ended : {x : T} → Ready g old → Ends g OnlyReads ⊥ (Ok x) old new → Ready g new
+  pub ready_ended : {x : T} → Ready g old → EndsOnRows g OnlyReads ⊥ (Ok x) old new → Ready g new
   ready_ended {x} was e clean = ready_read _ _ (e.frame clean) (was (omega (arith, e.quiet.clean)))
 
   -- so does one that failed, and was undone
-  pub ready_failed : {C : View → View → Type 0} {F : Type 0} {e : StoreError} (mid : S) → Ready g old → Ends {T = T} g C F (Err e) old mid → IsRolledBack (g.view mid) (g.view new) → Quiet g mid new → Ready g new
+  pub ready_failed : {C : View → View → Type 0} {F : Type 0} {e : StoreError} (mid : S) → Ready g old → EndsOnRows {T = T} g C F (Err e) old mid → IsRolledBack (g.view mid) (g.view new) → Quiet g mid new → Ready g new
   ready_failed {C} {F} {e} mid was ends undone quiet clean =
       let clean_then : IsClean (g.view mid) = omega (arith, quiet.clean) in
       ready_undone _ _ _ clean (ends.err clean_then) undone (was (omega (arith, ends.quiet.clean)))
 
   -- where a call succeeded, the store was open and each name stood once
-  pub keyed_ended : {C : View → View → Type 0} {F : Type 0} {x : T} → ((g.view old).is_open ≡ false → IsTrue (g.view old).is_broken) → Ready g old → Ends g C F (Ok x) old new → IsClean (g.view new)
+  pub keyed_ended : {C : View → View → Type 0} {F : Type 0} {x : T} → ((g.view old).is_open ≡ false → IsTrue (g.view old).is_broken) → Ready g old → EndsOnRows g C F (Ok x) old new → IsClean (g.view new)
       → IsTrue (g.view old).is_open × IsKeyed ((g.view old).trees name_tree)
   keyed_ended {C} {F} {x} shut was e clean =
       let is_open = open_of (g.view old) shut (e.sound clean) in

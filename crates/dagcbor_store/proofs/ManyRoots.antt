@@ -9,7 +9,7 @@ use Rattle.ipld_links.specs.Sets.{Among}
 use Rattle.ipld_links.proofs.Members.{push_among}
 use Rattle.block_trees.specs.RootRows.{root_tree, AreRoots, IsRootTooLong}
 use Rattle.block_trees.specs.Ends.{Quiet}
-use Rattle.dagcbor_store.specs.Roots.{AddsName, AddsInTurn, KeepsRoots, MayKeepRoots, IsRootAdded, RootRefused, AreRootsAdded, StandsBehind, IsAnyTooLong, RootsRefused}
+use Rattle.dagcbor_store.specs.Roots.{JoinsRoots, AddsInTurn, KeepsRoots, MayKeepRoots, IsRootAdded, RootRefused, AreRootsAdded, StandsBehind, IsAnyTooLong, RootsRefused}
 use Rattle.dagcbor_store.specs.declared.error.StoreRefusal.{StoreRefusal}
 use Rattle.dagcbor_store.specs.declared.error.StoreRefusal.TheVariants as refusal
 use Rattle.dagcbor_store.proofs.Adding.{KeepsLast, fails_behind}
@@ -17,8 +17,8 @@ use Rattle.dagcbor_store.proofs.Unlisted.{item_among}
 
 -- ---- names
 
-in_turn_push : (old names mid : List CidParts) (name : CidParts) (new : List CidParts) → AddsInTurn old names mid → AddsName mid name new → AddsInTurn old (names ++ name ∷ []) new
-in_turn_push old [] mid name new h a = (new, subst (λ m. AddsName m name new) h a, refl)
+in_turn_push : (old names mid : List CidParts) (name : CidParts) (new : List CidParts) → AddsInTurn old names mid → JoinsRoots mid name new → AddsInTurn old (names ++ name ∷ []) new
+in_turn_push old [] mid name new h a = (new, subst (λ m. JoinsRoots m name new) h a, refl)
 in_turn_push old (n ∷ names) mid name new h a = (h.0, h.1, in_turn_push h.0 names mid name new h.2 a)
 
 stands_at : (names : List CidParts) (i : ℕ) (name : CidParts) → i < length names → name ≡ get_or names i name → StandsBehind (take i names) name names

@@ -19,10 +19,10 @@ use Rattle.ipld_links.specs.Reaching.{Stored, IsThere, LeadsTo, IsStepsFrom, Lea
 use Rattle.ipld_links.proofs.Members.{at_same, same_at, any_among, among_any, among_push, push_among}
 use Rattle.block_trees.specs.Rows.{name_tree, IsListed}
 use Rattle.block_trees.specs.Ends.{Quiet}
-use Rattle.dagcbor_store.specs.Stored.{HoldsOnly, IsNamed, IsDamaged, IsSame, Fails, GetRefused}
+use Rattle.dagcbor_store.specs.Stored.{HoldsOnly, IsNamedBy, IsDamaged, IsSame, FailsByStore, GetRefused}
 use Rattle.dagcbor_store.specs.Lost.{HoldsNoneSound}
-use Rattle.dagcbor_store.specs.Trees.{Shows}
-use Rattle.dagcbor_store.specs.Collecting.{IsLedTo, GetsSound, SoundRefused, IsShown, Fits, FindsBeside, FindRefused, AddsAll, Marks, MarksMore, MarkRefused, CollectRefused}
+use Rattle.dagcbor_store.specs.Trees.{ShowsStored}
+use Rattle.dagcbor_store.specs.Collecting.{IsRooted, GetsSound, SoundRefused, IsShownToWalk, Fits, FindsBeside, FindRefused, CollectsAll, Marks, MarksMore, MarkRefused, CollectRefused}
 use Rattle.dagcbor_store.specs.declared.error.StoreRefusal.{StoreRefusal}
 use Rattle.dagcbor_store.specs.declared.error.StoreRefusal.TheVariants as refusal
 use Rattle.dagcbor_store.proofs.Trees.{got_stored, shows_same}
@@ -81,20 +81,20 @@ leads_as s t name next e l = (l.0, (l.1.0, (l.1.1.0, (l.1.1.1.0, elim l.1.1.1.1 
 no_bytes : (t : Tree) → IsBlock [] t → ⊥
 no_bytes t h = front_nonempty [] t (whole_front h.0)
 
-pub led_on : (stored : Stored) (roots : List CidParts) (mid name : CidParts) → IsLedTo stored roots mid → LeadsTo stored mid name → IsLedTo stored roots name
+pub led_on : (stored : Stored) (roots : List CidParts) (mid name : CidParts) → IsRooted stored roots mid → LeadsTo stored mid name → IsRooted stored roots name
 led_on stored roots mid name l k = (l.0, l.1, (suc l.2.0, (mid, l.2.1, k)))
 
 -- ---- what fits
 
-got_sound : (v : View) (stored : Stored) (name : CidParts) (o : Option (List ℕ)) → Shows v stored → GetsSound v name o → stored name ≡ o
+got_sound : (v : View) (stored : Stored) (name : CidParts) (o : Option (List ℕ)) → ShowsStored v stored → GetsSound v name o → stored name ≡ o
 got_sound v stored name None shows none = got_stored v stored name None shows none
 got_sound v stored name (Some b) shows g = got_stored v stored name (Some b) shows g.0
 
-beside_fits : (v : View) (kept : BTreeSet CidParts) (stored : Stored) → Shows v stored → Fits v kept (beside kept stored)
+beside_fits : (v : View) (kept : BTreeSet CidParts) (stored : Stored) → ShowsStored v stored → Fits v kept (beside kept stored)
 beside_fits v kept stored shows name o (inl h) = beside_in kept stored name h.0 ∙ sym h.1
 beside_fits v kept stored shows name o (inr h) = beside_out kept stored name h.0 ∙ got_sound v stored name o shows h.1
 
-not_shown : (v : View) (kept : BTreeSet CidParts) (name : CidParts) (o : Option (List ℕ)) → HoldsNoneSound v name → (Among name kept.keys → ⊥) → IsShown v kept name o → ⊥
+not_shown : (v : View) (kept : BTreeSet CidParts) (name : CidParts) (o : Option (List ℕ)) → HoldsNoneSound v name → (Among name kept.keys → ⊥) → IsShownToWalk v kept name o → ⊥
 not_shown v kept name o bad out (inl h) = out h.0
 not_shown v kept name None bad out (inr h) = h.1 bad.0
 not_shown v kept name (Some b) bad out (inr h) = bad.1 b h.1.0.0 h.1.1
@@ -104,7 +104,7 @@ avoid_fits : (v : View) (kept : BTreeSet CidParts) (stored : Stored) (name : Cid
 avoid_fits v kept stored name o bad out fits q p shown = by (same_dec name q)
   where
     by : Dec (name ≡ q) → instead name o stored q ≡ p
-    by (yes e) = absurd (not_shown v kept name p bad out (subst (λ n. IsShown v kept n p) (sym e) shown))
+    by (yes e) = absurd (not_shown v kept name p bad out (subst (λ n. IsShownToWalk v kept n p) (sym e) shown))
     by (no apart) = instead_off name o stored q apart ∙ fits q p shown
 
 -- ---- steps
@@ -120,13 +120,13 @@ module _ (stored : Stored) (root : CidParts) (kept : BTreeSet CidParts) where
   back zero q e = e
   back (suc n) q k = (k.0, back n k.0 k.1, leads_as (beside kept stored) stored k.0 q (beside_out kept stored k.0 (λ m. dead_end k.0 q m k.2)) k.2)
 
-  module _ (roots : List CidParts) (known : (q : CidParts) → Among q kept.keys → IsLedTo stored roots q) where
+  module _ (roots : List CidParts) (known : (q : CidParts) → Among q kept.keys → IsRooted stored roots q) where
     -- links lead to the name beside the set, or from what is in it
-    forth : (n : ℕ) (q : CidParts) → IsStepsFrom stored root n q → IsLedTo stored roots q ⊎ IsStepsFrom (beside kept stored) root n q
+    forth : (n : ℕ) (q : CidParts) → IsStepsFrom stored root n q → IsRooted stored roots q ⊎ IsStepsFrom (beside kept stored) root n q
     forth zero q e = inr e
     forth (suc n) q k = elim (forth n k.0 k.1) [ inl led ↦ inl (led_on stored roots k.0 q led k.2) | inr s ↦ by s (among_dec kept k.0) ]
       where
-        by : IsStepsFrom (beside kept stored) root n k.0 → Dec (Among k.0 kept.keys) → IsLedTo stored roots q ⊎ IsStepsFrom (beside kept stored) root (suc n) q
+        by : IsStepsFrom (beside kept stored) root n k.0 → Dec (Among k.0 kept.keys) → IsRooted stored roots q ⊎ IsStepsFrom (beside kept stored) root (suc n) q
         by s (yes m) = inl (led_on stored roots k.0 q (known k.0 m) k.2)
         by s (no out) = inr (k.0, s, leads_as stored (beside kept stored) k.0 q (sym (beside_out kept stored k.0 out)) k.2)
 
@@ -155,24 +155,24 @@ all_sound v kept root found s name finds fits bad out far =
 
 -- ---- one root more
 
-led_wider : (stored : Stored) (roots : List CidParts) (root q : CidParts) → IsLedTo stored roots q → IsLedTo stored (roots ++ root ∷ []) q
+led_wider : (stored : Stored) (roots : List CidParts) (root q : CidParts) → IsRooted stored roots q → IsRooted stored (roots ++ root ∷ []) q
 led_wider stored roots root q l = (l.0, push_among l.0 roots root (inl l.1), l.2)
 
-led_last : (stored : Stored) (roots : List CidParts) (root q : CidParts) → LeadsFar stored root q → IsLedTo stored (roots ++ root ∷ []) q
+led_last : (stored : Stored) (roots : List CidParts) (root q : CidParts) → LeadsFar stored root q → IsRooted stored (roots ++ root ∷ []) q
 led_last stored roots root q far = (root, push_among root roots root (inr refl), far)
 
-led_either : (stored : Stored) (roots : List CidParts) (root q : CidParts) → IsLedTo stored (roots ++ root ∷ []) q → IsLedTo stored roots q ⊎ LeadsFar stored root q
+led_either : (stored : Stored) (roots : List CidParts) (root q : CidParts) → IsRooted stored (roots ++ root ∷ []) q → IsRooted stored roots q ⊎ LeadsFar stored root q
 led_either stored roots root q l = elim (among_push l.0 roots root l.1) [ inl m ↦ inl (l.0, m, l.2) | inr e ↦ inr (subst (λ r. LeadsFar stored r q) e l.2) ]
 
 pub marks_none : (v : View) (kept : BTreeSet CidParts) → kept.keys ≡ [] → Marks v [] kept
 marks_none v kept none stored shows name = ((λ m. absurd (subst (Among name) none m), λ h. absurd h.1.1), λ l. absurd l.1)
 
-module _ (v : View) (old new : BTreeSet CidParts) (root : CidParts) (found roots : List CidParts) (finds : FindsBeside v old root found) (adds : AddsAll found old new) (marks : Marks v roots old) where
-  module _ (stored : Stored) (shows : Shows v stored) where
+module _ (v : View) (old new : BTreeSet CidParts) (root : CidParts) (found roots : List CidParts) (finds : FindsBeside v old root found) (adds : CollectsAll found old new) (marks : Marks v roots old) where
+  module _ (stored : Stored) (shows : ShowsStored v stored) where
     fits : Fits v old (beside old stored)
     fits = beside_fits v old stored shows
 
-    known : (q : CidParts) → Among q old.keys → IsLedTo stored roots q
+    known : (q : CidParts) → Among q old.keys → IsRooted stored roots q
     known q m = ((marks stored shows q).0.0 m).1
 
     from_beside : (q : CidParts) → IsThere (beside old stored) q → IsThere stored q
@@ -189,13 +189,13 @@ module _ (v : View) (old new : BTreeSet CidParts) (root : CidParts) (found roots
         by (yes m) = ap is_some (beside_in old stored q m)
         by (no out) = ap is_some (beside_out old stored q out) ∙ there
 
-    marked : (q : CidParts) → Among q new.keys → IsThere stored q × IsLedTo stored (roots ++ root ∷ []) q
+    marked : (q : CidParts) → Among q new.keys → IsThere stored q × IsRooted stored (roots ++ root ∷ []) q
     marked q m = elim ((adds q).0 m) [
       | inl o ↦ let k = (marks stored shows q).0.0 o in (k.0, led_wider stored roots root q k.1)
       | inr f ↦ let k = ((finds (beside old stored) fits).lists.all q).0 f in (from_beside q k.0, led_last stored roots root q (k.1.0, back stored root old k.1.0 q k.1.1))
     ]
 
-    all_marked : (q : CidParts) → IsThere stored q × IsLedTo stored (roots ++ root ∷ []) q → Among q new.keys
+    all_marked : (q : CidParts) → IsThere stored q × IsRooted stored (roots ++ root ∷ []) q → Among q new.keys
     all_marked q h = elim (led_either stored roots root q h.1) [
       | inl led ↦ (adds q).1 (inl ((marks stored shows q).0.1 (h.0, led)))
       | inr far ↦ elim (forth stored root old roots known far.0 q far.1) [
@@ -204,7 +204,7 @@ module _ (v : View) (old new : BTreeSet CidParts) (root : CidParts) (found roots
       ]
     ]
 
-    none_bad : (q : CidParts) → IsLedTo stored (roots ++ root ∷ []) q → HoldsNoneSound v q → ⊥
+    none_bad : (q : CidParts) → IsRooted stored (roots ++ root ∷ []) q → HoldsNoneSound v q → ⊥
     none_bad q l bad = elim (led_either stored roots root q l) [
       | inl led ↦ (marks stored shows q).1 led bad
       | inr far ↦ elim (forth stored root old roots known far.0 q far.1) [
@@ -221,7 +221,7 @@ module _ (v : View) (old new : BTreeSet CidParts) (root : CidParts) (found roots
   marks_more stored shows name = ((marked stored shows name, all_marked stored shows name), none_bad stored shows name)
 
 -- the name that a walk came to, links lead to
-pub leads_beside : (v : View) (kept : BTreeSet CidParts) (root name : CidParts) (stored : Stored) → Shows v stored → ((s : Stored) → Fits v kept s → LeadsFar s root name) → LeadsFar stored root name
+pub leads_beside : (v : View) (kept : BTreeSet CidParts) (root name : CidParts) (stored : Stored) → ShowsStored v stored → ((s : Stored) → Fits v kept s → LeadsFar s root name) → LeadsFar stored root name
 leads_beside v kept root name stored shows far =
     let k = far (beside kept stored) (beside_fits v kept stored shows) in
     (k.0, back stored root kept k.0 name k.1)
@@ -259,7 +259,7 @@ more_same old mid root kept new same more roots h = marks_same old mid (roots ++
 
 -- ---- what is got, and what is shown
 
-pub sound_some : (v : View) (name : CidParts) (b : List ℕ) → HoldsOnly v name b → IsNamed name b → (IsDagCbor name → HasBlock b) → GetsSound v name (Some b)
+pub sound_some : (v : View) (name : CidParts) (b : List ℕ) → HoldsOnly v name b → IsNamedBy name b → (IsDagCbor name → HasBlock b) → GetsSound v name (Some b)
 sound_some v name b holds named read = (holds, record { by_sha256 = named.0; digest = named.1; read = read })
 
 pub sound_none : (v : View) (name : CidParts) (b : List ℕ) (r : Bool) → HoldsOnly v name b → IsDagCbor name → r ≡ false → (IsTrue r ↔ HasBlock b) → HoldsNoneSound v name
@@ -271,26 +271,26 @@ damaged_unsound v name h = (h.0, λ b s sound. h.1 b s (sound.by_sha256, sound.d
 pub not_in : (kept : BTreeSet CidParts) (name : CidParts) → set.contains cid_cmp kept name ≡ false → Among name kept.keys → ⊥
 not_in kept name f m = true≢false (sym (among_any name kept.keys m) ∙ f)
 
-pub shown_in : (v : View) (kept : BTreeSet CidParts) (name : CidParts) (b : List ℕ) → b ≡ [] → set.contains cid_cmp kept name ≡ true → IsShown v kept name (Some b)
+pub shown_in : (v : View) (kept : BTreeSet CidParts) (name : CidParts) (b : List ℕ) → b ≡ [] → set.contains cid_cmp kept name ≡ true → IsShownToWalk v kept name (Some b)
 shown_in v kept name b none t = inl (any_among name kept.keys t, ap Some none)
 
-pub shown_out : (v : View) (kept : BTreeSet CidParts) (name : CidParts) (o : Option (List ℕ)) → set.contains cid_cmp kept name ≡ false → GetsSound v name o → IsShown v kept name o
+pub shown_out : (v : View) (kept : BTreeSet CidParts) (name : CidParts) (o : Option (List ℕ)) → set.contains cid_cmp kept name ≡ false → GetsSound v name o → IsShownToWalk v kept name o
 shown_out v kept name o f g = inr (not_in kept name f, g)
 
 pub shown_else : {E : Type 0} (r : Result (Option (Vec ℕ Global)) E) (C : Type 0) (v : View) (kept : BTreeSet CidParts) (name : CidParts) → set.contains cid_cmp kept name ≡ false → IfOk r (λ o. C → GetsSound v name (option_map (λ (b : Vec ℕ Global). b.items) o))
-    → IfOk r (λ o. C → IsShown v kept name (option_map (λ (b : Vec ℕ Global). b.items) o))
+    → IfOk r (λ o. C → IsShownToWalk v kept name (option_map (λ (b : Vec ℕ Global). b.items) o))
 shown_else (Ok o) C v kept name f h = λ clean. shown_out v kept name _ f (h clean)
 shown_else (Err e) C v kept name f h = tt
 
 -- ---- sets
 
-pub all_none : (old : BTreeSet CidParts) → AddsAll [] old old
+pub all_none : (old : BTreeSet CidParts) → CollectsAll [] old old
 all_none old q = (λ m. inl m, λ h. elim h [ inl m ↦ m | inr n ↦ absurd n ])
 
-pub all_next : (names : List CidParts) (i : ℕ) (name : CidParts) (old mid new : BTreeSet CidParts) → i < length names → name ≡ get_or names i name → AddsAll (take i names) old mid → ((q : CidParts) → Among q new.keys ↔ (Among q mid.keys ⊎ (q ≡ name))) → AddsAll (take (i + 1) names) old new
+pub all_next : (names : List CidParts) (i : ℕ) (name : CidParts) (old mid new : BTreeSet CidParts) → i < length names → name ≡ get_or names i name → CollectsAll (take i names) old mid → ((q : CidParts) → Among q new.keys ↔ (Among q mid.keys ⊎ (q ≡ name))) → CollectsAll (take (i + 1) names) old new
 all_next names i name old mid new within is h put =
     let longer : take i names ++ name ∷ [] ≡ take (i + 1) names = ap (λ y. take i names ++ y ∷ []) is ∙ sym (take-suc names i name within) ∙ ap (λ n. take n names) (sym (add-one i)) in
-    subst (λ ns. AddsAll ns old new) longer (λ q. (
+    subst (λ ns. CollectsAll ns old new) longer (λ q. (
       λ m. elim ((put q).0 m) [
         | inl n ↦ elim ((h q).0 n) [ inl o ↦ inl o | inr f ↦ inr (push_among q (take i names) name (inl f)) ]
         | inr e ↦ inr (push_among q (take i names) name (inr e))
@@ -301,10 +301,10 @@ all_next names i name old mid new within is h put =
       ],
     ))
 
-pub all_all : (names : List CidParts) (i : ℕ) (old new : BTreeSet CidParts) → i ≤ length names → length names ≤ i → AddsAll (take i names) old new → AddsAll names old new
+pub all_all : (names : List CidParts) (i : ℕ) (old new : BTreeSet CidParts) → i ≤ length names → length names ≤ i → CollectsAll (take i names) old new → CollectsAll names old new
 all_all names i old new below end h =
     let same : i ≡ length names = omega (arith, below, end) in
-    subst (λ ns. AddsAll ns old new) (ap (λ n. take n names) same ∙ take-length names) h
+    subst (λ ns. CollectsAll ns old new) (ap (λ n. take n names) same ∙ take-length names) h
 
 -- ---- refusals
 
@@ -313,19 +313,19 @@ module _ {S : Type 0} (g : Ghosts S) where
   get_sound_refused name old new (refusal.Damaged n) p = (p.0, λ clean. let k = p.1 clean in (k.1, damaged_unsound (g.view old) name k.0))
   get_sound_refused name old new told p = p
 
-  pub fails_sound : (name : CidParts) (old new : S) (told : StoreRefusal) → Fails g ⊥ old new told → SoundRefused g name old new told
+  pub fails_sound : (name : CidParts) (old new : S) (told : StoreRefusal) → FailsByStore g ⊥ old new told → SoundRefused g name old new told
   fails_sound name old new (refusal.Damaged n) f = absurd (not_damaged g f.0 n f.1)
   fails_sound name old new told f = f
 
-  pub fails_mark : (root : CidParts) (kept : BTreeSet CidParts) (old new : S) (told : StoreRefusal) → Fails g ⊥ old new told → MarkRefused g root kept old new told
+  pub fails_mark : (root : CidParts) (kept : BTreeSet CidParts) (old new : S) (told : StoreRefusal) → FailsByStore g ⊥ old new told → MarkRefused g root kept old new told
   fails_mark root kept old new (refusal.Damaged n) f = absurd (not_damaged g f.0 n f.1)
   fails_mark root kept old new told f = f
 
-  pub fails_find : (root : CidParts) (kept : BTreeSet CidParts) (old new : S) (told : StoreRefusal) → Fails g ⊥ old new told → FindRefused g root kept old new told
+  pub fails_find : (root : CidParts) (kept : BTreeSet CidParts) (old new : S) (told : StoreRefusal) → FailsByStore g ⊥ old new told → FindRefused g root kept old new told
   fails_find root kept old new (refusal.Damaged n) f = absurd (not_damaged g f.0 n f.1)
   fails_find root kept old new told f = f
 
-  pub fails_collect : (roots : List CidParts) (old new : S) (told : StoreRefusal) → Fails g ⊥ old new told → CollectRefused g roots old new told
+  pub fails_collect : (roots : List CidParts) (old new : S) (told : StoreRefusal) → FailsByStore g ⊥ old new told → CollectRefused g roots old new told
   fails_collect roots old new (refusal.Damaged n) f = absurd (not_damaged g f.0 n f.1)
   fails_collect roots old new told f = f
 

@@ -15,11 +15,11 @@ use Rattle.dagcbor_car.specs.declared.error.CarError.{CarError}
 use Rattle.dagcbor_car.specs.declared.error.CarError.TheVariants.{OutOfMemory}
 use Rattle.dagcbor_car.proofs.Places.{IsPlace, place_begun, place_more, place_front, place_whole, place_end, ended, ends_same}
 use Rattle.ipld_links.specs.Sound.{IsSound}
-use Rattle.dagcbor_store.specs.Stored.{IsUndone, Fails}
+use Rattle.dagcbor_store.specs.Stored.{IsUndone, FailsByStore}
 use Rattle.dagcbor_store.specs.Roots.{GainsRoots, IsAnyTooLong, RootsRefused}
 use Rattle.dagcbor_store.specs.declared.error.StoreRefusal.{StoreRefusal}
 use Rattle.dagcbor_store.specs.declared.error.StoreRefusal.TheVariants as kind
-use Rattle.dagcbor_store.specs.Cars.{TellsOfFile, FileRefused, IsReadTo, IsRead, Adds, NextRefused, AddRefused, ReadRefused, StopsAt, RootsNotKept, HoldsSections, MayLeave, TellsOfRun, TakesBlock, of_block, of_refusal}
+use Rattle.dagcbor_store.specs.Cars.{TellsOfFile, FileRefused, IsReadTo, IsRead, AddsSections, NextRefused, AddRefused, ReadRefused, StopsAt, RootsNotKept, HoldsSections, MayLeave, TellsOfRun, TakesBlock, of_block, of_refusal}
 use Rattle.dagcbor_store.specs.declared.car_error.ReadCarError.{ReadCarError}
 use Rattle.dagcbor_store.specs.declared.car_error.ReadCarError.TheVariants as own
 use Rattle.block_trees.specs.Ends.{Quiet}
@@ -81,7 +81,7 @@ pub file_refused : {E : Type 0} (T : Type 0) (variant : CarError E → ReadCarEr
 file_refused T variant stands lacks e told old new tells refused memory = (e, tells, refused, lacks_alike T lacks e memory)
 
 module _ {S : Type 0} (g : Ghosts S) where
-  stops_at : {E : Type 0} (roots : List CidParts) (ss : List Section) (extent : Option ℕ) (mid new : Reading) (before held after last : S) (e : ReadCarError E) → Adds g roots ss before held → Quiet g held after → Quiet g after last → g.blamed last ≡ g.blamed after
+  stops_at : {E : Type 0} (roots : List CidParts) (ss : List Section) (extent : Option ℕ) (mid new : Reading) (before held after last : S) (e : ReadCarError E) → AddsSections g roots ss before held → Quiet g held after → Quiet g after last → g.blamed last ≡ g.blamed after
       → (IsClean (g.view last) → IsUndone (g.view after) (g.view last)) → NextRefused g (length ss) extent mid held e new after → StopsAt g ss extent mid before e new last
   stops_at roots ss extent mid new before held after last e h quiet behind blame undone (inl f) = inl f.0
   stops_at roots ss extent mid new before held after last e h quiet behind blame undone (inr p) =
@@ -114,13 +114,13 @@ module _ {S : Type 0} (g : Ghosts S) where
   ))
 
   -- the commit failed
-  pub commit_refused : {E : Type 0} (roots : List CidParts) (ss : List Section) (extent more : Option ℕ) (old mid new : Reading) (before after last : S) (told : StoreRefusal) → IsReadTo (forms roots) ss old extent mid → EndsThere extent mid more new → Adds g roots ss before after
-      → (IsClean (g.view last) → IsClean (g.view after)) → Fails g ⊥ after last told → ReadRefused {E = E} g old before (of_refusal told) new last
+  pub commit_refused : {E : Type 0} (roots : List CidParts) (ss : List Section) (extent more : Option ℕ) (old mid new : Reading) (before after last : S) (told : StoreRefusal) → IsReadTo (forms roots) ss old extent mid → EndsThere extent mid more new → AddsSections g roots ss before after
+      → (IsClean (g.view last) → IsClean (g.view after)) → FailsByStore g ⊥ after last told → ReadRefused {E = E} g old before (of_refusal told) new last
   commit_refused roots ss extent more old mid new before after last told to end h was f =
       inr (inr (roots, ss, extent, mid, h.keeps, to, inl (inr (inr (more, told, end, refl, fails_from g ⊥ ⊥ roots ss before after last told h was (λ clean none. none) f)))))
 
   -- what a crash behind the commit leaves
-  pub may_leave : (roots : List CidParts) (ss : List Section) (old new : Reading) (before after last : S) → IsRead (forms roots) ss old new → Adds g roots ss before after → (IsClean (g.view last) → IsClean (g.view after))
+  pub may_leave : (roots : List CidParts) (ss : List Section) (old new : Reading) (before after last : S) → IsRead (forms roots) ss old new → AddsSections g roots ss before after → (IsClean (g.view last) → IsClean (g.view after))
       → ((db : Trees) → g.recovers last db → (db ≡ (g.view after).trees) ⊎ g.recovers after db)
       → (db : Trees) → g.recovers last db → g.recovers before db ⊎ (IsClean (g.view last) → MayLeave old new (g.view before).trees db)
   may_leave roots ss old new before after last read h was crash db r = elim (crash db r) [
@@ -133,7 +133,7 @@ module _ {S : Type 0} (g : Ghosts S) where
 module _ {S : Type 0} (g : Ghosts S) (roots : List CidParts) (start : Reading) (before : S) where
   -- so many were taken, and added
   abbrev IsAddedTo : List Section → Option ℕ → Reading → S → Type 0
-  IsAddedTo ss extent source it = IsReadAt (forms roots) ss start extent source × Adds g roots ss before it
+  IsAddedTo ss extent source it = IsReadAt (forms roots) ss start extent source × AddsSections g roots ss before it
 
   along : (ss more : List Section) (extent rest : Option ℕ) (source mid : Reading) (old new : S) → IsAddedTo ss extent source old → TakesEach (TakesBlock g) extent source old more rest mid new → IsAddedTo (ss ++ more) rest mid new
   along ss [] extent rest source mid old new h t =

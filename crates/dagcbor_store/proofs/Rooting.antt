@@ -16,8 +16,8 @@ use Rattle.block_trees.specs.Ends.{WritesIn, KeepsOthers, IsOfRoots}
 use Rattle.block_trees.specs.declared.entries.Added.{Added}
 use Rattle.block_trees.specs.declared.entries.Added.TheVariants.{New, Stored, NoNumber}
 use Rattle.block_trees.proofs.Rooting.{are_more}
-use Rattle.dagcbor_store.specs.Stored.{AreAllRoots, IsReady, IsToldAdded, TellsOfStore, Fails}
-use Rattle.dagcbor_store.specs.Roots.{AddsName, IsRootAdded, RootRefused, IsRootTaken}
+use Rattle.dagcbor_store.specs.Stored.{AreAllRoots, IsReady, IsToldAdded, TellsOfStore, FailsByStore}
+use Rattle.dagcbor_store.specs.Roots.{JoinsRoots, IsRootAdded, RootRefused, IsRootTaken}
 use Rattle.dagcbor_store.specs.declared.error.StoreRefusal.{StoreRefusal}
 use Rattle.dagcbor_store.specs.declared.error.StoreRefusal.TheVariants as refusal
 use Rattle.dagcbor_store.proofs.Calls.{ready_written, still_open, not_number}
@@ -81,7 +81,7 @@ done_if_clean (Ok x) C P h = h
 done_if_clean (Err e) C P h = tt
 
 adds_names : (rows new : List Row) (names : List CidParts) (c : CidParts) (added : Added) → AreCidParts c → AddsRoot rows new (cid_bytes c) added → AreRoots rows names
-    → (added ≡ NoNumber → ⊥) → (now : List CidParts) × AreRoots new now × AddsName names c now
+    → (added ≡ NoNumber → ⊥) → (now : List CidParts) × AreRoots new now × JoinsRoots names c now
 adds_names rows new names c added valid (inl k) are some = (names, subst (λ rs. AreRoots rs names) (sym k.2) are, inl (has_among rows names c are valid k.0, refl))
 adds_names rows new names c New valid (inr k) are some =
     (names ++ c ∷ [], subst (λ rs. AreRoots rs (names ++ c ∷ [])) (sym k.1.1) (are_more rows names (root_row k.1.0 (cid_bytes c)) c are (valid, (k.1.0, refl))), inr (λ m. k.0 (among_has rows names c are m), refl))
@@ -136,7 +136,7 @@ module _ {S : Type 0} (g : Ghosts S) (name : CidParts) (old new : S) where
   not_earlier stored.OutOfMemory h = cc
   not_earlier _ h = cc
 
-  pub root_failed : (told : StoreRefusal) → Fails g (IsRootTooLong (g.view old).reals (cid_bytes name)) old new told → RootRefused g name old new told
+  pub root_failed : (told : StoreRefusal) → FailsByStore g (IsRootTooLong (g.view old).reals (cid_bytes name)) old new told → RootRefused g name old new told
   root_failed refusal.NoNumber f = absurd (not_number f.0 f.1)
   root_failed refusal.EarlierVersion f = absurd (not_earlier f.0 f.1)
   root_failed _ f = f

@@ -17,8 +17,8 @@ use Rattle.ipld_links.specs.Reaching.{Stored, IsThere, NoneTwice}
 use Rattle.ipld_links.proofs.Members.{among_push, push_among}
 use Rattle.block_trees.specs.Ends.{Quiet, KeepsOthers, IsOfBlocks}
 use Rattle.block_trees.specs.Rows.{block_tree, name_tree, block_row, name_entry, name_cmp, IsStored, IsListed}
-use Rattle.dagcbor_store.specs.Stored.{IsBehind, IsNext, GivesNext, Lists, IsSame, IsTaken, IsCommitted, Fails}
-use Rattle.dagcbor_store.specs.Trees.{Shows}
+use Rattle.dagcbor_store.specs.Stored.{IsBehind, IsNext, GivesNextName, ListsName, IsSame, IsTaken, IsCommitted, FailsByStore}
+use Rattle.dagcbor_store.specs.Trees.{ShowsStored}
 use Rattle.dagcbor_store.specs.Collecting.{IsLedForm, HoldsThose, KeepsReachable, TakesOut, IsCollected, Marks, IsKeptForm, SweepsNext, IsSwept}
 use Rattle.dagcbor_store.specs.declared.error.StoreRefusal.{StoreRefusal}
 use Rattle.dagcbor_store.proofs.Adding.{KeepsLast, fails_behind}
@@ -121,7 +121,7 @@ once_more (x ∷ names) name once none = (
 )
 
 -- a name that was listed is taken out
-pub one_out : (P : List ℕ → Type 0) (old mid new : View) (c : CidParts) (count : ℕ) → HoldsThose P old.trees mid.trees → TakesOut old.trees mid.trees count → Lists mid c → IsTaken mid new c true → TakesOut old.trees new.trees (count + 1)
+pub one_out : (P : List ℕ → Type 0) (old mid new : View) (c : CidParts) (count : ℕ) → HoldsThose P old.trees mid.trees → TakesOut old.trees mid.trees count → ListsName mid c → IsTaken mid new c true → TakesOut old.trees new.trees (count + 1)
 one_out P old mid new c count those taken listed t = (
   taken.0 ++ cid_bytes c ∷ [],
   once_more taken.0 (cid_bytes c) taken.1 (λ m. ((taken.3 (cid_bytes c)).0 m).1 listed),
@@ -197,7 +197,7 @@ swept_next old mid new kept last count (c, true) h k = swept_less old mid kept l
 swept_next old mid new kept last count (c, false) h k = subst (SweptTo old new kept (Some c)) (sym (add-zero count)) (swept_same old mid kept last count c h k.0 new k.1.0 k.1.1)
 
 -- a name that is listed is taken out
-pub taken_same : (old mid new : View) (c : CidParts) (taken : Bool) → IsSame old mid → Lists old c → IsTaken mid new c taken → IsTaken old new c true
+pub taken_same : (old mid new : View) (c : CidParts) (taken : Bool) → IsSame old mid → ListsName old c → IsTaken mid new c taken → IsTaken old new c true
 taken_same old mid new c taken same listed t = record {
   was = (λ x. listed, λ l. refl);
   holds = subst (λ (u : Trees). (q d : List ℕ) → IsStored new.trees q d ↔ (IsStored u q d × (q ≡ cid_bytes c → ⊥))) same.trees t.holds;
@@ -211,7 +211,7 @@ taken_same old mid new c taken same listed t = record {
   broken = t.broken ∙ same.broken;
 }
 
-pub swept_all : (old mid new : View) (kept : BTreeSet CidParts) (last : Option CidParts) (count : ℕ) → SweptTo old mid kept last count → GivesNext mid last None → IsSame mid new → IsSwept old new kept count
+pub swept_all : (old mid new : View) (kept : BTreeSet CidParts) (last : Option CidParts) (count : ℕ) → SweptTo old mid kept last count → GivesNextName mid last None → IsSame mid new → IsSwept old new kept count
 swept_all old mid new kept last count h none same = record {
   trees = subst (HoldsThose (IsKeptForm kept) old.trees) (sym same.trees) (those_as (Stays kept last) (IsKeptForm kept) old.trees mid.trees alike h.trees);
   taken = subst (λ t. TakesOut old.trees t count) (sym same.trees) h.taken;
@@ -233,7 +233,7 @@ last_swept old now committed is_open = record { was_open = λ o. sym is_open ∙
 -- ---- the call
 
 module _ (old mid swept : View) (roots : List CidParts) (kept : BTreeSet CidParts) (count : ℕ) (same : IsSame old mid) (marks : Marks old roots kept) (h : IsSwept mid swept kept count) where
-  module _ (stored : Stored) (shows : Shows old stored) where
+  module _ (stored : Stored) (shows : ShowsStored old stored) where
     led : (q : List ℕ) → IsKeptForm kept q → IsLedForm stored roots q
     led q k = (k.0, k.1, ((marks stored shows k.0).0.0 k.2).1, k.3)
 
@@ -270,6 +270,6 @@ module _ (old mid swept : View) (roots : List CidParts) (kept : BTreeSet CidPart
 module _ {S : Type 0} (g : Ghosts S) where
   -- a failure behind names that were taken out
   pub fails_swept : (old mid new : S) (told : StoreRefusal) → Quiet g old mid → (IsClean (g.view new) → IsClean (g.view mid))
-      → (IsClean (g.view mid) → ((g.view mid).committed ≡ (g.view old).committed) × ((g.view mid).is_open ≡ (g.view old).is_open) × ((g.view mid).is_broken ≡ (g.view old).is_broken)) → Fails g ⊥ mid new told → Fails g ⊥ old new told
+      → (IsClean (g.view mid) → ((g.view mid).committed ≡ (g.view old).committed) × ((g.view mid).is_open ≡ (g.view old).is_open) × ((g.view mid).is_broken ≡ (g.view old).is_broken)) → FailsByStore g ⊥ mid new told → FailsByStore g ⊥ old new told
   fails_swept old mid new told before was same f =
       fails_behind g ⊥ ⊥ old mid new told before was (λ clean. let k = same clean in (k.2, last_swept (g.view old) (g.view mid) k.0 k.1, λ u. u)) f

@@ -19,9 +19,9 @@ use Rattle.ipld_links.proofs.Members.{push_among}
 use Rattle.ipld_links.proofs.Reaching.{none_found}
 use Rattle.dagcbor_car.proofs.Writing.{sections_left}
 use Rattle.block_trees.specs.Rows.{name_tree, IsStored, IsListed}
-use Rattle.dagcbor_store.specs.Stored.{IsNamed, HoldsOnly, GetsSome, Lists, IsDamaged, IsSame, GetRefused}
-use Rattle.dagcbor_store.specs.Walking.{AreNamed, HeaderUnwritten}
-use Rattle.dagcbor_store.specs.Trees.{Shows, OfStored, Reaches, ReachRefused, tree_bytes, AreFirstReached, WritesTree, TreeRefused, AreFirstAt, NamedRefused, NamesRefused, NamedUnwritten, WritesNames, NamesUnwritten}
+use Rattle.dagcbor_store.specs.Stored.{IsNamedBy, HoldsOnly, GetsSome, ListsName, IsDamaged, IsSame, GetRefused}
+use Rattle.dagcbor_store.specs.Walking.{AreAllNamed, HeaderUnwritten}
+use Rattle.dagcbor_store.specs.Trees.{ShowsStored, OfStored, Reaches, ReachRefused, tree_bytes, AreFirstReached, WritesTree, TreeRefused, AreFirstAt, NamedRefused, NamesRefused, NamedUnwritten, WritesNames, NamesUnwritten}
 use Rattle.dagcbor_store.specs.declared.error.StoreRefusal.{StoreRefusal}
 use Rattle.dagcbor_store.specs.declared.error.StoreRefusal.TheVariants as refusal
 use Rattle.dagcbor_store.specs.declared.car_error.WriteCarError.{WriteCarError}
@@ -34,10 +34,10 @@ use Rattle.dagcbor_store.proofs.Walking.{holds_same, damaged_same, same_itself, 
 
 -- ---- what is stored
 
-pub shows_same : (old mid : View) (stored : Stored) → IsSame old mid → Shows old stored → Shows mid stored
+pub shows_same : (old mid : View) (stored : Stored) → IsSame old mid → ShowsStored old stored → ShowsStored mid stored
 shows_same old mid stored same h = subst (λ (t : Trees). (q : CidParts) (b : List ℕ) → (stored q ≡ Some b) ↔ IsStored t (cid_bytes q) b) (sym same.trees) h
 
-pub got_stored : (v : View) (stored : Stored) (name : CidParts) (found : Option (List ℕ)) → Shows v stored → GetsSome v name found → stored name ≡ found
+pub got_stored : (v : View) (stored : Stored) (name : CidParts) (found : Option (List ℕ)) → ShowsStored v stored → GetsSome v name found → stored name ≡ found
 got_stored v stored name (Some b) shows gets = (shows name b).1 gets.0
 got_stored v stored name None shows none = nothing (stored name) refl
   where
@@ -92,10 +92,10 @@ none_there v e = nil_from_length v.items (sym v.ok.0 ∙ eqb-true v.len 0 (sym e
 pub some_there : (v : Vec CidParts Global) → false ≡ (v.len == 0) → v.items ≡ [] → ⊥
 some_there v e none = let clash : false ≡ true = e ∙ ap (λ n. n == 0) (v.ok.0 ∙ ap length none) in absurd (cc clash)
 
-pub listed_there : (v : View) (stored : Stored) (name : CidParts) → Shows v stored → IsThere stored name → Lists v name
+pub listed_there : (v : View) (stored : Stored) (name : CidParts) → ShowsStored v stored → IsThere stored name → ListsName v name
 listed_there v stored name shows there = some (stored name) refl
   where
-    some : (o : Option (List ℕ)) → stored name ≡ o → Lists v name
+    some : (o : Option (List ℕ)) → stored name ≡ o → ListsName v name
     some None e = let clash : true ≡ false = sym there ∙ ap is_some e in absurd (cc clash)
     some (Some b) e = let s = (shows name b).0 e in (s.id, s.listed)
 
@@ -119,7 +119,7 @@ module _ {S : Type 0} (g : Ghosts S) where
   -- how much of the file of these names was written
   pub record IsTreeWritten (root : CidParts) (names : List CidParts) (old : S) (before : Written) (i : ℕ) (sections : List Section) (now : Written) (mid : S) : Type 0 where
     pub header : IsHeader (cid_bytes root ∷ [])
-    pub named : AreNamed sections
+    pub named : AreAllNamed sections
     pub sections_are : AllByRecursion IsSection sections
     pub wrote : WroteAll (Some (tree_bytes root sections)) before now
     pub walked : IsClean (g.view mid) → IsSame (g.view old) (g.view mid) × OfStored (g.view old) (λ stored. sections ++ sections_at stored (drop i names) ≡ sections_at stored names)
@@ -158,11 +158,11 @@ module _ {S : Type 0} (g : Ghosts S) where
             push_at (g.view old) names ss i name b lt is (holds_same (g.view old) (g.view mid) name b w.0 n.1) w.1,
           )
 
-      pub tree_more : (name : CidParts) (b : List ℕ) → i < length names → name ≡ get_or names i name → IsNamed name b → IsSection (name, b) → WroteAll (Some (section_bytes (name, b))) now after
+      pub tree_more : (name : CidParts) (b : List ℕ) → i < length names → name ≡ get_or names i name → IsNamedBy name b → IsSection (name, b) → WroteAll (Some (section_bytes (name, b))) now after
           → (IsClean (g.view new) → IsSame (g.view mid) (g.view new) × HoldsOnly (g.view mid) name b) → IsTreeWritten root names old before (i + 1) (ss ++ (name, b) ∷ []) after new
       tree_more name b lt is named own wrote next = record {
         header = h.header;
-        named = all_more (λ (s : Section). IsNamed s.0 s.1) ss (name, b) h.named named;
+        named = all_more (λ (s : Section). IsNamedBy s.0 s.1) ss (name, b) h.named named;
         sections_are = all_more IsSection ss (name, b) h.sections_are own;
         wrote = subst (λ t. WroteAll (Some t) before after) (car_push g (cid_bytes root ∷ []) ss (name, b)) (WroteAll_then (Some (tree_bytes root ss)) (Some (section_bytes (name, b))) before now after h.wrote wrote);
         walked = more_clean name b lt is next;
@@ -184,7 +184,7 @@ module _ {S : Type 0} (g : Ghosts S) where
       pub tree_stopped : {E : Type 0} (name : CidParts) (e : WriteCarError E) → i < length names → name ≡ get_or names i name → NamedUnwritten g name mid now e after new → NamesUnwritten g root names old before e after new
       tree_stopped name (car.Write e) lt is n = (
         ss ++ (name, n.0) ∷ [],
-        all_more (λ (s : Section). IsNamed s.0 s.1) ss (name, n.0) h.named n.1,
+        all_more (λ (s : Section). IsNamedBy s.0 s.1) ss (name, n.0) h.named n.1,
         subst (λ t. Stops (Some t) before after e) (car_push g (cid_bytes root ∷ []) ss (name, n.0)) (Stops-then (Some (tree_bytes root ss)) (Some (section_bytes (name, n.0))) before now after e h.wrote n.2),
         λ clean. let k = more_clean name n.0 lt is n.3 clean in (k.0, (drop (i + 1) names, k.1)),
       )

@@ -21,33 +21,33 @@ use Rattle.ipld_links.proofs.Within.{reached_cid, not_inline}
 use Rattle.ipld_links.proofs.Members.{at_same, same_at, any_among, among_any, among_push, push_among, among_map, map_among, whole_block}
 use Rattle.sqlite_trees.specs.Tree.{Trees}
 use Rattle.block_trees.specs.Rows.{name_tree, IsListed}
-use Rattle.dagcbor_store.specs.Stored.{Lists, IsNext, GivesNext, HoldsOnly, IsSame}
+use Rattle.dagcbor_store.specs.Stored.{ListsName, IsNext, GivesNextName, HoldsOnly, IsSame}
 use Rattle.dagcbor_store.specs.Walking.{AreBlocks}
-use Rattle.dagcbor_store.specs.Lost.{IsLinked, NamesNone, ListsLost, AddsName, AddsNames, AddsLost, AddsOf, HoldsNoneSound, GrowsBy, IsReachedIn}
+use Rattle.dagcbor_store.specs.Lost.{IsLinked, NamesNone, ListsLostLinks, AddsUnlisted, AddsNames, AddsLost, AddsOf, HoldsNoneSound, GrowsByLost, IsReachedIn}
 use Rattle.dagcbor_store.proofs.Walking.{IsWalked, all_blocks}
 
 -- ---- one name
 
-pub name_put : (v : View) (name : CidParts) (old new : BTreeSet CidParts) → (Lists v name → ⊥) → ((q : CidParts) → set.contains cid_cmp new q ≡ cond (is_at (cid_cmp name) q) true (set.contains cid_cmp old q)) → AddsName v name old new
+pub name_put : (v : View) (name : CidParts) (old new : BTreeSet CidParts) → (ListsName v name → ⊥) → ((q : CidParts) → set.contains cid_cmp new q ≡ cond (is_at (cid_cmp name) q) true (set.contains cid_cmp old q)) → AddsUnlisted v name old new
 name_put v name old new none put q = (
   λ m. there (is_at (cid_cmp name) q) refl (sym (put q) ∙ among_any q new.keys m),
   λ h. any_among q new.keys (put q ∙ back h),
 )
   where
-    there : (b : Bool) → is_at (cid_cmp name) q ≡ b → cond b true (set.contains cid_cmp old q) ≡ true → Among q old.keys ⊎ ((q ≡ name) × (Lists v q → ⊥))
-    there true t m = let same = at_same name q t in inr (sym same, λ l. none (subst (Lists v) (sym same) l))
+    there : (b : Bool) → is_at (cid_cmp name) q ≡ b → cond b true (set.contains cid_cmp old q) ≡ true → Among q old.keys ⊎ ((q ≡ name) × (ListsName v q → ⊥))
+    there true t m = let same = at_same name q t in inr (sym same, λ l. none (subst (ListsName v) (sym same) l))
     there false t m = inl (any_among q old.keys m)
 
     kept : (b : Bool) {x : Bool} → x ≡ true → cond b true x ≡ true
     kept true e = refl
     kept false e = e
 
-    back : Among q old.keys ⊎ ((q ≡ name) × (Lists v q → ⊥)) → cond (is_at (cid_cmp name) q) true (set.contains cid_cmp old q) ≡ true
+    back : Among q old.keys ⊎ ((q ≡ name) × (ListsName v q → ⊥)) → cond (is_at (cid_cmp name) q) true (set.contains cid_cmp old q) ≡ true
     back (inl m) = kept (is_at (cid_cmp name) q) (among_any q old.keys m)
     back (inr u) = ap (λ b. cond b true (set.contains cid_cmp old q)) (same_at name q (sym u.0))
 
 -- a set that got one name, or none
-pub grows_put : (name : CidParts) (old new : BTreeSet CidParts) → ((q : CidParts) → set.contains cid_cmp new q ≡ cond (is_at (cid_cmp name) q) true (set.contains cid_cmp old q)) → GrowsBy (λ q. q ≡ name) old new
+pub grows_put : (name : CidParts) (old new : BTreeSet CidParts) → ((q : CidParts) → set.contains cid_cmp new q ≡ cond (is_at (cid_cmp name) q) true (set.contains cid_cmp old q)) → GrowsByLost (λ q. q ≡ name) old new
 grows_put name old new put q = (
   λ m. any_among q new.keys (put q ∙ kept (is_at (cid_cmp name) q) (among_any q old.keys m)),
   λ m. there (is_at (cid_cmp name) q) refl (sym (put q) ∙ among_any q new.keys m),
@@ -61,10 +61,10 @@ grows_put name old new put q = (
     there true t m = inr (sym (at_same name q t))
     there false t m = inl (any_among q old.keys m)
 
-pub grows_none : (IsSuch : CidParts → Type 0) (s : BTreeSet CidParts) → GrowsBy IsSuch s s
+pub grows_none : (IsSuch : CidParts → Type 0) (s : BTreeSet CidParts) → GrowsByLost IsSuch s s
 grows_none IsSuch s q = (λ m. m, λ m. inl m)
 
-pub grows_more : (P Q R : CidParts → Type 0) (old mid new : BTreeSet CidParts) → ((q : CidParts) → P q → R q) → ((q : CidParts) → Q q → R q) → GrowsBy P old mid → GrowsBy Q mid new → GrowsBy R old new
+pub grows_more : (P Q R : CidParts → Type 0) (old mid new : BTreeSet CidParts) → ((q : CidParts) → P q → R q) → ((q : CidParts) → Q q → R q) → GrowsByLost P old mid → GrowsByLost Q mid new → GrowsByLost R old new
 grows_more P Q R old mid new f g first next q = (
   λ m. (next q).0 ((first q).0 m),
   λ m. elim ((next q).1 m) [ inl was ↦ elim ((first q).1 was) [ inl o ↦ inl o | inr p ↦ inr (f q p) ] | inr p ↦ inr (g q p) ],
@@ -80,7 +80,7 @@ item_among (y ∷ ys) (suc i) x within is = inr (item_among ys i x (omega (arith
 pub names_none : (v : View) (s : BTreeSet CidParts) → AddsNames v [] s s
 names_none v s q = (inl, λ h. elim h [ inl m ↦ m | inr u ↦ absurd u.0 ])
 
-names_push : (v : View) (names : List CidParts) (name : CidParts) (old mid new : BTreeSet CidParts) → AddsNames v names old mid → AddsName v name mid new → AddsNames v (names ++ name ∷ []) old new
+names_push : (v : View) (names : List CidParts) (name : CidParts) (old mid new : BTreeSet CidParts) → AddsNames v names old mid → AddsUnlisted v name mid new → AddsNames v (names ++ name ∷ []) old new
 names_push v names name old mid new h one q = (
   λ m. elim ((one q).0 m) [
     | inl n ↦ elim ((h q).0 n) [ inl o ↦ inl o | inr u ↦ inr (push_among q names name (inl u.0), u.1) ]
@@ -95,7 +95,7 @@ names_push v names name old mid new h one q = (
   ],
 )
 
-pub names_next : (v : View) (names : List CidParts) (i : ℕ) (name : CidParts) (old mid new : BTreeSet CidParts) → i < length names → name ≡ get_or names i name → AddsNames v (take i names) old mid → AddsName v name mid new → AddsNames v (take (i + 1) names) old new
+pub names_next : (v : View) (names : List CidParts) (i : ℕ) (name : CidParts) (old mid new : BTreeSet CidParts) → i < length names → name ≡ get_or names i name → AddsNames v (take i names) old mid → AddsUnlisted v name mid new → AddsNames v (take (i + 1) names) old new
 names_next v names i name old mid new within is h one =
     let more : take i names ++ name ∷ [] ≡ take (i + 1) names = ap (λ y. take i names ++ y ∷ []) is ∙ sym (take-suc names i name within) ∙ ap (λ n. take n names) (sym (add-one i)) in
     subst (λ ns. AddsNames v ns old new) more (names_push v (take i names) name old mid new h one)
@@ -119,7 +119,7 @@ adds_lost v b names old new has first added q =
       ],
     )
 
-pub grows_linked : (b : List ℕ) (names : List CidParts) (old new : BTreeSet CidParts) → HasBlock b → AreFirstNames b names → GrowsBy (λ q. Among q names) old new → GrowsBy (IsReachedIn b) old new
+pub grows_linked : (b : List ℕ) (names : List CidParts) (old new : BTreeSet CidParts) → HasBlock b → AreFirstNames b names → GrowsByLost (λ q. Among q names) old new → GrowsByLost (IsReachedIn b) old new
 grows_linked b names old new has first grown q =
     let block = whole_block b first.1 first.0 has first.2 in
     ((grown q).0, λ m. elim ((grown q).1 m) [ inl o ↦ inl o | inr u ↦ inr (first.0, block, (first.4 q).0 u) ])
@@ -132,7 +132,7 @@ LeadsTo ss q = (s : Section) × Among s ss × IsDagCbor s.0 × ((t : Tree) × Is
 
 -- the set has the names that links in these blocks lead to which are not listed
 abbrev pub LostOf : View → List Section → BTreeSet CidParts → Type 0
-LostOf v ss s = (q : CidParts) → Among q s.keys ↔ (LeadsTo ss q × (Lists v q → ⊥))
+LostOf v ss s = (q : CidParts) → Among q s.keys ↔ (LeadsTo ss q × (ListsName v q → ⊥))
 
 pub lost_none : (v : View) (s : BTreeSet CidParts) → s.keys ≡ [] → LostOf v [] s
 lost_none v s none q = (λ m. absurd (subst (Among q) none m), λ h. absurd h.0.1)
@@ -162,7 +162,7 @@ pub lost_push : (v : View) (ss : List Section) (c : CidParts) (b : List ℕ) (ol
 lost_push v ss c b old new h (inl a) = lost_more v ss c b old new h a.0 a.1
 lost_push v ss c b old new h (inr a) = subst (LostOf v (ss ++ (c, b) ∷ [])) (sym a.1) (lost_skip v ss c b old h a.0)
 
-pub lists_lost : (v : View) (last : Option CidParts) (ss : List Section) (s : BTreeSet CidParts) (links : Vec CidParts Global) → IsWalked v last ss → GivesNext v last None → LostOf v ss s → IsStrictlySortedBy cid_cmp links.items × (links.items ≡ s.keys) → ListsLost v links.items
+pub lists_lost : (v : View) (last : Option CidParts) (ss : List Section) (s : BTreeSet CidParts) (links : Vec CidParts Global) → IsWalked v last ss → GivesNextName v last None → LostOf v ss s → IsStrictlySortedBy cid_cmp links.items × (links.items ≡ s.keys) → ListsLostLinks v links.items
 lists_lost v last ss s links walked none h listed = (listed.0, λ form. (there form, back form))
   where
     blocks : AreBlocks v ss
@@ -188,7 +188,7 @@ lists_lost v last ss s links walked none h listed = (listed.0, λ form. (there f
 
 -- ---- the same view
 
-pub name_same : (old mid : View) (name : CidParts) (s t : BTreeSet CidParts) → IsSame old mid → AddsName mid name s t → AddsName old name s t
+pub name_same : (old mid : View) (name : CidParts) (s t : BTreeSet CidParts) → IsSame old mid → AddsUnlisted mid name s t → AddsUnlisted old name s t
 name_same old mid name s t same h = subst (λ (u : Trees). (q : CidParts) → Among q t.keys ↔ (Among q s.keys ⊎ ((q ≡ name) × (IsListed (u name_tree) (cid_bytes q) → ⊥)))) same.trees h
 
 pub lost_same : (old mid : View) (b : List ℕ) (s t : BTreeSet CidParts) → IsSame old mid → AddsLost mid b s t → AddsLost old b s t

@@ -13,11 +13,11 @@ use Rattle.ipld_links.specs.Sets.{Among}
 use Rattle.ipld_links.proofs.Members.{among_push}
 use Rattle.dagcbor_car.proofs.Places.{flat_push}
 use Rattle.block_trees.specs.Rows.{name_tree, name_cmp, IsStored, IsListed}
-use Rattle.dagcbor_store.specs.Stored.{IsNamed, IsBehind, IsNext, GivesNext, HoldsOnly, IsDamaged, IsSame, Fails, GetRefused, TellsOfStore}
+use Rattle.dagcbor_store.specs.Stored.{IsNamedBy, IsBehind, IsNext, GivesNextName, HoldsOnly, IsDamaged, IsSame, FailsByStore, GetRefused, TellsOfStore}
 use Rattle.sqlite_trees.specs.declared.error.StoreError.{StoreError}
 use Rattle.sqlite_trees.specs.declared.error.StoreError.TheVariants as stored
 use Rattle.dagcbor_store.specs.Cars.{IsNameIn, IsSectionIn}
-use Rattle.dagcbor_store.specs.Walking.{AreBefore, AreRising, AreFirstBlocks, AreBlocks, AreNamed, WalkRefused, IsOfNext, WriteRefused, HeaderUnwritten, NextUnwritten}
+use Rattle.dagcbor_store.specs.Walking.{AreBefore, AreRising, AreFirstBlocks, AreBlocks, AreAllNamed, WalkRefused, IsOfNext, WriteRefused, HeaderUnwritten, NextUnwritten}
 use Rattle.dagcbor_store.specs.declared.error.StoreRefusal.{StoreRefusal}
 use Rattle.dagcbor_store.specs.declared.error.StoreRefusal.TheVariants as refusal
 use Rattle.dagcbor_store.specs.declared.car_error.WriteCarError.{WriteCarError}
@@ -70,7 +70,7 @@ walked_more v last ss c b h n holds = record {
 pub first_blocks : (v : View) (last : Option CidParts) (ss : List Section) → IsWalked v last ss → AreFirstBlocks v ss
 first_blocks v last ss h = record { stored = h.stored; rising = h.rising; reached = h.reached }
 
-pub all_blocks : (v : View) (last : Option CidParts) (ss : List Section) → IsWalked v last ss → GivesNext v last None → AreBlocks v ss
+pub all_blocks : (v : View) (last : Option CidParts) (ss : List Section) → IsWalked v last ss → GivesNextName v last None → AreBlocks v ss
 all_blocks v last ss h none = record { stored = λ q b. (there q b, back q b); lists = lists; rising = h.rising }
   where
     lists : (q : List ℕ) → IsListed (v.trees name_tree) q → IsNameIn ss q
@@ -92,11 +92,11 @@ next_same old mid last c same h = subst (λ (t : Trees). IsNext (t name_tree) la
 pub holds_same : (old mid : View) (c : CidParts) (b : List ℕ) → IsSame old mid → HoldsOnly mid c b → HoldsOnly old c b
 holds_same old mid c b same h = subst (λ (t : Trees). IsStored t (cid_bytes c) b × ((d : List ℕ) → IsStored t (cid_bytes c) d → d ≡ b)) same.trees h
 
-pub none_same : (old mid : View) (last : Option CidParts) → IsSame old mid → GivesNext mid last None → GivesNext old last None
+pub none_same : (old mid : View) (last : Option CidParts) → IsSame old mid → GivesNextName mid last None → GivesNextName old last None
 none_same old mid last same h = subst (λ (t : Trees). (q : List ℕ) → IsListed (t name_tree) q → IsBehind last q → ⊥) same.trees h
 
 pub damaged_same : (old mid : View) (c : CidParts) → IsSame old mid → IsDamaged mid c → IsDamaged old c
-damaged_same old mid c same h = subst (λ (t : Trees). IsListed (t name_tree) (cid_bytes c) × ((b : List ℕ) → IsStored t (cid_bytes c) b → IsNamed c b → ⊥)) same.trees h
+damaged_same old mid c same h = subst (λ (t : Trees). IsListed (t name_tree) (cid_bytes c) × ((b : List ℕ) → IsStored t (cid_bytes c) b → IsNamedBy c b → ⊥)) same.trees h
 
 pub same_itself : (v : View) → IsSame v v
 same_itself v = record { trees = refl; committed = refl; is_open = refl; broken = refl }
@@ -106,7 +106,7 @@ same_then a b c p q = record { trees = q.trees ∙ p.trees; committed = q.commit
 
 module _ {S : Type 0} (g : Ghosts S) where
   -- a failure behind a call that changed nothing
-  pub fails_same : (old mid new : S) (told : StoreRefusal) → Quiet g old mid → (IsClean (g.view mid) → IsSame (g.view old) (g.view mid)) → Quiet g mid new → Fails g ⊥ mid new told → Fails g ⊥ old new told
+  pub fails_same : (old mid new : S) (told : StoreRefusal) → Quiet g old mid → (IsClean (g.view mid) → IsSame (g.view old) (g.view mid)) → Quiet g mid new → FailsByStore g ⊥ mid new told → FailsByStore g ⊥ old new told
   fails_same old mid new told before same quiet w =
       fails_behind g ⊥ ⊥ old mid new told before (λ clean. omega (arith, quiet.clean)) (λ clean. let s = same clean in (s.broken, last_same (g.view old) (g.view mid) s, λ u. u)) w
 
@@ -123,7 +123,7 @@ module _ {S : Type 0} (g : Ghosts S) where
   not_damaged stored.OutOfMemory n h = cc
   not_damaged _ n h = cc
 
-  pub fails_walk : (old new : S) (told : StoreRefusal) → Fails g ⊥ old new told → WalkRefused g old new told
+  pub fails_walk : (old new : S) (told : StoreRefusal) → FailsByStore g ⊥ old new told → WalkRefused g old new told
   fails_walk old new (refusal.Damaged n) f = absurd (not_damaged f.0 n f.1)
   fails_walk old new told f = f
 
@@ -142,7 +142,7 @@ module _ {S : Type 0} (g : Ghosts S) where
 
   pub record IsWritten (roots : List (List ℕ)) (old : S) (before : Written) (last : Option CidParts) (sections : List Section) (now : Written) (mid : S) : Type 0 where
     pub header : IsHeader roots
-    pub named : AreNamed sections
+    pub named : AreAllNamed sections
     pub sections_are : AllByRecursion IsSection sections
     pub wrote : WroteAll (Some (car_bytes roots sections)) before now
     pub walked : IsClean (g.view mid) → IsSame (g.view old) (g.view mid) × IsWalked (g.view old) last sections
@@ -161,12 +161,12 @@ module _ {S : Type 0} (g : Ghosts S) where
   pub car_push : (roots : List (List ℕ)) (ss : List Section) (s : Section) → car_bytes roots ss ++ section_bytes s ≡ car_bytes roots (ss ++ s ∷ [])
   car_push roots ss s = append_assoc (header_bytes roots) (flat_map section_bytes ss) (section_bytes s) ∙ ap (λ more. header_bytes roots ++ more) (sym (flat_push ss s))
 
-  pub written_more : (roots : List (List ℕ)) (old mid new : S) (before now after : Written) (last : Option CidParts) (ss : List Section) (c : CidParts) (b : List ℕ) → IsWritten roots old before last ss now mid → IsNamed c b → IsSection (c, b)
+  pub written_more : (roots : List (List ℕ)) (old mid new : S) (before now after : Written) (last : Option CidParts) (ss : List Section) (c : CidParts) (b : List ℕ) → IsWritten roots old before last ss now mid → IsNamedBy c b → IsSection (c, b)
       → (IsClean (g.view new) → IsSame (g.view mid) (g.view new)) → (IsClean (g.view new) → IsNext ((g.view mid).trees name_tree) last c × HoldsOnly (g.view mid) c b) → WroteAll (Some (section_bytes (c, b))) now after → Quiet g mid new
       → IsWritten roots old before (Some c) (ss ++ (c, b) ∷ []) after new
   written_more roots old mid new before now after last ss c b h named own same next wrote quiet = record {
     header = h.header;
-    named = all_more (λ (s : Section). IsNamed s.0 s.1) ss (c, b) h.named named;
+    named = all_more (λ (s : Section). IsNamedBy s.0 s.1) ss (c, b) h.named named;
     sections_are = all_more IsSection ss (c, b) h.sections_are own;
     wrote = subst (λ t. WroteAll (Some t) before after) (car_push roots ss (c, b)) (WroteAll_then (Some (car_bytes roots ss)) (Some (section_bytes (c, b))) before now after h.wrote wrote);
     walked = λ clean.
@@ -191,7 +191,7 @@ module _ {S : Type 0} (g : Ghosts S) where
       → NextUnwritten g last mid now e after new → WriteRefused g roots old before e after new
   next_unwritten roots old mid new before now after last ss (car.Write e) h quiet n = (
     ss ++ n.0 ∷ [],
-    all_more (λ (s : Section). IsNamed s.0 s.1) ss n.0 h.named n.1,
+    all_more (λ (s : Section). IsNamedBy s.0 s.1) ss n.0 h.named n.1,
     λ clean.
         let w = h.walked (omega (arith, quiet.clean)) in
         let k = n.2 clean in (

@@ -23,7 +23,7 @@ use Rattle.dagcbor_car.specs.declared.each.ReadCarError.TheVariants as stop
 use Rattle.block_trees.specs.Rows.{block_tree, name_tree, IsStored, IsListed, FreesId, IsTooLong}
 use Rattle.block_trees.specs.RootRows.{root_tree}
 use Rattle.block_trees.specs.Ends.{Quiet, KeepsOthers, IsOfBlocks, IsOfRoots}
-use Rattle.dagcbor_store.specs.Stored.{IsUnfit, IsAdded, Fails, PutRefused}
+use Rattle.dagcbor_store.specs.Stored.{IsUnfit, IsAdded, FailsByStore, PutRefused}
 use Rattle.dagcbor_store.specs.Roots.{GainsRoots, MayKeepRoots, StandsBehind, LacksNumber, IsAnyTooLong, RootsRefused}
 use Rattle.dagcbor_store.specs.declared.error.StoreRefusal.{StoreRefusal}
 use Rattle.dagcbor_store.specs.declared.error.StoreRefusal.TheVariants as refusal
@@ -121,7 +121,7 @@ RootNumbersEnd old names = (mid : Trees) × (first : List CidParts) × (name : C
 abbrev pub RootsNotKept : {S : Type 0} → Ghosts S → List CidParts → S → S → StoreRefusal → Type 0
 RootsNotKept g roots old new refusal.EarlierVersion = ((g.view old).shape root_tree ≡ shape.Absent) × (roots ≢ [])
 RootsNotKept g roots old new refusal.NoNumber = IsClean (g.view new) → RootNumbersEnd (g.view old).trees roots
-RootsNotKept g roots old new told = Fails g (IsAnyTooLong (g.view old).reals roots) old new told
+RootsNotKept g roots old new told = FailsByStore g (IsAnyTooLong (g.view old).reals roots) old new told
 
 -- a row has the greatest number, behind these sections
 abbrev pub NumbersEnd : Trees → List Section → Type 0
@@ -132,7 +132,7 @@ NumbersEnd old sections = (mid : Trees) × HoldsSections old mid sections × Fre
 abbrev pub NotKept : {S : Type 0} → Ghosts S → List Section → Section → S → S → StoreRefusal → Type 0
 NotKept g sections s old new told = IsUnfit s told
     ⊎ (((told ≡ refusal.NoNumber) × (IsClean (g.view new) → NumbersEnd (g.view old).trees sections))
-    ⊎ Fails g (IsTooLong (g.view old).reals (cid_bytes s.0) s.1) old new told)
+    ⊎ FailsByStore g (IsTooLong (g.view old).reals (cid_bytes s.0) s.1) old new told)
 
 -- why no section more is kept, behind these: none stands there, though bytes do, or are wanting; the next, which was
 -- taken, is refused; or it is the end, and the commit failed
@@ -142,7 +142,7 @@ StopsAt g sections extent old before e new after =
     ⊎ (((s : Section) × (more : Option ℕ) × (told : StoreRefusal) × TakesSectionBytes extent old s more new
     × (e ≡ of_block (length sections) s.0 told) × NotKept g sections s before after told)
     ⊎ ((more : Option ℕ) × (told : StoreRefusal) × EndsThere extent old more new × (e ≡ of_refusal told)
-    × Fails g ⊥ before after told))
+    × FailsByStore g ⊥ before after told))
 
 -- the call gives up behind so many sections
 abbrev pub AreTooMany : {E : Type 0} → List Section → ReadCarError E → Type 0
@@ -175,7 +175,7 @@ pub record IsAddedAll (old new : View) (roots : List CidParts) (sections : List 
   pub broken : new.is_broken ≡ old.is_broken
 
 -- these roots and sections were added, and no fault is forgotten
-pub record Adds {S : Type 0} (g : Ghosts S) (roots : List CidParts) (sections : List Section) (old new : S) : Type 0 where
+pub record AddsSections {S : Type 0} (g : Ghosts S) (roots : List CidParts) (sections : List Section) (old new : S) : Type 0 where
   pub keeps : MayKeepRoots (g.view old) roots
   pub added : IsClean (g.view new) → IsAddedAll (g.view old) (g.view new) roots sections
   pub quiet : Quiet g old new
@@ -199,7 +199,7 @@ AddRefused {S} g old before e new after = (FileRefused car.Header RefusesStart (
     ⊎ (((roots : List CidParts) × (extent : Option ℕ) × (told : StoreRefusal)
     × IsReadTo (forms roots) [] old extent new × (e ≡ of_refusal told) × RootsRefused g roots before after told)
     ⊎ ((roots : List CidParts) × (sections : List Section) × (extent : Option ℕ) × (mid : Reading) × (held : S)
-    × IsReadTo (forms roots) sections old extent mid × Adds g roots sections before held
+    × IsReadTo (forms roots) sections old extent mid × AddsSections g roots sections before held
     × Quiet g held after
     × (NextRefused g (length sections) extent mid held e new after ⊎ ((new ≡ mid) × (after ≡ held) × AreTooMany sections e))))
 
@@ -209,5 +209,5 @@ abbrev pub AddsCar : {S E : Type 0} → Ghosts S → Reading → S → Result (V
 AddsCar g old before result new after = MatchResult result
     (λ p. (sections : List Section) × (extent : Option ℕ) × (more : Option ℕ) × (mid : Reading) × (p.1 ≡ length sections)
     × IsReadTo (forms p.0.items) sections old extent mid × EndsThere extent mid more new
-    × IsRead (forms p.0.items) sections old new × Adds g p.0.items sections before after)
+    × IsRead (forms p.0.items) sections old new × AddsSections g p.0.items sections before after)
     (λ e. AddRefused g old before e new after)

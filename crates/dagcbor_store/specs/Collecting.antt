@@ -11,19 +11,19 @@ use Rattle.ipld_links.specs.Reaching.{Stored, IsThere, LeadsFar, NoneTwice, List
 use Rattle.ipld_links.specs.declared.reach.Walk.{Walk}
 use Rattle.block_trees.specs.Rows.{block_tree, name_tree, block_row, name_entry, IsStored, IsListed}
 use Rattle.block_trees.specs.Ends.{KeepsOthers, IsOfBlocks}
-use Rattle.dagcbor_store.specs.Stored.{IsNext, GivesNext, Lists, HoldsOnly, IsSame, IsTaken, Fails}
+use Rattle.dagcbor_store.specs.Stored.{IsNext, GivesNextName, ListsName, HoldsOnly, IsSame, IsTaken, FailsByStore}
 use Rattle.dagcbor_store.specs.Lost.{HoldsNoneSound}
 use Rattle.dagcbor_store.specs.Trees.{OfStored}
 use Rattle.dagcbor_store.specs.declared.error.StoreRefusal.{StoreRefusal}
 use Rattle.dagcbor_store.specs.declared.error.StoreRefusal.TheVariants as refusal
 
 -- links lead to the name from one of the roots
-abbrev pub IsLedTo : Stored → List CidParts → CidParts → Type 0
-IsLedTo stored roots name = (root : CidParts) × Among root roots × LeadsFar stored root name
+abbrev pub IsRooted : Stored → List CidParts → CidParts → Type 0
+IsRooted stored roots name = (root : CidParts) × Among root roots × LeadsFar stored root name
 
 -- the bytes are the binary form of a name that links lead to
 abbrev pub IsLedForm : Stored → List CidParts → List ℕ → Type 0
-IsLedForm stored roots q = (name : CidParts) × AreCidParts name × IsLedTo stored roots name × (cid_bytes name ≡ q)
+IsLedForm stored roots q = (name : CidParts) × AreCidParts name × IsRooted stored roots name × (cid_bytes name ≡ q)
 
 -- What is stored is what was, under the names that are so; the index has the entries that it had of these, and the
 -- table the rows that it had, but those to which the other names led.
@@ -37,7 +37,7 @@ pub record HoldsThose (IsSo : List ℕ → Type 0) (old new : Trees) : Type 0 wh
 -- What links lead to from the roots is what stands, and of that nothing is damaged.
 abbrev pub KeepsReachable : View → List CidParts → Trees → Type 0
 KeepsReachable v roots new = OfStored v (λ stored. HoldsThose (IsLedForm stored roots) v.trees new
-    × ((name : CidParts) → IsLedTo stored roots name → ¬ HoldsNoneSound v name))
+    × ((name : CidParts) → IsRooted stored roots name → ¬ HoldsNoneSound v name))
 
 -- so many names were listed, and are no more
 abbrev pub TakesOut : Trees → Trees → ℕ → Type 0
@@ -56,29 +56,29 @@ pub record IsCollected (old new : View) (roots : List CidParts) (count : ℕ) : 
 -- under some name that links lead to from the roots nothing sound is stored, and nothing has changed; or the store failed
 abbrev pub CollectRefused : {S : Type 0} → Ghosts S → List CidParts → S → S → StoreRefusal → Type 0
 CollectRefused g roots old new (refusal.Damaged n) = IsClean (g.view new) → IsSame (g.view old) (g.view new)
-    × HoldsNoneSound (g.view old) n × OfStored (g.view old) (λ stored. IsLedTo stored roots n)
-CollectRefused g roots old new told = Fails g ⊥ old new told
+    × HoldsNoneSound (g.view old) n × OfStored (g.view old) (λ stored. IsRooted stored roots n)
+CollectRefused g roots old new told = FailsByStore g ⊥ old new told
 
 -- ---- marking
 
 -- none where nothing is listed under the name, else the bytes that are stored under it, which are sound
 abbrev pub GetsSound : View → CidParts → Option (List ℕ) → Type 0
-GetsSound v name None = ¬ Lists v name
+GetsSound v name None = ¬ ListsName v name
 GetsSound v name (Some b) = HoldsOnly v name b × IsSound (name, b)
 
 -- nothing sound is stored under the name, and nothing has changed; or the store failed
 abbrev pub SoundRefused : {S : Type 0} → Ghosts S → CidParts → S → S → StoreRefusal → Type 0
 SoundRefused g name old new (refusal.Damaged n) = (n ≡ name)
     × (IsClean (g.view new) → IsSame (g.view old) (g.view new) × HoldsNoneSound (g.view old) name)
-SoundRefused g name old new told = Fails g ⊥ old new told
+SoundRefused g name old new told = FailsByStore g ⊥ old new told
 
 -- what a walk is shown: no bytes of a name in the set, and of another what is stored
-abbrev pub IsShown : View → BTreeSet CidParts → CidParts → Option (List ℕ) → Type 0
-IsShown v kept name o = (Among name kept.keys × (o ≡ Some [])) ⊎ ((¬ Among name kept.keys) × GetsSound v name o)
+abbrev pub IsShownToWalk : View → BTreeSet CidParts → CidParts → Option (List ℕ) → Type 0
+IsShownToWalk v kept name o = (Among name kept.keys × (o ≡ Some [])) ⊎ ((¬ Among name kept.keys) × GetsSound v name o)
 
 -- it has what a walk is shown of each name
 abbrev pub Fits : View → BTreeSet CidParts → Stored → Type 0
-Fits v kept stored = (name : CidParts) (o : Option (List ℕ)) → IsShown v kept name o → stored name ≡ o
+Fits v kept stored = (name : CidParts) (o : Option (List ℕ)) → IsShownToWalk v kept name o → stored name ≡ o
 
 -- the name is visited, with what is shown of it
 abbrev pub VisitsShown : View → BTreeSet CidParts → CidParts → Walk → Walk → Type 0
@@ -94,18 +94,18 @@ abbrev pub FindRefused : {S : Type 0} → Ghosts S → CidParts → BTreeSet Cid
 FindRefused g root kept old new (refusal.Damaged n) = IsClean (g.view new) → IsSame (g.view old) (g.view new)
     × HoldsNoneSound (g.view old) n
     × ((stored : Stored) → Fits (g.view old) kept stored → LeadsFar stored root n)
-FindRefused g root kept old new told = Fails g ⊥ old new told
+FindRefused g root kept old new told = FailsByStore g ⊥ old new told
 
 -- the names are put into the set
-abbrev pub AddsAll : List CidParts → BTreeSet CidParts → BTreeSet CidParts → Type 0
-AddsAll names old new = (q : CidParts) → Among q new.keys ↔ (Among q old.keys ⊎ Among q names)
+abbrev pub CollectsAll : List CidParts → BTreeSet CidParts → BTreeSet CidParts → Type 0
+CollectsAll names old new = (q : CidParts) → Among q new.keys ↔ (Among q old.keys ⊎ Among q names)
 
 -- the set has the names that links lead to from the roots and under which bytes are stored, and of what they lead to
 -- nothing is damaged
 abbrev pub Marks : View → List CidParts → BTreeSet CidParts → Type 0
 Marks v roots kept = OfStored v (λ stored. (name : CidParts)
-    → (Among name kept.keys ↔ (IsThere stored name × IsLedTo stored roots name))
-    × (IsLedTo stored roots name → ¬ HoldsNoneSound v name))
+    → (Among name kept.keys ↔ (IsThere stored name × IsRooted stored roots name))
+    × (IsRooted stored roots name → ¬ HoldsNoneSound v name))
 
 -- the set has what one root more leads to, too
 abbrev pub MarksMore : View → CidParts → BTreeSet CidParts → BTreeSet CidParts → Type 0
@@ -116,7 +116,7 @@ abbrev pub MarkRefused : {S : Type 0} → Ghosts S → CidParts → BTreeSet Cid
 MarkRefused g root kept old new (refusal.Damaged n) = IsClean (g.view new) → IsSame (g.view old) (g.view new)
     × HoldsNoneSound (g.view old) n
     × ((roots : List CidParts) → Marks (g.view old) roots kept → OfStored (g.view old) (λ stored. LeadsFar stored root n))
-MarkRefused g root kept old new told = Fails g ⊥ old new told
+MarkRefused g root kept old new told = FailsByStore g ⊥ old new told
 
 -- ---- sweeping
 
@@ -126,7 +126,7 @@ IsKeptForm kept q = (name : CidParts) × AreCidParts name × Among name kept.key
 
 -- no name comes behind the last one; or the first is in the set, and nothing has changed; or it is not, and is taken out
 abbrev pub SweepsNext : View → View → Option CidParts → BTreeSet CidParts → Option (CidParts × Bool) → Type 0
-SweepsNext old new last kept None = GivesNext old last None × IsSame old new
+SweepsNext old new last kept None = GivesNextName old last None × IsSame old new
 SweepsNext old new last kept (Some p) = IsNext (old.trees name_tree) last p.0 × MatchBool p.1
     ((¬ Among p.0 kept.keys) × IsTaken old new p.0 true)
     (Among p.0 kept.keys × IsSame old new)

@@ -14,7 +14,7 @@ use Rattle.ipld_links.specs.Sound.{IsSound}
 use Rattle.ipld_links.specs.Sets.{Among}
 use Rattle.ipld_links.specs.Within.{IsInlineForm, IsReached, IsReachedName}
 use Rattle.block_trees.specs.Rows.{name_tree, IsListed}
-use Rattle.dagcbor_store.specs.Stored.{IsNext, GivesNext, Lists, Holds, HoldsOnly, IsSame, Fails}
+use Rattle.dagcbor_store.specs.Stored.{IsNext, GivesNextName, ListsName, Holds, HoldsOnly, IsSame, FailsByStore}
 use Rattle.dagcbor_store.specs.declared.error.StoreRefusal.{StoreRefusal}
 use Rattle.dagcbor_store.specs.declared.error.StoreRefusal.TheVariants as refusal
 
@@ -28,22 +28,22 @@ abbrev pub NamesNone : List ℕ → View → Type 0
 NamesNone form v = ¬ IsInlineForm form × ¬ IsListed (v.trees name_tree) form
 
 -- the links in stored blocks of DAG-CBOR that name nothing that is listed, each once, in their order
-abbrev pub ListsLost : View → List CidParts → Type 0
-ListsLost v links = IsStrictlySortedBy cid_cmp links
+abbrev pub ListsLostLinks : View → List CidParts → Type 0
+ListsLostLinks v links = IsStrictlySortedBy cid_cmp links
     × ((form : List ℕ) → Among form (forms links) ↔ (IsLinked form v × NamesNone form v))
 
 -- under the name nothing is stored that is sound under it
 abbrev pub HoldsNoneSound : View → CidParts → Type 0
-HoldsNoneSound v name = Lists v name × ((b : List ℕ) → Holds v name b → IsSound (name, b) → ⊥)
+HoldsNoneSound v name = ListsName v name × ((b : List ℕ) → Holds v name b → IsSound (name, b) → ⊥)
 
 -- under some name nothing sound is stored, and nothing has changed; or the store failed
 abbrev pub LostRefused : {S : Type 0} → Ghosts S → S → S → StoreRefusal → Type 0
 LostRefused g old new (refusal.Damaged n) = IsClean (g.view new) → HoldsNoneSound (g.view old) n × IsSame (g.view old) (g.view new)
-LostRefused g old new told = Fails g ⊥ old new told
+LostRefused g old new told = FailsByStore g ⊥ old new told
 
 -- the set keeps what it had, and has no name more but such
-abbrev pub GrowsBy : (CidParts → Type 0) → BTreeSet CidParts → BTreeSet CidParts → Type 0
-GrowsBy IsSuch old new = (q : CidParts) → (Among q old.keys → Among q new.keys)
+abbrev pub GrowsByLost : (CidParts → Type 0) → BTreeSet CidParts → BTreeSet CidParts → Type 0
+GrowsByLost IsSuch old new = (q : CidParts) → (Among q old.keys → Among q new.keys)
     × (Among q new.keys → Among q old.keys ⊎ IsSuch q)
 
 -- links in the block lead to the name
@@ -53,17 +53,17 @@ IsReachedIn b q = (t : Tree) × IsBlock b t × IsReachedName q (links_of t)
 -- ---- steps
 
 -- the name is put into the set where it is not listed
-abbrev pub AddsName : View → CidParts → BTreeSet CidParts → BTreeSet CidParts → Type 0
-AddsName v name old new = (q : CidParts) → Among q new.keys ↔ (Among q old.keys ⊎ ((q ≡ name) × ¬ Lists v q))
+abbrev pub AddsUnlisted : View → CidParts → BTreeSet CidParts → BTreeSet CidParts → Type 0
+AddsUnlisted v name old new = (q : CidParts) → Among q new.keys ↔ (Among q old.keys ⊎ ((q ≡ name) × ¬ ListsName v q))
 
 -- those of the names that are not listed are put into the set
 abbrev pub AddsNames : View → List CidParts → BTreeSet CidParts → BTreeSet CidParts → Type 0
-AddsNames v names old new = (q : CidParts) → Among q new.keys ↔ (Among q old.keys ⊎ (Among q names × ¬ Lists v q))
+AddsNames v names old new = (q : CidParts) → Among q new.keys ↔ (Among q old.keys ⊎ (Among q names × ¬ ListsName v q))
 
 -- those of the names that the links in the block lead to which are not listed are put into the set
 abbrev pub AddsLost : View → List ℕ → BTreeSet CidParts → BTreeSet CidParts → Type 0
 AddsLost v b old new = (q : CidParts) → Among q new.keys
-    ↔ (Among q old.keys ⊎ (IsReachedIn b q × ¬ Lists v q))
+    ↔ (Among q old.keys ⊎ (IsReachedIn b q × ¬ ListsName v q))
 
 -- where the next block is of DAG-CBOR, the names that its links lead to, and that are not listed,
 -- are put into the set
@@ -71,9 +71,9 @@ abbrev pub AddsOf : View → CidParts → List ℕ → BTreeSet CidParts → BTr
 AddsOf v c b old new = (IsDagCbor c × AddsLost v b old new) ⊎ ((¬ IsDagCbor c) × (new ≡ old))
 
 -- such names of the block behind the last name are put into the set; or none comes behind it
-abbrev pub AddsLinks : View → Option CidParts → BTreeSet CidParts → Option CidParts → BTreeSet CidParts → Type 0
-AddsLinks v last old None new = GivesNext v last None × (new ≡ old)
-AddsLinks v last old (Some c) new = IsNext (v.trees name_tree) last c
+abbrev pub AddsLostLinks : View → Option CidParts → BTreeSet CidParts → Option CidParts → BTreeSet CidParts → Type 0
+AddsLostLinks v last old None new = GivesNextName v last None × (new ≡ old)
+AddsLostLinks v last old (Some c) new = IsNext (v.trees name_tree) last c
     × ((b : List ℕ) × HoldsOnly v c b × AddsOf v c b old new)
 
 -- the CIDs of a set are listed, each once, in their order

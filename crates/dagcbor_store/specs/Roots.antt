@@ -9,7 +9,7 @@ use Rattle.ipld_links.specs.Sets.{Among}
 use Rattle.block_trees.specs.Rows.{FreesId}
 use Rattle.block_trees.specs.RootRows.{root_tree, AreRoots, LeavesOut, IsRootTooLong}
 use Rattle.block_trees.specs.Ends.{KeepsOthers, IsOfRoots}
-use Rattle.dagcbor_store.specs.Stored.{IsSame, Fails}
+use Rattle.dagcbor_store.specs.Stored.{IsSame, FailsByStore}
 use Rattle.dagcbor_store.specs.declared.error.StoreRefusal.{StoreRefusal}
 use Rattle.dagcbor_store.specs.declared.error.StoreRefusal.TheVariants as refusal
 
@@ -18,13 +18,13 @@ abbrev pub HasRoots : View → List CidParts → Type 0
 HasRoots v names = AreRoots (v.trees root_tree) names
 
 -- the name is the last of the roots; or it was one, and they are the same
-abbrev pub AddsName : List CidParts → CidParts → List CidParts → Type 0
-AddsName old name new = (Among name old × (new ≡ old)) ⊎ ((¬ Among name old) × (new ≡ old ++ name ∷ []))
+abbrev pub JoinsRoots : List CidParts → CidParts → List CidParts → Type 0
+JoinsRoots old name new = (Among name old × (new ≡ old)) ⊎ ((¬ Among name old) × (new ≡ old ++ name ∷ []))
 
 -- The name is a root, behind those that there were; where it was one, nothing is changed. Each other tree is the same,
 -- and what was committed.
 pub record IsRootAdded (old new : View) (name : CidParts) : Type 0 where
-  pub roots : (names : List CidParts) → HasRoots old names → (now : List CidParts) × HasRoots new now × AddsName names name now
+  pub roots : (names : List CidParts) → HasRoots old names → (now : List CidParts) × HasRoots new now × JoinsRoots names name now
   pub same : (names : List CidParts) → HasRoots old names → Among name names → new.trees ≡ old.trees
   pub beside : KeepsOthers IsOfRoots old.trees new.trees
   pub committed : new.committed ≡ old.committed
@@ -38,14 +38,14 @@ abbrev pub RootRefused : {S : Type 0} → Ghosts S → CidParts → S → S → 
 RootRefused g name old new refusal.EarlierVersion = ((g.view old).shape root_tree ≡ shape.Absent) × (new ≡ old)
 RootRefused g name old new refusal.NoNumber = IsClean (g.view new) → FreesId ((g.view old).trees root_tree) None × IsSame (g.view old) (g.view new)
     × ((names : List CidParts) → HasRoots (g.view old) names → ¬ Among name names)
-RootRefused g name old new told = Fails g (IsRootTooLong (g.view old).reals (cid_bytes name)) old new told
+RootRefused g name old new told = FailsByStore g (IsRootTooLong (g.view old).reals (cid_bytes name)) old new told
 
 -- ---- many
 
 -- each of these names is added, one behind the other
 abbrev pub AddsInTurn : List CidParts → List CidParts → List CidParts → Type 0
 AddsInTurn old [] new = new ≡ old
-AddsInTurn old (name ∷ more) new = (mid : List CidParts) × AddsName old name mid × AddsInTurn mid more new
+AddsInTurn old (name ∷ more) new = (mid : List CidParts) × JoinsRoots old name mid × AddsInTurn mid more new
 
 -- the roots are those that there were, and then each of these that was none
 abbrev pub GainsRoots : Trees → Trees → List CidParts → Type 0
@@ -88,7 +88,7 @@ abbrev pub RootsRefused : {S : Type 0} → Ghosts S → List CidParts → S → 
 RootsRefused g names old new refusal.EarlierVersion = ((g.view old).shape root_tree ≡ shape.Absent) × (names ≢ []) × (new ≡ old)
 RootsRefused g names old new refusal.NoNumber = IsClean (g.view new) → (first : List CidParts) × (name : CidParts) × (held : View)
     × StandsBehind first name names × AreRootsAdded (g.view old) held first × LacksNumber held.trees name × IsSame held (g.view new)
-RootsRefused g names old new told = Fails g (IsAnyTooLong (g.view old).reals names) old new told
+RootsRefused g names old new told = FailsByStore g (IsAnyTooLong (g.view old).reals names) old new told
 
 -- ---- taking out
 

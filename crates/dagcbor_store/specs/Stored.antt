@@ -49,8 +49,8 @@ abbrev pub Holds : View → CidParts → List ℕ → Type 0
 Holds v name b = IsStored v.trees (cid_bytes name) b
 
 -- something is listed under the name, be it a block or not
-abbrev pub Lists : View → CidParts → Type 0
-Lists v name = IsListed (v.trees name_tree) (cid_bytes name)
+abbrev pub ListsName : View → CidParts → Type 0
+ListsName v name = IsListed (v.trees name_tree) (cid_bytes name)
 
 -- the name comes behind the last one, if there is one, in the order of bytes
 abbrev pub IsBehind : Option CidParts → List ℕ → Type 0
@@ -70,13 +70,13 @@ pub record IsNext (entries : List Row) (last : Option CidParts) (c : CidParts) :
   pub first : (q : List ℕ) → IsListed entries q → IsBehind last q → (q ≡ cid_bytes c) ⊎ (name_cmp (cid_bytes c) q ≡ Less)
 
 -- the first name behind the last one is given, or none is listed there
-abbrev pub GivesNext : View → Option CidParts → Option CidParts → Type 0
-GivesNext v last None = (q : List ℕ) → IsListed (v.trees name_tree) q → IsBehind last q → ⊥
-GivesNext v last (Some c) = IsNext (v.trees name_tree) last c
+abbrev pub GivesNextName : View → Option CidParts → Option CidParts → Type 0
+GivesNextName v last None = (q : List ℕ) → IsListed (v.trees name_tree) q → IsBehind last q → ⊥
+GivesNextName v last (Some c) = IsNext (v.trees name_tree) last c
 
 -- the bytes are those that the name names
-abbrev pub IsNamed : CidParts → List ℕ → Type 0
-IsNamed name b = IsBySha256 name × (name.digest ≡ sha256 b)
+abbrev pub IsNamedBy : CidParts → List ℕ → Type 0
+IsNamedBy name b = IsBySha256 name × (name.digest ≡ sha256 b)
 
 -- neither what the transaction sees has changed, nor what was committed
 pub record IsSame (old new : View) : Type 0 where
@@ -105,8 +105,8 @@ TellsOfStore stored.Unstorable told = told ≡ refusal.TooLong
 TellsOfStore e told = told ≡ refusal.Disk e
 
 -- The store failed, by the cause that it named, and what was not committed is undone.
-abbrev pub Fails : {S : Type 0} → Ghosts S → Type 0 → S → S → StoreRefusal → Type 0
-Fails g too_long old new told = (e : StoreError) × TellsOfStore e told × Tells (g.blamed new) e
+abbrev pub FailsByStore : {S : Type 0} → Ghosts S → Type 0 → S → S → StoreRefusal → Type 0
+FailsByStore g too_long old new told = (e : StoreError) × TellsOfStore e told × Tells (g.blamed new) e
     × (IsClean (g.view new) → HasCause (g.view old) (MoreFaults (g.faults old) (g.faults new)) too_long e × IsUndone (g.view old) (g.view new))
 
 -- ---- getting
@@ -117,22 +117,22 @@ HoldsOnly v name b = Holds v name b × ((d : List ℕ) → Holds v name d → d 
 
 -- none where nothing is listed under the name, else the bytes that are stored under it
 abbrev pub GetsSome : View → CidParts → Option (List ℕ) → Type 0
-GetsSome v name None = Lists v name → ⊥
+GetsSome v name None = ListsName v name → ⊥
 GetsSome v name (Some b) = HoldsOnly v name b
 
 -- the name is listed, and no bytes that it names are stored under it
 abbrev pub IsDamaged : View → CidParts → Type 0
-IsDamaged v name = Lists v name × ((b : List ℕ) → Holds v name b → IsNamed name b → ⊥)
+IsDamaged v name = ListsName v name × ((b : List ℕ) → Holds v name b → IsNamedBy name b → ⊥)
 
 abbrev pub GetRefused : {S : Type 0} → Ghosts S → CidParts → S → S → StoreRefusal → Type 0
 GetRefused g name old new (refusal.Damaged n) = (n ≡ name) × (IsClean (g.view new) → IsDamaged (g.view old) name × IsSame (g.view old) (g.view new))
-GetRefused g name old new told = Fails g ⊥ old new told
+GetRefused g name old new told = FailsByStore g ⊥ old new told
 
 -- what was found is answered where it is what the name names
-abbrev pub IsVerified : CidParts → Found → Result (Option (Vec ℕ Global)) StoreRefusal → Type 0
-IsVerified name Nothing r = r ≡ Ok None
-IsVerified name NoRow r = r ≡ Err (refusal.Damaged name)
-IsVerified name (Block v) r = ((r ≡ Ok (Some v)) × IsNamed name v.items) ⊎ ((r ≡ Err (refusal.Damaged name)) × (IsNamed name v.items → ⊥))
+abbrev pub AnswersVerified : CidParts → Found → Result (Option (Vec ℕ Global)) StoreRefusal → Type 0
+AnswersVerified name Nothing r = r ≡ Ok None
+AnswersVerified name NoRow r = r ≡ Err (refusal.Damaged name)
+AnswersVerified name (Block v) r = ((r ≡ Ok (Some v)) × IsNamedBy name v.items) ⊎ ((r ≡ Err (refusal.Damaged name)) × (IsNamedBy name v.items → ⊥))
 
 -- a block was refused only for want of a number
 abbrev pub IsToldAdded : Added → Result (Unit {0}) StoreRefusal → Type 0
@@ -196,7 +196,7 @@ pub record IsPut (old new : View) (name : CidParts) (b : List ℕ) : Type 0 wher
 -- has the entries that it had of the others, and the table the rows that it had, but that to which the name led; each
 -- other tree is the same
 pub record IsTaken (old new : View) (name : CidParts) (taken : Bool) : Type 0 where
-  pub was : IsTrue taken ↔ Lists old name
+  pub was : IsTrue taken ↔ ListsName old name
   pub holds : (q d : List ℕ) → IsStored new.trees q d ↔ (IsStored old.trees q d × (q ≢ cid_bytes name))
   pub lists : (q : List ℕ) → IsListed (new.trees name_tree) q ↔ (IsListed (old.trees name_tree) q × (q ≢ cid_bytes name))
   pub entries : (id : ℤ) (q : List ℕ) → Among (name_entry q id) (new.trees name_tree)
@@ -212,4 +212,4 @@ pub record IsTaken (old new : View) (name : CidParts) (taken : Bool) : Type 0 wh
 -- The bytes are no block under the name, and nothing is changed; a row has the greatest number; or the store failed.
 abbrev pub PutRefused : {S : Type 0} → Ghosts S → Section → S → S → StoreRefusal → Type 0
 PutRefused g s old new refusal.NoNumber = IsClean (g.view new) → FreesId ((g.view old).trees block_tree) None × IsSame (g.view old) (g.view new)
-PutRefused g s old new told = (IsUnfit s told × (new ≡ old)) ⊎ Fails g (IsTooLong (g.view old).reals (cid_bytes s.0) s.1) old new told
+PutRefused g s old new told = (IsUnfit s told × (new ≡ old)) ⊎ FailsByStore g (IsTooLong (g.view old).reals (cid_bytes s.0) s.1) old new told

@@ -11,8 +11,8 @@ use Rattle.dagcbor_car.specs.Reached.{sections_at}
 use Rattle.ipld_links.specs.declared.reach.Reached.{Reached}
 use Rattle.ipld_links.specs.declared.reach.Walk.{Walk}
 use Rattle.block_trees.specs.Rows.{IsStored}
-use Rattle.dagcbor_store.specs.Stored.{IsNamed, HoldsOnly, Lists, IsDamaged, IsSame, Fails}
-use Rattle.dagcbor_store.specs.Walking.{AreNamed, UnsentWithoutMemory}
+use Rattle.dagcbor_store.specs.Stored.{IsNamedBy, HoldsOnly, ListsName, IsDamaged, IsSame, FailsByStore}
+use Rattle.dagcbor_store.specs.Walking.{AreAllNamed, UnsentWithoutMemory}
 use Rattle.dagcbor_store.specs.declared.error.StoreRefusal.{StoreRefusal}
 use Rattle.dagcbor_store.specs.declared.error.StoreRefusal.TheVariants as refusal
 use Rattle.dagcbor_store.specs.declared.car_error.WriteCarError.{WriteCarError}
@@ -21,12 +21,12 @@ use Rattle.dagcbor_store.specs.declared.car_error.WriteTreeError.{WriteTreeError
 use Rattle.dagcbor_store.specs.declared.car_error.WriteTreeError.TheVariants as tree
 
 -- it has the bytes that are stored under each name
-abbrev pub Shows : View → Stored → Type 0
-Shows v stored = (q : CidParts) (b : List ℕ) → (stored q ≡ Some b) ↔ IsStored v.trees (cid_bytes q) b
+abbrev pub ShowsStored : View → Stored → Type 0
+ShowsStored v stored = (q : CidParts) (b : List ℕ) → (stored q ≡ Some b) ↔ IsStored v.trees (cid_bytes q) b
 
 -- that is so of the bytes that are stored under each name
 abbrev pub OfStored : View → (Stored → Type 0) → Type 0
-OfStored v IsSo = (stored : Stored) → Shows v stored → IsSo stored
+OfStored v IsSo = (stored : Stored) → ShowsStored v stored → IsSo stored
 
 -- the names of the blocks that links lead to from the root, and those that are lost
 abbrev pub Reaches : View → CidParts → Reached → Type 0
@@ -36,7 +36,7 @@ Reaches v root r = OfStored v (λ stored. ListsReachable stored root r.found.ite
 abbrev pub ReachRefused : {S : Type 0} → Ghosts S → CidParts → S → S → StoreRefusal → Type 0
 ReachRefused g root old new (refusal.Damaged n) = IsClean (g.view new) → IsSame (g.view old) (g.view new)
     × OfStored (g.view old) (λ stored. IsDamaged (g.view old) n × LeadsFar stored root n)
-ReachRefused g root old new told = Fails g ⊥ old new told
+ReachRefused g root old new told = FailsByStore g ⊥ old new told
 
 -- the name is visited, with the bytes that are stored under it
 abbrev pub VisitsStored : View → CidParts → Walk → Walk → Type 0
@@ -59,7 +59,7 @@ AreFirstReached stored root sections = (more : List Section) × AreReached store
 
 -- The root leads somewhere, and the file of the stored blocks that links lead to is appended; the others are lost.
 abbrev pub WritesTree : {S : Type 0} → Ghosts S → CidParts → S → Written → List CidParts → Written → S → Type 0
-WritesTree g root old before lost after new = (sections : List Section) × AreNamed sections
+WritesTree g root old before lost after new = (sections : List Section) × AreAllNamed sections
     × WroteAll (Some (tree_bytes root sections)) before after
     × IsCar (tree_bytes root sections) (cid_bytes root ∷ []) sections
     × (IsClean (g.view new) → IsSame (g.view old) (g.view new) × OfStored (g.view old) (λ stored. ¬ IsLost stored root
@@ -70,12 +70,12 @@ WritesTree g root old before lost after new = (sections : List Section) × AreNa
 abbrev pub TreeRefused : {S E : Type 0} → Ghosts S → CidParts → S → Written → WriteTreeError E → Written → S → Type 0
 TreeRefused g root old before tree.NotStored after new = (after ≡ before)
     × (IsClean (g.view new) → IsSame (g.view old) (g.view new) × OfStored (g.view old) (λ stored. IsLost stored root))
-TreeRefused g root old before (tree.Unwritten (car.Write e)) after new = (sections : List Section) × AreNamed sections
+TreeRefused g root old before (tree.Unwritten (car.Write e)) after new = (sections : List Section) × AreAllNamed sections
     × Stops (Some (tree_bytes root sections)) before after e
     × (IsClean (g.view new) → IsSame (g.view old) (g.view new)
     × OfStored (g.view old) (λ stored. ¬ IsLost stored root × AreFirstReached stored root sections))
 TreeRefused g root old before (tree.Unwritten (car.Store told)) after new = ReachRefused g root old new told
-    × ((after ≡ before) ⊎ ((sections : List Section) × AreNamed sections
+    × ((after ≡ before) ⊎ ((sections : List Section) × AreAllNamed sections
     × WroteAll (Some (tree_bytes root sections)) before after
     × (IsClean (g.view new) → OfStored (g.view old) (λ stored. ¬ IsLost stored root × AreFirstReached stored root sections))))
 
@@ -94,19 +94,19 @@ AreFirstAt v names sections = (rest : List CidParts)
 -- under the name is no block, or a damaged one, and nothing has changed; or the store failed
 abbrev pub NamedRefused : {S : Type 0} → Ghosts S → CidParts → S → S → StoreRefusal → Type 0
 NamedRefused g name old new (refusal.Damaged n) = (n ≡ name)
-    × (IsClean (g.view new) → IsSame (g.view old) (g.view new) × (Lists (g.view old) n → IsDamaged (g.view old) n))
-NamedRefused g name old new told = Fails g ⊥ old new told
+    × (IsClean (g.view new) → IsSame (g.view old) (g.view new) × (ListsName (g.view old) n → IsDamaged (g.view old) n))
+NamedRefused g name old new told = FailsByStore g ⊥ old new told
 
 -- under one of the names is no block, or a damaged one, and nothing has changed; or the store
 -- failed
 abbrev pub NamesRefused : {S : Type 0} → Ghosts S → List CidParts → S → S → StoreRefusal → Type 0
 NamesRefused g names old new (refusal.Damaged n) = Among n names
-    × (IsClean (g.view new) → IsSame (g.view old) (g.view new) × (Lists (g.view old) n → IsDamaged (g.view old) n))
-NamesRefused g names old new told = Fails g ⊥ old new told
+    × (IsClean (g.view new) → IsSame (g.view old) (g.view new) × (ListsName (g.view old) n → IsDamaged (g.view old) n))
+NamesRefused g names old new told = FailsByStore g ⊥ old new told
 
 -- why the section of the name is not appended
 abbrev pub NamedUnwritten : {S E : Type 0} → Ghosts S → CidParts → S → Written → WriteCarError E → Written → S → Type 0
-NamedUnwritten g name old before (car.Write e) after new = (b : List ℕ) × IsNamed name b
+NamedUnwritten g name old before (car.Write e) after new = (b : List ℕ) × IsNamedBy name b
     × Stops (Some (section_bytes (name, b))) before after e
     × (IsClean (g.view new) → IsSame (g.view old) (g.view new) × HoldsOnly (g.view old) name b)
 NamedUnwritten g name old before (car.Store told) after new = (after ≡ before) × NamedRefused g name old new told
@@ -114,22 +114,22 @@ NamedUnwritten g name old before (car.Store told) after new = (after ≡ before)
 -- the section of the block under the name is appended
 abbrev pub WritesNamed : {S E : Type 0} → Ghosts S → CidParts → S → Written → Result (Unit {0}) (WriteCarError E) → Written → S → Type 0
 WritesNamed g name old before result after new = MatchResult result
-    (λ _. (b : List ℕ) × IsNamed name b × IsSection (name, b) × WroteAll (Some (section_bytes (name, b))) before after
+    (λ _. (b : List ℕ) × IsNamedBy name b × IsSection (name, b) × WroteAll (Some (section_bytes (name, b))) before after
     × (IsClean (g.view new) → IsSame (g.view old) (g.view new) × HoldsOnly (g.view old) name b))
     (λ e. NamedUnwritten g name old before e after new)
 
 -- the file of the root and of the blocks under the names is appended
 abbrev pub WritesNames : {S : Type 0} → Ghosts S → CidParts → List CidParts → S → Written → Written → S → Type 0
-WritesNames g root names old before after new = (sections : List Section) × AreNamed sections
+WritesNames g root names old before after new = (sections : List Section) × AreAllNamed sections
     × WroteAll (Some (tree_bytes root sections)) before after
     × IsCar (tree_bytes root sections) (cid_bytes root ∷ []) sections
     × (IsClean (g.view new) → IsSame (g.view old) (g.view new) × OfStored (g.view old) (λ stored. sections ≡ sections_at stored names))
 
 -- why it is not appended
 abbrev pub NamesUnwritten : {S E : Type 0} → Ghosts S → CidParts → List CidParts → S → Written → WriteCarError E → Written → S → Type 0
-NamesUnwritten g root names old before (car.Write e) after new = (sections : List Section) × AreNamed sections
+NamesUnwritten g root names old before (car.Write e) after new = (sections : List Section) × AreAllNamed sections
     × Stops (Some (tree_bytes root sections)) before after e
     × (IsClean (g.view new) → IsSame (g.view old) (g.view new) × AreFirstAt (g.view old) names sections)
 NamesUnwritten g root names old before (car.Store told) after new = NamesRefused g names old new told
-    × ((sections : List Section) × AreNamed sections × WroteAll (Some (tree_bytes root sections)) before after
+    × ((sections : List Section) × AreAllNamed sections × WroteAll (Some (tree_bytes root sections)) before after
     × (IsClean (g.view new) → AreFirstAt (g.view old) names sections))

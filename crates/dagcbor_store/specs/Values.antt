@@ -14,7 +14,7 @@ use Rattle.dagcbor_write.specs.Answers.{HasNoSpelling}
 use Rattle.dagcbor_read.specs.Whole.{IsWhole, HoldsNoValue, OfWhole, LacksMemoryIf}
 use Rattle.ipld_links.specs.Names.{block_name}
 use Rattle.ipld_links.specs.Verdicts.{IsDagCbor}
-use Rattle.dagcbor_store.specs.Stored.{Lists, HoldsOnly, IsNamed, IsSame, IsPut, GetRefused, PutRefused}
+use Rattle.dagcbor_store.specs.Stored.{ListsName, HoldsOnly, IsNamedBy, IsSame, IsPut, GetRefused, PutRefused}
 use Rattle.dagcbor_store.specs.declared.value.PutError.{PutError}
 use Rattle.dagcbor_store.specs.declared.value.PutError.TheVariants as put
 use Rattle.dagcbor_store.specs.declared.value.GetError.{GetError}
@@ -33,16 +33,16 @@ PutValueRefused g tree old (put.Store told) new = IsSomeAnd tree (λ t. PutRefus
 -- the name is of DAG-CBOR, and the value is the one that bytes of the name show to the type
 abbrev pub ShowsNamed : {T V : Type 0} → (T → V) → Shape Tree V → CidParts → Option T → Type 0
 ShowsNamed show shape name None = ⊤
-ShowsNamed show shape name (Some x) = IsDagCbor name × ((b : List ℕ) × IsNamed name b × IsWhole shape default_steps b (show x))
+ShowsNamed show shape name (Some x) = IsDagCbor name × ((b : List ℕ) × IsNamedBy name b × IsWhole shape default_steps b (show x))
 
 -- none where nothing is listed under the name, else what the bytes that are stored under it show to the type
 abbrev pub GetsValue : {T V : Type 0} → (T → V) → Shape Tree V → View → CidParts → Option T → Type 0
-GetsValue show shape v name None = Lists v name → ⊥
+GetsValue show shape v name None = ListsName v name → ⊥
 GetsValue show shape v name (Some x) = IsDagCbor name × ((b : List ℕ) × HoldsOnly v name b × IsWhole shape default_steps b (show x))
 
 -- bytes of the name are stored under it, and nothing has changed
 abbrev pub HoldsNamed : {S : Type 0} → Ghosts S → CidParts → List ℕ → S → S → Type 0
-HoldsNamed g name b old new = IsNamed name b × (IsClean (g.view new) → HoldsOnly (g.view old) name b × IsSame (g.view old) (g.view new))
+HoldsNamed g name b old new = IsNamedBy name b × (IsClean (g.view new) → HoldsOnly (g.view old) name b × IsSame (g.view old) (g.view new))
 
 -- a block of another codec is stored under the name; or bytes of a name of DAG-CBOR show nothing to the type, or it takes
 -- memory; or they were not got

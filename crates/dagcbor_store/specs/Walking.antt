@@ -12,7 +12,7 @@ use Rattle.ipld_tree.specs.Cid.{CidParts, cid_bytes}
 use Rattle.dagcbor_car.specs.Car.{Section, header_bytes, section_bytes, car_bytes, IsHeader, IsSection}
 use Rattle.ipld_links.specs.Sets.{Among}
 use Rattle.block_trees.specs.Rows.{name_tree, name_cmp, IsStored, IsListed}
-use Rattle.dagcbor_store.specs.Stored.{IsNamed, IsNext, GivesNext, HoldsOnly, IsDamaged, IsSame, Fails}
+use Rattle.dagcbor_store.specs.Stored.{IsNamedBy, IsNext, GivesNextName, HoldsOnly, IsDamaged, IsSame, FailsByStore}
 use Rattle.dagcbor_store.specs.Cars.{IsNameIn, IsSectionIn}
 use Rattle.dagcbor_store.specs.declared.error.StoreRefusal.{StoreRefusal}
 use Rattle.dagcbor_store.specs.declared.error.StoreRefusal.TheVariants as refusal
@@ -40,13 +40,13 @@ pub record AreBlocks (v : View) (sections : List Section) : Type 0 where
   pub rising : AreRising sections
 
 -- the bytes of each are those that its name names
-abbrev pub AreNamed : List Section → Type 0
-AreNamed sections = AllByRecursion (λ s. IsNamed s.0 s.1) sections
+abbrev pub AreAllNamed : List Section → Type 0
+AreAllNamed sections = AllByRecursion (λ s. IsNamedBy s.0 s.1) sections
 
 -- what is stored under some name is damaged, and nothing has changed; or the store failed
 abbrev pub WalkRefused : {S : Type 0} → Ghosts S → S → S → StoreRefusal → Type 0
 WalkRefused g old new (refusal.Damaged n) = IsClean (g.view new) → IsDamaged (g.view old) n × IsSame (g.view old) (g.view new)
-WalkRefused g old new told = Fails g ⊥ old new told
+WalkRefused g old new told = FailsByStore g ⊥ old new told
 
 -- what is damaged is stored under the first name behind the last one
 abbrev pub IsOfNext : {S : Type 0} → Ghosts S → Option CidParts → S → S → StoreRefusal → Type 0
@@ -55,21 +55,21 @@ IsOfNext g last old new _ = ⊤
 
 -- the first block behind the last name, or none where no name is listed there
 abbrev pub NextBlock : View → Option CidParts → Option (CidParts × Vec ℕ Global) → Type 0
-NextBlock v last None = GivesNext v last None
+NextBlock v last None = GivesNextName v last None
 NextBlock v last (Some p) = IsNext (v.trees name_tree) last p.0 × HoldsOnly v p.0 p.1.items
 
 -- the bytes are those that the name names
 abbrev pub IsNamedNext : Option (CidParts × Vec ℕ Global) → Type 0
 IsNamedNext None = ⊤
-IsNamedNext (Some p) = IsNamed p.0 p.1.items
+IsNamedNext (Some p) = IsNamedBy p.0 p.1.items
 
 -- Why a file is not written, and what was: the file of some first blocks; or of those a beginning, where the writer
 -- stopped.
 abbrev pub WriteRefused : {S E : Type 0} → Ghosts S → List (List ℕ) → S → Written → WriteCarError E → Written → S → Type 0
-WriteRefused g roots old before (car.Write e) after new = (sections : List Section) × AreNamed sections
+WriteRefused g roots old before (car.Write e) after new = (sections : List Section) × AreAllNamed sections
     × (IsClean (g.view new) → AreFirstBlocks (g.view old) sections × IsSame (g.view old) (g.view new))
     × Stops (Some (car_bytes roots sections)) before after e
-WriteRefused g roots old before (car.Store told) after new = (sections : List Section) × AreNamed sections
+WriteRefused g roots old before (car.Store told) after new = (sections : List Section) × AreAllNamed sections
     × (IsClean (g.view new) → AreFirstBlocks (g.view old) sections)
     × WroteAll (Some (car_bytes roots sections)) before after × WalkRefused g old new told
 
@@ -98,7 +98,7 @@ BeginsFile roots before result after = MatchResult result
 
 -- why the next block is not appended
 abbrev pub NextUnwritten : {S E : Type 0} → Ghosts S → Option CidParts → S → Written → WriteCarError E → Written → S → Type 0
-NextUnwritten g last old before (car.Write e) after new = (s : Section) × IsNamed s.0 s.1
+NextUnwritten g last old before (car.Write e) after new = (s : Section) × IsNamedBy s.0 s.1
     × (IsClean (g.view new) → IsNext ((g.view old).trees name_tree) last s.0 × HoldsOnly (g.view old) s.0 s.1 × IsSame (g.view old) (g.view new))
     × Stops (Some (section_bytes s)) before after e
 NextUnwritten g last old before (car.Store told) after new = (after ≡ before) × WalkRefused g old new told
@@ -107,8 +107,8 @@ NextUnwritten g last old before (car.Store told) after new = (after ≡ before) 
 abbrev pub WritesNext : {S E : Type 0} → Ghosts S → Option CidParts → S → Written → Result (Option CidParts) (WriteCarError E) → Written → S → Type 0
 WritesNext g last old before result after new = MatchResult result
     (λ next. (IsClean (g.view new) → IsSame (g.view old) (g.view new)) × MatchOption next
-    ((after ≡ before) × (IsClean (g.view new) → GivesNext (g.view old) last None))
-    (λ c. (b : List ℕ) × IsNamed c b × IsSection (c, b)
+    ((after ≡ before) × (IsClean (g.view new) → GivesNextName (g.view old) last None))
+    (λ c. (b : List ℕ) × IsNamedBy c b × IsSection (c, b)
     × (IsClean (g.view new) → IsNext ((g.view old).trees name_tree) last c × HoldsOnly (g.view old) c b)
     × WroteAll (Some (section_bytes (c, b))) before after))
     (λ e. NextUnwritten g last old before e after new)

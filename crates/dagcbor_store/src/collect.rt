@@ -3,8 +3,8 @@
 ghost use Rattle.std.specs.Prelude.{◌⊎◌, IfOk, IfErr, OnOk, option_map};
 ghost use Rattle.sqlite_trees.specs.View.{IsClean};
 ghost use Rattle.block_trees.specs.Ends.{Quiet, KeepsOthers, IsOfBlocks};
-ghost use Rattle.dagcbor_store.specs.Stored.{StaysSame, Fails, IsKeptBy};
-ghost use Rattle.dagcbor_store.specs.Collecting.{KeepsReachable, IsCollected, CollectRefused, GetsSound, SoundRefused, IsShown, VisitsShown, FindsBeside, FindRefused, AddsAll, Marks, MarksMore, MarkRefused, SweepsNext, IsSwept};
+ghost use Rattle.dagcbor_store.specs.Stored.{StaysSame, FailsByStore, IsKeptBy};
+ghost use Rattle.dagcbor_store.specs.Collecting.{KeepsReachable, IsCollected, CollectRefused, GetsSound, SoundRefused, IsShownToWalk, VisitsShown, FindsBeside, FindRefused, CollectsAll, Marks, MarksMore, MarkRefused, SweepsNext, IsSwept};
 
 use crate::error::StoreRefusal;
 use crate::lost::is_block;
@@ -17,7 +17,7 @@ use std::collections::BTreeSet;
 
 /// Puts the names into the set.
 fn put_all(names: &[Cid], kept: &mut BTreeSet<Cid>) -> Result<(), AllocError>
-    ensures { OnOk result (AddsAll names.now kept.old kept.new) }
+    ensures { OnOk result (CollectsAll names.now kept.old kept.new) }
 {
     for name in names {
         match kept.insert(*name) {
@@ -117,7 +117,7 @@ impl<S: Store> BlockStore<S> {
 
     /// No bytes of a name in the set, behind which a walk need not go on; of another its block.
     fn shown(&mut self, name: &Cid, kept: &BTreeSet<Cid>) -> Result<Option<Vec<u8>>, StoreRefusal>
-        ensures ok { IfOk result (λ o. IsClean (S.Store.view self.new) → IsShown (S.Store.view self.old) kept.now name.now (option_map (λ b. b.items) o)) }
+        ensures ok { IfOk result (λ o. IsClean (S.Store.view self.new) → IsShownToWalk (S.Store.view self.old) kept.now name.now (option_map (λ b. b.items) o)) }
         ensures same { OnOk result (StaysSame S.Store self.old self.new) }
         ensures refused { IfErr result (SoundRefused S.Store name.now self.old self.new) }
         ensures quiet { Quiet S.Store self.old self.new }
@@ -147,7 +147,7 @@ impl<S: Store> BlockStore<S> {
     /// Takes out each name that is not in the set, with what is listed under it. Answers how many.
     fn sweep(&mut self, kept: &BTreeSet<Cid>) -> Result<u64, StoreRefusal>
         ensures ok { IfOk result (λ count. IsClean (S.Store.view self.new) → IsSwept (S.Store.view self.old) (S.Store.view self.new) kept.now count) }
-        ensures refused { IfErr result (Fails S.Store ⊥ self.old self.new) }
+        ensures refused { IfErr result (FailsByStore S.Store ⊥ self.old self.new) }
         ensures quiet { Quiet S.Store self.old self.new }
     {
         let mut last = None;
@@ -172,7 +172,7 @@ impl<S: Store> BlockStore<S> {
         kept: &BTreeSet<Cid>,
     ) -> Result<Option<(Cid, bool)>, StoreRefusal>
         ensures ok { IfOk result (λ next. IsClean (S.Store.view self.new) → SweepsNext (S.Store.view self.old) (S.Store.view self.new) last kept.now next) }
-        ensures refused { IfErr result (Fails S.Store ⊥ self.old self.new) }
+        ensures refused { IfErr result (FailsByStore S.Store ⊥ self.old self.new) }
         ensures quiet { Quiet S.Store self.old self.new }
     {
         let Some(name) = self.next_name(last)? else {

@@ -6,8 +6,8 @@ ghost use Rattle.ipld_links.specs.Sets.{Among};
 ghost use Rattle.ipld_links.specs.Blocks.{HasBlock};
 ghost use Rattle.sqlite_trees.specs.View.{IsClean};
 ghost use Rattle.block_trees.specs.Ends.{Quiet};
-ghost use Rattle.dagcbor_store.specs.Stored.{StaysSame, Fails};
-ghost use Rattle.dagcbor_store.specs.Lost.{ListsLost, LostRefused, AddsLost, AddsName, AddsNames, AddsLinks, ListsKeys, GrowsBy, IsReachedIn};
+ghost use Rattle.dagcbor_store.specs.Stored.{StaysSame, FailsByStore};
+ghost use Rattle.dagcbor_store.specs.Lost.{ListsLostLinks, LostRefused, AddsLost, AddsUnlisted, AddsNames, AddsLostLinks, ListsKeys, GrowsByLost, IsReachedIn};
 
 use crate::error::StoreRefusal;
 use crate::store::BlockStore;
@@ -42,7 +42,7 @@ impl<S: Store> BlockStore<S> {
     /// it is not listed, and the links in that block are followed. One block is in memory at a time,
     /// beside the links that are answered.
     pub fn lost(&mut self) -> Result<Vec<Cid>, StoreRefusal>
-        ensures lists { IfOk result (λ v. IsClean (S.Store.view self.new) → ListsLost (S.Store.view self.old) v.items) }
+        ensures lists { IfOk result (λ v. IsClean (S.Store.view self.new) → ListsLostLinks (S.Store.view self.old) v.items) }
         ensures same { OnOk result (StaysSame S.Store self.old self.new) }
         ensures refused { IfErr result (LostRefused S.Store self.old self.new) }
         ensures quiet { Quiet S.Store self.old self.new }
@@ -67,7 +67,7 @@ impl<S: Store> BlockStore<S> {
         last: Option<Cid>,
         lost: &mut BTreeSet<Cid>,
     ) -> Result<Option<Cid>, StoreRefusal>
-        ensures ok { IfOk result (λ next. IsClean (S.Store.view self.new) → AddsLinks (S.Store.view self.old) last lost.old next lost.new) }
+        ensures ok { IfOk result (λ next. IsClean (S.Store.view self.new) → AddsLostLinks (S.Store.view self.old) last lost.old next lost.new) }
         ensures same { OnOk result (StaysSame S.Store self.old self.new) }
         ensures refused { IfErr result (LostRefused S.Store self.old self.new) }
         ensures quiet { Quiet S.Store self.old self.new }
@@ -91,9 +91,9 @@ impl<S: Store> BlockStore<S> {
     pub fn add_lost(&mut self, block: &[u8], lost: &mut BTreeSet<Cid>) -> Result<(), StoreRefusal>
         requires { HasBlock block.now }
         ensures ok { OnOk result (IsClean (S.Store.view self.new) → AddsLost (S.Store.view self.old) block.now lost.old lost.new) }
-        ensures grows { GrowsBy (IsReachedIn block.now) lost.old lost.new }
+        ensures grows { GrowsByLost (IsReachedIn block.now) lost.old lost.new }
         ensures same { OnOk result (StaysSame S.Store self.old self.new) }
-        ensures refused { IfErr result (Fails S.Store ⊥ self.old self.new) }
+        ensures refused { IfErr result (FailsByStore S.Store ⊥ self.old self.new) }
         ensures quiet { Quiet S.Store self.old self.new }
     {
         match names_from_slice(self.alloc, block) {
@@ -105,9 +105,9 @@ impl<S: Store> BlockStore<S> {
     /// Adds those of the names that are not listed.
     fn add_unlisted(&mut self, names: &[Cid], lost: &mut BTreeSet<Cid>) -> Result<(), StoreRefusal>
         ensures ok { OnOk result (IsClean (S.Store.view self.new) → AddsNames (S.Store.view self.old) names.now lost.old lost.new) }
-        ensures grows { GrowsBy (λ q. Among q names.now) lost.old lost.new }
+        ensures grows { GrowsByLost (λ q. Among q names.now) lost.old lost.new }
         ensures same { OnOk result (StaysSame S.Store self.old self.new) }
-        ensures refused { IfErr result (Fails S.Store ⊥ self.old self.new) }
+        ensures refused { IfErr result (FailsByStore S.Store ⊥ self.old self.new) }
         ensures quiet { Quiet S.Store self.old self.new }
     {
         for name in names {
@@ -117,10 +117,10 @@ impl<S: Store> BlockStore<S> {
     }
 
     fn add_if_unlisted(&mut self, name: &Cid, lost: &mut BTreeSet<Cid>) -> Result<(), StoreRefusal>
-        ensures ok { OnOk result (IsClean (S.Store.view self.new) → AddsName (S.Store.view self.old) name.now lost.old lost.new) }
-        ensures grows { GrowsBy (λ q. q ≡ name.now) lost.old lost.new }
+        ensures ok { OnOk result (IsClean (S.Store.view self.new) → AddsUnlisted (S.Store.view self.old) name.now lost.old lost.new) }
+        ensures grows { GrowsByLost (λ q. q ≡ name.now) lost.old lost.new }
         ensures same { OnOk result (StaysSame S.Store self.old self.new) }
-        ensures refused { IfErr result (Fails S.Store ⊥ self.old self.new) }
+        ensures refused { IfErr result (FailsByStore S.Store ⊥ self.old self.new) }
         ensures quiet { Quiet S.Store self.old self.new }
     {
         if self.contains(name)? {

@@ -3,7 +3,7 @@
 ghost use Rattle.std.specs.Prelude.{◌≡◌, IfOk, IfErr, OnOk};
 ghost use Rattle.sqlite_trees.specs.View.{IsClean};
 ghost use Rattle.block_trees.specs.Ends.{Quiet};
-ghost use Rattle.dagcbor_store.specs.Stored.{StaysSame, Fails};
+ghost use Rattle.dagcbor_store.specs.Stored.{StaysSame, FailsByStore};
 ghost use Rattle.dagcbor_store.specs.Roots.{HasRoots, IsRootAdded, RootRefused, IsRootTaken, KeepsRoots, MayKeepRoots, AreRootsAdded, RootsRefused};
 
 use crate::error::StoreRefusal;
@@ -19,7 +19,7 @@ impl<S: Store> BlockStore<S> {
     pub fn roots(&mut self) -> Result<Vec<Cid>, StoreRefusal>
         ensures ok { IfOk result (λ names. IsClean (S.Store.view self.new) → HasRoots (S.Store.view self.old) names.items) }
         ensures same { OnOk result (StaysSame S.Store self.old self.new) }
-        ensures refused { IfErr result (Fails S.Store ⊥ self.old self.new) }
+        ensures refused { IfErr result (FailsByStore S.Store ⊥ self.old self.new) }
         ensures quiet { Quiet S.Store self.old self.new }
     {
         match roots::list(self.alloc, &mut self.store, &mut self.row) {
@@ -66,7 +66,7 @@ impl<S: Store> BlockStore<S> {
     /// Takes the name out of the roots, with what is committed next, and answers whether it was one.
     pub fn remove_root(&mut self, name: &Cid) -> Result<bool, StoreRefusal>
         ensures ok { IfOk result (λ taken. IsClean (S.Store.view self.new) → IsRootTaken (S.Store.view self.old) (S.Store.view self.new) name.now taken) }
-        ensures refused { IfErr result (Fails S.Store ⊥ self.old self.new) }
+        ensures refused { IfErr result (FailsByStore S.Store ⊥ self.old self.new) }
         ensures quiet { Quiet S.Store self.old self.new }
     {
         let mut form = ArrayVec::new();

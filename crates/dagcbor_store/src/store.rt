@@ -5,7 +5,7 @@ ghost use Rattle.ipld_links.specs.Sound.{IsSound};
 ghost use Rattle.block_trees.specs.Ends.{Quiet};
 ghost use Rattle.block_trees.specs.Rows.{name_tree};
 ghost use Rattle.sqlite_trees.specs.View.{IsClean, IsRolledBack};
-ghost use Rattle.dagcbor_store.specs.Stored.{IsReady, GivesNext, bound_behind, Lists, StaysSame, IsUndone, IsNamed, GetsSome, GetRefused, Fails, TellsOfStore, IsCommitted, IsKeptBy, IsAdded, IsAddedTo, IsPut, IsTaken, PutRefused, IsVerified, IsToldAdded};
+ghost use Rattle.dagcbor_store.specs.Stored.{IsReady, GivesNextName, bound_behind, ListsName, StaysSame, IsUndone, IsNamedBy, GetsSome, GetRefused, FailsByStore, TellsOfStore, IsCommitted, IsKeptBy, IsAdded, IsAddedTo, IsPut, IsTaken, PutRefused, AnswersVerified, IsToldAdded};
 
 use crate::error::StoreRefusal;
 use arrayvec::ArrayVec;
@@ -64,7 +64,7 @@ impl<S: Store> BlockStore<S> {
     pub fn len(&mut self) -> Result<u64, StoreRefusal>
         ensures ok { IfOk result (λ n. IsClean (S.Store.view self.new) → n ≡ length ((S.Store.view self.old).trees name_tree)) }
         ensures same { OnOk result (StaysSame S.Store self.old self.new) }
-        ensures refused { IfErr result (Fails S.Store ⊥ self.old self.new) }
+        ensures refused { IfErr result (FailsByStore S.Store ⊥ self.old self.new) }
         ensures quiet { Quiet S.Store self.old self.new }
     {
         match survey(self.alloc, &mut self.store, &mut self.row) {
@@ -76,9 +76,9 @@ impl<S: Store> BlockStore<S> {
 
     /// Whether something is listed under the name. It may be damaged: `get_block` tells.
     pub fn contains(&mut self, name: &Cid) -> Result<bool, StoreRefusal>
-        ensures found { IfOk result (λ found. IsClean (S.Store.view self.new) → (IsTrue found ↔ Lists (S.Store.view self.old) name.now)) }
+        ensures found { IfOk result (λ found. IsClean (S.Store.view self.new) → (IsTrue found ↔ ListsName (S.Store.view self.old) name.now)) }
         ensures same { OnOk result (StaysSame S.Store self.old self.new) }
-        ensures refused { IfErr result (Fails S.Store ⊥ self.old self.new) }
+        ensures refused { IfErr result (FailsByStore S.Store ⊥ self.old self.new) }
         ensures quiet { Quiet S.Store self.old self.new }
     {
         let mut form = ArrayVec::new();
@@ -92,9 +92,9 @@ impl<S: Store> BlockStore<S> {
     /// The first of the listed names that come behind the last one, or the first of all; none behind
     /// the greatest. Names stand in the order of the bytes of their binary forms.
     pub fn next_name(&mut self, last: Option<Cid>) -> Result<Option<Cid>, StoreRefusal>
-        ensures next { IfOk result (λ next. IsClean (S.Store.view self.new) → GivesNext (S.Store.view self.old) last next) }
+        ensures next { IfOk result (λ next. IsClean (S.Store.view self.new) → GivesNextName (S.Store.view self.old) last next) }
         ensures same { OnOk result (StaysSame S.Store self.old self.new) }
-        ensures refused { IfErr result (Fails S.Store ⊥ self.old self.new) }
+        ensures refused { IfErr result (FailsByStore S.Store ⊥ self.old self.new) }
         ensures quiet { Quiet S.Store self.old self.new }
     {
         let bound = bound_behind(last);
@@ -109,7 +109,7 @@ impl<S: Store> BlockStore<S> {
     /// The bytes of the block under the name, which are those that the name names, whatever the disk
     /// gave. None where nothing is listed under it.
     pub fn get_block(&mut self, name: &Cid) -> Result<Option<Vec<u8>>, StoreRefusal>
-        ensures verified { IfOk result (λ found. IfSome found (λ b. IsNamed name.now b.items)) }
+        ensures verified { IfOk result (λ found. IfSome found (λ b. IsNamedBy name.now b.items)) }
         ensures found { IfOk result (λ found. IsClean (S.Store.view self.new) → GetsSome (S.Store.view self.old) name.now (option_map (λ b. b.items) found)) }
         ensures same { OnOk result (StaysSame S.Store self.old self.new) }
         ensures refused { IfErr result (GetRefused S.Store name.now self.old self.new) }
@@ -126,7 +126,7 @@ impl<S: Store> BlockStore<S> {
     /// Makes what was added and removed last. Where it fails, all of it is undone.
     pub fn commit(&mut self) -> Result<(), StoreRefusal>
         ensures ok { OnOk result (IsClean (S.Store.view self.new) → IsCommitted (S.Store.view self.old) (S.Store.view self.new)) }
-        ensures refused { IfErr result (Fails S.Store ⊥ self.old self.new) }
+        ensures refused { IfErr result (FailsByStore S.Store ⊥ self.old self.new) }
         ensures crash { (db : _) → S.Store.recovers self.new db → (db ≡ (S.Store.view self.old).trees) ⊎ S.Store.recovers self.old db }
         ensures kept { IsKeptBy S.Store self.old self.new }
     {
@@ -182,7 +182,7 @@ impl<S: Store> BlockStore<S> {
     /// listed. What is damaged is taken out too.
     pub fn remove(&mut self, name: &Cid) -> Result<bool, StoreRefusal>
         ensures ok { IfOk result (λ taken. IsClean (S.Store.view self.new) → IsTaken (S.Store.view self.old) (S.Store.view self.new) name.now taken) }
-        ensures refused { IfErr result (Fails S.Store ⊥ self.old self.new) }
+        ensures refused { IfErr result (FailsByStore S.Store ⊥ self.old self.new) }
         ensures quiet { Quiet S.Store self.old self.new }
     {
         let mut form = ArrayVec::new();
@@ -221,14 +221,14 @@ pub(crate) fn told(added: Added) -> Result<(), StoreRefusal>
 
 /// Whether the bytes are those that the name names.
 fn is_named(name: &Cid, bytes: &[u8]) -> bool
-    ensures { IsTrue result ↔ IsNamed name.now bytes.now }
+    ensures { IsTrue result ↔ IsNamedBy name.now bytes.now }
 {
     name.hash_code() == SHA2_256 && name.digest() == Sha256::digest(bytes).as_slice()
 }
 
 /// What was found under the name, where it is what the name names.
 fn verified(name: &Cid, found: Found) -> Result<Option<Vec<u8>>, StoreRefusal>
-    ensures { IsVerified name.now found result }
+    ensures { AnswersVerified name.now found result }
 {
     match found {
         Found::Nothing => Ok(None),

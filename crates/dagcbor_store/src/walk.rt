@@ -3,7 +3,7 @@
 ghost use Rattle.std.specs.Prelude.{IfOk, IfErr, OnOk};
 ghost use Rattle.sqlite_trees.specs.View.{IsClean};
 ghost use Rattle.block_trees.specs.Ends.{Quiet};
-ghost use Rattle.dagcbor_store.specs.Stored.{StaysSame, Fails};
+ghost use Rattle.dagcbor_store.specs.Stored.{StaysSame, FailsByStore};
 ghost use Rattle.dagcbor_store.specs.Walking.{NextBlock, IsNamedNext, WalkRefused, IsOfNext};
 
 use crate::error::StoreRefusal;
@@ -33,7 +33,7 @@ impl<S: Store> BlockStore<S> {
 
     /// Undoes what is not committed, since memory is wanting.
     pub(crate) fn give_up(&mut self) -> StoreRefusal
-        ensures refused { Fails S.Store ⊥ self.old self.new result }
+        ensures refused { FailsByStore S.Store ⊥ self.old self.new result }
         ensures walk { WalkRefused S.Store self.old self.new result }
         ensures quiet { Quiet S.Store self.old self.new }
     {

@@ -6,8 +6,8 @@ ghost use Rattle.dagcbor_items.specs.Walks.{forms};
 ghost use Rattle.dagcbor_car.specs.Car.{Section as CarSection, car_bytes, section_bytes, IsCar, IsSection};
 ghost use Rattle.sqlite_trees.specs.View.{IsClean};
 ghost use Rattle.block_trees.specs.Ends.{Quiet};
-ghost use Rattle.dagcbor_store.specs.Stored.{StaysSame, IsNamed};
-ghost use Rattle.dagcbor_store.specs.Walking.{AreBlocks, AreNamed, WriteRefused, BeginsFile, WritesNext, UnsentWithoutMemory, WantsMemoryOnlyIf};
+ghost use Rattle.dagcbor_store.specs.Stored.{StaysSame, IsNamedBy};
+ghost use Rattle.dagcbor_store.specs.Walking.{AreBlocks, AreAllNamed, WriteRefused, BeginsFile, WritesNext, UnsentWithoutMemory, WantsMemoryOnlyIf};
 
 use crate::car_error::WriteCarError;
 use crate::store::BlockStore;
@@ -40,7 +40,7 @@ impl<S: Store> BlockStore<S> {
         roots: &[Cid],
         writer: &mut W,
     ) -> Result<(), WriteCarError<W::Error>>
-        ensures ok { OnOk result ((sections : List CarSection) × AreNamed sections
+        ensures ok { OnOk result ((sections : List CarSection) × AreAllNamed sections
             × WroteAll (Some (car_bytes (forms roots.now) sections)) (W.written writer.old) (W.written writer.new)
             × IsCar (car_bytes (forms roots.now) sections) (forms roots.now) sections
             × (IsClean (S.Store.view self.new) → AreBlocks (S.Store.view self.old) sections)) }

@@ -4,6 +4,7 @@
 
 mod alike;
 mod examples;
+mod failing_devices;
 mod own_devices;
 mod pieces_of_blocks;
 mod reads;
@@ -15,6 +16,7 @@ pub use alike::{
     reads_alike,
 };
 pub use examples::{BLUE_TOLD, DEMO_TOLD, note_goes_both_ways};
+pub use failing_devices::{FaultySource, StingySink};
 pub use own_devices::{FaultyWriter, Pieces};
 pub use pieces_of_blocks::{LINK, THREE_LINKS, joined, nested};
 pub use reads::{answers, each_answers, each_tells, tells};

@@ -1,5 +1,5 @@
 -- Why a map that is at hand is refused with a message.
-use Rattle.std.proofs.Common.{◌≡◌, ℕ, suc, ◌<◌, List, [], ◌∷◌, ◌++◌, length, get_or, map, Option, None, Some, Bool, true, false, ◌||◌, is_none, IsTrue, Result, Err, inl, inr, refl, sym, ap, ap₂, ◌∙◌, subst, arith, add-one, codes, IfErr, IsSomeAnd, Any, IsErrAnd}
+use Rattle.std.proofs.Common.{◌≡◌, ℕ, suc, ◌<◌, List, [], ◌∷◌, ◌++◌, length, get_or, map, Option, None, Some, Bool, true, false, ◌||◌, is_none, IsTrue, Result, inl, inr, refl, sym, ap, ap₂, ◌∙◌, subst, arith, add-one, codes, IfErr, IsSomeAnd, Any, IsErrAnd}
 use Rattle.std.specs.List.{list_any}
 use Rattle.std.specs.Map.{keys_of}
 use Rattle.std.proofs.lemmas.List.Folds.{list_any_at, Any-from_list_any}
@@ -8,7 +8,7 @@ use Rattle.std.proofs.lemmas.Map.Keys.{IsDistinct-IsPermutation}
 use Rattle.dagcbor_heads.specs.declared.error.EncodeError.{EncodeError}
 use Rattle.dagcbor_heads.specs.declared.error.EncodeError.TheVariants.{Msg}
 use Rattle.dagcbor_heads.specs.Messages.{message_bytes}
-use Rattle.dagcbor_heads.specs.Written.{Written, Writes}
+use Rattle.dagcbor_heads.specs.Written.{Written, Stops}
 use Rattle.ipld_tree.specs.Tree.{Tree, null, text, pair_of, all_some, repeats_key}
 use Rattle.ipld_tree.specs.Spelled.{spelled, spelled_tree}
 use Rattle.ipld_tree.proofs.Ordered.{AreDistinct, same_place, same_place_flips}
@@ -93,10 +93,13 @@ module _ {A : Type 0} (tree : A → Option Tree) where
       (found.0, found.1, found.2, found.3, none_of _ found.4)
 
   -- the value in place i was refused
-  pub value_message : {T E : Type 0} (es : List (List ℕ × A)) (i : ℕ) (value : A) → i < length es → ((d : List ℕ × A) → value ≡ (get_or es i d).1) → (old new : Written) (r : Result T (EncodeError E)) → IfErr r (IsMessage (codes "Struct value cannot be serialized.")) → Writes (spelled_tree (tree value)) old new r
-      → IfErr r (OnMessage (RefusesKeyedValue tree es))
-  value_message es i value inside is old new (Err (Msg m)) said stops =
-      let d : List ℕ × A = ([], value) in
-      let none : is_none (spelled_tree (tree (get_or es i d).1)) ≡ true = ap (λ v. is_none (spelled_tree (tree v))) (sym (is d)) ∙ ap is_none stops.0 in
-      (said, search (list_any_at (lacks_value tree) es i d inside none))
-  value_message es i value inside is old new _ said stops = tt
+  pub value_message : {T E : Type 0} (es : List (List ℕ × A)) (i : ℕ) (value : A) → i < length es → ((d : List ℕ × A) → value ≡ (get_or es i d).1) → (old new : Written) (r : Result T (EncodeError E)) (e : EncodeError E) → IsErrAnd r (λ d. d ≡ e) → IsMessage (codes "Struct value cannot be serialized.") e
+      → Stops (spelled_tree (tree value)) old new e → IfErr r (OnMessage (RefusesKeyedValue tree es))
+  value_message {T} {E} es i value inside is old new r e exit said stops = exit_message (RefusesKeyedValue tree es) r e exit (by e said stops)
+    where
+      by : (e : EncodeError E) → IsMessage (codes "Struct value cannot be serialized.") e → Stops (spelled_tree (tree value)) old new e → OnMessage (RefusesKeyedValue tree es) e
+      by (Msg m) said stops =
+          let d : List ℕ × A = ([], value) in
+          let none : is_none (spelled_tree (tree (get_or es i d).1)) ≡ true = ap (λ v. is_none (spelled_tree (tree v))) (sym (is d)) ∙ ap is_none stops.0 in
+          (said, search (list_any_at (lacks_value tree) es i d inside none))
+      by _ said stops = tt

@@ -6,7 +6,7 @@ use Rattle.dagcbor_heads.specs.declared.error.EncodeError.TheVariants.{Msg, Writ
 use Rattle.dagcbor_heads.specs.Written.{Written, WroteAll, Writes, Stops, WantsMemoryOnlyIf}
 use Rattle.ipld_tree.specs.Tree.{Tree, text}
 use Rattle.ipld_tree.specs.Spelling.{text_spelling}
-use Rattle.ipld_tree.specs.Spelled.{spelled, spelled_head, spelled_tree}
+use Rattle.ipld_tree.specs.Spelled.{spelled_head, spelled_tree}
 use Rattle.ipld_tree.proofs.Spelled.{spelled_is}
 use Rattle.dagcbor_write.specs.Answers.{OnMessage, LacksBefore, RefusesPart, RefusesAnyPart}
 use Rattle.dagcbor_write.specs.Bounded.{WritesItem}
@@ -16,10 +16,7 @@ use Rattle.dagcbor_write.specs.declared.collect.bounded.BoundedCollect.{BoundedC
 use Rattle.dagcbor_write.specs.Trees.{Pair, variant_head}
 use Rattle.dagcbor_write.specs.Maps.{LacksValue, RefusesAnyValue, RefusesKeys, RefusesPairs}
 
--- a name has a spelling
-pub name_spelled : (name : List ℕ) → length name < 2 ^ 64 → spelled (text name) ≡ None → ⊥
-name_spelled name h e = let differ : Some (text_spelling name) ≡ None = sym ((spelled_is (text name) (text_spelling name)).1 (h, refl)) ∙ e in absurd (cc differ)
-
+-- a variant's name has a spelling
 pub variant_spelled : (name : List ℕ) → length name < 2 ^ 64 → variant_head name ≡ None → ⊥
 variant_spelled name h e =
     let differ : Some _ ≡ None = sym (ap (λ x. spelled_head 5 1 ++? x) ((spelled_is (text name) (text_spelling name)).1 (h, refl))) ∙ e in absurd (cc differ)
@@ -29,11 +26,6 @@ module _ {T E : Type 0} where
   pub exit_message : (P : List ℕ → Type 0) (r : Result T (EncodeError E)) (e : EncodeError E) → IsErrAnd r (λ d. d ≡ e) → OnMessage P e → IfErr r (OnMessage P)
   exit_message P (Ok x) e is h = absurd is
   exit_message P (Err d) e is h = let Q : EncodeError E → Type 0 = λ y. OnMessage P y in subst Q (sym is) h
-
-  -- a message of a call that was to append a text comes where there is none
-  pub message_of : (P : Type 0) (whole : Option (List ℕ)) (s t : Written) (r : Result T (EncodeError E)) → (whole ≡ None → P) → Writes whole s t r → IfErr r (OnMessage (λ _. P))
-  message_of P whole s t (Err (Msg m)) cause h = cause h.0
-  message_of P whole s t _ cause h = tt
 
   -- a part that answers no message makes none of the whole
   pub none_as : (P : List ℕ → Type 0) (r : Result T (EncodeError E)) → IfErr r (OnMessage (λ _. ⊥)) → IfErr r (OnMessage P)

@@ -4,7 +4,7 @@ use Rattle.std.specs.Fmt.{◌++?◌}
 use Rattle.dagcbor_heads.specs.Head.{head}
 use Rattle.dagcbor_heads.specs.Written.{Written, WroteAll}
 use Rattle.dagcbor_heads.proofs.Heads.{head_one}
-use Rattle.dagcbor_heads.proofs.Writing.{Written-but, begin_writing, all_written, append_Some}
+use Rattle.dagcbor_heads.proofs.Writing.{Written-but, begin_writing, all_written, append_Some, join_parts, joined_assoc}
 use Rattle.ipld_tree.specs.Tree.{link}
 use Rattle.ipld_tree.specs.Spelled.{spelled, spelled_head, spelled_bytes}
 use Rattle.dagcbor_write.proofs.Spelling.{head_is_spelled}
@@ -19,6 +19,10 @@ part_opened {whole} {a} b c e w = record {
   split = w.split ∙ ap (λ x. w.done ++? x) (append_Some a ∙ e ∙ ap (λ x. b ++? x) (sym (append_Some c)));
   wrote = w.wrote;
 }
+
+-- the next part is two
+pub part_split : {whole a b : Option (List ℕ)} {parts : List (Option (List ℕ))} {s t : Written} → Written-but whole ((a ++? b) ∷ parts) s t → Written-but whole (a ∷ b ∷ parts) s t
+part_split {whole} {a} {b} {parts} w = record { done = w.done; split = w.split ∙ ap (λ x. w.done ++? x) (joined_assoc a b (join_parts parts)); wrote = w.wrote }
 
 -- nothing is left
 pub parts_ended : {whole a : Option (List ℕ)} {s t : Written} → a ≡ Some [] → Written-but whole (a ∷ []) s t → WroteAll whole s t

@@ -1,5 +1,5 @@
 -- Rows of pairs that are written in the order of their keys, by their places.
-use Rattle.std.proofs.Common.{◌≡◌, ℕ, zero, suc, ◌+◌, ◌<◌, ◌≤◌, List, [], ◌∷◌, ◌++◌, length, get_or, take, drop, map, Option, Some, Bool, true, false, Less, Equal, Greater, Result, Ok, Err, is_err, refl, sym, ap, ◌∙◌, subst, arith, add-one, append_assoc, IsPermutation, drop-cons, drop_of_length-le, ◌&&◌, IfSome, IsSomeAnd, OnOk, option_and_then, Ordering, All, is_lt}
+use Rattle.std.proofs.Common.{◌≡◌, ℕ, zero, suc, ◌+◌, ◌<◌, ◌≤◌, List, [], ◌∷◌, ◌++◌, length, get_or, take, drop, map, Option, Some, Bool, true, false, Less, Equal, Greater, refl, sym, ap, ◌∙◌, subst, arith, add-one, append_assoc, IsPermutation, drop-cons, drop_of_length-le, ◌&&◌, IfSome, IsSomeAnd, option_and_then, Ordering, All, is_lt}
 use Rattle.std.proofs.Math.Seq.{take-append_seam}
 use Rattle.std.proofs.lemmas.List.Sorted.{IsPermutation-map, All-permutation}
 use Rattle.std.specs.Fmt.{◌++?◌}
@@ -94,10 +94,6 @@ left_at ps es i = left_from (λ (e : Place). pair_at ps e.at) es i
 pub begin_places : (ps : List Pair) (es : List Place) (s : Written)
     → Written-but (spelled_pairs (left_at ps es 0)) (map spelled_pair (left_at ps es 0)) s s
 begin_places ps es s = begin_writing _ _ s (pairs_joined (left_at ps es 0))
-
-pub ok_holds : {T E P : Type 0} (r : Result T E) → false ≡ is_err r → OnOk r P → P
-ok_holds (Ok x) is h = h
-ok_holds (Err e) is h = cc
 
 -- ---- places that are put in order
 

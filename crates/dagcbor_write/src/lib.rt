@@ -22,7 +22,7 @@ mod whole;
 pub use collect::bounded::BoundedCollect;
 pub use collect::collect_map::CollectMap;
 pub use collect::collect_seq::CollectSeq;
-pub use collect::gathered::Span;
+pub use collect::gathered::{Span, entry_bytes, entry_key, put_in_order};
 pub use places::{Place, Places};
 pub use row::{Field, FieldRow, Optional};
 pub use serialize::Serialize;

@@ -138,14 +138,8 @@ impl<T: Serialize, L: FieldRow> FieldRow for (Field<'_, T>, L) {
 
     fn write_fields<W: Write>(self, alloc: Global, ser: &mut Serializer<W>) -> WriteResult<(), W> {
         let (Field(name, value), others) = self;
-        let key = ser.serialize_str(name);
-        if key.is_err() {
-            return key;
-        }
-        let part = value.serialize(alloc, ser);
-        if part.is_err() {
-            return part;
-        }
+        ser.serialize_str(name)?;
+        value.serialize(alloc, ser)?;
         others.write_fields(alloc, ser)
     }
 
@@ -166,7 +160,11 @@ impl<T: Serialize, L: FieldRow> FieldRow for (Field<'_, T>, L) {
         ser: &mut Serializer<W>,
     ) -> WriteResult<(), W> {
         let (Field(name, value), others) = self;
-        write_field_of(name, *value, others, place, alloc, ser)
+        if place > 0 {
+            return others.write_field(place - 1, alloc, ser);
+        }
+        ser.serialize_str(name)?;
+        value.serialize(alloc, ser)
     }
 }
 
@@ -214,39 +212,8 @@ impl<T: Serialize, L: FieldRow> FieldRow for (Optional<'_, T>, L) {
     ) -> WriteResult<(), W> {
         let (Optional(name, value), rest) = self;
         match *value {
-            Some(value) => write_field_of(name, value, rest, place, alloc, ser),
+            Some(value) => (Field(*name, value), *rest).write_field(place, alloc, ser),
             None => rest.write_field(place, alloc, ser),
         }
     }
-}
-
-/// Writes the field in this place of a row that begins with this name and value.
-#[inline(always)]
-fn write_field_of<T: Serialize, L: FieldRow, W: Write>(
-    name: &str,
-    value: &T,
-    others: &L,
-    place: usize,
-    alloc: Global,
-    ser: &mut Serializer<W>,
-) -> WriteResult<(), W>
-    ensures written { Writes (spelled_pair
-        (pair_at (field name.now (T.tree value.now) ∷ L.pairs others.now) place))
-        (W.written ser.old) (W.written ser.new) result }
-    ensures well_formed { OnOk result
-        (IsPair (pair_at (field name.now (T.tree value.now) ∷ L.pairs others.now) place)) }
-    ensures message { place < length (field name.now (T.tree value.now) ∷ L.pairs others.now)
-        → IfErr result (OnMessage
-        (λ _. LacksValue (field name.now (T.tree value.now) ∷ L.pairs others.now))) }
-    ensures none { length (field name.now (T.tree value.now) ∷ L.pairs others.now) ≤ place
-        → IfErr result IsMsg × (ser.new ≡ ser.old) }
-{
-    if place > 0 {
-        return others.write_field(place - 1, alloc, ser);
-    }
-    let key = ser.serialize_str(name);
-    if key.is_err() {
-        return key;
-    }
-    value.serialize(alloc, ser)
 }

@@ -296,7 +296,7 @@ impl<W: Write> Serializer<W> {
         if self.writer.push_at_once(bytes, &[]) {
             return Ok(());
         }
-        push_spelled(&mut self.writer, bytes)
+        self.writer.push(bytes)
     }
 
     /// The part itself.
@@ -453,17 +453,6 @@ impl<W: Write> Serializer<W> {
     }
 }
 
-/// Pushes the bytes. Apart, so that bytes that find room have no part in what a push answers.
-#[cold]
-#[inline(never)]
-fn push_spelled<W: Write>(writer: &mut W, bytes: &[u8]) -> WriteResult<(), W>
-    ensures written { Writes (Some bytes.now)
-        (W.written writer.old) (W.written writer.new) result }
-    ensures memory { WantsMemoryOnlyIf W.takes_memory result }
-{
-    writer.push(bytes)
-}
-
 /// Appends a head of the number of bytes, and the bytes, where they are few and the writer has room
 /// for them; else appends nothing, and answers false.
 fn counted_at_once<W: Write>(writer: &mut W, major: u8, payload: &[u8]) -> bool
@@ -483,15 +472,8 @@ fn push_counted<W: Write>(writer: &mut W, major: u8, payload: &[u8]) -> WriteRes
     ensures memory { WantsMemoryOnlyIf W.takes_memory result }
     ensures silent { IfErr result (OnMessage (λ _. ⊥)) }
 {
-    let head = push_head(writer, major, payload.len() as u64);
-    if head.is_err() {
-        return head;
-    }
-    let pushed = writer.push(payload);
-    if pushed.is_ok() {
-        return Ok(());
-    }
-    pushed
+    push_head(writer, major, payload.len() as u64)?;
+    writer.push(payload)
 }
 
 /// Appends the link to a CID of this binary form, where that is of 23 bytes or more and the writer
@@ -515,21 +497,8 @@ fn push_link<W: Write>(writer: &mut W, cid: &ArrayVec<u8, 86>) -> WriteResult<()
     ensures silent { IfErr result (OnMessage (λ _. ⊥)) }
 {
     let count = cid.len() as u64 + 1;
-    let tag = writer.push(&[0xd8, 0x2a]);
-    if tag.is_err() {
-        return tag;
-    }
-    let head = push_head(writer, 2, count);
-    if head.is_err() {
-        return head;
-    }
-    let zero = writer.push(&[0x00]);
-    if zero.is_err() {
-        return zero;
-    }
-    let pushed = writer.push(cid.as_slice());
-    if pushed.is_ok() {
-        return Ok(());
-    }
-    pushed
+    writer.push(&[0xd8, 0x2a])?;
+    push_head(writer, 2, count)?;
+    writer.push(&[0x00])?;
+    writer.push(cid.as_slice())
 }

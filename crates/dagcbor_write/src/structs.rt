@@ -1,6 +1,6 @@
 //! Structs that are written by a row of their fields.
 
-ghost use Rattle.std.specs.Prelude.{◌≡◌, length, Some, OnOk, IfErr, IfSome};
+ghost use Rattle.std.specs.Prelude.{◌≡◌, [], length, Some, OnOk, IfErr, IfSome};
 ghost use Rattle.dagcbor_write.specs.Answers.{OnMessage, LacksBefore};
 ghost use Rattle.dagcbor_heads.specs.Written.{Writes, WroteAll};
 ghost use Rattle.ipld_tree.specs.Tree.{IsTree, entries_tree};
@@ -11,7 +11,7 @@ ghost use Rattle.dagcbor_write.specs.Rows.{IsKeyOrder};
 ghost use Rattle.dagcbor_write.specs.Trees.{variant_tree, variant_head};
 ghost use Rattle.dagcbor_write.specs.Maps.{LacksValue, RefusesAnyValue, RefusesPairs};
 
-use crate::collect::buffer::take_first_room;
+use crate::collect::buffer::FIRST_ROOM;
 use crate::collect::gathered::BAD_VALUE;
 use crate::places::{Place, list_in_order};
 use crate::row::FieldRow;
@@ -19,7 +19,6 @@ use crate::serializer::Serializer;
 use arrayvec::ArrayVec;
 use dagcbor_heads::{BufWriter, EncodeError, Write, WriteResult};
 use std::alloc::Global;
-use std::mem;
 
 /// Writes the fields in these places, one after another.
 #[inline(always)]
@@ -36,64 +35,38 @@ fn write_places<F: FieldRow, W: Write>(
     ensures message { IfErr result (OnMessage (λ _. LacksValue (F.pairs fields.now))) }
 {
     for place in places {
-        let part = fields.write_field(place.at, alloc, ser);
-        if part.is_err() {
-            return part;
-        }
+        fields.write_field(place.at, alloc, ser)?;
     }
     Ok(())
 }
 
-/// Writes the fields as they stand, or those in these places, one after another.
-#[inline(always)]
-fn write_row<F: FieldRow, W: Write>(
-    alloc: Global,
-    fields: F,
-    order: Option<&[Place]>,
-    ser: &mut Serializer<W>,
-) -> WriteResult<(), W>
-    requires { HasPlaces (F.pairs fields) (places_of order) }
-    ensures written { Writes
-        (spelled_pairs (in_order (F.pairs fields) (places_of order.entry)))
-        (W.written ser.old) (W.written ser.new) result }
-    ensures well_formed { OnOk result
-        (ArePairs (in_order (F.pairs fields) (places_of order.entry))) }
-    ensures message { IfErr result (OnMessage (λ _. LacksValue (F.pairs fields))) }
-{
-    match order {
-        Some(places) => write_places(alloc, &fields, places, ser),
-        None => fields.write_fields(alloc, ser),
-    }
-}
-
-/// Writes the fields behind the bytes, as they stand or those in these places, one after another.
+/// The names and the values of the fields, as they stand or those in these places, one after another.
 /// Refused with `Msg("Struct value cannot be serialized.")` where one has no spelling.
 #[inline(always)]
 fn gather_fields<F: FieldRow, E>(
     alloc: Global,
-    bytes: &mut Vec<u8>,
     fields: F,
     order: Option<&[Place]>,
-) -> Result<(), EncodeError<E>>
+) -> Result<Vec<u8>, EncodeError<E>>
     requires { HasPlaces (F.pairs fields) (places_of order) }
-    ensures { Collects (λ u. AppendsTo bytes.old.items bytes.new.items
+    ensures { Collects (λ bytes. AppendsTo [] bytes.items
         (spelled_pairs (in_order (F.pairs fields) (places_of order.entry)))
         × ArePairs (in_order (F.pairs fields) (places_of order.entry)))
         (RefusesAnyValue (F.pairs fields)) result }
 {
-    if take_first_room(bytes).is_err() {
+    let Ok(bytes) = Vec::with_capacity(alloc, FIRST_ROOM) else {
         return Err(EncodeError::OutOfMemory);
-    }
-    let mut ser = Serializer::new(BufWriter::new(mem::replace(bytes, Vec::new(alloc))));
-    let result = write_row(alloc, fields, order, &mut ser);
-    *bytes = ser.into_inner().into_inner();
-    let Err(error) = result else {
-        return Ok(());
     };
-    match error {
-        EncodeError::Msg(_) => Err(EncodeError::custom(BAD_VALUE)),
-        EncodeError::OutOfMemory => Err(EncodeError::OutOfMemory),
-        EncodeError::Write(never) => match never {},
+    let mut ser = Serializer::new(BufWriter::new(bytes));
+    let result = match order {
+        Some(places) => write_places(alloc, &fields, places, &mut ser),
+        None => fields.write_fields(alloc, &mut ser),
+    };
+    match result {
+        Ok(()) => Ok(ser.into_inner().into_inner()),
+        Err(EncodeError::Msg(_)) => Err(EncodeError::custom(BAD_VALUE)),
+        Err(EncodeError::OutOfMemory) => Err(EncodeError::OutOfMemory),
+        Err(EncodeError::Write(never)) => match never {},
     }
 }
 
@@ -117,37 +90,13 @@ fn write_rising<F: FieldRow, W: Write>(
         (OnMessage (λ m. RefusesAnyValue (F.pairs fields) m × (ser.new ≡ ser.old))) }
     ensures memory { LacksBefore W.takes_memory (ser.new ≡ ser.old) result }
 {
-    let mut bytes = Vec::new(alloc);
-    gather_fields(alloc, &mut bytes, fields, order)?;
-    let head = ser.push_head(5, count);
-    if head.is_err() {
-        return head;
-    }
+    let bytes = gather_fields(alloc, fields, order)?;
+    ser.push_head(5, count)?;
     ser.push(bytes.as_slice())
-}
-
-/// Writes a struct of these fields, whatever the order of their names.
-#[inline(never)]
-fn write_any<F: FieldRow, W: Write>(
-    alloc: Global,
-    fields: F,
-    ser: &mut Serializer<W>,
-) -> WriteResult<(), W>
-    ensures written { Writes (spelled_tree (entries_tree (F.pairs fields)))
-        (W.written ser.old) (W.written ser.new) result }
-    ensures well_formed { OnOk result (IfSome (entries_tree (F.pairs fields)) IsTree) }
-    ensures message { IfErr result
-        (OnMessage (λ m. RefusesPairs (F.pairs fields) m × (ser.new ≡ ser.old))) }
-    ensures memory { LacksBefore W.takes_memory (ser.new ≡ ser.old) result }
-{
-    let mut map = ser.serialize_map(alloc, None);
-    fields.push_fields(&mut map)?;
-    map.end()
 }
 
 /// Writes a struct of these fields, whose names do not rise as they stand: by their places, or as a
 /// map where there are many fields, or a name is there twice.
-#[inline(never)]
 fn write_unordered<F: FieldRow, W: Write>(
     alloc: Global,
     fields: F,
@@ -162,10 +111,11 @@ fn write_unordered<F: FieldRow, W: Write>(
 {
     let mut places = ArrayVec::new();
     if list_in_order(fields, &mut places) {
-        write_rising(alloc, fields, Some(places.as_slice()), places.len(), ser)
-    } else {
-        write_any(alloc, fields, ser)
+        return write_rising(alloc, fields, Some(places.as_slice()), places.len(), ser);
     }
+    let mut map = ser.serialize_map(alloc, None);
+    fields.push_fields(&mut map)?;
+    map.end()
 }
 
 /// Writes a struct of these fields, as a map, in key order. Nothing goes out before each field has

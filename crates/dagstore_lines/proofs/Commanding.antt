@@ -8,7 +8,7 @@ use Rattle.std.proofs.Math.Nat.{pow-le-pow_right, lt_of_lt_of_le}
 use Rattle.ipld_tree.specs.Cid.{CidParts}
 use Rattle.cid_text.specs.Texts.{IsTextOf, IsTextFault, TextsTellCids, TextFaultsAreUnique}
 use Rattle.cid_text.specs.declared.error.CidTextError.{CidTextError}
-use Rattle.dagstore_lines.specs.Commands.{NamesCodec, AreTextsOf, IsFirstFault, TakesNames, command_name, IsCommand, IsCodec, IsAskedBy, AreKnown}
+use Rattle.dagstore_lines.specs.Commands.{NamesCodec, AreTextsOf, IsFirstFault, WantsNames, command_name, IsCommand, IsCodec, IsAskedBy, AreKnown}
 use Rattle.dagstore_lines.specs.declared.command.Command.{Command}
 use Rattle.dagstore_lines.specs.declared.command.Command.TheVariants as commands
 use Rattle.dagstore_lines.specs.declared.command.Words.{Words}
@@ -73,7 +73,7 @@ no_command word m commands.Check e = apart (mark word) 307 m (ap mark e) ((λ d.
 no_command word m commands.List e = apart (mark word) 318 m (ap mark e) ((λ d. omega (arith, d)), (λ d. omega (arith, d)), (λ d. omega (arith, d)))
 no_command word m commands.Count e = apart (mark word) 321 m (ap mark e) ((λ d. omega (arith, d)), (λ d. omega (arith, d)), (λ d. omega (arith, d)))
 
-no_names : (word : List ℕ) → IsOwn (mark word) → TakesNames word → ⊥
+no_names : (word : List ℕ) → IsOwn (mark word) → WantsNames word → ⊥
 no_names word m (inl e) = apart (mark word) 341 m (ap mark e) ((λ d. omega (arith, d)), (λ d. omega (arith, d)), (λ d. omega (arith, d)))
 no_names word m (inr (inl e)) = apart (mark word) 305 m (ap mark e) ((λ d. omega (arith, d)), (λ d. omega (arith, d)), (λ d. omega (arith, d)))
 no_names word m (inr (inr (inl e))) = apart (mark word) 298 m (ap mark e) ((λ d. omega (arith, d)), (λ d. omega (arith, d)), (λ d. omega (arith, d)))
@@ -127,7 +127,7 @@ no_done law faults path word rest names imports puts ats texts none (words.NoCid
 no_done law faults path word rest names imports puts ats texts none words.Unknown h = h
 
 -- others behind a word that takes none
-pub no_word : TextFaultsAreUnique → (path word : List ℕ) (rest : List (List ℕ)) (f : CidTextError) → word ≢ codes "import" → word ≢ codes "put" → word ≢ codes "at" → IsFirstFault rest f → (TakesNames word → ⊥) → (it : Words) → AreKnown (path ∷ (word ∷ rest)) it → ⊥
+pub no_word : TextFaultsAreUnique → (path word : List ℕ) (rest : List (List ℕ)) (f : CidTextError) → word ≢ codes "import" → word ≢ codes "put" → word ≢ codes "at" → IsFirstFault rest f → (WantsNames word → ⊥) → (it : Words) → AreKnown (path ∷ (word ∷ rest)) it → ⊥
 no_word faults path word rest f imports puts ats fault none (words.Import file source) h = imports h.1
 no_word faults path word rest f imports puts ats fault none (words.Put file codec) h = puts h.1
 no_word faults path word rest f imports puts ats fault none (words.Do file command) h = no_fault faults rest h.1.0 f h.1.1 fault

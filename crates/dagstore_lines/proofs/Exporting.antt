@@ -10,14 +10,14 @@ use Rattle.dagcbor_car.specs.Car.{Section, car_bytes, IsCar}
 use Rattle.dagcbor_cli.specs.declared.fault.ToolError.TheVariants.{Input, Output, OutOfMemory}
 use Rattle.block_lines.specs.Lines.{missing_line}
 use Rattle.dagcbor_store.specs.Stored.{StaysSame}
-use Rattle.dagcbor_store.specs.Walking.{AreNamed, AreBlocks, WriteRefused}
+use Rattle.dagcbor_store.specs.Walking.{AreAllNamed, AreBlocks, WriteRefused}
 use Rattle.dagcbor_store.specs.Trees.{WritesTree, TreeRefused}
 use Rattle.dagcbor_store.specs.declared.car_error.WriteCarError.{WriteCarError}
 use Rattle.dagcbor_store.specs.declared.car_error.WriteCarError.TheVariants as car
 use Rattle.dagcbor_store.specs.declared.car_error.WriteTreeError.TheVariants as tree
 use Rattle.dagstore_lines.specs.Files.{fault_of, Exports}
 use Rattle.dagstore_lines.specs.Lines.{no_block_line}
-use Rattle.dagstore_lines.specs.Trees.{SendsTree, TreeFails, SaysTree, TellsAll}
+use Rattle.dagstore_lines.specs.Trees.{SendsTree, TreeFails, SaysTree, TellsText}
 use Rattle.dagstore_lines.specs.declared.fault.Fault.{Fault}
 
 no_text : (t : List ℕ) → Some t ≡ None → ⊥
@@ -37,7 +37,7 @@ module _ (w x : Written) (before after : Option (List ℕ)) (b : w.bytes ≡ bef
   front_as t h = (h.0, h.1, h.2, appends_as h.0 h.3)
 
   module _ {S : Type 0} (g : Ghosts S) (old new : S) where
-    pub exported : (roots : List (List ℕ)) → (sections : List Section) × AreNamed sections × WroteAll (Some (car_bytes roots sections)) w x × IsCar (car_bytes roots sections) roots sections × (IsClean (g.view new) → AreBlocks (g.view old) sections) → StaysSame g old new → Exports g roots old before (Ok true) new after
+    pub exported : (roots : List (List ℕ)) → (sections : List Section) × AreAllNamed sections × WroteAll (Some (car_bytes roots sections)) w x × IsCar (car_bytes roots sections) roots sections × (IsClean (g.view new) → AreBlocks (g.view old) sections) → StaysSame g old new → Exports g roots old before (Ok true) new after
     exported roots k same = (refl, (k.0, k.1, k.3, appends_as (car_bytes roots k.0) k.2.0, λ clean. (k.4 clean, same clean)))
 
     pub not_exported : {E : Type 0} (roots : List (List ℕ)) (e : WriteCarError E) → WriteRefused g roots old w e x new → Exports g roots old before (Err (fault_of e)) new after
@@ -50,7 +50,7 @@ module _ (w x : Written) (before after : Option (List ℕ)) (b : w.bytes ≡ bef
     none_of [] = (true, ((λ h. refl), (λ h. refl)))
     none_of (c ∷ lost) = (false, ((λ h. cc), (λ h. cc)))
 
-    pub tree_said : (root : CidParts) (lost d : List CidParts) (heard said : Option (List ℕ)) (r : Result Bool Fault) → d ≡ lost → WritesTree g root old w lost x new → TellsAll (flat_map missing_line d) (λ well. IsTrue well ↔ (d ≡ [])) heard r said → SaysTree g root old before heard r new after said
+    pub tree_said : (root : CidParts) (lost d : List CidParts) (heard said : Option (List ℕ)) (r : Result Bool Fault) → d ≡ lost → WritesTree g root old w lost x new → TellsText (flat_map missing_line d) (λ well. IsTrue well ↔ (d ≡ [])) heard r said → SaysTree g root old before heard r new after said
     tree_said root lost d heard said (Ok well) is k t = (flat_map missing_line d, inl (d, sends, refl, t.0), t.1)
       where
         sends : SendsTree g root old before d new after
@@ -63,7 +63,7 @@ module _ (w x : Written) (before after : Option (List ℕ)) (b : w.bytes ≡ bef
         n : (well : Bool) × (IsTrue well ↔ (d ≡ []))
         n = none_of d
 
-    pub tree_nothing : (E : Type 0) (root : CidParts) (heard said : Option (List ℕ)) (r : Result Bool Fault) → TreeRefused {E = E} g root old w tree.NotStored x new → TellsAll no_block_line (λ well. well ≡ false) heard r said → SaysTree g root old before heard r new after said
+    pub tree_nothing : (E : Type 0) (root : CidParts) (heard said : Option (List ℕ)) (r : Result Bool Fault) → TreeRefused {E = E} g root old w tree.NotStored x new → TellsText no_block_line (λ well. well ≡ false) heard r said → SaysTree g root old before heard r new after said
     tree_nothing E root heard said (Ok well) k t = (no_block_line, inr ((sym a ∙ ap (λ (y : Written). y.bytes) k.0 ∙ b, k.1), refl, t.0), t.1)
     tree_nothing E root heard said (Err e) k t = subst (λ f. TreeFails g root old before heard f new after said) (sym t.1) (t.2, inr (false, no_block_line, inr ((sym a ∙ ap (λ (y : Written). y.bytes) k.0 ∙ b, k.1), refl, refl), t.3))
 

@@ -8,12 +8,12 @@ use Rattle.ipld_tree.specs.Cid.{CidParts, cid_cmp}
 use Rattle.ipld_links.specs.Sets.{Among}
 use Rattle.ipld_links.specs.Reaching.{Stored, stored_in, AreBytesOf}
 use Rattle.ipld_links.proofs.Members.{at_same, same_at, among_push}
-use Rattle.dagcbor_resolve.specs.Resolving.{GoesOn, GoesOver, AreOnTheWay}
+use Rattle.dagcbor_resolve.specs.Resolving.{LeadsOn, GoesOver, AreOnTheWay}
 use Rattle.dagcbor_resolve.specs.Laws.{AgreeOn}
 use Rattle.dagcbor_resolve.proofs.Gathering.{WentTo, went_nowhere, went_on, went_to_end}
 use Rattle.dagcbor_store.specs.Ends.{Quiet}
 use Rattle.dagcbor_store.specs.Stored.{GetsSome, IsSame, IsDamaged}
-use Rattle.dagcbor_store.specs.Trees.{Shows, OfStored}
+use Rattle.dagcbor_store.specs.Trees.{ShowsStored, OfStored}
 use Rattle.dagcbor_store.proofs.Trees.{got_stored}
 use Rattle.dagcbor_store.proofs.Walking.{same_then, damaged_same, fails_same}
 use Rattle.dagcbor_store.specs.declared.error.StoreRefusal.TheVariants as refusal
@@ -21,14 +21,14 @@ use Rattle.dagstore_lines.specs.Blocks.{GetFails}
 use Rattle.dagcar_lines.specs.Paths.{IsAnswerOf}
 use Rattle.dagcar_lines.specs.declared.at.Asked.{Asked}
 use Rattle.dagcar_lines.proofs.Proving.{data_here, bytes_here}
-use Rattle.dagstore_lines.specs.Ways.{IsPartOf, HoldsAlso, HoldsWay, asked_of, IsAnswerIn, ComesTo, WayFails}
+use Rattle.dagstore_lines.specs.Ways.{IsPartOf, HoldsNameToo, HoldsWay, asked_of, IsAnswerIn, ComesTo, WayFails}
 use Rattle.dagstore_lines.specs.declared.fault.Fault.{Fault}
 use Rattle.dagstore_lines.specs.declared.fault.Fault.TheVariants as fault
 
 -- ---- one block
 
 -- none is stored under the name
-pub none_held : (v : View) (name : CidParts) (held : Stored) → GetsSome v name None → HoldsAlso v name held held
+pub none_held : (v : View) (name : CidParts) (held : Stored) → GetsSome v name None → HoldsNameToo v name held held
 none_held v name held none stored shows part = (part, by (held name) refl, λ q same. same)
   where
     free : stored name ≡ None
@@ -39,7 +39,7 @@ none_held v name held none stored shows part = (part, by (held name) refl, λ q 
     by (Some b) e = let k : Some b ≡ None = sym (part name b e) ∙ free in absurd (cc k)
 
 pub one_held : (v : View) (name : CidParts) (block : Vec ℕ Global) (old new : BTreeMap CidParts (Vec ℕ Global)) → GetsSome v name (Some block.items)
-    → ((q : CidParts) → get cid_cmp new q ≡ cond (is_at (cid_cmp name) q) (Some block) (get cid_cmp old q)) → HoldsAlso v name (stored_in old) (stored_in new)
+    → ((q : CidParts) → get cid_cmp new q ≡ cond (is_at (cid_cmp name) q) (Some block) (get cid_cmp old q)) → HoldsNameToo v name (stored_in old) (stored_in new)
 one_held v name block old new gets put stored shows part = (
   λ q b e. some q b (is_at (cid_cmp name) q) refl (sym (now q) ∙ e),
   now name ∙ ap (λ t. cond t (Some block.items) (stored_in old name)) (same_at name name refl) ∙ sym there,
@@ -71,9 +71,9 @@ nothing_held held none q =
 
 -- ---- the way
 
-pub comes_further : (n : ℕ) (stored : Stored) (root name next : CidParts) (path left more : List (List ℕ)) → ComesTo n stored root path name left → GoesOn stored name left next more → ComesTo (suc n) stored root path next more
+pub comes_further : (n : ℕ) (stored : Stored) (root name next : CidParts) (path left more : List (List ℕ)) → ComesTo n stored root path name left → LeadsOn stored name left next more → ComesTo (suc n) stored root path next more
 comes_further zero stored root name next path left more h g =
-    let here = subst (λ q. GoesOn stored q path next more) (sym h.0) (subst (λ p. GoesOn stored name p next more) (sym h.1) g) in
+    let here = subst (λ q. LeadsOn stored q path next more) (sym h.0) (subst (λ p. LeadsOn stored name p next more) (sym h.1) g) in
     (next, more, here, (refl, refl))
 comes_further (suc n) stored root name next path left more h g = (h.0, h.1, h.2, comes_further n stored h.0 name next h.1 left more h.3 g)
 
@@ -100,7 +100,7 @@ held_too : (stored held now : Stored) (names : List CidParts) (name : CidParts) 
     → (q : CidParts) → Among q (names ++ name ∷ []) → now q ≡ stored q
 held_too stored held now names name all kept own q m = elim (among_push q names name m) [ inl o ↦ kept q (all q o) | inr e ↦ subst (λ x. now x ≡ stored x) (sym e) own ]
 
-pub gathered_on : (v : View) (stored : Stored) (root name next : CidParts) (path left more : List (List ℕ)) (held now : Stored) → Shows v stored → Gathered stored root path held name left → HoldsAlso v name held now → ((s : Stored) → s name ≡ now name → GoesOn s name left next more) → Gathered stored root path now next more
+pub gathered_on : (v : View) (stored : Stored) (root name next : CidParts) (path left more : List (List ℕ)) (held now : Stored) → ShowsStored v stored → Gathered stored root path held name left → HoldsNameToo v name held now → ((s : Stored) → s name ≡ now name → LeadsOn s name left next more) → Gathered stored root path now next more
 gathered_on v stored root name next path left more held now shows h also on =
     let k = also stored shows h.part in
     let g = on stored (sym k.1) in
@@ -119,7 +119,7 @@ agree names stored held all q m b = (subst (λ o. under o) (sym (all q m)), subs
     under : Option (List ℕ) → Type 0
     under o = AreBytesOf (λ _. o) q b
 
-pub gathered_all : (v : View) (stored : Stored) (root name : CidParts) (path left : List (List ℕ)) (held now : Stored) → Shows v stored → Gathered stored root path held name left → HoldsAlso v name held now → ((s : Stored) → s name ≡ now name → GoesOver s name left [])
+pub gathered_all : (v : View) (stored : Stored) (root name : CidParts) (path left : List (List ℕ)) (held now : Stored) → ShowsStored v stored → Gathered stored root path held name left → HoldsNameToo v name held now → ((s : Stored) → s name ≡ now name → GoesOver s name left [])
     → (names : List CidParts) × AreOnTheWay stored root path names × AgreeOn names stored now
 gathered_all v stored root name path left held now shows h also end =
     let k = also stored shows h.part in (

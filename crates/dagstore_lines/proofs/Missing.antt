@@ -25,12 +25,12 @@ use Rattle.ipld_links.proofs.Sounding.{no_block}
 use Rattle.ipld_links.proofs.Within.{reached_cid, not_inline}
 use Rattle.ipld_links.proofs.Members.{among_push, push_among, among_map, map_among}
 use Rattle.dagcbor_store.specs.Rows.{name_tree, IsListed, IsStored}
-use Rattle.dagcbor_store.specs.Stored.{IsNamed, IsBehind, IsNext, IsSame, HoldsOnly, IsDamaged, Lists}
+use Rattle.dagcbor_store.specs.Stored.{IsNamedBy, IsBehind, IsNext, IsSame, HoldsOnly, IsDamaged, ListsName}
 use Rattle.dagcbor_store.specs.Lost.{NamesNone, AddsLost, HoldsNoneSound, IsReachedIn}
 use Rattle.dagcbor_store.proofs.Walking.{holds_same}
 use Rattle.dagstore_lines.specs.Lines.{damaged_line}
 use Rattle.dagstore_lines.specs.Names.{AreAll}
-use Rattle.dagstore_lines.specs.Checks.{IsChecked, IsLinked, ListsMissing, Leads, AddsMissing, IsMissing}
+use Rattle.dagstore_lines.specs.Checks.{IsCheckedLine, IsLinked, ListsMissing, LinksTo, AddsUnlistedLinks, IsMissing}
 use Rattle.dagstore_lines.proofs.Telling.{StaysSaid}
 
 -- ---- one name
@@ -38,89 +38,89 @@ use Rattle.dagstore_lines.proofs.Telling.{StaysSaid}
 none_sound_same : (old mid : View) (c : CidParts) → IsSame old mid → HoldsNoneSound mid c → HoldsNoneSound old c
 none_sound_same old mid c same h = subst (λ (t : Trees). IsListed (t name_tree) (cid_bytes c) × ((b : List ℕ) → IsStored t (cid_bytes c) b → IsSound (c, b) → ⊥)) same.trees h
 
-pub checked_stays : StaysSaid IsChecked
+pub checked_stays : StaysSaid IsCheckedLine
 checked_stays old mid now new later same c true t h = (h.0, h.1, h.2, h.3, λ clean. holds_same old mid c h.0 (same clean) (h.4 (later clean)), h.5)
 checked_stays old mid now new later same c false t h = (λ clean. none_sound_same old mid c (same clean) (h.0 (later clean)), h.1)
 
-pub adds_block : (v : View) (c : CidParts) (b : List ℕ) (old new : BTreeSet CidParts) → IsDagCbor c → HoldsOnly v c b → IsNamed c b → AddsLost v b old new → AddsMissing v c old new
+pub adds_block : (v : View) (c : CidParts) (b : List ℕ) (old new : BTreeSet CidParts) → IsDagCbor c → HoldsOnly v c b → IsNamedBy c b → AddsLost v b old new → AddsUnlistedLinks v c old new
 adds_block v c b old new dag only named a q = (
   λ m. elim ((a q).0 m) [ inl o ↦ inl o | inr u ↦ inr ((dag, (b, only.0, named, u.0)), u.1) ],
   λ k. elim k [ inl o ↦ (a q).1 (inl o) | inr u ↦ (a q).1 (inr (subst (λ d. IsReachedIn d q) (only.1 u.0.1.0 u.0.1.1) u.0.1.3, u.1)) ],
 )
 
-adds_none : (v : View) (c : CidParts) (s : BTreeSet CidParts) → ((q : CidParts) → Leads v c q → ⊥) → AddsMissing v c s s
+adds_none : (v : View) (c : CidParts) (s : BTreeSet CidParts) → ((q : CidParts) → LinksTo v c q → ⊥) → AddsUnlistedLinks v c s s
 adds_none v c s none q = (λ m. inl m, λ k. elim k [ inl o ↦ o | inr u ↦ absurd (none q u.0) ])
 
-pub adds_unread : (v : View) (c : CidParts) (s : BTreeSet CidParts) → (IsDagCbor c → ⊥) → AddsMissing v c s s
+pub adds_unread : (v : View) (c : CidParts) (s : BTreeSet CidParts) → (IsDagCbor c → ⊥) → AddsUnlistedLinks v c s s
 adds_unread v c s other = adds_none v c s (λ q l. other l.0)
 
-pub adds_damaged : (v : View) (c : CidParts) (s : BTreeSet CidParts) → IsDamaged v c → AddsMissing v c s s
+pub adds_damaged : (v : View) (c : CidParts) (s : BTreeSet CidParts) → IsDamaged v c → AddsUnlistedLinks v c s s
 adds_damaged v c s damaged = adds_none v c s (λ q l. damaged.1 l.1.0 l.1.1 l.1.2)
 
-pub adds_refused : (v : View) (c : CidParts) (b : List ℕ) (e : DecodeError Infallible) (s : BTreeSet CidParts) → HoldsOnly v c b → SliceRefused e b → (e ≡ unread.OutOfMemory → ⊥) → AddsMissing v c s s
+pub adds_refused : (v : View) (c : CidParts) (b : List ℕ) (e : DecodeError Infallible) (s : BTreeSet CidParts) → HoldsOnly v c b → SliceRefused e b → (e ≡ unread.OutOfMemory → ⊥) → AddsUnlistedLinks v c s s
 adds_refused v c b e s only refused not = adds_none v c s (λ q l. let k = subst (λ d. IsReachedIn d q) (only.1 l.1.0 l.1.1) l.1.3 in no_block e b refused not k.0 k.1)
 
-pub none_sound_refused : (v : View) (c : CidParts) (b : List ℕ) (e : DecodeError Infallible) → Lists v c → HoldsOnly v c b → IsDagCbor c → SliceRefused e b → (e ≡ unread.OutOfMemory → ⊥) → HoldsNoneSound v c
+pub none_sound_refused : (v : View) (c : CidParts) (b : List ℕ) (e : DecodeError Infallible) → ListsName v c → HoldsOnly v c b → IsDagCbor c → SliceRefused e b → (e ≡ unread.OutOfMemory → ⊥) → HoldsNoneSound v c
 none_sound_refused v c b e listed only dag refused not = (listed, λ d s sound. let k = subst HasBlock (only.1 d s) (sound.read dag) in no_block e b refused not k.0 k.1)
 
 pub none_sound_damaged : (v : View) (c : CidParts) → IsDamaged v c → HoldsNoneSound v c
 none_sound_damaged v c h = (h.0, λ b s sound. h.1 b s (sound.by_sha256, sound.digest))
 
-pub adds_same : (old mid : View) (c : CidParts) (s t : BTreeSet CidParts) → IsSame old mid → AddsMissing mid c s t → AddsMissing old c s t
+pub adds_same : (old mid : View) (c : CidParts) (s t : BTreeSet CidParts) → IsSame old mid → AddsUnlistedLinks mid c s t → AddsUnlistedLinks old c s t
 adds_same old mid c s t same h = subst (λ (u : Trees). (q : CidParts) → Among q t.keys
-    ↔ (Among q s.keys ⊎ ((IsDagCbor c × ((b : List ℕ) × IsStored u (cid_bytes c) b × IsNamed c b × IsReachedIn b q)) × (IsListed (u name_tree) (cid_bytes q) → ⊥)))) same.trees h
+    ↔ (Among q s.keys ⊎ ((IsDagCbor c × ((b : List ℕ) × IsStored u (cid_bytes c) b × IsNamedBy c b × IsReachedIn b q)) × (IsListed (u name_tree) (cid_bytes q) → ⊥)))) same.trees h
 
 -- ---- the line of one name
 
-lists_there : (old mid : View) (c : CidParts) → IsSame old mid → Lists old c → Lists mid c
+lists_there : (old mid : View) (c : CidParts) → IsSame old mid → ListsName old c → ListsName mid c
 lists_there old mid c same h = subst (λ (t : Trees). IsListed (t name_tree) (cid_bytes c)) (sym same.trees) h
 
 holds_there : (old mid : View) (c : CidParts) (b : List ℕ) → IsSame old mid → HoldsOnly old c b → HoldsOnly mid c b
 holds_there old mid c b same h = subst (λ (t : Trees). IsStored t (cid_bytes c) b × ((d : List ℕ) → IsStored t (cid_bytes c) d → d ≡ b)) (sym same.trees) h
 
-checked_line : (old new : View) (c : CidParts) (b text : List ℕ) (verdict : Verdict) (well : Bool) → well ≡ true → text ≡ told_line ((c, b), verdict) → IsSound (c, b) → IsVerdict (c, b) verdict → (IsClean new → HoldsOnly old c b) → IsChecked old new c well text
-checked_line old new c b text verdict well is said sound told holds = subst (λ w. IsChecked old new c w text) (sym is) (b, verdict, sound, told, holds, said)
+checked_line : (old new : View) (c : CidParts) (b text : List ℕ) (verdict : Verdict) (well : Bool) → well ≡ true → text ≡ told_line ((c, b), verdict) → IsSound (c, b) → IsVerdict (c, b) verdict → (IsClean new → HoldsOnly old c b) → IsCheckedLine old new c well text
+checked_line old new c b text verdict well is said sound told holds = subst (λ w. IsCheckedLine old new c w text) (sym is) (b, verdict, sound, told, holds, said)
 
-pub unread_checked : (old new : View) (c : CidParts) (b text : List ℕ) (well : Bool) → well ≡ true → text ≡ told_line ((c, b), verdicts.NotRead) → IsNamed c b → (IsDagCbor c → ⊥) → (IsClean new → HoldsOnly old c b) → IsChecked old new c well text
+pub unread_checked : (old new : View) (c : CidParts) (b text : List ℕ) (well : Bool) → well ≡ true → text ≡ told_line ((c, b), verdicts.NotRead) → IsNamedBy c b → (IsDagCbor c → ⊥) → (IsClean new → HoldsOnly old c b) → IsCheckedLine old new c well text
 unread_checked old new c b text well is said named other holds =
     checked_line old new c b text verdicts.NotRead well is said (record { by_sha256 = named.0; digest = named.1; read = λ dag. absurd (other dag) }) (inl named, other) holds
 
-pub block_checked : (old new : View) (c : CidParts) (b text : List ℕ) (kind : Kind) (well : Bool) → well ≡ true → text ≡ told_line ((c, b), verdicts.Block kind) → IsNamed c b → IsDagCbor c → (t : Tree) × IsBlock b t × (kind ≡ kind_of t) → (IsClean new → HoldsOnly old c b) → IsChecked old new c well text
+pub block_checked : (old new : View) (c : CidParts) (b text : List ℕ) (kind : Kind) (well : Bool) → well ≡ true → text ≡ told_line ((c, b), verdicts.Block kind) → IsNamedBy c b → IsDagCbor c → (t : Tree) × IsBlock b t × (kind ≡ kind_of t) → (IsClean new → HoldsOnly old c b) → IsCheckedLine old new c well text
 block_checked old new c b text kind well is said named dag k holds =
     checked_line old new c b text (verdicts.Block kind) well is said (record { by_sha256 = named.0; digest = named.1; read = λ d. (k.0, k.1) }) (inl named, dag, k) holds
 
-pub damaged_checked : (old new : View) (c : CidParts) (text : List ℕ) (well : Bool) → well ≡ false → text ≡ damaged_line c → (IsClean new → HoldsNoneSound old c) → IsChecked old new c well text
-damaged_checked old new c text well is said none = subst (λ w. IsChecked old new c w text) (sym is) (none, said)
+pub damaged_checked : (old new : View) (c : CidParts) (text : List ℕ) (well : Bool) → well ≡ false → text ≡ damaged_line c → (IsClean new → HoldsNoneSound old c) → IsCheckedLine old new c well text
+damaged_checked old new c text well is said none = subst (λ w. IsCheckedLine old new c w text) (sym is) (none, said)
 
-pub judged_checked : {E : Type 0} (old mid new : View) (c : CidParts) (b d : List ℕ) (r : Result (Vec ℕ Global × Bool) E) → d ≡ b → IsNamed c b → (IsClean new → IsClean mid) → (IsClean mid → IsSame old mid) → (IsClean mid → HoldsOnly old c b)
-    → IfOk r (λ p. IsNamed c d → (IsClean new → HoldsOnly mid c d × Lists mid c) → IsChecked mid new c p.1 p.0.items) → IfOk r (λ p. (IsClean new → Lists old c) → IsChecked old new c p.1 p.0.items)
+pub judged_checked : {E : Type 0} (old mid new : View) (c : CidParts) (b d : List ℕ) (r : Result (Vec ℕ Global × Bool) E) → d ≡ b → IsNamedBy c b → (IsClean new → IsClean mid) → (IsClean mid → IsSame old mid) → (IsClean mid → HoldsOnly old c b)
+    → IfOk r (λ p. IsNamedBy c d → (IsClean new → HoldsOnly mid c d × ListsName mid c) → IsCheckedLine mid new c p.1 p.0.items) → IfOk r (λ p. (IsClean new → ListsName old c) → IsCheckedLine old new c p.1 p.0.items)
 judged_checked old mid new c b d (Err e) is named was same holds h = tt
 judged_checked old mid new c b d (Ok p) is named was same holds h = λ listed.
-    checked_stays old mid new new (λ clean. clean) (λ clean. same (was clean)) c p.1 p.0.items (h (subst (IsNamed c) (sym is) named) (λ clean. (
+    checked_stays old mid new new (λ clean. clean) (λ clean. same (was clean)) c p.1 p.0.items (h (subst (IsNamedBy c) (sym is) named) (λ clean. (
       subst (HoldsOnly mid c) (sym is) (holds_there old mid c b (same (was clean)) (holds (was clean))),
       lists_there old mid c (same (was clean)) (listed clean),
     )))
 
-pub judged_missing : {X E : Type 0} (old mid new : View) (c : CidParts) (b d : List ℕ) (s t : BTreeSet CidParts) (r : Result X E) → d ≡ b → IsNamed c b → (IsClean new → IsClean mid) → (IsClean mid → IsSame old mid) → (IsClean mid → HoldsOnly old c b)
-    → OnOk r (IsNamed c d → IsClean new → HoldsOnly mid c d → AddsMissing mid c s t) → OnOk r (IsClean new → Lists old c → AddsMissing old c s t)
+pub judged_missing : {X E : Type 0} (old mid new : View) (c : CidParts) (b d : List ℕ) (s t : BTreeSet CidParts) (r : Result X E) → d ≡ b → IsNamedBy c b → (IsClean new → IsClean mid) → (IsClean mid → IsSame old mid) → (IsClean mid → HoldsOnly old c b)
+    → OnOk r (IsNamedBy c d → IsClean new → HoldsOnly mid c d → AddsUnlistedLinks mid c s t) → OnOk r (IsClean new → ListsName old c → AddsUnlistedLinks old c s t)
 judged_missing old mid new c b d s t (Err e) is named was same holds h = tt
 judged_missing old mid new c b d s t (Ok x) is named was same holds h = λ clean listed.
-    adds_same old mid c s t (same (was clean)) (h (subst (IsNamed c) (sym is) named) clean (subst (HoldsOnly mid c) (sym is) (holds_there old mid c b (same (was clean)) (holds (was clean)))))
+    adds_same old mid c s t (same (was clean)) (h (subst (IsNamedBy c) (sym is) named) clean (subst (HoldsOnly mid c) (sym is) (holds_there old mid c b (same (was clean)) (holds (was clean)))))
 
 pub next_missing : (old mid new : View) (last : Option CidParts) (c : CidParts) (s t : BTreeSet CidParts) → (IsClean new → IsClean mid) → (IsClean mid → IsSame old mid) → (IsClean mid → IsNext (old.trees name_tree) last c)
-    → (IsClean new → Lists mid c → AddsMissing mid c s t) → IsClean new → AddsMissing old c s t
+    → (IsClean new → ListsName mid c → AddsUnlistedLinks mid c s t) → IsClean new → AddsUnlistedLinks old c s t
 next_missing old mid new last c s t was same next h clean = adds_same old mid c s t (same (was clean)) (h clean (lists_there old mid c (same (was clean)) (next (was clean)).listed))
 
 -- ---- the walk
 
 -- the set has the names that links in the blocks under these lead to which are not listed
 abbrev pub MissingOf : View → List CidParts → BTreeSet CidParts → Type 0
-MissingOf v names s = (q : CidParts) → Among q s.keys ↔ (((c : CidParts) × Among c names × Leads v c q) × (Lists v q → ⊥))
+MissingOf v names s = (q : CidParts) → Among q s.keys ↔ (((c : CidParts) × Among c names × LinksTo v c q) × (ListsName v q → ⊥))
 
 pub missing_none : (v : View) (s : BTreeSet CidParts) → s.keys ≡ [] → MissingOf v [] s
 missing_none v s none q = (λ m. absurd (subst (Among q) none m), λ h. absurd h.0.1)
 
-pub missing_more : (v : View) (names : List CidParts) (c : CidParts) (old new : BTreeSet CidParts) → MissingOf v names old → AddsMissing v c old new → MissingOf v (names ++ c ∷ []) new
+pub missing_more : (v : View) (names : List CidParts) (c : CidParts) (old new : BTreeSet CidParts) → MissingOf v names old → AddsUnlistedLinks v c old new → MissingOf v (names ++ c ∷ []) new
 missing_more v names c old new h a q = (
   λ m. elim ((a q).0 m) [
     | inl o ↦ let k = (h q).0 o in ((k.0.0, push_among k.0.0 names c (inl k.0.1), k.0.2), k.1)
@@ -128,7 +128,7 @@ missing_more v names c old new h a q = (
   ],
   λ k. elim (among_push k.0.0 names c k.0.1) [
     | inl m ↦ (a q).1 (inl ((h q).1 ((k.0.0, m, k.0.2), k.1)))
-    | inr e ↦ (a q).1 (inr (subst (λ x. Leads v x q) e k.0.2, k.1))
+    | inr e ↦ (a q).1 (inr (subst (λ x. LinksTo v x q) e k.0.2, k.1))
   ],
 )
 

@@ -13,7 +13,7 @@ use Rattle.dagcbor_store.specs.Rows.{name_tree, IsListed}
 use Rattle.dagcbor_store.specs.Stored.{IsTaken, IsCommitted}
 use Rattle.dagcbor_store.specs.Collecting.{TakesOut}
 use Rattle.dagcbor_store.proofs.Sweeping.{those_as, those_all, those_less, none_out, one_out}
-use Rattle.dagstore_lines.specs.Changes.{HoldsOthers, TakesNames, IsRemoved, Removes, SaysTaken, SaysRemoved}
+use Rattle.dagstore_lines.specs.Changes.{ListsOthers, RemovesNames, IsRemoved, Removes, SaysTaken, SaysRemoved}
 use Rattle.dagstore_lines.specs.Lines.{no_block_line}
 use Rattle.dagstore_lines.specs.declared.fault.Fault.{Fault}
 use Rattle.dagstore_lines.specs.declared.fault.Fault.TheVariants as fault
@@ -31,7 +31,7 @@ forms_among (x ∷ xs) c q (inl (inl e)) = inl e
 forms_among (x ∷ xs) c q (inl (inr m)) = inr (forms_among xs c q (inl m))
 forms_among (x ∷ xs) c q (inr e) = inr (forms_among xs c q (inr e))
 
-pub none_taken : (v : View) → TakesNames v v [] 0
+pub none_taken : (v : View) → RemovesNames v v [] 0
 none_taken v = record {
   trees = those_as (λ q. ⊤) (λ q. Among q (forms []) → ⊥) v.trees v.trees (λ q l. (λ t m. m, λ s. tt)) (those_all v.trees);
   taken = none_out v.trees;
@@ -58,7 +58,7 @@ none_more old mid new c count taken t = (
     apart : (q : List ℕ) → IsListed (mid.trees name_tree) q → q ≡ cid_bytes c → ⊥
     apart q l e = not_true (t.was.1 (subst (IsListed (mid.trees name_tree)) e l))
 
-takes_more : (old mid new : View) (names : List CidParts) (count : ℕ) (c : CidParts) (taken : Bool) → TakesNames old mid names count → IsTaken mid new c taken → TakesNames old new (names ++ c ∷ []) (count + bool_byte taken)
+takes_more : (old mid new : View) (names : List CidParts) (count : ℕ) (c : CidParts) (taken : Bool) → RemovesNames old mid names count → IsTaken mid new c taken → RemovesNames old new (names ++ c ∷ []) (count + bool_byte taken)
 takes_more old mid new names count c taken h t = record {
   trees = those_as (λ q. (Among q (forms names) → ⊥) × (q ≡ cid_bytes c → ⊥)) (λ q. Among q (forms (names ++ c ∷ [])) → ⊥) old.trees new.trees alike (those_less (λ q. Among q (forms names) → ⊥) old mid new c taken h.trees t);
   taken = counted taken t;
@@ -80,19 +80,19 @@ takes_more old mid new names count c taken h t = record {
     counted true k = one_out (λ q. Among q (forms names) → ⊥) old mid new c count h.trees h.taken (k.was.0 refl) k
     counted false k = subst (TakesOut old.trees new.trees) (sym (add-zero count)) (none_more old mid new c count h.taken k)
 
-pub takes_next : (old mid new : View) (names : List CidParts) (i count : ℕ) (c : CidParts) (taken : Bool) → i < length names → c ≡ get_or names i c → TakesNames old mid (take i names) count → IsTaken mid new c taken → TakesNames old new (take (i + 1) names) (count + bool_byte taken)
+pub takes_next : (old mid new : View) (names : List CidParts) (i count : ℕ) (c : CidParts) (taken : Bool) → i < length names → c ≡ get_or names i c → RemovesNames old mid (take i names) count → IsTaken mid new c taken → RemovesNames old new (take (i + 1) names) (count + bool_byte taken)
 takes_next old mid new names i count c taken within is h t =
     let longer : take i names ++ c ∷ [] ≡ take (i + 1) names = ap (λ y. take i names ++ y ∷ []) is ∙ sym (take-suc names i c within) ∙ ap (λ n. take n names) (sym (add-one i)) in
-    subst (λ ns. TakesNames old new ns (count + bool_byte taken)) longer (takes_more old mid new (take i names) count c taken h t)
+    subst (λ ns. RemovesNames old new ns (count + bool_byte taken)) longer (takes_more old mid new (take i names) count c taken h t)
 
-pub takes_all : (old new : View) (names : List CidParts) (i count : ℕ) → i ≤ length names → length names ≤ i → TakesNames old new (take i names) count → TakesNames old new names count
+pub takes_all : (old new : View) (names : List CidParts) (i count : ℕ) → i ≤ length names → length names ≤ i → RemovesNames old new (take i names) count → RemovesNames old new names count
 takes_all old new names i count below end h =
     let same : i ≡ length names = omega (arith, below, end) in
-    subst (λ ns. TakesNames old new ns count) (ap (λ n. take n names) same ∙ take-length names) h
+    subst (λ ns. RemovesNames old new ns count) (ap (λ n. take n names) same ∙ take-length names) h
 
-pub removed : (old mid new : View) (names : List CidParts) (count : ℕ) → TakesNames old mid names count → IsCommitted mid new → IsRemoved old new names count
+pub removed : (old mid new : View) (names : List CidParts) (count : ℕ) → RemovesNames old mid names count → IsCommitted mid new → IsRemoved old new names count
 removed old mid new names count h c = record {
-  trees = subst (HoldsOthers names old.trees) (sym c.trees) h.trees;
+  trees = subst (ListsOthers names old.trees) (sym c.trees) h.trees;
   taken = subst (λ t. TakesOut old.trees t count) (sym c.trees) h.taken;
   committed = c.committed ∙ sym c.trees;
   is_open = c.is_open;

@@ -14,7 +14,7 @@ use Rattle.ipld_links.specs.Sound.{IsSound}
 use Rattle.dagcbor_store.specs.Rows.{name_tree, IsStored, IsListed}
 use Rattle.dagcbor_store.specs.RootRows.{LeavesOut}
 use Rattle.dagcbor_store.specs.Ends.{Quiet, KeepsOthers, IsOfBlocks}
-use Rattle.dagcbor_store.specs.Stored.{IsSame, IsUndone, IsCommitted, Fails, TellsOfStore}
+use Rattle.dagcbor_store.specs.Stored.{IsSame, IsUndone, IsCommitted, FailsByStore, TellsOfStore}
 use Rattle.dagcbor_store.specs.Roots.{AreRootsAdded, IsAnyTooLong, RootsRefused, IsRootTaken}
 use Rattle.dagcbor_store.specs.Cars.{IsSectionIn, RootsNotKept}
 use Rattle.dagcbor_store.specs.Walking.{AreBlocks, AreFirstBlocks}
@@ -165,16 +165,16 @@ module _ {S : Type 0} (g : Ghosts S) (names : List CidParts) where
   )
 
   module _ (old mid new : S) (before : Quiet g old mid) (was : IsClean (g.view new) → IsClean (g.view mid)) (added : IsClean (g.view mid) → AreRootsAdded (g.view old) (g.view mid) names) where
-    failed_behind : (told : StoreRefusal) → Fails g ⊥ mid new told → Fails g (IsAnyTooLong (g.view old).reals names) old new told
+    failed_behind : (told : StoreRefusal) → FailsByStore g ⊥ mid new told → FailsByStore g (IsAnyTooLong (g.view old).reals names) old new told
     failed_behind told f = fails_behind g ⊥ (IsAnyTooLong (g.view old).reals names) old mid new told before was (λ clean. let a = added clean in (a.broken, last_rooted (g.view old) (g.view mid) names a, λ u. absurd u)) f
 
-    not_kept : (told : StoreRefusal) → Fails g ⊥ mid new told → RootsNotKept g names old new told
+    not_kept : (told : StoreRefusal) → FailsByStore g ⊥ mid new told → RootsNotKept g names old new told
     not_kept refusal.EarlierVersion f = absurd (tells_no_version f.0 f.1)
     not_kept refusal.NoNumber f = absurd (tells_no_number f.0 f.1)
     not_kept told f = failed_behind told f
 
     -- a commit that failed
-    pub adding_failed : (told : StoreRefusal) → Fails g ⊥ mid new told → RootsNotKept g names old new told × (IsClean (g.view new) → IsUndone (g.view old) (g.view new))
+    pub adding_failed : (told : StoreRefusal) → FailsByStore g ⊥ mid new told → RootsNotKept g names old new told × (IsClean (g.view new) → IsUndone (g.view old) (g.view new))
     adding_failed told f = (not_kept told f, λ clean. ((failed_behind told f).3 clean).1)
 
 -- ---- taking out

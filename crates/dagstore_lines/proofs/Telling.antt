@@ -11,11 +11,11 @@ use Rattle.block_lines.specs.Lines.{BreaksLine, IsSaidOfEach}
 use Rattle.block_lines.proofs.Saying.{each_push, each_map}
 use Rattle.dagcbor_store.specs.Ends.{Quiet}
 use Rattle.dagcbor_store.specs.Rows.{name_tree, IsListed as IsIn}
-use Rattle.dagcbor_store.specs.Stored.{IsNext, GivesNext, Lists, IsSame, StaysSame}
+use Rattle.dagcbor_store.specs.Stored.{IsNext, GivesNextName, ListsName, IsSame, StaysSame}
 use Rattle.dagcbor_store.proofs.Adding.{quiet_itself, quiet_then}
 use Rattle.dagcbor_store.proofs.Walking.{next_same, none_same, holds_same, damaged_same, same_itself, same_then, fails_same}
 use Rattle.dagstore_lines.specs.Said.{StoreFails, Breaks}
-use Rattle.dagstore_lines.specs.Names.{AreFirst, AreAll, last_of, Telling, IsNextLine, SaysNames, IsListed}
+use Rattle.dagstore_lines.specs.Names.{AreFirst, AreAll, last_of, Telling, IsNextLine, SaysNames, IsListedLine}
 use Rattle.dagstore_lines.specs.declared.fault.Fault.{Fault}
 use Rattle.dagstore_lines.specs.declared.fault.Fault.TheVariants as fault
 
@@ -29,7 +29,7 @@ last_push : (last : Option CidParts) (names : List CidParts) (c : CidParts) → 
 last_push last [] c = refl
 last_push last (x ∷ xs) c = last_push (Some x) xs c
 
-first_all : (v : View) (last : Option CidParts) (names : List CidParts) → AreFirst v last names → GivesNext v (last_of last names) None → AreAll v last names
+first_all : (v : View) (last : Option CidParts) (names : List CidParts) → AreFirst v last names → GivesNextName v (last_of last names) None → AreAll v last names
 first_all v last [] h none = none
 first_all v last (x ∷ xs) h none = (h.0, first_all v (Some x) xs h.1 none)
 
@@ -43,13 +43,13 @@ all_first v last (x ∷ xs) h = (h.0, all_first v (Some x) xs h.1)
 abbrev pub StaysSaid : Telling → Type 0
 StaysSaid IsSaid = (old mid now new : View) → (IsClean new → IsClean now) → (IsClean new → IsSame old mid) → (c : CidParts) (w : Bool) (t : List ℕ) → IsSaid mid now c w t → IsSaid old new c w t
 
-pub listed_stays : StaysSaid IsListed
+pub listed_stays : StaysSaid IsListedLine
 listed_stays old mid now new later same c true t h = (h.0, h.1, λ clean. holds_same old mid c h.0 (same clean) (h.2 (later clean)), h.3)
 listed_stays old mid now new later same c false t h = (λ clean. damaged_same old mid c (same clean) (h.0 (later clean)), h.1)
 
 -- what is said of the next name, where something is listed under it
 pub said_of_next : (IsSaid : Telling) (old mid new : View) (last : Option CidParts) (c : CidParts) (w : Bool) (t : List ℕ) → StaysSaid IsSaid → (IsClean new → IsClean mid) → (IsClean mid → IsSame old mid) → (IsClean mid → IsNext (old.trees name_tree) last c)
-    → ((IsClean new → Lists mid c) → IsSaid mid new c w t) → IsSaid old new c w t
+    → ((IsClean new → ListsName mid c) → IsSaid mid new c w t) → IsSaid old new c w t
 said_of_next IsSaid old mid new last c w t stays was same next is =
     stays old mid new new (λ clean. clean) (λ clean. same (was clean)) c w t (is (λ clean. subst (λ (u : Trees). IsIn (u name_tree) (cid_bytes c)) (sym (same (was clean)).trees) (next (was clean)).listed))
 
@@ -109,14 +109,14 @@ module _ {S : Type 0} (g : Ghosts S) where
       was : IsClean (g.view new) → IsClean (g.view mid)
       was clean = omega (arith, quiet.clean)
 
-  pub all_names : (IsSaid : Telling) (old mid new : S) (before between : Option (List ℕ)) (names : List CidParts) (last : Option CidParts) (well : Bool) → SaidSoFar IsSaid old before names last well mid between → (IsClean (g.view new) → GivesNext (g.view mid) last None) → Quiet g mid new
+  pub all_names : (IsSaid : Telling) (old mid new : S) (before between : Option (List ℕ)) (names : List CidParts) (last : Option CidParts) (well : Bool) → SaidSoFar IsSaid old before names last well mid between → (IsClean (g.view new) → GivesNextName (g.view mid) last None) → Quiet g mid new
       → IsClean (g.view new) → AreAll (g.view old) None names
   all_names IsSaid old mid new before between names last well h none quiet clean =
       let w = h.first (omega (arith, quiet.clean)) in
-      first_all (g.view old) None names w.1 (subst (λ l. GivesNext (g.view old) l None) h.is_last (none_same (g.view old) (g.view mid) last w.0 (none clean)))
+      first_all (g.view old) None names w.1 (subst (λ l. GivesNextName (g.view old) l None) h.is_last (none_same (g.view old) (g.view mid) last w.0 (none clean)))
 
   pub all_said : (IsSaid : Telling) (old mid new : S) (before between after : Option (List ℕ)) (names : List CidParts) (last : Option CidParts) (well : Bool) → StaysSaid IsSaid → SaidSoFar IsSaid old before names last well mid between → after ≡ between
-      → (IsClean (g.view new) → GivesNext (g.view mid) last None) → Quiet g mid new → SaysNames IsSaid (g.view old) before (Ok well) (g.view new) after
+      → (IsClean (g.view new) → GivesNextName (g.view mid) last None) → Quiet g mid new → SaysNames IsSaid (g.view old) before (Ok well) (g.view new) after
   all_said IsSaid old mid new before between after names last well stays h out none quiet = (
     names,
     h.said,

@@ -5,7 +5,7 @@ use Rattle.sqlite_trees.specs.View.{View, IsClean}
 use Rattle.sqlite_trees.specs.declared.store.Store.{Ghosts}
 use Rattle.ipld_tree.specs.Cid.{CidParts}
 use Rattle.dagcbor_store.specs.Rows.{name_tree}
-use Rattle.dagcbor_store.specs.Stored.{IsNamed, HoldsOnly, Lists, GetRefused, StaysSame, Fails}
+use Rattle.dagcbor_store.specs.Stored.{IsNamedBy, HoldsOnly, ListsName, GetRefused, StaysSame, FailsByStore}
 use Rattle.dagstore_lines.specs.Lines.{count_line, no_block_line}
 use Rattle.dagstore_lines.specs.Said.{Breaks}
 use Rattle.dagstore_lines.specs.declared.fault.Fault.{Fault}
@@ -29,9 +29,9 @@ SaysCount old before result new after = MatchResult result
 -- what `get` gives: the bytes that are stored under the name, which it names; or nothing, and a line
 -- that tells that nothing is listed under it
 abbrev pub IsGot : CidParts → View → View → Bool → List ℕ → List ℕ → Type 0
-IsGot name old new well out told = (IsNamed name out × (IsClean new → HoldsOnly old name out)
+IsGot name old new well out told = (IsNamedBy name out × (IsClean new → HoldsOnly old name out)
     × (well ≡ true) × (told ≡ []))
-    ⊎ ((IsClean new → ¬ Lists old name) × (well ≡ false) × (out ≡ []) × (told ≡ no_block_line))
+    ⊎ ((IsClean new → ¬ ListsName old name) × (well ≡ false) × (out ≡ []) × (told ≡ no_block_line))
 
 -- what is stored under the name is damaged, or the store failed; or it is as it was, and a device
 -- failed, or memory was wanting
@@ -44,6 +44,6 @@ GetFails g name old new (fault.Tool e) = StaysSame g old new
 -- Something is listed under the name, or nothing is, and the store is as it was; or the store failed.
 abbrev pub Has : {S : Type 0} → Ghosts S → CidParts → S → Result Bool Fault → S → Type 0
 Has g name old (Ok found) new = StaysSame g old new
-    × (IsClean (g.view new) → IsTrue found ↔ Lists (g.view old) name)
-Has g name old (Err (fault.Store told)) new = Fails g ⊥ old new told
+    × (IsClean (g.view new) → IsTrue found ↔ ListsName (g.view old) name)
+Has g name old (Err (fault.Store told)) new = FailsByStore g ⊥ old new told
 Has g name old (Err (fault.Tool e)) new = ⊥

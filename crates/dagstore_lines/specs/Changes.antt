@@ -14,7 +14,7 @@ use Rattle.ipld_links.specs.Sound.{IsSound}
 use Rattle.dagcbor_cli.specs.declared.fault.ToolError.{ToolError}
 use Rattle.dagcbor_cli.specs.declared.fault.ToolError.TheVariants.{Input, Output, OutOfMemory}
 use Rattle.block_lines.specs.Lines.{line}
-use Rattle.dagcbor_store.specs.Stored.{IsPut, PutRefused, Fails}
+use Rattle.dagcbor_store.specs.Stored.{IsPut, PutRefused, FailsByStore}
 use Rattle.dagcbor_store.specs.Collecting.{HoldsThose, TakesOut, IsCollected, CollectRefused}
 use Rattle.dagcbor_store.specs.declared.error.StoreRefusal.{StoreRefusal}
 use Rattle.dagcbor_store.specs.declared.error.StoreRefusal.TheVariants as refusal
@@ -41,8 +41,8 @@ abbrev pub name_as : ℕ → List ℕ → CidParts
 name_as codec b = cid_parts 1 codec 0x12 (sha256 b)
 
 -- the block is sound under the name, is stored under it, and all is committed
-abbrev pub IsKept : {S : Type 0} → Ghosts S → CidParts → List ℕ → S → S → Type 0
-IsKept g name b old new = IsSound (name, b) × (IsClean (g.view new) → IsPut (g.view old) (g.view new) name b)
+abbrev pub IsPutWell : {S : Type 0} → Ghosts S → CidParts → List ℕ → S → S → Type 0
+IsPutWell g name b old new = IsSound (name, b) × (IsClean (g.view new) → IsPut (g.view old) (g.view new) name b)
 
 -- the line of a name
 abbrev pub name_line : CidParts → List ℕ
@@ -51,11 +51,11 @@ name_line name = line (cid_text name)
 -- The block is kept, and the line of its name went out; or the store refused, and nothing did; or the
 -- block is kept, and the line is not out.
 abbrev pub SaysPut : {S : Type 0} → Ghosts S → CidParts → List ℕ → S → Option (List ℕ) → Result Bool Fault → S → Option (List ℕ) → Type 0
-SaysPut g name b old before (Ok well) new after = IsKept g name b old new × (well ≡ true)
+SaysPut g name b old before (Ok well) new after = IsPutWell g name b old new × (well ≡ true)
     × Appends before after (name_line name)
 SaysPut g name b old before (Err (fault.Store told)) new after = PutRefused g (name, b) old new told
     × (after ≡ before)
-SaysPut g name b old before (Err (fault.Tool e)) new after = IsKept g name b old new
+SaysPut g name b old before (Err (fault.Tool e)) new after = IsPutWell g name b old new
     × TextFails (name_line name) before e after
 
 -- ---- gc
@@ -81,13 +81,13 @@ SaysCollected g roots old before heard (Err (fault.Tool e)) new after told = (co
 -- ---- remove
 
 -- what is stored is what was, without these names
-abbrev pub HoldsOthers : List CidParts → Trees → Trees → Type 0
-HoldsOthers names = HoldsThose (λ q. ¬ Among q (forms names))
+abbrev pub ListsOthers : List CidParts → Trees → Trees → Type 0
+ListsOthers names = HoldsThose (λ q. ¬ Among q (forms names))
 
 -- what is stored is what was, without these names, so many of them were listed, and what was
 -- committed stands
-pub record TakesNames (old new : View) (names : List CidParts) (count : ℕ) : Type 0 where
-  pub trees : HoldsOthers names old.trees new.trees
+pub record RemovesNames (old new : View) (names : List CidParts) (count : ℕ) : Type 0 where
+  pub trees : ListsOthers names old.trees new.trees
   pub taken : TakesOut old.trees new.trees count
   pub committed : new.committed ≡ old.committed
   pub is_open : new.is_open ≡ old.is_open
@@ -96,7 +96,7 @@ pub record TakesNames (old new : View) (names : List CidParts) (count : ℕ) : T
 -- what is stored is what was, without these names, so many of them were listed, and all is
 -- committed
 pub record IsRemoved (old new : View) (names : List CidParts) (count : ℕ) : Type 0 where
-  pub trees : HoldsOthers names old.trees new.trees
+  pub trees : ListsOthers names old.trees new.trees
   pub taken : TakesOut old.trees new.trees count
   pub committed : new.committed ≡ new.trees
   pub is_open : IsTrue new.is_open
@@ -120,7 +120,7 @@ SaysTaken none count given before heard (Err (fault.Tool e)) after told =
 -- The names are taken out, and it is said how many were listed; or the store failed, and nothing went out.
 abbrev pub SaysRemoved : {S : Type 0} → Ghosts S → List CidParts → S → Option (List ℕ) → Option (List ℕ)
     → Result Bool Fault → S → Option (List ℕ) → Option (List ℕ) → Type 0
-SaysRemoved g names old before heard (Err (fault.Store why)) new after told = Fails g ⊥ old new why
+SaysRemoved g names old before heard (Err (fault.Store why)) new after told = FailsByStore g ⊥ old new why
     × (after ≡ before) × (told ≡ heard)
 SaysRemoved g names old before heard ended new after told = (count : ℕ) × Removes g names old new count
     × SaysTaken no_block_line count (length names) before heard ended after told

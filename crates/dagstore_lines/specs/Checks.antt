@@ -15,7 +15,7 @@ use Rattle.ipld_links.specs.Verdicts.{IsDagCbor, IsVerdict}
 use Rattle.ipld_links.specs.Within.{IsReached}
 use Rattle.ipld_links.specs.declared.verdict.Verdict.{Verdict}
 use Rattle.block_lines.specs.Lines.{told_line, missing_line, IsSaidOfEach}
-use Rattle.dagcbor_store.specs.Stored.{IsNamed, Holds, HoldsOnly, Lists}
+use Rattle.dagcbor_store.specs.Stored.{IsNamedBy, Holds, HoldsOnly, ListsName}
 use Rattle.dagcbor_store.specs.Lost.{NamesNone, HoldsNoneSound, IsReachedIn}
 use Rattle.dagstore_lines.specs.Lines.{damaged_line}
 use Rattle.dagstore_lines.specs.Said.{Breaks}
@@ -24,17 +24,17 @@ use Rattle.dagstore_lines.specs.declared.fault.Fault.{Fault}
 
 -- the verdict on the bytes that are stored under the name, which are sound; or nothing sound is stored
 -- under it
-abbrev pub IsChecked : Telling
-IsChecked old new name true text = (b : List ℕ) × (verdict : Verdict) × IsSound (name, b)
+abbrev pub IsCheckedLine : Telling
+IsCheckedLine old new name true text = (b : List ℕ) × (verdict : Verdict) × IsSound (name, b)
     × IsVerdict (name, b) verdict × (IsClean new → HoldsOnly old name b)
     × (text ≡ told_line ((name, b), verdict))
-IsChecked old new name false text = (IsClean new → HoldsNoneSound old name) × (text ≡ damaged_line name)
+IsCheckedLine old new name false text = (IsClean new → HoldsNoneSound old name) × (text ≡ damaged_line name)
 
 -- the binary form is that of a link in a stored block of DAG-CBOR, whose bytes are those that its
 -- name names, or of one within such a link
 abbrev pub IsLinked : List ℕ → View → Type 0
 IsLinked form v = (c : CidParts) × (b : List ℕ) × (t : Tree) × AreCidParts c × IsDagCbor c × Holds v c b
-    × IsNamed c b × IsBlock b t × IsReached form (links_of t)
+    × IsNamedBy c b × IsBlock b t × IsReached form (links_of t)
 
 -- those of them that name nothing that is listed, nor hold a block themselves, each once, in their order
 abbrev pub ListsMissing : View → List CidParts → Type 0
@@ -47,7 +47,7 @@ pub record IsStoreChecked (old new : View) (before : Option (List ℕ)) (well : 
   pub all_well : Bool
   pub said : List ℕ
   pub all : IsClean new → AreAll old None names
-  pub each : IsSaidOfEach (IsChecked old new) names all_well said
+  pub each : IsSaidOfEach (IsCheckedLine old new) names all_well said
   pub links : List CidParts
   pub missing : IsClean new → ListsMissing old links
   pub none : Bool
@@ -57,9 +57,9 @@ pub record IsStoreChecked (old new : View) (before : Option (List ℕ)) (well : 
 
 -- It broke off at a name, or behind all of them: of the lines of the missing links a front went out.
 abbrev pub BreaksCheck : View → View → Option (List ℕ) → Fault → Option (List ℕ) → Type 0
-BreaksCheck old new before e after = SaysNames IsChecked old before (Err e) new after
+BreaksCheck old new before e after = SaysNames IsCheckedLine old before (Err e) new after
     ⊎ ((between : Option (List ℕ)) × (well : Bool) × (links : List CidParts)
-    × SaysNames IsChecked old before (Ok well) new between × (IsClean new → ListsMissing old links)
+    × SaysNames IsCheckedLine old before (Ok well) new between × (IsClean new → ListsMissing old links)
     × Breaks (λ text. text ≡ flat_map missing_line links) between after e)
 
 abbrev pub SaysCheck : View → Option (List ℕ) → Result Bool Fault → View → Option (List ℕ) → Type 0
@@ -69,23 +69,23 @@ SaysCheck old before (Err e) new after = BreaksCheck old new before e after
 -- ---- the set of missing links
 
 -- links in the block under the first name, which is sound, lead to the second
-abbrev pub Leads : View → CidParts → CidParts → Type 0
-Leads v c q = IsDagCbor c × ((b : List ℕ) × Holds v c b × IsNamed c b × IsReachedIn b q)
+abbrev pub LinksTo : View → CidParts → CidParts → Type 0
+LinksTo v c q = IsDagCbor c × ((b : List ℕ) × Holds v c b × IsNamedBy c b × IsReachedIn b q)
 
 -- those of the names that links in the block under this one lead to which are not listed are put into
 -- the set
-abbrev pub AddsMissing : View → CidParts → BTreeSet CidParts → BTreeSet CidParts → Type 0
-AddsMissing v c old new = (q : CidParts) → Among q new.keys ↔ (Among q old.keys ⊎ (Leads v c q × ¬ Lists v q))
+abbrev pub AddsUnlistedLinks : View → CidParts → BTreeSet CidParts → BTreeSet CidParts → Type 0
+AddsUnlistedLinks v c old new = (q : CidParts) → Among q new.keys ↔ (Among q old.keys ⊎ (LinksTo v c q × ¬ ListsName v q))
 
 -- such names of the next block, if there is one, are put into the set
 abbrev pub AddsOfNext : View → Option (CidParts × Bool) → BTreeSet CidParts → BTreeSet CidParts → Type 0
 AddsOfNext v None old new = new ≡ old
-AddsOfNext v (Some p) old new = AddsMissing v p.0 old new
+AddsOfNext v (Some p) old new = AddsUnlistedLinks v p.0 old new
 
 -- the set has all of them
 abbrev pub IsMissing : View → BTreeSet CidParts → Type 0
 IsMissing v s = (q : CidParts) → Among q s.keys
-    ↔ (((c : CidParts) × AreCidParts c × Leads v c q) × ¬ Lists v q)
+    ↔ (((c : CidParts) × AreCidParts c × LinksTo v c q) × ¬ ListsName v q)
 
 -- the lines of the CIDs of a set, which rise, and whether there is none
 abbrev pub SaysKeys : {E : Type 0} → List CidParts → Result (Vec ℕ Global × Bool) E → Type 0

@@ -38,8 +38,8 @@ IsFirstFault (text ∷ texts) e = IsTextFault e text
     ⊎ (((name : CidParts) × IsTextOf text name) × IsFirstFault texts e)
 
 -- CIDs stand behind the word, and nothing else
-abbrev pub TakesNames : List ℕ → Type 0
-TakesNames word = (word ≡ codes "export") ⊎ ((word ≡ codes "get") ⊎ ((word ≡ codes "has")
+abbrev pub WantsNames : List ℕ → Type 0
+WantsNames word = (word ≡ codes "export") ⊎ ((word ≡ codes "get") ⊎ ((word ≡ codes "has")
     ⊎ ((word ≡ codes "tree") ⊎ ((word ≡ codes "remove") ⊎ ((word ≡ codes "gc")
     ⊎ ((word ≡ codes "add-root") ⊎ (word ≡ codes "drop-root")))))))
 
@@ -102,7 +102,7 @@ IsSaidOf path word rest (words.Do file command) = (path ≡ file.now)
     × ((names : List CidParts) × AreTextsOf rest names × IsCommand word names command)
 IsSaidOf path word rest (words.At file asking inner) = (path ≡ file.now) × (word ≡ codes "at")
     × ((text : List ℕ) × IsAskedBy rest asking.is_raw text × IsTextOf (name_part text) asking.root × (inner.now ≡ path_part text))
-IsSaidOf path word rest (words.NoCid e) = (TakesNames word × IsFirstFault rest e)
+IsSaidOf path word rest (words.NoCid e) = (WantsNames word × IsFirstFault rest e)
     ⊎ ((word ≡ codes "at") × ((is_raw : Bool) × (text : List ℕ) × IsAskedBy rest is_raw text × IsTextFault e (name_part text)))
 IsSaidOf path word rest _ = ⊥
 

@@ -19,13 +19,13 @@ use Rattle.block_lines.specs.Names.{fault_name}
 use Rattle.dagcbor_store.specs.Stored.{IsSame, IsUndone}
 use Rattle.dagcbor_store.specs.Cars.{IsRead, IsFilled, ReadRefused}
 use Rattle.dagcbor_store.specs.Roots.{GainsRoots, MayKeepRoots}
-use Rattle.dagcbor_store.specs.Walking.{AreNamed, AreBlocks, AreFirstBlocks, WalkRefused}
+use Rattle.dagcbor_store.specs.Walking.{AreAllNamed, AreBlocks, AreFirstBlocks, WalkRefused}
 use Rattle.dagcbor_store.specs.declared.car_error.ReadCarError.{ReadCarError}
 use Rattle.dagcbor_store.specs.declared.car_error.ReadCarError.TheVariants as car
 use Rattle.dagcbor_store.specs.declared.car_error.WriteCarError.{WriteCarError}
 use Rattle.dagcbor_store.specs.declared.car_error.WriteCarError.TheVariants as unwritten
 use Rattle.dagstore_lines.specs.Lines.{stored_line}
-use Rattle.dagstore_lines.specs.Refusals.{told_line, tool_text, refusal_text, refusal_status, status_of, TellsEnd}
+use Rattle.dagstore_lines.specs.Refusals.{told_line, tool_text, refusal_text, refusal_status, status_of, TellsRunFault}
 use Rattle.dagstore_lines.specs.declared.fault.Fault.{Fault}
 use Rattle.dagstore_lines.specs.declared.fault.Fault.TheVariants as fault
 
@@ -40,17 +40,17 @@ fault_of (unwritten.Store told) = fault.Store told
 -- the file of some first blocks went out, and the store refused; or of such a file a front did, and the
 -- device failed, or memory was wanting
 abbrev pub ExportFails : {S : Type 0} → Ghosts S → List (List ℕ) → S → Option (List ℕ) → Fault → S → Option (List ℕ) → Type 0
-ExportFails g roots old before (fault.Store told) new after = (sections : List Section) × AreNamed sections
+ExportFails g roots old before (fault.Store told) new after = (sections : List Section) × AreAllNamed sections
     × (IsClean (g.view new) → AreFirstBlocks (g.view old) sections)
     × Appends before after (car_bytes roots sections) × WalkRefused g old new told
-ExportFails g roots old before (fault.Tool e) new after = (sections : List Section) × AreNamed sections
+ExportFails g roots old before (fault.Tool e) new after = (sections : List Section) × AreAllNamed sections
     × (IsClean (g.view new) → AreFirstBlocks (g.view old) sections × IsSame (g.view old) (g.view new))
     × AppendsFront before after (car_bytes roots sections) × (e ≢ Input)
 
 -- The file of these roots and of all blocks went out.
 abbrev pub Exports : {S : Type 0} → Ghosts S → List (List ℕ) → S → Option (List ℕ) → Result Bool Fault → S → Option (List ℕ) → Type 0
 Exports g roots old before result new after = MatchResult result
-    (λ well. (well ≡ true) × ((sections : List Section) × AreNamed sections
+    (λ well. (well ≡ true) × ((sections : List Section) × AreAllNamed sections
     × IsCar (car_bytes roots sections) roots sections × Appends before after (car_bytes roots sections)
     × (IsClean (g.view new) → AreBlocks (g.view old) sections × IsSame (g.view old) (g.view new))))
     (λ e. ExportFails g roots old before e new after)
@@ -110,7 +110,7 @@ pub record IsImported {S : Type 0} (g : Ghosts S) (source left : Reading) (old :
   pub ended : Result Bool Fault
   pub says : SaysStored (forms roots) (length sections) before ended after
   pub is_status : status ≡ status_of ended
-  pub tells : TellsEnd ended heard told
+  pub tells : TellsRunFault ended heard told
 
 -- The file was refused, and what was not committed is undone: nothing went out, and it is told why.
 pub record IsNotImported {S : Type 0} (E : Type 0) (g : Ghosts S) (source left : Reading) (old : S) (before heard : Option (List ℕ)) (status : ℕ) (new : S) (after told : Option (List ℕ)) : Type 0 where

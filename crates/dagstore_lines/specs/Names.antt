@@ -5,7 +5,7 @@ use Rattle.sqlite_trees.specs.View.{View, IsClean}
 use Rattle.ipld_tree.specs.Cid.{CidParts}
 use Rattle.block_lines.specs.Lines.{listed_line, IsSaidOfEach}
 use Rattle.dagcbor_store.specs.Rows.{name_tree}
-use Rattle.dagcbor_store.specs.Stored.{IsNext, GivesNext, IsNamed, HoldsOnly, IsDamaged}
+use Rattle.dagcbor_store.specs.Stored.{IsNext, GivesNextName, IsNamedBy, HoldsOnly, IsDamaged}
 use Rattle.dagstore_lines.specs.Lines.{damaged_line}
 use Rattle.dagstore_lines.specs.Said.{Breaks}
 use Rattle.dagstore_lines.specs.declared.fault.Fault.{Fault}
@@ -19,7 +19,7 @@ AreFirst v last (c ∷ names) = IsNext (v.trees name_tree) last c × AreFirst v 
 
 -- all of the names that are listed behind the last one, each once, in the order of their bytes
 abbrev pub AreAll : View → Option CidParts → List CidParts → Type 0
-AreAll v last [] = GivesNext v last None
+AreAll v last [] = GivesNextName v last None
 AreAll v last (c ∷ names) = IsNext (v.trees name_tree) last c × AreAll v (Some c) names
 
 -- the last of the names, or this one where there is none
@@ -52,10 +52,10 @@ SaysNames IsSaid old before result new after = MatchResult result
 -- ---- list
 
 -- how many bytes are stored under the name, which are those that it names; or that they are damaged
-abbrev pub IsListed : Telling
-IsListed old new name true text = (b : List ℕ) × IsNamed name b × (IsClean new → HoldsOnly old name b)
+abbrev pub IsListedLine : Telling
+IsListedLine old new name true text = (b : List ℕ) × IsNamedBy name b × (IsClean new → HoldsOnly old name b)
     × (text ≡ listed_line (name, b))
-IsListed old new name false text = (IsClean new → IsDamaged old name) × (text ≡ damaged_line name)
+IsListedLine old new name false text = (IsClean new → IsDamaged old name) × (text ≡ damaged_line name)
 
 -- ---- a step
 
@@ -64,7 +64,7 @@ abbrev pub SaysNext : Telling → View → Option CidParts → Option (List ℕ)
     → View → Option (List ℕ) → Type 0
 SaysNext IsSaid old last before result new after = MatchResult result
     (λ next. MatchOption next
-    ((after ≡ before) × (IsClean new → GivesNext old last None))
+    ((after ≡ before) × (IsClean new → GivesNextName old last None))
     (λ p. (text : List ℕ) × IsSaid old new p.0 p.1 text
     × (IsClean new → IsNext (old.trees name_tree) last p.0) × Appends before after text))
     (Breaks (IsNextLine IsSaid old last new) before after)

@@ -77,10 +77,10 @@ status_of (Err (fault.Store told)) = refusal_status told
 status_of (Err (fault.Tool e)) = 2
 
 -- nothing is told of a run that was answered; of another its fault, as far as the device takes it
-abbrev pub TellsEnd : Result Bool Fault → Option (List ℕ) → Option (List ℕ) → Type 0
-TellsEnd (Ok well) old new = new ≡ old
-TellsEnd (Err e) old new = AppendsFront old new (fault_line e)
+abbrev pub TellsRunFault : Result Bool Fault → Option (List ℕ) → Option (List ℕ) → Type 0
+TellsRunFault (Ok well) old new = new ≡ old
+TellsRunFault (Err e) old new = AppendsFront old new (fault_line e)
 
 -- a run ended so: its status, and what is told of it behind what was told before
-abbrev pub EndsSo : Result Bool Fault → ℕ → Option (List ℕ) → Option (List ℕ) → Type 0
-EndsSo ended status heard told = (status ≡ status_of ended) × TellsEnd ended heard told
+abbrev pub ExitsSo : Result Bool Fault → ℕ → Option (List ℕ) → Option (List ℕ) → Type 0
+ExitsSo ended status heard told = (status ≡ status_of ended) × TellsRunFault ended heard told

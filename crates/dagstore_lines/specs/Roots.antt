@@ -10,7 +10,7 @@ use Rattle.ipld_links.specs.Sets.{Among}
 use Rattle.dagcbor_store.specs.RootRows.{root_tree, AreRoots, LeavesOut}
 use Rattle.dagcbor_store.specs.Cars.{RootsNotKept}
 use Rattle.dagcbor_store.specs.Ends.{KeepsOthers, IsOfRoots}
-use Rattle.dagcbor_store.specs.Stored.{IsSame, IsUndone, IsCommitted, Fails}
+use Rattle.dagcbor_store.specs.Stored.{IsSame, IsUndone, IsCommitted, FailsByStore}
 use Rattle.dagcbor_store.specs.Roots.{HasRoots, AreRootsAdded, MayKeepRoots}
 use Rattle.dagcbor_store.specs.Collecting.{KeepsReachable}
 use Rattle.dagcbor_store.specs.declared.error.StoreRefusal.{StoreRefusal}
@@ -18,7 +18,7 @@ use Rattle.dagstore_lines.specs.Changes.{name_line, SaysCollected, SaysTaken}
 use Rattle.dagstore_lines.specs.Files.{Exports}
 use Rattle.dagstore_lines.specs.Lines.{no_root_line, no_roots_line}
 use Rattle.dagstore_lines.specs.Said.{Breaks}
-use Rattle.dagstore_lines.specs.Trees.{TellsAll}
+use Rattle.dagstore_lines.specs.Trees.{TellsText}
 use Rattle.dagstore_lines.specs.declared.fault.Fault.{Fault}
 use Rattle.dagstore_lines.specs.declared.fault.Fault.TheVariants as fault
 
@@ -44,7 +44,7 @@ AreMeant old new given roots = ((given ≡ []) × (IsClean new → HasRoots old 
 
 -- none is given, and those that the store keeps were not read, since it failed
 abbrev pub RootsUnread : {S : Type 0} → Ghosts S → List CidParts → S → S → StoreRefusal → Type 0
-RootsUnread g given old new told = (given ≡ []) × Fails g ⊥ old new told
+RootsUnread g given old new told = (given ≡ []) × FailsByStore g ⊥ old new told
 
 -- the file of the roots that are meant went out, or broke off; or they were not read, and nothing did
 abbrev pub ExportsMeant : {S : Type 0} → Ghosts S → List CidParts → S → Option (List ℕ) → Result Bool Fault → S → Option (List ℕ) → Type 0
@@ -58,7 +58,7 @@ abbrev pub TellsNoRoots : {S : Type 0} → Ghosts S → List CidParts → S → 
     → Result Bool Fault → S → Option (List ℕ) → Option (List ℕ) → Type 0
 TellsNoRoots g given old before heard ended new after told = (given ≡ [])
     × (IsClean (g.view new) → HasRoots (g.view old) [] × IsSame (g.view old) (g.view new))
-    × (after ≡ before) × TellsAll no_roots_line (λ well. well ≡ false) heard ended told
+    × (after ≡ before) × TellsText no_roots_line (λ well. well ≡ false) heard ended told
 
 -- What links lead to from the roots that are meant is kept, and it is said how much was taken out; or there is no such
 -- root, and nothing is taken out; or those that the store keeps were not read, and nothing is said.
@@ -122,7 +122,7 @@ pub record DropsRoots (names : List CidParts) (count : ℕ) (old new : Trees) : 
 -- The names are taken out of the roots, and it is said how many were roots; or the store failed, and nothing went out.
 abbrev pub SaysDropped : {S : Type 0} → Ghosts S → List CidParts → S → Option (List ℕ) → Option (List ℕ)
     → Result Bool Fault → S → Option (List ℕ) → Option (List ℕ) → Type 0
-SaysDropped g names old before heard (Err (fault.Store why)) new after told = Fails g ⊥ old new why
+SaysDropped g names old before heard (Err (fault.Store why)) new after told = FailsByStore g ⊥ old new why
     × (after ≡ before) × (told ≡ heard)
 SaysDropped g names old before heard ended new after told = (count : ℕ)
     × (IsClean (g.view new) → Commits (DropsRoots names count) (g.view old) (g.view new))

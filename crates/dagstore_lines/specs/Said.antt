@@ -3,13 +3,13 @@ use Rattle.std.specs.Prelude.{ℕ, List, [], Bool, Option, Result, Ok, Err}
 use Rattle.std.specs.Io.KnownBytes.{Appends}
 use Rattle.sqlite_trees.specs.declared.store.Store.{Ghosts}
 use Rattle.block_lines.specs.Lines.{BreaksLine, SaysBoth}
-use Rattle.dagcbor_store.specs.Stored.{StaysSame, Fails}
+use Rattle.dagcbor_store.specs.Stored.{StaysSame, FailsByStore}
 use Rattle.dagstore_lines.specs.declared.fault.Fault.{Fault}
 use Rattle.dagstore_lines.specs.declared.fault.Fault.TheVariants as fault
 
 -- the store failed; or it is as it was, and a device failed, or memory was wanting
 abbrev pub StoreFails : {S : Type 0} → Ghosts S → S → S → Fault → Type 0
-StoreFails g old new (fault.Store told) = Fails g ⊥ old new told
+StoreFails g old new (fault.Store told) = FailsByStore g ⊥ old new told
 StoreFails g old new (fault.Tool e) = StaysSame g old new
 
 -- nothing more went out; or the device failed, and of one of these lines a front did

@@ -11,7 +11,7 @@ use Rattle.dagcbor_cli.specs.declared.fault.ToolError.{ToolError}
 use Rattle.dagcbor_cli.specs.declared.fault.ToolError.TheVariants.{Input}
 use Rattle.block_lines.specs.Lines.{missing_line}
 use Rattle.dagcbor_store.specs.Stored.{IsSame}
-use Rattle.dagcbor_store.specs.Walking.{AreNamed}
+use Rattle.dagcbor_store.specs.Walking.{AreAllNamed}
 use Rattle.dagcbor_store.specs.Trees.{tree_bytes, AreReached, AreFirstReached, OfStored, ReachRefused}
 use Rattle.dagstore_lines.specs.Lines.{no_block_line}
 use Rattle.dagstore_lines.specs.declared.fault.Fault.{Fault}
@@ -20,7 +20,7 @@ use Rattle.dagstore_lines.specs.declared.fault.Fault.TheVariants as fault
 -- The file of the root, and of the blocks that links lead to from there, went out; these names are the
 -- links that lead to none.
 abbrev pub SendsTree : {S : Type 0} → Ghosts S → CidParts → S → Option (List ℕ) → List CidParts → S → Option (List ℕ) → Type 0
-SendsTree g root old before lost new after = (sections : List Section) × AreNamed sections
+SendsTree g root old before lost new after = (sections : List Section) × AreAllNamed sections
     × IsCar (tree_bytes root sections) (cid_bytes root ∷ []) sections
     × Appends before after (tree_bytes root sections)
     × (IsClean (g.view new) → IsSame (g.view old) (g.view new) × OfStored (g.view old) (λ stored. ¬ IsLost stored root
@@ -42,11 +42,11 @@ TellsTree g root old before new after well told = ((lost : List CidParts) × Sen
 -- wanting.
 abbrev pub TreeFails : {S : Type 0} → Ghosts S → CidParts → S → Option (List ℕ) → Option (List ℕ) → Fault → S → Option (List ℕ) → Option (List ℕ) → Type 0
 TreeFails g root old before heard (fault.Store told) new after said = (said ≡ heard)
-    × ReachRefused g root old new told × ((after ≡ before) ⊎ ((sections : List Section) × AreNamed sections
+    × ReachRefused g root old new told × ((after ≡ before) ⊎ ((sections : List Section) × AreAllNamed sections
     × Appends before after (tree_bytes root sections)
     × (IsClean (g.view new) → OfStored (g.view old) (λ stored. ¬ IsLost stored root × AreFirstReached stored root sections))))
 TreeFails g root old before heard (fault.Tool e) new after said = (e ≢ Input)
-    × (((said ≡ heard) × ((sections : List Section) × AreNamed sections × AppendsFront before after (tree_bytes root sections)
+    × (((said ≡ heard) × ((sections : List Section) × AreAllNamed sections × AppendsFront before after (tree_bytes root sections)
     × (IsClean (g.view new) → IsSame (g.view old) (g.view new)
     × OfStored (g.view old) (λ stored. ¬ IsLost stored root × AreFirstReached stored root sections))))
     ⊎ ((well : Bool) × (told : List ℕ) × TellsTree g root old before new after well told × AppendsFront heard said told))
@@ -60,6 +60,6 @@ SaysTree g root old before heard result new after said = MatchResult result
 -- ---- its steps
 
 -- the text was told; or a front of it was, and the device failed, or memory was wanting
-abbrev pub TellsAll : List ℕ → (Bool → Type 0) → Option (List ℕ) → Result Bool Fault → Option (List ℕ) → Type 0
-TellsAll text IsSo heard result said = MatchResult result (λ well. IsSo well × Appends heard said text)
+abbrev pub TellsText : List ℕ → (Bool → Type 0) → Option (List ℕ) → Result Bool Fault → Option (List ℕ) → Type 0
+TellsText text IsSo heard result said = MatchResult result (λ well. IsSo well × Appends heard said text)
     (λ e. (kind : ToolError) × (e ≡ fault.Tool kind) × (kind ≢ Input) × AppendsFront heard said text)

@@ -4,12 +4,12 @@ use Rattle.sqlite_trees.specs.View.{View, IsClean}
 use Rattle.sqlite_trees.specs.declared.store.Store.{Ghosts}
 use Rattle.ipld_tree.specs.Cid.{CidParts}
 use Rattle.ipld_links.specs.Reaching.{Stored}
-use Rattle.dagcbor_resolve.specs.Resolving.{GoesOn, AreOnTheWay}
+use Rattle.dagcbor_resolve.specs.Resolving.{LeadsOn, AreOnTheWay}
 use Rattle.dagcbor_resolve.specs.Laws.{AgreeOn}
 use Rattle.dagcar_lines.specs.Paths.{IsAnswerOf}
 use Rattle.dagcar_lines.specs.declared.at.Asked.{Asked}
 use Rattle.dagcar_lines.specs.declared.at.Asked.TheVariants as asks
-use Rattle.dagcbor_store.specs.Stored.{StaysSame, IsSame, IsDamaged, Fails}
+use Rattle.dagcbor_store.specs.Stored.{StaysSame, IsSame, IsDamaged, FailsByStore}
 use Rattle.dagcbor_store.specs.Trees.{OfStored}
 use Rattle.dagcbor_store.specs.declared.error.StoreRefusal.TheVariants as refusal
 use Rattle.dagstore_lines.specs.declared.fault.Fault.{Fault}
@@ -20,8 +20,8 @@ abbrev pub IsPartOf : Stored → Stored → Type 0
 IsPartOf held stored = (q : CidParts) (b : List ℕ) → held q ≡ Some b → stored q ≡ Some b
 
 -- what is stored under the name is held too, and what was held is
-abbrev pub HoldsAlso : View → CidParts → Stored → Stored → Type 0
-HoldsAlso v name old new = OfStored v (λ stored. IsPartOf old stored → IsPartOf new stored
+abbrev pub HoldsNameToo : View → CidParts → Stored → Stored → Type 0
+HoldsNameToo v name old new = OfStored v (λ stored. IsPartOf old stored → IsPartOf new stored
     × (new name ≡ stored name) × ((q : CidParts) → old q ≡ stored q → new q ≡ stored q))
 
 -- what is held is what is stored under the names on the path's way
@@ -45,7 +45,7 @@ IsAnswerIn is_raw root path old new well out told =
 abbrev pub ComesTo : ℕ → Stored → CidParts → List (List ℕ) → CidParts → List (List ℕ) → Type 0
 ComesTo zero stored root path name left = (root ≡ name) × (path ≡ left)
 ComesTo (suc n) stored root path name left = (next : CidParts) × (more : List (List ℕ))
-    × GoesOn stored root path next more × ComesTo n stored next more name left
+    × LeadsOn stored root path next more × ComesTo n stored next more name left
 
 -- what is stored under a name to which the path comes is damaged, or the store failed; or it is as it was,
 -- and memory was wanting
@@ -53,5 +53,5 @@ abbrev pub WayFails : {S : Type 0} → Ghosts S → CidParts → List (List ℕ)
 WayFails g root path old new (fault.Store (refusal.Damaged name)) = IsClean (g.view new)
     → IsDamaged (g.view old) name × IsSame (g.view old) (g.view new)
     × OfStored (g.view old) (λ stored. (n : ℕ) × (left : List (List ℕ)) × ComesTo n stored root path name left)
-WayFails g root path old new (fault.Store told) = Fails g ⊥ old new told
+WayFails g root path old new (fault.Store told) = FailsByStore g ⊥ old new told
 WayFails g root path old new (fault.Tool e) = StaysSame g old new

@@ -6,10 +6,10 @@ ghost use Rattle.dagcbor_paths.specs.Paths.{segments};
 ghost use Rattle.dagcbor_store.specs.Ends.{Quiet};
 ghost use Rattle.dagcbor_store.specs.Stored.{IsAddedTo, IsKeptBy, StaysSame};
 ghost use Rattle.dagstore_lines.specs.Blocks.{SaysCount, IsGot, Has};
-ghost use Rattle.dagstore_lines.specs.Changes.{name_as, SaysPut, HoldsOthers, SaysRemoved};
+ghost use Rattle.dagstore_lines.specs.Changes.{name_as, SaysPut, ListsOthers, SaysRemoved};
 ghost use Rattle.dagstore_lines.specs.Checks.{SaysCheck};
-ghost use Rattle.dagstore_lines.specs.Names.{IsListed, SaysNames};
-ghost use Rattle.dagstore_lines.specs.Refusals.{EndsSo};
+ghost use Rattle.dagstore_lines.specs.Names.{IsListedLine, SaysNames};
+ghost use Rattle.dagstore_lines.specs.Refusals.{ExitsSo};
 ghost use Rattle.dagstore_lines.specs.Roots.{SaysRoots, ExportsMeant, CollectsMeant, KeepsMeant, HasAddedRoots, AddsToRoots, DropsSome, SaysDropped};
 ghost use Rattle.dagstore_lines.specs.Said.{StoreFails, SaysAll};
 ghost use Rattle.dagstore_lines.specs.Trees.{SaysTree};
@@ -38,8 +38,8 @@ pub fn answer_list<S: Store, W: Write, V: Write>(
     errors: &mut V,
 ) -> u8
     ensures answers { (ended : Result Bool Fault)
-        × EndsSo ended result (V.contents errors.old) (V.contents errors.new)
-        × SaysNames IsListed (S.Store.view store.old) (W.contents output.old) ended
+        × ExitsSo ended result (V.contents errors.old) (V.contents errors.new)
+        × SaysNames IsListedLine (S.Store.view store.old) (W.contents output.old) ended
         (S.Store.view store.new) (W.contents output.new) }
     ensures quiet { Quiet S.Store store.old store.new }
 {
@@ -55,7 +55,7 @@ pub fn answer_check<S: Store, W: Write, V: Write, E: Write>(
     progress: &mut Progress<E>,
 ) -> u8
     ensures answers { (ended : Result Bool Fault)
-        × EndsSo ended result (V.contents errors.old) (V.contents errors.new)
+        × ExitsSo ended result (V.contents errors.old) (V.contents errors.new)
         × SaysCheck (S.Store.view store.old) (W.contents output.old) ended (S.Store.view store.new)
         (W.contents output.new) }
     ensures quiet { Quiet S.Store store.old store.new }
@@ -71,7 +71,7 @@ pub fn answer_count<S: Store, W: Write, V: Write>(
     errors: &mut V,
 ) -> u8
     ensures answers { (ended : Result Bool Fault)
-        × EndsSo ended result (V.contents errors.old) (V.contents errors.new)
+        × ExitsSo ended result (V.contents errors.old) (V.contents errors.new)
         × SaysCount (S.Store.view store.old) (W.contents output.old) ended (S.Store.view store.new)
         (W.contents output.new) }
     ensures quiet { Quiet S.Store store.old store.new }
@@ -87,7 +87,7 @@ pub fn answer_roots<S: Store, W: Write, V: Write>(
     errors: &mut V,
 ) -> u8
     ensures answers { (ended : Result Bool Fault)
-        × EndsSo ended result (V.contents errors.old) (V.contents errors.new)
+        × ExitsSo ended result (V.contents errors.old) (V.contents errors.new)
         × SaysRoots (S.Store.view store.old) (W.contents output.old) ended (S.Store.view store.new)
         (W.contents output.new) × OnOk ended (StaysSame S.Store store.old store.new)
         × IfErr ended (StoreFails S.Store store.old store.new) }
@@ -104,7 +104,7 @@ pub fn answer_export<S: Store, W: Write, V: Write>(
     errors: &mut V,
 ) -> u8
     ensures answers { (ended : Result Bool Fault)
-        × EndsSo ended result (V.contents errors.old) (V.contents errors.new)
+        × ExitsSo ended result (V.contents errors.old) (V.contents errors.new)
         × ExportsMeant S.Store given.items store.old (W.contents output.old) ended store.new
         (W.contents output.new) }
     ensures quiet { Quiet S.Store store.old store.new }
@@ -123,7 +123,7 @@ pub fn answer_get<S: Store, W: Write, V: Write>(
     ensures answers { (ended : Result Bool Fault) × (heard : Option (List ℕ))
         × SaysAll (IsGot name.now (S.Store.view store.old) (S.Store.view store.new))
         (W.contents output.old) (V.contents errors.old) ended (W.contents output.new) heard
-        × EndsSo ended result heard (V.contents errors.new) }
+        × ExitsSo ended result heard (V.contents errors.new) }
     ensures quiet { Quiet S.Store store.old store.new }
 {
     let ended = get_block(alloc, store, name, output, errors);
@@ -145,7 +145,7 @@ pub fn answer_at<S: Store, W: Write, V: Write>(
         (S.Store.view store.new)) (W.contents output.old) (V.contents errors.old) ended
         (W.contents output.new) heard × OnOk ended (StaysSame S.Store store.old store.new)
         × IfErr ended (WayFails S.Store root.now (segments path.now) store.old store.new)
-        × EndsSo ended result heard (V.contents errors.new) }
+        × ExitsSo ended result heard (V.contents errors.new) }
     ensures quiet { Quiet S.Store store.old store.new }
 {
     let ended = write_at(alloc, store, is_raw, root, path, output, errors);
@@ -155,7 +155,7 @@ pub fn answer_at<S: Store, W: Write, V: Write>(
 /// `has`: answers the status. Nothing is said.
 pub fn answer_has<S: Store, V: Write>(store: &mut BlockStore<S>, name: &Cid, errors: &mut V) -> u8
     ensures answers { (ended : Result Bool Fault)
-        × EndsSo ended result (V.contents errors.old) (V.contents errors.new)
+        × ExitsSo ended result (V.contents errors.old) (V.contents errors.new)
         × Has S.Store name.now store.old ended store.new }
     ensures quiet { Quiet S.Store store.old store.new }
 {
@@ -172,7 +172,7 @@ pub fn answer_tree<S: Store, W: Write, V: Write>(
 ) -> u8
     ensures answers { (ended : Result Bool Fault) × (heard : Option (List ℕ))
         × SaysTree S.Store root.now store.old (W.contents output.old) (V.contents errors.old) ended
-        store.new (W.contents output.new) heard × EndsSo ended result heard (V.contents errors.new) }
+        store.new (W.contents output.new) heard × ExitsSo ended result heard (V.contents errors.new) }
     ensures quiet { Quiet S.Store store.old store.new }
 {
     let ended = write_tree(alloc, store, root, output, errors);
@@ -189,7 +189,7 @@ pub fn answer_put<S: Store, W: Write, V: Write>(
     errors: &mut V,
 ) -> u8
     ensures answers { (ended : Result Bool Fault)
-        × EndsSo ended result (V.contents errors.old) (V.contents errors.new)
+        × ExitsSo ended result (V.contents errors.old) (V.contents errors.new)
         × SaysPut S.Store (name_as codec block.now) block.now store.old (W.contents output.old) ended
         store.new (W.contents output.new) }
     ensures crash { (db : _) → S.Store.recovers store.new db → S.Store.recovers store.old db
@@ -210,9 +210,9 @@ pub fn answer_remove<S: Store, W: Write, V: Write>(
 ) -> u8
     ensures answers { (ended : Result Bool Fault) × (heard : Option (List ℕ))
         × SaysRemoved S.Store names.now store.old (W.contents output.old) (V.contents errors.old) ended
-        store.new (W.contents output.new) heard × EndsSo ended result heard (V.contents errors.new) }
+        store.new (W.contents output.new) heard × ExitsSo ended result heard (V.contents errors.new) }
     ensures crash { (db : _) → S.Store.recovers store.new db → S.Store.recovers store.old db
-        ⊎ (IsClean (S.Store.view store.new) → HoldsOthers names.now (S.Store.view store.old).trees db) }
+        ⊎ (IsClean (S.Store.view store.new) → ListsOthers names.now (S.Store.view store.old).trees db) }
     ensures kept { IsKeptBy S.Store store.old store.new }
 {
     let ended = remove_blocks(alloc, store, names, output, errors);
@@ -229,7 +229,7 @@ pub fn answer_collect<S: Store, W: Write, V: Write>(
 ) -> u8
     ensures answers { (ended : Result Bool Fault) × (heard : Option (List ℕ))
         × CollectsMeant S.Store given.items store.old (W.contents output.old) (V.contents errors.old) ended
-        store.new (W.contents output.new) heard × EndsSo ended result heard (V.contents errors.new) }
+        store.new (W.contents output.new) heard × ExitsSo ended result heard (V.contents errors.new) }
     ensures crash { (db : _) → S.Store.recovers store.new db → S.Store.recovers store.old db
         ⊎ (IsClean (S.Store.view store.new)
         → KeepsMeant (S.Store.view store.old) (S.Store.view store.new) given.items db) }
@@ -246,7 +246,7 @@ pub fn answer_add_roots<S: Store, V: Write>(
     errors: &mut V,
 ) -> u8
     ensures answers { (ended : Result Bool Fault)
-        × EndsSo ended result (V.contents errors.old) (V.contents errors.new)
+        × ExitsSo ended result (V.contents errors.old) (V.contents errors.new)
         × AddsToRoots S.Store names.now store.old ended store.new }
     ensures crash { (db : _) → S.Store.recovers store.new db → S.Store.recovers store.old db
         ⊎ (IsClean (S.Store.view store.new) → HasAddedRoots (S.Store.view store.old) names.now db) }
@@ -265,7 +265,7 @@ pub fn answer_drop_roots<S: Store, W: Write, V: Write>(
 ) -> u8
     ensures answers { (ended : Result Bool Fault) × (heard : Option (List ℕ))
         × SaysDropped S.Store names.now store.old (W.contents output.old) (V.contents errors.old) ended
-        store.new (W.contents output.new) heard × EndsSo ended result heard (V.contents errors.new) }
+        store.new (W.contents output.new) heard × ExitsSo ended result heard (V.contents errors.new) }
     ensures crash { (db : _) → S.Store.recovers store.new db → S.Store.recovers store.old db
         ⊎ (IsClean (S.Store.view store.new) → DropsSome names.now (S.Store.view store.old).trees db) }
     ensures kept { IsKeptBy S.Store store.old store.new }

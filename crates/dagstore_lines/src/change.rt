@@ -5,9 +5,9 @@ ghost use Rattle.sqlite_trees.specs.View.{IsClean};
 ghost use Rattle.dagcbor_heads.specs.Written.{AppendsFront};
 ghost use Rattle.dagcbor_store.specs.Collecting.{KeepsReachable};
 ghost use Rattle.dagcbor_store.specs.Ends.{Quiet};
-ghost use Rattle.dagcbor_store.specs.Stored.{IsKeptBy, IsAddedTo, IsUnfit, Fails};
+ghost use Rattle.dagcbor_store.specs.Stored.{IsKeptBy, IsAddedTo, IsUnfit, FailsByStore};
 ghost use Rattle.ipld_links.specs.Sound.{IsSound};
-ghost use Rattle.dagstore_lines.specs.Changes.{SaysText, name_as, name_line, SaysPut, name_lines, SaysCollected, HoldsOthers, TakesNames, Removes, SaysTaken, SaysRemoved};
+ghost use Rattle.dagstore_lines.specs.Changes.{SaysText, name_as, name_line, SaysPut, name_lines, SaysCollected, ListsOthers, RemovesNames, Removes, SaysTaken, SaysRemoved};
 ghost use Rattle.dagstore_lines.specs.Lines.{removed_line};
 ghost use Rattle.dagstore_lines.specs.Roots.{CollectsMeant, KeepsMeant};
 
@@ -95,8 +95,8 @@ fn say_removed<W: Write>(alloc: Global, count: u64, output: &mut W) -> Result<()
 /// Takes out what is listed under the names. How many were listed, each when its turn came.
 fn take_each<S: Store>(store: &mut BlockStore<S>, names: &[Cid]) -> Result<u64, StoreRefusal>
     ensures ok { IfOk result (λ count. IsClean (S.Store.view store.new)
-        → TakesNames (S.Store.view store.old) (S.Store.view store.new) names.now count) }
-    ensures refused { IfErr result (Fails S.Store ⊥ store.old store.new) }
+        → RemovesNames (S.Store.view store.old) (S.Store.view store.new) names.now count) }
+    ensures refused { IfErr result (FailsByStore S.Store ⊥ store.old store.new) }
     ensures quiet { Quiet S.Store store.old store.new }
 {
     let mut count: u64 = 0;
@@ -110,9 +110,9 @@ fn take_each<S: Store>(store: &mut BlockStore<S>, names: &[Cid]) -> Result<u64, 
 /// Takes out what is listed under the names, and commits that. How many were listed.
 fn take_out<S: Store>(store: &mut BlockStore<S>, names: &[Cid]) -> Result<u64, StoreRefusal>
     ensures ok { IfOk result (Removes S.Store names.now store.old store.new) }
-    ensures refused { IfErr result (Fails S.Store ⊥ store.old store.new) }
+    ensures refused { IfErr result (FailsByStore S.Store ⊥ store.old store.new) }
     ensures crash { (db : _) → S.Store.recovers store.new db → S.Store.recovers store.old db
-        ⊎ (IsClean (S.Store.view store.new) → HoldsOthers names.now (S.Store.view store.old).trees db) }
+        ⊎ (IsClean (S.Store.view store.new) → ListsOthers names.now (S.Store.view store.old).trees db) }
     ensures kept { IsKeptBy S.Store store.old store.new }
 {
     let count = take_each(store, names)?;
@@ -157,7 +157,7 @@ pub fn remove_blocks<S: Store, W: Write, V: Write>(
     ensures says { SaysRemoved S.Store names.now store.old (W.contents output.old) (V.contents errors.old)
         result store.new (W.contents output.new) (V.contents errors.new) }
     ensures crash { (db : _) → S.Store.recovers store.new db → S.Store.recovers store.old db
-        ⊎ (IsClean (S.Store.view store.new) → HoldsOthers names.now (S.Store.view store.old).trees db) }
+        ⊎ (IsClean (S.Store.view store.new) → ListsOthers names.now (S.Store.view store.old).trees db) }
     ensures kept { IsKeptBy S.Store store.old store.new }
 {
     match take_out(store, names) {

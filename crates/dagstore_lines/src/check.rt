@@ -3,10 +3,10 @@
 ghost use Rattle.std.specs.Prelude.{◌≡◌, [], OnOk, IfOk, IfErr};
 ghost use Rattle.sqlite_trees.specs.View.{IsClean};
 ghost use Rattle.dagcbor_store.specs.Ends.{Quiet};
-ghost use Rattle.dagcbor_store.specs.Stored.{StaysSame, Lists, HoldsOnly, IsNamed};
+ghost use Rattle.dagcbor_store.specs.Stored.{StaysSame, ListsName, HoldsOnly, IsNamedBy};
 ghost use Rattle.dagstore_lines.specs.Said.{StoreFails};
 ghost use Rattle.dagstore_lines.specs.Names.{SaysNames, SaysNext};
-ghost use Rattle.dagstore_lines.specs.Checks.{IsChecked, SaysCheck, AddsMissing, AddsOfNext, IsMissing, SaysKeys};
+ghost use Rattle.dagstore_lines.specs.Checks.{IsCheckedLine, SaysCheck, AddsUnlistedLinks, AddsOfNext, IsMissing, SaysKeys};
 
 use crate::fault::Fault;
 use crate::line::{both, damaged_said};
@@ -30,12 +30,12 @@ fn judged_said<S: Store>(
     block: &[u8],
     missing: &mut BTreeSet<Cid>,
 ) -> Result<Said, Fault>
-    ensures said { IfOk result (λ p. IsNamed name.now block.now
-        → (IsClean (S.Store.view store.new) → HoldsOnly (S.Store.view store.old) name.now block.now × Lists (S.Store.view store.old) name.now)
-        → IsChecked (S.Store.view store.old) (S.Store.view store.new) name.now p.1 p.0.items) }
-    ensures missing { OnOk result (IsNamed name.now block.now → IsClean (S.Store.view store.new)
+    ensures said { IfOk result (λ p. IsNamedBy name.now block.now
+        → (IsClean (S.Store.view store.new) → HoldsOnly (S.Store.view store.old) name.now block.now × ListsName (S.Store.view store.old) name.now)
+        → IsCheckedLine (S.Store.view store.old) (S.Store.view store.new) name.now p.1 p.0.items) }
+    ensures missing { OnOk result (IsNamedBy name.now block.now → IsClean (S.Store.view store.new)
         → HoldsOnly (S.Store.view store.old) name.now block.now
-        → AddsMissing (S.Store.view store.old) name.now missing.old missing.new) }
+        → AddsUnlistedLinks (S.Store.view store.old) name.now missing.old missing.new) }
     ensures same { OnOk result (StaysSame S.Store store.old store.new) }
     ensures fault { IfErr result (StoreFails S.Store store.old store.new) }
     ensures quiet { Quiet S.Store store.old store.new }
@@ -60,10 +60,10 @@ fn checked_said<S: Store>(
     name: &Cid,
     missing: &mut BTreeSet<Cid>,
 ) -> Result<Said, Fault>
-    ensures said { IfOk result (λ p. (IsClean (S.Store.view store.new) → Lists (S.Store.view store.old) name.now)
-        → IsChecked (S.Store.view store.old) (S.Store.view store.new) name.now p.1 p.0.items) }
-    ensures missing { OnOk result (IsClean (S.Store.view store.new) → Lists (S.Store.view store.old) name.now
-        → AddsMissing (S.Store.view store.old) name.now missing.old missing.new) }
+    ensures said { IfOk result (λ p. (IsClean (S.Store.view store.new) → ListsName (S.Store.view store.old) name.now)
+        → IsCheckedLine (S.Store.view store.old) (S.Store.view store.new) name.now p.1 p.0.items) }
+    ensures missing { OnOk result (IsClean (S.Store.view store.new) → ListsName (S.Store.view store.old) name.now
+        → AddsUnlistedLinks (S.Store.view store.old) name.now missing.old missing.new) }
     ensures same { OnOk result (StaysSame S.Store store.old store.new) }
     ensures fault { IfErr result (StoreFails S.Store store.old store.new) }
     ensures quiet { Quiet S.Store store.old store.new }
@@ -85,7 +85,7 @@ fn check_next<S: Store, W: Write>(
     missing: &mut BTreeSet<Cid>,
     output: &mut W,
 ) -> Result<Option<(Cid, bool)>, Fault>
-    ensures says { SaysNext IsChecked (S.Store.view store.old) last (W.contents output.old) result
+    ensures says { SaysNext IsCheckedLine (S.Store.view store.old) last (W.contents output.old) result
         (S.Store.view store.new) (W.contents output.new) }
     ensures missing { IfOk result (λ next. IsClean (S.Store.view store.new)
         → AddsOfNext (S.Store.view store.old) next missing.old missing.new) }
@@ -111,7 +111,7 @@ fn check_names<S: Store, W: Write, E: Write>(
     progress: &mut Progress<E>,
 ) -> Result<bool, Fault>
     requires { missing.old.keys ≡ [] }
-    ensures says { SaysNames IsChecked (S.Store.view store.old) (W.contents output.old) result
+    ensures says { SaysNames IsCheckedLine (S.Store.view store.old) (W.contents output.old) result
         (S.Store.view store.new) (W.contents output.new) }
     ensures missing { OnOk result (IsClean (S.Store.view store.new) → IsMissing (S.Store.view store.old) missing.new) }
     ensures same { OnOk result (StaysSame S.Store store.old store.new) }

@@ -3,7 +3,7 @@
 ghost use Rattle.std.specs.Prelude.{◌≡◌, ◌≢◌, ◌<◌, ◌≤◌, [], ◌∷◌, codes, length, map, string_bytes, IfOk, IfErr, MatchBool, MatchOption, MatchResult, List, ℕ};
 ghost use Rattle.std.specs.Str.Parse.{IsNumeral, digits_value};
 ghost use Rattle.ipld_tree.specs.Cid.{CidParts};
-ghost use Rattle.dagstore_lines.specs.Commands.{NamesCodec, AreTextsOf, IsFirstFault, TakesNames, IsCommand, IsSaidOf, IsAskedBy, AreWords};
+ghost use Rattle.dagstore_lines.specs.Commands.{NamesCodec, AreTextsOf, IsFirstFault, WantsNames, IsCommand, IsSaidOf, IsAskedBy, AreWords};
 ghost use Rattle.dagstore_lines.specs.declared.command.Command.{Command};
 
 use cid_text::{CidTextError, cid_from_text, laws};
@@ -235,7 +235,7 @@ fn cids_of(alloc: Global, words: &[String]) -> Result<Result<Vec<Cid>, CidTextEr
 
 /// Whether CIDs may stand behind the word.
 fn takes_names(word: &str) -> bool
-    ensures { MatchBool result (TakesNames word.now) (¬ TakesNames word.now) }
+    ensures { MatchBool result (WantsNames word.now) (¬ WantsNames word.now) }
 {
     matches!(
         word,

@@ -5,7 +5,7 @@ ghost use Rattle.dagcbor_items.specs.Walks.{forms};
 ghost use Rattle.dagcbor_store.specs.Ends.{Quiet};
 ghost use Rattle.dagstore_lines.specs.Files.{fault_of, Exports};
 ghost use Rattle.dagstore_lines.specs.Roots.{ExportsMeant};
-ghost use Rattle.dagstore_lines.specs.Trees.{SaysTree, TellsAll};
+ghost use Rattle.dagstore_lines.specs.Trees.{SaysTree, TellsText};
 ghost use Rattle.block_lines.specs.Lines.{missing_line};
 
 use crate::block::NO_BLOCK;
@@ -97,7 +97,7 @@ pub fn write_tree<S: Store, W: Write, V: Write>(
 
 /// Tells which links lead to no block. Whether none does.
 fn tell_lost<V: Write>(alloc: Global, lost: &[Cid], errors: &mut V) -> Result<bool, Fault>
-    ensures { TellsAll (flat_map missing_line lost.now) (λ well. IsTrue well ↔ (lost.now ≡ []))
+    ensures { TellsText (flat_map missing_line lost.now) (λ well. IsTrue well ↔ (lost.now ≡ []))
         (V.contents errors.old) result (V.contents errors.new) }
 {
     let told = missing_lines(alloc, lost)?;
@@ -107,7 +107,7 @@ fn tell_lost<V: Write>(alloc: Global, lost: &[Cid], errors: &mut V) -> Result<bo
 
 /// Tells the line of what is wrong.
 pub fn tell_wrong<V: Write>(line: &[u8], errors: &mut V) -> Result<bool, Fault>
-    ensures { TellsAll line.now (λ well. well ≡ false) (V.contents errors.old) result (V.contents errors.new) }
+    ensures { TellsText line.now (λ well. well ≡ false) (V.contents errors.old) result (V.contents errors.new) }
 {
     write_all(errors, line)?;
     Ok(false)

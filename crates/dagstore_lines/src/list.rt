@@ -3,9 +3,9 @@
 ghost use Rattle.std.specs.Prelude.{OnOk, IfOk, IfErr};
 ghost use Rattle.sqlite_trees.specs.View.{IsClean};
 ghost use Rattle.dagcbor_store.specs.Ends.{Quiet};
-ghost use Rattle.dagcbor_store.specs.Stored.{StaysSame, Lists};
+ghost use Rattle.dagcbor_store.specs.Stored.{StaysSame, ListsName};
 ghost use Rattle.dagstore_lines.specs.Said.{StoreFails};
-ghost use Rattle.dagstore_lines.specs.Names.{IsListed, SaysNames, SaysNext};
+ghost use Rattle.dagstore_lines.specs.Names.{IsListedLine, SaysNames, SaysNext};
 
 use crate::fault::Fault;
 use crate::line::{both, damaged_said};
@@ -22,8 +22,8 @@ fn listed_said<S: Store>(
     store: &mut BlockStore<S>,
     name: &Cid,
 ) -> Result<Said, Fault>
-    ensures said { IfOk result (λ p. (IsClean (S.Store.view store.new) → Lists (S.Store.view store.old) name.now)
-        → IsListed (S.Store.view store.old) (S.Store.view store.new) name.now p.1 p.0.items) }
+    ensures said { IfOk result (λ p. (IsClean (S.Store.view store.new) → ListsName (S.Store.view store.old) name.now)
+        → IsListedLine (S.Store.view store.old) (S.Store.view store.new) name.now p.1 p.0.items) }
     ensures same { OnOk result (StaysSame S.Store store.old store.new) }
     ensures fault { IfErr result (StoreFails S.Store store.old store.new) }
     ensures quiet { Quiet S.Store store.old store.new }
@@ -47,7 +47,7 @@ fn list_next<S: Store, W: Write>(
     last: Option<Cid>,
     output: &mut W,
 ) -> Result<Option<(Cid, bool)>, Fault>
-    ensures says { SaysNext IsListed (S.Store.view store.old) last (W.contents output.old) result
+    ensures says { SaysNext IsListedLine (S.Store.view store.old) last (W.contents output.old) result
         (S.Store.view store.new) (W.contents output.new) }
     ensures same { OnOk result (StaysSame S.Store store.old store.new) }
     ensures fault { IfErr result (StoreFails S.Store store.old store.new) }
@@ -67,7 +67,7 @@ pub fn list_blocks<S: Store, W: Write>(
     store: &mut BlockStore<S>,
     output: &mut W,
 ) -> Result<bool, Fault>
-    ensures says { SaysNames IsListed (S.Store.view store.old) (W.contents output.old) result
+    ensures says { SaysNames IsListedLine (S.Store.view store.old) (W.contents output.old) result
         (S.Store.view store.new) (W.contents output.new) }
     ensures same { OnOk result (StaysSame S.Store store.old store.new) }
     ensures fault { IfErr result (StoreFails S.Store store.old store.new) }

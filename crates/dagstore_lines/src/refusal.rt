@@ -4,7 +4,7 @@ ghost use Rattle.std.specs.Prelude.{◌≡◌, ◌++◌, codes, decimal, MatchOp
 ghost use Rattle.cid_text.specs.Texts.{cid_text};
 ghost use Rattle.dagcbor_cli.specs.Writing.{WritesFront};
 ghost use Rattle.dagcbor_heads.specs.Written.{AppendsFront};
-ghost use Rattle.dagstore_lines.specs.Refusals.{disk_text, unsound_text, refusal_text, refusal_status, tool_text, told_line, status_of, TellsEnd};
+ghost use Rattle.dagstore_lines.specs.Refusals.{disk_text, unsound_text, refusal_text, refusal_status, tool_text, told_line, status_of, TellsRunFault};
 
 use crate::fault::Fault;
 use cid_text::cid_text;
@@ -194,7 +194,7 @@ pub fn tell_tool<W: Write>(error: &ToolError, errors: &mut W) -> u8
 /// The status of a run that ended so. A fault is told on `errors`.
 pub fn end<W: Write>(ended: Result<bool, Fault>, errors: &mut W) -> u8
     ensures status { result ≡ status_of ended }
-    ensures told { TellsEnd ended (W.contents errors.old) (W.contents errors.new) }
+    ensures told { TellsRunFault ended (W.contents errors.old) (W.contents errors.new) }
 {
     match ended {
         Ok(true) => 0,

@@ -3,7 +3,7 @@
 ghost use Rattle.std.specs.Prelude.{◌≡◌, ◌⊎◌, IfOk, OnOk, IfErr, flat_map};
 ghost use Rattle.sqlite_trees.specs.View.{IsClean};
 ghost use Rattle.dagcbor_store.specs.Ends.{Quiet};
-ghost use Rattle.dagcbor_store.specs.Stored.{IsKeptBy, StaysSame, Fails};
+ghost use Rattle.dagcbor_store.specs.Stored.{IsKeptBy, StaysSame, FailsByStore};
 ghost use Rattle.dagstore_lines.specs.Changes.{name_line};
 ghost use Rattle.dagstore_lines.specs.Roots.{SaysRoots, AreMeant, RootsUnread, Changes, Commits, HasAddedRoots, AddsToRoots, DropsRoots, DropsSome, SaysDropped};
 ghost use Rattle.dagstore_lines.specs.Said.{StoreFails};
@@ -94,7 +94,7 @@ pub fn add_roots<S: Store>(store: &mut BlockStore<S>, names: &[Cid]) -> Result<b
 fn drop_each<S: Store>(store: &mut BlockStore<S>, names: &[Cid]) -> Result<u64, StoreRefusal>
     ensures ok { IfOk result (λ count. IsClean (S.Store.view store.new)
         → Changes (DropsRoots names.now count) (S.Store.view store.old) (S.Store.view store.new)) }
-    ensures refused { IfErr result (Fails S.Store ⊥ store.old store.new) }
+    ensures refused { IfErr result (FailsByStore S.Store ⊥ store.old store.new) }
     ensures quiet { Quiet S.Store store.old store.new }
 {
     let mut count: u64 = 0;
@@ -109,7 +109,7 @@ fn drop_each<S: Store>(store: &mut BlockStore<S>, names: &[Cid]) -> Result<u64, 
 fn drop_out<S: Store>(store: &mut BlockStore<S>, names: &[Cid]) -> Result<u64, StoreRefusal>
     ensures ok { IfOk result (λ count. IsClean (S.Store.view store.new)
         → Commits (DropsRoots names.now count) (S.Store.view store.old) (S.Store.view store.new)) }
-    ensures refused { IfErr result (Fails S.Store ⊥ store.old store.new) }
+    ensures refused { IfErr result (FailsByStore S.Store ⊥ store.old store.new) }
     ensures crash { (db : _) → S.Store.recovers store.new db → S.Store.recovers store.old db
         ⊎ (IsClean (S.Store.view store.new) → DropsSome names.now (S.Store.view store.old).trees db) }
     ensures kept { IsKeptBy S.Store store.old store.new }

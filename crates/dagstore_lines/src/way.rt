@@ -7,7 +7,7 @@ ghost use Rattle.ipld_links.specs.Reaching.{stored_in};
 ghost use Rattle.dagcbor_store.specs.Ends.{Quiet};
 ghost use Rattle.dagcbor_store.specs.Stored.{StaysSame};
 ghost use Rattle.dagstore_lines.specs.Blocks.{GetFails};
-ghost use Rattle.dagstore_lines.specs.Ways.{HoldsAlso, HoldsWay, WayFails};
+ghost use Rattle.dagstore_lines.specs.Ways.{HoldsNameToo, HoldsWay, WayFails};
 
 use crate::fault::Fault;
 use dagcbor_cli::ToolError;
@@ -25,7 +25,7 @@ fn hold<S: Store>(
     held: &mut BTreeMap<Cid, Vec<u8>>,
 ) -> Result<(), Fault>
     ensures held { OnOk result (IsClean (S.Store.view store.new)
-        → HoldsAlso (S.Store.view store.old) name.now (stored_in held.old) (stored_in held.new)) }
+        → HoldsNameToo (S.Store.view store.old) name.now (stored_in held.old) (stored_in held.new)) }
     ensures same { OnOk result (StaysSame S.Store store.old store.new) }
     ensures fault { IfErr result (GetFails S.Store name.now store.old store.new) }
     ensures quiet { Quiet S.Store store.old store.new }

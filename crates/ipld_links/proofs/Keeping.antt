@@ -1,16 +1,17 @@
 -- The names that a file holds.
 use Rattle.std.proofs.Common.{◌≡◌, ◌⊎◌, inl, inr, ℕ, zero, suc, ◌<◌, ◌≤◌, arith, nat_le, Bool, true, false, List, [], ◌∷◌, ◌++◌, length, take, Option, None, Some, slice_get, if◌then◌else◌, refl, sym, ap, ◌∙◌, subst, ◌↔◌, Result, Ok, Err, OnOk, nat_cmp, is_eq, Equal, le-leb, leb-true}
 use Rattle.std.specs.Int.{w64, from_le_bytes}
+use Rattle.std.specs.Option.{unwrap_or}
 use Rattle.std.specs.BTreeMap.{get, is_at}
 use Rattle.std.proofs.lemmas.Cmp.{ranked}
-use Rattle.ipld_tree.specs.Cid.{CidParts, AreCidParts, cid_cmp}
+use Rattle.ipld_tree.specs.Cid.{CidParts, AreCidParts}
 use Rattle.ipld_tree.specs.CidHash.{is_equal}
 use Rattle.ipld_links.specs.Sets.{Among, members, AddsCid}
 use Rattle.ipld_links.specs.Held.{front, name_at, named, IsKept, AddsName}
 use Rattle.ipld_links.specs.Within.{AddsUnheld}
 use Rattle.ipld_links.specs.declared.cid_set.CidSet.{CidSet}
 use Rattle.ipld_links.specs.declared.held.HeldNames.{HeldNames}
-use Rattle.ipld_links.proofs.Members.{at_same, same_at, number_equal}
+use Rattle.ipld_links.proofs.Members.{number_equal}
 
 -- ---- fronts
 
@@ -62,36 +63,76 @@ behind_at names (Some i) c q e = behind_push names i c q e
 -- ---- look-ups
 
 -- the name with its front is this one
-pub name_kept : (s : HeldNames) (n : ℕ) (name c : CidParts) → n ≡ front c.digest → named s n ≡ Some name → is_at (cid_cmp name) c ≡ true → IsKept c s
-name_kept s n name c is found same = inl (subst (λ m. named s m ≡ Some c) is (found ∙ ap Some (at_same name c same)))
+pub name_kept : (s : HeldNames) (n : ℕ) (name c : CidParts) → n ≡ front c.digest → named s n ≡ Some name → name ≡ c → IsKept c s
+name_kept s n name c is found same = inl (subst (λ m. named s m ≡ Some c) is (found ∙ ap Some same))
 
 -- the name with its front is another
-pub other_kept : (s : HeldNames) (n : ℕ) (name c : CidParts) → n ≡ front c.digest → named s n ≡ Some name → is_at (cid_cmp name) c ≡ false → IsKept c s → Among c (members s.others)
+pub other_kept : (s : HeldNames) (n : ℕ) (name c : CidParts) → n ≡ front c.digest → named s n ≡ Some name → (name ≡ c → ⊥) → IsKept c s → Among c (members s.others)
 other_kept s n name c is found differs (inr m) = m
-other_kept s n name c is found differs (inl e) =
-    let same = some_same name c (sym found ∙ ap (named s) is ∙ e) in
-    absurd (cc (sym (same_at name c same) ∙ differs))
+other_kept s n name c is found differs (inl e) = absurd (differs (some_same name c (sym found ∙ ap (named s) is ∙ e)))
 
 -- ---- one name more
 
+-- the places tell what they told
+abbrev pub SamePlaces : HeldNames → HeldNames → Type 0
+SamePlaces old new = (n : ℕ) → get nat_cmp new.places n ≡ get nat_cmp old.places n
+
+-- the place that was asked for was another than the one offered
+pub place_named : (o : Option ℕ) (p end : ℕ) → p ≡ unwrap_or o end → (p ≡ end → ⊥) → o ≡ Some p
+place_named None p end e other = absurd (other e)
+place_named (Some q) p end e other = ap Some (sym e)
+
+-- no name stood there: the place is the one behind the last
+pub none_named : (s : HeldNames) (n p end : ℕ) → end ≡ length s.names.items → p ≡ unwrap_or (get nat_cmp s.places n) end → p ≡ end → named s n ≡ None
+none_named s n p end long e at = by (get nat_cmp s.places n) e
+  where
+    past : (names : List CidParts) (i : ℕ) → i ≡ length names → slice_get names i ≡ None
+    past [] i h = refl
+    past (x ∷ xs) zero h = absurd (omega (arith, h))
+    past (x ∷ xs) (suc i) h = past xs i (omega (arith, h))
+
+    by : (o : Option ℕ) → p ≡ unwrap_or o end → name_at s.names.items o ≡ None
+    by None f = refl
+    by (Some q) f = past s.names.items q (sym f ∙ at ∙ long)
+
+at_number : (n m : ℕ) → is_at (nat_cmp n) m ≡ true → n ≡ m
+at_number n m t = ranked n m Equal (sym (is_equal (nat_cmp n m) t))
+
+-- the place stood there: all of them stay
+pub same_places : (old new : HeldNames) (n p : ℕ) → get nat_cmp old.places n ≡ Some p → get nat_cmp new.places n ≡ Some p → ((m : ℕ) → is_at (nat_cmp n) m ≡ false → get nat_cmp new.places m ≡ get nat_cmp old.places m) → SamePlaces old new
+same_places old new n p before after elsewhere m = by (is_at (nat_cmp n) m) refl
+  where
+    by : (b : Bool) → is_at (nat_cmp n) m ≡ b → get nat_cmp new.places m ≡ get nat_cmp old.places m
+    by true t = let same = at_number n m t in ap (λ k. get nat_cmp new.places k) (sym same) ∙ after ∙ sym before ∙ ap (λ k. get nat_cmp old.places k) same
+    by false t = elsewhere m t
+
+same_names : (old new : HeldNames) → new.names ≡ old.names → SamePlaces old new → (n : ℕ) → named new n ≡ named old n
+same_names old new names places n = ap (λ ns. name_at ns.items (get nat_cmp new.places n)) names ∙ ap (name_at old.names.items) (places n)
+
 -- it was there
-pub name_there : (c : CidParts) (s : HeldNames) → AreCidParts c → IsKept c s → AddsName c s s
-name_there c s valid here = (valid, λ q. (inl, λ h. elim h [ inl o ↦ o | inr e ↦ subst (λ x. IsKept x s) (sym e) here ]))
+pub name_there : (c : CidParts) (old new : HeldNames) (p : ℕ) → AreCidParts c → new.names ≡ old.names → SamePlaces old new → members new.others ≡ members old.others → get nat_cmp old.places (front c.digest) ≡ Some p → slice_get old.names.items p ≡ Some c → AddsName c old new
+name_there c old new p valid names places others at here = (valid, λ q. (there q, back q))
+  where
+    there : (q : CidParts) → IsKept q new → IsKept q old ⊎ (q ≡ c)
+    there q (inl e) = inl (inl (sym (same_names old new names places (front q.digest)) ∙ e))
+    there q (inr m) = inl (inr (subst (Among q) others m))
+
+    back : (q : CidParts) → IsKept q old ⊎ (q ≡ c) → IsKept q new
+    back q (inl (inl e)) = inl (same_names old new names places (front q.digest) ∙ e)
+    back q (inl (inr m)) = inr (subst (Among q) (sym others) m)
+    back q (inr e) = inl (same_names old new names places (front q.digest) ∙ ap (λ (x : CidParts). named old (front x.digest)) e ∙ ap (name_at old.names.items) at ∙ here ∙ ap Some (sym e))
 
 -- it joined the others
-pub other_joined : {E : Type 0} (r : Result (Unit {0}) E) (c : CidParts) (old new : HeldNames) → new.names ≡ old.names → new.places ≡ old.places → OnOk r (AddsCid c old.others new.others) → OnOk r (AddsName c old new)
+pub other_joined : {E : Type 0} (r : Result (Unit {0}) E) (c : CidParts) (old new : HeldNames) → new.names ≡ old.names → SamePlaces old new → OnOk r (AddsCid c old.others new.others) → OnOk r (AddsName c old new)
 other_joined (Err e) c old new names places a = tt
 other_joined (Ok u) c old new names places a = (a.0, λ q. (there q, back q))
   where
-    same : (n : ℕ) → named new n ≡ named old n
-    same n = ap (λ ns. name_at ns.items (get nat_cmp new.places n)) names ∙ ap (λ ps. name_at old.names.items (get nat_cmp ps n)) places
-
     there : (q : CidParts) → IsKept q new → IsKept q old ⊎ (q ≡ c)
-    there q (inl e) = inl (inl (sym (same (front q.digest)) ∙ e))
+    there q (inl e) = inl (inl (sym (same_names old new names places (front q.digest)) ∙ e))
     there q (inr m) = elim ((a.1 q).0 m) [ inl o ↦ inl (inr o) | inr e ↦ inr e ]
 
     back : (q : CidParts) → IsKept q old ⊎ (q ≡ c) → IsKept q new
-    back q (inl (inl e)) = inl (same (front q.digest) ∙ e)
+    back q (inl (inl e)) = inl (same_names old new names places (front q.digest) ∙ e)
     back q (inl (inr m)) = inr ((a.1 q).1 (inl m))
     back q (inr e) = inr ((a.1 q).1 (inr e))
 
@@ -112,21 +153,18 @@ row_joined c n old new valid is none names here elsewhere others = (valid, λ q.
     found : named new n ≡ Some c
     found = ap (name_at new.names.items) here ∙ row (Some (length old.names.items)) ∙ at_end old.names.items c
 
-    same : (m : ℕ) → is_at (nat_cmp n) m ≡ true → n ≡ m
-    same m t = ranked n m Equal (sym (is_equal (nat_cmp n m) t))
-
     by : (q : CidParts) (b : Bool) → is_at (nat_cmp n) (front q.digest) ≡ b → IsKept q new ↔ (IsKept q old ⊎ (q ≡ c))
     by q true t = (there, back)
       where
         at : named new (front q.digest) ≡ Some c
-        at = ap (named new) (sym (same (front q.digest) t)) ∙ found
+        at = ap (named new) (sym (at_number n (front q.digest) t)) ∙ found
 
         there : IsKept q new → IsKept q old ⊎ (q ≡ c)
         there (inl e) = inr (some_same q c (sym e ∙ at))
         there (inr m) = inl (inr (moved q m))
 
         back : IsKept q old ⊎ (q ≡ c) → IsKept q new
-        back (inl (inl e)) = absurd (no_name q (named old n) none (ap (named old) (same (front q.digest) t) ∙ e))
+        back (inl (inl e)) = absurd (no_name q (named old n) none (ap (named old) (at_number n (front q.digest) t) ∙ e))
         back (inl (inr m)) = inr (stays q m)
         back (inr e) = inl (at ∙ ap Some (sym e))
     by q false t = (there, back)

@@ -1,11 +1,9 @@
 -- Links within links.
-use Rattle.std.proofs.Common.{◌≡◌, ◌⊎◌, inl, inr, ℕ, ◌+◌, ◌<◌, ◌≤◌, max, zero, suc, Bool, true, false, List, [], ◌∷◌, ◌++◌, length, length-append, get_or, take, refl, sym, ap, ◌∙◌, subst, arith, add-one, ◌≢◌, ◌↔◌, Result, Ok, Err, is_err, OnOk, if◌then◌else◌, ◌==◌, take-suc}
+use Rattle.std.proofs.Common.{◌≡◌, ◌⊎◌, inl, inr, ℕ, ◌+◌, ◌<◌, ◌≤◌, zero, suc, Bool, true, false, List, [], ◌∷◌, ◌++◌, length, length-append, get_or, take, refl, sym, ap, ◌∙◌, subst, arith, add-one, ◌≢◌, ◌↔◌, Result, Ok, Err, is_err, OnOk, if◌then◌else◌, ◌==◌, take-suc}
 use Rattle.std.specs.List.{AllByRecursion}
 use Rattle.std.proofs.Math.Seq.{take-length}
-use Rattle.dagcbor_heads.specs.Head.{head}
 use Rattle.ipld_tree.specs.Cid.{varint, CidParts, AreCidParts, IsCid, cid_bytes}
 use Rattle.ipld_tree.specs.Tree.{Tree, null, boolean, integer, text, bytes, list, mapping, link, Items, no_items, item, Entries, no_entries, entry, IsTree, AreItems, AreEntries, links_of, items_links, entries_links}
-use Rattle.ipld_tree.specs.Spelling.{item_count, entry_count, spelling, text_spelling, items_spelling, entries_spelling}
 use Rattle.ipld_tree.proofs.Cids.{cid_unique}
 use Rattle.ipld_tree.proofs.Fronts.{front_unique}
 use Rattle.dagcbor_items.specs.Walks.{forms, AreLinksIn, HasLinkIn}
@@ -20,35 +18,9 @@ use Rattle.ipld_links.specs.Held.{IsKept, HoldsNone}
 use Rattle.ipld_links.specs.Within.{IsInlineForm, IsWithin, IsReached, IsReachedName, HoldsReached, AddsUnheld, AddsReached, AddsAll, AreFirstNames, AddsLinks}
 use Rattle.ipld_links.specs.declared.cid_set.CidSet.{CidSet}
 use Rattle.ipld_links.specs.declared.held.HeldNames.{HeldNames}
-use Rattle.ipld_links.proofs.Members.{among_append, append_among, among_map, whole_block}
-
--- ---- a link is shorter than the block that it stands in
-
-mutual
-  link_short : (t : Tree) (form : List ℕ) → Among form (links_of t) → length form < length (spelling t)
-  link_short null form h = absurd h
-  link_short (boolean b) form h = absurd h
-  link_short (integer n) form h = absurd h
-  link_short (text s) form h = absurd h
-  link_short (bytes s) form h = absurd h
-  link_short (list ts) form h = omega (arith, items_short ts form h, length-append (head 4 (item_count ts)) (items_spelling ts))
-  link_short (mapping es) form h = omega (arith, entries_short es form h, length-append (head 5 (entry_count es)) (entries_spelling es))
-  link_short (link cid) form (inl e) = omega (arith, ap length e, length-append (head 2 (length (0 ∷ cid))) (0 ∷ cid))
-  link_short (link cid) form (inr h) = absurd h
-
-  items_short : (ts : Items) (form : List ℕ) → Among form (items_links ts) → length form < length (items_spelling ts)
-  items_short no_items form h = absurd h
-  items_short (item t ts) form h = elim (among_append form (links_of t) (items_links ts) h) [
-    | inl m ↦ omega (arith, link_short t form m, length-append (spelling t) (items_spelling ts))
-    | inr m ↦ omega (arith, items_short ts form m, length-append (spelling t) (items_spelling ts))
-  ]
-
-  entries_short : (es : Entries) (form : List ℕ) → Among form (entries_links es) → length form < length (entries_spelling es)
-  entries_short no_entries form h = absurd h
-  entries_short (entry k t es) form h = elim (among_append form (links_of t) (entries_links es) h) [
-    | inl m ↦ omega (arith, link_short t form m, length-append (text_spelling k) (spelling t ++ entries_spelling es), length-append (spelling t) (entries_spelling es))
-    | inr m ↦ omega (arith, entries_short es form m, length-append (text_spelling k) (spelling t ++ entries_spelling es), length-append (spelling t) (entries_spelling es))
-  ]
+use Rattle.ipld_links.specs.Rows.{HoldsLinks}
+use Rattle.ipld_links.proofs.Rows.{forms_push, LinksSoFar, none_so_far, one_so_far, all_so_far}
+use Rattle.ipld_links.proofs.Members.{among_append, append_among}
 
 -- ---- links are CIDs
 
@@ -181,57 +153,52 @@ added_both xs ys held old mid new first next q = (there, back)
     back (inl o) = (next q).1 (inl ((first q).1 (inl o)))
     back (inr (r, free)) = by (reached_append q xs ys r) free
 
-forms_push : (cs : List CidParts) (c : CidParts) → forms (cs ++ c ∷ []) ≡ forms cs ++ cid_bytes c ∷ []
-forms_push [] c = refl
-forms_push (x ∷ cs) c = ap (λ more. cid_bytes x ∷ more) (forms_push cs c)
-
 all_push : (xs : List CidParts) (c : CidParts) → AllByRecursion AreCidParts xs → AreCidParts c → AllByRecursion AreCidParts (xs ++ c ∷ [])
 all_push [] c h p = (p, tt)
 all_push (x ∷ xs) c h p = (h.0, all_push xs c h.1 p)
 
+both_added : (cids : List CidParts) (c : CidParts) (held : HeldNames) (old mid new : CidSet) → AddsAll cids held old mid → AddsAll (c ∷ []) held mid new → AddsAll (cids ++ c ∷ []) held old new
+both_added cids c held old mid new first next = (all_push cids c first.0 next.0.0, subst (λ ls. AddsReached ls held old new) (sym (forms_push cids c)) (added_both (forms cids) (cid_bytes c ∷ []) held old mid new first.1 next.1))
+
 pub all_next : (cids : List CidParts) (i : ℕ) (c : CidParts) (held : HeldNames) (old mid new : CidSet) → i < length cids → c ≡ get_or cids i c → AddsAll (take i cids) held old mid → AddsAll (c ∷ []) held mid new → AddsAll (take (i + 1) cids) held old new
 all_next cids i c held old mid new within is first next =
     let more : take i cids ++ c ∷ [] ≡ take (i + 1) cids = ap (λ y. take i cids ++ y ∷ []) is ∙ sym (take-suc cids i c within) ∙ ap (λ n. take n cids) (sym (add-one i)) in
-    subst (λ cs. AddsAll cs held old new) more (all_push (take i cids) c first.0 next.0.0, subst (λ ls. AddsReached ls held old new) (sym (forms_push (take i cids) c)) (added_both (forms (take i cids)) (cid_bytes c ∷ []) held old mid new first.1 next.1))
+    subst (λ cs. AddsAll cs held old new) more (both_added (take i cids) c held old mid new first next)
 
 pub all_done : (cids : List CidParts) (i : ℕ) (held : HeldNames) (old new : CidSet) → i ≡ length cids → AddsAll (take i cids) held old new → AddsAll cids held old new
 all_done cids i held old new all h = subst (λ cs. AddsAll cs held old new) (ap (λ n. take n cids) all ∙ take-length cids) h
 
 -- ---- the links of a block
 
-pub block_added : {E : Type 0} (b : List ℕ) (r : Result (Unit {0}) E) (cids : List CidParts) (held : HeldNames) (old new : CidSet) → HasBlock b → AreFirstLinks b (forms cids) → OnOk r (AddsAll cids held old new) → AddsLinks b held old r new
-block_added b (Err e) cids held old new has first h = tt
-block_added b (Ok u) cids held old new has first h = (first.0, whole_block b first.1 first.0 has first.2, subst (λ ls. AddsReached ls held old new) first.4 h.1)
+-- these links before what is left of a block were added
+abbrev pub Adding : List ℕ → HeldNames → CidSet → CidSet → List ℕ → Type 0
+Adding b held old now rest = (found : List CidParts) × LinksSoFar b found rest × AddsAll found held old now
+
+pub none_adding : (b : List ℕ) (held : HeldNames) (s : CidSet) → HasBlock b → Adding b held s s b
+none_adding b held s has = ([], none_so_far b has, (tt, added_none held s))
+
+pub one_adding : (b rest behind : List ℕ) (c : CidParts) (held : HeldNames) (old mid new : CidSet) (a : Adding b held old mid rest) → ((more : List (List ℕ)) × (a.1.more ≡ cid_bytes c ∷ more) × HoldsLinks behind more) → length (cid_bytes c) + length behind < length rest → AddsAll (c ∷ []) held mid new → Adding b held old new behind
+one_adding b rest behind c held old mid new a next shorter added = (
+  a.0 ++ c ∷ [],
+  one_so_far b a.0 c rest behind a.1 next shorter,
+  both_added a.0 c held old mid new a.2 added,
+)
+
+pub all_adding : (b rest : List ℕ) (held : HeldNames) (old new : CidSet) (a : Adding b held old new rest) → a.1.more ≡ [] → (t : Tree) × IsBlock b t × AddsReached (links_of t) held old new
+all_adding b rest held old new a none = (a.1.tree, a.1.block, subst (λ ls. AddsReached ls held old new) (all_so_far b a.0 rest a.1 none) a.2.1)
 
 -- ---- measures
 
--- one more than the greatest length of a digest, if there is one
-abbrev pub longest : List CidParts → ℕ
-longest [] = 0
-longest (c ∷ cs) = max (length c.digest + 1) (longest cs)
-
 -- a digest that stands in a block is shorter than the block
-pub links_inside : (b : List ℕ) (cids : List CidParts) → HasBlock b → AreFirstLinks b (forms cids) → longest cids ≤ length b
-links_inside b cids has first = by cids (λ c m. subst (Among (cid_bytes c)) first.4 (among_map cid_bytes c cids m))
+pub digest_inside : (b rest behind : List ℕ) (c : CidParts) → length rest ≤ length b → length (cid_bytes c) + length behind < length rest → length c.digest < length b
+digest_inside b rest behind c fits shorter = omega (arith, digest_le, fits, shorter)
   where
-    whole : IsBlock b first.0
-    whole = whole_block b first.1 first.0 has first.2
-
-    digest_le : (c : CidParts) → length c.digest ≤ length (cid_bytes c)
-    digest_le c = by (c.version == 0)
+    digest_le : length c.digest ≤ length (cid_bytes c)
+    digest_le = by (c.version == 0)
       where
         by : (v : Bool) → length c.digest ≤ length (if v then 0x12 ∷ 0x20 ∷ c.digest else 0x01 ∷ (varint c.codec ++ (varint c.hash_code ++ (varint (length c.digest) ++ c.digest))))
         by true = omega arith
         by false = omega (arith, length-append (varint c.codec) (varint c.hash_code ++ (varint (length c.digest) ++ c.digest)), length-append (varint c.hash_code) (varint (length c.digest) ++ c.digest), length-append (varint (length c.digest)) c.digest)
-
-    by : (cs : List CidParts) → ((c : CidParts) → Among c cs → Among (cid_bytes c) (links_of first.0)) → longest cs ≤ length b
-    by [] h = omega arith
-    by (c ∷ cs) h = omega (arith, digest_le c, link_short first.0 (cid_bytes c) (h c (inl refl)), by cs (λ d m. h d (inr m)), ap length whole.0.is)
-
-pub longest_at : (cids : List CidParts) (i : ℕ) (c : CidParts) → i < length cids → c ≡ get_or cids i c → length c.digest + 1 ≤ longest cids
-longest_at [] i c h e = absurd (omega (arith, h))
-longest_at (x ∷ xs) zero c h e = omega (arith, ap (λ (d : CidParts). length d.digest) e)
-longest_at (x ∷ xs) (suc k) c h e = omega (arith, longest_at xs k c (omega (arith, h)) e)
 
 pub reached_only : (held : HeldNames) (s new : CidSet) (links : List (List ℕ)) → HoldsNone held → members s ≡ [] → AddsReached links held s new → HoldsReached new links
 reached_only held s new links free none h q = (λ m. elim ((h q).0 m) [ inl o ↦ absurd (subst (Among q) none o) | inr r ↦ r.0 ], λ r. (h q).1 (inr (r, free q)))

@@ -3,6 +3,8 @@ pub mod Names
 pub mod Verdicts
 pub mod Sound
 pub mod Sets
+pub mod Rows
 pub mod Held
 pub mod Within
 pub mod Reaching
+pub mod Collisions

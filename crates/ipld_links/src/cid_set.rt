@@ -8,8 +8,9 @@ ghost use Rattle.ipld_links.specs.Sets.{Among, members, AddsCid, RemovesCid};
 ghost use Rattle.ipld_links.specs.Within.{AddsUnheld, AddsAll, AddsLinks};
 
 use crate::held::HeldNames;
+use crate::links::next_link;
 use crate::name::{DAG_CBOR, IDENTITY};
-use dagcbor_items::{check_slice, links_from_slice};
+use dagcbor_items::check_slice;
 use ipld_tree::Cid;
 use std::alloc::{AllocError, Global};
 use std::collections::BTreeSet;
@@ -51,41 +52,31 @@ impl CidSet {
 
     /// Adds the links of a block, and those within them, that are not held.
     #[cycle(links)]
-    pub fn add_links(
-        &mut self,
-        alloc: Global,
-        block: &[u8],
-        held: &HeldNames,
-    ) -> Result<(), AllocError>
+    pub fn add_links(&mut self, block: &[u8], held: &HeldNames) -> Result<(), AllocError>
         requires { HasBlock block.now }
         ensures { AddsLinks block.now held.now self.old result self.new }
     {
-        // The links of a block are refused for want of memory alone.
-        let Ok(links) = links_from_slice(alloc, block) else {
-            return Err(AllocError);
-        };
-        self.add_all(alloc, &links, held)
+        let mut rest = block;
+        while let Some(found) = next_link(rest) {
+            self.add_link(&found.0, held)?;
+            rest = found.1;
+        }
+        Ok(())
     }
 
     /// Adds the links, and those within them, that are not held.
-    #[cycle(links)]
-    pub fn add_all(
-        &mut self,
-        alloc: Global,
-        links: &[Cid],
-        held: &HeldNames,
-    ) -> Result<(), AllocError>
+    pub fn add_all(&mut self, links: &[Cid], held: &HeldNames) -> Result<(), AllocError>
         ensures { OnOk result (AddsAll links.now held.now self.old self.new) }
     {
         for link in links {
-            self.add_link(alloc, link, held)?;
+            self.add_link(link, held)?;
         }
         Ok(())
     }
 
     /// Adds the link, if it is not held; or those within it, where its name holds a block itself.
     #[cycle(links)]
-    fn add_link(&mut self, alloc: Global, link: &Cid, held: &HeldNames) -> Result<(), AllocError>
+    fn add_link(&mut self, link: &Cid, held: &HeldNames) -> Result<(), AllocError>
         ensures { OnOk result (AddsAll (link.now ∷ []) held.now self.old self.new) }
     {
         // What is known of a CID comes with its version.
@@ -97,7 +88,7 @@ impl CidSet {
             return Ok(());
         }
         match check_slice(link.digest()) {
-            Ok(_kind) => self.add_links(alloc, link.digest(), held),
+            Ok(_kind) => self.add_links(link.digest(), held),
             Err(_) => Ok(()),
         }
     }

@@ -1,6 +1,10 @@
 //! Names under which blocks are held.
 
-ghost use Rattle.std.specs.Prelude.{◌≡◌, ◌↔◌, None, Some, IsTrue, MatchOption, OnOk};
+ghost use Rattle.std.specs.Prelude.{◌≡◌, ◌↔◌, ℕ, false, None, Some, IsTrue, slice_get};
+ghost use Rattle.std.specs.Prelude.{MatchOption, IfOk, OnOk};
+ghost use Rattle.std.specs.Option.{unwrap_or};
+ghost use Rattle.std.specs.Ordering.{nat_cmp};
+ghost use Rattle.std.specs.BTreeMap.{get, is_at};
 ghost use Rattle.ipld_links.specs.Held.{front, named, HoldsNone, IsKept, AddsName};
 
 use crate::cid_set::CidSet;
@@ -36,7 +40,7 @@ impl HeldNames {
         ensures { IsTrue result ↔ IsKept cid.now self.now }
     {
         match self.named(front_of(cid)) {
-            Some(name) => name == cid || self.others.contains(cid),
+            Some(name) => is_same(name, cid) || self.others.contains(cid),
             None => self.others.contains(cid),
         }
     }
@@ -47,31 +51,25 @@ impl HeldNames {
     {
         // What is known of a CID comes with its version.
         let _version = cid.version();
-        let number = front_of(&cid);
-        match self.named(number) {
-            Some(name) => {
-                if *name == cid {
-                    return Ok(());
-                }
-                self.others.add(cid)
-            }
-            None => self.put(number, cid),
+        let end = self.names.len();
+        let place = place_at(&mut self.places, front_of(&cid), end)?;
+        if place == end {
+            self.names.push(cid)?;
+            return Ok(());
         }
+        if self.has_at(place, &cid) {
+            return Ok(());
+        }
+        self.others.add(cid)
     }
 
-    /// Puts the name at the end of the row.
-    fn put(&mut self, number: u64, cid: Cid) -> Result<(), AllocError>
-        requires absent { named self.old number ≡ None }
-        requires own { number ≡ front cid.digest }
-        ensures { OnOk result (AddsName cid self.old self.new) }
+    /// Whether this name stands at the place in the row.
+    fn has_at(&self, place: usize, cid: &Cid) -> bool
+        ensures { IsTrue result → slice_get self.now.names.items place ≡ Some cid.now }
     {
-        // What is known of a CID comes with its version.
-        let _version = cid.version();
-        let place = self.names.len();
-        self.names.push(cid)?;
-        match self.places.insert(number, place) {
-            Ok(_before) => Ok(()),
-            Err(_) => Err(AllocError),
+        match self.names.get(place) {
+            Some(name) => is_same(name, cid),
+            None => false,
         }
     }
 
@@ -85,6 +83,29 @@ impl HeldNames {
             Some(place) => self.names.get(*place),
             None => None,
         }
+    }
+}
+
+/// Whether both are one name. Their order is not asked for, which takes longer.
+fn is_same(first: &Cid, second: &Cid) -> bool
+    ensures { IsTrue result ↔ (first.now ≡ second.now) }
+{
+    first.digest() == second.digest()
+        && first.hash_code() == second.hash_code()
+        && first.codec() == second.codec()
+        && first.version() == second.version()
+}
+
+/// The place under the number: the one that stands there, and else this one, which is put there.
+fn place_at(places: &mut BTreeMap<u64, usize>, number: u64, end: usize) -> Result<usize, AllocError>
+    ensures place { IfOk result (λ p. p ≡ unwrap_or (get nat_cmp places.old number) end) }
+    ensures there { IfOk result (λ p. get nat_cmp places.new number ≡ Some p) }
+    ensures others { OnOk result ((m : ℕ) → is_at (nat_cmp number) m ≡ false
+        → get nat_cmp places.new m ≡ get nat_cmp places.old m) }
+{
+    match places.entry(number) {
+        Ok(entry) => Ok(*entry.or_insert(end)),
+        Err(_) => Err(AllocError),
     }
 }
 

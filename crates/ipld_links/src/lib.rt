@@ -3,6 +3,7 @@
 
 mod cid_set;
 mod held;
+mod links;
 mod name;
 mod names;
 mod reach;

@@ -27,10 +27,7 @@ pub fn names_from_slice(alloc: Global, bytes: &[u8]) -> Result<Vec<Cid>, DecodeE
         return Ok(links);
     }
     let mut names = CidSet::new(alloc);
-    if names
-        .add_all(alloc, &links, &HeldNames::new(alloc))
-        .is_err()
-    {
+    if names.add_all(&links, &HeldNames::new(alloc)).is_err() {
         return Err(DecodeError::OutOfMemory);
     }
     match names.into_vec(alloc) {

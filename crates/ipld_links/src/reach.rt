@@ -9,8 +9,9 @@ ghost use Rattle.ipld_links.specs.Reaching.{Stored, NamesTree, Walks, GoesOn, Vi
 ghost use Rattle.ipld_links.specs.Reaching.{PushesAll, Sees, SortsOut, stored_in};
 ghost use Rattle.ipld_links.specs.Reaching.{ListsReachable, ListsLost};
 
+use crate::links::links_of_block;
 use crate::name::{DAG_CBOR, IDENTITY};
-use dagcbor_items::{check_slice, links_from_slice};
+use dagcbor_items::check_slice;
 use ipld_tree::Cid;
 use std::alloc::{AllocError, Global};
 use std::collections::{BTreeMap, BTreeSet};
@@ -42,23 +43,13 @@ pub struct Reached {
     pub lost: Vec<Cid>,
 }
 
-/// The links of a block, which are refused for want of memory alone.
-fn first_links(alloc: Global, block: &[u8]) -> Result<Vec<Cid>, AllocError>
-    ensures { IfOk result (λ v. AreFirstLinks block.now (forms v.items)) }
-{
-    match links_from_slice(alloc, block) {
-        Ok(links) => Ok(links),
-        Err(_) => Err(AllocError),
-    }
-}
-
 /// The links of the block that the bytes are, if they are one.
 #[tactic(auto, using(crate::proofs::Reaching::links_found, crate::proofs::Sounding::no_block))]
 fn links_in(alloc: Global, bytes: &[u8]) -> Result<Vec<Cid>, AllocError>
     ensures { IfOk result (λ v. AreLinksOf (IsBlock bytes.now) v.items) }
 {
     match check_slice(bytes) {
-        Ok(_kind) => first_links(alloc, bytes),
+        Ok(_kind) => links_of_block(alloc, bytes),
         Err(_) => Ok(Vec::new(alloc)),
     }
 }

@@ -30,10 +30,10 @@ const LONGEST_DIGEST: usize = 64;
 /// A CID of version 0 or 1.
 #[derive(Clone, Copy, Debug)]
 pub struct Cid {
-    version: u64,
+    version: u8,
+    length: u8,
     codec: u64,
     hash_code: u64,
-    length: u8,
     digest: [u8; 64],
 }
 
@@ -77,7 +77,7 @@ impl Cid {
         ensures valid { AreCidParts self.now }
         ensures version { result ≡ self.now.version }
     {
-        self.version
+        u64::from(self.version)
     }
 
     /// The code of the format of what is linked (the multicodec table): 0x70 in version 0.
@@ -159,7 +159,7 @@ impl TryFrom<&[u8]> for Cid {
 }
 
 /// Puts zeros behind the digest.
-fn from_parts(version: u64, codec: u64, hash_code: u64, digest: &[u8]) -> Cid
+fn from_parts(version: u8, codec: u64, hash_code: u64, digest: &[u8]) -> Cid
     requires { AreCidParts (cid_parts version codec hash_code digest.now) }
     ensures { result ≡ cid_parts version codec hash_code digest.now }
 {
@@ -286,7 +286,7 @@ impl Hash for Cid {
     ghost respects_eq = { hashes_alike };
 
     fn hash<H: Hasher>(&self, state: &mut H) {
-        self.version.hash(state);
+        self.version().hash(state);
         self.codec.hash(state);
         self.hash_code.hash(state);
         self.digest().hash(state);

@@ -4,7 +4,7 @@ use Rattle.dagcbor_heads.specs.Reading.{default_steps}
 use Rattle.ipld_tree.specs.Tree.{Tree, any_need}
 use Rattle.ipld_tree.specs.Spelling.{IsSpelling}
 use Rattle.dagcbor_items.specs.Slices.{IsBlock}
-use Rattle.dag_json.specs.Reading.{Read, within_steps, ReadsWhole, ReadsText}
+use Rattle.dag_json.specs.Reading.{Read, within_steps, ReadsWhole, ReadsJson}
 use Rattle.dag_json.specs.declared.error.DagJsonError.{DagJsonError}
 use Rattle.dag_json.specs.declared.error.DagJsonError.TheVariants.{TooDeep}
 
@@ -20,9 +20,9 @@ told_few : {J : Type 0} (t : Tree) (d : Result J DagJsonError) (whole : J → Ty
 told_few t (Ok j) whole by h = by j h
 told_few t (Err e) whole by h = absurd (cc h)
 
-text_few : (s : List ℕ) (t : Tree) → ReadsText s (Ok t) → any_need t ≤ default_steps
+text_few : (s : List ℕ) (t : Tree) → ReadsJson s (Ok t) → any_need t ≤ default_steps
 text_few s t (inl h) = let clash = h.1 in absurd (cc clash)
 text_few s t (inr h) = told_few t _ (λ j. ReadsWhole j (Ok t)) (λ j w. read_few t w.0 w.2) h.1
 
-pub block_read : (s b : List ℕ) (t : Tree) → ReadsText s (Ok t) → IsSpelling b t → IsBlock b t
+pub block_read : (s b : List ℕ) (t : Tree) → ReadsJson s (Ok t) → IsSpelling b t → IsBlock b t
 block_read s b t reads is = (is, text_few s t reads)

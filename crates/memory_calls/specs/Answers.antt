@@ -4,7 +4,7 @@ use Rattle.std.specs.declared.alloc.Global.{Global}
 use Rattle.repository_types.specs.declared.repository.Commit.{Commit}
 use Rattle.atproto_mst.specs.declared.entries.MstEntry.{MstEntry}
 use Rattle.record_lines.specs.Repositories.{IsRepoFile, IsNoRepoFile}
-use Rattle.dagcbor_calls.specs.CidTexts.{IsPut, PutsNone}
+use Rattle.dagcbor_calls.specs.CidTexts.{IsPutText, PutsNone}
 use Rattle.memory_calls.specs.Blocks.{IsBlockOf}
 
 -- the block tells of the repository that the bytes are
@@ -26,6 +26,6 @@ WantsMemory old new needed code = (code ≡ negsuc 41) × PutsNone old new neede
 -- the block of the repository is put; or the line that tells why there is none; or memory was wanted
 abbrev pub IsRepositoryAnswer : List ℕ → List ℕ → List ℕ → ℕ → ℤ → Type 0
 IsRepositoryAnswer b old new needed code =
-    ((block : List ℕ) × IsRepoBlock b block × IsPut (pos 0) block old new needed code)
-    ⊎ (((line : List ℕ) × IsNoRepoFile b line × IsPut (pos 1) line old new needed code)
+    ((block : List ℕ) × IsRepoBlock b block × IsPutText (pos 0) block old new needed code)
+    ⊎ (((line : List ℕ) × IsNoRepoFile b line × IsPutText (pos 1) line old new needed code)
     ⊎ WantsMemory old new needed code)

@@ -8,11 +8,11 @@ use Rattle.ipld_tree.specs.Tree.{Tree}
 use Rattle.dagcbor_items.specs.TreeKinds.{kind_of}
 use Rattle.dagcbor_items.specs.Slices.{IsBlock, SliceRefused}
 use Rattle.dag_json.specs.DagJson.{dag_json, has_reserved_key}
-use Rattle.dag_json.specs.Reading.{ReadsText}
+use Rattle.dag_json.specs.Reading.{ReadsJson}
 use Rattle.dag_json.specs.declared.error.DagJsonError.{DagJsonError}
 use Rattle.dag_json.specs.declared.error.DagJsonError.TheVariants as texts
 use Rattle.dagcbor_calls.specs.Codes.{kind_code, refusal_code}
-use Rattle.dagcbor_calls.specs.CidTexts.{IsPut, PutsNone}
+use Rattle.dagcbor_calls.specs.CidTexts.{IsPutText, PutsNone}
 use Rattle.memory_calls.specs.Answers.{WantsMemory}
 
 -- the number of why a text is no data
@@ -33,7 +33,7 @@ json_code texts.OutOfMemory = negsuc 41
 -- memory was wanted
 abbrev pub IsDataAnswer : Tree → List ℕ → List ℕ → ℕ → ℤ → Type 0
 IsDataAnswer t old new needed code =
-    ((has_reserved_key t ≡ false) × IsPut (kind_code (kind_of t)) (dag_json t) old new needed code)
+    ((has_reserved_key t ≡ false) × IsPutText (kind_code (kind_of t)) (dag_json t) old new needed code)
     ⊎ (((has_reserved_key t ≡ true) × (code ≡ json_code texts.ReservedKey) × PutsNone old new needed)
     ⊎ WantsMemory old new needed code)
 
@@ -49,9 +49,9 @@ IsToJsonAnswer b old new needed code =
 -- place is said of what is no UTF-8 alone: the first that is none.
 abbrev pub IsFromJsonAnswer : List ℕ → List ℕ → List ℕ → ℕ → ℕ → ℤ → Type 0
 IsFromJsonAnswer text old new needed place code =
-    ((t : Tree) × (block : List ℕ) × ReadsText text (Ok t) × IsBlock block t
-    × IsPut (kind_code (kind_of t)) block old new needed code × (place ≡ length text))
-    ⊎ (((e : DagJsonError) × ReadsText text (Err e) × (code ≡ json_code e)
+    ((t : Tree) × (block : List ℕ) × ReadsJson text (Ok t) × IsBlock block t
+    × IsPutText (kind_code (kind_of t)) block old new needed code × (place ≡ length text))
+    ⊎ (((e : DagJsonError) × ReadsJson text (Err e) × (code ≡ json_code e)
     × PutsNone old new needed × (place ≤ length text)
     × (¬ IsUtf8 text → place ≡ utf8_valid_len text))
     ⊎ (IsUtf8 text × WantsMemory old new needed code × (place ≡ 0)))

@@ -5,7 +5,7 @@ ghost use Rattle.ipld_tree.specs.Ipld.{tree_of};
 ghost use Rattle.ipld_tree.specs.Spelling.{IsSpelling};
 ghost use Rattle.dagcbor_items.specs.TreeKinds.{kind_of};
 ghost use Rattle.dagcbor_calls.specs.Codes.{kind_code};
-ghost use Rattle.dagcbor_calls.specs.CidTexts.{IsPut};
+ghost use Rattle.dagcbor_calls.specs.CidTexts.{IsPutText};
 ghost use Rattle.memory_calls.specs.JsonAnswers.{json_code, IsDataAnswer, IsToJsonAnswer};
 ghost use Rattle.memory_calls.specs.JsonAnswers.{IsFromJsonAnswer};
 
@@ -57,7 +57,7 @@ fn kind_of(value: &Ipld) -> Kind
 
 /// Puts the bytes that are made of the data: the number of its kind.
 fn put_made(value: &Ipld, made: &[u8], out: &mut [u8], needed: &mut usize) -> i32
-    ensures { IsPut (kind_code (kind_of (tree_of value.now))) made.now out.old out.new needed.new
+    ensures { IsPutText (kind_code (kind_of (tree_of value.now))) made.now out.old out.new needed.new
         result }
 {
     put_front(kind_code(kind_of(value)), made, out, needed)

@@ -9,7 +9,7 @@ use Rattle.atproto_mst.specs.Repos.{IsRepo}
 use Rattle.repository_types.specs.declared.repository.Commit.{Commit}
 use Rattle.atproto_mst.specs.declared.entries.MstEntry.{MstEntry}
 use Rattle.atproto_mst.specs.declared.repo.Repo.{Repo}
-use Rattle.record_lines.specs.Repositories.{IsHeld, IsUnreadOf, IsRepoFile, IsNoRepoFile}
+use Rattle.record_lines.specs.Repositories.{IsFileHeld, IsUnreadOf, IsRepoFile, IsNoRepoFile}
 
 -- what holds of both sides holds of them in other words
 pub match_result : {A E : Type 0} {P P' : A → Type 0} {Q Q' : E → Type 0} (r : Result A E) → MatchResult r P Q → ((a : A) → P a → P' a) → ((e : E) → Q e → Q' e) → MatchResult r P' Q'
@@ -21,8 +21,8 @@ pub records_rise : (b : List ℕ) (c : Commit) (records : List MstEntry) → IsR
 records_rise b c records h = h.3.1.valid.rise
 
 -- what is read of the blocks of a file is read of the file
-pub read_held : (b : List ℕ) (roots : List CidParts) (stored : Stored) (r : Result Repo (Vec ℕ Global)) → IsHeld b roots stored
+pub read_held : (b : List ℕ) (roots : List CidParts) (stored : Stored) (r : Result Repo (Vec ℕ Global)) → IsFileHeld b roots stored
     → MatchResult r (λ repo. (root : CidParts) × (roots ≡ root ∷ []) × IsRepo stored root repo.commit repo.records.items) (λ line. IsUnreadOf stored roots line.items)
     → MatchResult r (λ repo. IsRepoFile b repo.commit repo.records.items) (λ line. IsNoRepoFile b line.items)
-read_held b roots stored (Ok repo) f h = (h.0, stored, subst (λ rs. IsHeld b rs stored) h.1 f, h.2)
+read_held b roots stored (Ok repo) f h = (h.0, stored, subst (λ rs. IsFileHeld b rs stored) h.1 f, h.2)
 read_held b roots stored (Err line) f h = inl (roots, stored, f, h)

@@ -4,7 +4,7 @@ use Rattle.std.specs.Prelude.{⊤}
 use Rattle.std.specs.List.{AllByRecursion}
 use Rattle.std.proofs.lemmas.Bool.{ltb-false, or_parts}
 use Rattle.record_lines.specs.Keys.{upper_digit, is_spelled, key_byte, key_text}
-use Rattle.record_lines.specs.Laws.{IsWord, KeysAreWords, KeysDiffer}
+use Rattle.record_lines.specs.Laws.{IsWord, KeysAreWords, KeyTextsDiffer}
 
 -- ---- digits
 
@@ -87,7 +87,7 @@ same_byte b c l k e f =
     let low = same_digit (b % 16) (c % 16) (omega (arith, l)) (omega (arith, k)) f in
     omega (arith, high, low)
 
-pub keys_differ : KeysDiffer
+pub keys_differ : KeyTextsDiffer
 keys_differ [] [] h k e = refl
 keys_differ [] (c ∷ other) h k e = absurd (not_nothing c (key_text other) e)
 keys_differ (b ∷ key) [] h k e = absurd (not_nothing b (key_text key) (sym e))

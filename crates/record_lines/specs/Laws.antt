@@ -1,10 +1,8 @@
 -- What holds of all keys.
 use Rattle.std.specs.Prelude.{◌≡◌, ℕ, ◌<◌, ◌≤◌, List}
 use Rattle.std.specs.List.{AllByRecursion}
+use Rattle.cid_text.specs.Alphabets.{AreBytes}
 use Rattle.record_lines.specs.Keys.{key_text}
-
-abbrev pub AreBytes : List ℕ → Type 0
-AreBytes bytes = AllByRecursion (λ b. b < 256) bytes
 
 -- no byte is among them that could end a word, or a line
 abbrev pub IsWord : List ℕ → Type 0
@@ -15,5 +13,5 @@ abbrev pub KeysAreWords : Type 0
 KeysAreWords = (key : List ℕ) → AreBytes key → IsWord (key_text key)
 
 -- and it is the text of no other
-abbrev pub KeysDiffer : Type 0
-KeysDiffer = (key other : List ℕ) → AreBytes key → AreBytes other → key_text key ≡ key_text other → key ≡ other
+abbrev pub KeyTextsDiffer : Type 0
+KeyTextsDiffer = (key other : List ℕ) → AreBytes key → AreBytes other → key_text key ≡ key_text other → key ≡ other

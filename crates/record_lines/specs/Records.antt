@@ -8,7 +8,7 @@ use Rattle.ipld_links.specs.declared.verdict.Verdict.{Verdict}
 use Rattle.atproto_mst.specs.Keys.{Entry}
 use Rattle.atproto_mst.specs.Entries.{entries}
 use Rattle.atproto_mst.specs.Walks.{most_layers}
-use Rattle.atproto_mst.specs.Finding.{Finds, FindStops}
+use Rattle.atproto_mst.specs.Finding.{FindsRecord, FindStops}
 use Rattle.atproto_mst.specs.Repos.{IsStoredCommit, CommitRefused}
 use Rattle.repository_types.specs.declared.repository.Commit.{Commit}
 use Rattle.atproto_mst.specs.declared.entries.MstEntry.{MstEntry}
@@ -19,7 +19,7 @@ use Rattle.block_lines.specs.Shown.{IsShown}
 use Rattle.held_lines.specs.Holding.{TellsFault}
 use Rattle.record_lines.specs.Keys.{key_text}
 use Rattle.record_lines.specs.Words.{IsOfTree, IsOfRepo, tree_line, repo_line, roots_line, no_record_line}
-use Rattle.record_lines.specs.Repositories.{IsHeld, OfOneRoot, IsRepoFile, IsNoRepoFile}
+use Rattle.record_lines.specs.Repositories.{IsFileHeld, OfOneRoot, IsRepoFile, IsNoRepoFile}
 
 -- nothing is said, and this is told
 abbrev pub IsToldAlone : List ℕ → Bool → List ℕ → List ℕ → Type 0
@@ -56,8 +56,8 @@ IsBlockSaid stored name well out told =
 -- of the key in the tree of this root: its record; or that there is none; or why that is not told
 abbrev pub IsSaidOfKey : Stored → List ℕ → CidParts → Bool → List ℕ → List ℕ → Type 0
 IsSaidOfKey stored key tree well out told =
-    ((name : CidParts) × Finds most_layers stored key tree (Some name) × IsBlockSaid stored name well out told)
-    ⊎ ((Finds most_layers stored key tree None × IsToldAlone no_record_line well out told)
+    ((name : CidParts) × FindsRecord most_layers stored key tree (Some name) × IsBlockSaid stored name well out told)
+    ⊎ ((FindsRecord most_layers stored key tree None × IsToldAlone no_record_line well out told)
     ⊎ ((e : MstError) × FindStops most_layers stored key tree e × IsOfTree e
     × IsToldAlone (tree_line e) well out told))
 
@@ -77,6 +77,6 @@ IsRecordOf key stored roots well out told =
 -- what `record` says of a file: that of its roots and its sections; or nothing, and a line that tells
 -- why the bytes are no file
 abbrev pub IsRecord : List ℕ → List ℕ → Bool → List ℕ → List ℕ → Type 0
-IsRecord key b well out told = ((roots : List CidParts) × (stored : Stored) × IsHeld b roots stored
+IsRecord key b well out told = ((roots : List CidParts) × (stored : Stored) × IsFileHeld b roots stored
     × IsRecordOf key stored roots well out told)
     ⊎ ((line : List ℕ) × TellsFault (λ sections. ⊤) b line × IsToldAlone line well out told)

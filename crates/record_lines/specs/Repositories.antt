@@ -14,8 +14,8 @@ use Rattle.held_lines.specs.declared.holding.Kept.TheVariants as which
 use Rattle.record_lines.specs.Words.{IsOfRepo, repo_line, roots_line}
 
 -- the bytes are a file of these roots, whose sections are stored so
-abbrev pub IsHeld : List ℕ → List CidParts → Stored → Type 0
-IsHeld b roots stored = (sections : List Section) × IsFile b (forms roots) sections
+abbrev pub IsFileHeld : List ℕ → List CidParts → Stored → Type 0
+IsFileHeld b roots stored = (sections : List Section) × IsFile b (forms roots) sections
     × Stores which.All sections stored
 
 -- this is so of the one root; or there is none, or several, of which that is so
@@ -25,7 +25,7 @@ OfOneRoot IsSo IsOther roots = IsOther (length roots)
 
 -- the bytes are a file whose one root is the commit of a whole repository, of these records
 abbrev pub IsRepoFile : List ℕ → Commit → List MstEntry → Type 0
-IsRepoFile b c records = (root : CidParts) × (stored : Stored) × IsHeld b (root ∷ []) stored
+IsRepoFile b c records = (root : CidParts) × (stored : Stored) × IsFileHeld b (root ∷ []) stored
     × IsRepo stored root c records
 
 -- the repository whose commit has this name is not stored whole, and the line tells why
@@ -42,6 +42,6 @@ IsUnreadOf stored roots line =
 -- the bytes are no file of a whole repository, and the line tells why
 abbrev pub IsNoRepoFile : List ℕ → List ℕ → Type 0
 IsNoRepoFile b line =
-    ((roots : List CidParts) × (stored : Stored) × IsHeld b roots stored
+    ((roots : List CidParts) × (stored : Stored) × IsFileHeld b roots stored
     × IsUnreadOf stored roots line)
     ⊎ TellsFault (λ sections. ⊤) b line

@@ -1,6 +1,6 @@
 //! Laws of the definitions, each the contract of a function that does nothing.
 
-ghost use Rattle.record_lines.specs.Laws.{KeysAreWords, KeysDiffer};
+ghost use Rattle.record_lines.specs.Laws.{KeysAreWords, KeyTextsDiffer};
 
 /// The text of a key is one word, so that no key can end its line.
 #[tactic(auto, using(crate::proofs::Wording::keys_are_words))]
@@ -11,5 +11,5 @@ pub fn keys_are_words()
 /// The text of a key is that of no other.
 #[tactic(auto, using(crate::proofs::Wording::keys_differ))]
 pub fn keys_differ()
-    ensures { KeysDiffer }
+    ensures { KeyTextsDiffer }
 {}

@@ -1,11 +1,24 @@
 """Files of blocks: what the check of one found, and the writing of one."""
 
+from __future__ import annotations
+
 from collections.abc import Mapping
 from io import RawIOBase
+from typing import TYPE_CHECKING, Protocol
 
 from . import _native
-from ._buffers import bytes_of
-from ._errors import refused
+
+if TYPE_CHECKING:
+    from collections.abc import Iterable
+    from mmap import mmap
+
+    from ._native import CID, Buffer, Readable, Sha256, Verdict
+
+OTHER_BYTES, NOT_VERIFIED = -22, -23
+
+
+class Writable(Protocol):
+    def write(self, piece: bytes, /) -> int | None: ...
 
 
 class CarCheck:
@@ -19,30 +32,35 @@ class CarCheck:
 
     __slots__ = ("roots", "verdicts", "missing", "_held")
 
-    def __init__(self, roots, verdicts, missing, held):
+    def __init__(
+        self, roots: list[CID], verdicts: dict[Verdict, int], missing: list[CID], held: bytes
+    ) -> None:
         self.roots = roots
         self.verdicts = verdicts
         self.missing = missing
         self._held = held
 
     @property
-    def held(self):
+    def held(self) -> list[CID]:
         """The names of the verified blocks, each once. They are made anew at each look."""
         return _native.unpack(self._held)
 
     @property
-    def is_well(self):
+    def is_well(self) -> bool:
         """Whether nothing is missing, and each verdict is `ok ..` or `not read`."""
         are_well = all(it.startswith("ok ") or it == "not read" for it in self.verdicts)
         return are_well and not self.missing
 
-    def __repr__(self):
+    def __repr__(self) -> str:
         return f"CarCheck(verdicts={self.verdicts}, missing={self.missing})"
 
 
-def check_car(source):
-    """What is found in a file of blocks, of bytes or a binary file."""
-    *found, error = _native.check_car(source)
+def check_car(source: Buffer | mmap | Readable, *, sha256: Sha256 | None = None) -> CarCheck:
+    """What is found in a file of blocks, of bytes or a binary file.
+
+    `sha256`, as `hashlib.sha256`, computes digests in the place of the library, and is trusted.
+    """
+    *found, error = _native.check_car(source, sha256)
     checked = CarCheck(*found)
     if error is None:
         return checked
@@ -50,7 +68,7 @@ def check_car(source):
     raise error
 
 
-def _varint(number):
+def _varint(number: int) -> bytes:
     groups = []
     while number >= 128:
         groups.append(number % 128 + 128)
@@ -58,7 +76,11 @@ def _varint(number):
     return bytes([*groups, number])
 
 
-def write_car(file, roots, blocks):
+def write_car(
+    file: Writable,
+    roots: Iterable[CID],
+    blocks: Mapping[CID, Buffer] | Iterable[tuple[CID, Buffer]],
+) -> None:
     """Writes a file of blocks, of version 1, to a binary file.
 
     `blocks` is a dict of blocks by their CIDs, or pairs of a CID and a block, in the order in which
@@ -70,23 +92,23 @@ def write_car(file, roots, blocks):
     header = _native.dumps({"roots": roots, "version": 1})
     _put(file, _varint(len(header)) + header)
     for cid, block in blocks.items() if isinstance(blocks, Mapping) else blocks:
-        block = bytes_of(block)
+        block = _native.to_bytes(block)
         if _native.verdict(cid, block) == "other bytes":
-            raise refused(-22)
+            raise _native.refusal(OTHER_BYTES)
         _put(file, _varint(len(bytes(cid)) + len(block)) + bytes(cid))
         _put(file, block)
 
 
-def verify(cid, block):
+def verify(cid: CID, block: Buffer) -> bool:
     """Whether the bytes are those that the CID names: by SHA-256 or the identity, else it raises
     DagCborError (`NotVerified`). `check` says whether they are a block."""
     verdict = _native.verdict(cid, block)
     if verdict == "not verified":
-        raise refused(-23)
+        raise _native.refusal(NOT_VERIFIED)
     return verdict != "other bytes"
 
 
-def _put(file, piece):
+def _put(file: Writable, piece: bytes) -> None:
     """Writes all of it: a raw file may take a part alone."""
     while piece:
         count = file.write(piece)

@@ -4,8 +4,7 @@ from __future__ import annotations
 
 from typing import TYPE_CHECKING
 
-from ._buffers import bytes_of
-from ._native import loads_first
+from ._native import loads_first, to_bytes
 
 if TYPE_CHECKING:
     from collections.abc import Iterator
@@ -16,7 +15,7 @@ if TYPE_CHECKING:
 
 def iter_loads(items: Buffer) -> Iterator[Any]:
     """The data of each item of the bytes, in which they stand one behind the other."""
-    items, place = bytes_of(items), 0
+    items, place = to_bytes(items), 0
     while place < len(items):
         value, place = loads_first(items, place)
         yield value

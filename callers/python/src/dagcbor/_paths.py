@@ -1,36 +1,46 @@
 """Paths in blocks, and over links from block to block."""
 
+from __future__ import annotations
+
 from collections.abc import Mapping
+from typing import TYPE_CHECKING, Any
 
 from . import _native
 from ._car import verify
-from ._errors import refused
 
-IDENTITY = 0
+if TYPE_CHECKING:
+    from collections.abc import Callable, Sequence
+
+    from ._native import CID, Buffer
+
+IDENTITY, DAG_CBOR = 0, 0x71
+NOT_READ, OTHER_BYTES = 9, -22
 
 
-def _follow(block, path):
+def _follow(block: Buffer, path: str | Sequence[str]) -> tuple[Any, bool, str | Sequence[str]]:
     """The data, whether the path leads to it or goes on at it, and the path that is left."""
+    left: str | Sequence[str]
     if isinstance(path, str):
-        return _native.follow(block, path)
-    segments, item = list(path), block
-    for passed, segment in enumerate(segments):
-        part = _native.part(item, segment)
-        if part is None:
-            goes_on = _native.check(item) == "link"
-            return _native.loads(item) if goes_on else None, goes_on, segments[passed:]
-        item = part
-    return _native.loads(item), True, []
+        kind, item, left = _native.follow(block, path)
+    else:
+        item, left, segments = _native.to_bytes(block), [], list(path)
+        for passed, segment in enumerate(segments):
+            part = _native.part(item, segment)
+            if part is None:
+                left = segments[passed:]
+                break
+            item = part
+        kind = _native.check(item)
+    goes_on = not left or kind == "link"
+    return _native.loads(item) if goes_on else None, goes_on, left
 
 
-def find(block, path, /):
+def find(block: Buffer, path: str | Sequence[str], /) -> Any:
     """The data to which a path leads in a block; else a KeyError.
 
     The path is a text as `a/0/b`, or a list of segments, each taken whole, so that it reaches keys
     that are empty or have slashes too.
     """
-    if isinstance(path, str):
-        return _native.find(block, path)
     value, _, left = _follow(block, path)
     if left:
         raise KeyError(path)
@@ -40,25 +50,27 @@ def find(block, path, /):
 class MissingBlock(LookupError):
     """A block on the way is not held, so nothing is said of what the path leads to. `cid` names it."""
 
-    def __init__(self, cid):
+    def __init__(self, cid: CID) -> None:
         super().__init__(f"no block is held under {cid}")
         self.cid = cid
 
 
-def _block_of(get, cid):
+def _block_of(get: Callable[[CID], Buffer | None], cid: CID) -> Buffer:
     """The block of the name, verified. A name by the identity holds it itself."""
     block = cid.digest if cid.hash_code == IDENTITY else get(cid)
     if block is None:
         raise MissingBlock(cid)
     if _native.name(block) != cid:
         if not verify(cid, block):
-            raise refused(-22)
-        if cid.codec != 0x71:
-            raise refused(9)
+            raise _native.refusal(OTHER_BYTES)
+        if cid.codec != DAG_CBOR:
+            raise _native.refusal(NOT_READ)
     return block
 
 
-def resolve(get, cid, path):
+def resolve(
+    get: Mapping[CID, Buffer] | Callable[[CID], Buffer | None], cid: CID, path: str | Sequence[str]
+) -> Any:
     """The data to which the path leads from the block of the CID, over links, as `ipfs dag get`.
 
     The path is a text or a list of segments, as of `find`. `get` is a mapping of blocks by their

@@ -6,9 +6,8 @@ from dataclasses import dataclass
 from mmap import mmap
 from typing import TYPE_CHECKING, Any, cast
 
-from ._buffers import bytes_of
 from ._errors import DagCborError
-from ._native import CID, loads
+from ._native import CID, loads, to_bytes
 from ._native_memory import repository
 
 if TYPE_CHECKING:
@@ -52,7 +51,7 @@ def read_repo(source: Buffer | mmap | Readable) -> Repository:
 def _all_of(source: Any) -> bytes:
     """All that it has: of a file, from where it stands."""
     if isinstance(source, mmap) or not hasattr(source, "read"):
-        return bytes_of(cast("Buffer", source))
+        return to_bytes(cast("Buffer", source))
     pieces = []
     while piece := cast("Readable", source).read(PIECE):
         pieces.append(piece)

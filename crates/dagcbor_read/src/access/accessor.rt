@@ -1,20 +1,20 @@
 //! The items of a list, or the entries of a map, one at a time.
 
-ghost use Rattle.std.specs.Prelude.{◌≡◌, ◌↔◌, ◌+◌, ◌<◌, ◌≤◌, ⊤, true, false, Some, IfOk, IfErr};
+ghost use Rattle.std.specs.Prelude.{◌≡◌, ◌↔◌, ◌+◌, ◌<◌, ◌≤◌, true, false, Some, IfOk, IfErr};
 ghost use Rattle.std.specs.Prelude.{IfSome, MatchBool};
 ghost use Rattle.std.specs.Cow.{cow_str_bytes, IsBorrowedStr};
 ghost use Rattle.dagcbor_heads.specs.Reading.{with_steps};
 ghost use Rattle.dagcbor_heads.specs.Looking.{Looks};
 ghost use Rattle.dagcbor_read.specs.Deserializers.{de_state, Call, AreOut, Over};
 ghost use Rattle.dagcbor_items.specs.Entries.{HasName};
-ghost use Rattle.dagcbor_items.specs.TypedReads.{Reads, Anything};
+ghost use Rattle.dagcbor_items.specs.TypedReads.{Reads};
 ghost use Rattle.dagcbor_items.specs.AnsweredVariants.{OfKey};
 ghost use Rattle.dagcbor_read.specs.Values.{ReadsPart};
 
 use crate::deserialize::Deserialize;
 use crate::deserializer::Deserializer;
 use dagcbor_heads::{DecodeError, Name, Read, ReadResult};
-use dagcbor_items::no_key;
+use dagcbor_items::take_name;
 use std::alloc::{AllocError, Global};
 use std::borrow::CowStr;
 
@@ -26,7 +26,7 @@ pub struct Accessor<'de> {
     name: Name,
     is_map: bool,
     announced: usize,
-    left: usize,
+    pub(crate) left: usize,
     last: Option<CowStr<'de>>,
     owes_value: bool,
     steps: usize,
@@ -100,14 +100,6 @@ impl<'de> Accessor<'de> {
         Some(self.left)
     }
 
-    /// How many items are left, as `size_hint` says it.
-    #[inline(always)]
-    pub(crate) fn left(&self) -> usize
-        ensures { result ≡ (accessor_state self.now).left }
-    {
-        self.left
-    }
-
     /// The next item of a list, where one is left.
     #[inline(always)]
     pub fn next_element<T: Deserialize<'de>, R: Read>(
@@ -156,16 +148,9 @@ impl<'de> Accessor<'de> {
             de.check()?;
             return Ok(None);
         }
-        if let Some(found) = de.take_key(&self.last) {
-            match found {
-                Ok(key) => {
-                    self.note_key(CowStr::Borrowed(key));
-                    return Ok(Some(CowStr::Borrowed(key)));
-                }
-                Err(bytes) => return Err(no_key(bytes)),
-            }
-        }
-        self.next_key_slowly(alloc, de)
+        let (key, last) = de.read_key_after(alloc, &self.last)?;
+        self.note_key(last);
+        Ok(Some(key))
     }
 
     /// Takes the next key, where it is this name and a slice has it whole.
@@ -181,7 +166,7 @@ impl<'de> Accessor<'de> {
             × (¬ HasName (accessor_state self.old).last name.now
             (de_state R.reading de.old).input)) }
     {
-        match de.take_name(&self.last, name) {
+        match take_name(&mut de.input, &self.last, name) {
             Some(key) => {
                 self.note_key(CowStr::Borrowed(key));
                 true
@@ -202,37 +187,14 @@ impl<'de> Accessor<'de> {
         self.owes_value = true;
     }
 
-    /// The next key, where no slice has it whole. It is kept beside the one that is handed up.
-    #[cold]
-    #[inline(never)]
-    fn next_key_slowly<R: Read>(
-        &mut self,
-        alloc: Global,
-        de: &mut Deserializer<'de, R>,
-    ) -> ReadResult<Option<CowStr<'de>>, R>
-        requires { 0 < (accessor_state self.old).left }
-        ensures after { accessor_state self.new ≡ after_key result (accessor_state self.old) }
-        ensures key { Over R.reading
-            (Call (ReadsNextKey (accessor_state self.old).last (accessor_state self.old).left))
-            de.old result de.new }
-        ensures lent { IfOk result
-            (λ o. IfSome o (λ k. IsBorrowedStr k
-            ↔ ((de_state R.reading de.old).input.lends ≡ true))) }
-        ensures variant { IfErr result OfKey }
-        ensures looked { Looks 3 (de_state R.reading de.old).input result
-            (de_state R.reading de.new).input }
-    {
-        let (key, last) = de.read_key_after(alloc, &self.last)?;
-        self.note_key(last);
-        Ok(Some(key))
-    }
-
-    /// Reads the next key, and keeps it alone: `last_key` lends it then.
+    /// Reads the next key, and keeps it alone: `last_key` lends it then. One of the names takes no
+    /// memory where it is at hand.
     #[cold]
     #[inline(never)]
     pub(crate) fn keep_key<R: Read>(
         &mut self,
         alloc: Global,
+        names: &[&'de str],
         de: &mut Deserializer<'de, R>,
     ) -> ReadResult<(), R>
         requires { 0 < (accessor_state self.old).left }
@@ -242,7 +204,7 @@ impl<'de> Accessor<'de> {
             (Call (KeepsKey (accessor_state self.old).last (accessor_state self.new).last)) de.old
             result de.new }
     {
-        let key = de.read_key(alloc, &self.last)?;
+        let key = de.read_key(alloc, names, &self.last)?;
         self.note_key(key);
         Ok(())
     }

@@ -1,8 +1,7 @@
 //! What the entries of a map make: the places of a struct, or a map.
 
-ghost use Rattle.std.specs.Prelude.{◌≡◌, ◌+◌, ◌<◌, ◌≤◌, ℕ, List, [], Bool, Option, option_map, true};
+ghost use Rattle.std.specs.Prelude.{◌≡◌, ◌+◌, ◌<◌, ◌≤◌, ℕ, List, [], Option, option_map, true};
 ghost use Rattle.std.specs.Prelude.{false, codes, IfOk, IfErr, IfSome, None, ⊤};
-ghost use Rattle.ipld_tree.specs.Tree.{Tree, any_need};
 ghost use Rattle.dagcbor_items.specs.Shapes.{ignored_item};
 ghost use Rattle.dagcbor_items.specs.Looks.{LooksAtAny};
 ghost use Rattle.dagcbor_items.specs.LeafReads.{ReadsIgnored};
@@ -10,8 +9,7 @@ ghost use Rattle.dagcbor_items.specs.AnsweredVariants.{OfItem};
 ghost use Rattle.dagcbor_read.specs.Parts.{ReadsOnce, FillsAs, RefusesFurther, RefusesEntry};
 ghost use Rattle.dagcbor_read.specs.Parts.{RefusesFieldsAs, IfRefused};
 ghost use Rattle.dagcbor_heads.specs.declared.error.DecodeError.{DecodeError};
-ghost use Rattle.dagcbor_read.specs.Deserializers.{DeState, de_state, StaysFailed};
-ghost use Rattle.dagcbor_read.specs.Deserializers.{Over};
+ghost use Rattle.dagcbor_read.specs.Deserializers.{DeState, de_state, StaysFailed, Over};
 ghost use Rattle.dagcbor_read.specs.Values.{ReadsValue, RefusesToBegin};
 ghost use Rattle.dagcbor_read.specs.Accessors.{accessor_state, HasHeadOf, BeginsItems};
 ghost use Rattle.dagcbor_read.specs.Collections.{FieldShape, fields_of, value_of, slot_of};
@@ -103,7 +101,7 @@ pub trait Fields<'de>: Sized + Drop {
 fn read_by_key<'de, F: Fields<'de>, R: Read>(
     places: &mut F::Places,
     alloc: Global,
-    names: &[&str],
+    names: &[&'de str],
     entries: &mut Accessor<'de>,
     de: &mut Deserializer<'de, R>,
 ) -> ReadResult<(), R>
@@ -117,7 +115,7 @@ fn read_by_key<'de, F: Fields<'de>, R: Read>(
     ensures refuses { IfErr result
         (λ e. RefusesEntry F.refuses (de_state R.reading de.old) e (de_state R.reading de.new)) }
 {
-    entries.keep_key(alloc, de)?;
+    entries.keep_key(alloc, names, de)?;
     F::read_field(places, alloc, names, entries.last_key(), de)?;
     entries.note_value();
     Ok(())
@@ -126,7 +124,7 @@ fn read_by_key<'de, F: Fields<'de>, R: Read>(
 /// Reads all that is left of a map, and ends it.
 pub(crate) fn read_entries_left<'de, F: Fields<'de>, R: Read>(
     alloc: Global,
-    names: &[&str],
+    names: &[&'de str],
     entries: Accessor<'de>,
     de: &mut Deserializer<'de, R>,
 ) -> ReadResult<F::Places, R>
@@ -143,7 +141,7 @@ pub(crate) fn read_entries_left<'de, F: Fields<'de>, R: Read>(
 {
     let mut places = F::unread(alloc);
     let mut entries = entries;
-    while entries.left() > 0 {
+    while entries.left > 0 {
         let mut refusal = None;
         if F::read_named(&mut places, alloc, names, &mut entries, de, &mut refusal) {
             continue;

@@ -1,14 +1,12 @@
 //! What the items of a list make: a vector, or the parts of a tuple.
 
-ghost use Rattle.std.specs.Prelude.{◌≡◌, ◌+◌, ◌≤◌, ℕ, Bool, List, Option, map, true, false, ◌||◌};
-ghost use Rattle.std.specs.Prelude.{⊤, MatchResult, IfOk, IfErr, All, codes};
-ghost use Rattle.dagcbor_heads.specs.Refusals.{Refuses};
+ghost use Rattle.std.specs.Prelude.{◌≡◌, ◌+◌, ◌≤◌, Bool, List, map, false, ⊤, IfOk, IfErr, All};
+ghost use Rattle.std.specs.Prelude.{codes};
 ghost use Rattle.ipld_tree.specs.Tree.{Items};
 ghost use Rattle.dagcbor_heads.specs.declared.error.DecodeError.{DecodeError};
 ghost use Rattle.dagcbor_read.specs.Deserializers.{DeState, de_state, StaysFailed, Over};
 ghost use Rattle.dagcbor_read.specs.Parts.{RefusesItems, RefusesFirst, RefusesRest, RefusesListAs};
 ghost use Rattle.dagcbor_read.specs.Parts.{IfRefused};
-ghost use Rattle.dagcbor_items.specs.TypedReads.{Anything};
 ghost use Rattle.dagcbor_read.specs.Values.{ReadsValue};
 ghost use Rattle.dagcbor_read.specs.Accessors.{accessor_state};
 ghost use Rattle.dagcbor_read.specs.Collections.{list_of, all_of, no_more, first_then, ReadsRow};

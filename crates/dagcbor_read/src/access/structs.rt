@@ -1,20 +1,17 @@
 //! Structs, whose fields are read by their names.
 
-ghost use Rattle.std.specs.Prelude.{◌≡◌, ◌+◌, ◌<◌, false, ℕ, List, Bool, Option, None, Some, option_map};
-ghost use Rattle.std.specs.Prelude.{◌⊎◌, MatchResult, Err, codes, IfErr, IfSome};
-ghost use Rattle.std.specs.Option.{option_flatten};
+ghost use Rattle.std.specs.Prelude.{◌≡◌, ◌<◌, false, Option, None, Some, option_map, ◌⊎◌};
+ghost use Rattle.std.specs.Prelude.{MatchResult, Err, codes, IfErr, IfSome};
 ghost use Rattle.dagcbor_heads.specs.declared.name.Name.{Name};
 ghost use Rattle.dagcbor_heads.specs.declared.error.DecodeError.TheVariants.{Msg};
 ghost use Rattle.dagcbor_items.specs.Shapes.{option_of};
-ghost use Rattle.dagcbor_read.specs.Deserializers.{de_state, StaysFailed};
-ghost use Rattle.dagcbor_read.specs.Deserializers.{AreOut, Over};
+ghost use Rattle.dagcbor_read.specs.Deserializers.{de_state, StaysFailed, AreOut, Over};
 ghost use Rattle.dagcbor_read.specs.Values.{ReadsValue, RefusesToBegin};
-ghost use Rattle.dagcbor_read.specs.Accessors.{HasHeadOf, BeginsItems};
+ghost use Rattle.dagcbor_read.specs.Accessors.{HasHeadOf, BeginsItems, accessor_state};
 ghost use Rattle.dagcbor_read.specs.Enums.{enum_state, BeginsHeld, ReadsFieldsHeld};
-ghost use Rattle.dagcbor_read.specs.Collections.{FieldShape, value_of, struct_of};
+ghost use Rattle.dagcbor_read.specs.Collections.{value_of, struct_of};
 ghost use Rattle.dagcbor_read.specs.Structs.{texts, no_places, places, finish_required};
 ghost use Rattle.dagcbor_read.specs.Structs.{finish_optional};
-ghost use Rattle.dagcbor_read.specs.Accessors.{accessor_state};
 ghost use Rattle.dagcbor_read.specs.Named.{ReadsNamed, ReadsNamedValue};
 ghost use Rattle.dagcbor_heads.specs.Names.{Names};
 ghost use Rattle.dagcbor_items.specs.Looks.{LooksAtAny};
@@ -29,6 +26,7 @@ use crate::access::fields::{Fields, read_entries_left, read_into, skip_value};
 use crate::deserialize::Deserialize;
 use crate::deserializer::Deserializer;
 use dagcbor_heads::{DecodeError, Read, ReadResult};
+use dagcbor_items::is_name;
 use std::alloc::Global;
 
 /// A field that must be there.
@@ -109,7 +107,7 @@ pub fn read_place<'de, T: Deserialize<'de>, L: Fields<'de>, R: Read>(
     let Some((name, others)) = names.split_first() else {
         return L::read_field(&mut into.1, alloc, names, key, de);
     };
-    if key == *name {
+    if is_name(key, name) {
         return read_into(alloc, &mut into.0, de);
     }
     L::read_field(&mut into.1, alloc, others, key, de)
@@ -305,7 +303,7 @@ fn finished<'de, F: Fields<'de>, E>(places: F::Places) -> Result<F, DecodeError<
 pub fn read_struct<'de, F: Fields<'de>, R: Read>(
     alloc: Global,
     name: &str,
-    names: &[&str],
+    names: &[&'de str],
     de: &mut Deserializer<'de, R>,
 ) -> ReadResult<F, R>
     ensures value { Over R.reading
@@ -327,7 +325,7 @@ pub fn read_struct<'de, F: Fields<'de>, R: Read>(
 pub fn read_struct_variant<'de, F: Fields<'de>, R: Read>(
     alloc: Global,
     variant: EnumAccessor,
-    names: &[&str],
+    names: &[&'de str],
     de: &mut Deserializer<'de, R>,
 ) -> ReadResult<F, R>
     requires { AreOut (enum_state variant).steps (de_state R.reading de.old) }

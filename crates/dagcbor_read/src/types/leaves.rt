@@ -1,8 +1,8 @@
 //! The types of leaves. Those of texts and bytes that have no memory of their own are lent by the
 //! input.
 
-ghost use Rattle.std.specs.Prelude.{◌≡◌, ◌↔◌, refl, ◌^◌, ℕ, ℤ, List, Bool, false, true};
-ghost use Rattle.std.specs.Prelude.{string_bytes, codes};
+ghost use Rattle.std.specs.Prelude.{◌≡◌, ◌↔◌, refl, ◌^◌, ℕ, ℤ, List, Bool, true, string_bytes};
+ghost use Rattle.std.specs.Prelude.{codes};
 ghost use Rattle.dagcbor_heads.specs.Looking.{Looks};
 ghost use Rattle.dagcbor_items.specs.AnsweredVariants.{OfByte, OfNumber, OfHead, OfChar, OfText, OfLink};
 ghost use Rattle.dagcbor_items.specs.LeafReads.{ReadsNull, ReadsBool, ReadsUnsigned, ReadsSigned};

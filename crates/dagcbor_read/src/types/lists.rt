@@ -1,6 +1,6 @@
 //! Tuples of one to four.
 
-ghost use Rattle.std.specs.Prelude.{false, ◌||◌, refl, Bool, codes};
+ghost use Rattle.std.specs.Prelude.{refl, codes};
 ghost use Rattle.dagcbor_read.specs.Parts.{IfRefused, RefusesListAs, RefusesFirst};
 ghost use Rattle.dagcbor_read.specs.Collections.{list_of, no_more, first_then, neither};
 

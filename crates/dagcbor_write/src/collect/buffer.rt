@@ -6,22 +6,12 @@ ghost use Rattle.dagcbor_write.specs.Gathering.{Waiting, Grows, RefusedFor, Coll
 use crate::serialize::Serialize;
 use crate::serializer::Serializer;
 use dagcbor_heads::{BufWriter, EncodeError};
-use std::alloc::{AllocError, Global};
+use std::alloc::Global;
 use std::marker::Model;
 use std::mem;
 
 /// The room that bytes take at first, so that a short value does not make them grow step by step.
 pub(crate) const FIRST_ROOM: usize = 128;
-
-/// Takes the first room of bytes that have none.
-pub(crate) fn take_first_room(bytes: &mut Vec<u8>) -> Result<(), AllocError>
-    ensures { bytes.new.items ≡ bytes.old.items }
-{
-    if bytes.capacity() == 0 {
-        bytes.reserve(FIRST_ROOM)?;
-    }
-    Ok(())
-}
 
 /// Writes the value's spelling behind the bytes. A value that has none is refused with `refusal`.
 /// After a refusal the bytes are as before.
@@ -36,7 +26,7 @@ pub(crate) fn append<T: Serialize, E>(
         (RefusedFor refusal.now (T.tree value.now)) result }
     ensures kept { OnErr result (bytes.new.items ≡ bytes.old.items) }
 {
-    if take_first_room(bytes).is_err() {
+    if bytes.capacity() == 0 && bytes.reserve(FIRST_ROOM).is_err() {
         return Err(EncodeError::OutOfMemory);
     }
     let before = bytes.len();

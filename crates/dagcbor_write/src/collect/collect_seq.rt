@@ -65,28 +65,18 @@ impl<W: Write> Serializer<W> {
         ensures memory { WantsMemoryOnlyIf W.takes_memory result }
         ensures unannounced { IsNone len → IsOkAnd result (λ c. (list_lent c).now ≡ self.old) }
     {
-        let items = self.begin_items(alloc, len)?;
+        let items = match len {
+            Some(count) => {
+                self.push_head(4, count)?;
+                ListState::Announced(count)
+            }
+            None => ListState::Waits(Buffer::new(alloc)),
+        };
         Ok(CollectSeq {
             ser: self,
             alloc,
             items,
         })
-    }
-
-    fn begin_items(&mut self, alloc: Global, len: Option<usize>) -> WriteResult<ListState, W>
-        ensures head { Writes (announced_head len)
-            (W.written self.old) (W.written self.new) result }
-        ensures fresh { IfOk result (IsFresh len) }
-        ensures memory { WantsMemoryOnlyIf W.takes_memory result }
-        ensures unannounced { IsNone len → IsOk result × (self.new ≡ self.old) }
-    {
-        match len {
-            Some(count) => {
-                self.push_head(4, count)?;
-                Ok(ListState::Announced(count))
-            }
-            None => Ok(ListState::Waits(Buffer::new(alloc))),
-        }
     }
 
     /// Writes the items that waited, behind their number.

@@ -7,6 +7,7 @@ ghost use Rattle.dagcbor_write.specs.Gathering.{Collects};
 ghost use Rattle.dagcbor_write.specs.Maps.{MapState, Texts, no_entry_yet, is_complete, begins_text};
 ghost use Rattle.dagcbor_write.specs.Maps.{HoldsKey, JoinsValue, RefusesKey, RefusesValue};
 ghost use Rattle.dagcbor_write.specs.Order.{KeysDiffer, PutsInOrder};
+ghost use Rattle.dagcbor_write.specs.Spans.{entry_at, whole_at, IsWithin};
 
 use crate::collect::buffer::append;
 use crate::serialize::Serialize;
@@ -24,7 +25,7 @@ pub(crate) const NO_TEXT: &str = "Map keys must be strings";
 pub(crate) const BAD_VALUE: &str = "Struct value cannot be serialized.";
 
 /// Where an entry stands: its key from `start` to `key_end`, its value from there to `end`.
-#[derive(Clone, Copy, Drop)]
+#[derive(Clone, Copy, Default, Drop)]
 pub struct Span {
     pub start: usize,
     pub key_end: usize,
@@ -82,15 +83,6 @@ impl Gathered {
         ensures { result ≡ length self.now.entries }
     {
         self.spans.len()
-    }
-
-    /// The key of the entry in place `i`.
-    fn key(&self, i: usize) -> &[u8]
-        requires { i < length self.now.entries }
-        ensures { (d : Texts) → result.now ≡ (slice_index_or self.now.entries i d).0 }
-    {
-        let span = &self.spans[i];
-        &self.bytes[span.start..span.key_end]
     }
 
     /// The key and the value of the entry in place `i`.
@@ -175,38 +167,69 @@ impl Gathered {
         Ok(())
     }
 
-    /// Puts the entries into the order of their bytes, and says whether no key repeats. Entries of
-    /// different keys stand in this order as the keys do in key order.
+    /// Puts the entries into order, and says whether no key repeats.
     pub(crate) fn put_in_order(&mut self) -> bool
         ensures announced { self.new.announced ≡ self.old.announced }
         ensures order { PutsInOrder self.old.entries self.new.entries result }
     {
-        let bytes = self.bytes.as_slice();
-        self.spans.sort_unstable_by(|a, b| {
-            range(bytes, a.start, a.end).cmp(range(bytes, b.start, b.end))
-        });
-        self.keys_differ()
-    }
-
-    /// Whether no key is that of the entry before it.
-    fn keys_differ(&self) -> bool
-        ensures { KeysDiffer self.now.entries result }
-    {
-        for i in 1..self.len() {
-            if self.key(i - 1) == self.key(i) {
-                return false;
-            }
-        }
-        true
+        put_in_order(&self.bytes, &mut self.spans)
     }
 }
 
 /// The bytes of a range, as far as it lies within them.
+#[inline(always)]
 pub(crate) fn range(bytes: &[u8], start: usize, end: usize) -> &[u8]
     ensures { result.now ≡ slice_range bytes.now start end }
 {
     let end = end.min(bytes.len());
     &bytes[start.min(end)..end]
+}
+
+/// The key of the entry in place `i`.
+#[inline(always)]
+pub fn entry_key<'a>(bytes: &'a [u8], spans: &[Span], i: usize) -> &'a [u8]
+    requires { i < length spans.now }
+    ensures { (d : Texts)
+        → result.now ≡ (slice_index_or (map (entry_at bytes.now) spans.now) i d).0 }
+{
+    let span = &spans[i];
+    range(bytes, span.start, span.key_end)
+}
+
+/// The key and the value of the entry in place `i`.
+#[inline(always)]
+pub fn entry_bytes<'a>(bytes: &'a [u8], spans: &[Span], i: usize) -> &'a [u8]
+    requires { i < length spans.now }
+    ensures { (d : Span) → result.now ≡ whole_at bytes.now (slice_index_or spans.now i d) }
+{
+    let span = &spans[i];
+    range(bytes, span.start, span.end)
+}
+
+/// Whether no key is that of the entry before it.
+fn keys_differ(bytes: &[u8], spans: &[Span]) -> bool
+    ensures { KeysDiffer (map (entry_at bytes.now) spans.now) result }
+{
+    for i in 1..spans.len() {
+        if entry_key(bytes, spans, i - 1) == entry_key(bytes, spans, i) {
+            return false;
+        }
+    }
+    true
+}
+
+/// Puts entries into the order of their bytes, and says whether no key repeats. Entries of
+/// different keys stand in this order as the keys do in key order.
+pub fn put_in_order(bytes: &[u8], spans: &mut [Span]) -> bool
+    ensures order { All (IsWithin (length bytes.now)) spans.old
+        → PutsInOrder (map (entry_at bytes.now) spans.old)
+        (map (entry_at bytes.now) spans.new) result }
+    ensures within { All (IsWithin (length bytes.now)) spans.old
+        → All (IsWithin (length bytes.now)) spans.new }
+    ensures count { length spans.new ≡ length spans.old }
+{
+    spans.sort_unstable_by(|a, b| range(bytes, a.start, a.end).cmp(range(bytes, b.start, b.end)));
+    keys_differ(bytes, spans)
 }
 
 /// Whether a spelling is that of a text.

@@ -154,20 +154,11 @@ impl<V: Serialize> Keyed<'_, V> {
         ensures well_formed { OnOk result (AreTrees (value_trees V.tree self.now)) }
         ensures message { IfErr result (OnMessage (RefusesKeyedValue V.tree self.now)) }
     {
-        let head = ser.push_head(5, self.len());
-        if head.is_err() {
-            return head;
-        }
+        ser.push_head(5, self.len())?;
         for i in 0..self.len() {
             let value = self.value(i);
-            let key = ser.push(self.key(i));
-            if key.is_err() {
-                return key;
-            }
-            let part = write_value(alloc, value, ser);
-            if part.is_err() {
-                return part;
-            }
+            ser.push(self.key(i))?;
+            write_value(alloc, value, ser)?;
         }
         Ok(())
     }

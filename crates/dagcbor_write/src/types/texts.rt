@@ -6,8 +6,8 @@ ghost use Rattle.dagcbor_heads.specs.Written.{Writes};
 ghost use Rattle.ipld_tree.specs.Tree.{Tree, IsTree, entries_tree};
 ghost use Rattle.ipld_tree.specs.Spelled.{spelled_tree};
 ghost use Rattle.dagcbor_write.specs.Answers.{IsMessage};
-ghost use Rattle.dagcbor_write.specs.Rows.{Rises, spelled_pair, IsPair};
-ghost use Rattle.dagcbor_write.specs.Texts.{text_pair, text_pairs, map_pairs};
+ghost use Rattle.dagcbor_write.specs.Rows.{Rises};
+ghost use Rattle.dagcbor_write.specs.Texts.{text_pairs, map_pairs};
 
 use crate::collect::keyed::write_value;
 use crate::places::{comes_before, key_cmp};
@@ -97,6 +97,7 @@ fn keys_rise<V>(row: &[TextEntry<'_, V>]) -> bool
 }
 
 /// Appends the map of the entries, whose keys rise.
+#[tactic(auto, using(crate::proofs::Messages::none_as))]
 fn write_row<V: Serialize, W: Write>(
     alloc: Global,
     row: &[TextEntry<'_, V>],
@@ -109,35 +110,10 @@ fn write_row<V: Serialize, W: Write>(
         (IfSome (entries_tree (text_pairs V.tree row.now)) IsTree) }
     ensures message { IfErr result (IsMessage (codes "Struct value cannot be serialized.")) }
 {
-    let head = ser.push_head(5, row.len());
-    if head.is_err() {
-        return head;
-    }
+    ser.push_head(5, row.len())?;
     for entry in row {
-        let part = write_entry(alloc, entry, ser);
-        if part.is_err() {
-            return part;
-        }
+        ser.serialize_str(entry.key)?;
+        write_value(alloc, entry.value, ser)?;
     }
     Ok(())
-}
-
-/// Appends the key and the value.
-#[inline(always)]
-#[tactic(auto, using(crate::proofs::Messages::none_as))]
-fn write_entry<V: Serialize, W: Write>(
-    alloc: Global,
-    entry: &TextEntry<'_, V>,
-    ser: &mut Serializer<W>,
-) -> WriteResult<(), W>
-    ensures written { Writes (spelled_pair (text_pair V.tree entry.now))
-        (W.written ser.old) (W.written ser.new) result }
-    ensures well_formed { OnOk result (IsPair (text_pair V.tree entry.now)) }
-    ensures message { IfErr result (IsMessage (codes "Struct value cannot be serialized.")) }
-{
-    let key = ser.serialize_str(entry.key);
-    if key.is_err() {
-        return key;
-    }
-    write_value(alloc, entry.value, ser)
 }

@@ -6,7 +6,7 @@ use Rattle.ipld_links.specs.Names.{block_name}
 use Rattle.atproto_mst.specs.Trees.{lower_run, entry_trees, subtree, subtree_nodes, nodes, nodes_between, node_section, map_of}
 use Rattle.atproto_mst.specs.Nodes.{tree_of_row, row_told}
 use Rattle.atproto_mst.specs.Placed.{all_told}
-use Rattle.atproto_mst.specs.Sinks.{Takes, TakesFirst, RefusesOne}
+use Rattle.atproto_mst.specs.Sinks.{HandsOver, HandsOverFirst, RefusesOne}
 use Rattle.atproto_mst.proofs.Runs.{upper_tops}
 use Rattle.atproto_mst.proofs.Handing.{takes_then, refuses_within, first_within}
 use Rattle.atproto_mst.proofs.Building.{on_ok_more, none_at_zero, none_over_none, no_nodes_at_zero, no_nodes_over_none, takes_no_nodes, some_subtree, nodes_subtree, node_made, left_refused, rows_refused, last_refused, left_begun, rows_begun, last_begun, node_taken, rows_next, nodes_here, tops_next, rest_whole, bound_next}
@@ -31,8 +31,8 @@ name_node-returns-in_err-rows-clause-begun g t c =
 pub name_node-returns-clause-begun : goal.name_node-returns-clause-begun
 name_node-returns-clause-begun g t c =
     IfErr-weaker c.hand_over.result
-    (λ _. TakesFirst g.S.NodeSink.holds c.name_rows.new.sink (node_section (map_of (map tree_of_row (map row_told c.in_ok-rows.rows.items)) c.in_ok-left.left) ∷ []) c.hand_over.new.sink)
-    (λ _. TakesFirst g.S.NodeSink.holds c.args.sink.now (nodes c.args.layer (all_told c.args.leaves.now)) c.hand_over.new.sink)
+    (λ _. HandsOverFirst g.S.NodeSink.holds c.name_rows.new.sink (node_section (map_of (map tree_of_row (map row_told c.in_ok-rows.rows.items)) c.in_ok-left.left) ∷ []) c.hand_over.new.sink)
+    (λ _. HandsOverFirst g.S.NodeSink.holds c.args.sink.now (nodes c.args.layer (all_told c.args.leaves.now)) c.hand_over.new.sink)
     (λ e h. last_begun g.S.NodeSink.holds c.args.sink.now c.name_subtree.new.sink c.name_rows.new.sink c.hand_over.new.sink c.args.layer (all_told c.args.leaves.now) (all_told c.split_lower.result.0.now) (all_told c.split_lower.result.1.now)
     (map_of (map tree_of_row (map row_told c.in_ok-rows.rows.items)) c.in_ok-left.left) c.split_lower.ensures.lower c.split_lower.ensures.rest
     (node_made c.args.layer (all_told c.args.leaves.now) (all_told c.split_lower.result.0.now) (all_told c.split_lower.result.1.now) c.in_ok-left.left c.in_ok-rows.rows.items c.split_lower.ensures.lower c.split_lower.ensures.rest c.in_ok-left.ensures.name c.in_ok-rows.ensures.rows)
@@ -47,7 +47,7 @@ name_rows-returns-in_err-after-clause-begun g t c =
     let k = c.loop-at.invariant.taken in
     rw p.1 (first_within g.S.NodeSink.holds c.args.sink.now c.loop-at.sink c.name_subtree.new.sink k.0 (subtree_nodes c.args.layer (all_told (take c.count_lower-count.result (drop (c.loop-at.at + 1) c.args.leaves.now)))) (nodes_between (subtree_nodes c.args.layer) c.args.layer (all_told (drop (c.loop-at.at + (1 + c.count_lower-count.result)) c.args.leaves.now))) (nodes_between (subtree_nodes c.args.layer) c.args.layer (all_told c.args.leaves.now)) k.2
     (nodes_here (subtree_nodes c.args.layer) c.args.layer c.loop-at.at c.count_lower-count.result c.args.leaves.now c.index-leaves-at.result k.0 (nodes_between (subtree_nodes c.args.layer) c.args.layer (all_told c.args.leaves.now)) (omega arith) (sym c.index-leaves-at.is) count c.loop-at.invariant.tops k.1)
-    (subst (λ x. TakesFirst g.S.NodeSink.holds c.loop-at.sink (subtree_nodes c.args.layer (all_told (take c.count_lower-count.result x))) c.name_subtree.new.sink) b c.in_err-after.ensures.begun))
+    (subst (λ x. HandsOverFirst g.S.NodeSink.holds c.loop-at.sink (subtree_nodes c.args.layer (all_told (take c.count_lower-count.result x))) c.name_subtree.new.sink) b c.in_err-after.ensures.begun))
 
 pub name_rows-returns-in_err-row-clause-begun : goal.name_rows-returns-in_err-row-clause-begun
 name_rows-returns-in_err-row-clause-begun g t c =
@@ -61,7 +61,7 @@ name_rows-returns-in_err-row-clause-begun g t c =
       sym (append_assoc k.0 (subtree_nodes c.args.layer (all_told (take c.count_lower-count.result (drop (c.loop-at.at + 1) c.args.leaves.now)))) (nodes_between (subtree_nodes c.args.layer) c.args.layer (all_told (drop (c.loop-at.at + (1 + c.count_lower-count.result)) c.args.leaves.now)))
           ∙ nodes_here (subtree_nodes c.args.layer) c.args.layer c.loop-at.at c.count_lower-count.result c.args.leaves.now c.index-leaves-at.result k.0 (nodes_between (subtree_nodes c.args.layer) c.args.layer (all_told c.args.leaves.now)) (omega arith) (sym c.index-leaves-at.is) count c.loop-at.invariant.tops k.1),
       takes_then g.S.NodeSink.holds c.args.sink.now c.loop-at.sink c.name_subtree.new.sink k.0 (subtree_nodes c.args.layer (all_told (take c.count_lower-count.result (drop (c.loop-at.at + 1) c.args.leaves.now)))) k.2
-          (subst (λ x. Takes g.S.NodeSink.holds c.loop-at.sink (subtree_nodes c.args.layer (all_told (take c.count_lower-count.result x))) c.name_subtree.new.sink) b c.in_ok-after.ensures.taken),
+          (subst (λ x. HandsOver g.S.NodeSink.holds c.loop-at.sink (subtree_nodes c.args.layer (all_told (take c.count_lower-count.result x))) c.name_subtree.new.sink) b c.in_ok-after.ensures.taken),
     )
 
 pub name_rows-returns-in_err-reserve-clause-begun : goal.name_rows-returns-in_err-reserve-clause-begun
@@ -73,7 +73,7 @@ name_rows-returns-in_err-reserve-clause-begun g t c =
 pub name_subtree-returns-in_err-name-clause-begun : goal.name_subtree-returns-in_err-name-clause-begun
 name_subtree-returns-in_err-name-clause-begun g t c =
     let p = err_from_is_err_and c.from_residual.result c.from_residual.ensures.1 in
-    rw p.1 (subst (λ xs. TakesFirst g.S.NodeSink.holds c.args.sink.now xs c.name_node.new.sink) (nodes_subtree c.args.layer c.args.leaves.now c.is_empty.result c.if-layer-eq0.false c.if-is_empty.false c.is_empty.ensures) c.in_err-name.ensures.begun)
+    rw p.1 (subst (λ xs. HandsOverFirst g.S.NodeSink.holds c.args.sink.now xs c.name_node.new.sink) (nodes_subtree c.args.layer c.args.leaves.now c.is_empty.result c.if-layer-eq0.false c.if-is_empty.false c.is_empty.ensures) c.in_err-name.ensures.begun)
 
 pub name_node-name_rows-requires : goal.name_node-name_rows-requires
 name_node-name_rows-requires g t c κs within = (omega (arith, c.decreases), (within, subst (λ x. lower_run c.args.layer x ≡ []) (sym c.split_lower.ensures.rest) (upper_tops c.args.layer (all_told c.args.leaves.now))))
@@ -135,7 +135,7 @@ name_rows-loop-at-preserved g t c =
         append_assoc k.0 (subtree_nodes c.args.layer (all_told (take c.count_lower-count.result (drop (c.loop-at.at + 1) c.args.leaves.now)))) (nodes_between (subtree_nodes c.args.layer) c.args.layer (all_told (drop (c.loop-at.at + (1 + c.count_lower-count.result)) c.args.leaves.now)))
             ∙ nodes_here (subtree_nodes c.args.layer) c.args.layer c.loop-at.at c.count_lower-count.result c.args.leaves.now c.index-leaves-at.result k.0 (nodes_between (subtree_nodes c.args.layer) c.args.layer (all_told c.args.leaves.now)) (omega arith) (sym c.index-leaves-at.is) count c.loop-at.invariant.tops k.1,
         takes_then g.S.NodeSink.holds c.args.sink.now c.loop-at.sink c.name_subtree.new.sink k.0 (subtree_nodes c.args.layer (all_told (take c.count_lower-count.result (drop (c.loop-at.at + 1) c.args.leaves.now)))) k.2
-            (subst (λ x. Takes g.S.NodeSink.holds c.loop-at.sink (subtree_nodes c.args.layer (all_told (take c.count_lower-count.result x))) c.name_subtree.new.sink) b c.in_ok-after.ensures.taken),
+            (subst (λ x. HandsOver g.S.NodeSink.holds c.loop-at.sink (subtree_nodes c.args.layer (all_told (take c.count_lower-count.result x))) c.name_subtree.new.sink) b c.in_ok-after.ensures.taken),
       );
     }
 
@@ -160,4 +160,4 @@ pub name_subtree-returns-clause-name : goal.name_subtree-returns-clause-name
 name_subtree-returns-clause-name g t c = some_subtree c.args.layer c.args.leaves.now c.is_empty.result c.in_ok-name.name c.if-layer-eq0.false c.if-is_empty.false c.is_empty.ensures c.in_ok-name.ensures.name
 
 pub name_subtree-returns-clause-taken : goal.name_subtree-returns-clause-taken
-name_subtree-returns-clause-taken g t c = subst (λ xs. Takes g.S.NodeSink.holds c.args.sink.now xs c.name_node.new.sink) (nodes_subtree c.args.layer c.args.leaves.now c.is_empty.result c.if-layer-eq0.false c.if-is_empty.false c.is_empty.ensures) c.in_ok-name.ensures.taken
+name_subtree-returns-clause-taken g t c = subst (λ xs. HandsOver g.S.NodeSink.holds c.args.sink.now xs c.name_node.new.sink) (nodes_subtree c.args.layer c.args.leaves.now c.is_empty.result c.if-layer-eq0.false c.if-is_empty.false c.is_empty.ensures) c.in_ok-name.ensures.taken

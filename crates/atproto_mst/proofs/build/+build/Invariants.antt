@@ -3,7 +3,7 @@ use Rattle.dagcbor_car.specs.Car.{Section}
 use Rattle.atproto_mst.specs.Trees.{lower_run, entry_trees, subtree, subtree_nodes, nodes_between}
 use Rattle.atproto_mst.specs.Nodes.{tree_of_row, row_told}
 use Rattle.atproto_mst.specs.Placed.{all_told}
-use Rattle.atproto_mst.specs.Sinks.{Takes}
+use Rattle.atproto_mst.specs.Sinks.{HandsOver}
 use Rattle.atproto_mst.proofs.build.+build.Given as goal
 
 abbrev pub decreases-name_subtree : goal.decreases-name_subtree
@@ -20,7 +20,7 @@ invariant-name_rows-loop-at g l = record {
   bound : l.at ≤ length l.leaves;
   rows : map tree_of_row (map row_told l.rows.items) ++ entry_trees (subtree l.layer) l.layer l.previous (all_told (drop l.at l.leaves)) ≡ entry_trees (subtree l.layer) l.layer [] (all_told l.leaves);
   tops : lower_run l.layer (all_told (drop l.at l.leaves)) ≡ [];
-  taken : (done : List Section) × (done ++ nodes_between (subtree_nodes l.layer) l.layer (all_told (drop l.at l.leaves)) ≡ nodes_between (subtree_nodes l.layer) l.layer (all_told l.leaves)) × Takes g.S.NodeSink.holds l.fn.sink done l.sink;
+  taken : (done : List Section) × (done ++ nodes_between (subtree_nodes l.layer) l.layer (all_told (drop l.at l.leaves)) ≡ nodes_between (subtree_nodes l.layer) l.layer (all_told l.leaves)) × HandsOver g.S.NodeSink.holds l.fn.sink done l.sink;
 }
 
 abbrev pub decreases-name_rows-loop-at : goal.decreases-name_rows-loop-at

@@ -2,7 +2,7 @@ use Rattle.std.proofs.Common.{◌≡◌, ap, sym, ◌∙◌, Some, subst, arith,
 use Rattle.std.proofs.lemmas.Result.{err_from_is_err_and}
 use Rattle.atproto_mst.specs.Entries.{entries}
 use Rattle.atproto_mst.specs.Finding.{lookup}
-use Rattle.atproto_mst.specs.Changes.{PutRefused, set_entry}
+use Rattle.atproto_mst.specs.Changes.{SetRefused, set_entry}
 use Rattle.atproto_mst.proofs.Changing.{stands_in, would_in, set_at, insert_at, record_at, no_record_at}
 use Rattle.atproto_mst.proofs.change.put_entry.Goals as goal
 use Rattle.atproto_mst.proofs.change.put_entry.Goals.{in-Ok-insert, in-Err-insert}
@@ -41,8 +41,8 @@ returns-after-insert-clause-before c rise = elim c.match-insert.branch [
 
 pub returns-after-insert-clause-refused : goal.returns-after-insert-clause-refused
 returns-after-insert-clause-refused c = elim c.match-insert.branch [
-  | in-Ok-insert w ↦ subst (λ r. IfErr r (PutRefused c.args.key.now (entries c.args.all.now.items))) (sym w.result-is) tt
-  | in-Err-insert w ↦ subst (λ r. IfErr r (PutRefused c.args.key.now (entries c.args.all.now.items))) (sym w.result-is) (
+  | in-Ok-insert w ↦ subst (λ r. IfErr r (SetRefused c.args.key.now (entries c.args.all.now.items))) (sym w.result-is) tt
+  | in-Err-insert w ↦ subst (λ r. IfErr r (SetRefused c.args.key.now (entries c.args.all.now.items))) (sym w.result-is) (
     (omega (arith, c.if-length-lt1.false), omega (arith, c.if-length-gt-LONGEST_KEY.false)),
     λ rise. no_record_at c.args.key.now (entries c.args.all.now.items) c.in-Err.at (would_in c.args.key.now c.in-Err.at c.deref.result.now c.args.all.now.items c.deref.ensures.value c.in-Err.ensures.place rise) rise,
   )

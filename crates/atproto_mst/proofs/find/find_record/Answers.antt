@@ -2,7 +2,7 @@ use Rattle.std.proofs.Common.{◌⊎◌, ◌≡◌, inl, inr, ap, ◌∙◌, ari
 use Rattle.ipld_links.specs.Reaching.{stored_in}
 use Rattle.atproto_mst.specs.Nodes.{node_told}
 use Rattle.atproto_mst.specs.Walks.{most_layers}
-use Rattle.atproto_mst.specs.Stops.{IsNamed}
+use Rattle.atproto_mst.specs.Stops.{IsStoredNamed}
 use Rattle.atproto_mst.specs.Finding.{lookup, FindStops}
 use Rattle.atproto_mst.specs.declared.error.MstError.TheVariants.{OutOfMemory, KeyFront, TooDeep}
 use Rattle.atproto_mst.specs.declared.find.Sought.TheVariants as sought
@@ -11,7 +11,7 @@ use Rattle.atproto_mst.proofs.Telling.{found_whole, refused_whole}
 use Rattle.atproto_mst.proofs.Refusals.{handed_on, handed_on_err}
 use Rattle.atproto_mst.proofs.find.find_record.Goals as goal
 
-node_refused : (c : goal.After-from_residual) → ((c.in_err-node.field-0.0 ≡ OutOfMemory) × IsNamed (stored_in c.args.blocks.now) c.args.root.now) ⊎ FindStops most_layers (stored_in c.args.blocks.now) c.args.key.now c.args.root.now c.in_err-node.field-0.0
+node_refused : (c : goal.After-from_residual) → ((c.in_err-node.field-0.0 ≡ OutOfMemory) × IsStoredNamed (stored_in c.args.blocks.now) c.args.root.now) ⊎ FindStops most_layers (stored_in c.args.blocks.now) c.args.key.now c.args.root.now c.in_err-node.field-0.0
 node_refused c = elim (c.in_err-node.ensures) [
   | inl m ↦ inl (m.0, c.loop-layer.invariant.named m.1)
   | inr f ↦ inr (fault_stops most_layers (stored_in c.args.blocks.now) c.args.key.now c.args.root.now c.loop-layer.name c.loop-layer._layer c.loop-layer-test.true c.loop-layer.invariant c.in_err-node.field-0.0 f)
@@ -19,7 +19,7 @@ node_refused c = elim (c.in_err-node.ensures) [
 
 pub returns-in_err-node-clause-refused : goal.returns-in_err-node-clause-refused
 returns-in_err-node-clause-refused c =
-    handed_on_err (λ e. ((e ≡ OutOfMemory) × IsNamed (stored_in c.args.blocks.now) c.args.root.now) ⊎ FindStops most_layers (stored_in c.args.blocks.now) c.args.key.now c.args.root.now e) c.from_residual.result c.in_err-node.field-0.0 c.from_residual.ensures.1 (node_refused c)
+    handed_on_err (λ e. ((e ≡ OutOfMemory) × IsStoredNamed (stored_in c.args.blocks.now) c.args.root.now) ⊎ FindStops most_layers (stored_in c.args.blocks.now) c.args.key.now c.args.root.now e) c.from_residual.result c.in_err-node.field-0.0 c.from_residual.ensures.1 (node_refused c)
 
 pub returns-in_err-node-clause-whole : goal.returns-in_err-node-clause-whole
 returns-in_err-node-clause-whole c es h =

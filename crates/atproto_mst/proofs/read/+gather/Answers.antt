@@ -3,9 +3,9 @@ use Rattle.std.proofs.lemmas.Result.{err_from_is_err_and}
 use Rattle.ipld_links.specs.Reaching.{stored_in}
 use Rattle.atproto_mst.specs.Entries.{entries}
 use Rattle.atproto_mst.specs.Nodes.{row_told, node_told}
-use Rattle.atproto_mst.specs.Walks.{Walks, WalksLink, WalksRows}
-use Rattle.atproto_mst.specs.Stops.{Stops, StopsInRows, last_key}
-use Rattle.atproto_mst.specs.Gathering.{Gathers, key_behind}
+use Rattle.atproto_mst.specs.Walks.{WalksTree, WalksLink, WalksRows}
+use Rattle.atproto_mst.specs.Stops.{StopsWalk, StopsInRows, last_key}
+use Rattle.atproto_mst.specs.Gathering.{GathersEntries, key_behind}
 use Rattle.atproto_mst.specs.InLayers.{IsRightBelow}
 use Rattle.atproto_mst.proofs.Gathering.{GoesOn, SettledBy, or_more, both, all_three, gathers_no_link, gathers_node, stops_in_node, gathers_named, stops_named, no_node, below_decided, row_next, no_row_left, stops_at_row, stops_behind_row, goes_behind_row, goes_to_end, key_kept, still_there, settled_behind_row}
 use Rattle.atproto_mst.proofs.read.+gather.Goals as goal
@@ -34,28 +34,28 @@ gather-returns-clause-fits t c =
     (c.in_ok-fits.fits && c.is_lower-is_node.result) c.in_ok-node.ensures (omega (arith, c.saturating_sub.ensures)) c.is_lower-is_node.ensures c.in_ok-fits.ensures.fits (both c.in_ok-fits.fits c.is_lower-is_node.result)
 
 pub gather_below-returns-in-None-clause-walked : goal.gather_below-returns-in-None-clause-walked
-gather_below-returns-in-None-clause-walked t c = gathers_no_link (Walks c.args.layers (stored_in c.args.blocks.now)) c.args.link.now c.in-None.is c.args.found.now
+gather_below-returns-in-None-clause-walked t c = gathers_no_link (WalksTree c.args.layers (stored_in c.args.blocks.now)) c.args.link.now c.in-None.is c.args.found.now
 
 pub gather_node-returns-in_err-rows-clause-stopped :
     goal.gather_node-returns-in_err-rows-clause-stopped
 gather_node-returns-in_err-rows-clause-stopped t c =
     let p = err_from_is_err_and c.from_residual-in_err-rows.result c.from_residual-in_err-rows.ensures.1 in
-    let W = Walks c.args.layers (stored_in c.args.blocks.now) in
-    let S = Stops c.args.layers (stored_in c.args.blocks.now) in
+    let W = WalksTree c.args.layers (stored_in c.args.blocks.now) in
+    let S = StopsWalk c.args.layers (stored_in c.args.blocks.now) in
     rw (p.1, p.2) (or_more (λ h. stops_in_node (stored_in c.args.blocks.now) c.args.layers (node_told c.args.node.now) c.args.found.now c.gather_below.new.found c.in_ok-left.ensures.walked c.in_err-rows.field-0.0
     (subst (λ rows. StopsInRows W S (last_key [] (entries c.gather_below.new.found.items)) [] (map row_told rows) c.in_err-rows.field-0.0) c.deref.ensures.value h)) c.in_err-rows.ensures.stopped)
 
 pub gather_node-returns-clause-walked : goal.gather_node-returns-clause-walked
 gather_node-returns-clause-walked t c =
     gathers_node (stored_in c.args.blocks.now) c.args.layers (node_told c.args.node.now) c.args.found.now c.gather_below.new.found c.in_ok-left.ensures.walked c.gather_rows.new.found
-    (subst (λ rows. Gathers (WalksRows (Walks c.args.layers (stored_in c.args.blocks.now)) [] (map row_told rows)) c.gather_below.new.found c.gather_rows.new.found) c.deref.ensures.value c.in_ok-rows.ensures.walked)
+    (subst (λ rows. GathersEntries (WalksRows (WalksTree c.args.layers (stored_in c.args.blocks.now)) [] (map row_told rows)) c.gather_below.new.found c.gather_rows.new.found) c.deref.ensures.value c.in_ok-rows.ensures.walked)
 
 pub gather_rows-returns-in_err-is_row-clause-stopped :
     goal.gather_rows-returns-in_err-is_row-clause-stopped
 gather_rows-returns-in_err-is_row-clause-stopped t c =
     let p = err_from_is_err_and c.from_residual.result c.from_residual.ensures.1 in
-    let W = Walks c.args.layers (stored_in c.args.blocks.now) in
-    let S = Stops c.args.layers (stored_in c.args.blocks.now) in
+    let W = WalksTree c.args.layers (stored_in c.args.blocks.now) in
+    let S = StopsWalk c.args.layers (stored_in c.args.blocks.now) in
     let all = map row_told c.args.rows.now in
     let rest = map row_told (drop (c.loop-row.row-index + 1) c.args.rows.now) in
     let key = key_behind c.loop-row.previous c.loop-row.found.items in
@@ -67,8 +67,8 @@ pub gather_rows-returns-in_err-below-clause-stopped :
     goal.gather_rows-returns-in_err-below-clause-stopped
 gather_rows-returns-in_err-below-clause-stopped t c =
     let p = err_from_is_err_and c.from_residual-in_err-below.result c.from_residual-in_err-below.ensures.1 in
-    let W = Walks c.args.layers (stored_in c.args.blocks.now) in
-    let S = Stops c.args.layers (stored_in c.args.blocks.now) in
+    let W = WalksTree c.args.layers (stored_in c.args.blocks.now) in
+    let S = StopsWalk c.args.layers (stored_in c.args.blocks.now) in
     let all = map row_told c.args.rows.now in
     let rest = map row_told (drop (c.loop-row.row-index + 1) c.args.rows.now) in
     let key = key_behind c.loop-row.previous c.loop-row.found.items in
@@ -79,8 +79,8 @@ gather_rows-returns-in_err-below-clause-stopped t c =
 
 pub gather_rows-loop-row-preserved : goal.gather_rows-loop-row-preserved
 gather_rows-loop-row-preserved t c =
-    let W = Walks c.args.layers (stored_in c.args.blocks.now) in
-    let S = Stops c.args.layers (stored_in c.args.blocks.now) in
+    let W = WalksTree c.args.layers (stored_in c.args.blocks.now) in
+    let S = StopsWalk c.args.layers (stored_in c.args.blocks.now) in
     let F = IsRightBelow (stored_in c.args.blocks.now) c.args.layer in
     let all = map row_told c.args.rows.now in
     let rest = map row_told (drop (c.loop-row.row-index + 1) c.args.rows.now) in
@@ -104,8 +104,8 @@ gather_rows-loop-row-preserved t c =
 
 pub gather_rows-returns-clause-walked : goal.gather_rows-returns-clause-walked
 gather_rows-returns-clause-walked t c =
-    let W = Walks c.args.layers (stored_in c.args.blocks.now) in
-    let S = Stops c.args.layers (stored_in c.args.blocks.now) in
+    let W = WalksTree c.args.layers (stored_in c.args.blocks.now) in
+    let S = StopsWalk c.args.layers (stored_in c.args.blocks.now) in
     let all = map row_told c.args.rows.now in
     let key = key_behind c.loop-row.previous c.loop-row.found.items in
     goes_to_end W S c.args.found.now all c.loop-row.found key

@@ -1,8 +1,8 @@
 use Rattle.std.proofs.Common.{◌+◌, ◌*◌, ◌≤◌, length, drop, map}
 use Rattle.ipld_links.specs.Reaching.{stored_in}
 use Rattle.atproto_mst.specs.Nodes.{row_told}
-use Rattle.atproto_mst.specs.Walks.{Walks}
-use Rattle.atproto_mst.specs.Stops.{Stops}
+use Rattle.atproto_mst.specs.Walks.{WalksTree}
+use Rattle.atproto_mst.specs.Stops.{StopsWalk}
 use Rattle.atproto_mst.specs.InLayers.{IsRightBelow}
 use Rattle.atproto_mst.specs.Gathering.{key_behind}
 use Rattle.atproto_mst.proofs.Gathering.{GoesOn, SettledBy}
@@ -22,6 +22,6 @@ decreases-gather_node l = 4 * l.layers + 3
 
 abbrev pub invariant-gather_rows-loop-row : goal.invariant-gather_rows-loop-row
 invariant-gather_rows-loop-row l = (l.previous ≤ length l.found.items)
-    × GoesOn (Walks l.layers (stored_in l.blocks)) (Stops l.layers (stored_in l.blocks)) l.fn.found (map row_told l.rows)
+    × GoesOn (WalksTree l.layers (stored_in l.blocks)) (StopsWalk l.layers (stored_in l.blocks)) l.fn.found (map row_told l.rows)
     l.found (key_behind l.previous l.found.items) (map row_told (drop l.row-index l.rows))
     × SettledBy (IsRightBelow (stored_in l.blocks) l.layer) l.layer (map row_told l.rows) l.fits (key_behind l.previous l.found.items) (map row_told (drop l.row-index l.rows))

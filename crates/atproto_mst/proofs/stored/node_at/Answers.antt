@@ -2,7 +2,7 @@ use Rattle.std.proofs.Common.{◌≡◌, ◌⊎◌, refl, sym, ◌∙◌, subst,
 use Rattle.std.specs.Prelude.{MatchOption}
 use Rattle.ipld_links.specs.Reaching.{stored_in}
 use Rattle.atproto_mst.specs.Nodes.{NodeParts, IsNode, IsNodeAt, node_told}
-use Rattle.atproto_mst.specs.Stops.{IsNamed, NodeFault}
+use Rattle.atproto_mst.specs.Stops.{IsStoredNamed, NodeFault}
 use Rattle.atproto_mst.specs.declared.error.MstError.TheVariants.{OutOfMemory}
 use Rattle.atproto_mst.proofs.Comparing.{same_name}
 use Rattle.atproto_mst.proofs.Naming.{other_name}
@@ -23,7 +23,7 @@ pub returns-in_err-node : goal.returns-in_err-node
 returns-in_err-node c =
     let same = same_name c.name_of_block.result c.args.name.now c.ne.result c.if-ne.false c.ne.ensures in
     handed_on (λ node. IsNodeAt (stored_in c.args.blocks.now) c.args.name.now (node_told node))
-    (λ e. ((e ≡ OutOfMemory) × IsNamed (stored_in c.args.blocks.now) c.args.name.now) ⊎ NodeFault (stored_in c.args.blocks.now) c.args.name.now e)
+    (λ e. ((e ≡ OutOfMemory) × IsStoredNamed (stored_in c.args.blocks.now) c.args.name.now) ⊎ NodeFault (stored_in c.args.blocks.now) c.args.name.now e)
     c.from_residual.result OutOfMemory c.from_residual.ensures.1 (inl (refl, (c.in-Some.block.now, sym c.in-Some.ensures, sym same ∙ c.name_of_block.ensures)))
 
 pub returns-in-Some-2 : goal.returns-in-Some-2

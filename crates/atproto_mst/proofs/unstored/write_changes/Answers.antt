@@ -4,7 +4,7 @@ use Rattle.ipld_links.specs.Reaching.{stored_in}
 use Rattle.atproto_mst.specs.Trees.{nodes_of}
 use Rattle.atproto_mst.specs.Entries.{entries, EntriesRefused}
 use Rattle.atproto_mst.specs.Keys.{AreEntries}
-use Rattle.atproto_mst.specs.Sinks.{TakesFirst, RefusesOne, not_stored}
+use Rattle.atproto_mst.specs.Sinks.{HandsOverFirst, RefusesOne, not_stored}
 use Rattle.atproto_mst.proofs.Building.{on_ok_more}
 use Rattle.atproto_mst.proofs.Keeping.{among_kept, kept_of_both}
 use Rattle.atproto_mst.proofs.unstored.write_changes.Goals as goal
@@ -32,7 +32,7 @@ returns-clause-refused g c = IfErr-weaker c.write_mst-root.result _
 
 pub returns-clause-begun : goal.returns-clause-begun
 returns-clause-begun g c = IfErr-weaker c.write_mst-root.result _
-    (λ e. TakesFirst g.S.NodeSink.holds c.args.sink (not_stored (stored_in c.args.blocks.now) (nodes_of (entries c.args.all.now))) c.write_mst-root.new.sink.sink)
+    (λ e. HandsOverFirst g.S.NodeSink.holds c.args.sink (not_stored (stored_in c.args.blocks.now) (nodes_of (entries c.args.all.now))) c.write_mst-root.new.sink.sink)
     (λ e h. (
       not_stored (stored_in c.args.blocks.now) h.0,
       not_stored (stored_in c.args.blocks.now) h.1,

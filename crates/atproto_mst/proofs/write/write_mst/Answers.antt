@@ -6,7 +6,7 @@ use Rattle.atproto_mst.specs.Keys.{AreEntries}
 use Rattle.atproto_mst.specs.Trees.{nodes, top_layer, nodes_of}
 use Rattle.atproto_mst.specs.Placed.{all_told}
 use Rattle.atproto_mst.specs.Entries.{entries, EntriesRefused}
-use Rattle.atproto_mst.specs.Sinks.{Takes, TakesFirst, RefusesOne}
+use Rattle.atproto_mst.specs.Sinks.{HandsOver, HandsOverFirst, RefusesOne}
 use Rattle.atproto_mst.proofs.Whole.{tree_is, nodes_is}
 use Rattle.atproto_mst.proofs.write.write_mst.Goals as goal
 
@@ -16,7 +16,7 @@ returns-clause-root g c = subst (λ t. IfOk c.name_node.result (λ root. root �
     c.name_node.ensures.name
 
 pub returns-clause-taken : goal.returns-clause-taken
-returns-clause-taken g c = subst (λ xs. OnOk c.name_node.result (Takes g.S.NodeSink.holds c.args.sink.now xs c.name_node.new.sink))
+returns-clause-taken g c = subst (λ xs. OnOk c.name_node.result (HandsOver g.S.NodeSink.holds c.args.sink.now xs c.name_node.new.sink))
     (nodes_is (entries c.args.all.now) (all_told c.deref.result.now) c.top_of.result (ap all_told c.deref.ensures.value ∙ c.in_ok-leaves.ensures) (c.top_of.ensures ∙ ap (λ ps. top_layer (all_told ps)) c.deref-2.ensures.value ∙ ap top_layer c.in_ok-leaves.ensures))
     c.name_node.ensures.taken
 
@@ -32,6 +32,6 @@ returns-clause-refused g c = IfErr-weaker c.name_node.result
     c.name_node.ensures.refused
 
 pub returns-clause-begun : goal.returns-clause-begun
-returns-clause-begun g c = subst (λ xs. IfErr c.name_node.result (λ _. TakesFirst g.S.NodeSink.holds c.args.sink.now xs c.name_node.new.sink))
+returns-clause-begun g c = subst (λ xs. IfErr c.name_node.result (λ _. HandsOverFirst g.S.NodeSink.holds c.args.sink.now xs c.name_node.new.sink))
     (nodes_is (entries c.args.all.now) (all_told c.deref.result.now) c.top_of.result (ap all_told c.deref.ensures.value ∙ c.in_ok-leaves.ensures) (c.top_of.ensures ∙ ap (λ ps. top_layer (all_told ps)) c.deref-2.ensures.value ∙ ap top_layer c.in_ok-leaves.ensures))
     c.name_node.ensures.begun

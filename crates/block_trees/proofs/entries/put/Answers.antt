@@ -1,7 +1,7 @@
 use Rattle.std.proofs.Common.{rules, arith, to_z-of_z, ◌≡◌, inl, refl, sym, subst, Ok}
 use Rattle.std.proofs.lemmas.Result.{err_from_is_err_and}
 use Rattle.sqlite_trees.specs.View.{IsStorable}
-use Rattle.block_trees.specs.Ends.{Ends, WritesIn, IsOfBlocks}
+use Rattle.block_trees.specs.Ends.{EndsOnRows, WritesIn, IsOfBlocks}
 use Rattle.block_trees.specs.Rows.{block_tree, name_tree, block_row, name_entry}
 use Rattle.block_trees.proofs.Causes.{cause_then, row_too_long, entry_too_long}
 use Rattle.block_trees.proofs.Ending.{writes_set, then_ends}
@@ -25,7 +25,7 @@ returns-in_err-put-clause-ends g c =
 pub returns-clause-ends : goal.returns-clause-ends
 returns-clause-ends g c =
     let same = c.in_ok-put.ensures.schema.reals in
-    let row : Ends g.S.Store (WritesIn IsOfBlocks) ⊥ (Ok (tt {0})) c.args.store.now c.put.new.self = record {
+    let row : EndsOnRows g.S.Store (WritesIn IsOfBlocks) ⊥ (Ok (tt {0})) c.args.store.now c.put.new.self = record {
       frame = λ clean. writes_set IsOfBlocks block_tree _ _ _ (inl refl) (c.in_ok-put.ensures.frame clean) (c.in_ok-put.ensures.ok clean);
       sound = λ clean. (c.in_ok-put.ensures.ok clean).sound;
       told = tt;

@@ -1,7 +1,7 @@
 use Rattle.std.proofs.Common.{arith, subst, rules, to_z-of_z, SFits, w64}
 use Rattle.std.proofs.lemmas.Result.{err_from_is_err_and}
 use Rattle.sqlite_trees.specs.View.{IsClean}
-use Rattle.block_trees.specs.Rows.{block_tree, TakesEntry, IsFreeId}
+use Rattle.block_trees.specs.Rows.{block_tree, TakesOutEntry, IsFreeId}
 use Rattle.block_trees.specs.declared.entries.Added.TheVariants.{New}
 use Rattle.block_trees.proofs.Steps.{free_left}
 use Rattle.block_trees.proofs.Causes.{only_reads, too_long_as}
@@ -42,7 +42,7 @@ returns-clause-ok g c clean =
     let same1 = (only_reads old looked (c.in_ok-is_stored.ensures.ends.frame clean1)).1 in
     let same2 = (only_reads looked freed (c.in_ok-fresh.ensures.ends.frame clean2)).1 in
     let free = rw c.in-Some.is at (c.in_ok-fresh.ensures.ok clean2) in
-    let entry = subst (λ t. TakesEntry t taken.trees c.args.id c.args.name.now) same1 (subst (λ t. TakesEntry t taken.trees c.args.id c.args.name.now) same2 (let fits = c.ranges.id in simp to_z-of_z at (c.in_ok-take_entry.ensures.ok clean3))) in (
+    let entry = subst (λ t. TakesOutEntry t taken.trees c.args.id c.args.name.now) same1 (subst (λ t. TakesOutEntry t taken.trees c.args.id c.args.name.now) same2 (let fits = c.ranges.id in simp to_z-of_z at (c.in_ok-take_entry.ensures.ok clean3))) in (
       rw c.if-branch.false at (let fits = c.ranges.id in simp to_z-of_z at (c.in_ok-is_stored.ensures.ok clean1)),
       (
         taken.trees,

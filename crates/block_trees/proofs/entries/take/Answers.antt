@@ -1,7 +1,7 @@
 use Rattle.std.proofs.Common.{true, arith, rules, subst, to_z-of_z, SFits, w64}
 use Rattle.std.proofs.lemmas.Result.{err_from_is_err_and}
 use Rattle.sqlite_trees.specs.View.{IsClean}
-use Rattle.block_trees.specs.Rows.{TakesEntry}
+use Rattle.block_trees.specs.Rows.{TakesOutEntry}
 use Rattle.block_trees.proofs.Causes.{only_reads}
 use Rattle.block_trees.proofs.Ending.{as_writes, then_ok, then_err}
 use Rattle.block_trees.proofs.entries.take.Goals as goal
@@ -25,4 +25,4 @@ returns-clause-ok g c clean =
     let mid : IsClean found = omega (arith, c.take_entry.ensures.ends.quiet.clean) in
     let trees = (only_reads old found (c.in_ok-id.ensures.ends.frame mid)).1 in
     let fits : SFits w64 c.in-Some.id = search rules in
-    (c.in-Some.id, rw c.in-Some.is at (c.in_ok-id.ensures.ok mid), subst (λ t. TakesEntry t new.trees c.in-Some.id c.args.name.now) trees (simp to_z-of_z at (c.in_ok-take_entry.ensures.ok clean)))
+    (c.in-Some.id, rw c.in-Some.is at (c.in_ok-id.ensures.ok mid), subst (λ t. TakesOutEntry t new.trees c.in-Some.id c.args.name.now) trees (simp to_z-of_z at (c.in_ok-take_entry.ensures.ok clean)))

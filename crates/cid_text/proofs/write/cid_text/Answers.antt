@@ -21,13 +21,13 @@ returns-then-version-eq0-clause-told c =
 pub returns-else-version-eq0-clause-text : goal.returns-else-version-eq0-clause-text
 returns-else-version-eq0-clause-text c =
     let other = c.deref-else-version-eq0.ensures.0 ∙ c.write_bytes.ensures.bytes in
-    c.push_groups.ensures ∙ ap (λ (s : List ℕ). s ++ text_in_groups 5 lower_32 c.deref-else-version-eq0.result.now) (c.push.ensures.items ∙ ap (λ (s : List ℕ). s ++ 98 ∷ []) c.new-text.ensures)
+    c.push_32.ensures ∙ ap (λ (s : List ℕ). s ++ text_in_groups 5 lower_32 c.deref-else-version-eq0.result.now) (c.push.ensures.items ∙ ap (λ (s : List ℕ). s ++ 98 ∷ []) c.new-text.ensures)
     ∙ ap (λ b. 98 ∷ text_in_groups 5 lower_32 b) other ∙ sym (text_1 c.args.cid.now c.write_bytes.ensures.valid (λ e. c.if-version-eq0.false (c.version.ensures.version ∙ e)))
 
 pub returns-else-version-eq0-clause-told : goal.returns-else-version-eq0-clause-told
 returns-else-version-eq0-clause-told c =
     let bytes = c.deref.ensures.0 ∙ c.write_bytes.ensures.bytes in
     let other = c.deref-else-version-eq0.ensures.0 ∙ c.write_bytes.ensures.bytes in
-    written_1 c.args.cid.now c.push_groups.new.out.items c.write_bytes.ensures.valid (subst AreBytes bytes c.are_bytes.ensures) (λ e. c.if-version-eq0.false (c.version.ensures.version ∙ e))
-    (c.push_groups.ensures ∙ ap (λ (s : List ℕ). s ++ text_in_groups 5 lower_32 c.deref-else-version-eq0.result.now) (c.push.ensures.items ∙ ap (λ (s : List ℕ). s ++ 98 ∷ []) c.new-text.ensures)
+    written_1 c.args.cid.now c.push_32.new.out.items c.write_bytes.ensures.valid (subst AreBytes bytes c.are_bytes.ensures) (λ e. c.if-version-eq0.false (c.version.ensures.version ∙ e))
+    (c.push_32.ensures ∙ ap (λ (s : List ℕ). s ++ text_in_groups 5 lower_32 c.deref-else-version-eq0.result.now) (c.push.ensures.items ∙ ap (λ (s : List ℕ). s ++ 98 ∷ []) c.new-text.ensures)
     ∙ ap (λ b. 98 ∷ text_in_groups 5 lower_32 b) other)

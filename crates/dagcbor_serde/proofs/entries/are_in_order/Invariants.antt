@@ -1,8 +1,7 @@
 use Rattle.std.proofs.Common.{◌≡◌, ℕ, ◌+◌, ◌<◌, slice_index_or, map, false, is_lt}
 use Rattle.ipld_tree.specs.Key.{bytes_cmp}
 use Rattle.dagcbor_write.specs.Maps.{Texts}
-use Rattle.dagcbor_serde.specs.Holds.{whole_at}
-use Rattle.dagcbor_write.specs.Spans.{entry_at}
+use Rattle.dagcbor_write.specs.Spans.{whole_at, entry_at}
 use Rattle.dagcbor_write.specs.declared.collect.gathered.Span.{Span}
 use Rattle.dagcbor_serde.proofs.entries.are_in_order.Given as goal
 

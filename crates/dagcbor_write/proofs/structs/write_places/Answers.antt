@@ -1,8 +1,8 @@
 use Rattle.std.proofs.Common.{refl}
-use Rattle.dagcbor_heads.proofs.Writing.{next_taken, exit_refused, all_written}
+use Rattle.dagcbor_heads.proofs.Writing.{next_part, exit_part, all_written}
 use Rattle.dagcbor_write.specs.declared.places.Place.{Place}
 use Rattle.dagcbor_write.specs.Rows.{pair_at}
-use Rattle.dagcbor_write.proofs.PlaceOrder.{begin_places, at_pair, no_pair_left, good_pair, all_good, ok_holds}
+use Rattle.dagcbor_write.proofs.PlaceOrder.{begin_places, at_pair, no_pair_left, good_pair, all_good}
 use Rattle.dagcbor_write.proofs.structs.write_places.Goals as goal
 
 pub loop-place-init : goal.loop-place-init
@@ -11,21 +11,21 @@ loop-place-init g c = record {
   well_formed = λ all. all;
 }
 
-pub returns-then-is_err-clause-written : goal.returns-then-is_err-clause-written
-returns-then-is_err-clause-written g c =
+pub returns-in_err-write_field-clause-written : goal.returns-in_err-write_field-clause-written
+returns-in_err-write_field-clause-written g c =
     let pair = λ (e : Place). pair_at (g.F.FieldRow.pairs c.args.fields.now) e.at in
-    exit_refused
+    exit_part
     (at_pair pair c.args.places.now _ _ _ c.loop-place-test.true refl
-    c.loop-place.invariant.written) _ _ c.if-is_err.ensures.value c.write_field-part.ensures.written
+    c.loop-place.invariant.written) _ _ _ c.from_residual.ensures.1 c.in_err-write_field.ensures.written
 
 pub loop-place-preserved : goal.loop-place-preserved
 loop-place-preserved g c =
     let pair = λ (e : Place). pair_at (g.F.FieldRow.pairs c.args.fields.now) e.at in
-    let good = ok_holds _ c.if-is_err.ensures.value c.write_field-part.ensures.well_formed in
+    let good = c.in_ok-write_field.ensures.well_formed in
     record {
-      written = next_taken
+      written = next_part
           (at_pair pair c.args.places.now _ _ _ c.loop-place-test.true refl c.loop-place.invariant.written)
-          _ _ c.if-is_err.ensures.value c.write_field-part.ensures.written;
+          _ c.in_ok-write_field.ensures.written;
       well_formed = good_pair pair c.args.places.now _ _ _ c.loop-place-test.true refl
           c.loop-place.invariant.well_formed good;
     }

@@ -3,7 +3,7 @@ use Rattle.std.proofs.lemmas.Result.{err_from_is_err_and}
 use Rattle.sqlite_trees.specs.View.{IsClean}
 use Rattle.dagcbor_store.proofs.Adding.{quiet_itself, quiet_then}
 use Rattle.dagcbor_store.proofs.Sweeping.{one_at_most, fails_swept}
-use Rattle.dagstore_lines.specs.Changes.{TakesNames}
+use Rattle.dagstore_lines.specs.Changes.{RemovesNames}
 use Rattle.dagstore_lines.proofs.Removing.{none_taken, takes_next, takes_all}
 use Rattle.dagstore_lines.proofs.change.take_each.Goals as goal
 
@@ -18,7 +18,7 @@ loop-name-preserved g c =
           let mid : IsClean (g.S.Store.view c.loop-name.store) = omega (arith, c.remove.ensures.quiet.clean) in
           let v = g.S.Store.view c.args.store.now in
           let new = g.S.Store.view c.remove.new.self in
-          subst (λ n. TakesNames v new (take (c.loop-name.name-index + 1) c.args.names.now) (c.loop-name.count + n)) (sym c.from-count.ensures)
+          subst (λ n. RemovesNames v new (take (c.loop-name.name-index + 1) c.args.names.now) (c.loop-name.count + n)) (sym c.from-count.ensures)
           (takes_next v (g.S.Store.view c.loop-name.store) new c.args.names.now c.loop-name.name-index c.loop-name.count c.name-item.result c.in_ok-taken.taken c.loop-name-test.true c.name-item.is (c.loop-name.invariant.1 mid) (c.in_ok-taken.ensures.ok clean)),
       omega (arith, one, c.loop-name.invariant.2),
     )

@@ -2,7 +2,7 @@ use Rattle.std.proofs.Common.{arith, inl, inr, sym, subst}
 use Rattle.std.proofs.lemmas.Result.{err_from_is_err_and}
 use Rattle.sqlite_trees.specs.View.{IsClean}
 use Rattle.dagcbor_store.proofs.Sweeping.{fails_swept}
-use Rattle.dagstore_lines.specs.Changes.{HoldsOthers}
+use Rattle.dagstore_lines.specs.Changes.{ListsOthers}
 use Rattle.dagstore_lines.proofs.Removing.{removed}
 use Rattle.dagstore_lines.proofs.change.take_out.Goals as goal
 
@@ -16,7 +16,7 @@ pub returns-in_err-commit-clause-crash : goal.returns-in_err-commit-clause-crash
 returns-in_err-commit-clause-crash g c db h = elim (c.commit.ensures.crash db h) [
   | inl same ↦ inr (λ clean.
       let mid : IsClean (g.S.Store.view c.take_each.new.store) = omega (arith, c.commit.ensures.kept.clean) in
-      subst (HoldsOthers c.args.names.now (g.S.Store.view c.args.store.now).trees) (sym same) (c.in_ok-count.ensures.ok mid).trees)
+      subst (ListsOthers c.args.names.now (g.S.Store.view c.args.store.now).trees) (sym same) (c.in_ok-count.ensures.ok mid).trees)
   | inr was ↦ inl (c.take_each.ensures.quiet.outcomes db was)
 ]
 
@@ -29,6 +29,6 @@ pub returns-clause-crash : goal.returns-clause-crash
 returns-clause-crash g c db h = elim (c.commit.ensures.crash db h) [
   | inl same ↦ inr (λ clean.
       let mid : IsClean (g.S.Store.view c.take_each.new.store) = omega (arith, c.commit.ensures.kept.clean) in
-      subst (HoldsOthers c.args.names.now (g.S.Store.view c.args.store.now).trees) (sym same) (c.in_ok-count.ensures.ok mid).trees)
+      subst (ListsOthers c.args.names.now (g.S.Store.view c.args.store.now).trees) (sym same) (c.in_ok-count.ensures.ok mid).trees)
   | inr was ↦ inl (c.take_each.ensures.quiet.outcomes db was)
 ]

@@ -4,7 +4,7 @@ use Rattle.std.proofs.KnownBytes.{Appends-trans}
 use Rattle.std.proofs.lemmas.Result.{err_from_is_err_and}
 use Rattle.dagcbor_cli.specs.declared.fault.ToolError.TheVariants.{OutOfMemory}
 use Rattle.block_lines.specs.Lines.{missing_line}
-use Rattle.dagstore_lines.specs.Checks.{IsChecked}
+use Rattle.dagstore_lines.specs.Checks.{IsCheckedLine}
 use Rattle.dagstore_lines.proofs.Sending.{line_is}
 use Rattle.dagstore_lines.proofs.Telling.{nothing_behind}
 use Rattle.dagstore_lines.proofs.Missing.{lists_missing}
@@ -13,7 +13,7 @@ use Rattle.dagstore_lines.proofs.check.check_blocks.Goals as goal
 pub returns-in_err-said-clause-says : goal.returns-in_err-said-clause-says
 returns-in_err-said-clause-says g c =
     let p = err_from_is_err_and c.from_residual-in_err-said.result c.from_residual-in_err-said.ensures.1 in
-    rw (p.1, p.2) (inl (nothing_behind IsChecked (g.S.Store.view c.args.store.now) (g.S.Store.view c.check_names.new.store) _ _ c.in_ok-well.well OutOfMemory c.in_ok-well.ensures.says))
+    rw (p.1, p.2) (inl (nothing_behind IsCheckedLine (g.S.Store.view c.args.store.now) (g.S.Store.view c.check_names.new.store) _ _ c.in_ok-well.well OutOfMemory c.in_ok-well.ensures.says))
 
 pub returns-in_err-none-clause-says : goal.returns-in_err-none-clause-says
 returns-in_err-none-clause-says g c =

@@ -1,11 +1,11 @@
 use Rattle.std.proofs.Common.{List}
 use Rattle.ipld_tree.specs.Cid.{CidParts}
 use Rattle.sqlite_trees.specs.View.{IsClean}
-use Rattle.dagstore_lines.specs.Checks.{IsChecked}
+use Rattle.dagstore_lines.specs.Checks.{IsCheckedLine}
 use Rattle.dagstore_lines.proofs.Telling.{SaidSoFar}
 use Rattle.dagstore_lines.proofs.Missing.{MissingOf}
 use Rattle.dagstore_lines.proofs.check.check_names.Given as goal
 
 abbrev pub invariant-loop-count : goal.invariant-loop-count
-invariant-loop-count g l = (names : List CidParts) × SaidSoFar g.S.Store IsChecked l.fn.store (g.W.Write.contents l.fn.output) names l.last l.well l.store (g.W.Write.contents l.output)
+invariant-loop-count g l = (names : List CidParts) × SaidSoFar g.S.Store IsCheckedLine l.fn.store (g.W.Write.contents l.fn.output) names l.last l.well l.store (g.W.Write.contents l.output)
     × (IsClean (g.S.Store.view l.store) → MissingOf (g.S.Store.view l.fn.store) names l.missing)

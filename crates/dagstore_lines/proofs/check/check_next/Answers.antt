@@ -1,7 +1,7 @@
 use Rattle.std.proofs.Common.{arith, sym, subst}
 use Rattle.std.proofs.lemmas.Result.{err_from_is_err_and}
 use Rattle.sqlite_trees.specs.View.{IsClean}
-use Rattle.dagstore_lines.specs.Checks.{IsChecked}
+use Rattle.dagstore_lines.specs.Checks.{IsCheckedLine}
 use Rattle.dagstore_lines.proofs.Telling.{said_of_next, line_broken}
 use Rattle.dagstore_lines.proofs.Missing.{checked_stays, next_missing}
 use Rattle.dagstore_lines.proofs.check.check_next.Goals as goal
@@ -14,8 +14,8 @@ returns-in_err-well-clause-says g c =
     let was : IsClean new → IsClean mid = λ clean. omega (arith, c.checked_said.ensures.quiet.clean) in
     let p = err_from_is_err_and c.from_residual-in_err-well.result c.from_residual-in_err-well.ensures.1 in
     let next = rw c.in-Some.is at c.in_ok-name.ensures.next in
-    rw (p.1, p.2) (line_broken IsChecked old new c.args.last c.in-Some.name c.in_ok-said.said.1 c.in_ok-said.said.0.items _ _ c.in_err-well.field-0.0 (λ clean. next (was clean))
-    (said_of_next IsChecked old mid new c.args.last c.in-Some.name c.in_ok-said.said.1 c.in_ok-said.said.0.items checked_stays was c.in_ok-name.ensures.same next c.in_ok-said.ensures.said) c.in_err-well.ensures)
+    rw (p.1, p.2) (line_broken IsCheckedLine old new c.args.last c.in-Some.name c.in_ok-said.said.1 c.in_ok-said.said.0.items _ _ c.in_err-well.field-0.0 (λ clean. next (was clean))
+    (said_of_next IsCheckedLine old mid new c.args.last c.in-Some.name c.in_ok-said.said.1 c.in_ok-said.said.0.items checked_stays was c.in_ok-name.ensures.same next c.in_ok-said.ensures.said) c.in_err-well.ensures)
 
 pub returns-clause-says : goal.returns-clause-says
 returns-clause-says g c =
@@ -25,8 +25,8 @@ returns-clause-says g c =
     let was : IsClean new → IsClean mid = λ clean. omega (arith, c.checked_said.ensures.quiet.clean) in
     let next = rw c.in-Some.is at c.in_ok-name.ensures.next in (
       c.in_ok-said.said.0.items,
-      subst (λ w. IsChecked old new c.in-Some.name w c.in_ok-said.said.0.items) (sym c.in_ok-well.ensures.0)
-          (said_of_next IsChecked old mid new c.args.last c.in-Some.name c.in_ok-said.said.1 c.in_ok-said.said.0.items checked_stays was c.in_ok-name.ensures.same next c.in_ok-said.ensures.said),
+      subst (λ w. IsCheckedLine old new c.in-Some.name w c.in_ok-said.said.0.items) (sym c.in_ok-well.ensures.0)
+          (said_of_next IsCheckedLine old mid new c.args.last c.in-Some.name c.in_ok-said.said.1 c.in_ok-said.said.0.items checked_stays was c.in_ok-name.ensures.same next c.in_ok-said.ensures.said),
       (λ clean. next (was clean)),
       c.in_ok-well.ensures.1,
     )

@@ -5,6 +5,6 @@ use Rattle.dagcbor_heads.proofs.window.Window.take_head.Goals as goal
 pub returns : goal.returns
 returns c = record {
   count = c.in_ok-major.count;
-  found = subst (λ b. BeginsWithHeadOf b c.in_ok-major.major c.in_ok-major.argument c.in_ok-major.first c.in_ok-major.count) c.behind.ensures c.in_ok-major.ensures;
+  found = subst (λ b. BeginsWithHeadOf b c.in_ok-major.major c.in_ok-major.argument c.in_ok-major.first c.in_ok-major.count) c.at_hand.ensures.bytes c.in_ok-major.ensures;
   is = search rules;
 }

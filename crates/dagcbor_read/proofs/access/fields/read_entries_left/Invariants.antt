@@ -4,8 +4,8 @@ use Rattle.dagcbor_read.specs.Structs.{texts}
 use Rattle.dagcbor_read.proofs.EntryRows.{FieldsSoFar}
 use Rattle.dagcbor_read.proofs.access.fields.read_entries_left.Given as goal
 
-abbrev pub invariant-loop-alloc : goal.invariant-loop-alloc
-invariant-loop-alloc g l = FieldsSoFar (g.F.Fields.shape (texts l.fn.names)) g.F.Fields.unread (accessor_state l.fn.entries) (de_state g.R.Read.reading l.fn.de) (accessor_state l.entries) (g.F.Fields.state l.places) (de_state g.R.Read.reading l.de)
+abbrev pub invariant-loop-entries : goal.invariant-loop-entries
+invariant-loop-entries g l = FieldsSoFar (g.F.Fields.shape (texts l.fn.names)) g.F.Fields.unread (accessor_state l.fn.entries) (de_state g.R.Read.reading l.fn.de) (accessor_state l.entries) (g.F.Fields.state l.places) (de_state g.R.Read.reading l.de)
 
-abbrev pub decreases-loop-alloc : goal.decreases-loop-alloc
-decreases-loop-alloc g l = l.entries.left
+abbrev pub decreases-loop-entries : goal.decreases-loop-entries
+decreases-loop-entries g l = l.entries.left

@@ -13,5 +13,5 @@ returns-clause-entries c =
     let P : Sink → ℕ → Type 0 = λ k n. PutsEach c.args.place b ss k.bytes.items n in
     subst (P c.if-not-are_in_order.self) count (elim c.if-not-are_in_order.branch [
       | then-not-are_in_order+in_ok-sort_entries w ↦ subst (λ k. P k (length ss)) (sym w.self-is) w.in_ok-sort_entries.ensures.entries
-      | else-not-are_in_order w ↦ subst (λ k. P k (length ss)) (sym w.self-is) (kept_by c.args.place b c.deref.result.now ss _ c.deref.ensures.value (rest_from c.args.first c.deref-2.result.now c.args.self.now.spans.items c.deref-2.ensures.value) (c.are_in_order.ensures (search rules)))
+      | else-not-are_in_order w ↦ subst (λ k. P k (length ss)) (sym w.self-is) (kept_by c.args.place b c.deref.result.now ss _ c.deref.ensures.value (rest_from c.args.first c.deref-2.result.now c.args.self.now.spans.items c.deref-2.ensures) (c.are_in_order.ensures (search rules)))
     ])

@@ -1,8 +1,8 @@
 use Rattle.std.proofs.Common.{rules, ◌≡◌, [], ap, ap₂, ◌∙◌, ◌++◌, ◌+◌, take, drop, flat_map}
-use Rattle.dagcbor_serde.specs.Holds.{whole_at}
 use Rattle.dagcbor_serde.proofs.Closing.{rest_from, sorted_by}
 use Rattle.dagcbor_serde.proofs.Opening.{ok_then}
 use Rattle.dagcbor_serde.proofs.sink.Sink.sort_entries.Goals as goal
+use Rattle.dagcbor_write.specs.Spans.{whole_at}
 
 pub returns-clause-entries : goal.returns-clause-entries
 returns-clause-entries c =

@@ -5,7 +5,7 @@ use Rattle.dagcbor_items.specs.Walks.{forms}
 use Rattle.dagcbor_car.specs.Sources.{RefusesStart, FileLacks}
 use Rattle.dagcbor_store.specs.declared.car_error.ReadCarError.TheVariants.{Header}
 use Rattle.dagcbor_store.specs.Roots.{RootsRefused}
-use Rattle.dagcbor_store.specs.Cars.{Adds}
+use Rattle.dagcbor_store.specs.Cars.{AddsSections}
 use Rattle.dagcbor_store.proofs.Adding.{adds_none, quiet_then}
 use Rattle.dagcbor_store.proofs.Reading.{read_to, read_begun, read_whole, file_refused, added_all, run_refused, run_quiet}
 use Rattle.dagcbor_store.proofs.store.BlockStore.add_car.Goals as goal
@@ -24,7 +24,7 @@ returns-in-Ok-each_section-clause-adds g c =
     let start = input_reading g.R.Read.reading c.args.input.now in
     let k = c.in-Ok-each_section.ensures in
     let begun = read_begun (forms roots) _ _ _ c.in-Ok.ensures.taken in
-    let held = subst (λ ns. Adds g.S.Store ns [] c.args.self.now c.add_roots.new.self) c.deref.ensures.value
+    let held = subst (λ ns. AddsSections g.S.Store ns [] c.args.self.now c.add_roots.new.self) c.deref.ensures.value
     (adds_none g.S.Store c.deref.result.now c.args.self.now c.add_roots.new.self c.in-Ok-add_roots.ensures.table c.in-Ok-add_roots.ensures.ok c.add_roots.ensures.quiet) in
     let at = added_all g.S.Store roots start c.args.self.now k.0 _ _ _ _ c.add_roots.new.self _ (begun, held) k.3 in
     (k.0, k.1, c.each_section.new.left, k.2, k.4, read_to at.0, k.5, read_whole (forms roots) k.0 _ _ _ _ _ at.0 k.5, at.1)
@@ -38,7 +38,7 @@ pub returns-in-Err-each_section-clause-adds : goal.returns-in-Err-each_section-c
 returns-in-Err-each_section-clause-adds g c =
     let roots = c.in-Ok.begun.0.items in
     let begun = read_begun (forms roots) _ _ _ c.in-Ok.ensures.taken in
-    let held = subst (λ ns. Adds g.S.Store ns [] c.args.self.now c.add_roots.new.self) c.deref.ensures.value
+    let held = subst (λ ns. AddsSections g.S.Store ns [] c.args.self.now c.add_roots.new.self) c.deref.ensures.value
     (adds_none g.S.Store c.deref.result.now c.args.self.now c.add_roots.new.self c.in-Ok-add_roots.ensures.table c.in-Ok-add_roots.ensures.ok c.add_roots.ensures.quiet) in
     run_refused g.S.Store roots (input_reading g.R.Read.reading c.args.input.now) c.args.self.now _ _ _ _ c.add_roots.new.self _ c.in-Err-each_section.error c.of_run.result (begun, held) c.in-Err-each_section.ensures c.of_run.ensures
 

@@ -1,6 +1,6 @@
 use Rattle.std.proofs.Common.{subst}
 use Rattle.ipld_links.specs.Sets.{Among}
-use Rattle.dagcbor_store.specs.Lost.{AddsNames, GrowsBy}
+use Rattle.dagcbor_store.specs.Lost.{AddsNames, GrowsByLost}
 use Rattle.dagcbor_store.proofs.Unlisted.{on_ok_clean, adds_lost, grows_linked}
 use Rattle.dagcbor_store.proofs.store.BlockStore.add_lost.Goals as goal
 
@@ -13,4 +13,4 @@ returns-in-Ok-clause-ok g c =
 pub returns-in-Ok-clause-grows : goal.returns-in-Ok-clause-grows
 returns-in-Ok-clause-grows g c =
     grows_linked c.args.block.now c.in-Ok.names.items c.args.lost.now c.add_unlisted.new.lost c.requires c.in-Ok.ensures.names
-    (subst (λ ns. GrowsBy (λ q. Among q ns) c.args.lost.now c.add_unlisted.new.lost) c.deref.ensures.value c.add_unlisted.ensures.grows)
+    (subst (λ ns. GrowsByLost (λ q. Among q ns) c.args.lost.now c.add_unlisted.new.lost) c.deref.ensures.value c.add_unlisted.ensures.grows)

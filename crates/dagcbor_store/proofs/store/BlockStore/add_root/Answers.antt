@@ -2,7 +2,7 @@ use Rattle.std.proofs.Common.{rules, arith, ◌≡◌, subst, OnOk, IfErr}
 use Rattle.sqlite_trees.specs.View.{IsClean}
 use Rattle.ipld_tree.specs.Cid.{cid_bytes}
 use Rattle.block_trees.specs.RootRows.{root_tree, AddsRoot, IsRootTooLong}
-use Rattle.dagcbor_store.specs.Stored.{Fails}
+use Rattle.dagcbor_store.specs.Stored.{FailsByStore}
 use Rattle.dagcbor_store.specs.Roots.{IsRootAdded, RootRefused}
 use Rattle.dagcbor_store.proofs.Keeping.{ready_failed, keyed_ended, undone_since}
 use Rattle.dagcbor_store.proofs.Calls.{fails_since}
@@ -48,6 +48,6 @@ returns-in-Err-clause-refused g c =
     let form : c.deref.result.now ≡ cid_bytes c.args.name.now = search rules in
     subst (λ x. RootRefused g.S.Store c.args.name.now x c.undo.new.store c.undo.result) c.self.view_is
     (root_failed g.S.Store c.args.name.now c.self.inside.store c.undo.new.store c.undo.result
-    (subst (λ n. Fails g.S.Store (IsRootTooLong old.reals n) c.self.inside.store c.undo.new.store c.undo.result) form
+    (subst (λ n. FailsByStore g.S.Store (IsRootTooLong old.reals n) c.self.inside.store c.undo.new.store c.undo.result) form
     (fails_since g.S.Store (IsRootTooLong old.reals c.deref.result.now) c.self.inside.store c.add.new.store c.undo.new.store c.in-Err.error c.undo.result c.undo.ensures.told c.undo.ensures.blame c.in-Err.ensures.ends.told c.undo.ensures.quiet.counts
     (λ clean. let mid : IsClean (g.S.Store.view c.add.new.store) = omega (arith, c.undo.ensures.quiet.clean) in (c.in-Err.ensures.ends.cause mid, undone_since _ _ _ clean (c.in-Err.ensures.ends.err mid) c.undo.ensures.undone)))))

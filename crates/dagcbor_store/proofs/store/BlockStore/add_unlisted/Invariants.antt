@@ -2,7 +2,7 @@ use Rattle.std.proofs.Common.{take}
 use Rattle.sqlite_trees.specs.View.{IsClean}
 use Rattle.ipld_links.specs.Sets.{Among}
 use Rattle.dagcbor_store.specs.Stored.{IsSame}
-use Rattle.dagcbor_store.specs.Lost.{AddsNames, GrowsBy}
+use Rattle.dagcbor_store.specs.Lost.{AddsNames, GrowsByLost}
 use Rattle.block_trees.specs.Ends.{Quiet}
 use Rattle.dagcbor_store.proofs.store.BlockStore.add_unlisted.Given as goal
 
@@ -10,4 +10,4 @@ abbrev pub invariant-loop-name : goal.invariant-loop-name
 invariant-loop-name g l = Quiet g.S.Store l.fn.self l.self
     × (IsClean (g.S.Store.view l.self) → IsSame (g.S.Store.view l.fn.self) (g.S.Store.view l.self)
     × AddsNames (g.S.Store.view l.fn.self) (take l.name-index l.names) l.fn.lost l.lost)
-    × GrowsBy (λ q. Among q l.names) l.fn.lost l.lost
+    × GrowsByLost (λ q. Among q l.names) l.fn.lost l.lost

@@ -1,7 +1,7 @@
 use Rattle.std.proofs.Common.{rules, ◌≡◌, sym, subst, IsTrue, ◌↔◌}
 use Rattle.ipld_tree.specs.Cid.{cid_bytes}
 use Rattle.block_trees.specs.Rows.{name_tree, FindsName}
-use Rattle.dagcbor_store.specs.Stored.{Lists}
+use Rattle.dagcbor_store.specs.Stored.{ListsName}
 use Rattle.dagcbor_store.proofs.Keeping.{ready_ended, ready_failed, keyed_ended, found_listed}
 use Rattle.dagcbor_store.proofs.store.BlockStore.contains.Goals as goal
 
@@ -17,5 +17,5 @@ returns-in-Ok-clause-found g c clean =
     let keyed = keyed_ended g.S.Store c.self.inside.store c.find.new.store (g.met.S.Store.broken_if_shut c.self.inside.store) c.self.invariant c.in-Ok.ensures.ends clean in
     let form : c.deref.result.now ≡ cid_bytes c.args.name.now = search rules in
     let found = subst (λ n. FindsName (old.trees name_tree) n c.in-Ok.found) form (c.in-Ok.ensures.ok clean) in
-    subst (λ s. IsTrue c.is_some.result ↔ Lists (g.S.Store.view s) c.args.name.now) c.self.view_is
-    (subst (λ b. IsTrue b ↔ Lists old c.args.name.now) (sym c.is_some.ensures) (found_listed (old.trees name_tree) (cid_bytes c.args.name.now) c.in-Ok.found keyed.1.0 found))
+    subst (λ s. IsTrue c.is_some.result ↔ ListsName (g.S.Store.view s) c.args.name.now) c.self.view_is
+    (subst (λ b. IsTrue b ↔ ListsName old c.args.name.now) (sym c.is_some.ensures) (found_listed (old.trees name_tree) (cid_bytes c.args.name.now) c.in-Ok.found keyed.1.0 found))

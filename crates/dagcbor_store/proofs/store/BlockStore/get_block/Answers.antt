@@ -1,6 +1,6 @@
 use Rattle.std.proofs.Common.{rules, ◌≡◌, subst, IfOk, IfErr, option_map, Vec, ℕ, Global}
 use Rattle.ipld_tree.specs.Cid.{cid_bytes}
-use Rattle.block_trees.specs.Rows.{Gets}
+use Rattle.block_trees.specs.Rows.{LooksUp}
 use Rattle.dagcbor_store.specs.Stored.{GetsSome, GetRefused}
 use Rattle.dagcbor_store.proofs.Keeping.{ready_ended, ready_failed, keyed_ended, same_read}
 use Rattle.dagcbor_store.proofs.Calls.{found_if_clean, gets_some, get_refused}
@@ -18,7 +18,7 @@ returns-in-Ok-clause-found g c =
     let old = g.S.Store.view c.self.inside.store in
     let keyed = keyed_ended g.S.Store c.self.inside.store c.get.new.store (g.met.S.Store.broken_if_shut c.self.inside.store) c.self.invariant c.in-Ok.ensures.ends clean in
     let form : c.deref.result.now ≡ cid_bytes c.args.name.now = search rules in
-    let gets = subst (λ n. Gets old.trees n c.in-Ok.found) form (c.in-Ok.ensures.ok clean) in
+    let gets = subst (λ n. LooksUp old.trees n c.in-Ok.found) form (c.in-Ok.ensures.ok clean) in
     subst (λ s. IfOk c.verified.result (λ o. GetsSome (g.S.Store.view s) c.args.name.now (option_map (λ (b : Vec ℕ Global). b.items) o))) c.self.view_is
     (gets_some old c.args.name.now c.in-Ok.found c.verified.result keyed.1 gets c.verified.ensures))
 
@@ -29,4 +29,4 @@ returns-in-Ok-clause-refused g c =
     let old = g.S.Store.view c.self.inside.store in
     let keyed = keyed_ended g.S.Store c.self.inside.store c.get.new.store (g.met.S.Store.broken_if_shut c.self.inside.store) c.self.invariant c.in-Ok.ensures.ends clean in
     let form : c.deref.result.now ≡ cid_bytes c.args.name.now = search rules in
-    (keyed.1, subst (λ n. Gets old.trees n c.in-Ok.found) form (c.in-Ok.ensures.ok clean), same_read old _ (c.in-Ok.ensures.ends.frame clean))))
+    (keyed.1, subst (λ n. LooksUp old.trees n c.in-Ok.found) form (c.in-Ok.ensures.ok clean), same_read old _ (c.in-Ok.ensures.ends.frame clean))))

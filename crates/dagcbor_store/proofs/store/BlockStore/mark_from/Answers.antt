@@ -1,6 +1,6 @@
 use Rattle.std.proofs.Common.{subst}
 use Rattle.std.proofs.lemmas.Result.{err_from_is_err_and}
-use Rattle.dagcbor_store.specs.Collecting.{AddsAll}
+use Rattle.dagcbor_store.specs.Collecting.{CollectsAll}
 use Rattle.dagcbor_store.proofs.Marking.{marks_more, find_mark}
 use Rattle.dagcbor_store.proofs.store.BlockStore.mark_from.Goals as goal
 
@@ -12,4 +12,4 @@ returns-in_err-found-clause-refused g c =
 pub returns-in-Ok-clause-ok : goal.returns-in-Ok-clause-ok
 returns-in-Ok-clause-ok g c clean roots marks =
     marks_more (g.S.Store.view c.args.self.now) c.args.kept.now c.put_all.new.kept c.args.root.now c.in_ok-found.found.items roots (c.in_ok-found.ensures.ok clean)
-    (subst (λ ns. AddsAll ns c.args.kept.now c.put_all.new.kept) c.deref.ensures.value c.in-Ok.ensures) marks
+    (subst (λ ns. CollectsAll ns c.args.kept.now c.put_all.new.kept) c.deref.ensures.value c.in-Ok.ensures) marks

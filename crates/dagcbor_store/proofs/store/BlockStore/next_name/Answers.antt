@@ -2,7 +2,7 @@ use Rattle.std.proofs.Common.{rules, arith, ◌≡◌, subst, None, Some, Ok}
 use Rattle.sqlite_trees.specs.View.{IsClean}
 use Rattle.sqlite_trees.specs.declared.error.StoreError.TheVariants as stored
 use Rattle.block_trees.specs.Rows.{name_tree, FindsFirst}
-use Rattle.dagcbor_store.specs.Stored.{GivesNext, bound_behind}
+use Rattle.dagcbor_store.specs.Stored.{GivesNextName, bound_behind}
 use Rattle.dagcbor_store.proofs.Behind.{next_none, next_some}
 use Rattle.dagcbor_store.proofs.Keeping.{ready_ended, ready_failed, keyed_ended}
 use Rattle.dagcbor_store.proofs.store.BlockStore.next_name.Goals as goal
@@ -20,7 +20,7 @@ pub returns-in-Ok-None-clause-next : goal.returns-in-Ok-None-clause-next
 returns-in-Ok-None-clause-next g c clean =
     let old = g.S.Store.view c.self.inside.store in
     let bound : c.deref.result.now ≡ bound_behind c.args.last = search rules in
-    subst (λ s. GivesNext (g.S.Store.view s) c.args.last None) c.self.view_is
+    subst (λ s. GivesNextName (g.S.Store.view s) c.args.last None) c.self.view_is
     (next_none (old.trees name_tree) c.args.last (subst (λ b. FindsFirst (old.trees name_tree) b None) bound (rw c.in-Ok-None.field-0-is at (c.in-Ok-None.ensures.ok clean))))
 
 pub returns-in-Ok-Some-Ok-clause-next : goal.returns-in-Ok-Some-Ok-clause-next
@@ -29,7 +29,7 @@ returns-in-Ok-Some-Ok-clause-next g c clean =
     let keyed = keyed_ended g.S.Store c.self.inside.store c.first_from.new.store (g.met.S.Store.broken_if_shut c.self.inside.store) c.self.invariant c.in-Ok-Some-Ok.ensures.ends clean in
     let bound : c.deref.result.now ≡ bound_behind c.args.last = search rules in
     let found = subst (λ b. FindsFirst (old.trees name_tree) b (Some (Ok c.in-Ok-Some-Ok.name))) bound (rw (c.in-Ok-Some-Ok.field-0-is, c.in-Ok-Some-Ok.field-0-0-is) at (c.in-Ok-Some-Ok.ensures.ok clean)) in
-    subst (λ s. GivesNext (g.S.Store.view s) c.args.last (Some c.in-Ok-Some-Ok.name)) c.self.view_is (next_some (old.trees name_tree) c.args.last c.in-Ok-Some-Ok.name (found keyed.1.0))
+    subst (λ s. GivesNextName (g.S.Store.view s) c.args.last (Some c.in-Ok-Some-Ok.name)) c.self.view_is (next_some (old.trees name_tree) c.args.last c.in-Ok-Some-Ok.name (found keyed.1.0))
 
 pub returns-in-Ok-Some-Err-clause-refused : goal.returns-in-Ok-Some-Err-clause-refused
 returns-in-Ok-Some-Err-clause-refused g c = (

@@ -1,7 +1,7 @@
 use Rattle.std.proofs.Common.{rules, arith, ◌≡◌, subst}
 use Rattle.sqlite_trees.specs.View.{IsClean}
 use Rattle.ipld_tree.specs.Cid.{cid_bytes}
-use Rattle.block_trees.specs.Rows.{Takes}
+use Rattle.block_trees.specs.Rows.{TakesOutName}
 use Rattle.dagcbor_store.specs.Stored.{IsTaken}
 use Rattle.dagcbor_store.proofs.Keeping.{ready_failed, keyed_ended}
 use Rattle.dagcbor_store.proofs.Calls.{ready_blocks, keyed_taken, is_taken}
@@ -24,4 +24,4 @@ returns-in-Ok-clause-ok g c clean =
     let form : c.deref.result.now ≡ cid_bytes c.args.name.now = search rules in
     let new = g.S.Store.view c.take.new.store in
     subst (λ s. IsTaken (g.S.Store.view s) new c.args.name.now c.in-Ok.taken) c.self.view_is
-    (is_taken old new c.args.name.now c.in-Ok.taken (c.in-Ok.ensures.ends.frame clean) keyed.0 keyed.1 (subst (λ n. Takes old.trees new.trees n c.in-Ok.taken) form (c.in-Ok.ensures.ok clean)))
+    (is_taken old new c.args.name.now c.in-Ok.taken (c.in-Ok.ensures.ends.frame clean) keyed.0 keyed.1 (subst (λ n. TakesOutName old.trees new.trees n c.in-Ok.taken) form (c.in-Ok.ensures.ok clean)))

@@ -1,0 +1,108 @@
+#!/usr/bin/env python3
+"""Draws docs/growth.svg: the table of growth that stands in docs/SPEED.md, time against size, both scales logarithmic.
+
+    bench/curves.py          draws it anew; so does `bench/growth.py page`
+    bench/curves.py check    fails where the picture is another than the table says
+
+Nothing is measured here. A call whose time grows as its block does is a line at 45 degrees, which the grid's diagonals are."""
+
+import math
+import re
+import sys
+
+import bars
+
+FIRST, PICTURE = "Seconds, a block of", bars.ROOT / "docs" / "growth.svg"
+LEFT, RIGHT, TOP, DECADE = 70, 560, 64, 70
+COLOURS = ("#1f77b4", "#d2691e", "#2e8b57", "#b22222", "#7b4fb5", "#8c6d31", "#c2528b", "#5b6770", "#148a8a")
+UNITS = {"KB": 3, "MB": 6}
+TIMES = ((0, "s"), (-3, "ms"), (-6, "µs"), (-9, "ns"))
+
+
+def size_of(name):
+    """The power of ten of `10 KB`."""
+    number, unit = name.split()
+    return math.log10(int(number)) + UNITS[unit]
+
+
+def time_of(power):
+    """A power of ten as seconds: `10 ms`."""
+    least, unit = next((least, unit) for least, unit in TIMES if power >= least)
+    return f"{10 ** (power - least)} {unit}"
+
+
+def curves():
+    """The sizes as powers of ten, and the seconds of each call."""
+    for head, _, *rows in bars.tables(bars.PAGE.read_text(encoding="utf-8")):
+        if head[0] == FIRST:
+            sizes = [size_of(name) for name in head[1:]]
+            return sizes, [(row[0], [float(cell) for cell in row[1:] if re.fullmatch(r"[\d.e+-]+", cell)]) for row in rows]
+    return [], []
+
+
+def lines_of(sizes, calls):
+    """The lines of the picture."""
+    powers = [math.log10(seconds) for _, row in calls for seconds in row if seconds > 0]
+    least, most = math.floor(min(powers)), math.ceil(max(powers))
+    height, wide = TOP + DECADE * (most - least) + 46, (RIGHT - LEFT) / (sizes[-1] - sizes[0])
+    bottom = TOP + DECADE * (most - least)
+    at = lambda size, power: (LEFT + wide * (size - sizes[0]), bottom - DECADE * (power - least))
+    yield f'<svg xmlns="http://www.w3.org/2000/svg" viewBox="0 0 {bars.WIDTH} {height}" role="img" aria-labelledby="title">'
+    yield '<title id="title">Processor time against the size of a block</title>'
+    yield f"<style>{bars.STYLE}</style>"
+    yield bars.text(16, 24, "Processor time against the size of a block", "title")
+    yield bars.text(16, 44, "both scales logarithmic; a diagonal of the grid is ten times the time for ten times the bytes", "note")
+    for size in sizes:
+        x, _ = at(size, least)
+        yield bars.line(x, TOP, bottom, "grid")
+        name = f"{10 ** (size - 3):.0f} KB" if size < 6 else f"{10 ** (size - 6):.0f} MB"
+        yield bars.text(x, bottom + 18, name, "note", "middle")
+    for power in range(least, most + 1):
+        _, y = at(sizes[0], power)
+        yield f'<line x1="{LEFT}" y1="{y}" x2="{RIGHT}" y2="{y}" class="grid"/>'
+        yield bars.text(LEFT - 8, y + 4, time_of(power), "note", "end")
+    for power in range(least - len(sizes) + 2, most):
+        ends = [(size, power + size - sizes[0]) for size in sizes]
+        inside = [at(*end) for end in ends if least <= end[1] <= most]
+        if len(inside) > 1:
+            yield polyline(inside, "#8c959f", 'stroke-dasharray="2 5"')
+    yield from drawn(sizes, calls, at)
+    yield "</svg>"
+
+
+def polyline(points, colour, more=""):
+    joined = " ".join(f"{x:.1f},{y:.1f}" for x, y in points)
+    return f'<polyline points="{joined}" fill="none" stroke="{colour}" {more}/>'
+
+
+def drawn(sizes, calls, at):
+    """The curves, and their names, which stand apart from one another."""
+    last = TOP - 12
+    for colour, (name, row) in zip(COLOURS, sorted(calls, key=lambda call: -call[1][-1])):
+        points = [at(size, math.log10(seconds)) for size, seconds in zip(sizes, row)]
+        yield polyline(points, colour, 'stroke-width="2"')
+        last = max(last + 17, points[-1][1] + 4)
+        yield f'<line x1="{points[-1][0]:.1f}" y1="{points[-1][1]:.1f}" x2="{RIGHT + 14}" y2="{last - 4:.1f}" stroke="{colour}"/>'
+        yield bars.text(RIGHT + 18, last, name.replace("`", ""))
+
+
+def picture():
+    sizes, calls = curves()
+    return "\n".join(lines_of(sizes, calls)) + "\n" if calls else ""
+
+
+def draw():
+    PICTURE.write_text(picture(), encoding="utf-8")
+
+
+def main(words):
+    if words != ["check"]:
+        draw()
+    elif not PICTURE.exists() or PICTURE.read_text(encoding="utf-8") != picture():
+        print("docs/growth.svg is not what the table of docs/SPEED.md says: run bench/curves.py")
+        return 1
+    return 0
+
+
+if __name__ == "__main__":
+    sys.exit(main(sys.argv[1:]))

@@ -1,0 +1,19 @@
+use Rattle.std.proofs.Common.{◌+◌, ◌++◌, ap, sym, ◌∙◌, arith, length, List, ℕ, append_assoc, take-append-drop, length-take-le}
+use Rattle.cid_text.specs.Rfc4648.{text_in_groups}
+use Rattle.cid_text.proofs.Grouping.{left_length, five_out}
+use Rattle.cid_text.proofs.groups.push_32.Goals as goal
+
+pub push_eight-requires : goal.push_eight-requires
+push_eight-requires c =
+    let long = left_length c.args.symbols.now c.args.out.now.items c.loop-five.out.items c.loop-five.rest.now c.args.bytes.now c.loop-five.invariant in
+    record { base = c.requires.base; room = omega (arith, long, c.requires.room, c.in-Some.ensures.cases) }
+
+pub loop-five-preserved : goal.loop-five-preserved
+loop-five-preserved c =
+    let parts = c.in-Some.ensures.cases in
+    rw c.push_eight.ensures (five_out c.args.symbols.now c.args.out.now.items c.loop-five.out.items c.loop-five.rest.now c.args.bytes.now c.in-Some.five.now c.in-Some.behind.now parts.0 parts.1 parts.2 c.loop-five.invariant)
+
+pub push_groups-requires : goal.push_groups-requires
+push_groups-requires c =
+    let long = left_length c.args.symbols.now c.args.out.now.items c.loop-five.out.items c.loop-five.rest.now c.args.bytes.now c.loop-five.invariant in
+    record { base = c.requires.base; room = omega (arith, long, c.requires.room) }

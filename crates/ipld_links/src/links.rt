@@ -1,0 +1,79 @@
+//! The links of blocks that were judged: nothing of these is tested again.
+
+ghost use Rattle.std.specs.Prelude.{◌≡◌, ◌+◌, ◌<◌, ◌≤◌, List, ℕ, [], ◌∷◌, length, drop};
+ghost use Rattle.std.specs.Prelude.{if◌then◌else◌, IsTrue, IfSome, IfOk, MatchOption};
+ghost use Rattle.ipld_tree.specs.Cid.{cid_bytes};
+ghost use Rattle.dagcbor_items.specs.Judging.{SplitsCid};
+ghost use Rattle.dagcbor_items.specs.Slices.{AreFirstLinks};
+ghost use Rattle.dagcbor_items.specs.Walks.{forms};
+ghost use Rattle.ipld_links.specs.Blocks.{HasBlock};
+ghost use Rattle.ipld_links.specs.Rows.{HoldsLinks, is_string};
+
+use dagcbor_heads::split_head;
+use ipld_tree::Cid;
+use std::alloc::{AllocError, Global};
+
+/// The CID behind the tag of links, and the bytes behind it.
+fn split_link(bytes: &[u8]) -> (Cid, &[u8])
+    requires { (cid : List ℕ) × (rest : List ℕ) × SplitsCid bytes.now cid rest }
+    ensures { SplitsCid bytes.now (cid_bytes result.0) result.1.now }
+{
+    let Some((_major, count, behind)) = split_head(bytes) else {
+        unreachable!()
+    };
+    let (payload, rest) = behind.split_at(count as usize);
+    let Some((_zero, form)) = payload.split_first() else {
+        unreachable!()
+    };
+    let Ok(cid) = Cid::try_from(form) else {
+        unreachable!()
+    };
+    (cid, rest)
+}
+
+/// The bytes behind a head, and behind its string, where it is one of a string.
+#[inline(always)]
+fn behind_token(major: u8, argument: u64, behind: &[u8]) -> &[u8]
+    requires { IsTrue (is_string major) → argument ≤ length behind.now }
+    ensures { result.now ≡ (if is_string major then drop argument behind.now else behind.now) }
+{
+    if major == 2 || major == 3 {
+        behind.split_at(argument as usize).1
+    } else {
+        behind
+    }
+}
+
+/// The first link of items in a row, and the bytes behind it. Of lists and maps only the heads are
+/// looked at, as their parts follow them.
+pub(crate) fn next_link(items: &[u8]) -> Option<(Cid, &[u8])>
+    requires { (links : List (List ℕ)) × HoldsLinks items.now links }
+    ensures link { (links : List (List ℕ)) → HoldsLinks items.now links
+        → MatchOption result (links ≡ [])
+        (λ p. (more : List (List ℕ)) × (links ≡ cid_bytes p.0 ∷ more) × HoldsLinks p.1.now more) }
+    ensures shorter { IfSome result
+        (λ p. length (cid_bytes p.0) + length p.1.now < length items.now) }
+{
+    let mut rest = items;
+    while let Some((major, argument, behind)) = split_head(rest) {
+        if major == 6 {
+            return Some(split_link(behind));
+        }
+        rest = behind_token(major, argument, behind);
+    }
+    None
+}
+
+/// The links of a block, which are refused for want of memory alone.
+pub(crate) fn links_of_block(alloc: Global, block: &[u8]) -> Result<Vec<Cid>, AllocError>
+    requires { HasBlock block.now }
+    ensures { IfOk result (λ v. AreFirstLinks block.now (forms v.items)) }
+{
+    let mut links = Vec::new(alloc);
+    let mut rest = block;
+    while let Some(found) = next_link(rest) {
+        links.push(found.0)?;
+        rest = found.1;
+    }
+    Ok(links)
+}

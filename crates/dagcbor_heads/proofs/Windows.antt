@@ -234,13 +234,12 @@ module _ (old new : Reading) (w after : Windowed) (source : Option (List ℕ)) (
         counted = (let l = length-take n x in omega (arith, l, few));
         takes = record {
           taken = λ b l. (
-            let k = copied_first w.copies b w.taken source most within (sym before ∙ l) in
-            (
-              drop n b,
-              sym (take-append-drop n b) ∙ ap (λ s. s ++ drop n b) (ap (take n) k.1 ∙ take-append-le n x k.0 few),
-              behind ∙ ap (λ (v : Windowed). bytes_told v.copies v.taken source most) e ∙ more_taken w.copies b w.taken source most n (sym before ∙ l),
-            )
-          );
+              let k = copied_first w.copies b w.taken source most within (sym before ∙ l) in (
+                drop n b,
+                sym (take-append-drop n b) ∙ ap (λ s. s ++ drop n b) (ap (take n) k.1 ∙ take-append-le n x k.0 few),
+                behind ∙ ap (λ (v : Windowed). bytes_told v.copies v.taken source most) e ∙ more_taken w.copies b w.taken source most n (sym before ∙ l),
+              )
+              );
           same = same;
         };
         looked = omega (arith, was, is, ap (λ (v : Windowed). v.looked) e);

@@ -74,8 +74,16 @@ DRAWN = (
     ("to_vec::<Ipld>", "records", lambda size: listed(size // len(RECORD), RECORD)),
     ("from_slice::<Vec<u64>>", "numbers", lambda size: listed(size // len(NUMBER), NUMBER)),
     ("from_reader::<Vec<u64>>", "numbers", lambda size: listed(size // len(NUMBER), NUMBER)),
+    ("check_slice", "a map", lambda size: eights(size // 10)),
+    ("from_slice::<Ipld>", "a map", lambda size: eights(size // 10)),
+    ("to_vec::<Ipld>", "a map", lambda size: eights(size // 10)),
 )
 BEGIN, END = "<!-- made by bench/growth.py page -->\n", "<!-- so far, of growth -->\n"
+
+
+def eights(entries):
+    """A map of so many keys of eight digits, each to 0: ten bytes an entry."""
+    return keyed([b"%08d" % n for n in range(entries)])
 
 
 def chosen_keys(folder):

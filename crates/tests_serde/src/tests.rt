@@ -6,7 +6,7 @@ mod devices;
 mod forms;
 mod note;
 
-use crate::types::{Command, Either, Inner, Node, Outer, Parcel, Record, Shape, Slash, SlashEnum};
+use crate::types::{Command, Either, Inner, Shape, Slash, SlashEnum};
 use dagcbor_serde::{ByteBuf, Link, from_slice, from_slice_owned, to_vec};
 use dagcbor_testing::{agree, is_told};
 use ipld_tree::Cid;
@@ -21,12 +21,6 @@ const CID: &[u8] = b"\x01\x55\x00\x00";
 const RECORD: &[u8] =
     b"\xa4\x63\x73\x65\x71\x18\x2a\x64\x6c\x69\x6e\x6b\xd8\x2a\x45\x00\x01\x55\x00\x00\x64\x6e\x61\x6d\x65\x62\x68\x69\x64\x74\x61\x67\x73\x82\x01\x19\x01\x00";
 
-const PARCEL: &[u8] =
-    b"\xa7\x65\x6d\x61\x72\x6b\x73\xa3\x61\x63\xf6\x62\x62\x62\xd8\x2a\x45\x00\x01\x55\x00\x00\x63\x61\x61\x61\xd8\x2a\x45\x00\x01\x55\x00\x00\x65\x70\x6c\x61\x63\x65\x82\x20\x18\xc8\x65\x73\x74\x61\x6d\x70\x62\xc3\xa9\x66\x69\x73\x4f\x70\x65\x6e\xf5\x66\x77\x65\x69\x67\x68\x74\x39\x01\x2b\x67\x63\x6f\x6e\x74\x65\x6e\x74\x42\x01\x02\x67\x6e\x6f\x74\x68\x69\x6e\x67\xf6";
-
-const SENT: &[u8] =
-    b"\xa8\x65\x6d\x61\x72\x6b\x73\xa0\x65\x70\x6c\x61\x63\x65\x82\x18\x7f\x00\x65\x73\x74\x61\x6d\x70\xf6\x66\x69\x73\x4f\x70\x65\x6e\xf4\x66\x73\x65\x6e\x64\x65\x72\x62\x6d\x65\x66\x77\x65\x69\x67\x68\x74\x1b\x7f\xff\xff\xff\xff\xff\xff\xff\x67\x63\x6f\x6e\x74\x65\x6e\x74\x40\x67\x6e\x6f\x74\x68\x69\x6e\x67\xf6";
-
 const DOT: &[u8] = b"\x63\x44\x6f\x74";
 
 const CIRCLE: &[u8] = b"\xa1\x66\x43\x69\x72\x63\x6c\x65\x07";
@@ -38,13 +32,7 @@ const SQUARE: &[u8] =
 
 const LINKED: &[u8] = b"\xa1\x66\x4c\x69\x6e\x6b\x65\x64\xd8\x2a\x45\x00\x01\x55\x00\x00";
 
-const OUTER: &[u8] =
-    b"\xa4\x61\x61\x03\x61\x62\xf6\x64\x7a\x65\x74\x61\x01\x66\x6d\x69\x64\x64\x6c\x65\x02";
-
 const SLASH: &[u8] = b"\xa1\x61\x2f\x44\x01\x55\x00\x00";
-
-const NODE: &[u8] =
-    b"\xa2\x61\x6e\x01\x64\x6d\x6f\x72\x65\x82\xa2\x61\x6e\x02\x64\x6d\x6f\x72\x65\x80\xa2\x61\x6e\x03\x64\x6d\x6f\x72\x65\x81\xa2\x61\x6e\x04\x64\x6d\x6f\x72\x65\x80";
 
 const MOVE: &[u8] =
     b"\xa3\x61\x78\x01\x61\x79\x20\x64\x6b\x69\x6e\x64\x67\x6d\x6f\x76\x65\x5f\x74\x6f";
@@ -99,44 +87,6 @@ fn text(alloc: Global, s: &str) -> Result<String, Fail> {
 }
 
 #[test]
-fn records_go_both_ways(rt: HostRuntime) -> Result<(), Fail> {
-    let alloc = rt.alloc();
-    let record = Record {
-        link: link()?,
-        name: text(alloc, "hi")?,
-        seq: 42,
-        tags: vec![in alloc; 1, 256]?,
-    };
-    goes_both_ways(alloc, &record, RECORD)?;
-    let mut marks = BTreeMap::new(alloc);
-    marks.insert(text(alloc, "aaa")?, Some(link()?))?;
-    marks.insert(text(alloc, "bb")?, Some(link()?))?;
-    marks.insert(text(alloc, "c")?, None)?;
-    let parcel = Parcel {
-        is_open: true,
-        weight: -300,
-        content: ByteBuf(Vec::from_slice(alloc, b"\x01\x02")?),
-        sender: None,
-        stamp: Some('\u{e9}'),
-        place: (-1, 200),
-        marks,
-        nothing: (),
-    };
-    goes_both_ways(alloc, &parcel, PARCEL)?;
-    let sent = Parcel {
-        is_open: false,
-        weight: i64::MAX,
-        content: ByteBuf(Vec::new(alloc)),
-        sender: Some(text(alloc, "me")?),
-        stamp: None,
-        place: (127, 0),
-        marks: BTreeMap::new(alloc),
-        nothing: (),
-    };
-    goes_both_ways(alloc, &sent, SENT)
-}
-
-#[test]
 fn variants_go_both_ways(rt: HostRuntime) -> Result<(), Fail> {
     let alloc = rt.alloc();
     goes_both_ways(alloc, &Shape::Dot, DOT)?;
@@ -146,21 +96,6 @@ fn variants_go_both_ways(rt: HostRuntime) -> Result<(), Fail> {
     goes_both_ways(alloc, &Shape::Linked(link()?), LINKED)?;
     goes_both_ways(alloc, &Command::Stop, STOP)?;
     goes_both_ways(alloc, &Command::MoveTo { x: 1, y: -1 }, MOVE)
-}
-
-#[test]
-fn fields_share_a_map(rt: HostRuntime) -> Result<(), Fail> {
-    let alloc = rt.alloc();
-    let inner = Inner { middle: 2, b: None };
-    goes_both_ways(
-        alloc,
-        &Outer {
-            zeta: 1,
-            inner,
-            a: 3,
-        },
-        OUTER,
-    )
 }
 
 #[test]
@@ -196,28 +131,6 @@ fn no_other_value_is_a_link(rt: HostRuntime) -> Result<(), Fail> {
     is_refused::<BTreeMap<String, ByteBuf>>(alloc, PINNED, refused)?;
     is_refused::<Link>(alloc, SLASH, "Misfit { cause: Mismatch(97), at: 1 }")?;
     is_refused::<ByteBuf>(alloc, PINNED, refused)
-}
-
-#[test]
-fn trees_go_both_ways(rt: HostRuntime) -> Result<(), Fail> {
-    let alloc = rt.alloc();
-    let four = Node {
-        n: 4,
-        more: Vec::new(alloc),
-    };
-    let three = Node {
-        n: 3,
-        more: vec![in alloc; four]?,
-    };
-    let two = Node {
-        n: 2,
-        more: Vec::new(alloc),
-    };
-    let one = Node {
-        n: 1,
-        more: vec![in alloc; two, three]?,
-    };
-    goes_both_ways(alloc, &one, NODE)
 }
 
 #[test]

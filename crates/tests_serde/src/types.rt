@@ -6,7 +6,6 @@ pub mod forms;
 use dagcbor_serde::{ByteBuf, Link};
 pub use data::{Envelope, Shared};
 use serde::{Deserialize, Serialize};
-use std::collections::BTreeMap;
 
 /// A record with a link in its middle.
 #[derive(Drop, Serialize, Deserialize)]
@@ -17,21 +16,6 @@ pub struct Record {
     pub tags: Vec<u16>,
 }
 
-/// What else a struct may hold.
-#[derive(Drop, Serialize, Deserialize)]
-#[serde(rename_all = "camelCase")]
-pub struct Parcel {
-    pub is_open: bool,
-    pub weight: i64,
-    pub content: ByteBuf,
-    #[serde(skip_serializing_if = "Option::is_none")]
-    pub sender: Option<String>,
-    pub stamp: Option<char>,
-    pub place: (i8, u8),
-    pub marks: BTreeMap<String, Option<Link>>,
-    pub nothing: (),
-}
-
 /// Each kind of variant.
 #[derive(Drop, Serialize, Deserialize)]
 pub enum Shape {
@@ -40,15 +24,6 @@ pub enum Shape {
     Line(i8, i8),
     Square { side: u16, at: Option<u8> },
     Linked(Link),
-}
-
-/// A struct whose other fields stand in the same map.
-#[derive(Drop, Serialize, Deserialize)]
-pub struct Outer {
-    pub zeta: u8,
-    #[serde(flatten)]
-    pub inner: Inner,
-    pub a: u8,
 }
 
 #[derive(Drop, Serialize, Deserialize)]
@@ -69,15 +44,6 @@ pub struct Slash {
 pub enum SlashEnum {
     #[serde(rename = "/")]
     Bytes(ByteBuf),
-}
-
-/// A tree of any depth.
-#[derive(Drop, Serialize, Deserialize)]
-#[serde(recursive)]
-pub struct Node {
-    pub n: u8,
-    #[serde(recursive)]
-    pub more: Vec<Node>,
 }
 
 /// Variants told by a tag, and by nothing.

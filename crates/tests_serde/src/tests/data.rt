@@ -1,11 +1,10 @@
 //! Any data in fields, and the data of another format.
 
-use super::{CID, goes_both_ways, is_refused, link, text};
+use super::{CID, goes_both_ways, is_refused, text};
 use crate::types::{Envelope, Inner, Shared};
-use dagcbor_serde::{Any, Link, from_slice_owned, to_vec};
+use dagcbor_serde::{Any, from_slice_owned, to_vec};
 use dagcbor_testing::{agree, is_told};
 use ipld_tree::{Cid, Ipld};
-use serde_json::Value;
 use std::collections::BTreeMap;
 use std::test::Fail;
 
@@ -17,8 +16,6 @@ const PLAIN: &[u8] =
 
 const SHARED: &[u8] =
     b"\xa4\x61\x62\x03\x64\x62\x6f\x64\x79\xa2\x61\x2f\x01\x61\x63\x80\x64\x74\x61\x69\x6c\xa1\x61\x78\xd8\x2a\x45\x00\x01\x55\x00\x00\x66\x6d\x69\x64\x64\x6c\x65\x02";
-
-const VALUE: &[u8] = b"\xa2\x61\x62\x86\x01\x21\xf6\xf5\x61\x74\xa0\x62\x61\x61\xa1\x60\x80";
 
 #[test]
 fn any_data_goes_both_ways(rt: HostRuntime) -> Result<(), Fail> {
@@ -88,34 +85,4 @@ fn any_data_goes_through_json(rt: HostRuntime) -> Result<(), Fail> {
     }
     let float = serde_json::from_str::<Any>(alloc, "1.5");
     agree(float.is_err(), true)
-}
-
-/// A `Value` has no links and no bytes.
-#[test]
-fn values_of_json_go_both_ways(rt: HostRuntime) -> Result<(), Fail> {
-    let alloc = rt.alloc();
-    let value: Value = serde_json::from_str(
-        alloc,
-        r#"{"b":[1,-2,null,true,"t",{}],"aa":{"":[]}}"#,
-    )?;
-    goes_both_ways(alloc, &value, VALUE)?;
-    let rows: &[(&[u8], &str)] = &[
-        (b"\x41\x01", "Misfit { cause: Invalid, at: 0 }"),
-        (
-            b"\xd8\x2a\x45\x00\x01\x55\x00\x00",
-            "Misfit { cause: Mismatch(216), at: 0 }",
-        ),
-    ];
-    for (bytes, told) in rows {
-        is_refused::<Value>(alloc, bytes, told)?;
-    }
-    Ok(())
-}
-
-/// The two ways to hold a CID say the same.
-#[test]
-fn links_are_cids(_rt: HostRuntime) -> Result<(), Fail> {
-    let cid = Cid::try_from(CID)?;
-    agree(Link::from(cid), link()?)?;
-    agree(Cid::from(link()?), cid)
 }

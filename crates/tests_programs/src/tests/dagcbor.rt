@@ -39,6 +39,15 @@ fn answers_each_line(rt: HostRuntime) -> Result<(), Fail> {
 }
 
 #[test]
+fn every_kind_has_its_name(rt: HostRuntime) -> Result<(), Fail> {
+    checks(
+        rt.alloc(),
+        b"83010203\n1817\nzz\n\na10102\na0\nd82a4500015500\nd82a450001550000\nf600\n",
+        b"ok list\nrefused NonMinimal\nrefused hex\nrefused Eof\nrefused Mismatch\nok map\nrefused Eof\nok link\nrefused TrailingData\n",
+    )
+}
+
+#[test]
 fn links_of_each_line(rt: HostRuntime) -> Result<(), Fail> {
     let mut lines =
         b"d82a490001ce019b010263c8\n80\na26162d82a450001550000626161d82a450001710000\nf600\n81\nzz\n".as_slice();

@@ -12,13 +12,12 @@ mod std_devices;
 mod told;
 
 pub use alike::{
-    beginnings_are_cut, each_is_refused, goes_both_ways, is_read_as, is_refused, is_written_again,
-    reads_alike,
+    beginnings_are_cut, each_is_refused, goes_both_ways, is_refused, is_written_again,
 };
 pub use examples::{BLUE_TOLD, DEMO_TOLD, note_goes_both_ways};
 pub use failing_devices::{FaultySource, StingySink};
 pub use own_devices::{FaultyWriter, Pieces};
 pub use pieces_of_blocks::{LINK, THREE_LINKS, joined, nested};
-pub use reads::{answers, each_answers, each_tells, tells};
+pub use reads::{answers, each_answers, tells};
 pub use std_devices::{Sink, Source};
 pub use told::{agree, each_writes, is_told, is_unwritten, writes};

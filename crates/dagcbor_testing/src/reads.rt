@@ -17,17 +17,6 @@ pub fn tells<'de, T: Deserialize<'de> + Debug>(
     is_told(alloc, &from_slice::<T>(alloc, bytes), wanted)
 }
 
-/// Fails where a read of a row's bytes answers anything but what is beside them, as text.
-pub fn each_tells<'de, T: Deserialize<'de> + Debug>(
-    alloc: Global,
-    rows: &[(&'de [u8], &str)],
-) -> Result<(), Fail> {
-    for (bytes, wanted) in rows {
-        tells::<T>(alloc, bytes, wanted)?;
-    }
-    Ok(())
-}
-
 /// The one value that a reader holds.
 fn whole<'de, T: Deserialize<'de> + Drop, R: Read + Drop>(
     alloc: Global,

@@ -1,4 +1,3 @@
-mod calls;
 mod changes;
 mod dagcar;
 mod dagcbor;

@@ -4,9 +4,9 @@ mod data;
 pub mod forms;
 
 use dagcbor_serde::{ByteBuf, Link};
-pub use data::{Envelope, Shared};
+pub use data::Envelope;
+use forms::Plain;
 use serde::{Deserialize, Serialize};
-use std::collections::BTreeMap;
 
 /// A record with a link in its middle.
 #[derive(Drop, Serialize, Deserialize)]
@@ -17,95 +17,29 @@ pub struct Record {
     pub tags: Vec<u16>,
 }
 
-/// What else a struct may hold.
+/// Each kind of variant, under other names.
 #[derive(Drop, Serialize, Deserialize)]
-#[serde(rename_all = "camelCase")]
-pub struct Parcel {
-    pub is_open: bool,
-    pub weight: i64,
-    pub content: ByteBuf,
-    #[serde(skip_serializing_if = "Option::is_none")]
-    pub sender: Option<String>,
-    pub stamp: Option<char>,
-    pub place: (i8, u8),
-    pub marks: BTreeMap<String, Option<Link>>,
-    pub nothing: (),
-}
-
-/// Each kind of variant.
-#[derive(Drop, Serialize, Deserialize)]
+#[serde(rename_all = "snake_case", rename_all_fields = "camelCase")]
 pub enum Shape {
     Dot,
     Circle(u32),
     Line(i8, i8),
-    Square { side: u16, at: Option<u8> },
-    Linked(Link),
+    TurnLeft { by_degrees: u16 },
 }
 
-/// A struct whose other fields stand in the same map.
-#[derive(Drop, Serialize, Deserialize)]
-pub struct Outer {
-    pub zeta: u8,
-    #[serde(flatten)]
-    pub inner: Inner,
-    pub a: u8,
-}
-
-#[derive(Drop, Serialize, Deserialize)]
-pub struct Inner {
-    pub middle: u8,
-    pub b: Option<u8>,
-}
-
-/// Names that a link must not be taken for.
-#[derive(Drop, Serialize, Deserialize)]
-pub struct Slash {
-    #[serde(rename = "/")]
-    pub bytes: ByteBuf,
-}
-
-/// A variant of that name.
-#[derive(Drop, Serialize, Deserialize)]
-pub enum SlashEnum {
-    #[serde(rename = "/")]
-    Bytes(ByteBuf),
-}
-
-/// A tree of any depth.
-#[derive(Drop, Serialize, Deserialize)]
-#[serde(recursive)]
-pub struct Node {
-    pub n: u8,
-    #[serde(recursive)]
-    pub more: Vec<Node>,
-}
-
-/// Variants told by a tag, and by nothing.
-#[derive(Drop, Serialize, Deserialize)]
-#[serde(tag = "kind", rename_all = "snake_case")]
-pub enum Command {
-    Stop,
-    MoveTo { x: i32, y: i32 },
-}
-
+/// Variants told by nothing: bytes are tried before a link.
 #[derive(Drop, Serialize, Deserialize)]
 #[serde(untagged)]
 pub enum Either {
-    Number(u64),
+    Octets(ByteBuf),
     Pinned(Link),
-    Text(String),
     Pair { left: Link, right: u8 },
 }
 
 /// Two fields of one name share a map.
 #[derive(Drop, Serialize)]
 pub struct Twice {
-    pub a: u8,
+    pub b: u8,
     #[serde(flatten)]
-    pub rest: Again,
-}
-
-#[derive(Drop, Serialize)]
-pub struct Again {
-    pub a: u8,
+    pub rest: Plain,
 }

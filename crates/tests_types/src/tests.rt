@@ -1,7 +1,6 @@
 //! Tables of bytes and answers, each public call, and types by hand.
 
 mod accessors;
-mod all_links;
 mod by_hand;
 mod calls;
 mod cids_and_trees;

@@ -1,10 +1,11 @@
-//! Whole files.
+//! Whole files. What else is told of files, and of what is none, are rows of `conformance/` and of
+//! `faults/run`.
 
 ghost use Rattle.std.specs.Prelude.{⊤, true};
 
 use crate::tests::sections::{CHANGED, EMPTY, HEADER, NUMBERS, SECTION, UNORDERED};
 use dagcbor_car::{CarError, Section, VerdictSink, check_car};
-use dagcbor_testing::{agree, is_told, joined};
+use dagcbor_testing::{agree, joined};
 use ipld_links::Verdict;
 use ipld_tree::Cid;
 use std::alloc::{AllocError, Global};
@@ -13,18 +14,11 @@ use std::test::Fail;
 
 /// The header of the root `PARENT`, its section, and that of `NUMBERS`. The block of `PARENT` is the
 /// list of a link to `NUMBERS`, one to `FOO`, and again one to `NUMBERS`.
-pub(crate) const LINKED: &[u8] =
+const LINKED: &[u8] =
     b"\x3a\xa2\x65\x72\x6f\x6f\x74\x73\x81\xd8\x2a\x58\x25\x00\x01\x71\x12\x20\x4e\xd9\x06\x5c\x0d\xac\x82\xb6\x65\xdf\x8f\xd5\xa1\x81\xff\xf5\xf4\x1b\x01\x96\x2b\x8e\x9b\x4f\x25\xb9\x22\x28\x39\x8c\xd0\x97\x67\x76\x65\x72\x73\x69\x6f\x6e\x01\xa0\x01\x01\x71\x12\x20\x4e\xd9\x06\x5c\x0d\xac\x82\xb6\x65\xdf\x8f\xd5\xa1\x81\xff\xf5\xf4\x1b\x01\x96\x2b\x8e\x9b\x4f\x25\xb9\x22\x28\x39\x8c\xd0\x97\x83\xd8\x2a\x58\x25\x00\x01\x71\x12\x20\x4a\xbc\x31\x13\x7c\xe7\x38\xd9\xac\xeb\x8a\x1d\x1d\x51\xf1\x5c\xad\x42\xc2\xb0\x8d\xcb\x7e\xd1\x79\xf7\x37\xa1\x94\xb3\x55\xe7\xd8\x2a\x58\x25\x00\x01\x55\x12\x20\x2c\x26\xb4\x6b\x68\xff\xc6\x8f\xf9\x9b\x45\x3c\x1d\x30\x41\x34\x13\x42\x2d\x70\x64\x83\xbf\xa0\xf9\x8a\x5e\x88\x62\x66\xe7\xae\xd8\x2a\x58\x25\x00\x01\x71\x12\x20\x4a\xbc\x31\x13\x7c\xe7\x38\xd9\xac\xeb\x8a\x1d\x1d\x51\xf1\x5c\xad\x42\xc2\xb0\x8d\xcb\x7e\xd1\x79\xf7\x37\xa1\x94\xb3\x55\xe7\x28\x01\x71\x12\x20\x4a\xbc\x31\x13\x7c\xe7\x38\xd9\xac\xeb\x8a\x1d\x1d\x51\xf1\x5c\xad\x42\xc2\xb0\x8d\xcb\x7e\xd1\x79\xf7\x37\xa1\x94\xb3\x55\xe7\x83\x01\x02\x03";
 
-/// The ends of the header and of the first section of `LINKED`.
-pub(crate) const ENDS: [usize; 2] = [59, 221];
-
-/// The root of `LINKED`.
-pub(crate) const PARENT: &[u8] =
-    b"\x01\x71\x12\x20\x4e\xd9\x06\x5c\x0d\xac\x82\xb6\x65\xdf\x8f\xd5\xa1\x81\xff\xf5\xf4\x1b\x01\x96\x2b\x8e\x9b\x4f\x25\xb9\x22\x28\x39\x8c\xd0\x97";
-
 /// The name of "foo", of the codec 0x55.
-pub(crate) const FOO: &[u8] =
+const FOO: &[u8] =
     b"\x01\x55\x12\x20\x2c\x26\xb4\x6b\x68\xff\xc6\x8f\xf9\x9b\x45\x3c\x1d\x30\x41\x34\x13\x42\x2d\x70\x64\x83\xbf\xa0\xf9\x8a\x5e\x88\x62\x66\xe7\xae";
 
 /// A name by another hash function.
@@ -45,8 +39,8 @@ const INLINE_TWICE: &[u8] =
 
 /// A letter for each verdict.
 #[derive(Drop)]
-pub(crate) struct Letters {
-    pub(crate) letters: Vec<u8>,
+struct Letters {
+    letters: Vec<u8>,
 }
 
 impl VerdictSink for Letters {
@@ -89,12 +83,7 @@ pub(crate) fn cids_of(alloc: Global, names: &[&[u8]]) -> Result<Vec<Cid>, Fail> 
 }
 
 /// Fails where the letters are others, or what leads nowhere is.
-pub(crate) fn tells(
-    alloc: Global,
-    file: &[u8],
-    letters: &[u8],
-    missing: &[&[u8]],
-) -> Result<(), Fail> {
+fn tells(alloc: Global, file: &[u8], letters: &[u8], missing: &[&[u8]]) -> Result<(), Fail> {
     let (told_letters, told_missing) = told(alloc, file)?;
     agree(told_letters.as_slice(), letters)?;
     let missing = cids_of(alloc, missing)?;
@@ -141,51 +130,6 @@ fn files_are_gone_through(rt: HostRuntime) -> Result<(), Fail> {
     let alloc = rt.alloc();
     for (parts, letters, missing) in FILES {
         tells(alloc, &joined(alloc, parts)?, letters, missing)?;
-    }
-    Ok(())
-}
-
-/// Fails where the file is not refused so.
-pub(crate) fn is_refused(alloc: Global, file: &[u8], refusal: &str) -> Result<(), Fail> {
-    is_told(alloc, &told(alloc, file).err(), refusal)
-}
-
-/// Fails where a beginning of `LINKED` is told otherwise.
-fn is_beginning(alloc: Global, file: &[u8]) -> Result<(), Fail> {
-    if file.len() == ENDS[0] {
-        tells(alloc, file, b"", &[PARENT])
-    } else if file.len() == ENDS[1] {
-        tells(alloc, file, b"B", &[FOO, NUMBERS])
-    } else {
-        is_refused(alloc, file, "Some(Truncated)")
-    }
-}
-
-#[test]
-fn cut_files_are_refused(rt: HostRuntime) -> Result<(), Fail> {
-    for end in 0..LINKED.len() {
-        is_beginning(rt.alloc(), &LINKED[..end])?;
-    }
-    Ok(())
-}
-
-/// The parts of what is no file, and why.
-const NO_FILES: &[(&[&[u8]], &str)] = &[
-    // A section of no bytes; a length in two bytes where one is enough; another header.
-    (&[HEADER, b"\x00", SECTION], "Some(InvalidCid(Truncated))"),
-    (&[HEADER, b"\xa8\x00", SECTION], "Some(InvalidLength)"),
-    (&[SECTION], "Some(NoBlock(TrailingData))"),
-    (&[b"\x01\xa0"], "Some(OtherHeader)"),
-    // The bytes that begin version 2, and some of them.
-    (&[b"\x0a\xa1\x67version\x02"], "Some(Truncated)"),
-    (&[b"\x0a\xa1\x67version"], "Some(Truncated)"),
-];
-
-#[test]
-fn other_files_are_refused(rt: HostRuntime) -> Result<(), Fail> {
-    let alloc = rt.alloc();
-    for (parts, refusal) in NO_FILES {
-        is_refused(alloc, &joined(alloc, parts)?, refusal)?;
     }
     Ok(())
 }

@@ -2,7 +2,7 @@
 
 use dagcbor_blocks::Blocks;
 use dagcbor_heads::{BufWriter, Input, SliceReader};
-use dagcbor_testing::{FaultyWriter, agree, is_told};
+use dagcbor_testing::{agree, is_told};
 use ipld_tree::Cid;
 use std::alloc::Global;
 use std::test::Fail;
@@ -61,21 +61,4 @@ fn trees_are_written(rt: HostRuntime) -> Result<(), Fail> {
     writes(&blocks, alloc, ROOT, TREE, "Ok(())")?;
     writes(&blocks, alloc, INNER, INNER_TREE, "Ok(())")?;
     writes(&blocks, alloc, AWAY, b"", "Err(NotHeld)")
-}
-
-#[test]
-fn a_writer_that_fails_ends_the_tree(rt: HostRuntime) -> Result<(), Fail> {
-    let alloc = rt.alloc();
-    let blocks = store(alloc)?;
-    let root = Cid::try_from(ROOT)?;
-    // The header and each of four sections are pushed in two pieces, or in three.
-    for pushes in 0..2 + 4 * 3 {
-        let mut writer = FaultyWriter::new(alloc, pushes);
-        let answer = blocks.write_tree(&root, &mut writer);
-        agree(answer.is_err(), true)?;
-        agree(TREE.starts_with(writer.held()), true)?;
-    }
-    let mut writer = FaultyWriter::new(alloc, 2 + 4 * 3);
-    is_told(alloc, &blocks.write_tree(&root, &mut writer), "Ok(())")?;
-    agree(writer.held(), TREE)
 }

@@ -1,13 +1,12 @@
 //! Files that are written, and read back.
 
-use crate::tests::files::{ENDS, LINKED, cids_of};
+use crate::tests::files::cids_of;
 use crate::tests::sections::{EMPTY, NUMBERS};
-use dagcbor_car::{CarReader, CarWriteError, CarWriter};
-use dagcbor_heads::{BufWriter, IoWriter, SliceReader};
+use dagcbor_car::{CarReader, CarWriter};
+use dagcbor_heads::{BufWriter, SliceReader};
 use dagcbor_testing::{agree, joined};
 use ipld_tree::Cid;
 use std::alloc::Global;
-use std::io;
 use std::test::Fail;
 
 /// The name of "foo", of version 0.
@@ -105,100 +104,4 @@ fn files_are_written_and_read_back(rt: HostRuntime) -> Result<(), Fail> {
     goes_both_ways(alloc, &[NUMBERS, FOO], SHORT_SECTIONS, SHORT)?;
     let file = joined(alloc, &[LONG, BLOCK])?;
     goes_both_ways(alloc, &[FIVE], LONG_SECTIONS, &file)
-}
-
-/// A device that has room for so many bytes.
-#[derive(Drop)]
-struct Room {
-    held: Vec<u8>,
-    left: usize,
-}
-
-impl io::Write for Room {
-    fn write(&mut self, bytes: &[u8]) -> io::Result<usize> {
-        let count = bytes.len().min(self.left);
-        self.held.extend_from_slice(&bytes[..count])?;
-        self.left -= count;
-        Ok(count)
-    }
-
-    fn flush(&mut self) -> io::Result<()> {
-        Ok(())
-    }
-}
-
-/// What came of sections.
-#[derive(Drop)]
-struct Outcome {
-    written: u32,
-    refused: u32,
-    failed: u32,
-    /// What the device holds then.
-    held: Vec<u8>,
-}
-
-/// What comes of writing the file's sections to a device with room for so many bytes. None where
-/// the header is refused.
-fn outcome_of(alloc: Global, file: &[u8], left: usize) -> Result<Option<Outcome>, Fail> {
-    let (roots, mut sections) = CarReader::from_slice(alloc, file)?;
-    let held = Vec::new(alloc);
-    let Ok(mut writer) = CarWriter::new(alloc, IoWriter::new(Room { held, left }), &roots) else {
-        return Ok(None);
-    };
-    let (mut written, mut refused, mut failed) = (0u32, 0u32, 0u32);
-    for _ in 0..2 {
-        let Some(Ok(section)) = sections.next() else {
-            return Err(Fail::new("no section"));
-        };
-        let cid = section.cid();
-        match writer.write(&cid, section.block()) {
-            Ok(()) => written = written.saturating_add(1),
-            Err(CarWriteError::Write(_)) => refused = refused.saturating_add(1),
-            Err(CarWriteError::OutOfMemory) => return Err(Fail::new("memory")),
-            Err(CarWriteError::Failed) => failed = failed.saturating_add(1),
-        }
-    }
-    let Room { held, left: _ } = writer.into_writer().into_inner();
-    Ok(Some(Outcome {
-        written,
-        refused,
-        failed,
-        held,
-    }))
-}
-
-/// How many sections of `LINKED` are written, refused, and refused behind a refusal. None where the
-/// header is refused.
-fn wanted(left: usize) -> Option<(u32, u32, u32)> {
-    if left < ENDS[0] {
-        None
-    } else if left < ENDS[1] {
-        Some((0, 1, 1))
-    } else if left < LINKED.len() {
-        Some((1, 1, 0))
-    } else {
-        Some((2, 0, 0))
-    }
-}
-
-/// Fails where a device with room for a beginning of `LINKED` then holds other bytes, or anything
-/// else comes of its sections.
-fn is_sent(alloc: Global, beginning: &[u8]) -> Result<(), Fail> {
-    let wanted = wanted(beginning.len());
-    match outcome_of(alloc, LINKED, beginning.len())? {
-        Some(outcome) => {
-            let counts = (outcome.written, outcome.refused, outcome.failed);
-            agree(Some(counts), wanted)?;
-            agree(outcome.held.as_slice(), beginning)
-        }
-        None => agree(wanted, None),
-    }
-}
-
-#[test]
-fn nothing_is_sent_behind_a_refusal(rt: HostRuntime) -> Result<(), Fail> {
-    for left in 0..LINKED.len() + 1 {
-        is_sent(rt.alloc(), &LINKED[..left])?;
-    }
-    Ok(())
 }

@@ -1,6 +1,6 @@
 //! Rows are of a walk over decoded blocks that was written apart, in Python, names and all.
 
-use dagcbor_resolve::{each_once, resolve, resolve_way};
+use dagcbor_resolve::{resolve, resolve_way};
 use dagcbor_testing::{agree, is_told};
 use ipld_tree::Cid;
 use std::alloc::Global;
@@ -203,19 +203,3 @@ const WAYS: &[(&str, &[&[u8]])] = &[
     ("a/2", &[ROOT_NAME]),
     ("a/1/0", &[ROOT_NAME]),
 ];
-
-#[test]
-fn names_are_listed_once(rt: HostRuntime) -> Result<(), Fail> {
-    let alloc = rt.alloc();
-    let mut names = Vec::new(alloc);
-    for name in [
-        ROOT_NAME, MID_NAME, ROOT_NAME, LEAF_NAME, MID_NAME, MID_NAME,
-    ] {
-        let Ok(cid) = Cid::try_from(name) else {
-            return Err(Fail::new("no CID"));
-        };
-        names.push(cid)?;
-    }
-    let once = each_once(alloc, &names)?;
-    are_named(alloc, &once, &[ROOT_NAME, MID_NAME, LEAF_NAME])
-}

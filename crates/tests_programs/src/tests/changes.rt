@@ -1,10 +1,9 @@
 //! `changes`: what differs between two repositories. The newer file and the expected lines are made by
 //! another program.
 
-use crate::tests::dagcar::{owned_words, run_words};
-use crate::tests::records::{DAMAGED, HEADER, LINES, NODES, USAGE_LINE, file_of};
-use dagcar_lines::{changes_of, run_changes};
-use dagcbor_testing::{StingySink, agree, joined};
+use crate::tests::records::{HEADER, NODES, file_of};
+use dagcar_lines::run_changes;
+use dagcbor_testing::agree;
 use std::alloc::Global;
 use std::test::Fail;
 
@@ -47,80 +46,4 @@ fn changes_are_listed(rt: HostRuntime) -> Result<(), Fail> {
     gives(alloc, NEWER, &older, 0, CHANGES_BACK, b"")?;
     gives(alloc, &older, &older, 0, b"", b"")?;
     gives(alloc, NEWER, NEWER, 0, b"", b"")
-}
-
-/// Each damaged file, as the old one, as the new one, and as both.
-#[test]
-fn what_is_no_repository_is_told_with_its_side(rt: HostRuntime) -> Result<(), Fail> {
-    let alloc = rt.alloc();
-    for (file, line) in DAMAGED {
-        let (of_old, of_new) = (
-            joined(alloc, &[b"old: ", line])?,
-            joined(alloc, &[b"new: ", line])?,
-        );
-        gives(alloc, file, NEWER, 1, b"", &of_old)?;
-        gives(alloc, NEWER, file, 1, b"", &of_new)?;
-        gives(alloc, file, b"", 1, b"", &of_old)?;
-    }
-    Ok(())
-}
-
-/// Where the output has room for so many bytes, no more are out, and the fault is told.
-#[test]
-fn a_full_output_is_told(rt: HostRuntime) -> Result<(), Fail> {
-    let alloc = rt.alloc();
-    let older = file_of(alloc, HEADER, NODES, &[])?;
-    for room in [0, 1, 100] {
-        let mut errors = Vec::new(alloc);
-        let mut full = StingySink::new(alloc, room, None);
-        let (mut old, mut new) = (older.as_slice(), NEWER);
-        let ended = run_changes(alloc, &mut old, &mut new, &mut full, &mut errors);
-        let line = b"dagcar: output failed\n".as_slice();
-        agree((ended, errors.as_slice()), (2, line))?;
-        agree(full.held(), &CHANGES[..room])?;
-    }
-    Ok(())
-}
-
-/// Words, and the two files that they name.
-const CALLS: &[(&[&str], Option<(&str, &str)>)] = &[
-    (
-        &["changes", "old.car", "new.car"],
-        Some(("old.car", "new.car")),
-    ),
-    (&["changes", "-", "new.car"], Some(("-", "new.car"))),
-    (&["changes", "old.car", "-"], Some(("old.car", "-"))),
-    (&["changes", "", ""], Some(("", ""))),
-    (&["changes", "-", "-"], None),
-    (&["changes", "old.car"], None),
-    (&["changes", "old.car", "new.car", "new.car"], None),
-    (&["change", "old.car", "new.car"], None),
-    (&["record", "a/b", "repo.car"], None),
-    (&["changes"], None),
-    (&[], None),
-];
-
-#[test]
-fn two_files_stand_behind_the_word(rt: HostRuntime) -> Result<(), Fail> {
-    for (call, files) in CALLS {
-        agree(changes_of(&owned_words(rt.alloc(), call)?), *files)?;
-    }
-    Ok(())
-}
-
-/// The words are none of one input.
-#[test]
-fn two_files_are_no_command(rt: HostRuntime) -> Result<(), Fail> {
-    let alloc = rt.alloc();
-    for (call, _files) in CALLS {
-        if call.first() != Some(&"changes") {
-            continue;
-        }
-        let (mut output, mut errors) = (Vec::new(alloc), Vec::new(alloc));
-        let mut input = LINES;
-        let ended = run_words(alloc, call, &mut input, &mut output, &mut errors)?;
-        agree((ended, errors.as_slice()), (2, USAGE_LINE))?;
-        agree((output.is_empty(), input), (true, LINES))?;
-    }
-    Ok(())
 }

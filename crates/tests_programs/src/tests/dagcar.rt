@@ -1,9 +1,9 @@
 //! The lines, words and faults of `dagcar`. The expected lines are made by another program.
 
-use dagcar_lines::{run_command, split_words};
-use dagcbor_testing::{FaultySource, StingySink, agree, joined};
+use dagcar_lines::run_command;
+use dagcbor_testing::{StingySink, agree, joined};
 use std::alloc::Global;
-use std::io::{BufRead, ErrorKind, Write};
+use std::io::{BufRead, Write};
 use std::test::Fail;
 
 /// A file whose root links to its second section; the third is of another codec.
@@ -12,17 +12,6 @@ const GOOD: &[u8] =
 
 const GOOD_LINES: &[u8] =
     b"bafyreic6rlmkazpohhul74xyu654gs4k37idb2uz6r7vurebasdi766kga ok list\nbafyreickxqyrg7hhhdm2z24kduovd4k4vvbmfmenzn7nc6pxg6qzjm2v44 ok list\nbafkreibme22gw2h7y2h7tg2fhqotaqjucnbc24deqo72b6mkl2egezxhvy not read\n";
-
-/// The lines of its root and of its sections.
-const GOOD_LISTED: &[&[u8]] = &[
-    b"root bafyreic6rlmkazpohhul74xyu654gs4k37idb2uz6r7vurebasdi766kga\n",
-    b"bafyreic6rlmkazpohhul74xyu654gs4k37idb2uz6r7vurebasdi766kga 42\n",
-    b"bafyreickxqyrg7hhhdm2z24kduovd4k4vvbmfmenzn7nc6pxg6qzjm2v44 4\n",
-    b"bafkreibme22gw2h7y2h7tg2fhqotaqjucnbc24deqo72b6mkl2egezxhvy 3\n",
-];
-
-/// The ends of the header and of the sections of `GOOD`. No link is open behind the second section.
-const ENDS: &[usize] = &[59, 138, 179, 219];
 
 /// A link twice that leads nowhere, keys out of order, other bytes, and another hash function.
 const MIXED: &[u8] =
@@ -99,22 +88,6 @@ pub fn gives(
     )
 }
 
-/// What a run over bytes that fault at this fill writes, one byte being shown a fill. Fails where
-/// the fault is not told.
-pub fn written_of_faulty(
-    alloc: Global,
-    words: &[&str],
-    bytes: &[u8],
-    fill: usize,
-) -> Result<Vec<u8>, Fail> {
-    let (mut output, mut errors) = (Vec::new(alloc), Vec::new(alloc));
-    let mut input = FaultySource::new(bytes, 1, fill, ErrorKind::Other);
-    let ended = run_words(alloc, words, &mut input, &mut output, &mut errors)?;
-    let line = b"dagcar: input failed\n".as_slice();
-    agree((ended, errors.as_slice()), (2, line))?;
-    Ok(output)
-}
-
 /// Fails where a run whose output has room for so many bytes writes no such beginning of the lines,
 /// or where the fault is not told.
 pub fn fills(
@@ -131,20 +104,6 @@ pub fn fills(
     let line = b"dagcar: output failed\n".as_slice();
     agree((ended, errors.as_slice()), (2, line))?;
     agree(full.held(), &lines[..room.min(lines.len())])
-}
-
-/// What `list` says of so many bytes of `GOOD`.
-fn good_listed(alloc: Global, end: usize) -> Result<Vec<u8>, Fail> {
-    let mut listed = Vec::new(alloc);
-    for (place, line) in ENDS.iter().zip(GOOD_LISTED) {
-        if *place <= end {
-            listed.extend_from_slice(line)?;
-        }
-    }
-    if !ENDS.contains(&end) {
-        listed.extend_from_slice(b"refused Truncated\n".as_slice())?;
-    }
-    Ok(listed)
 }
 
 /// A file of one block, a list of links that lead nowhere: of each codec that has a name, of two that
@@ -175,40 +134,6 @@ fn files_are_checked_and_listed(rt: HostRuntime) -> Result<(), Fail> {
 }
 
 const CUT: &[u8] = b"refused Truncated\n";
-
-/// Fails where the beginning of `GOOD` is checked with another status, or a cut is not told, or one
-/// that is none.
-fn is_cut(alloc: Global, end: usize, beginning: &[u8]) -> Result<(), Fail> {
-    let (ended, written, _told) = run_word(alloc, "check", beginning)?;
-    let status = if end == ENDS[2] { 0 } else { 1 };
-    let is_cut = !ENDS.contains(&end);
-    agree((end, ended, written.ends_with(CUT)), (end, status, is_cut))
-}
-
-#[test]
-fn cut_files_are_told(rt: HostRuntime) -> Result<(), Fail> {
-    for end in 0..GOOD.len() {
-        is_cut(rt.alloc(), end, &GOOD[..end])?;
-    }
-    Ok(())
-}
-
-/// The lines of the sections of `MIXED`, without the link that leads nowhere.
-const MIXED_VERDICTS: &[u8] =
-    b"bafyreif3oxt7myu3uldnqjfs34ziq4w4lxhqgshgwuho22hby6qa4wym4e ok list\nbafyreickxqyrg7hhhdm2z24kduovd4k4vvbmfmenzn7nc6pxg6qzjm2v44 ok list\nbafyreibwqtyzplcfcsvwtqi3tb3b6lemdpv3k2hys62l5nlc45h2n6qxe4 refused UnorderedKey\nbafkreibme22gw2h7y2h7tg2fhqotaqjucnbc24deqo72b6mkl2egezxhvy other bytes\nbafkrgaly not verified\n";
-
-/// The line of the first section of `GOOD`, whose link leads nowhere in a file that ends behind it.
-const FIRST_LINE: &[u8] = b"bafyreic6rlmkazpohhul74xyu654gs4k37idb2uz6r7vurebasdi766kga ok list\n";
-
-#[test]
-fn sections_are_verified_and_no_link_is_followed(rt: HostRuntime) -> Result<(), Fail> {
-    let alloc = rt.alloc();
-    gives(alloc, "verify", GOOD, 0, GOOD_LINES, b"")?;
-    gives(alloc, "verify", MIXED, 1, MIXED_VERDICTS, MIXED_PLACES)?;
-    gives(alloc, "verify", &GOOD[..ENDS[1]], 0, FIRST_LINE, b"")?;
-    let cut = joined(alloc, &[FIRST_LINE, CUT])?;
-    gives(alloc, "verify", &GOOD[..ENDS[1] + 1], 1, &cut, b"")
-}
 
 /// What `check --summary` ends with.
 const GOOD_COUNTS: &[u8] =
@@ -249,34 +174,6 @@ fn verdicts_are_counted(rt: HostRuntime) -> Result<(), Fail> {
     sums_up(alloc, CODECS, 1, CODECS_LINES, CODECS_COUNTS, b"")?;
     let cut = &GOOD[..GOOD.len() - 1];
     sums_up(alloc, cut, 1, &GOOD_LINES[..136], CUT, b"")
-}
-
-#[test]
-fn files_are_listed_up_to_the_cut(rt: HostRuntime) -> Result<(), Fail> {
-    let alloc = rt.alloc();
-    for end in 0..=GOOD.len() {
-        let status = if ENDS.contains(&end) { 0 } else { 1 };
-        let listed = good_listed(alloc, end)?;
-        writes(alloc, "list", &GOOD[..end], status, &listed)?;
-    }
-    Ok(())
-}
-
-/// The header of version 2 of `GOOD`, behind which five bytes stand before it.
-const GOOD_FRONT: &[u8] =
-    b"\x0a\xa1\x67\x76\x65\x72\x73\x69\x6f\x6e\x02\x00\x01\x02\x03\x04\x05\x06\x07\x08\x09\x0a\x0b\x0c\x0d\x0e\x0f\x38\x00\x00\x00\x00\x00\x00\x00\xdb\x00\x00\x00\x00\x00\x00\x00\x13\x01\x00\x00\x00\x00\x00\x00\x00\x01\x02\x03\x04";
-
-#[test]
-fn files_of_version_2_are_checked_and_listed(rt: HostRuntime) -> Result<(), Fail> {
-    let alloc = rt.alloc();
-    let listed = good_listed(alloc, GOOD.len())?;
-    let behinds: &[&[u8]] = &[b"", b"\x01\x00"];
-    for behind in behinds {
-        let file = joined(alloc, &[GOOD_FRONT, GOOD, behind])?;
-        writes(alloc, "check", &file, 0, GOOD_LINES)?;
-        writes(alloc, "list", &file, 0, &listed)?;
-    }
-    writes(alloc, "check", &GOOD_FRONT[..55], 1, CUT)
 }
 
 const NUMBERS: &[u8] = b"\x83\x01\x02\x03";
@@ -353,72 +250,4 @@ fn the_program_tells_of_itself(rt: HostRuntime) -> Result<(), Fail> {
         true,
     )?;
     agree(written.ends_with(b"\n".as_slice()), true)
-}
-
-/// Words, how many of them are the command, and the file behind them.
-const CALLS: &[(&[&str], usize, Option<&str>)] = &[
-    (&["check"], 1, None),
-    (&["check", "blocks.car"], 1, Some("blocks.car")),
-    (&["check", "--summary"], 2, None),
-    (&["check", "--summary", "-"], 2, Some("-")),
-    (&["get", "bafkrgaly"], 2, None),
-    (&["get", "bafkrgaly", "blocks.car"], 2, Some("blocks.car")),
-    (&["at", "bafkrgaly/a", "b"], 2, Some("b")),
-    (&["at", "--raw", "bafkrgaly/a"], 3, None),
-    (&["at", "--raw", "bafkrgaly/a", "b"], 3, Some("b")),
-    (&["at", "--raw", "none"], 3, None),
-    (&["at", "--raw", "none/a", "b"], 3, Some("b")),
-    (&["prove", "bafkrgaly/a"], 2, None),
-    (&["prove", "bafkrgaly/a", "-"], 2, Some("-")),
-    (&["records", "repo.car"], 1, Some("repo.car")),
-    (&["record", "a/b"], 2, None),
-    (&["record", "a/b", "repo.car"], 2, Some("repo.car")),
-    // A word that is no CID is told before the file is asked for.
-    (&["get", "none", "blocks.car"], 2, Some("blocks.car")),
-    (&["look", "blocks.car"], 2, None),
-    (&["list", "a", "b"], 3, None),
-    (&[], 0, None),
-];
-
-#[test]
-fn a_file_stands_behind_the_words(rt: HostRuntime) -> Result<(), Fail> {
-    for (call, count, file) in CALLS {
-        let args = owned_words(rt.alloc(), call)?;
-        let (words, found) = split_words(&args);
-        agree((words.len(), found), (*count, *file))?;
-    }
-    Ok(())
-}
-
-#[test]
-fn other_words_are_refused(rt: HostRuntime) -> Result<(), Fail> {
-    let line = b"usage: dagcar check [--summary]|verify|list|name|one|show|make|get CID|tree CID\
-        |at [--raw] CID/PATH|prove CID/PATH|records|record KEY|changes OLD NEW\n";
-    gives(rt.alloc(), "links", GOOD, 2, b"", line)
-}
-
-/// Fails where what stands before a fault of the input is not out in whole lines.
-fn is_out_in_lines(alloc: Global, word: &str, fill: usize, lines: &[u8]) -> Result<(), Fail> {
-    let written = written_of_faulty(alloc, &[word], GOOD, fill)?;
-    agree(lines.starts_with(written.as_slice()), true)?;
-    agree(
-        written.is_empty() || written.ends_with(b"\n".as_slice()),
-        true,
-    )
-}
-
-/// Fails where a fault of the input or the output is told otherwise, or other lines are out then.
-fn tells_faults(alloc: Global, word: &str, lines: &[u8]) -> Result<(), Fail> {
-    for fill in [2, 70, 160, 200] {
-        is_out_in_lines(alloc, word, fill, lines)?;
-    }
-    fills(alloc, &[word], GOOD, 30, lines)?;
-    fills(alloc, &[word], GOOD, 90, lines)
-}
-
-#[test]
-fn faults_are_told(rt: HostRuntime) -> Result<(), Fail> {
-    let alloc = rt.alloc();
-    tells_faults(alloc, "check", GOOD_LINES)?;
-    tells_faults(alloc, "list", &good_listed(alloc, GOOD.len())?)
 }

@@ -1,11 +1,9 @@
 //! The lines, words and faults of `dagcbor`.
 
 use crate::tests::dagcar::owned_words;
-use dagcbor_cli::{ToolError, arguments, give_up};
-use dagcbor_lines::{USAGE, run_check, run_command, run_links};
+use dagcbor_lines::{run_check, run_command, run_links};
 use dagcbor_testing::{FaultySource, StingySink, agree};
 use std::alloc::Global;
-use std::env::{Env, FillError};
 use std::io::ErrorKind;
 use std::test::Fail;
 
@@ -59,62 +57,6 @@ fn links_of_each_line(rt: HostRuntime) -> Result<(), Fail> {
     agree(output.as_slice(), answers.as_slice())
 }
 
-/// What an earlier fill ends is out, and no part of a line that none has ended: so many bytes at
-/// once, the fill that faults, and how many bytes are out.
-const FAULTY: &[(usize, usize, usize)] = &[
-    (1, 1, 0),
-    (1, 5, 0),
-    (1, 6, 19),
-    (1, 9, 31),
-    (7, 2, 19),
-    (10, 2, 43),
-    (20, 3, 69),
-];
-
-/// Fails where the run does not end with the fault of its input, or other bytes are out then.
-fn ends(alloc: Global, fault: ErrorKind, row: &(usize, usize, usize)) -> Result<(), Fail> {
-    let (size, fill, written) = *row;
-    let mut output = Vec::new(alloc);
-    let mut input = FaultySource::new(LINES, size, fill, fault);
-    let ended = run_check(alloc, &mut input, &mut output);
-    let is_fault = matches!(ended, Err(ToolError::Input));
-    agree((*row, is_fault), (*row, true))?;
-    agree(
-        (*row, output.as_slice()),
-        (*row, &ANSWERS[..written.min(ANSWERS.len())]),
-    )
-}
-
-#[test]
-fn a_reader_that_fails_ends_the_run(rt: HostRuntime) -> Result<(), Fail> {
-    for row in FAULTY {
-        ends(rt.alloc(), ErrorKind::Other, row)?;
-        // An interrupted call is not made again.
-        ends(rt.alloc(), ErrorKind::Interrupted, row)?;
-    }
-    Ok(())
-}
-
-/// Fails where the run does not end with the fault of an output that has room for so many bytes, or
-/// other bytes are out then.
-fn ends_where_full(alloc: Global, room: usize, fault: Option<ErrorKind>) -> Result<(), Fail> {
-    let mut stingy = StingySink::new(alloc, room, fault);
-    let ended = run_check(alloc, &mut &LINES[..], &mut stingy);
-    let is_fault = matches!(ended, Err(ToolError::Output));
-    agree((room, is_fault), (room, true))?;
-    agree(stingy.held(), &ANSWERS[..room.min(ANSWERS.len())])
-}
-
-#[test]
-fn a_writer_that_fails_ends_the_run(rt: HostRuntime) -> Result<(), Fail> {
-    for room in [0, 1, 18, 19, 24] {
-        ends_where_full(rt.alloc(), room, None)?;
-        ends_where_full(rt.alloc(), room, Some(ErrorKind::Other))?;
-        ends_where_full(rt.alloc(), room, Some(ErrorKind::Interrupted))?;
-    }
-    Ok(())
-}
-
 const USED: &[u8] = b"usage: dagcbor check|links\n";
 
 /// Words, the status of a run of them over a line, and what it writes and tells.
@@ -141,63 +83,6 @@ fn words_pick_the_command(rt: HostRuntime) -> Result<(), Fail> {
         )?;
     }
     Ok(())
-}
-
-/// The arguments of a program of which none is text.
-#[derive(Drop)]
-struct NoText;
-
-impl Env for NoText {
-    fn arg(&self, i: usize, buf: &mut [u8]) -> Result<usize, FillError> {
-        match buf {
-            [first, ..] if i < 2 => {
-                *first = 0xff;
-                Ok(1)
-            }
-            _ => Err(FillError::NotPresent),
-        }
-    }
-
-    fn var(&self, _name: &str, _buf: &mut [u8]) -> Result<usize, FillError> {
-        Err(FillError::NotPresent)
-    }
-
-    fn var_at(&self, _i: usize, _buf: &mut [u8]) -> Result<usize, FillError> {
-        Err(FillError::NotPresent)
-    }
-}
-
-/// So `main` tells the usage line: it takes any refusal but want of memory for wrong words.
-#[test]
-fn an_argument_that_is_no_text_is_refused(rt: HostRuntime) -> Result<(), Fail> {
-    let refused = arguments(&(NoText, rt.alloc())).err().map(|e| e.kind());
-    agree(refused, Some(ErrorKind::InvalidData))?;
-    let mut errors = Vec::new(rt.alloc());
-    agree(give_up(&mut errors, USAGE, 2), 2)?;
-    agree(errors.as_slice(), USED)
-}
-
-#[test]
-fn a_fault_of_the_input_is_told(rt: HostRuntime) -> Result<(), Fail> {
-    let alloc = rt.alloc();
-    let (mut output, mut errors) = (Vec::new(alloc), Vec::new(alloc));
-    let mut input = FaultySource::new(LINES, 1, 2, ErrorKind::Other);
-    let args = owned_words(alloc, &["check"])?;
-    let ended = run_command(alloc, &args, &mut input, &mut output, &mut errors);
-    let line = b"dagcbor: input failed\n".as_slice();
-    agree((ended, errors.as_slice()), (1, line))
-}
-
-#[test]
-fn a_fault_of_the_output_is_told(rt: HostRuntime) -> Result<(), Fail> {
-    let alloc = rt.alloc();
-    let mut errors = Vec::new(alloc);
-    let mut full = StingySink::new(alloc, 3, None);
-    let args = owned_words(alloc, &["check"])?;
-    let ended = run_command(alloc, &args, &mut &LINES[..], &mut full, &mut errors);
-    let line = b"dagcbor: output failed\n".as_slice();
-    agree((ended, errors.as_slice()), (1, line))?;
-    agree(full.held(), b"ref".as_slice())
 }
 
 /// A fault in telling it is not told.

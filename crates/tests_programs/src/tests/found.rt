@@ -1,7 +1,7 @@
 //! `get` and `tree`: blocks out of a file. The expected bytes are made by another program.
 
-use crate::tests::dagcar::{fills, run_words, written_of_faulty};
-use dagcbor_testing::{agree, joined};
+use crate::tests::dagcar::run_words;
+use dagcbor_testing::agree;
 use std::alloc::Global;
 use std::test::Fail;
 
@@ -68,12 +68,6 @@ const USAGE_LINE: &[u8] =
 const MAP: &[u8] =
     b"\xa1\x61\x61\xd8\x2a\x58\x25\x00\x01\x71\x12\x20\x4a\xbc\x31\x13\x7c\xe7\x38\xd9\xac\xeb\x8a\x1d\x1d\x51\xf1\x5c\xad\x42\xc2\xb0\x8d\xcb\x7e\xd1\x79\xf7\x37\xa1\x94\xb3\x55\xe7";
 
-/// The ends of the header and of the first four sections of `FILE`.
-const ENDS: &[usize] = &[59, 97, 138, 176, 213];
-
-const LEAF_LINE: &[u8] =
-    b"missing bafkreibme22gw2h7y2h7tg2fhqotaqjucnbc24deqo72b6mkl2egezxhvy raw\n";
-
 /// What a run of two words is asked, and what it gives.
 pub type Row = (&'static str, &'static str, u8, &'static [u8], &'static [u8]);
 
@@ -133,59 +127,4 @@ fn blocks_are_found(rt: HostRuntime) -> Result<(), Fail> {
         gives(alloc, FILE, row)?;
     }
     Ok(())
-}
-
-/// The header of version 2 of `FILE`, behind which two bytes stand before it.
-const FRONT: &[u8] =
-    b"\x0a\xa1\x67\x76\x65\x72\x73\x69\x6f\x6e\x02\x00\x00\x00\x00\x00\x00\x00\x00\x00\x00\x00\x00\x00\x00\x00\x00\x35\x00\x00\x00\x00\x00\x00\x00\x6c\x04\x00\x00\x00\x00\x00\x00\x00\x00\x00\x00\x00\x00\x00\x00\x00\x01";
-
-#[test]
-fn blocks_are_found_in_files_of_version_2(rt: HostRuntime) -> Result<(), Fail> {
-    let alloc = rt.alloc();
-    let file = joined(alloc, &[FRONT, FILE, b"\x01\x00"])?;
-    for row in ROWS {
-        gives(alloc, &file, row)?;
-    }
-    Ok(())
-}
-
-/// Where the section of the leaf ends in `FILE`.
-const BEHIND_LEAF: usize = 253;
-
-/// What is told where the file is cut.
-const CUT: &[u8] = b"refused Truncated\n";
-
-/// What `get` gives of the leaf in so many bytes of `FILE`.
-fn row_of_cut(end: usize) -> Row {
-    if end >= BEHIND_LEAF {
-        ("get", LEAF_NAME, 0, b"foo", b"")
-    } else if ENDS.contains(&end) {
-        ("get", LEAF_NAME, 1, b"", LEAF_LINE)
-    } else {
-        ("get", LEAF_NAME, 1, b"", CUT)
-    }
-}
-
-#[test]
-fn what_stands_behind_a_block_is_not_read(rt: HostRuntime) -> Result<(), Fail> {
-    let alloc = rt.alloc();
-    for end in 0..FILE.len() {
-        gives(alloc, &FILE[..end], &row_of_cut(end))?;
-    }
-    let tree: Row = ("tree", LIST_NAME, 1, b"", CUT);
-    gives(alloc, &FILE[..FILE.len() - 1], &tree)
-}
-
-/// Fails where a fault of the input or the output is told otherwise, or other bytes are out then.
-fn tells_faults(alloc: Global, word: &str, wanted: &[u8]) -> Result<(), Fail> {
-    let words = &[word, LIST_NAME];
-    let written = written_of_faulty(alloc, words, FILE, 150)?;
-    agree(written.is_empty(), true)?;
-    fills(alloc, words, FILE, 100, wanted)
-}
-
-#[test]
-fn faults_are_told(rt: HostRuntime) -> Result<(), Fail> {
-    tells_faults(rt.alloc(), "get", LIST)?;
-    tells_faults(rt.alloc(), "tree", TREE)
 }

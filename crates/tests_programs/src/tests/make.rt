@@ -1,52 +1,8 @@
 //! `make`: blocks of DAG-JSON. The expected bytes are made by another program.
 
-use crate::tests::dagcar::{DATA, DATA_LINE, fills, gives, run_word, run_words, writes};
-use dagcbor_testing::{StingySink, agree, nested};
-use std::alloc::Global;
+use crate::tests::dagcar::{gives, run_word};
+use dagcbor_testing::agree;
 use std::test::Fail;
-
-/// Texts, and the blocks of their data.
-const MADE: &[(&[u8], &[u8])] = &[
-    (b"[1,2,3]", b"\x83\x01\x02\x03"),
-    (
-        b" { \"b\" : [ true , null ] ,\r\n\t\"a\" : -0 } ",
-        b"\xa2\x61\x61\x00\x61\x62\x82\xf5\xf6",
-    ),
-    (
-        b"\"\\u0041\\/\\\"\\\\\\b\\f\\n\\r\\t\\u00e9\\uD83d\\uDE00\xc3\xa9\"",
-        b"\x71\x41\x2f\x22\x5c\x08\x0c\x0a\x0d\x09\xc3\xa9\xf0\x9f\x98\x80\xc3\xa9",
-    ),
-    (
-        b"-18446744073709551616",
-        b"\x3b\xff\xff\xff\xff\xff\xff\xff\xff",
-    ),
-    (
-        b"18446744073709551615",
-        b"\x1b\xff\xff\xff\xff\xff\xff\xff\xff",
-    ),
-    (b"{\"aa\":1,\"b\":2}", b"\xa2\x61\x62\x02\x62\x61\x61\x01"),
-    (b"{}", b"\xa0"),
-    (b"[]", b"\x80"),
-    (b"\"\"", b"\x60"),
-    (
-        b"{\"/\":\"bafyreiaaaebagbafaydqqcikbmga2dqpcaireeyuculbogazdinryhi6d4\"}",
-        b"\xd8\x2a\x58\x25\x00\x01\x71\x12\x20\x00\x01\x02\x03\x04\x05\x06\x07\x08\x09\x0a\x0b\x0c\x0d\x0e\x0f\x10\x11\x12\x13\x14\x15\x16\x17\x18\x19\x1a\x1b\x1c\x1d\x1e\x1f",
-    ),
-    (
-        b"{\"\\u002f\":\"zdpuAkRTNd1p3yK32NfMRErswnp34TedGnMcv6CKCa4jhoJM4\"}",
-        b"\xd8\x2a\x58\x25\x00\x01\x71\x12\x20\x00\x01\x02\x03\x04\x05\x06\x07\x08\x09\x0a\x0b\x0c\x0d\x0e\x0f\x10\x11\x12\x13\x14\x15\x16\x17\x18\x19\x1a\x1b\x1c\x1d\x1e\x1f",
-    ),
-    (
-        b"{\"/\":\"QmNLfbof5rLekrACjeuLk9JmGZD2HDBHCU4z16iYKmx5SE\"}",
-        b"\xd8\x2a\x58\x23\x00\x12\x20\x00\x01\x02\x03\x04\x05\x06\x07\x08\x09\x0a\x0b\x0c\x0d\x0e\x0f\x10\x11\x12\x13\x14\x15\x16\x17\x18\x19\x1a\x1b\x1c\x1d\x1e\x1f",
-    ),
-    (b"{ \"/\" : { \"bytes\" : \"AQI\" } }", b"\x42\x01\x02"),
-    (b"{\"/\":{\"bytes\":\"\"}}", b"\x40"),
-    (
-        b"{\"bytes\":\"AQI\"}",
-        b"\xa1\x65\x62\x79\x74\x65\x73\x63\x41\x51\x49",
-    ),
-];
 
 /// Texts that are none, and what is told of them.
 const REFUSED: &[(&[u8], &str)] = &[
@@ -93,57 +49,9 @@ const REFUSED: &[(&[u8], &str)] = &[
 ];
 
 #[test]
-fn texts_are_made_blocks(rt: HostRuntime) -> Result<(), Fail> {
-    for (text, block) in MADE {
-        gives(rt.alloc(), "make", text, 0, block, b"")?;
-    }
-    writes(rt.alloc(), "make", DATA_LINE, 0, DATA)
-}
-
-#[test]
 fn other_texts_are_refused(rt: HostRuntime) -> Result<(), Fail> {
     for (text, line) in REFUSED {
         gives(rt.alloc(), "make", text, 1, b"", line.as_bytes())?;
-    }
-    Ok(())
-}
-
-/// Bytes by their text.
-const BYTES: &[u8] = b"{\"/\":{\"bytes\":\"AQ\"}}";
-
-/// A text is in so many lists, one in the other: what is told of them.
-const NESTED: &[(usize, &[u8], &[u8])] = &[
-    (128, b"", b""),
-    (127, b"1", b""),
-    (127, b"{}", b""),
-    (127, BYTES, b""),
-    (128, b"1", TOO_DEEP),
-    (128, b"{}", TOO_DEEP),
-    (128, BYTES, TOO_DEEP),
-    (129, b"", TOO_DEEP),
-    (130, b"", TOO_DEEP),
-    (200, b"", TOO_DEEP),
-];
-
-const TOO_DEEP: &[u8] = b"refused TooDeep 128\n";
-
-/// Fails where so many lists around a text are answered otherwise.
-fn nests(alloc: Global, count: usize, inner: &[u8], line: &[u8]) -> Result<(), Fail> {
-    let ends = b"]".repeat(alloc, count)?;
-    let mut text = nested(alloc, b"[", count, inner)?;
-    text.extend_from_slice(&ends)?;
-    let (status, written, told) = run_word(alloc, "make", &text)?;
-    let is_refused = !line.is_empty();
-    agree(
-        (told.as_slice(), status, written.is_empty()),
-        (line, if is_refused { 1 } else { 0 }, is_refused),
-    )
-}
-
-#[test]
-fn lists_nest_so_deep(rt: HostRuntime) -> Result<(), Fail> {
-    for (count, inner, line) in NESTED {
-        nests(rt.alloc(), *count, inner, line)?;
     }
     Ok(())
 }
@@ -174,16 +82,4 @@ fn data_that_looks_like_a_link_is_told(rt: HostRuntime) -> Result<(), Fail> {
     }
     let (_ended, _written, told) = run_word(alloc, "show", b"\xa1\x62//\x01")?;
     agree(told.is_empty(), true)
-}
-
-#[test]
-fn faults_of_making_are_told(rt: HostRuntime) -> Result<(), Fail> {
-    let alloc = rt.alloc();
-    fills(alloc, &["make"], DATA_LINE, 30, DATA)?;
-    // What cannot be told is a fault too.
-    let mut output = Vec::new(alloc);
-    let mut deaf = StingySink::new(alloc, 3, None);
-    let mut input = b"1.5".as_slice();
-    let ended = run_words(alloc, &["make"], &mut input, &mut output, &mut deaf)?;
-    agree((ended, output.is_empty()), (2, true))
 }

@@ -36,7 +36,7 @@ pub const FILE: &[u8] =
     \x12\x20\xd9\x29\x8a\x10\xd1\xb0\x73\x58\x37\xdc\x4b\xd8\x5d\xac\x64\x1b\x0f\x3c\xef\x27\
     \xa4\x7e\x5d\x53\xa5\x4f\x2f\x3f\x5b\x2f\xcf\xfa\x01";
 
-pub const ROWS: &[Row] = &[
+const ROWS: &[Row] = &[
     (
         "at",
         "bafyreihmge4qxbweeb5hev33cwr6r7cxcxne7tb4mygmq3wsduicvzrusa",
@@ -237,16 +237,4 @@ fn paths_lead_over_the_blocks_of_a_file(rt: HostRuntime) -> Result<(), Fail> {
         gives(rt.alloc(), FILE, row)?;
     }
     Ok(())
-}
-
-#[test]
-fn a_path_in_no_file_leads_nowhere(rt: HostRuntime) -> Result<(), Fail> {
-    let row = (
-        "at",
-        "bafyreihmge4qxbweeb5hev33cwr6r7cxcxne7tb4mygmq3wsduicvzrusa",
-        1,
-        b"" as &[u8],
-        b"refused Truncated\n" as &[u8],
-    );
-    gives(rt.alloc(), &FILE[..FILE.len() - 1], &row)
 }

@@ -2,7 +2,7 @@
 //! passes that was written apart, in Python, and which bytes it finds.
 
 use crate::tests::dagcar::run_words;
-use crate::tests::paths::{FILE, ROWS};
+use crate::tests::paths::FILE;
 use dagcbor_testing::agree;
 use std::alloc::Global;
 use std::test::Fail;
@@ -236,110 +236,4 @@ fn items_are_written_as_they_are(rt: HostRuntime) -> Result<(), Fail> {
     // The whole block of the root, behind its length and its name.
     let block = part_of((59 + 38, 326))?;
     answer(alloc, &["at", "--raw", ROOT], FILE, (0, block, b""))
-}
-
-/// Fails where a row of `at` is another over the proof of its path, if it has one.
-fn is_proved(alloc: Global, word: &str, wanted: (u8, &[u8], &[u8])) -> Result<(), Fail> {
-    let (mut proof, mut errors) = (Vec::new(alloc), Vec::new(alloc));
-    let mut input = FILE;
-    if run_words(alloc, &["prove", word], &mut input, &mut proof, &mut errors)? != 0 {
-        return Ok(());
-    }
-    answer(alloc, &["at", word], &proof, wanted)
-}
-
-#[test]
-fn a_proof_answers_as_the_whole_file(rt: HostRuntime) -> Result<(), Fail> {
-    for (_at, word, status, wanted, told) in ROWS {
-        is_proved(rt.alloc(), word, (*status, wanted, told))?;
-    }
-    Ok(())
-}
-
-#[test]
-fn a_proof_without_a_block_decides_nothing(rt: HostRuntime) -> Result<(), Fail> {
-    let alloc = rt.alloc();
-    let word = on_path(alloc, "a/0/b/2")?;
-    let told = b"missing bafyreieyybc4bjdcbqdwrchxajiib3p6k6dtczv4venapz3kf7uvvqjxeu dag-cbor\n";
-    let file = file_of(alloc, &[TOP, MID])?;
-    answer(alloc, &["at", &word], &file, (1, b"", told))?;
-    answer(alloc, &["prove", &word], &file, (1, b"", told))
-}
-
-/// The word of the front and of what is left behind it.
-fn on_both(alloc: Global, front: &str, left: &str) -> Result<String, Fail> {
-    let mut word = on_path(alloc, front)?;
-    word.push_str(left)?;
-    Ok(word)
-}
-
-/// Fails where the path is not proved by this file to lead to nothing, as is told.
-fn proves_nothing(alloc: Global, word: &str, file: &[u8], told: &[u8]) -> Result<(), Fail> {
-    answer(alloc, &["prove", word], FILE, (0, file, b""))?;
-    answer(alloc, &["at", word], file, (1, b"", told))?;
-    answer(alloc, &["at", "--raw", word], FILE, (1, b"", told))
-}
-
-/// The line that tells that the root's block has nothing there.
-fn nothing_at(alloc: Global, left: &str) -> Result<Vec<u8>, Fail> {
-    let mut told = ROOT.as_bytes().to_vec(alloc)?;
-    told.extend_from_slice(b" has nothing at ")?;
-    told.extend_from_slice(left.as_bytes())?;
-    told.push(b'\n')?;
-    Ok(told)
-}
-
-/// Fails where the front and what is left behind it are not proved to lead to nothing by the root's
-/// block alone.
-fn leads_nowhere(alloc: Global, front: &str, left: &str) -> Result<(), Fail> {
-    let word = on_both(alloc, front, left)?;
-    let file = file_of(alloc, &[TOP])?;
-    let told = nothing_at(alloc, left)?;
-    proves_nothing(alloc, &word, &file, &told)
-}
-
-/// So many of the text, one behind the other.
-fn repeated(alloc: Global, text: &str, count: usize) -> Result<String, Fail> {
-    let mut out = String::new(alloc);
-    for _turn in 0..count {
-        out.push_str(text)?;
-    }
-    Ok(out)
-}
-
-#[test]
-fn hostile_paths(rt: HostRuntime) -> Result<(), Fail> {
-    let alloc = rt.alloc();
-    leads_nowhere(alloc, "a/", &repeated(alloc, "a/", 5_000)?)?;
-    leads_nowhere(alloc, "", &repeated(alloc, "0123456789abcdef", 65_536)?)?;
-    leads_nowhere(alloc, "a/", "99999999999999999999999999999999999999")?;
-    leads_nowhere(alloc, "a/", "18446744073709551617")?;
-    let word = on_path(alloc, &repeated(alloc, "/", 5_000)?)?;
-    let file = file_of(alloc, &[TOP])?;
-    answer(alloc, &["prove", &word], FILE, (0, file.as_slice(), b""))
-}
-
-#[test]
-fn words_of_proofs(rt: HostRuntime) -> Result<(), Fail> {
-    let alloc = rt.alloc();
-    let usage = b"usage: dagcar check [--summary]|verify|list|name|one|show|make|get CID|tree CID\
-        |at [--raw] CID/PATH|prove CID/PATH|records|record KEY|changes OLD NEW\n";
-    for words in [
-        ["prove"].as_slice(),
-        &["at", "--raw"],
-        &["at", "--all", ROOT],
-        &["prove", "--raw", ROOT],
-    ] {
-        answer(alloc, words, FILE, (2, b"", usage))?;
-    }
-    for words in [["prove", "a/0"].as_slice(), &["at", "--raw", "a/0"]] {
-        answer(alloc, words, FILE, (2, b"", b"no CID: UnknownBase\n"))?;
-    }
-    let cut = &FILE[..FILE.len() - 1];
-    answer(
-        alloc,
-        &["prove", ROOT],
-        cut,
-        (1, b"", b"refused Truncated\n"),
-    )
 }

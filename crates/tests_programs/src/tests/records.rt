@@ -33,20 +33,8 @@ const RECORDS: &[&[u8]] = &[
 ];
 
 /// A line for each record. The last key has a space, a line feed, `%` and bytes above 0x7e.
-pub const LINES: &[u8] =
+const LINES: &[u8] =
     b"com.example.note/0 bafyreiarfwso7unahyhknmngrqc6m57tw2ruw6kdf7dtcpipnciplz5gda\ncom.example.note/1 bafyreihhtxw2cafw6bs4zl7th2nc3v2glggnl63bdv22svvqcbri6jpnkm\ncom.example.note/3 bafyreihznkb5f4w7xrun3i6qun2qm2lngkab5req5nwbr2k7fs2bo4hreq\ncom.example.note/4 bafyreifya3avxxu7fguhsehsjv2qsiytl2xjwsaw2m5xnhbezuetj7kp74\ncom.example.note/5 bafyreifeem2chwoc4h2nzvi27wzhj37h6udiqyncu33wfkzgojfrijndvq\ncom.example.note/a%20b%0A%25%7F%C3%A9 bafyreibnaz72nhjedu24vimmgm3cvydho4qpwxod7ikmlqwhu4rz6a4yfu\n";
-
-/// What is told where the node of the key 4 is not there, which is the one of index 1.
-const FOUR_MISSING: &[u8] =
-    b"missing bafyreicgc6huwa5virt5zb2bnzmz4dd42qo5fyier2a4e7adwyeop5kzj4 dag-cbor\n";
-
-/// What is told where other bytes stand under its name.
-const FOUR_OTHER: &[u8] =
-    b"bafyreicgc6huwa5virt5zb2bnzmz4dd42qo5fyier2a4e7adwyeop5kzj4 other bytes\n";
-
-/// Other bytes under the name of that node.
-const OTHER_NODE: &[u8] =
-    b"\x72\x01\x71\x12\x20\x46\x17\x8f\x4b\x03\xb5\x44\x67\xdc\x87\x41\x6e\x59\x9e\x0c\x7c\xd4\x1d\xd2\xe1\x04\x8e\x81\xc2\x7c\x03\xb6\x08\xe7\xf5\x59\x4f\xa2\x61\x65\x81\xa4\x61\x6b\x52\x63\x6f\x6d\x2e\x65\x78\x61\x6d\x70\x6c\x65\x2e\x6e\x6f\x74\x65\x2f\x34\x61\x70\x00\x61\x74\xf6\x61\x76\xd8\x2a\x58\x25\x00\x01\x71\x12\x20\xb8\x06\xc1\x5b\xde\x9f\x29\xa8\x79\x10\xf2\x4d\x75\x09\x23\x13\x5e\xae\x9b\x48\x16\xd3\x3b\x76\x9c\x24\xcd\x09\x34\xfd\x4f\xff\x61\x6c\xf5";
 
 /// What is told of the last record.
 const LAST_MISSING: &[u8] =
@@ -54,13 +42,6 @@ const LAST_MISSING: &[u8] =
 
 const COMMIT_MISSING: &[u8] =
     b"missing bafyreib55bymvenkcvnnrc2nukj7esprfjw5lmgykaodqtl7nerzdfoy3m dag-cbor\n";
-
-/// The header of a file with two roots.
-const TWO_ROOTS: &[u8] =
-    b"\x63\xa2\x65\x72\x6f\x6f\x74\x73\x82\xd8\x2a\x58\x25\x00\x01\x71\x12\x20\x3d\xe8\x70\xca\x91\xaa\x15\x5a\xd8\x8b\x4d\xa2\x93\xf2\x49\xf1\x2a\x6d\xd5\xb0\xd8\x50\x1c\x38\x4d\x7f\x69\x23\x91\x95\xd8\xdb\xd8\x2a\x58\x25\x00\x01\x71\x12\x20\x11\x2d\xa4\xef\xd1\xa0\x3e\x0e\xa6\xb1\xa6\x8c\x05\xe6\x77\xf3\xb6\xa3\x4b\x79\x43\x2f\xc7\x31\x3d\x0f\x68\x90\xf5\xe7\xa6\x18\x67\x76\x65\x72\x73\x69\x6f\x6e\x01";
-
-/// The header of a file with none.
-const NO_ROOT: &[u8] = b"\x11\xa2\x65\x72\x6f\x6f\x74\x73\x80\x67\x76\x65\x72\x73\x69\x6f\x6e\x01";
 
 /// A file of a commit of version 2.
 const SECOND: &[u8] =
@@ -124,10 +105,6 @@ const NO_NODE_TOLD: &[u8] =
 const TRUNCATED: &[u8] = b"refused Truncated\n";
 
 const NO_RECORD: &[u8] = b"no record has the key\n";
-
-pub const USAGE_LINE: &[u8] =
-    b"usage: dagcar check [--summary]|verify|list|name|one|show|make|get CID|tree CID\
-    |at [--raw] CID/PATH|prove CID/PATH|records|record KEY|changes OLD NEW\n";
 
 /// The last key.
 const LAST_KEY: &str = "com.example.note/a b\n%\x7fé";
@@ -193,99 +170,8 @@ fn records_are_listed_and_shown(rt: HostRuntime) -> Result<(), Fail> {
     fills(alloc, &["record", "com.example.note/4"], &file, 5, shown)
 }
 
-/// What is on the way to the key 4 decides what is said of it.
-#[test]
-fn a_record_is_shown_of_the_nodes_on_its_way(rt: HostRuntime) -> Result<(), Fail> {
-    let alloc = rt.alloc();
-    let way = &[NODES[1], NODES[3], NODES[4]];
-    let file = file_of(alloc, HEADER, way, &[RECORDS[3]])?;
-    let shown = b"{\"text\":\"four\"}\n";
-    gives(
-        alloc,
-        &file,
-        &["record", "com.example.note/4"],
-        0,
-        shown,
-        b"",
-    )?;
-    gives(
-        alloc,
-        &file,
-        &["record", "com.example.note/44"],
-        1,
-        b"",
-        NO_RECORD,
-    )?;
-    agree(run_records(alloc, &file)?, 1)
-}
-
-/// The status of `records`.
-fn run_records(alloc: Global, file: &[u8]) -> Result<u8, Fail> {
-    let (mut output, mut errors) = (Vec::new(alloc), Vec::new(alloc));
-    let mut input = file;
-    let ended = run_words(alloc, &["records"], &mut input, &mut output, &mut errors)?;
-    agree(output.is_empty(), true)?;
-    Ok(ended)
-}
-
-/// Fails where the file has all but the node of the key 4, and gives anything else than this line.
-fn lacks_four(alloc: Global, file: &[u8], line: &[u8]) -> Result<(), Fail> {
-    gives(alloc, file, &["records"], 1, b"", line)?;
-    gives(alloc, file, &["record", "com.example.note/4"], 1, b"", line)?;
-    let shown = b"{\"text\":\"one\"}\n";
-    gives(
-        alloc,
-        file,
-        &["record", "com.example.note/0"],
-        0,
-        shown,
-        b"",
-    )
-}
-
-#[test]
-fn a_node_that_is_missing_is_told(rt: HostRuntime) -> Result<(), Fail> {
-    let alloc = rt.alloc();
-    let nodes = &[NODES[0], NODES[2], NODES[3], NODES[4]];
-    let file = file_of(alloc, HEADER, nodes, RECORDS)?;
-    lacks_four(alloc, &file, FOUR_MISSING)?;
-    let others = &[NODES[0], OTHER_NODE, NODES[2], NODES[3], NODES[4]];
-    let file = file_of(alloc, HEADER, others, RECORDS)?;
-    lacks_four(alloc, &file, FOUR_OTHER)
-}
-
-/// Of two sections of one name the one is read whose bytes the name says, wherever it stands.
-#[test]
-fn other_bytes_beside_a_node_change_nothing(rt: HostRuntime) -> Result<(), Fail> {
-    let alloc = rt.alloc();
-    let nodes = joined(alloc, NODES)?;
-    let file = file_of(alloc, HEADER, &[OTHER_NODE, nodes.as_slice()], RECORDS)?;
-    gives(alloc, &file, &["records"], 0, LINES, b"")?;
-    let file = file_of(alloc, HEADER, &[nodes.as_slice(), OTHER_NODE], RECORDS)?;
-    gives(alloc, &file, &["records"], 0, LINES, b"")
-}
-
-/// A record's own bytes decide nothing but what is shown of it.
-#[test]
-fn a_record_of_other_bytes_is_told(rt: HostRuntime) -> Result<(), Fail> {
-    let alloc = rt.alloc();
-    let records = joined(alloc, RECORDS)?;
-    let mut file = file_of(alloc, HEADER, NODES, &[records.as_slice()])?;
-    file.pop();
-    file.push(b'x')?;
-    gives(alloc, &file, &["records"], 0, LINES, b"")?;
-    gives(
-        alloc,
-        &file,
-        &["record", "com.example.note/5"],
-        1,
-        b"",
-        b"bafyreifeem2chwoc4h2nzvi27wzhj37h6udiqyncu33wfkzgojfrijndvq other bytes\n",
-    )
-}
-
 /// A file, and what `records` tells of it, which writes nothing.
-pub const DAMAGED: &[(&[u8], &[u8])] = &[
+const DAMAGED: &[(&[u8], &[u8])] = &[
     (HEADER, COMMIT_MISSING),
     (SECOND, SECOND_TOLD),
     (MORE_FIELDS, MORE_TOLD),
@@ -309,38 +195,4 @@ fn what_is_no_repository_is_told(rt: HostRuntime) -> Result<(), Fail> {
         gives(alloc, file, &["record", "com.example.note/4"], 1, b"", line)?;
     }
     Ok(())
-}
-
-#[test]
-fn a_file_of_one_root_has_a_commit(rt: HostRuntime) -> Result<(), Fail> {
-    let alloc = rt.alloc();
-    let two = file_of(alloc, TWO_ROOTS, NODES, RECORDS)?;
-    let line = b"the file has no commit: it has 2 roots\n";
-    gives(alloc, &two, &["records"], 1, b"", line)?;
-    gives(alloc, &two, &["record", "com.example.note/4"], 1, b"", line)?;
-    let none = file_of(alloc, NO_ROOT, NODES, RECORDS)?;
-    let line = b"the file has no commit: it has 0 roots\n";
-    gives(alloc, &none, &["records"], 1, b"", line)?;
-    gives(
-        alloc,
-        &none,
-        &["record", "com.example.note/4"],
-        1,
-        b"",
-        line,
-    )
-}
-
-#[test]
-fn other_words_are_refused(rt: HostRuntime) -> Result<(), Fail> {
-    let alloc = rt.alloc();
-    gives(alloc, HEADER, &["record"], 2, b"", USAGE_LINE)?;
-    gives(
-        alloc,
-        HEADER,
-        &["records", "com.example.note/4"],
-        2,
-        b"",
-        USAGE_LINE,
-    )
 }

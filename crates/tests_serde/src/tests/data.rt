@@ -1,57 +1,32 @@
 //! Any data in fields, and the data of another format.
 
 use super::{CID, goes_both_ways, is_refused, link, text};
-use crate::types::{Envelope, Inner, Shared};
-use dagcbor_serde::{Any, Link, from_slice_owned, to_vec};
-use dagcbor_testing::{agree, is_told};
+use crate::types::Envelope;
+use dagcbor_serde::{Any, from_slice_owned, to_vec};
+use dagcbor_testing::agree;
 use ipld_tree::{Cid, Ipld};
-use serde_json::Value;
 use std::collections::BTreeMap;
 use std::test::Fail;
 
 const ENVELOPE: &[u8] =
-    b"\xa8\x63\x63\x69\x64\xd8\x2a\x45\x00\x01\x55\x00\x00\x63\x72\x61\x77\x42\x09\x08\x64\x61\x6c\x73\x6f\xf6\x64\x62\x6f\x64\x79\xa3\x61\x61\xa1\x61\x2f\x41\x01\x62\x7a\x7a\x87\x01\x20\xf6\xf5\x41\xff\x61\x74\xa0\x64\x6c\x69\x6e\x6b\xd8\x2a\x45\x00\x01\x55\x00\x00\x64\x64\x61\x74\x61\x82\xd8\x2a\x45\x00\x01\x55\x00\x00\x41\x78\x64\x6d\x6f\x72\x65\x83\x80\xd8\x2a\x45\x00\x01\x55\x00\x00\xa1\x61\x6b\x81\xd8\x2a\x45\x00\x01\x55\x00\x00\x64\x6e\x65\x78\x74\xd8\x2a\x45\x00\x01\x55\x00\x00\x64\x70\x69\x6e\x73\xa2\x61\x62\xd8\x2a\x45\x00\x01\x55\x00\x00\x62\x61\x61\xd8\x2a\x45\x00\x01\x55\x00\x00";
+    b"\xa4\x63\x63\x69\x64\xd8\x2a\x45\x00\x01\x55\x00\x00\x63\x72\x61\x77\x42\x09\x08\x64\x62\x6f\x64\x79\xa3\x61\x61\xa1\x61\x2f\x41\x01\x62\x7a\x7a\x87\x01\x20\xf6\xf5\x41\xff\x61\x74\xa0\x64\x6c\x69\x6e\x6b\xd8\x2a\x45\x00\x01\x55\x00\x00\x64\x64\x61\x74\x61\x82\xd8\x2a\x45\x00\x01\x55\x00\x00\x41\x78";
 
-const PLAIN: &[u8] =
-    b"\xa8\x63\x63\x69\x64\xd8\x2a\x45\x00\x01\x55\x00\x00\x63\x72\x61\x77\x40\x64\x61\x6c\x73\x6f\xa1\x61\x78\x01\x64\x62\x6f\x64\x79\x07\x64\x64\x61\x74\x61\x61\x74\x64\x6d\x6f\x72\x65\x80\x64\x6e\x65\x78\x74\xf6\x64\x70\x69\x6e\x73\xa0";
-
-const SHARED: &[u8] =
-    b"\xa4\x61\x62\x03\x64\x62\x6f\x64\x79\xa2\x61\x2f\x01\x61\x63\x80\x64\x74\x61\x69\x6c\xa1\x61\x78\xd8\x2a\x45\x00\x01\x55\x00\x00\x66\x6d\x69\x64\x64\x6c\x65\x02";
-
-const VALUE: &[u8] = b"\xa2\x61\x62\x86\x01\x21\xf6\xf5\x61\x74\xa0\x62\x61\x61\xa1\x60\x80";
+/// The map from "b" and "aa" to a link each.
+const PINS: &[u8] =
+    b"\xa2\x61\x62\xd8\x2a\x45\x00\x01\x55\x00\x00\x62\x61\x61\xd8\x2a\x45\x00\x01\x55\x00\x00";
 
 #[test]
 fn any_data_goes_both_ways(rt: HostRuntime) -> Result<(), Fail> {
     let alloc = rt.alloc();
-    let mut also = BTreeMap::new(alloc);
-    also.insert(text(alloc, "x")?, Ipld::Integer(1))?;
-    let plain = Envelope {
-        body: Any(Ipld::Integer(7)),
-        next: None,
-        pins: BTreeMap::new(alloc),
-        also: Some(Any(Ipld::Map(also))),
-        more: Vec::new(alloc),
-        cid: Cid::try_from(CID)?,
-        data: Ipld::String(text(alloc, "t")?),
-        raw: Vec::new(alloc),
-    };
-    goes_both_ways(alloc, &plain, PLAIN)?;
     let read: Envelope = from_slice_owned(alloc, ENVELOPE)?;
-    goes_both_ways(alloc, &read, ENVELOPE)
-}
-
-#[test]
-fn any_data_shares_no_map(rt: HostRuntime) -> Result<(), Fail> {
-    let alloc = rt.alloc();
-    let read: Shared = from_slice_owned(alloc, SHARED)?;
-    goes_both_ways(alloc, &read, SHARED)?;
-    let Inner { middle, b } = read.inner;
-    agree((middle, b), (2, Some(3)))?;
-    is_told(
-        alloc,
-        &read.body,
-        r#"Any(Map({"/": Integer(1), "c": List([])}))"#,
-    )
+    agree(read.raw.as_slice(), b"\x09\x08".as_slice())?;
+    agree(read.cid, Cid::try_from(CID)?)?;
+    goes_both_ways(alloc, &read, ENVELOPE)?;
+    goes_both_ways(alloc, &Some(Any(Ipld::Integer(7))), b"\x07")?;
+    let mut pins = BTreeMap::new(alloc);
+    pins.insert(text(alloc, "aa")?, link()?)?;
+    pins.insert(text(alloc, "b")?, link()?)?;
+    goes_both_ways(alloc, &pins, PINS)
 }
 
 /// The deepest block is read, and as many lists of JSON: one more is no block, or invalid.
@@ -88,34 +63,4 @@ fn any_data_goes_through_json(rt: HostRuntime) -> Result<(), Fail> {
     }
     let float = serde_json::from_str::<Any>(alloc, "1.5");
     agree(float.is_err(), true)
-}
-
-/// A `Value` has no links and no bytes.
-#[test]
-fn values_of_json_go_both_ways(rt: HostRuntime) -> Result<(), Fail> {
-    let alloc = rt.alloc();
-    let value: Value = serde_json::from_str(
-        alloc,
-        r#"{"b":[1,-2,null,true,"t",{}],"aa":{"":[]}}"#,
-    )?;
-    goes_both_ways(alloc, &value, VALUE)?;
-    let rows: &[(&[u8], &str)] = &[
-        (b"\x41\x01", "Misfit { cause: Invalid, at: 0 }"),
-        (
-            b"\xd8\x2a\x45\x00\x01\x55\x00\x00",
-            "Misfit { cause: Mismatch(216), at: 0 }",
-        ),
-    ];
-    for (bytes, told) in rows {
-        is_refused::<Value>(alloc, bytes, told)?;
-    }
-    Ok(())
-}
-
-/// The two ways to hold a CID say the same.
-#[test]
-fn links_are_cids(_rt: HostRuntime) -> Result<(), Fail> {
-    let cid = Cid::try_from(CID)?;
-    agree(Link::from(cid), link()?)?;
-    agree(Cid::from(link()?), cid)
 }

@@ -1,8 +1,7 @@
 //! One type for each form that a derive knows, as docs/TYPES.md lists them.
 
-use dagcbor_serde::{ByteBuf, Link};
+use dagcbor_serde::{Any, Link};
 use serde::{Deserialize, Serialize};
-use std::collections::BTreeMap;
 
 #[derive(Drop, Serialize, Deserialize)]
 pub struct Unit;
@@ -53,18 +52,18 @@ pub enum Side {
 #[serde(tag = "t", content = "c")]
 pub enum Adjacent {
     Unit,
-    One(u8),
     Two(u8, u8),
     Named { a: u8 },
 }
 
-/// Told by a field among the data, with a newtype of a struct.
+/// Told by a field among the data, with a newtype of a struct, and with a link.
 #[derive(Drop, Serialize, Deserialize)]
 #[serde(tag = "type")]
 pub enum Tagged {
     Empty,
     Named { a: u8 },
     Whole(Plain),
+    Cid { cid: Link },
     #[serde(other)]
     Unknown,
 }
@@ -72,14 +71,6 @@ pub enum Tagged {
 #[derive(Drop, Serialize, Deserialize)]
 pub struct Plain {
     pub b: u8,
-}
-
-/// Fields of variants under other names.
-#[derive(Drop, Serialize, Deserialize)]
-#[serde(rename_all = "snake_case", rename_all_fields = "camelCase")]
-pub enum Cased {
-    TurnLeft { by_degrees: u16 },
-    GoOn,
 }
 
 /// Written and read through another type.
@@ -118,39 +109,12 @@ impl TryFrom<u8> for Even {
     }
 }
 
-/// Maps that share one map.
+/// Maps that share one map, beside any data.
 #[derive(Drop, Serialize, Deserialize)]
 pub struct Flat {
     #[serde(flatten)]
     pub tagged: Tagged,
-    pub z: u8,
+    pub z: Any,
     #[serde(flatten)]
     pub more: Plain,
-}
-
-/// A link among the fields of a variant, and bytes that are none.
-#[derive(Drop, Serialize, Deserialize)]
-#[serde(tag = "type")]
-pub enum Pinned {
-    Cid { cid: Link },
-}
-
-#[derive(Drop, Serialize, Deserialize)]
-#[serde(untagged)]
-pub enum BytesAlone {
-    Some(Octets),
-}
-
-#[derive(Drop, Serialize, Deserialize)]
-pub struct Octets(pub ByteBuf);
-
-/// What std has.
-#[derive(Drop, Serialize, Deserialize)]
-pub struct Holders {
-    pub pair: (u8, bool),
-    pub three: [u8; 3],
-    pub boxed: Box<u8>,
-    pub sides: BTreeMap<Side, u8>,
-    pub letters: BTreeMap<char, u8>,
-    pub maybe: Option<Option<u8>>,
 }

@@ -1,7 +1,7 @@
-//! A `Deserializer` after a refusal, and each call of its accessors.
+//! A `Deserializer` after a refusal, and the parts of a list and a map one by one.
 
-use dagcbor_testing::{agree, is_told};
-use serde_ipld_dagcbor::{DecodeError, Deserializer, EnumAccessor, SliceReader};
+use dagcbor_testing::is_told;
+use serde_ipld_dagcbor::{DecodeError, Deserializer, SliceReader};
 use std::alloc::Global;
 use std::borrow::CowStr;
 use std::convert::Infallible;
@@ -78,72 +78,4 @@ fn items_and_entries_one_by_one(rt: HostRuntime) -> Result<(), Fail> {
         &(entry, de.end()),
         "(Ok((true, true, 1)), Ok(()))",
     )
-}
-
-/// What is behind the name of a variant.
-enum Form {
-    Unit,
-    Tuple,
-    Struct,
-}
-
-/// Whether a variant's name is "A", and a part that is behind it.
-fn variant(
-    alloc: Global,
-    form: &Form,
-    de: &mut Deserializer<'_, SliceReader<'_>>,
-) -> Result<(bool, Option<u8>), DecodeError<Infallible>> {
-    let accessor_state = de.deserialize_enum("Enum", &["A", "B"])?;
-    let (name, variant) = accessor_state.variant(alloc, de)?;
-    let is_a = name.as_str() == "A";
-    match form {
-        Form::Unit => {
-            variant.unit_variant(de)?;
-            Ok((is_a, None))
-        }
-        Form::Tuple => {
-            let mut parts = variant.tuple_variant(1, de)?;
-            let part: Option<u8> = parts.next_element(alloc, de)?;
-            parts.end(de)?;
-            Ok((is_a, part))
-        }
-        Form::Struct => {
-            variant.struct_variant(&[], de)?.end(de)?;
-            Ok((is_a, None))
-        }
-    }
-}
-
-/// A form, a variant of it, and what it and the end behind it are told as.
-const FORMS: &[(Form, &[u8], &str)] = &[
-    (Form::Unit, b"\x61A", "(Ok((true, None)), Ok(()))"),
-    (
-        Form::Tuple,
-        b"\xa1\x61A\x81\x01",
-        "(Ok((true, Some(1))), Ok(()))",
-    ),
-    (Form::Struct, b"\xa1\x61A\xa0", "(Ok((true, None)), Ok(()))"),
-];
-
-#[test]
-fn variants(rt: HostRuntime) -> Result<(), Fail> {
-    for (form, bytes, told) in FORMS {
-        let mut de = Deserializer::from_slice(bytes);
-        let read = variant(rt.alloc(), form, &mut de);
-        is_told(rt.alloc(), &(read, de.end()), told)?;
-    }
-    Ok(())
-}
-
-#[test]
-fn a_variant_that_holds_a_part_and_what_is_none(rt: HostRuntime) -> Result<(), Fail> {
-    let alloc = rt.alloc();
-    let mut de = Deserializer::from_slice(b"\xa1\x61B\x01");
-    let (name, variant) = EnumAccessor::enum_(&mut de)?.variant(alloc, &mut de)?;
-    agree(name.as_str(), "B")?;
-    let part: u8 = variant.newtype_variant(alloc, &mut de)?;
-    is_told(alloc, &(part, de.end()), "(1, Ok(()))")?;
-    let mut de = Deserializer::from_slice(b"\x01");
-    let refused = r#"Some(Mismatch { name: "enum", found: 1 })"#;
-    is_told(alloc, &de.deserialize_enum("Enum", &[]).err(), refused)
 }

@@ -1,10 +1,8 @@
-//! CIDs and trees: their parts, copies, equality and laws.
+//! CIDs, their parts, and what is none; the steps that a tree needs.
 
-use arrayvec::ArrayVec;
 use dagcbor_testing::{agree, is_told};
-use ipld_tree::{ByteSlice, Bytes, Cid, CidError, Ipld, laws};
+use ipld_tree::{Cid, CidError, Ipld};
 use std::alloc::{AllocError, Global};
-use std::collections::BTreeMap;
 use std::test::Fail;
 
 /// The link's CID of the SHA-256 of "foo".
@@ -21,52 +19,10 @@ fn lists(alloc: Global, depth: usize) -> Result<Ipld, AllocError> {
     Ok(tree)
 }
 
-/// A leaf of each kind that holds something, and null.
-fn leaves(alloc: Global, cid: Cid) -> Result<Vec<Ipld>, AllocError> {
-    let text = Ipld::String("foobar".to_owned(alloc)?);
-    let bytes = Ipld::Bytes(b"foobar".to_vec(alloc)?);
-    Ok(vec![in alloc;
-        Ipld::Null,
-        Ipld::Bool(true),
-        Ipld::Integer(-300),
-        text,
-        bytes,
-        Ipld::Link(cid),
-    ]?)
-}
-
-fn every_kind(alloc: Global, cid: Cid) -> Result<Ipld, AllocError> {
-    let mut entries = BTreeMap::new(alloc);
-    drop(entries.insert("list".to_owned(alloc)?, Ipld::List(leaves(alloc, cid)?))?);
-    drop(entries.insert("no".to_owned(alloc)?, Ipld::Bool(false))?);
-    Ok(Ipld::Map(entries))
-}
-
 #[test]
 fn needs_of_lists(rt: HostRuntime) -> Result<(), Fail> {
     agree(lists(rt.alloc(), 128)?.depth_need(), 256)?;
     agree(Ipld::Null.depth_need(), 1)
-}
-
-/// Whether a copy of the tree is equal to it, whether it is not to another, and its need.
-fn copied(alloc: Global, tree: &Ipld, other: &Ipld) -> Result<(bool, bool, u64), AllocError> {
-    let copy = tree.try_clone(alloc)?;
-    Ok((copy == *tree, copy != *other, copy.depth_need()))
-}
-
-#[test]
-fn copies_are_equal(rt: HostRuntime) -> Result<(), Fail> {
-    let alloc = rt.alloc();
-    let tree = every_kind(alloc, Cid::new_v0([7; 32]))?;
-    let other = every_kind(alloc, Cid::new_v0([8; 32]))?;
-    agree(copied(alloc, &tree, &other)?, (true, true, 5))
-}
-
-#[test]
-fn a_text_is_no_byte_string(rt: HostRuntime) -> Result<(), Fail> {
-    let text = Ipld::String("a".to_owned(rt.alloc())?);
-    let bytes = Ipld::Bytes(b"a".to_vec(rt.alloc())?);
-    agree(text != bytes, true)
 }
 
 /// A CID of version 0.
@@ -103,23 +59,6 @@ fn digests_of_32_bytes_and_of_none(_rt: HostRuntime) -> Result<(), Fail> {
     agree(Cid::try_from(bytes)?, Cid::new_v1(0x55, 0, &[])?)
 }
 
-/// A codec of ten groups, of which this is the last, and no digest.
-fn tenth_is(last: u8) -> [u8; 13] {
-    [
-        1, 0xff, 0xff, 0xff, 0xff, 0xff, 0xff, 0xff, 0xff, 0xff, last, 0, 0,
-    ]
-}
-
-#[test]
-fn reads_varints_of_many_groups(rt: HostRuntime) -> Result<(), Fail> {
-    let greatest = Cid::try_from(tenth_is(0x01).as_slice())?;
-    agree(greatest, Cid::new_v1(u64::MAX, 0, &[])?)?;
-    for last in [0x00, 0x02, 0x81, 0xff] {
-        is_no_cid(rt.alloc(), &tenth_is(last), "Err(InvalidVarint)")?;
-    }
-    Ok(())
-}
-
 /// Fails where the bytes have other parts: the version, the codec and the hash function, and the
 /// digest; or where their CID is written otherwise.
 fn has_parts(
@@ -143,15 +82,6 @@ fn parts_of_a_cid(rt: HostRuntime) -> Result<(), Fail> {
 }
 
 #[test]
-fn a_cid_is_appended(_rt: HostRuntime) -> Result<(), Fail> {
-    let cid = Cid::try_from(FOO)?;
-    let mut out = ArrayVec::new();
-    out.push(0xff);
-    cid.write_bytes(&mut out);
-    agree(out.as_slice(), FOO)
-}
-
-#[test]
 fn digests_have_at_most_64_bytes(rt: HostRuntime) -> Result<(), Fail> {
     let alloc = rt.alloc();
     let refused = Cid::new_v1(0x55, 0x12, &[0; 65]);
@@ -161,36 +91,7 @@ fn digests_have_at_most_64_bytes(rt: HostRuntime) -> Result<(), Fail> {
 }
 
 #[test]
-fn cids_are_in_order(_rt: HostRuntime) -> Result<(), Fail> {
-    let (zeros, ones) = (Cid::new_v0([0; 32]), Cid::new_v0([1; 32]));
-    let raw = Cid::try_from(FOO)?;
-    agree(
-        (zeros < ones, ones < raw, zeros == zeros),
-        (true, true, true),
-    )
-}
-
-#[test]
-fn byte_strings_are_in_order(rt: HostRuntime) -> Result<(), Fail> {
-    let (abc, b) = (ByteSlice(b"abc"), ByteSlice(b"b"));
-    agree((abc < b, abc == ByteSlice(b"abc")), (true, true))?;
-    let abc = Bytes(b"abc".to_vec(rt.alloc())?);
-    let b = Bytes(b"b".to_vec(rt.alloc())?);
-    agree(abc < b, true)
-}
-
-#[test]
 fn errors_have_texts(rt: HostRuntime) -> Result<(), Fail> {
     let text = format!(in rt.alloc(); "{}", CidError::Truncated)?;
     agree(text.as_str(), "the CID is cut short")
-}
-
-#[test]
-fn laws_are_functions(_rt: HostRuntime) {
-    laws::spelling_unique();
-    laws::key_order();
-    laws::spelled_is_the_spelling();
-    laws::equality();
-    laws::cid_equality();
-    laws::cid_faults();
 }

@@ -77,22 +77,3 @@ fn leaves_both_ways(rt: HostRuntime) -> Result<(), Fail> {
     }
     Ok(())
 }
-
-/// So many bytes, and the head of such a byte string.
-const LONG: &[(usize, &[u8])] = &[
-    (24, b"\x58\x18"),
-    (256, b"\x59\x01\x00"),
-    (65_536, b"\x5a\x00\x01\x00\x00"),
-];
-
-#[test]
-fn long_byte_strings_both_ways(rt: HostRuntime) -> Result<(), Fail> {
-    let alloc = rt.alloc();
-    for (length, head) in LONG {
-        let bytes = vec![in alloc; 0xa5; *length]?;
-        let mut spelling = Vec::from_slice(alloc, head)?;
-        spelling.extend_from_slice(&bytes)?;
-        goes_both_ways(alloc, &Ipld::Bytes(bytes), &spelling)?;
-    }
-    Ok(())
-}

@@ -1,9 +1,7 @@
 //! Maps whose keys come in any order, or are not what they must be, written.
 
 use dagcbor_testing::{LINK, agree, is_told, joined};
-use serde_ipld_dagcbor::{
-    BufWriter, Cid, CollectMap, EncodeError, Serialize, Serializer, from_slice,
-};
+use serde_ipld_dagcbor::{BufWriter, Cid, EncodeError, Serializer, from_slice};
 use std::alloc::Global;
 use std::convert::Infallible;
 use std::test::Fail;
@@ -123,56 +121,4 @@ fn a_link_is_no_key(rt: HostRuntime) -> Result<(), Fail> {
     let map = under_link(alloc, from_slice(alloc, LINK)?);
     let told = r#"Err(Msg("Map keys must be strings"))"#;
     is_ended(alloc, Ok(map), told, b"")
-}
-
-/// Fails where the map answers an entry otherwise.
-fn answers_entry<V: Serialize>(
-    alloc: Global,
-    map: &mut CollectMap<'_, BufWriter>,
-    (key, value): (&str, &V),
-    told: &str,
-) -> Result<(), Fail> {
-    if map.has_key() {
-        return Err(Fail::new("a key waits"));
-    }
-    is_told(alloc, &map.serialize_entry(&key, value), told)
-}
-
-/// Fails where the map answers a key otherwise.
-fn answers_key<K: Serialize>(
-    alloc: Global,
-    map: &mut CollectMap<'_, BufWriter>,
-    key: &K,
-    told: &str,
-) -> Result<(), Fail> {
-    if map.has_key() {
-        return Err(Fail::new("a key waits"));
-    }
-    is_told(alloc, &map.serialize_key(key), told)
-}
-
-/// Gives the map two entries, and between them an entry and two keys that are refused.
-fn with_refusals(alloc: Global, map: &mut CollectMap<'_, BufWriter>) -> Result<(), Fail> {
-    let value = r#"Err(Msg("Struct value cannot be serialized."))"#;
-    let number = r#"Err(Msg("Map keys must be strings"))"#;
-    let large = r#"Err(Msg("Map key cannot be serialized."))"#;
-    answers_entry(alloc, map, ("b", &(1u8, 2u8)), "Ok(())")?;
-    answers_entry(alloc, map, ("c", &(3u8, LARGE)), value)?;
-    answers_key(alloc, map, &4u8, number)?;
-    answers_key(alloc, map, &LARGE, large)?;
-    answers_entry(alloc, map, ("a", &5u8), "Ok(())")
-}
-
-#[test]
-fn what_was_refused_leaves_no_trace(rt: HostRuntime) -> Result<(), Fail> {
-    let alloc = rt.alloc();
-    let mut ser = Serializer::new(BufWriter::new(Vec::new(alloc)));
-    let mut map = ser.serialize_map(alloc, None);
-    with_refusals(alloc, &mut map)?;
-    if !map.is_complete() {
-        return Err(Fail::new("an entry is missing"));
-    }
-    map.end()?;
-    let written = b"\xa2\x61a\x05\x61b\x82\x01\x02".as_slice();
-    agree(ser.into_inner().buffer(), written)
 }

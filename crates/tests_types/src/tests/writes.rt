@@ -249,33 +249,3 @@ fn values_without_a_spelling(rt: HostRuntime) -> Result<(), Fail> {
     let value = r#"Err(Msg("Struct value cannot be serialized."))"#;
     is_unwritten(alloc, &large_value(alloc)?, value)
 }
-
-/// The first integer without a spelling.
-const LARGE: Ipld = Ipld::Integer(18_446_744_073_709_551_616);
-
-/// The map from "a" to this.
-fn under_a(alloc: Global, value: Ipld) -> Result<Ipld, AllocError> {
-    let mut map = BTreeMap::new(alloc);
-    drop(map.insert(String::from_str(alloc, "a")?, value)?);
-    Ok(Ipld::Map(map))
-}
-
-/// The list of 1 and this.
-fn behind_one(alloc: Global, value: Ipld) -> Result<Ipld, AllocError> {
-    let mut list = Vec::new(alloc);
-    list.push(Ipld::Integer(1))?;
-    list.push(value)?;
-    Ok(Ipld::List(list))
-}
-
-#[test]
-fn data_without_a_spelling(rt: HostRuntime) -> Result<(), Fail> {
-    let alloc = rt.alloc();
-    let integer = r#"Err(Msg("Integer must be within [-u64::MAX-1, u64::MAX] range"))"#;
-    let value = r#"Err(Msg("Struct value cannot be serialized."))"#;
-    is_unwritten(alloc, &behind_one(alloc, LARGE)?, integer)?;
-    is_unwritten(alloc, &under_a(alloc, LARGE)?, value)?;
-    is_unwritten(alloc, &under_a(alloc, under_a(alloc, LARGE)?)?, value)?;
-    is_unwritten(alloc, &under_a(alloc, behind_one(alloc, LARGE)?)?, value)?;
-    is_unwritten(alloc, &behind_one(alloc, under_a(alloc, LARGE)?)?, value)
-}

@@ -42,6 +42,7 @@ SENTENCES = [
       "dagcbor_resolve/src/laws.rt fn paths_bind"]),
     ("The store keeps blocks under their names",
      [f"dagcbor_blocks/src/blocks.rt fn {name}" for name in ["put", "get", "missing"]]),
+    ("The store that lasts answers only bytes of the name", ["dagcbor_store/src/store.rt fn get_block"]),
     ("A file of blocks that is written is read back",
      ["dagcbor_car/src/laws.rt fn cars_are_written", "dagcbor_car/src/laws.rt fn cars_read_back"]),
     ("What one store writes as a file, an empty one reads as the same blocks",

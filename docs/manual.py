@@ -1,5 +1,5 @@
 #!/usr/bin/env python3
-"""Man pages, completions for bash, and what docs/PROGRAMS.md has of each program in short: made of what its `--help` writes.
+"""Man pages, and completions for bash: made of what `--help` of each program writes.
 
     docs/manual.py page      makes all of them anew
     docs/manual.py check     fails where one is another than `--help` says, where docs/PROGRAMS.md has not each of the words in its
@@ -82,14 +82,10 @@ complete -o filenames -F _{name} {name}
 
 def made():
     """Each file, and its text."""
-    page = PAGE.read_text(encoding="utf-8")
     for name in DOES:
         text = help_of(name)
         yield ROOT / "docs" / "man" / f"{name}.1", man(name, text)
         yield ROOT / "docs" / "completions" / f"{name}.bash", completion(name, text)
-        block = re.compile(rf"(<!-- made by docs/manual.py of {name} -->\n\n```text\n).*?(```\n)", re.S)
-        page = block.sub(lambda found: found[1] + text + found[2], page)
-    yield PAGE, page
 
 
 def wrong():

@@ -2,7 +2,8 @@
 """Draws docs/pictures/way.svg: the way of a byte through the crates, as docs/DESIGN.md shows it.
 
     docs/way.py          draws it anew
-    docs/way.py check    fails where the picture is another, or names a file that its crate has not"""
+    docs/way.py check    fails where the picture is another, or names a file that its crate has not, or docs/DESIGN.md one that
+                         nothing has"""
 
 import pathlib
 import re
@@ -10,6 +11,7 @@ import sys
 from xml.sax.saxutils import escape
 
 ROOT = pathlib.Path(__file__).resolve().parent.parent
+PAGE = ROOT / "docs" / "DESIGN.md"
 PICTURE = ROOT / "docs" / "pictures" / "way.svg"
 WIDTH, HEIGHT = 900, 742
 
@@ -112,8 +114,16 @@ def strangers():
                 yield f"{crate}: {name}"
 
 
+def lost_files():
+    """The sources that the page names and nobody has."""
+    there = {path.name for top in ("crates", "callers", "faults", "bench", "docs") for path in (ROOT / top).rglob("*.*")}
+    for name in re.findall(r"`[\w/]*?(\w+\.(?:rt|antt|c|h|py|rs|go))`", PAGE.read_text(encoding="utf-8")):
+        if name not in there:
+            yield f"docs/DESIGN.md: {name}"
+
+
 def main(words):
-    picture, lost = "\n".join(drawn()) + "\n", list(strangers())
+    picture, lost = "\n".join(drawn()) + "\n", [*strangers(), *lost_files()]
     if words != ["check"]:
         PICTURE.write_text(picture, encoding="utf-8")
     elif not PICTURE.exists() or PICTURE.read_text(encoding="utf-8") != picture:

@@ -20,13 +20,12 @@ ghost use Rattle.dagcbor_items.specs.ItemCauses.{CauseInEntries};
 ghost use Rattle.dagcbor_items.specs.Stops.{HoldsNoParts, StopsInKey, StopsInItem, StopsInItems};
 ghost use Rattle.dagcbor_items.specs.Stops.{StopsInEntries};
 
-use crate::key::comes_before;
 use crate::payloads::pull_lent_text;
 use crate::sink::NoLinks;
 use crate::stop::{Stop, behind_refused_item, behind_refused_key};
 use crate::walk::walk_any;
 use dagcbor_heads::{DecodeError, SliceReader, split_head};
-use ipld_tree::Cid;
+use ipld_tree::{Cid, comes_before};
 use simdutf8::is_utf8;
 use std::convert::Infallible;
 

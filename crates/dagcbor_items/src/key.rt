@@ -5,7 +5,6 @@ ghost use Rattle.std.specs.Prelude.{IfSome, MatchOption, MatchBool, ◌++◌, �
 ghost use Rattle.std.specs.Cow.{cow_str_bytes, IsBorrowedStr};
 ghost use Rattle.dagcbor_heads.specs.Inputs.{input_reading, OverInput};
 ghost use Rattle.dagcbor_heads.specs.Looking.{Looks, LooksAtTaken};
-ghost use Rattle.ipld_tree.specs.Key.{comes_before};
 ghost use Rattle.dagcbor_items.specs.Places.{Follows};
 ghost use Rattle.ipld_tree.specs.Spelling.{text_spelling};
 ghost use Rattle.dagcbor_items.specs.Entries.{ReadsKey, TakesKey, TakesKnownKey, IsNoKey, HasName};
@@ -17,26 +16,10 @@ ghost use Rattle.dagcbor_items.specs.AnsweredVariants.{OfKey};
 use crate::strings::{no_text, pull_str};
 use crate::utf8::as_text;
 use dagcbor_heads::{DecodeError, Input, Read, ReadResult};
+use ipld_tree::comes_before;
 use std::alloc::Global;
 use std::borrow::CowStr;
 use std::str::from_utf8_unchecked;
-
-/// Whether a key comes before another: the shorter first, and keys of one length by their bytes,
-/// which are looked at then alone.
-#[inline]
-pub(crate) fn comes_before(key: &[u8], other: &[u8]) -> bool
-    ensures { result ≡ comes_before key.now other.now }
-{
-    if key.len() != other.len() {
-        return key.len() < other.len();
-    }
-    if let (Some(first), Some(second)) = (key.first(), other.first()) {
-        if *first != *second {
-            return *first < *second;
-        }
-    }
-    key.cmp(other).is_lt()
-}
 
 /// Whether the key may stand behind the one before it.
 fn follows(previous: &Option<CowStr<'_>>, key: &str) -> bool

@@ -15,13 +15,14 @@ ghost use Rattle.dagcbor_items.specs.AnsweredVariants.{OfKey, OfHead, OfText};
 ghost use Rattle.dagcbor_items.specs.Untyped.{SkipsEnteredItem, StartsWithMajor, TakesItem};
 
 use crate::judge::behind_leaf;
-use crate::key::{comes_before, read_key};
+use crate::key::read_key;
 use crate::majors::peek_major;
 use crate::strings::{no_text, pull_peeked_slice, pull_peeked_str};
 use crate::utf8::as_text;
 use dagcbor_heads::{
     DecodeError, Input, Len, Name, Read, ReadResult, SliceReader, pull_head, split_head,
 };
+use ipld_tree::comes_before;
 use std::alloc::Global;
 use std::borrow::CowStr;
 use std::convert::Infallible;

@@ -1,7 +1,6 @@
 //! One segment of a path: the part of an item to which it leads.
 
 ghost use Rattle.std.specs.Prelude.{◌≡◌, ◌↔◌, ◌≤◌, ◌<◌, ◌^◌, length, IsTrue, List, ℕ, MatchOption, IfSome};
-ghost use Rattle.ipld_tree.specs.Key.{comes_before};
 ghost use Rattle.ipld_tree.specs.Tree.{text};
 ghost use Rattle.ipld_tree.specs.Spelling.{IsFront};
 ghost use Rattle.dagcbor_paths.specs.Parts.{EndsWith, FindsItem, FindsValue, FindsPart};
@@ -9,6 +8,7 @@ ghost use Rattle.dagcbor_paths.specs.Parts.{EndsWith, FindsItem, FindsValue, Fin
 use crate::segments::index_of;
 use crate::skip::{behind_item, behind_items};
 use dagcbor_heads::split_head;
+use ipld_tree::comes_before;
 
 /// The item of the index of so many that begin here.
 fn item_at(bytes: &[u8], count: u64, index: u64) -> Option<&[u8]>
@@ -32,16 +32,6 @@ fn split_key(bytes: &[u8]) -> Option<(&[u8], &[u8])>
         return None;
     }
     Some(behind.split_at(count as usize))
-}
-
-/// Whether a key comes before another in a map.
-fn comes_before(key: &[u8], other: &[u8]) -> bool
-    ensures { result ≡ comes_before key.now other.now }
-{
-    if key.len() != other.len() {
-        return key.len() < other.len();
-    }
-    key.cmp(other).is_lt()
 }
 
 /// The value of the key in so many entries that begin here, which are in the order of their keys.

@@ -1,12 +1,11 @@
 //! The places of a struct's fields, put in the order of their names.
 
 ghost use Rattle.std.specs.Prelude.{◌≡◌, [], Some, IsTrue};
-ghost use Rattle.ipld_tree.specs.Key.{comes_before, key_cmp};
 ghost use Rattle.dagcbor_write.specs.Rows.{names_rise, IsKeyOrder};
 
 use crate::row::FieldRow;
 use arrayvec::ArrayVec;
-use std::cmp::Ordering;
+use ipld_tree::{comes_before, key_cmp};
 
 /// The name of a field that stands in the map, and its place among those that do.
 #[derive(Clone, Copy, Default)]
@@ -17,23 +16,6 @@ pub struct Place {
 
 /// The places of a row that is put in key order. A row of more fields is written as maps are.
 pub type Places = ArrayVec<Place, 16>;
-
-/// The order of two keys: the shorter first, and keys of one length by their bytes.
-pub(crate) fn key_cmp(key: &[u8], other: &[u8]) -> Ordering
-    ensures { result ≡ key_cmp key.now other.now }
-{
-    match key.len().cmp(&other.len()) {
-        Ordering::Equal => key.cmp(other),
-        order => order,
-    }
-}
-
-/// Whether a key comes before another.
-pub(crate) fn comes_before(key: &[u8], other: &[u8]) -> bool
-    ensures { result ≡ comes_before key.now other.now }
-{
-    key_cmp(key, other).is_lt()
-}
 
 /// Whether each name stands behind the one before it, in key order, and the first is not empty.
 fn names_rise(places: &[Place]) -> bool

@@ -12,10 +12,11 @@ ghost use Rattle.dagcbor_write.specs.Lending.{map_state, WritesNothing};
 
 use crate::collect::collect_map::CollectMap;
 use crate::collect::gathered::BAD_VALUE;
-use crate::places::{Place, Places, comes_before};
+use crate::places::{Place, Places};
 use crate::serialize::Serialize;
 use crate::serializer::Serializer;
 use dagcbor_heads::{EncodeError, Write, WriteResult};
+use ipld_tree::comes_before;
 use std::alloc::Global;
 
 /// As many fields are counted at most.

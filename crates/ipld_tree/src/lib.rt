@@ -15,6 +15,7 @@ mod cid_error;
 mod cid_iter;
 mod codec;
 mod ipld;
+mod key;
 pub mod laws;
 mod links;
 
@@ -24,4 +25,5 @@ pub use cid_error::CidError;
 pub use cid_iter::CidIter;
 pub use codec::Codec;
 pub use ipld::Ipld;
+pub use key::{comes_before, key_cmp};
 pub use links::Links;

@@ -127,7 +127,7 @@ impl Gathered {
     {
         let start = self.bytes.len();
         append(alloc, &mut self.bytes, key, BAD_KEY)?;
-        if is_text(&self.bytes[start..]) {
+        if begins_text(&self.bytes[start..]) {
             self.key = Some(start);
             Ok(())
         } else {
@@ -233,7 +233,7 @@ pub fn put_in_order(bytes: &[u8], spans: &mut [Span]) -> bool
 }
 
 /// Whether a spelling is that of a text.
-pub(crate) fn is_text(bytes: &[u8]) -> bool
+pub(crate) fn begins_text(bytes: &[u8]) -> bool
     ensures { result ≡ begins_text bytes.now }
 {
     match bytes.first() {

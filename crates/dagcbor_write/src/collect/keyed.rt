@@ -16,7 +16,7 @@ ghost use Rattle.dagcbor_write.specs.Maps.{RefusesKey};
 ghost use Rattle.dagcbor_write.specs.Order.{KeysDiffer};
 
 use crate::collect::buffer::FIRST_ROOM;
-use crate::collect::gathered::{BAD_KEY, BAD_VALUE, NO_TEXT, is_text, range};
+use crate::collect::gathered::{BAD_KEY, BAD_VALUE, NO_TEXT, begins_text, range};
 use crate::serialize::Serialize;
 use crate::serializer::Serializer;
 use dagcbor_heads::{BufWriter, EncodeError, Write, WriteResult};
@@ -105,7 +105,7 @@ impl<'a, V> Keyed<'a, V> {
         spell_key(alloc, &mut self.keys, key)?;
         let bytes = self.keys.writer().buffer();
         let end = bytes.len();
-        if !is_text(&bytes[start..]) {
+        if !begins_text(&bytes[start..]) {
             return Err(EncodeError::custom(NO_TEXT));
         }
         match self.spans.push(KeySpan { start, end, value }) {

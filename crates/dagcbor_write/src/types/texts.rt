@@ -10,10 +10,10 @@ ghost use Rattle.dagcbor_write.specs.Rows.{Rises};
 ghost use Rattle.dagcbor_write.specs.Texts.{text_pairs, map_pairs};
 
 use crate::collect::keyed::write_value;
-use crate::places::{comes_before, key_cmp};
 use crate::serialize::Serialize;
 use crate::serializer::Serializer;
 use dagcbor_heads::{EncodeError, Write, WriteResult};
+use ipld_tree::{comes_before, key_cmp};
 use std::alloc::{AllocError, Global};
 use std::collections::BTreeMap;
 

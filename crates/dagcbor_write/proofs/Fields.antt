@@ -1,5 +1,5 @@
 -- The pairs of a map, handed over one after another.
-use Rattle.std.proofs.Common.{◌≡◌, ◌⊎◌, inl, inr, ℕ, zero, suc, List, [], ◌∷◌, ◌++◌, length, map, Option, None, Some, Bool, true, false, cond, Result, Ok, Err, refl, sym, ap, ◌∙◌, subst, append_assoc, append-nil, Any, IfSome, is_some, MatchResult, option_map, option_and_then, ◌<◌, ◌^◌, take, drop, get_or, arith, drop-cons, take-append-drop, IsErrAnd}
+use Rattle.std.proofs.Common.{◌≡◌, ◌⊎◌, inl, inr, ℕ, zero, suc, List, [], ◌∷◌, ◌++◌, length, map, Option, None, Some, Bool, true, false, cond, Result, Ok, Err, refl, sym, ap, ◌∙◌, subst, append_assoc, append-nil, Any, IfSome, is_some, MatchResult, option_map, option_and_then, ◌<◌, ◌^◌, take, drop, get_or, arith, drop-cons, take-append-drop, IsErrAnd, OnErr}
 use Rattle.std.specs.Fmt.{◌++?◌}
 use Rattle.std.specs.Map.Iter.{TakesFirst}
 use Rattle.dagcbor_heads.proofs.Writing.{append_None, append_Some, appends_nothing, wrote_nothing, Written-but, begin_writing, next_part, last_part}
@@ -243,20 +243,11 @@ joins_first p ps old middle new j h =
     let e = joined_spelling p _ _ old middle refl refl j.0.0 j.1 j.0.1 in
     (e.0 ∷ h.0, (e.1, h.1), h.2 ∙ ap (λ xs. xs ++ h.0) e.2 ∙ append_assoc old (e.0 ∷ []) h.0)
 
--- a pair was taken, and then the others were taken, or one of them refused
-pub pair_and_others : {T E : Type 0} (p : Pair) (ps : List Pair) (old middle new : List Texts) (r : Result T (EncodeError E)) → JoinsEntry p.0 p.1 old middle
-    → MatchResult r (λ _. JoinsPairs ps middle new) (StopsAtPair ps middle new) → MatchResult r (λ _. JoinsPairs (p ∷ ps) old new) (StopsAtPair (p ∷ ps) old new)
-pair_and_others p ps old middle new (Ok x) j h = joins_first p ps old middle new j h
-pair_and_others p ps old middle new (Err e) j h =
-    record { taken = p ∷ h.taken; refused = h.refused; left = h.left; split = ap (λ qs. p ∷ qs) h.split; joined = joins_first p h.taken old middle new j h.joined; cause = h.cause }
-
--- the exit of a `?` at the first pair, which was refused
-pub first_refused : {T E : Type 0} (p : Pair) (ps : List Pair) (old new : List Texts) (r : Result T (EncodeError E)) (e : EncodeError E) → Refused (RefusesValue p.1) e → new ≡ old → IsErrAnd r (λ d. d ≡ e)
-    → MatchResult r (λ _. JoinsPairs (p ∷ ps) old new) (StopsAtPair (p ∷ ps) old new)
-first_refused p ps old new (Ok x) e h same is = absurd is
-first_refused {T} {E} p ps old new (Err d) e h same is =
-    let P : EncodeError E → Type 0 = λ y. StopsAtPair (p ∷ ps) old new y in
-    subst P (sym is) record { taken = []; refused = p; left = ps; split = refl; joined = ([], tt, same ∙ sym (append-nil old)); cause = h }
+-- the one pair was taken, or refused
+pub one_given : {T E : Type 0} (p : Pair) (old new : List Texts) (r : Result T (EncodeError E)) → Collects (λ u. JoinsEntry p.0 p.1 old new) (RefusesValue p.1) r
+    → OnErr r (new ≡ old) → MatchResult r (λ _. JoinsPairs (p ∷ []) old new) (StopsAtPair (p ∷ []) old new)
+one_given p old new (Ok x) j same = joins_first p [] old new new j ([], tt, sym (append-nil new))
+one_given p old new (Err e) j same = record { taken = []; refused = p; left = []; split = refl; joined = ([], tt, same ∙ sym (append-nil old)); cause = j }
 
 -- why a row was refused, whichever pair it was
 pub row_cause : {E : Type 0} (ps : List Pair) (old new : List Texts) (e : EncodeError E) → StopsAtPair ps old new e → Refused (RefusesAnyValue ps) e

@@ -16,4 +16,5 @@ pub mod Walks
 pub mod KeyOrder
 pub mod MapMessages
 pub mod PlaceOrder
+pub mod Joining
 pub mod Texts

@@ -1,13 +1,14 @@
 -- A row of pairs: what it is spelled as, whether its keys rise, and in which order it is written.
 use Rattle.std.specs.Prelude.{◌≡◌, ℕ, suc, ◌<◌, Bool, true, ◌&&◌, List, [], ◌∷◌, ◌++◌, length, map, slice_index_or, IsPermutation, Option, None, Some, option_and_then, option_map, IfSome, IsSomeAnd, ⊤, All}
+use Rattle.std.proofs.Common.{refl, sym, ap, ◌∙◌, append_assoc}
 use Rattle.std.specs.Borrow.{Bor}
 use Rattle.std.specs.Fmt.{◌++?◌}
 use Rattle.std.specs.declared.cmp.Ordering.TheVariants.{Less}
 use Rattle.ipld_tree.specs.Key.{key_cmp, comes_before}
-use Rattle.ipld_tree.specs.Tree.{IsTree, text, key_of}
+use Rattle.ipld_tree.specs.Tree.{Tree, IsTree, text, key_of}
 use Rattle.ipld_tree.specs.Spelled.{spelled_tree}
 use Rattle.dagcbor_write.specs.declared.places.Place.{Place}
-use Rattle.dagcbor_write.specs.Trees.{Pair}
+use Rattle.dagcbor_write.specs.Trees.{Pair, optional}
 use Rattle.dagcbor_write.specs.Maps.{spelled_key}
 
 -- the spellings of the keys and values, one after another
@@ -26,10 +27,34 @@ KeysRise last [] = ⊤
 KeysRise last (p ∷ ps) = IsSomeAnd (option_and_then key_of p.0)
     (λ k. (key_cmp last k ≡ Less) × KeysRise k ps)
 
+-- so too, and this is the last key, or the one before the first where there is none
+abbrev pub KeysRiseTo : List ℕ → List Pair → List ℕ → Type 0
+KeysRiseTo last [] end = last ≡ end
+KeysRiseTo last (p ∷ ps) end = IsSomeAnd (option_and_then key_of p.0)
+    (λ k. (key_cmp last k ≡ Less) × KeysRiseTo k ps end)
+
 -- each key stands behind the one before it, in key order
 abbrev pub Rises : List Pair → Type 0
 Rises [] = ⊤
 Rises (p ∷ ps) = IsSomeAnd (option_and_then key_of p.0) (λ k. KeysRise k ps)
+
+-- ---- rows behind rows
+
+-- a field that may be left out, before others
+pub optional_joins : {A : Type 0} (name : List ℕ) (tree : A → Option Tree) (o : Option A)
+    (others : List Pair) → optional name tree o others ≡ optional name tree o [] ++ others
+optional_joins name tree None others = refl
+optional_joins name tree (Some x) others = refl
+
+-- a row and a second one before others
+pub rows_join : (ps : List Pair) (before : List Pair → List Pair)
+    → ((others : List Pair) → before others ≡ ps ++ others)
+    → (qs : List Pair) (second : List Pair → List Pair)
+    → ((others : List Pair) → second others ≡ qs ++ others)
+    → (others : List Pair) → before (second others) ≡ before qs ++ others
+rows_join ps before first qs second both others =
+    ap before (both others) ∙ first (qs ++ others)
+    ∙ sym (append_assoc ps qs others) ∙ ap (λ row. row ++ others) (sym (first qs))
 
 -- ---- places
 

@@ -34,9 +34,9 @@ fn names_rise(places: &[Place]) -> bool
 
 /// Lists the places of the fields in key order. False where they are many, or a name is there
 /// twice.
-pub(crate) fn list_in_order<F: FieldRow>(fields: F, places: &mut Places) -> bool
+pub(crate) fn list_in_order<F: FieldRow>(fields: &F, places: &mut Places) -> bool
     requires { places.old.items ≡ [] }
-    ensures { IsTrue result → IsKeyOrder (F.pairs fields) (Some places.new.items) }
+    ensures { IsTrue result → IsKeyOrder (F.pairs fields.now) (Some places.new.items) }
 {
     if !fields.list_places(places) {
         return false;

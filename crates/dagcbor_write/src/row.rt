@@ -1,11 +1,11 @@
 //! The fields of a struct that is written, one after another.
 
-ghost use Rattle.std.specs.Prelude.{◌≡◌, ◌+◌, ◌<◌, List, [], ◌∷◌, length, None, OnOk, IfErr};
-ghost use Rattle.std.specs.Prelude.{IfSome, MatchResult, IsTrue, IsOk, ◌≤◌};
+ghost use Rattle.std.specs.Prelude.{◌≡◌, ◌+◌, ◌<◌, ◌≤◌, List, [], ◌∷◌, ◌++◌, length, None, OnOk, IfErr};
+ghost use Rattle.std.specs.Prelude.{IfSome, MatchOption, MatchResult, IsTrue, IsOk, refl};
 ghost use Rattle.dagcbor_write.specs.Answers.{OnMessage, IsMsg};
 ghost use Rattle.dagcbor_heads.specs.Written.{Writes};
-ghost use Rattle.dagcbor_write.specs.Rows.{spelled_pairs, ArePairs, KeysRise, pair_at};
-ghost use Rattle.dagcbor_write.specs.Rows.{spelled_pair, IsPair, ListsPlaces};
+ghost use Rattle.dagcbor_write.specs.Rows.{spelled_pairs, ArePairs, KeysRiseTo, pair_at};
+ghost use Rattle.dagcbor_write.specs.Rows.{spelled_pair, IsPair, ListsPlaces, optional_joins, rows_join};
 ghost use Rattle.dagcbor_write.specs.Trees.{Pair, field, optional};
 ghost use Rattle.dagcbor_write.specs.Maps.{JoinsPairs, StopsAtPair, LacksValue};
 ghost use Rattle.dagcbor_write.specs.Lending.{map_state, WritesNothing};
@@ -23,53 +23,64 @@ use std::alloc::Global;
 const MOST_FIELDS: usize = 65_535;
 
 /// A field of a struct: its name and its value.
-#[derive_where(Clone, Copy)]
+#[derive(Drop)]
 pub struct Field<'a, T>(pub &'static str, pub &'a T);
 
 /// A field that is left out of the map where its value is `None`; where it is `Some`, its part
 /// stands there.
-#[derive_where(Clone, Copy)]
+#[derive(Drop)]
 pub struct Optional<'a, T>(pub &'static str, pub &'a Option<T>);
 
-/// The fields of a struct, one after another: `(Field("x", &self.x), (Optional("y", &self.y),
-/// ()))`.
-pub trait FieldRow: Copy {
+/// The fields of a struct, one after another: a field, no field, or a row and another behind it, as
+/// `(Field("x", &self.x), (Optional("y", &self.y), ()))`. A row of many fields is made of halves,
+/// and those of halves, since the check of a row is long where pairs are deep in one another.
+pub trait FieldRow: Drop {
     /// The names and the trees of the fields that stand in the map.
     ghost pairs: { Self → List Pair };
 
+    /// The names and the trees before others.
+    ghost before: { Self → List Pair → List Pair };
+
+    ghost joins: { (row : Self) (others : List Pair) → before row others ≡ pairs row ++ others };
+
     /// Hands the fields over, one after another. Refused with `Msg("Struct value cannot be
     /// serialized.")` where one has no spelling; those before it stay then.
-    fn push_fields<W: Write>(self, map: &mut CollectMap<'_, W>) -> WriteResult<(), W>
+    fn push_fields<W: Write>(&self, map: &mut CollectMap<'_, W>) -> WriteResult<(), W>
         requires { (map_state map.old).key ≡ None }
         ensures nothing_written { WritesNothing map.old map.new }
         ensures key { (map_state map.new).key ≡ None }
         ensures entries { MatchResult result
-            (λ _. JoinsPairs (pairs self) (map_state map.old).entries (map_state map.new).entries)
-            (StopsAtPair (pairs self) (map_state map.old).entries (map_state map.new).entries) };
+            (λ _. JoinsPairs (pairs self.now) (map_state map.old).entries (map_state map.new).entries)
+            (StopsAtPair (pairs self.now) (map_state map.old).entries (map_state map.new).entries) };
 
-    /// How many fields there are, and `before` more, where each name stands behind the one before
-    /// it, in key order, and the first behind `last`. None where one does not, or where they are
+    /// The last name and how many there are up to it, where each name stands behind the one before
+    /// it, in key order, and the first behind this one. None where one does not, or where they are
     /// very many.
-    fn count_rising(self, last: &str, before: usize) -> Option<usize>
-        ensures { IfSome result
-            (λ n. (n ≡ before + length (pairs self)) × KeysRise last.now (pairs self)) };
+    fn count_rising(&self, last: Place) -> Option<Place>
+        ensures { IfSome result (λ end. (end.at ≡ last.at + length (pairs self.now))
+            × KeysRiseTo last.name.now (pairs self.now) end.name.now) };
 
     /// Writes the names and the values, one after another.
-    fn write_fields<W: Write>(self, alloc: Global, ser: &mut Serializer<W>) -> WriteResult<(), W>
-        ensures written { Writes (spelled_pairs (pairs self))
+    fn write_fields<W: Write>(&self, alloc: Global, ser: &mut Serializer<W>) -> WriteResult<(), W>
+        ensures written { Writes (spelled_pairs (pairs self.now))
             (W.written ser.old) (W.written ser.new) result }
-        ensures well_formed { OnOk result (ArePairs (pairs self)) }
-        ensures message { IfErr result (OnMessage (λ _. LacksValue (pairs self))) }
-        ensures empty { pairs self ≡ [] → IsOk result };
+        ensures well_formed { OnOk result (ArePairs (pairs self.now)) }
+        ensures message { IfErr result (OnMessage (λ _. LacksValue (pairs self.now))) }
+        ensures empty { pairs self.now ≡ [] → IsOk result };
 
     /// Lists the names behind others, each with its place. False where there is no room for all.
-    fn list_places(self, places: &mut Places) -> bool
+    fn list_places(&self, places: &mut Places) -> bool
         ensures { IsTrue result
-            → ListsPlaces (pairs self) places.old.items places.new.items };
+            → ListsPlaces (pairs self.now) places.old.items places.new.items };
+
+    /// The place that this one is behind the fields. None where it is one of theirs.
+    fn behind(&self, place: usize) -> Option<usize>
+        ensures { MatchOption result (place < length (pairs self.now))
+            (λ more. place ≡ more + length (pairs self.now)) };
 
     /// Writes the name and the value of the field in this place, and refuses where there is none. It
-    /// is counted off, so n fields take n² / 2 tests, where n is at most 16; in line, the place is
-    /// looked up at once.
+    /// is counted off, so n fields take n² / 2 tests at most, where n is at most 16; in line, the
+    /// place is looked up at once.
     fn write_field<W: Write>(
         &self,
         place: usize,
@@ -86,26 +97,35 @@ pub trait FieldRow: Copy {
 }
 
 impl FieldRow for () {
-    ghost pairs = { λ u. [] };
+    ghost pairs = { λ row. [] };
 
-    fn push_fields<W: Write>(self, _map: &mut CollectMap<'_, W>) -> WriteResult<(), W> {
+    ghost before = { λ row others. others };
+
+    ghost joins = { λ row others. refl };
+
+    fn push_fields<W: Write>(&self, _map: &mut CollectMap<'_, W>) -> WriteResult<(), W> {
         Ok(())
     }
 
-    fn count_rising(self, _last: &str, before: usize) -> Option<usize> {
-        Some(before)
+    fn count_rising(&self, last: Place) -> Option<Place> {
+        Some(last)
     }
 
     fn write_fields<W: Write>(
-        self,
+        &self,
         _alloc: Global,
         _ser: &mut Serializer<W>,
     ) -> WriteResult<(), W> {
         Ok(())
     }
 
-    fn list_places(self, _places: &mut Places) -> bool {
+    fn list_places(&self, _places: &mut Places) -> bool {
         true
+    }
+
+    #[inline(always)]
+    fn behind(&self, place: usize) -> Option<usize> {
+        Some(place)
     }
 
     #[inline(always)]
@@ -119,38 +139,43 @@ impl FieldRow for () {
     }
 }
 
-impl<T: Serialize, L: FieldRow> FieldRow for (Field<'_, T>, L) {
-    ghost pairs = { λ row. field row.0.0.now (T.tree row.0.1.now) ∷ L.pairs row.1 };
+impl<T: Serialize> FieldRow for Field<'_, T> {
+    ghost pairs = { λ row. field row.0.now (T.tree row.1.now) ∷ [] };
 
-    fn push_fields<W: Write>(self, map: &mut CollectMap<'_, W>) -> WriteResult<(), W> {
-        let (Field(name, value), others) = self;
-        map.serialize_field(name, value)?;
-        others.push_fields(map)
+    ghost before = { λ row others. field row.0.now (T.tree row.1.now) ∷ others };
+
+    ghost joins = { λ row others. refl };
+
+    fn push_fields<W: Write>(&self, map: &mut CollectMap<'_, W>) -> WriteResult<(), W> {
+        let Field(name, value) = self;
+        map.serialize_field(name, *value)
     }
 
-    fn count_rising(self, last: &str, before: usize) -> Option<usize> {
-        let (Field(name, _), others) = self;
-        if before < MOST_FIELDS && comes_before(last.as_bytes(), name.as_bytes()) {
-            others.count_rising(name, before + 1)
+    fn count_rising(&self, last: Place) -> Option<Place> {
+        let Field(name, _) = self;
+        if last.at < MOST_FIELDS && comes_before(last.name.as_bytes(), name.as_bytes()) {
+            Some(Place {
+                name: *name,
+                at: last.at + 1,
+            })
         } else {
             None
         }
     }
 
-    fn write_fields<W: Write>(self, alloc: Global, ser: &mut Serializer<W>) -> WriteResult<(), W> {
-        let (Field(name, value), others) = self;
-        ser.serialize_str(name)?;
-        value.serialize(alloc, ser)?;
-        others.write_fields(alloc, ser)
+    fn write_fields<W: Write>(&self, alloc: Global, ser: &mut Serializer<W>) -> WriteResult<(), W> {
+        self.write_pair(alloc, ser)
     }
 
-    fn list_places(self, places: &mut Places) -> bool {
-        let (Field(name, _), others) = self;
+    fn list_places(&self, places: &mut Places) -> bool {
+        let Field(name, _) = self;
         let at = places.len();
-        if places.try_push(Place { name, at }).is_err() {
-            return false;
-        }
-        others.list_places(places)
+        places.try_push(Place { name: *name, at }).is_ok()
+    }
+
+    #[inline(always)]
+    fn behind(&self, place: usize) -> Option<usize> {
+        if place > 0 { Some(place - 1) } else { None }
     }
 
     #[inline(always)]
@@ -160,47 +185,74 @@ impl<T: Serialize, L: FieldRow> FieldRow for (Field<'_, T>, L) {
         alloc: Global,
         ser: &mut Serializer<W>,
     ) -> WriteResult<(), W> {
-        let (Field(name, value), others) = self;
         if place > 0 {
-            return others.write_field(place - 1, alloc, ser);
+            return Err(EncodeError::custom(BAD_VALUE));
         }
+        self.write_pair(alloc, ser)
+    }
+}
+
+impl<T: Serialize> Field<'_, T> {
+    /// Writes the name and the value.
+    #[inline(always)]
+    fn write_pair<W: Write>(&self, alloc: Global, ser: &mut Serializer<W>) -> WriteResult<(), W>
+        ensures written { Writes (spelled_pair (field self.now.0.now (T.tree self.now.1.now)))
+            (W.written ser.old) (W.written ser.new) result }
+        ensures well_formed { OnOk result (IsPair (field self.now.0.now (T.tree self.now.1.now))) }
+        ensures message { IfErr result
+            (OnMessage (λ _. LacksValue (field self.now.0.now (T.tree self.now.1.now) ∷ []))) }
+    {
+        let Field(name, value) = self;
         ser.serialize_str(name)?;
         value.serialize(alloc, ser)
     }
 }
 
-impl<T: Serialize, L: FieldRow> FieldRow for (Optional<'_, T>, L) {
-    ghost pairs = { λ row. optional row.0.0.now T.tree row.0.1.now (L.pairs row.1) };
+impl<T: Serialize> FieldRow for Optional<'_, T> {
+    ghost pairs = { λ row. optional row.0.now T.tree row.1.now [] };
 
-    fn push_fields<W: Write>(self, map: &mut CollectMap<'_, W>) -> WriteResult<(), W> {
-        let (Optional(name, value), rest) = self;
-        match value {
-            Some(value) => (Field(name, value), rest).push_fields(map),
-            None => rest.push_fields(map),
+    ghost before = { λ row others. optional row.0.now T.tree row.1.now others };
+
+    ghost joins = { λ row others. optional_joins row.0.now T.tree row.1.now others };
+
+    fn push_fields<W: Write>(&self, map: &mut CollectMap<'_, W>) -> WriteResult<(), W> {
+        let Optional(name, value) = self;
+        match *value {
+            Some(value) => Field(*name, value).push_fields(map),
+            None => Ok(()),
         }
     }
 
-    fn count_rising(self, last: &str, before: usize) -> Option<usize> {
-        let (Optional(name, value), rest) = self;
-        match value {
-            Some(value) => (Field(name, value), rest).count_rising(last, before),
-            None => rest.count_rising(last, before),
+    fn count_rising(&self, last: Place) -> Option<Place> {
+        let Optional(name, value) = self;
+        match *value {
+            Some(value) => Field(*name, value).count_rising(last),
+            None => Some(last),
         }
     }
 
-    fn write_fields<W: Write>(self, alloc: Global, ser: &mut Serializer<W>) -> WriteResult<(), W> {
-        let (Optional(name, value), rest) = self;
-        match value {
-            Some(value) => (Field(name, value), rest).write_fields(alloc, ser),
-            None => rest.write_fields(alloc, ser),
+    fn write_fields<W: Write>(&self, alloc: Global, ser: &mut Serializer<W>) -> WriteResult<(), W> {
+        let Optional(name, value) = self;
+        match *value {
+            Some(value) => Field(*name, value).write_fields(alloc, ser),
+            None => Ok(()),
         }
     }
 
-    fn list_places(self, places: &mut Places) -> bool {
-        let (Optional(name, value), rest) = self;
-        match value {
-            Some(value) => (Field(name, value), rest).list_places(places),
-            None => rest.list_places(places),
+    fn list_places(&self, places: &mut Places) -> bool {
+        let Optional(name, value) = self;
+        match *value {
+            Some(value) => Field(*name, value).list_places(places),
+            None => true,
+        }
+    }
+
+    #[inline(always)]
+    fn behind(&self, place: usize) -> Option<usize> {
+        let Optional(name, value) = self;
+        match *value {
+            Some(value) => Field(*name, value).behind(place),
+            None => Some(place),
         }
     }
 
@@ -211,10 +263,58 @@ impl<T: Serialize, L: FieldRow> FieldRow for (Optional<'_, T>, L) {
         alloc: Global,
         ser: &mut Serializer<W>,
     ) -> WriteResult<(), W> {
-        let (Optional(name, value), rest) = self;
+        let Optional(name, value) = self;
         match *value {
-            Some(value) => (Field(*name, value), *rest).write_field(place, alloc, ser),
-            None => rest.write_field(place, alloc, ser),
+            Some(value) => Field(*name, value).write_field(place, alloc, ser),
+            None => Err(EncodeError::custom(BAD_VALUE)),
+        }
+    }
+}
+
+impl<A: FieldRow, B: FieldRow> FieldRow for (A, B) {
+    ghost pairs = { λ row. A.before row.0 (B.pairs row.1) };
+
+    ghost before = { λ row others. A.before row.0 (B.before row.1 others) };
+
+    ghost joins = { λ row others. rows_join (A.pairs row.0) (A.before row.0) (A.joins row.0)
+        (B.pairs row.1) (B.before row.1) (B.joins row.1) others };
+
+    fn push_fields<W: Write>(&self, map: &mut CollectMap<'_, W>) -> WriteResult<(), W> {
+        self.0.push_fields(map)?;
+        self.1.push_fields(map)
+    }
+
+    fn count_rising(&self, last: Place) -> Option<Place> {
+        self.1.count_rising(self.0.count_rising(last)?)
+    }
+
+    fn write_fields<W: Write>(&self, alloc: Global, ser: &mut Serializer<W>) -> WriteResult<(), W> {
+        self.0.write_fields(alloc, ser)?;
+        self.1.write_fields(alloc, ser)
+    }
+
+    fn list_places(&self, places: &mut Places) -> bool {
+        if !self.0.list_places(places) {
+            return false;
+        }
+        self.1.list_places(places)
+    }
+
+    #[inline(always)]
+    fn behind(&self, place: usize) -> Option<usize> {
+        self.1.behind(self.0.behind(place)?)
+    }
+
+    #[inline(always)]
+    fn write_field<W: Write>(
+        &self,
+        place: usize,
+        alloc: Global,
+        ser: &mut Serializer<W>,
+    ) -> WriteResult<(), W> {
+        match self.0.behind(place) {
+            Some(more) => self.1.write_field(more, alloc, ser),
+            None => self.0.write_field(place, alloc, ser),
         }
     }
 }

@@ -45,21 +45,21 @@ fn write_places<F: FieldRow, W: Write>(
 #[inline(always)]
 fn gather_fields<F: FieldRow, E>(
     alloc: Global,
-    fields: F,
+    fields: &F,
     order: Option<&[Place]>,
 ) -> Result<Vec<u8>, EncodeError<E>>
-    requires { HasPlaces (F.pairs fields) (places_of order) }
+    requires { HasPlaces (F.pairs fields.now) (places_of order) }
     ensures { Collects (λ bytes. AppendsTo [] bytes.items
-        (spelled_pairs (in_order (F.pairs fields) (places_of order.entry)))
-        × ArePairs (in_order (F.pairs fields) (places_of order.entry)))
-        (RefusesAnyValue (F.pairs fields)) result }
+        (spelled_pairs (in_order (F.pairs fields.now) (places_of order.entry)))
+        × ArePairs (in_order (F.pairs fields.now) (places_of order.entry)))
+        (RefusesAnyValue (F.pairs fields.now)) result }
 {
     let Ok(bytes) = Vec::with_capacity(alloc, FIRST_ROOM) else {
         return Err(EncodeError::OutOfMemory);
     };
     let mut ser = Serializer::new(BufWriter::new(bytes));
     let result = match order {
-        Some(places) => write_places(alloc, &fields, places, &mut ser),
+        Some(places) => write_places(alloc, fields, places, &mut ser),
         None => fields.write_fields(alloc, &mut ser),
     };
     match result {
@@ -75,19 +75,19 @@ fn gather_fields<F: FieldRow, E>(
 #[tactic(auto, using(crate::proofs::Fields::exit_row))]
 fn write_rising<F: FieldRow, W: Write>(
     alloc: Global,
-    fields: F,
+    fields: &F,
     order: Option<&[Place]>,
     count: usize,
     ser: &mut Serializer<W>,
 ) -> WriteResult<(), W>
     requires count { count
-        ≡ length (in_order (F.pairs fields) (places_of order)) }
-    requires rising { IsKeyOrder (F.pairs fields) (places_of order) }
-    ensures written { Writes (spelled_tree (entries_tree (F.pairs fields)))
+        ≡ length (in_order (F.pairs fields.now) (places_of order)) }
+    requires rising { IsKeyOrder (F.pairs fields.now) (places_of order) }
+    ensures written { Writes (spelled_tree (entries_tree (F.pairs fields.now)))
         (W.written ser.old) (W.written ser.new) result }
-    ensures well_formed { OnOk result (IfSome (entries_tree (F.pairs fields)) IsTree) }
+    ensures well_formed { OnOk result (IfSome (entries_tree (F.pairs fields.now)) IsTree) }
     ensures message { IfErr result
-        (OnMessage (λ m. RefusesAnyValue (F.pairs fields) m × (ser.new ≡ ser.old))) }
+        (OnMessage (λ m. RefusesAnyValue (F.pairs fields.now) m × (ser.new ≡ ser.old))) }
     ensures memory { LacksBefore W.takes_memory (ser.new ≡ ser.old) result }
 {
     let bytes = gather_fields(alloc, fields, order)?;
@@ -99,14 +99,14 @@ fn write_rising<F: FieldRow, W: Write>(
 /// map where there are many fields, or a name is there twice.
 fn write_unordered<F: FieldRow, W: Write>(
     alloc: Global,
-    fields: F,
+    fields: &F,
     ser: &mut Serializer<W>,
 ) -> WriteResult<(), W>
-    ensures written { Writes (spelled_tree (entries_tree (F.pairs fields)))
+    ensures written { Writes (spelled_tree (entries_tree (F.pairs fields.now)))
         (W.written ser.old) (W.written ser.new) result }
-    ensures well_formed { OnOk result (IfSome (entries_tree (F.pairs fields)) IsTree) }
+    ensures well_formed { OnOk result (IfSome (entries_tree (F.pairs fields.now)) IsTree) }
     ensures message { IfErr result
-        (OnMessage (λ m. RefusesPairs (F.pairs fields) m × (ser.new ≡ ser.old))) }
+        (OnMessage (λ m. RefusesPairs (F.pairs fields.now) m × (ser.new ≡ ser.old))) }
     ensures memory { LacksBefore W.takes_memory (ser.new ≡ ser.old) result }
 {
     let mut places = ArrayVec::new();
@@ -128,6 +128,7 @@ fn write_unordered<F: FieldRow, W: Write>(
 /// let fields = (Field("year", &self.year), (Field("text", &self.text), ()));
 /// write_struct(alloc, fields, ser)
 /// ```
+#[tactic(auto, using(crate::proofs::Joining::rise_alone))]
 pub fn write_struct<F: FieldRow, W: Write>(
     alloc: Global,
     fields: F,
@@ -140,9 +141,9 @@ pub fn write_struct<F: FieldRow, W: Write>(
         (OnMessage (λ m. RefusesPairs (F.pairs fields) m × (ser.new ≡ ser.old))) }
     ensures memory { LacksBefore W.takes_memory (ser.new ≡ ser.old) result }
 {
-    match fields.count_rising("", 0) {
-        Some(count) => write_rising(alloc, fields, None, count, ser),
-        None => write_unordered(alloc, fields, ser),
+    match fields.count_rising(Place { name: "", at: 0 }) {
+        Some(last) => write_rising(alloc, &fields, None, last.at, ser),
+        None => write_unordered(alloc, &fields, ser),
     }
 }
 

@@ -11,7 +11,7 @@ use Rattle.dagcbor_write.proofs.structs.write_rising.Goals as goal
 
 pub returns-in_err-push_head-clause-written : goal.returns-in_err-push_head-clause-written
 returns-in_err-push_head-clause-written g c =
-    let pairs : List Pair = g.F.FieldRow.pairs c.args.fields in
+    let pairs : List Pair = g.F.FieldRow.pairs c.args.fields.now in
     let m = ordered_map pairs (places_of c.args.order) c.args.count c.in_ok-bytes.bytes.items
     c.requires.count c.in_ok-bytes.ensures.0
     c.in_ok-bytes.ensures.1 c.requires.rising in
@@ -21,7 +21,7 @@ returns-in_err-push_head-clause-written g c =
 
 pub returns-clause-written : goal.returns-clause-written
 returns-clause-written g c =
-    let pairs : List Pair = g.F.FieldRow.pairs c.args.fields in
+    let pairs : List Pair = g.F.FieldRow.pairs c.args.fields.now in
     let m = ordered_map pairs (places_of c.args.order) c.args.count c.in_ok-bytes.bytes.items
     c.requires.count c.in_ok-bytes.ensures.0
     c.in_ok-bytes.ensures.1 c.requires.rising in
@@ -32,7 +32,7 @@ returns-clause-written g c =
 
 pub returns-clause-well_formed : goal.returns-clause-well_formed
 returns-clause-well_formed g c =
-    let pairs : List Pair = g.F.FieldRow.pairs c.args.fields in
+    let pairs : List Pair = g.F.FieldRow.pairs c.args.fields.now in
     let m = ordered_map pairs (places_of c.args.order) c.args.count c.in_ok-bytes.bytes.items
     c.requires.count c.in_ok-bytes.ensures.0
     c.in_ok-bytes.ensures.1 c.requires.rising in

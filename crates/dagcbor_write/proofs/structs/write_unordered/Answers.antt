@@ -15,7 +15,7 @@ returns-in_err-push_fields-clause-message g c =
 
 pub returns : goal.returns
 returns g c =
-    let pairs : List Pair = g.F.FieldRow.pairs c.args.fields in
+    let pairs : List Pair = g.F.FieldRow.pairs c.args.fields.now in
     let w = given_row pairs _ _ (ap (λ state. state.entries) c.serialize_map-map.ensures.nothing) c.in_ok-push_fields.ensures.entries in
     record {
       written = end_map _ w (search rules) _ _ _ _ _ c.end.ensures.written (search rules) (search rules);

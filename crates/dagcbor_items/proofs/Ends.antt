@@ -21,14 +21,15 @@ use Rattle.ipld_tree.specs.Cid.{IsCid}
 use Rattle.dagcbor_items.specs.LeafCauses.{IsOtherKind, IsCut, IsGarbled}
 use Rattle.dagcbor_items.specs.LinkCauses.{IsOtherByte, CidCause, LinkBytesCause, LinkCause}
 use Rattle.dagcbor_items.specs.ItemCauses.{KeyCause, IsOtherSimple, ItemHeadCause, LeafCause, item_name}
-use Rattle.dagcbor_items.specs.Stops.{IsEnd, EndsInHead, EndsInPayload, EndsInKey, EndsInCid, EndsInLink, EndsInLeaf, StopsIn, StopsWith}
+use Rattle.dagcbor_items.specs.Stops.{IsEnd}
+use Rattle.dagcbor_items.specs.Prefixes.{EndsInHead, EndsInPayload, EndsInKey, EndsInCid, EndsInLink, EndsInLeaf, StopsIn, StopsWith}
 
 -- ---- heads
 
 width_none : (i : ℕ) → ¬ (24 ≤ i) → argument_width i ≡ 0
 width_none i few = grind (arith, few)
 
-width_past : (i : ℕ) → 28 ≤ i → argument_width i ≡ 0
+pub width_past : (i : ℕ) → 28 ≤ i → argument_width i ≡ 0
 width_past i past = grind (arith, past)
 
 -- no cause stands where a head does
@@ -132,7 +133,7 @@ string_cut m (suc n) most b s rest long few h =
     take-length-le (suc n) [] few = absurd (omega (arith, few))
     take-length-le (suc n) (x ∷ s) few = omega (arith, take-length-le n s (omega (arith, few)))
 
-same_head : (m n m' n' : ℕ) (b c d : List ℕ) → SplitsHead b m n c → SplitsHead b m' n' d → (m ≡ m') × (n ≡ n') × (c ≡ d)
+pub same_head : (m n m' n' : ℕ) (b c d : List ℕ) → SplitsHead b m n c → SplitsHead b m' n' d → (m ≡ m') × (n ≡ n') × (c ≡ d)
 same_head m n m' n' b c d h k = head_unique m n m' n' c d h.1 k.1 (sym h.2 ∙ k.2)
 
 -- the end of the payload, counted from that of the head
@@ -159,7 +160,7 @@ string_seen m most seen b s rest few h is = subst (StringSeen m most b s) (sym i
 
 -- ---- of a major type
 
-first_major : (m n first : ℕ) (b c more : List ℕ) → n < 2 ^ 64 → b ≡ head m n ++ c → b ≡ first ∷ more → first / 32 ≡ m
+pub first_major : (m n first : ℕ) (b c more : List ℕ) → n < 2 ^ 64 → b ≡ head m n ++ c → b ≡ first ∷ more → first / 32 ≡ m
 first_major m n first b c more fits e is = (begins first more m n c fits (sym is ∙ e)).major_is
 
 no_byte_begins : (low high : ℕ) (b : List ℕ) → b ≡ [] → BeginsFrom low high b
@@ -180,7 +181,7 @@ head_begins_from m low high n b c least most fits e first more is =
 one_front : (first : ℕ) (b more : List ℕ) → b ≡ first ∷ more → (1 ≤ length b) × (take 1 b ≡ first ∷ [])
 one_front first b more e = (omega (arith, ap length e), ap (take 1) e)
 
-cut_is_end : (name : List ℕ) (kind : ℕ) (e : DecodeError Infallible) (b : List ℕ) → IsCut name kind e b → IsEnd e
+pub cut_is_end : (name : List ℕ) (kind : ℕ) (e : DecodeError Infallible) (b : List ℕ) → IsCut name kind e b → IsEnd e
 cut_is_end name kind (Eof n x) b h = tt
 cut_is_end name kind _ b h = absurd h
 
@@ -331,7 +332,7 @@ string_cid b seen starts few heads ends e (inr x) other = by e x other
 
 -- ---- links
 
-no_byte_string : (b : List ℕ) → b ≡ [] → (e : DecodeError Infallible) → LinkCause e b → IsEnd e
+pub no_byte_string : (b : List ℕ) → b ≡ [] → (e : DecodeError Infallible) → LinkCause e b → IsEnd e
 no_byte_string b none e (inl x) = by e x
   where
     by : (e : DecodeError Infallible) → IsOtherByte (codes "tag head") (codes "CBOR tag head") 0xd8 e b → IsEnd e
@@ -354,7 +355,7 @@ other_tag b first more is ne e (inr (inl x)) other = let both = sym is ∙ x.1 i
 other_tag b first more is ne e (inr (inr x)) other = let both = sym is ∙ x.1 in let same : first ≡ 0xd8 = cc both in absurd (ne same)
 
 -- behind d8
-no_tag_at : (b c : List ℕ) → b ≡ 0xd8 ∷ c → (e : DecodeError Infallible) → IsOtherByte (codes "tag head") (codes "CBOR tag head") 0xd8 e b → ⊥
+pub no_tag_at : (b c : List ℕ) → b ≡ 0xd8 ∷ c → (e : DecodeError Infallible) → IsOtherByte (codes "tag head") (codes "CBOR tag head") 0xd8 e b → ⊥
 no_tag_at b c is (Eof n y) h = omega (arith, ap length is, ap length h.1)
 no_tag_at b c is (Mismatch n f) h = let both = sym is ∙ h.1.1 in let same : f ≡ 0xd8 = cc both in h.1.2 same
 no_tag_at b c is _ h = h

@@ -249,11 +249,11 @@ pub no_map : (n steps : ℕ) (b c : List ℕ) → SplitsHead b 5 n c → ¬ ((re
 no_map n steps b c h none i = none (map_inside n steps b c h i).1
 
 -- the last key of entries behind this one
-last_after : Option (List ℕ) → Entries → Option (List ℕ)
+unfoldable pub last_after : Option (List ℕ) → Entries → Option (List ℕ)
 last_after previous no_entries = previous
 last_after previous (entry k t es) = last_after (Some k) es
 
-last_of_all : (es : Entries) → last_key es ≡ last_after None es
+pub last_of_all : (es : Entries) → last_key es ≡ last_after None es
 unfolding last_key last_after
 last_of_all no_entries = refl
 last_of_all (entry k t no_entries) = refl

@@ -21,7 +21,7 @@ use Rattle.dagcbor_items.proofs.Fronts.{major_of_front}
 -- ---- bytes that begin no item
 
 -- the first byte of a tree of major type 7
-simple_byte : (t : Tree) → major t ≡ 7 → (byte : ℕ) × (spelling t ≡ byte ∷ []) × (0xf4 ≤ byte) × (byte ≤ 0xf6)
+pub simple_byte : (t : Tree) → major t ≡ 7 → (byte : ℕ) × (spelling t ≡ byte ∷ []) × (0xf4 ≤ byte) × (byte ≤ 0xf6)
 simple_byte t m = elim (is_simple t m) [
   | inl h ↦ (0xf4, ap spelling h.0, omega arith, omega arith)
   | inr g ↦ elim g [

@@ -10,7 +10,7 @@ use Rattle.ipld_tree.specs.Spelling.{spelling, text_spelling, IsFront}
 use Rattle.ipld_tree.proofs.Unique.{split_at_length}
 use Rattle.dagcbor_items.specs.Places.{Follows}
 use Rattle.dagcbor_items.specs.Entries.{TakesKnownKey}
-use Rattle.dagcbor_items.specs.Shapes.{leaf, view_text}
+use Rattle.dagcbor_items.specs.Shapes.{leaf}
 use Rattle.dagcbor_items.specs.TypedReads.{TakesFront}
 use Rattle.dagcbor_items.specs.Untyped.{TakesItem}
 use Rattle.dagcbor_items.proofs.Names.{name_front, name_long}

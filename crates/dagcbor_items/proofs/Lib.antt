@@ -30,3 +30,5 @@ pub mod Names
 pub mod Ends
 pub mod StopPlaces
 pub mod Progress
+pub mod CutLeaves
+pub mod SoundSoFar

@@ -1,6 +1,6 @@
 -- Where the judge stops: in an item, in a row of items or entries, and in the whole.
 use Rattle.std.proofs.Common.{◌≡◌, inl, inr, ℕ, zero, suc, ◌+◌, ◌-◌, ◌*◌, ◌^◌, ◌<◌, ◌≤◌, List, [], ◌∷◌, ◌++◌, length, take, refl, sym, ap, ◌∙◌, subst, arith, length-append, append_assoc, Option, ◌⊎◌}
-use Rattle.std.proofs.Math.Seq.{take-append_seam, take-append-add}
+use Rattle.std.proofs.Math.Seq.{take-append_seam, take-append-add, take-length}
 use Rattle.std.specs.declared.convert.Infallible.{Infallible}
 use Rattle.dagcbor_heads.specs.Head.{head}
 use Rattle.dagcbor_heads.specs.Causes.{HeadCause}
@@ -11,18 +11,22 @@ use Rattle.dagcbor_heads.specs.declared.error.DecodeError.TheVariants.{Eof, Dept
 use Rattle.dagcbor_heads.proofs.Heads.{head_first, head_unique}
 use Rattle.ipld_tree.specs.Tree.{text, Items, no_items, item, items_need}
 use Rattle.ipld_tree.specs.Spelling.{spelling, items_spelling, entries_spelling, text_spelling, item_count, entry_count, IsFront, AreFronts, AreEntryFronts}
+use Rattle.dagcbor_items.specs.FirstBytes.{BeginsWith}
 use Rattle.dagcbor_items.specs.Places.{Follows, last_key, IsInside}
 use Rattle.dagcbor_items.specs.LinkCauses.{LinkCause}
 use Rattle.dagcbor_items.specs.ItemCauses.{KeyCause, IsTooDeep, LeafCause, CauseAt, CauseInside, CauseInItems, CauseInEntries}
 use Rattle.dagcbor_items.specs.Judging.{SplitsKey, SplitsItem}
 use Rattle.dagcbor_items.specs.Slices.{CauseInWhole}
-use Rattle.dagcbor_items.specs.Stops.{IsEnd, IsDeep, EndsInHead, EndsInKey, EndsInLink, EndsInLeaf, EndsInItems, EndsInEntries, EndsInItem, StandsAt, StopsWith, Stops, HoldsNoParts, StopsInKey, StopsInItem, StopsInItems, StopsInEntries}
+use Rattle.dagcbor_items.specs.Stops.{IsEnd, StandsAt}
+use Rattle.dagcbor_items.specs.Prefixes.{IsDeep, BeginsIndefinite, HasSteps, EndsInHead, EndsInKey, EndsInLink, EndsInLeaf, EndsInItems, EndsInEntries, EndsInItem, StopsWith, Stops, HoldsNoParts, StopsInKey, StopsInItem, StopsInItems, StopsInEntries}
 use Rattle.dagcbor_items.proofs.Places.{stands_here, cause_here}
 use Rattle.dagcbor_items.proofs.Steps.{need_positive}
 use Rattle.dagcbor_items.proofs.Judging.{ItemsPassed, EntriesPassed, entries_so_far, items_so_far}
 use Rattle.dagcbor_items.proofs.Stopping.{list_stopped, map_stopped}
 use Rattle.dagcbor_items.proofs.SliceReads.{no_trailing_cause}
-use Rattle.dagcbor_items.proofs.Ends.{head_cut, head_long, head_some, front_from, head_begins_from, none_begins_from, string_cut, key_ends, front_named}
+use Rattle.dagcbor_items.proofs.CutLeaves.{cut_not_indefinite}
+use Rattle.dagcbor_items.proofs.SoundSoFar.{cut_is_sound, block_is_sound}
+use Rattle.dagcbor_items.proofs.Ends.{front_first, head_cut, head_long, head_some, front_from, head_begins_from, none_begins_from, string_cut, key_ends, front_named}
 
 -- ---- bytes that end too early
 
@@ -104,10 +108,30 @@ at_item steps e b alone h = go h.0 h.1 h.2 h.3 h.4 h.5
       | inr p ↦ (let few = alone 5 p.place.count p.place.behind (omega arith, p.place.fits, p.place.opens) (inr refl) in absurd (omega (arith, few, is)))
     ]
 
-pub item_end : (steps : ℕ) (e : DecodeError Infallible) (b : List ℕ) → HoldsNoParts steps b → CauseInside steps e b → IsEnd e → StopsInItem steps e 0 b
-item_end steps e b alone h end = elim (at_item steps e b alone h) [
+-- a leaf that is cut has its steps where the bytes that it is a front of do, or have an indefinite
+-- length, which is no front of a leaf
+leaf_has_steps : (k steps : ℕ) (b : List ℕ) → 0 < steps → BeginsIndefinite b ⊎ HasSteps steps b → EndsInLeaf (take k b) → HasSteps steps (take k b)
+leaf_has_steps k steps b some few cut = (some, λ part. elim part [ inl p ↦ enough k 4 p few (inl p) cut | inr p ↦ enough k 5 p few (inr p) cut ])
+  where
+    enough : (k major : ℕ) → BeginsWith major (take k b) → BeginsIndefinite b ⊎ HasSteps steps b → BeginsWith 4 (take k b) ⊎ BeginsWith 5 (take k b) → EndsInLeaf (take k b) → 2 ≤ steps
+    enough k major p (inl x) part cut =
+        let f = front_first k p.0 b p.1 p.2 in
+        let both = sym x.2 ∙ f.1 in
+        let same : x.0 ≡ p.0 = cc both in
+        absurd (cut_not_indefinite (take k b) p.0 p.1 cut p.2 (omega (arith, same, x.3)))
+    enough k major p (inr h) part cut = h.1 (elim part [ inl q ↦ inl (begins 4 q) | inr q ↦ inr (begins 5 q) ])
+      where
+        begins : (major : ℕ) → BeginsWith major (take k b) → BeginsWith major b
+        begins major q = let f = front_first k q.0 b q.1 q.2 in (q.0, f.0, f.1, q.3)
+
+-- all of the bytes are a front of them
+whole_has_steps : (steps : ℕ) (b : List ℕ) → 0 < steps → BeginsIndefinite b ⊎ HasSteps steps b → EndsInLeaf b → HasSteps steps b
+whole_has_steps steps b some few cut = subst (HasSteps steps) (take-length b) (leaf_has_steps (length b) steps b some few (subst EndsInLeaf (sym (take-length b)) cut))
+
+pub item_end : (steps : ℕ) (e : DecodeError Infallible) (b : List ℕ) → (¬ IsDeep e → BeginsIndefinite b ⊎ HasSteps steps b) → HoldsNoParts steps b → CauseInside steps e b → IsEnd e → StopsInItem steps e 0 b
+item_end steps e b few alone h end = elim (at_item steps e b alone h) [
   | inl x ↦ absurd (both e end (deep_cause steps e b x))
-  | inr x ↦ inl (end, refl, (0, (x.0, leaf_end e b end x.1)))
+  | inr x ↦ inl (end, refl, (0, (whole_has_steps steps b x.0 (few (both e end)) (leaf_end e b end x.1), leaf_end e b end x.1)))
 ]
   where
     both : (e : DecodeError Infallible) → IsEnd e → IsDeep e → ⊥
@@ -137,13 +161,13 @@ item_deep steps behind e b is alone h other deep = elim (at_item steps e b alone
       seen = 1;
       whole = elim x.1 [ inl p ↦ omega (arith, is, x.0, ap length p.2) | inr p ↦ omega (arith, is, x.0, ap length p.2) ];
       stands = stands_here steps (DepthOverflow n) (take 1 b) (inl (inr (x.0, elim x.1 [ inl p ↦ inl (p.0, [], ap (take 1) p.2, p.3) | inr p ↦ inr (p.0, [], ap (take 1) p.2, p.3) ], subst (Names n) (front_named 1 b (omega arith)) x.2)));
-      before = λ some. (0, (omega (arith, x.0), inl (tt, none_begins_from 0 5)));
+      before = λ some. (0, ((omega (arith, x.0), λ part. elim part [ inl p ↦ absurd (cc p.2) | inr p ↦ absurd (cc p.2) ]), inl (tt, none_begins_from 0 5)));
       at_once = λ same. absurd (omega (arith, same));
     }
     by _ x other = absurd x
 
-pub item_seen : (steps behind seen : ℕ) (e : DecodeError Infallible) (b : List ℕ) → behind ≡ length b - seen → HoldsNoParts steps b → CauseInside steps e b → ¬ IsEnd e → ¬ IsDeep e → StopsWith LeafCause EndsInLeaf b seen → StopsInItem steps e behind b
-item_seen steps behind seen e b is alone h other shallow leaf = elim (at_item steps e b alone h) [
+pub item_seen : (steps behind seen : ℕ) (e : DecodeError Infallible) (b : List ℕ) → behind ≡ length b - seen → (¬ IsDeep e → BeginsIndefinite b ⊎ HasSteps steps b) → HoldsNoParts steps b → CauseInside steps e b → ¬ IsEnd e → ¬ IsDeep e → StopsWith LeafCause EndsInLeaf b seen → StopsInItem steps e behind b
+item_seen steps behind seen e b is few alone h other shallow leaf = elim (at_item steps e b alone h) [
   | inl x ↦ absurd (shallow (deep_cause steps e b x))
   | inr x ↦ (
       let k = leaf e x.1 other in
@@ -153,7 +177,7 @@ item_seen steps behind seen e b is alone h other shallow leaf = elim (at_item st
         seen = seen;
         whole = omega (arith, is, k.there);
         stands = cause_here steps e (take seen b) x.0 k.stands;
-        before = λ more. (0, (x.0, k.before));
+        before = λ more. (0, (leaf_has_steps (seen - 1) steps b x.0 (few shallow) k.before, k.before));
         at_once = λ none. absurd (omega (arith, none, some));
       })
 ]
@@ -218,7 +242,7 @@ opening_cut m n steps b c some few h =
     let f = head_first m n h.1 in
     let is : b ≡ (32 * m + f.0) ∷ (f.1 ++ c) = h.2 ∙ ap (λ y. y ++ c) f.3 in
     let w = head_long (32 * m + f.0) (f.1 ++ c) b c m n is h in
-    (0, (omega (arith, some), inl (subst (λ y. EndsInHead (take (length (head m n) - 1) y)) (sym is) (head_cut (32 * m + f.0) (length (head m n) - 1) _ (omega (arith, w))), front_from (length (head m n) - 1) 0 5 b (head_begins_from m 0 5 n b c (omega arith) few h.1 h.2))))
+    (0, ((omega (arith, some), λ part. some), inl (subst (λ y. EndsInHead (take (length (head m n) - 1) y)) (sym is) (head_cut (32 * m + f.0) (length (head m n) - 1) _ (omega (arith, w))), front_from (length (head m n) - 1) 0 5 b (head_begins_from m 0 5 n b c (omega arith) few h.1 h.2))))
 
 pub list_stops : (n steps behind : ℕ) (e : DecodeError Infallible) (b c : List ℕ) → 2 ≤ steps → SplitsHead b 4 n c → StopsInItems n (steps - 2) e behind c → StopsInItem steps e behind b
 list_stops n steps behind e b c some h k =
@@ -292,7 +316,7 @@ value_stops count to_come steps behind previous e b now key c some s front follo
 -- ---- the whole
 
 pub whole_at : (e : DecodeError Infallible) (b : List ℕ) (behind place : ℕ) → StopsInItem 256 e behind b → IsEnd e → place ≡ length b - behind → StandsAt e b place
-whole_at e b behind place (inl h) end is = inl (end, omega (arith, is, h.1), inl h.2)
+whole_at e b behind place (inl h) end is = inl (end, omega (arith, is, h.1), cut_is_sound b h.2)
 whole_at e b behind place (inr k) end is = absurd (k.other end)
 
 pub part_at : (e : DecodeError Infallible) (b : List ℕ) (behind place : ℕ) → StopsInItem 256 e behind b → ¬ IsEnd e → place ≡ length b - behind - 1 → StandsAt e b place
@@ -310,7 +334,7 @@ part_at e b behind place (inr k) other is = by k.seen refl
         inr (
           other,
           omega (arith, at, same, k.whole),
-          inl (subst (λ m. EndsInItem 256 (take m b)) {x = k.seen - 1} {y = place} (omega (arith, at, same)) (k.before (omega (arith, same)))),
+          cut_is_sound (take place b) (subst (λ m. EndsInItem 256 (take m b)) {x = k.seen - 1} {y = place} (omega (arith, at, same)) (k.before (omega (arith, same)))),
           in_whole e (subst (λ m. CauseInside 256 e (take m b)) {x = k.seen} {y = suc place} (omega (arith, at, same)) k.stands),
         )
 
@@ -325,7 +349,7 @@ trailing_at b rest place some is k =
     inr (
       (λ end. end),
       omega (arith, is, some, long),
-      inr (t, (record { well_formed = k.1.well_formed; spellable = k.1.spellable; is = front }, k.2)),
+      block_is_sound (take place b) t (record { well_formed = k.1.well_formed; spellable = k.1.spellable; is = front }, k.2),
       (t, take 1 rest, record { well_formed = k.1.well_formed; spellable = k.1.spellable; is = next }, k.2, one rest some),
     )
   where

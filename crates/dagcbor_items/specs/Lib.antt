@@ -31,3 +31,4 @@ pub mod TreeKinds
 pub mod Slices
 pub mod PrintedNames
 pub mod Stops
+pub mod Prefixes

@@ -2,12 +2,15 @@
 //! built, and no memory is taken. Where the judge stops, the walk names the cause, which is put
 //! beside the results with its place, so that these stay in registers.
 
-ghost use Rattle.std.specs.Prelude.{◌≡◌, ◌≢◌, ◌↔◌, ◌-◌, ◌<◌, ◌≤◌, length, List, ℕ, IsTrue, IsUtf8};
+ghost use Rattle.std.specs.Prelude.{◌≡◌, ◌≢◌, ◌↔◌, ◌⊎◌, ◌-◌, ◌<◌, ◌≤◌, length, List, ℕ, IsTrue, IsUtf8};
 ghost use Rattle.std.specs.Prelude.{MatchOption, option_map};
 ghost use Rattle.std.specs.Option.{IfNone};
 ghost use Rattle.std.specs.List.{list_all};
 ghost use Rattle.std.specs.Char.{is_ascii};
 ghost use Rattle.dagcbor_heads.specs.Splits.{SplitsHead};
+ghost use Rattle.dagcbor_heads.specs.Names.{Names};
+ghost use Rattle.dagcbor_heads.specs.declared.name.Name.{Name};
+ghost use Rattle.dagcbor_heads.specs.declared.error.DecodeError.TheVariants.{DepthOverflow};
 ghost use Rattle.ipld_tree.specs.Cid.{IsCid};
 ghost use Rattle.ipld_tree.specs.Tree.{link};
 ghost use Rattle.ipld_tree.specs.Spelling.{IsFront};
@@ -16,15 +19,16 @@ ghost use Rattle.dagcbor_items.specs.Judging.{SplitsPayload, SplitsText, SplitsK
 ghost use Rattle.dagcbor_items.specs.Judging.{SplitsCid, SplitsLeaf, SplitsItem, SplitsItems};
 ghost use Rattle.dagcbor_items.specs.Judging.{SplitsEntries, GivesRest, GivesLeft};
 ghost use Rattle.dagcbor_items.specs.ItemCauses.{KeyCause, CauseInside, CauseInItems};
-ghost use Rattle.dagcbor_items.specs.ItemCauses.{CauseInEntries};
-ghost use Rattle.dagcbor_items.specs.Stops.{HoldsNoParts, StopsInKey, StopsInItem, StopsInItems};
-ghost use Rattle.dagcbor_items.specs.Stops.{StopsInEntries};
+ghost use Rattle.dagcbor_items.specs.ItemCauses.{CauseInEntries, IsTooDeep};
+ghost use Rattle.dagcbor_items.specs.Prefixes.{IsDeep, BeginsIndefinite, HasSteps};
+ghost use Rattle.dagcbor_items.specs.Prefixes.{HoldsNoParts, StopsInKey, StopsInItem, StopsInItems};
+ghost use Rattle.dagcbor_items.specs.Prefixes.{StopsInEntries};
 
 use crate::payloads::pull_lent_text;
 use crate::sink::NoLinks;
 use crate::stop::{Stop, behind_refused_item, behind_refused_key};
 use crate::walk::walk_any;
-use dagcbor_heads::{DecodeError, SliceReader, split_head};
+use dagcbor_heads::{DecodeError, Name, SliceReader, is_indefinite, split_head};
 use ipld_tree::{Cid, comes_before};
 use simdutf8::is_utf8;
 use std::convert::Infallible;
@@ -284,12 +288,49 @@ fn stop_at_key(previous: &Option<&[u8]>, bytes: &[u8], stop: &mut Stop)
     *stop = Stop { cause, behind };
 }
 
-/// Why no item stands there that takes no more than these steps.
+/// Why what is to stand there is too deep, where the steps that are left are too few for it. An
+/// indefinite length is told first.
+fn name_depth_cause(bytes: &[u8], steps: usize) -> Option<DecodeError<Infallible>>
+    ensures { MatchOption result (BeginsIndefinite bytes.now ⊎ HasSteps steps bytes.now)
+        (λ e. IsTooDeep steps e bytes.now) }
+{
+    if steps == 0 {
+        return Some(too_deep("any"));
+    }
+    if steps > 1 {
+        return None;
+    }
+    let (first, _more) = bytes.split_first()?;
+    if is_indefinite(*first) {
+        return None;
+    }
+    match first / 32 {
+        4 => Some(too_deep("array")),
+        5 => Some(too_deep("map")),
+        _ => None,
+    }
+}
+
+/// A refusal for the depth.
+fn too_deep(name: &str) -> DecodeError<Infallible>
+    ensures { (kept : Name) × (result ≡ DepthOverflow kept) × Names kept name.now }
+{
+    DecodeError::DepthOverflow {
+        name: Name::new(name),
+    }
+}
+
+/// Why no item stands there that takes no more than these steps: for the depth, where it is too
+/// great.
 fn name_item_cause(bytes: &[u8], steps: usize) -> DecodeError<Infallible>
     requires few { steps ≤ 1024 }
     requires none { ¬ ((rest : List ℕ) × SplitsItem bytes.now steps rest) }
-    ensures { CauseInside steps result bytes.now }
+    ensures cause { CauseInside steps result bytes.now }
+    ensures steps { ¬ IsDeep result → BeginsIndefinite bytes.now ⊎ HasSteps steps bytes.now }
 {
+    if let Some(cause) = name_depth_cause(bytes, steps) {
+        return cause;
+    }
     let mut reader = SliceReader::with_depth(bytes, steps);
     match walk_any((), &mut reader, &mut NoLinks) {
         Ok(()) => unreachable!(),

@@ -10,7 +10,8 @@ ghost use Rattle.dagcbor_items.specs.TreeKinds.{kind_of};
 ghost use Rattle.dagcbor_items.specs.Walks.{forms};
 ghost use Rattle.dagcbor_items.specs.Slices.{IsBlock, SliceRefused, AreFirstLinks};
 ghost use Rattle.dagcbor_items.specs.Slices.{LinksRefused, WalksFirst, PullsEnd};
-ghost use Rattle.dagcbor_items.specs.Stops.{StandsAt, StopsInItem};
+ghost use Rattle.dagcbor_items.specs.Stops.{StandsAt};
+ghost use Rattle.dagcbor_items.specs.Prefixes.{StopsInItem};
 
 use crate::any::read_any;
 use crate::judge::judge_item;

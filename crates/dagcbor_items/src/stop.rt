@@ -1,7 +1,8 @@
 //! Where the judge stops: how many bytes of a head, a key or a leaf it has seen when the cause
 //! stands.
 
-ghost use Rattle.std.specs.Prelude.{◌≡◌, ◌+◌, ◌≤◌, ◌%◌, ◌/◌, ◌≢◌, ℕ, List, ◌∷◌, ◌++◌, length, MatchBool, Option};
+ghost use Rattle.std.specs.Prelude.{◌≡◌, ◌+◌, ◌≤◌, ◌%◌, ◌/◌, ◌≢◌, ◌⊎◌, ℕ, List, ◌∷◌, ◌++◌, length, MatchBool};
+ghost use Rattle.std.specs.Prelude.{Option};
 ghost use Rattle.std.specs.declared.convert.Infallible.{Infallible};
 ghost use Rattle.dagcbor_heads.specs.Head.{head};
 ghost use Rattle.dagcbor_heads.specs.Causes.{HeadCause, argument_width};
@@ -10,9 +11,10 @@ ghost use Rattle.dagcbor_heads.specs.declared.error.DecodeError.{DecodeError};
 ghost use Rattle.dagcbor_items.specs.FirstBytes.{BeginsAs};
 ghost use Rattle.dagcbor_items.specs.ItemCauses.{KeyCause, LeafCause, CauseInside};
 ghost use Rattle.dagcbor_items.specs.LinkCauses.{LinkBytesCause, LinkCause};
-ghost use Rattle.dagcbor_items.specs.Stops.{IsEnd, IsDeep, StopsWith, EndsInHead, EndsInKey};
-ghost use Rattle.dagcbor_items.specs.Stops.{EndsInCid, EndsInLink, EndsInLeaf, HoldsNoParts};
-ghost use Rattle.dagcbor_items.specs.Stops.{StopsInItem, StopsInKey};
+ghost use Rattle.dagcbor_items.specs.Stops.{IsEnd};
+ghost use Rattle.dagcbor_items.specs.Prefixes.{IsDeep, StopsWith, EndsInHead, EndsInKey};
+ghost use Rattle.dagcbor_items.specs.Prefixes.{EndsInCid, EndsInLink, EndsInLeaf, HoldsNoParts};
+ghost use Rattle.dagcbor_items.specs.Prefixes.{BeginsIndefinite, HasSteps, StopsInItem, StopsInKey};
 
 use crate::link::LONGEST_CID;
 use dagcbor_heads::{DecodeError, is_indefinite, split_head};
@@ -179,6 +181,7 @@ pub(crate) fn behind_refused_item(
     steps: usize,
 ) -> usize
     requires stands { CauseInside steps cause.now bytes.now }
+    requires few { ¬ IsDeep cause.now → BeginsIndefinite bytes.now ⊎ HasSteps steps bytes.now }
     requires alone { HoldsNoParts steps bytes.now }
     ensures { StopsInItem steps cause.now result bytes.now }
 {

@@ -7,7 +7,7 @@ use Rattle.std.specs.Map.{keys_of}
 use Rattle.std.specs.Ordering.{ordering_reverse}
 use Rattle.ipld_tree.specs.Key.{bytes_cmp, comes_before}
 use Rattle.ipld_tree.specs.Tree.{Tree, Entries, no_entries, entry, insert, ordered_entries}
-use Rattle.dag_json.specs.DagJson.{Member, put, by_bytes, dag_json, entry_texts}
+use Rattle.dag_json.specs.DagJson.{Member, put_member, by_bytes, dag_json, entry_texts}
 
 less : (o : Ordering) → is_lt o ≡ true → o ≡ Less
 less Less e = refl
@@ -31,30 +31,30 @@ one_before k l apart = by (bytes_cmp k l) refl
     by Equal e = absurd (apart e)
     by Greater e = inr (ap is_lt e, ap is_lt (nat_list_cmp_total.antisymm l k ∙ ap ordering_reverse e))
 
-put_here : (p q : Member) (qs : List Member) → before p.0 q.0 ≡ true → put p (q ∷ qs) ≡ p ∷ q ∷ qs
+put_here : (p q : Member) (qs : List Member) → before p.0 q.0 ≡ true → put_member p (q ∷ qs) ≡ p ∷ q ∷ qs
 unfolding before
-put_here p q qs h = ap (λ b. cond b (p ∷ q ∷ qs) (q ∷ put p qs)) h
+put_here p q qs h = ap (λ b. cond b (p ∷ q ∷ qs) (q ∷ put_member p qs)) h
 
-put_later : (p q : Member) (qs : List Member) → before p.0 q.0 ≡ false → put p (q ∷ qs) ≡ q ∷ put p qs
+put_later : (p q : Member) (qs : List Member) → before p.0 q.0 ≡ false → put_member p (q ∷ qs) ≡ q ∷ put_member p qs
 unfolding before
-put_later p q qs h = ap (λ b. cond b (p ∷ q ∷ qs) (q ∷ put p qs)) h
+put_later p q qs h = ap (λ b. cond b (p ∷ q ∷ qs) (q ∷ put_member p qs)) h
 
 cases : (b : Bool) → (b ≡ true) ⊎ (b ≡ false)
 cases true = inl refl
 cases false = inr refl
 
 -- the first of two goes in before the other, whichever goes in first
-put_both : (p q : Member) (ms : List Member) → before p.0 q.0 ≡ true → before q.0 p.0 ≡ false → put p (put q ms) ≡ put q (put p ms)
+put_both : (p q : Member) (ms : List Member) → before p.0 q.0 ≡ true → before q.0 p.0 ≡ false → put_member p (put_member q ms) ≡ put_member q (put_member p ms)
 put_both p q [] h g = put_here p q [] h ∙ sym (put_later q p [] g)
 put_both p q (m ∷ ms) h g = by (cases (before q.0 m.0)) (cases (before p.0 m.0)) (put_both p q ms h g)
   where
-    by : (before q.0 m.0 ≡ true) ⊎ (before q.0 m.0 ≡ false) → (before p.0 m.0 ≡ true) ⊎ (before p.0 m.0 ≡ false) → put p (put q ms) ≡ put q (put p ms) → put p (put q (m ∷ ms)) ≡ put q (put p (m ∷ ms))
-    by (inl qm) (inl pm) more = ap (put p) (put_here q m ms qm) ∙ put_here p q (m ∷ ms) h ∙ sym (ap (put q) (put_here p m ms pm) ∙ put_later q p (m ∷ ms) g ∙ ap (λ x. p ∷ x) (put_here q m ms qm))
+    by : (before q.0 m.0 ≡ true) ⊎ (before q.0 m.0 ≡ false) → (before p.0 m.0 ≡ true) ⊎ (before p.0 m.0 ≡ false) → put_member p (put_member q ms) ≡ put_member q (put_member p ms) → put_member p (put_member q (m ∷ ms)) ≡ put_member q (put_member p (m ∷ ms))
+    by (inl qm) (inl pm) more = ap (put_member p) (put_here q m ms qm) ∙ put_here p q (m ∷ ms) h ∙ sym (ap (put_member q) (put_here p m ms pm) ∙ put_later q p (m ∷ ms) g ∙ ap (λ x. p ∷ x) (put_here q m ms qm))
     by (inl qm) (inr pm) more = absurd (true≢false (sym (before_trans p.0 q.0 m.0 h qm) ∙ pm))
-    by (inr qm) (inl pm) more = ap (put p) (put_later q m ms qm) ∙ put_here p m (put q ms) pm ∙ sym (ap (put q) (put_here p m ms pm) ∙ put_later q p (m ∷ ms) g ∙ ap (λ x. p ∷ x) (put_later q m ms qm))
-    by (inr qm) (inr pm) more = ap (put p) (put_later q m ms qm) ∙ put_later p m (put q ms) pm ∙ ap (λ x. m ∷ x) more ∙ sym (ap (put q) (put_later p m ms pm) ∙ put_later q m (put p ms) qm)
+    by (inr qm) (inl pm) more = ap (put_member p) (put_later q m ms qm) ∙ put_here p m (put_member q ms) pm ∙ sym (ap (put_member q) (put_here p m ms pm) ∙ put_later q p (m ∷ ms) g ∙ ap (λ x. p ∷ x) (put_later q m ms qm))
+    by (inr qm) (inr pm) more = ap (put_member p) (put_later q m ms qm) ∙ put_later p m (put_member q ms) pm ∙ ap (λ x. m ∷ x) more ∙ sym (ap (put_member q) (put_later p m ms pm) ∙ put_later q m (put_member p ms) qm)
 
-put_twice : (p q : Member) (ms : List Member) → (bytes_cmp p.0 q.0 ≡ Equal → ⊥) → put p (put q ms) ≡ put q (put p ms)
+put_twice : (p q : Member) (ms : List Member) → (bytes_cmp p.0 q.0 ≡ Equal → ⊥) → put_member p (put_member q ms) ≡ put_member q (put_member p ms)
 put_twice p q ms apart = elim (one_before p.0 q.0 apart) [
   | inl h ↦ put_both p q ms h.0 h.1
   | inr h ↦ sym (put_both q p ms h.1 h.0)
@@ -80,7 +80,7 @@ each_ordered P [] h = tt
 each_ordered P (p ∷ ps) h = each_insert P p.0 p.1 (ordered_entries ps) h.0 (each_ordered P ps h.1)
 
 -- an entry that is put in among those of other keys
-insert_texts : (k : List ℕ) (t : Tree) (es : Entries) → EachKey (λ l. bytes_cmp k l ≡ Less) es → by_bytes (entry_texts (insert k t es)) ≡ put (k, dag_json t) (by_bytes (entry_texts es))
+insert_texts : (k : List ℕ) (t : Tree) (es : Entries) → EachKey (λ l. bytes_cmp k l ≡ Less) es → by_bytes (entry_texts (insert k t es)) ≡ put_member (k, dag_json t) (by_bytes (entry_texts es))
 unfolding dag_json
 insert_texts k t no_entries h = refl
 insert_texts k t (entry l u es) h = by (comes_before k l) (insert_texts k t es h.1)
@@ -88,14 +88,14 @@ insert_texts k t (entry l u es) h = by (comes_before k l) (insert_texts k t es h
     apart : bytes_cmp k l ≡ Equal → ⊥
     apart e = let clash : Less ≡ Equal = sym h.0 ∙ e in cc clash
 
-    by : (b : Bool) → by_bytes (entry_texts (insert k t es)) ≡ put (k, dag_json t) (by_bytes (entry_texts es)) → by_bytes (entry_texts (cond b (entry k t (entry l u es)) (entry l u (insert k t es)))) ≡ put (k, dag_json t) (put (l, dag_json u) (by_bytes (entry_texts es)))
+    by : (b : Bool) → by_bytes (entry_texts (insert k t es)) ≡ put_member (k, dag_json t) (by_bytes (entry_texts es)) → by_bytes (entry_texts (cond b (entry k t (entry l u es)) (entry l u (insert k t es)))) ≡ put_member (k, dag_json t) (put_member (l, dag_json u) (by_bytes (entry_texts es)))
     by true more = refl
-    by false more = ap (put (l, dag_json u)) more ∙ sym (put_twice (k, dag_json t) (l, dag_json u) (by_bytes (entry_texts es)) apart)
+    by false more = ap (put_member (l, dag_json u)) more ∙ sym (put_twice (k, dag_json t) (l, dag_json u) (by_bytes (entry_texts es)) apart)
 
 abbrev pub members : List (List ℕ × Tree) → List Member
 members ps = map (λ p. (p.0, dag_json p.1)) ps
 
-first_put : (p : Member) (ps : List (List ℕ × Tree)) → AllByRecursion (λ l. bytes_cmp p.0 l ≡ Less) (keys_of ps) → put p (members ps) ≡ p ∷ members ps
+first_put : (p : Member) (ps : List (List ℕ × Tree)) → AllByRecursion (λ l. bytes_cmp p.0 l ≡ Less) (keys_of ps) → put_member p (members ps) ≡ p ∷ members ps
 unfolding before
 first_put p [] h = refl
 first_put p (q ∷ qs) h = put_here p (q.0, dag_json q.1) (members qs) (ap is_lt h.0)
@@ -106,5 +106,5 @@ unfolding dag_json IsStrictlySortedBy
 sorted_members [] h = refl
 sorted_members (p ∷ ps) h =
     insert_texts p.0 p.1 (ordered_entries ps) (each_ordered (λ l. bytes_cmp p.0 l ≡ Less) ps h.0)
-    ∙ ap (put (p.0, dag_json p.1)) (sorted_members ps h.1)
+    ∙ ap (put_member (p.0, dag_json p.1)) (sorted_members ps h.1)
     ∙ first_put (p.0, dag_json p.1) ps h.0

@@ -12,7 +12,7 @@ use Rattle.base64.specs.Engines.{standard_no_pad}
 use Rattle.ipld_tree.specs.Key.{bytes_cmp}
 use Rattle.ipld_tree.specs.Tree.{Tree, null, boolean, integer, text, bytes, list, mapping, link, Items, no_items, item, Entries, no_entries, entry}
 use Rattle.cid_text.specs.Texts.{text_of_form}
-use Rattle.dag_json.specs.DagJson.{joined, json_text, list_text, map_text, member_text, Member, put, by_bytes, boolean_text, dag_json, entry_texts}
+use Rattle.dag_json.specs.DagJson.{joined, json_text, list_text, map_text, member_text, Member, put_member, by_bytes, boolean_text, dag_json, entry_texts}
 use Rattle.dag_json.proofs.Plain.{IsPlain, same_text, plain_quoted}
 use Rattle.dag_json.proofs.Slots.{KeyAndTree}
 
@@ -54,7 +54,7 @@ pub values_in_order : {A B : Type 0} (f : A → B) (ps : List (List ℕ × A)) �
 values_in_order f [] = refl
 values_in_order f (p ∷ ps) = ap (put_pair (p.0, f p.1)) (values_in_order f ps) ∙ values_put f p (in_order ps)
 
-same_put : (p : Member) (qs : List Member) → put p qs ≡ put_pair p qs
+same_put : (p : Member) (qs : List Member) → put_member p qs ≡ put_pair p qs
 same_put p [] = refl
 same_put p (q ∷ qs) = ap (λ x. cond (is_lt (bytes_cmp p.0 q.0)) (p ∷ q ∷ qs) (q ∷ x)) (same_put p qs)
 

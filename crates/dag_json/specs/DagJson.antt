@@ -44,15 +44,15 @@ abbrev pub Member : Type 0
 Member = List ℕ × List ℕ
 
 -- put into its place by the bytes of the keys
-abbrev pub put : Member → List Member → List Member
-put p [] = p ∷ []
-put p (q ∷ qs) = if is_lt (bytes_cmp p.0 q.0) then p ∷ q ∷ qs else q ∷ put p qs
+abbrev pub put_member : Member → List Member → List Member
+put_member p [] = p ∷ []
+put_member p (q ∷ qs) = if is_lt (bytes_cmp p.0 q.0) then p ∷ q ∷ qs else q ∷ put_member p qs
 
 -- in the order of the bytes of the keys, as DAG-JSON has it: not that of DAG-CBOR, in which shorter
 -- keys stand first
 abbrev pub by_bytes : List Member → List Member
 by_bytes [] = []
-by_bytes (p ∷ ps) = put p (by_bytes ps)
+by_bytes (p ∷ ps) = put_member p (by_bytes ps)
 
 -- a key, a colon, and the value
 abbrev pub member_text : Member → List ℕ

@@ -25,7 +25,7 @@ pub fn offset_inside(alloc: Global, text: &str) -> Result<usize, AllocError> {
     let mut reader = Reader::new(text, &mut scratch)?;
     let mut open: usize = 0;
     let mut is_reserved = false;
-    for _index in 0..u64::MAX {
+    for _index in 0..text.len() {
         let offset = reader.offset();
         match reader.next() {
             None => return Ok(offset),

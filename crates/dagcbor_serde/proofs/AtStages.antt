@@ -3,30 +3,30 @@ use Rattle.std.proofs.Common.{◌≡◌, ℕ, List, Some, None, sym, ◌∙◌, 
 use Rattle.ipld_tree.specs.Tree.{Tree}
 use Rattle.dagcbor_write.specs.Trees.{Pair}
 use Rattle.dagcbor_serde.specs.Building.{Level, whole, in_list, in_map, in_link, rests, for_key, for_value, for_map}
-use Rattle.dagcbor_serde.specs.Holds.{Holds, Part}
+use Rattle.dagcbor_serde.specs.Holds.{HoldsLevel, Part}
 use Rattle.dagcbor_serde.specs.declared.frame.Stage.{Stage}
 use Rattle.dagcbor_serde.specs.declared.frame.Stage.TheVariants as stage
 
 -- the property is shown of each level that is held at the stage
 abbrev pub ShownAt : Stage → Part → (Level → Type 0) → Type 0
-ShownAt stage.Vacant f P = Holds (whole None) f → P (whole None)
-ShownAt stage.Full f P = (u : Tree) → Holds (whole (Some u)) f → P (whole (Some u))
-ShownAt stage.List f P = (ts : List Tree) → Holds (in_list ts) f → P (in_list ts)
-ShownAt stage.Rests f P = (ps : List Pair) (n : ℕ) → Holds (in_map ps rests n) f → P (in_map ps rests n)
-ShownAt stage.WantsKey f P = (ps : List Pair) (n : ℕ) → Holds (in_map ps for_key n) f → P (in_map ps for_key n)
-ShownAt stage.WantsValue f P = (ps : List Pair) (k : List ℕ) (n : ℕ) → Holds (in_map ps (for_value k) n) f → P (in_map ps (for_value k) n)
-ShownAt stage.WantsMap f P = (ps : List Pair) (n : ℕ) → Holds (in_map ps for_map n) f → P (in_map ps for_map n)
-ShownAt stage.Link f P = Holds (in_link None) f → P (in_link None)
-ShownAt stage.Linked f P = (c : List ℕ) → Holds (in_link (Some c)) f → P (in_link (Some c))
+ShownAt stage.Vacant f P = HoldsLevel (whole None) f → P (whole None)
+ShownAt stage.Full f P = (u : Tree) → HoldsLevel (whole (Some u)) f → P (whole (Some u))
+ShownAt stage.List f P = (ts : List Tree) → HoldsLevel (in_list ts) f → P (in_list ts)
+ShownAt stage.Rests f P = (ps : List Pair) (n : ℕ) → HoldsLevel (in_map ps rests n) f → P (in_map ps rests n)
+ShownAt stage.WantsKey f P = (ps : List Pair) (n : ℕ) → HoldsLevel (in_map ps for_key n) f → P (in_map ps for_key n)
+ShownAt stage.WantsValue f P = (ps : List Pair) (k : List ℕ) (n : ℕ) → HoldsLevel (in_map ps (for_value k) n) f → P (in_map ps (for_value k) n)
+ShownAt stage.WantsMap f P = (ps : List Pair) (n : ℕ) → HoldsLevel (in_map ps for_map n) f → P (in_map ps for_map n)
+ShownAt stage.Link f P = HoldsLevel (in_link None) f → P (in_link None)
+ShownAt stage.Linked f P = (c : List ℕ) → HoldsLevel (in_link (Some c)) f → P (in_link (Some c))
 
 -- what is held is held at its own stage
-pub at_stage : (s : Stage) (f : Part) (P : Level → Type 0) → f.frame.stage ≡ s → ShownAt s f P → (l : Level) → Holds l f → P l
+pub at_stage : (s : Stage) (f : Part) (P : Level → Type 0) → f.frame.stage ≡ s → ShownAt s f P → (l : Level) → HoldsLevel l f → P l
 at_stage s f P at g l h = by l h
   where
     shown : (r : Stage) → f.frame.stage ≡ r → ShownAt r f P
     shown r is = subst (λ x. ShownAt x f P) (sym at ∙ is) g
 
-    by : (l : Level) → Holds l f → P l
+    by : (l : Level) → HoldsLevel l f → P l
     by (whole None) h = shown stage.Vacant h.0 h
     by (whole (Some u)) h = shown stage.Full h.0 u h
     by (in_list ts) h = shown stage.List h.0 ts h

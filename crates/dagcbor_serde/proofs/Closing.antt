@@ -12,8 +12,8 @@ use Rattle.dagcbor_write.specs.Trees.{Pair}
 use Rattle.dagcbor_write.specs.Order.{PutsInOrder, entries_bytes}
 use Rattle.dagcbor_write.proofs.Mapping.{in_order}
 use Rattle.dagcbor_write.proofs.Spelling.{head_is_spelled}
-use Rattle.dagcbor_serde.specs.Building.{Level, whole, in_list, in_map, in_link, rests, for_key, for_value, for_map, State, state, begin, begin_map, close, list_of, close_map}
-use Rattle.dagcbor_serde.specs.Holds.{IsGood, Holds, HoldsEntries, PutsEntries, PutsEach, AreInOrder, Opens, HoldsAll, part, StepsBy, Lands, Begins}
+use Rattle.dagcbor_serde.specs.Building.{Level, whole, in_list, in_map, in_link, rests, for_key, for_value, for_map, State, state, begin, begin_map, close, ended_list, close_map}
+use Rattle.dagcbor_serde.specs.Holds.{IsGood, HoldsLevel, HoldsEntries, PutsEntries, PutsEach, AreInOrder, Opens, HoldsAll, part, StepsBy, Lands, BeginsStage}
 use Rattle.dagcbor_write.specs.Spans.{whole_at, IsWithin, entry_at}
 use Rattle.dagcbor_serde.specs.declared.frame.Frame.{Frame}
 use Rattle.dagcbor_write.specs.declared.collect.gathered.Span.{Span}
@@ -76,12 +76,12 @@ module _ (old new : Sink) where
       let order : reverse new.below.items ≡ old.top ∷ reverse old.below.items = ap (λ fs. reverse fs) below ∙ reverse-append old.below.items (old.top ∷ []) in
       subst P (sym order) (subst Q (sym before) (subst R (sym listed) h))
 
-  begun : (b : Begins new.top.stage old new) (l : Level) → Holds l (part new.top new.bytes.items []) → (ls : List Level) → Opens ls (old.top ∷ reverse old.below.items) old.bytes.items old.spans.items
+  begun : (b : BeginsStage new.top.stage old new) (l : Level) → HoldsLevel l (part new.top new.bytes.items []) → (ls : List Level) → Opens ls (old.top ∷ reverse old.below.items) old.bytes.items old.spans.items
       → Opens (l ∷ ls) (new.top ∷ reverse new.below.items) new.bytes.items new.spans.items
   begun b l held ls h =
       let place : new.top.place ≡ length old.bytes.items = ap (λ (f : Frame). f.place) b.top in
       let first : new.top.first ≡ length old.spans.items = ap (λ (f : Frame). f.first) b.top in
-      let P : List Span → Type 0 = λ x. Holds l (part new.top new.bytes.items x) in
+      let P : List Span → Type 0 = λ x. HoldsLevel l (part new.top new.bytes.items x) in
       let none : drop new.top.first new.spans.items ≡ [] = ap₂ (λ n x. drop n x) first b.spans ∙ drop-length old.spans.items in
       (subst P (sym none) held, omega (arith, place, ap length b.bytes, length-append old.bytes.items (0x00 ∷ [])), omega (arith, first, ap length b.spans), around new.top place first b.bytes b.spans b.below ls h)
 
@@ -92,15 +92,15 @@ module _ (old new : Sink) where
   inside : (f : Frame) → f.place ≡ length old.bytes.items → new.bytes.items ≡ old.bytes.items ++ 0x00 ∷ [] → f.place < length new.bytes.items
   inside f place bytes = omega (arith, place, ap length bytes, length-append old.bytes.items (0x00 ∷ []))
 
-  pub list_begun : Begins stage.List old new → StepsBy (begin (in_list [])) old new
+  pub list_begun : BeginsStage stage.List old new → StepsBy (begin (in_list [])) old new
   unfolding spelled
   list_begun b s h =
       let at : new.top.stage ≡ stage.List = ap (λ (f : Frame). f.stage) b.top in
       let place : new.top.place ≡ length old.bytes.items = ap (λ (f : Frame). f.place) b.top in
-      let held : Holds (in_list []) (part new.top new.bytes.items []) = (at, ap (λ (f : Frame). f.count) b.top, ap Some (sym (nothing new.top place b.bytes)), tt, inside new.top place b.bytes, refl) in
-      (state (in_list []) (s.top ∷ s.around), refl, begun (subst (λ k. Begins k old new) (sym at) b) (in_list []) held (s.top ∷ s.around) h)
+      let held : HoldsLevel (in_list []) (part new.top new.bytes.items []) = (at, ap (λ (f : Frame). f.count) b.top, ap Some (sym (nothing new.top place b.bytes)), tt, inside new.top place b.bytes, refl) in
+      (state (in_list []) (s.top ∷ s.around), refl, begun (subst (λ k. BeginsStage k old new) (sym at) b) (in_list []) held (s.top ∷ s.around) h)
 
-  pub map_begun : (old.top.stage ≡ stage.WantsMap → ⊥) → Begins stage.Rests old new → StepsBy (λ s. begin_map s.top s.around) old new
+  pub map_begun : (old.top.stage ≡ stage.WantsMap → ⊥) → BeginsStage stage.Rests old new → StepsBy (λ s. begin_map s.top s.around) old new
   map_begun n b s h = by s.top s.around h
     where
       at : new.top.stage ≡ stage.Rests
@@ -112,11 +112,11 @@ module _ (old new : Sink) where
       entries : HoldsEntries [] new.top.place new.bytes.items []
       entries = (tt, λ k d i. absurd (omega (arith, i)), sym (nothing new.top place b.bytes), inside new.top place b.bytes)
 
-      held : Holds (in_map [] rests 0) (part new.top new.bytes.items [])
+      held : HoldsLevel (in_map [] rests 0) (part new.top new.bytes.items [])
       held = ((at, entries), ap (λ (f : Frame). f.flat) b.top)
 
       all : (l : Level) (ls : List Level) → Opens (l ∷ ls) (old.top ∷ reverse old.below.items) old.bytes.items old.spans.items → HoldsAll (state (in_map [] rests 0) (l ∷ ls)) new
-      all l ls p = begun (subst (λ k. Begins k old new) (sym at) b) (in_map [] rests 0) held (l ∷ ls) p
+      all l ls p = begun (subst (λ k. BeginsStage k old new) (sym at) b) (in_map [] rests 0) held (l ∷ ls) p
 
       by : (l : Level) (ls : List Level) → Opens (l ∷ ls) (old.top ∷ reverse old.below.items) old.bytes.items old.spans.items → (t : State) × (begin_map l ls ≡ Some t) × HoldsAll t new
       by (whole o) ls p = (_, refl, all (whole o) ls p)
@@ -197,9 +197,9 @@ unfolding spelled
 good_list ts n b count fits e good =
     (ap₂ (λ (x y : Option (List ℕ)). x ++? y) (ap (spelled_head 4) (count_items ts ∙ sym count) ∙ head_is_spelled 4 n fits) e, good)
 
-pub list_ended : (old new : Sink) → old.top.stage ≡ stage.List → old.top.count < 2 ^ 64 → (drop old.top.first old.spans.items ≡ [] → Left old new (head 4 old.top.count ++ drop (old.top.place + 1) old.bytes.items)) → StepsBy (λ s. close (list_of s.top) s.around) old new
+pub list_ended : (old new : Sink) → old.top.stage ≡ stage.List → old.top.count < 2 ^ 64 → (drop old.top.first old.spans.items ≡ [] → Left old new (head 4 old.top.count ++ drop (old.top.place + 1) old.bytes.items)) → StepsBy (λ s. close (ended_list s.top) s.around) old new
 list_ended old new at fits l s h =
-    at_stage stage.List (part old.top old.bytes.items (drop old.top.first old.spans.items)) (λ k. (t : State) × (close (list_of k) s.around ≡ Some t) × HoldsAll t new) at (λ ts held.
+    at_stage stage.List (part old.top old.bytes.items (drop old.top.first old.spans.items)) (λ k. (t : State) × (close (ended_list k) s.around ≡ Some t) × HoldsAll t new) at (λ ts held.
     closed (list (items_of ts)) _ old new s.around (good_list ts old.top.count (drop (old.top.place + 1) old.bytes.items) held.1 fits held.2 held.3) (l held.5) h.1 h.3) s.top h.0
 
 pub link_ended : (old new : Sink) → old.top.stage ≡ stage.Linked → (drop old.top.first old.spans.items ≡ [] → Left old new (drop old.top.place old.bytes.items)) → StepsBy (λ s. close_map s.top s.around) old new
@@ -260,7 +260,7 @@ module _ (old new : Sink) (f around : Frame) (below : List Frame) (spans : List 
         lands = subst (λ (g : Frame). P g.place (length new.bytes.items)) is (subst (λ x. P f.place (length x)) (sym all) lands);
       }
 
-  pub list_closes : (b : List ℕ) → spans ≡ old.spans.items → b ≡ old.bytes.items → old.top.stage ≡ stage.List → f.count < 2 ^ 64 → out ≡ take f.place b ++ (head 4 f.count ++ drop (f.place + 1) b) → StepsBy (λ s. close (list_of s.top) s.around) old new
+  pub list_closes : (b : List ℕ) → spans ≡ old.spans.items → b ≡ old.bytes.items → old.top.stage ≡ stage.List → f.count < 2 ^ 64 → out ≡ take f.place b ++ (head 4 f.count ++ drop (f.place + 1) b) → StepsBy (λ s. close (ended_list s.top) s.around) old new
   list_closes b listed same at fits set = list_ended old new at (subst (λ (g : Frame). g.count < 2 ^ 64) is fits) (λ none. leaves (head 4 old.top.count ++ drop (old.top.place + 1) old.bytes.items) (listed ∙ all_listed old.top.first old.spans.items none)
       (set ∙ ap₂ (λ (g : Frame) x. take g.place x ++ (head 4 g.count ++ drop (g.place + 1) x)) is same))
 

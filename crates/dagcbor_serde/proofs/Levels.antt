@@ -11,7 +11,7 @@ use Rattle.dagcbor_write.specs.Trees.{Pair}
 use Rattle.dagcbor_write.specs.Maps.{Texts, IsSpellingOf, AreSpellingsOf}
 use Rattle.dagcbor_write.proofs.Mapping.{pairwise_push}
 use Rattle.dagcbor_serde.specs.Building.{Level, whole, in_list, in_map, in_link, rests, for_key, for_value, for_map, put, put_key, put_unit, put_bytes, as_link, begin_key, flatten}
-use Rattle.dagcbor_serde.specs.Holds.{IsGood, Holds, HoldsEntries, Part, part}
+use Rattle.dagcbor_serde.specs.Holds.{IsGood, HoldsLevel, HoldsEntries, Part, part}
 use Rattle.dagcbor_write.specs.Spans.{whole_at, entry_at, IsWithin}
 use Rattle.dagcbor_serde.specs.declared.frame.Frame.{Frame}
 use Rattle.dagcbor_write.specs.declared.collect.gathered.Span.{Span}
@@ -21,11 +21,11 @@ use Rattle.dagcbor_serde.proofs.Spans.{entries_stay, within_stays, wholes_stay, 
 
 -- what is held behind a level
 abbrev pub After : (Level → Option Level) → Part → Level → Type 0
-After next new l = (m : Level) × (next l ≡ Some m) × Holds m new
+After next new l = (m : Level) × (next l ≡ Some m) × HoldsLevel m new
 
 -- where a level is held, its successor is
 abbrev pub Moves : (Level → Option Level) → Part → Part → Type 0
-Moves next old new = (l : Level) → Holds l old → After next new l
+Moves next old new = (l : Level) → HoldsLevel l old → After next new l
 
 -- ---- lists
 
@@ -94,7 +94,7 @@ module _ (k : List ℕ) (f : Frame) (b more : List ℕ) (ss : List Span) (good :
   waiting = part (record f { stage = stage.WantsValue; key = length b }) (b ++ more) ss
 
   -- a key behind the entries
-  waits : (ps : List Pair) (n : ℕ) → HoldsEntries ps f.place b ss → f.flat ≡ n → Holds (in_map ps (for_value k) n) waiting
+  waits : (ps : List Pair) (n : ℕ) → HoldsEntries ps f.place b ss → f.flat ≡ n → HoldsLevel (in_map ps (for_value k) n) waiting
   waits ps n h flat =
       let P : List ℕ → Type 0 = λ x. HoldsEntries ps f.place x ss in
       let Q : List ℕ → Type 0 = λ x. IsGood (text k) x in
@@ -138,10 +138,10 @@ module _ (f : Frame) (b : List ℕ) (ss : List Span) where
 
 -- ---- what is no more than an item
 
-pub unit_is_null : (p : Part) → (p.frame.stage ≡ stage.WantsMap → ⊥) → (l : Level) → Holds l p → put null l ≡ put_unit l
+pub unit_is_null : (p : Part) → (p.frame.stage ≡ stage.WantsMap → ⊥) → (l : Level) → HoldsLevel l p → put null l ≡ put_unit l
 unit_is_null p n (in_map ps for_map k) h = absurd (n h.0.0)
 unit_is_null p n _ h = refl
 
-pub bytes_are_bytes : (s : List ℕ) (p : Part) → (p.frame.stage ≡ stage.Link → ⊥) → (l : Level) → Holds l p → put (bytes s) l ≡ put_bytes s l
+pub bytes_are_bytes : (s : List ℕ) (p : Part) → (p.frame.stage ≡ stage.Link → ⊥) → (l : Level) → HoldsLevel l p → put (bytes s) l ≡ put_bytes s l
 bytes_are_bytes s p n (in_link None) h = absurd (n h.0)
 bytes_are_bytes s p n _ h = refl

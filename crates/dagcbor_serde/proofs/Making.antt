@@ -16,7 +16,7 @@ use Rattle.ipld_tree.specs.Spelling.{IsSpelling}
 use Rattle.dagcbor_write.specs.Trees.{Pair}
 use Rattle.dagcbor_serde.specs.Building.{Level, in_list, in_map, in_link, rests, for_value, for_map, State, state, start, put, put_unit, put_bytes, on_top, begin_map, close, step, steps, finished, events_tree}
 use Rattle.dagcbor_serde.specs.Links.{WritesLink, link_events}
-use Rattle.dagcbor_serde.specs.Making.{takes_items, Makes, GrowsBy, WritesTree, TreesAreWritten, LeavesAreWritten, ListsAreWritten}
+use Rattle.dagcbor_serde.specs.Making.{takes_items, MakesTree, GrowsBy, WritesEvents, TreesAreWritten, LeavesAreWritten, ListsAreWritten}
 
 -- ---- logs
 
@@ -49,10 +49,10 @@ steps_then [] fs s = refl
 steps_then (e ∷ es) fs s = then_assoc es fs (step e s) (steps_then es fs)
 
 -- one event that is an item wherever one is taken
-one_event : (e : Event) (t : Tree) → ((s : State) → IsTrue (takes_items s.top) → step e s ≡ on_top (put t) s) → Makes (e ∷ []) t
+one_event : (e : Event) (t : Tree) → ((s : State) → IsTrue (takes_items s.top) → step e s ≡ on_top (put t) s) → MakesTree (e ∷ []) t
 one_event e t h s k = some_same (step e s) ∙ h s k
 
-pub sends : (e : Event) (t : Tree) (a b : Log) → ((s : State) → IsTrue (takes_items s.top) → step e s ≡ on_top (put t) s) → Logs a b e → WritesTree t a b
+pub sends : (e : Event) (t : Tree) (a b : Log) → ((s : State) → IsTrue (takes_items s.top) → step e s ≡ on_top (put t) s) → Logs a b e → WritesEvents t a b
 sends e t a b h k = (e ∷ [], grows_one e a b k, one_event e t h)
 
 unit_put : (l : Level) → IsTrue (takes_items l) → put_unit l ≡ put null l
@@ -70,19 +70,19 @@ map_begun (in_map ps for_map n) ls h = absurd (cc h)
 map_begun (in_link o) ls h = absurd (cc h)
 map_begun _ ls h = refl
 
-pub sends_null : (a b : Log) → Logs a b event.nothing → WritesTree null a b
+pub sends_null : (a b : Log) → Logs a b event.nothing → WritesEvents null a b
 sends_null a b = sends event.nothing null a b (λ s h. ap (option_map (λ l. state l s.around)) (unit_put s.top h))
 
-pub sends_boolean : (v : Bool) (a b : Log) → Logs a b (event.boolean v) → WritesTree (boolean v) a b
+pub sends_boolean : (v : Bool) (a b : Log) → Logs a b (event.boolean v) → WritesEvents (boolean v) a b
 sends_boolean v a b = sends (event.boolean v) (boolean v) a b (λ s h. refl)
 
-pub sends_integer : (n : ℤ) (a b : Log) → Logs a b (event.signed n) → WritesTree (integer n) a b
+pub sends_integer : (n : ℤ) (a b : Log) → Logs a b (event.signed n) → WritesEvents (integer n) a b
 sends_integer n a b = sends (event.signed n) (integer n) a b (λ s h. refl)
 
-pub sends_text : (v : List ℕ) (a b : Log) → Logs a b (event.text v) → WritesTree (text v) a b
+pub sends_text : (v : List ℕ) (a b : Log) → Logs a b (event.text v) → WritesEvents (text v) a b
 sends_text v a b = sends (event.text v) (text v) a b (λ s h. refl)
 
-pub sends_bytes : (v : List ℕ) (a b : Log) → Logs a b (octets v) → WritesTree (bytes v) a b
+pub sends_bytes : (v : List ℕ) (a b : Log) → Logs a b (octets v) → WritesEvents (bytes v) a b
 sends_bytes v a b = sends (octets v) (bytes v) a b (λ s h. ap (option_map (λ l. state l s.around)) (bytes_put v s.top h))
 
 -- ---- links
@@ -90,12 +90,12 @@ sends_bytes v a b = sends (octets v) (bytes v) a b (λ s h. ap (option_map (λ l
 in_map_begun : (es : List Event) (s : State) → IsTrue (takes_items s.top) → option_and_then (steps es) (begin_map s.top s.around) ≡ steps es (state (in_map [] rests 0) (s.top ∷ s.around))
 in_map_begun es s h = ap (option_and_then (steps es)) (map_begun s.top s.around h)
 
-link_made : (cid : List ℕ) → Makes (link_events cid) (link cid)
+link_made : (cid : List ℕ) → MakesTree (link_events cid) (link cid)
 link_made cid s h =
     in_map_begun (field_key (codes "/") Kebab ∷ octets cid ∷ map_ends ∷ []) s h
     ∙ some_same (close (Some (link cid)) (s.top ∷ s.around))
 
-pub sends_link : (cid : List ℕ) (a b : Log) → WritesLink cid a b → WritesTree (link cid) a b
+pub sends_link : (cid : List ℕ) (a b : Log) → WritesLink cid a b → WritesEvents (link cid) a b
 sends_link cid a b h = (
   link_events cid,
   grows_then (map_begins (Some 1) ∷ []) _ _ _ _ (grows_one _ _ _ h.3) (grows_then (field_key (codes "/") Kebab ∷ []) _ _ _ _ (grows_one _ _ _ h.4) (grows_then (octets cid ∷ []) (map_ends ∷ []) _ _ _ (grows_one _ _ _ h.5) (grows_one _ _ _ h.6))),
@@ -107,7 +107,7 @@ sends_link cid a b h = (
 abbrev MakesItems : List Event → List Tree → Type 0
 MakesItems es ts = (us : List Tree) (ls : List Level) → steps es (state (in_list us) ls) ≡ Some (state (in_list (us ++ ts)) ls)
 
-items_made : {A : Type 0} (tree : A → Tree) (xs : List A) (a b : Log) → WritesEach (λ x. WritesTree (tree x)) xs a b → (es : List Event) × GrowsBy es a b × MakesItems es (map tree xs)
+items_made : {A : Type 0} (tree : A → Tree) (xs : List A) (a b : Log) → WritesEach (λ x. WritesEvents (tree x)) xs a b → (es : List Event) × GrowsBy es a b × MakesItems es (map tree xs)
 items_made tree [] a b h = ([], grows_none a b h, λ us ls. ap (λ ts. Some (state (in_list ts) ls)) (sym (append-nil us)))
 items_made tree (x ∷ xs) a b h =
     let one = h.1 in
@@ -122,7 +122,7 @@ items_made tree (x ∷ xs) a b h =
     )
 
 -- the items in turn make the list of their trees
-pub sends_list : {A : Type 0} (tree : A → Tree) (xs : List A) (a b : Log) → WritesSeq (λ x. WritesTree (tree x)) xs a b → WritesTree (list (items_of (map tree xs))) a b
+pub sends_list : {A : Type 0} (tree : A → Tree) (xs : List A) (a b : Log) → WritesSeq (λ x. WritesEvents (tree x)) xs a b → WritesEvents (list (items_of (map tree xs))) a b
 sends_list tree xs a b h =
     let each = items_made tree xs h.0 h.1 h.3 in (
       seq_begins (Some _) ∷ (each.0 ++ seq_ends ∷ []),
@@ -138,7 +138,7 @@ sends_list tree xs a b h =
 abbrev MakesEntries : List Event → List Pair → Type 0
 MakesEntries es qs = (ps : List Pair) (ls : List Level) → steps es (state (in_map ps rests 0) ls) ≡ Some (state (in_map (ps ++ qs) rests 0) ls)
 
-entries_made : {K V : Type 0} (key : K → List ℕ) (tree : V → Tree) (xs : List (K × V)) (a b : Log) → WritesEach (WritesEntry (λ k old new. Logs old new (event.text (key k))) (λ v. WritesTree (tree v))) xs a b → (es : List Event) × GrowsBy es a b × MakesEntries es (map (λ e. (Some (text (key e.0)), Some (tree e.1))) xs)
+entries_made : {K V : Type 0} (key : K → List ℕ) (tree : V → Tree) (xs : List (K × V)) (a b : Log) → WritesEach (WritesEntry (λ k old new. Logs old new (event.text (key k))) (λ v. WritesEvents (tree v))) xs a b → (es : List Event) × GrowsBy es a b × MakesEntries es (map (λ e. (Some (text (key e.0)), Some (tree e.1))) xs)
 entries_made key tree [] a b h = ([], grows_none a b h, λ ps ls. ap (λ qs. Some (state (in_map qs rests 0) ls)) (sym (append-nil ps)))
 entries_made key tree (x ∷ xs) a b h =
     let one = h.1 in
@@ -157,7 +157,7 @@ entries_made key tree (x ∷ xs) a b h =
     )
 
 -- the entries in turn make their map, where no key repeats
-pub sends_map : {K V : Type 0} (key : K → List ℕ) (tree : V → Tree) (xs : List (K × V)) (t : Tree) (a b : Log) → entries_tree (map (λ e. (Some (text (key e.0)), Some (tree e.1))) xs) ≡ Some t → WritesMap (λ k old new. Logs old new (event.text (key k))) (λ v. WritesTree (tree v)) xs a b → WritesTree t a b
+pub sends_map : {K V : Type 0} (key : K → List ℕ) (tree : V → Tree) (xs : List (K × V)) (t : Tree) (a b : Log) → entries_tree (map (λ e. (Some (text (key e.0)), Some (tree e.1))) xs) ≡ Some t → WritesMap (λ k old new. Logs old new (event.text (key k))) (λ v. WritesEvents (tree v)) xs a b → WritesEvents t a b
 sends_map key tree xs t a b is h =
     let each = entries_made key tree xs h.0 h.1 h.3 in (
       map_begins (Some _) ∷ (each.0 ++ map_ends ∷ []),
@@ -172,7 +172,7 @@ sends_map key tree xs t a b is h =
 
 -- ---- whole values
 
-whole_made : (es : List Event) (t : Tree) → Makes es t → events_tree es ≡ Some t
+whole_made : (es : List Event) (t : Tree) → MakesTree es t → events_tree es ≡ Some t
 whole_made es t h = ap (option_and_then finished) (h start refl)
 
 pub written_trees : TreesAreWritten
@@ -203,8 +203,8 @@ pub link_kind : (j : Ipld) (c : CidParts) → j ≡ Link' c → link (cid_bytes 
 link_kind j c is = sym (search (rules, the_lemmas)) ∙ ap tree_of (sym is)
 
 -- the events of a leaf, of whichever kind it is
-pub of_kind : {T E : Type 0} (r : Result T E) (sent : Type 0) (t u : Tree) (a b : Log) → t ≡ u → (sent → WritesTree t a b) → OnOk r sent → OnOk r (WritesTree u a b)
-of_kind r sent t u a b is f h = on_ok_weaker r (λ s. subst (λ x. WritesTree x a b) is (f s)) h
+pub of_kind : {T E : Type 0} (r : Result T E) (sent : Type 0) (t u : Tree) (a b : Log) → t ≡ u → (sent → WritesEvents t a b) → OnOk r sent → OnOk r (WritesEvents u a b)
+of_kind r sent t u a b is f h = on_ok_weaker r (λ s. subst (λ x. WritesEvents x a b) is (f s)) h
 
 -- the tree of a map
 pub map_made : (m : BTreeMap (String Global) Ipld) → IsStrictlySortedBy string_cmp (keys_of m.entries) → entries_tree (map (λ e. (Some (text (string_bytes e.0)), Some (tree_of e.1))) m.entries) ≡ Some (mapping (ordered_entries (pairs_of m.entries)))
@@ -223,7 +223,7 @@ leaves_written a b = (
   (λ cid. sends_link cid a b),
 )
 
-each_as : {A : Type 0} (writes : A → Log → Log → Type 0) (view : A → Tree) → ((x : A) (a b : Log) → writes x a b → WritesTree (view x) a b) → (xs : List A) (a b : Log) → WritesEach writes xs a b → WritesEach (λ x. WritesTree (view x)) xs a b
+each_as : {A : Type 0} (writes : A → Log → Log → Type 0) (view : A → Tree) → ((x : A) (a b : Log) → writes x a b → WritesEvents (view x) a b) → (xs : List A) (a b : Log) → WritesEach writes xs a b → WritesEach (λ x. WritesEvents (view x)) xs a b
 each_as writes view is [] a b h = h
 each_as writes view is (x ∷ xs) a b h = (h.0, is x a h.0 h.1, each_as writes view is xs h.0 b h.2)
 

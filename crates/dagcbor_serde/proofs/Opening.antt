@@ -7,7 +7,7 @@ use Rattle.ipld_tree.specs.Tree.{Tree}
 use Rattle.ipld_tree.specs.Cid.{IsCid}
 use Rattle.dagcbor_heads.specs.Head.{head}
 use Rattle.dagcbor_serde.specs.Building.{Level, state, put, put_key, put_bytes, as_link}
-use Rattle.dagcbor_serde.specs.Holds.{IsGood, Holds, Opens, part, MovesTop, Puts, Lands}
+use Rattle.dagcbor_serde.specs.Holds.{IsGood, HoldsLevel, Opens, part, MovesTop, PutsSpelling, Lands}
 use Rattle.dagcbor_serde.specs.declared.frame.Frame.{Frame}
 use Rattle.dagcbor_write.specs.declared.collect.gathered.Span.{Span}
 use Rattle.dagcbor_serde.specs.declared.frame.Stage.{Stage}
@@ -36,7 +36,7 @@ moved next f g b c ss ts place first bytes spans moves l ls fs h =
     let m = moves h.2 l h.0 in
     let bs = bytes h.1 in
     let es = spans h.2 in
-    let P : List Span → Type 0 = λ x. Holds m.0 (part g c x) in
+    let P : List Span → Type 0 = λ x. HoldsLevel m.0 (part g c x) in
     let Q : List ℕ → Type 0 = λ x. Opens ls fs x (take g.first ts) in
     let R : List Span → Type 0 = λ x. Opens ls fs (take f.place b) x in
     let before : take g.place c ≡ take f.place b = ap (λ n. take n c) place ∙ bs.0 in
@@ -88,7 +88,7 @@ stepped next old new same f s h =
 
 -- an item was appended, and came
 pub item_steps : (old new : Sink) (more : List ℕ) → new.bytes.items ≡ old.bytes.items ++ more → new.below.items ≡ old.below.items
-    → Lands old.top.stage (length old.bytes.items) (length new.bytes.items) old.top old.spans.items new.top new.spans.items → Puts more old new
+    → Lands old.top.stage (length old.bytes.items) (length new.bytes.items) old.top old.spans.items new.top new.spans.items → PutsSpelling more old new
 item_steps old new more is same lands t good = stepped (put t) old new same (λ l ls h.
     let P : List ℕ → Type 0 = λ x. Lands old.top.stage (length old.bytes.items) (length x) old.top old.spans.items new.top new.spans.items in
     let Q : List ℕ → Type 0 = λ x. Opened (put t) l ls new.top (reverse old.below.items) x new.spans.items in
@@ -125,7 +125,7 @@ key_steps next old new more moves top is same = stepped next old new (ap (λ v. 
     subst (λ k. P k new.bytes.items new.spans.items) (sym top) (subst (λ c. P g c new.spans.items) (sym is) (subst (λ v. P g (old.bytes.items ++ more) v.items) (sym same.0) m)))
 
 -- what is put is what is meant
-pub steps_as : (f g : Level → Option Level) (old new : Sink) → ((l : Level) → Holds l (part old.top old.bytes.items (drop old.top.first old.spans.items)) → f l ≡ g l) → MovesTop f old new → MovesTop g old new
+pub steps_as : (f g : Level → Option Level) (old new : Sink) → ((l : Level) → HoldsLevel l (part old.top old.bytes.items (drop old.top.first old.spans.items)) → f l ≡ g l) → MovesTop f old new → MovesTop g old new
 steps_as f g old new same m s h =
     let t = m s h in
     (t.0, ap (option_map (λ k. state k s.around)) (sym (same s.top h.0)) ∙ t.1, t.2)
@@ -133,11 +133,11 @@ steps_as f g old new same m s h =
 -- ---- where a call succeeds
 
 module _ {T E : Type 0} (old new : Sink) where
-  pub puts_good : (r : Result T E) (b : List ℕ) (t : Tree) → OnOk r (Puts b old new) → IsGood t b → OnOk r (MovesTop (put t) old new)
+  pub puts_good : (r : Result T E) (b : List ℕ) (t : Tree) → OnOk r (PutsSpelling b old new) → IsGood t b → OnOk r (MovesTop (put t) old new)
   puts_good (Ok u) b t h g = h t g
   puts_good (Err e) b t h g = tt
 
-  pub moves_as : (r : Result T E) (f g : Level → Option Level) → ((l : Level) → Holds l (part old.top old.bytes.items (drop old.top.first old.spans.items)) → f l ≡ g l) → OnOk r (MovesTop f old new) → OnOk r (MovesTop g old new)
+  pub moves_as : (r : Result T E) (f g : Level → Option Level) → ((l : Level) → HoldsLevel l (part old.top old.bytes.items (drop old.top.first old.spans.items)) → f l ≡ g l) → OnOk r (MovesTop f old new) → OnOk r (MovesTop g old new)
   moves_as (Ok u) f g k h = steps_as f g old new k h
   moves_as (Err e) f g k h = tt
 
@@ -145,7 +145,7 @@ module _ {T E : Type 0} (old new : Sink) where
   ok_then (Ok u) f h = f h
   ok_then (Err e) f h = tt
 
-  pub lands_ok : (r : Result T E) (more out : List ℕ) (from : ℕ) → from ≡ length old.bytes.items → out ≡ old.bytes.items ++ more → new.bytes.items ≡ out → new.below.items ≡ old.below.items → OnOk r (Lands old.top.stage from (length out) old.top old.spans.items new.top new.spans.items) → OnOk r (Puts more old new)
+  pub lands_ok : (r : Result T E) (more out : List ℕ) (from : ℕ) → from ≡ length old.bytes.items → out ≡ old.bytes.items ++ more → new.bytes.items ≡ out → new.below.items ≡ old.below.items → OnOk r (Lands old.top.stage from (length out) old.top old.spans.items new.top new.spans.items) → OnOk r (PutsSpelling more old new)
   lands_ok (Err e) more out from at is all same lands = tt
   lands_ok (Ok u) more out from at is all same lands =
       let P : ℕ → ℕ → Type 0 = λ m n. Lands old.top.stage m n old.top old.spans.items new.top new.spans.items in

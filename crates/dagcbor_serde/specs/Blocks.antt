@@ -11,8 +11,8 @@ use Rattle.dagcbor_serde.specs.declared.error.Error.{Error}
 use Rattle.dagcbor_serde.specs.declared.error.Error.TheVariants.{NoBlock, Misfit}
 
 -- the bytes are the spelling of the tree of the events
-abbrev pub IsBlockOf : Log → List ℕ → Type 0
-IsBlockOf log b = IsSomeAnd log (λ es. IsSomeAnd (events_tree es) (λ t. IsSpelling b t))
+abbrev pub IsBlockOfLog : Log → List ℕ → Type 0
+IsBlockOfLog log b = IsSomeAnd log (λ es. IsSomeAnd (events_tree es) (λ t. IsSpelling b t))
 
 -- the bytes are no block, for this cause; or they are one, and the type does not accept it, as was
 -- found at this place in them

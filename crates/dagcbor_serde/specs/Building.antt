@@ -114,9 +114,9 @@ close (Some t) [] = None
 close (Some t) (l ∷ ls) = option_map (λ m. state m ls) (put t l)
 
 -- the tree of a list that ends
-abbrev pub list_of : Level → Option Tree
-list_of (in_list ts) = Some (list (items_of ts))
-list_of _ = None
+abbrev pub ended_list : Level → Option Tree
+ended_list (in_list ts) = Some (list (items_of ts))
+ended_list _ = None
 
 abbrev pub close_map : Level → List Level → Option State
 close_map (in_map ps rests zero) ls = close (entries_tree ps) ls
@@ -139,7 +139,7 @@ step (event.octets bs) s = on_top (put_bytes bs) s
 step event.nothing s = on_top put_unit s
 step (event.unit_variant name case) s = on_top (put (text (spelled_name case Variant name))) s
 step (event.seq_begins n) s = begin (in_list []) s
-step event.seq_ends s = close (list_of s.top) s.around
+step event.seq_ends s = close (ended_list s.top) s.around
 step (event.map_begins n) s = begin_map s.top s.around
 step event.map_ends s = close_map s.top s.around
 step (event.field_key name case) s = on_top (put_field name case) s

@@ -4,18 +4,18 @@ use Rattle.std.specs.Io.KnownBytes.{Appends}
 use Rattle.serde.specs.Event.{Log}
 use Rattle.dagcbor_heads.specs.Written.{Written, WroteAll, Stops, AppendsFront}
 use Rattle.dagcbor_heads.specs.declared.error.EncodeError.TheVariants.{Write, OutOfMemory}
-use Rattle.dagcbor_serde.specs.Blocks.{IsBlockOf}
+use Rattle.dagcbor_serde.specs.Blocks.{IsBlockOfLog}
 use Rattle.dagcbor_serde.specs.declared.error.DeviceError.{DeviceError}
 use Rattle.dagcbor_serde.specs.declared.error.DeviceError.TheVariants.{Value, Device}
 
 -- the block of the events went out
 abbrev pub SendsBlock : Log → Written → Written → Type 0
-SendsBlock log old new = (b : List ℕ) × IsBlockOf log b × WroteAll (Some b) old new
+SendsBlock log old new = (b : List ℕ) × IsBlockOfLog log b × WroteAll (Some b) old new
 
 -- the value was refused, and nothing went out; or the writer refused the block of its events
 abbrev pub IsUnsent : {E : Type 0} → (Log → Type 0) → Written → Written → DeviceError E → Type 0
 IsUnsent writes old new (Value e) = new ≡ old
-IsUnsent writes old new (Device e) = (log : Log) × (b : List ℕ) × writes log × IsBlockOf log b
+IsUnsent writes old new (Device e) = (log : Log) × (b : List ℕ) × writes log × IsBlockOfLog log b
     × Stops (Some b) old new e
 
 -- the writer lacks memory only where it may take some
@@ -25,7 +25,7 @@ LacksDeviceMemoryIf may _ = ⊤
 
 -- known bytes grew by the block of the events
 abbrev pub GrowsByBlock : Log → Option (List ℕ) → Option (List ℕ) → Type 0
-GrowsByBlock log old new = (b : List ℕ) × IsBlockOf log b × Appends old new b
+GrowsByBlock log old new = (b : List ℕ) × IsBlockOfLog log b × Appends old new b
 
 -- the value was refused, and nothing was written; or the device faulted, which holds a beginning of
 -- the block of its events behind what it held
@@ -33,5 +33,5 @@ abbrev pub IsUnsentTo : {E : Type 0} → (Log → Type 0) → Option (List ℕ) 
     → DeviceError E → Type 0
 IsUnsentTo writes old new (Value e) = new ≡ old
 IsUnsentTo writes old new (Device (Write e)) = (log : Log) × (b : List ℕ) × writes log
-    × IsBlockOf log b × AppendsFront old new b
+    × IsBlockOfLog log b × AppendsFront old new b
 IsUnsentTo writes old new (Device _) = ⊥

@@ -59,16 +59,16 @@ HoldsWait (for_value k) ps p = (p.frame.stage ≡ stage.WantsValue)
     × HoldsEntries ps p.frame.place (take p.frame.key p.bytes) p.spans
     × IsGood (text k) (drop p.frame.key p.bytes) × (p.frame.key ≤ length p.bytes)
 
-abbrev pub Holds : Level → Part → Type 0
-Holds (whole None) p = (p.frame.stage ≡ stage.Vacant) × (p.bytes ≡ [])
-Holds (whole (Some t)) p = (p.frame.stage ≡ stage.Full) × IsGood t p.bytes
-Holds (in_list ts) p = (p.frame.stage ≡ stage.List) × (p.frame.count ≡ length ts)
+abbrev pub HoldsLevel : Level → Part → Type 0
+HoldsLevel (whole None) p = (p.frame.stage ≡ stage.Vacant) × (p.bytes ≡ [])
+HoldsLevel (whole (Some t)) p = (p.frame.stage ≡ stage.Full) × IsGood t p.bytes
+HoldsLevel (in_list ts) p = (p.frame.stage ≡ stage.List) × (p.frame.count ≡ length ts)
     × (spelled_items (items_of ts) ≡ Some (drop (p.frame.place + 1) p.bytes))
     × AreItems (items_of ts) × (p.frame.place < length p.bytes) × (p.spans ≡ [])
-Holds (in_map ps w n) p = HoldsWait w ps p × (p.frame.flat ≡ n)
-Holds (in_link None) p = (p.frame.stage ≡ stage.Link) × (length p.bytes ≡ p.frame.place)
+HoldsLevel (in_map ps w n) p = HoldsWait w ps p × (p.frame.flat ≡ n)
+HoldsLevel (in_link None) p = (p.frame.stage ≡ stage.Link) × (length p.bytes ≡ p.frame.place)
     × (p.spans ≡ [])
-Holds (in_link (Some cid)) p = (p.frame.stage ≡ stage.Linked)
+HoldsLevel (in_link (Some cid)) p = (p.frame.stage ≡ stage.Linked)
     × IsGood (link cid) (drop p.frame.place p.bytes) × (p.spans ≡ [])
 
 -- what is open is held, from the inside out: each has the bytes and the entries behind those of
@@ -77,7 +77,7 @@ abbrev pub Opens : List Level → List Frame → List ℕ → List Span → Type
 Opens [] [] b ss = ⊤
 Opens [] (f ∷ fs) b ss = ⊥
 Opens (l ∷ ls) [] b ss = ⊥
-Opens (l ∷ ls) (f ∷ fs) b ss = Holds l (part f b (drop f.first ss)) × (f.place ≤ length b)
+Opens (l ∷ ls) (f ∷ fs) b ss = HoldsLevel l (part f b (drop f.first ss)) × (f.place ≤ length b)
     × (f.first ≤ length ss) × Opens ls fs (take f.place b) (take f.first ss)
 
 abbrev pub HoldsAll : State → Sink → Type 0
@@ -93,8 +93,8 @@ abbrev pub MovesTop : (Level → Option Level) → Sink → Sink → Type 0
 MovesTop next old new = StepsBy (on_top next) old new
 
 -- an item of this spelling is put
-abbrev pub Puts : List ℕ → Sink → Sink → Type 0
-Puts b old new = (t : Tree) → IsGood t b → MovesTop (put t) old new
+abbrev pub PutsSpelling : List ℕ → Sink → Sink → Type 0
+PutsSpelling b old new = (t : Tree) → IsGood t b → MovesTop (put t) old new
 
 -- an item came, whose bytes stand between these places
 abbrev pub Lands : Stage → ℕ → ℕ → Frame → List Span → Frame → List Span → Type 0
@@ -105,12 +105,12 @@ Lands stage.WantsValue from to f ss g ts = (g ≡ record f { stage = stage.Rests
 Lands _ from to f ss g ts = ⊥
 
 -- a name as a key, or as a text
-abbrev pub named : Bool → List ℕ → Level → Option Level
-named true k = put_key k
-named false k = put (text k)
+abbrev pub put_name : Bool → List ℕ → Level → Option Level
+put_name true k = put_key k
+put_name false k = put (text k)
 
 -- a list or a map was begun behind all bytes and all entries
-pub record Begins (s : Stage) (old new : Sink) : Type 0 where
+pub record BeginsStage (s : Stage) (old new : Sink) : Type 0 where
   pub top : new.top ≡ record {
     stage = s;
     place = length old.bytes.items;
@@ -124,13 +124,13 @@ pub record Begins (s : Stage) (old new : Sink) : Type 0 where
   pub below : new.below.items ≡ old.below.items ++ old.top ∷ []
 
 -- what was sent makes a state that is held
-abbrev pub Follows : Log → Sink → Type 0
-Follows log sink = IsSomeAnd log (λ es. (s : State) × (steps es start ≡ Some s) × HoldsAll s sink)
+abbrev pub FollowsLog : Log → Sink → Type 0
+FollowsLog log sink = IsSomeAnd log (λ es. (s : State) × (steps es start ≡ Some s) × HoldsAll s sink)
 
 -- what was sent makes a state that is held, until a call is refused
 abbrev pub FollowsUnless : Bool → Log → Sink → Type 0
 FollowsUnless true log sink = ⊤
-FollowsUnless false log sink = Follows log sink
+FollowsUnless false log sink = FollowsLog log sink
 
 -- the bytes are the spelling of the tree of the events
 abbrev pub IsGoodLog : Log → List ℕ → Type 0

@@ -5,7 +5,7 @@ use Rattle.ipld_tree.specs.Tree as tree
 use Rattle.ipld_tree.specs.Tree.{Tree, null, list, items_of}
 use Rattle.ipld_tree.specs.Spelling.{IsSpelling}
 use Rattle.dagcbor_serde.specs.Building.{Level, in_map, in_link, for_map, State, put, on_top, steps}
-use Rattle.dagcbor_serde.specs.Blocks.{IsBlockOf}
+use Rattle.dagcbor_serde.specs.Blocks.{IsBlockOfLog}
 use Rattle.dagcbor_serde.specs.Links.{WritesLink}
 
 -- an item is an item here: not the CID of a link, nor a map whose entries another one takes
@@ -15,8 +15,8 @@ takes_items (in_link o) = false
 takes_items _ = true
 
 -- after the events stands what stands after the tree was put
-abbrev pub Makes : List Event → Tree → Type 0
-Makes es t = (s : State) → IsTrue (takes_items s.top) → steps es s ≡ on_top (put t) s
+abbrev pub MakesTree : List Event → Tree → Type 0
+MakesTree es t = (s : State) → IsTrue (takes_items s.top) → steps es s ≡ on_top (put t) s
 
 -- where the events so far are known, they grow by these
 abbrev pub GrowsBy : List Event → Log → Log → Type 0
@@ -24,27 +24,27 @@ GrowsBy es None new = ⊤
 GrowsBy es (Some before) new = new ≡ Some (before ++ es)
 
 -- events are sent that make the tree
-abbrev pub WritesTree : Tree → Log → Log → Type 0
-WritesTree t old new = (es : List Event) × GrowsBy es old new × Makes es t
+abbrev pub WritesEvents : Tree → Log → Log → Type 0
+WritesEvents t old new = (es : List Event) × GrowsBy es old new × MakesTree es t
 
 -- What is sent as a tree has the spelling of that tree.
 abbrev pub TreesAreWritten : Type 0
-TreesAreWritten = (t : Tree) (log : Log) (b : List ℕ) → WritesTree t (Some []) log → IsBlockOf log b
+TreesAreWritten = (t : Tree) (log : Log) (b : List ℕ) → WritesEvents t (Some []) log → IsBlockOfLog log b
     → IsSpelling b t
 
 -- What sends these events alone sends a leaf.
 abbrev pub LeavesAreWritten : Type 0
 LeavesAreWritten = (a b : Log)
-    → (Logs a b nothing → WritesTree null a b)
-    × ((v : Bool) → Logs a b (boolean v) → WritesTree (tree.boolean v) a b)
-    × ((n : ℕ) → Logs a b (unsigned n) → WritesTree (tree.integer (pos n)) a b)
-    × ((n : ℤ) → Logs a b (signed n) → WritesTree (tree.integer n) a b)
-    × ((v : List ℕ) → Logs a b (text v) → WritesTree (tree.text v) a b)
-    × ((v : List ℕ) → Logs a b (octets v) → WritesTree (tree.bytes v) a b)
-    × ((cid : List ℕ) → WritesLink cid a b → WritesTree (tree.link cid) a b)
+    → (Logs a b nothing → WritesEvents null a b)
+    × ((v : Bool) → Logs a b (boolean v) → WritesEvents (tree.boolean v) a b)
+    × ((n : ℕ) → Logs a b (unsigned n) → WritesEvents (tree.integer (pos n)) a b)
+    × ((n : ℤ) → Logs a b (signed n) → WritesEvents (tree.integer n) a b)
+    × ((v : List ℕ) → Logs a b (text v) → WritesEvents (tree.text v) a b)
+    × ((v : List ℕ) → Logs a b (octets v) → WritesEvents (tree.bytes v) a b)
+    × ((cid : List ℕ) → WritesLink cid a b → WritesEvents (tree.link cid) a b)
 
 -- What sends each of its items as a tree, as a `Vec`, sends the list of the trees.
 abbrev pub ListsAreWritten : {A : Type 0} → (A → Log → Log → Type 0) → Type 0
 ListsAreWritten {A} writes = (view : A → Tree) (xs : List A) (old new : Log)
-    → ((x : A) (a b : Log) → writes x a b → WritesTree (view x) a b)
-    → WritesSeq writes xs old new → WritesTree (list (items_of (map view xs))) old new
+    → ((x : A) (a b : Log) → writes x a b → WritesEvents (view x) a b)
+    → WritesSeq writes xs old new → WritesEvents (list (items_of (map view xs))) old new

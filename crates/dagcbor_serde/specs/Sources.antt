@@ -23,12 +23,12 @@ PullsBlock old result new = MatchResult result
 -- ---- the whole source
 
 -- the bytes are a block
-abbrev pub HoldsBlock : List ℕ → Type 0
-HoldsBlock b = (t : Tree) × IsBlock b t
+abbrev pub IsSomeBlock : List ℕ → Type 0
+IsSomeBlock b = (t : Tree) × IsBlock b t
 
 -- the bytes are a block, and these are they
 abbrev pub IsBlockWith : List ℕ → List ℕ → Type 0
-IsBlockWith b v = (v ≡ b) × HoldsBlock b
+IsBlockWith b v = (v ≡ b) × IsSomeBlock b
 
 -- why a source is refused: for a fault of its own, for want of memory, or since its bytes are no
 -- block
@@ -42,18 +42,18 @@ SourceRefused e b = ((t : Tree) → ¬ IsBlock b t) × CauseInWhole e b
 -- no block was read, for this cause; or the bytes are one, and the type does not accept it
 abbrev pub IsSourceMisfit : {E : Type 0} → Error E → List ℕ → Type 0
 IsSourceMisfit (NoBlock e) b = SourceRefused e b
-IsSourceMisfit (Misfit m at) b = HoldsBlock b × (at ≤ length b)
+IsSourceMisfit (Misfit m at) b = IsSomeBlock b × (at ≤ length b)
 
 -- ---- its first block
 
 -- the bytes v of a block stand first, and exactly what follows them is left
-abbrev pub TakesBlock : List ℕ → List ℕ → Option (List ℕ) → Type 0
-TakesBlock b v left = (t : Tree) × (rest : List ℕ) × IsFront b t rest × IsBlock v t
+abbrev pub TakesBlockBytes : List ℕ → List ℕ → Option (List ℕ) → Type 0
+TakesBlockBytes b v left = (t : Tree) × (rest : List ℕ) × IsFront b t rest × IsBlock v t
     × (left ≡ Some rest)
 
 -- some block stands first, and exactly what follows it is left
 abbrev pub TakesSomeBlock : List ℕ → Option (List ℕ) → Type 0
-TakesSomeBlock b left = (v : List ℕ) × TakesBlock b v left
+TakesSomeBlock b left = (v : List ℕ) × TakesBlockBytes b v left
 
 -- why no first block is read
 abbrev pub FirstRefused : {E : Type 0} → DecodeError E → List ℕ → Type 0
@@ -67,4 +67,4 @@ FirstRefused e b = ((t : Tree) (rest : List ℕ) → IsFront b t rest → ¬ (an
 -- why no first block is read; or one was taken, and the type does not accept it
 abbrev pub IsFirstMisfit : {E : Type 0} → Error E → List ℕ → Option (List ℕ) → Type 0
 IsFirstMisfit (NoBlock e) b left = FirstRefused e b
-IsFirstMisfit (Misfit m at) b left = (v : List ℕ) × TakesBlock b v left × (at ≤ length v)
+IsFirstMisfit (Misfit m at) b left = (v : List ℕ) × TakesBlockBytes b v left × (at ≤ length v)

@@ -2,7 +2,7 @@
 
 ghost use Rattle.std.specs.Prelude.{◌≡◌};
 ghost use Rattle.ipld_tree.specs.Ipld.{tree_of};
-ghost use Rattle.dagcbor_serde.specs.Making.{WritesTree};
+ghost use Rattle.dagcbor_serde.specs.Making.{WritesEvents};
 
 use crate::as_any;
 use ipld_tree::Ipld;
@@ -34,7 +34,7 @@ impl From<Any> for Ipld {
 }
 
 impl Described for Any {
-    ghost writes = { λ a. WritesTree (tree_of a.0) };
+    ghost writes = { λ a. WritesEvents (tree_of a.0) };
 }
 
 impl Serialize for Any {

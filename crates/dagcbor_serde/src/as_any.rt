@@ -3,7 +3,7 @@
 ghost use Rattle.std.specs.Prelude.{OnOk};
 ghost use Rattle.ipld_tree.specs.Tree.{list, mapping, ordered_entries, items_of};
 ghost use Rattle.ipld_tree.specs.Ipld.{tree_of, trees_of, pairs_of};
-ghost use Rattle.dagcbor_serde.specs.Making.{WritesTree};
+ghost use Rattle.dagcbor_serde.specs.Making.{WritesEvents};
 
 use crate::as_link;
 use ipld_tree::{Cid, Ipld};
@@ -17,7 +17,7 @@ const MAX_DEPTH: usize = 128;
 /// Writes the data: its events make its tree.
 #[cycle(send)]
 pub fn serialize<S: Serializer>(value: &Ipld, out: &mut S) -> Result<(), S::Error>
-    ensures { OnOk result (WritesTree (tree_of value.now) (S.written out.old) (S.written out.new)) }
+    ensures { OnOk result (WritesEvents (tree_of value.now) (S.written out.old) (S.written out.new)) }
 {
     match value {
         Ipld::Null => out.unit(),
@@ -33,7 +33,7 @@ pub fn serialize<S: Serializer>(value: &Ipld, out: &mut S) -> Result<(), S::Erro
 
 #[cycle(send)]
 fn send_items<S: Serializer>(items: &Vec<Ipld>, out: &mut S) -> Result<(), S::Error>
-    ensures { OnOk result (WritesTree (list (items_of (trees_of items.now.items)))
+    ensures { OnOk result (WritesEvents (list (items_of (trees_of items.now.items)))
         (S.written out.old) (S.written out.new)) }
 {
     out.begin_seq(Some(items.len()))?;
@@ -48,7 +48,7 @@ fn send_entries<S: Serializer>(
     entries: &BTreeMap<String, Ipld>,
     out: &mut S,
 ) -> Result<(), S::Error>
-    ensures { OnOk result (WritesTree (mapping (ordered_entries (pairs_of entries.now.entries)))
+    ensures { OnOk result (WritesEvents (mapping (ordered_entries (pairs_of entries.now.entries)))
         (S.written out.old) (S.written out.new)) }
 {
     out.begin_map(Some(entries.len()))?;
@@ -135,6 +135,7 @@ fn fetch_items<F: Format>(
 ) -> Result<Vec<Ipld>, F::Error> {
     from.begin_seq()?;
     let mut items = Vec::new(alloc);
+    // No memory holds as many items.
     for _ in 0..u64::MAX {
         if !from.next_item()? {
             break;
@@ -154,6 +155,7 @@ fn fetch_entries<F: Format>(
 ) -> Result<BTreeMap<String, Ipld>, F::Error> {
     from.begin_map()?;
     let mut entries = BTreeMap::new(alloc);
+    // No memory holds as many entries.
     for _ in 0..u64::MAX {
         if !from.next_entry()? {
             break;

@@ -345,10 +345,8 @@ impl<'r> Format for Block<'r> {
     }
 
     fn char(&mut self, _input: &[u8]) -> Result<char, Misfit> {
-        match taken!(self, self.take_text()).parse::<char>() {
-            Ok(c) => Ok(c),
-            Err(_) => Err(Misfit::Invalid),
-        }
+        let text = taken!(self, self.take_text());
+        text.parse::<char>().map_err(|_| Misfit::Invalid)
     }
 
     fn plain_str(&mut self, input: &[u8]) -> Result<(usize, usize), Misfit> {
@@ -366,18 +364,12 @@ impl<'r> Format for Block<'r> {
     #[inline(always)]
     fn string(&mut self, alloc: Global, _input: &[u8]) -> Result<String, Misfit> {
         let text = taken!(self, self.take_text());
-        match String::from_str(alloc, text) {
-            Ok(text) => Ok(text),
-            Err(_) => Err(Misfit::OutOfMemory),
-        }
+        String::from_str(alloc, text).map_err(|_| Misfit::OutOfMemory)
     }
 
     fn byte_buf(&mut self, alloc: Global, _input: &[u8]) -> Result<Vec<u8>, Misfit> {
         let bytes = taken!(self, self.take_bytes());
-        match Vec::from_slice(alloc, bytes) {
-            Ok(bytes) => Ok(bytes),
-            Err(_) => Err(Misfit::OutOfMemory),
-        }
+        Vec::from_slice(alloc, bytes).map_err(|_| Misfit::OutOfMemory)
     }
 
     fn peek(&mut self, _input: &[u8]) -> Result<Kind, Misfit> {

@@ -75,10 +75,8 @@ pub(crate) fn push(out: &mut Vec<u8>, bytes: &[u8]) -> Result<(), Refusal>
     ensures appended { OnOk result (out.new.items ≡ out.old.items ++ bytes.now) }
     ensures refused { IfErr result LacksMemory }
 {
-    match out.extend_from_slice(bytes) {
-        Ok(()) => Ok(()),
-        Err(_) => Err(Refusal::OutOfMemory),
-    }
+    out.extend_from_slice(bytes)
+        .map_err(|_| Refusal::OutOfMemory)
 }
 
 /// Appends the shortest head.

@@ -8,9 +8,9 @@ ghost use Rattle.dagcbor_heads.specs.Head.{head};
 ghost use Rattle.ipld_tree.specs.Tree.{Tree, null, boolean, integer, text, IsTree};
 ghost use Rattle.dagcbor_serde.specs.Building.{State, start, finished, is_link_name, put, put_field, put_key};
 ghost use Rattle.dagcbor_serde.specs.Building.{put_unit, put_bytes, as_link, begin_key, end_key, flatten};
-ghost use Rattle.dagcbor_serde.specs.Building.{begin, begin_map, in_list, close, list_of, close_map};
-ghost use Rattle.dagcbor_serde.specs.Holds.{IsGood, HoldsAll, StepsBy, MovesTop, Puts, Lands, named};
-ghost use Rattle.dagcbor_serde.specs.Holds.{Begins, PutsEach};
+ghost use Rattle.dagcbor_serde.specs.Building.{begin, begin_map, in_list, close, ended_list, close_map};
+ghost use Rattle.dagcbor_serde.specs.Holds.{IsGood, HoldsAll, StepsBy, MovesTop, PutsSpelling, Lands, put_name};
+ghost use Rattle.dagcbor_serde.specs.Holds.{BeginsStage, PutsEach};
 ghost use Rattle.dagcbor_serde.specs.Refusing.{LacksMemory, CidRefused, BytesRefused, ItemRefused, TextRefused, NumberRefused, OnlyAt};
 
 use crate::entries::{are_in_order, push_entries};
@@ -100,7 +100,7 @@ impl Sink {
     /// Puts an item of a head alone.
     fn put_head(&mut self, major: u8, argument: u64) -> Result<(), Refusal>
         requires { major ≤ 7 }
-        ensures put { OnOk result (Puts (head major argument) self.old self.new) }
+        ensures put { OnOk result (PutsSpelling (head major argument) self.old self.new) }
         ensures refused { IfErr result (ItemRefused self.old.top.stage) }
     {
         let from = self.bytes.len();
@@ -111,7 +111,7 @@ impl Sink {
     /// Puts an item of a head and what is behind it.
     fn put(&mut self, major: u8, argument: u64, payload: &[u8]) -> Result<(), Refusal>
         requires { major ≤ 7 }
-        ensures put { OnOk result (Puts (head major argument ++ payload.now) self.old self.new) }
+        ensures put { OnOk result (PutsSpelling (head major argument ++ payload.now) self.old self.new) }
         ensures refused { IfErr result (ItemRefused self.old.top.stage) }
     {
         let from = self.bytes.len();
@@ -398,7 +398,7 @@ impl Sink {
     #[inline(always)]
     fn cased(&mut self, name: &str, case: Case, kind: NameKind, is_key: bool) -> Result<(), Refusal>
         ensures { OnOk result
-            (MovesTop (named is_key (spelled_name case kind name.now)) self.old self.new) }
+            (MovesTop (put_name is_key (spelled_name case kind name.now)) self.old self.new) }
     {
         if let Case::AsIs = case {
             return self.named(name, is_key);
@@ -416,7 +416,7 @@ impl Sink {
         is_key: bool,
     ) -> Result<(), Refusal>
         ensures { OnOk result
-            (MovesTop (named is_key (spelled_name case kind name.now)) self.old self.new) }
+            (MovesTop (put_name is_key (spelled_name case kind name.now)) self.old self.new) }
     {
         let mut room = mem::replace(&mut self.name, String::new(self.alloc));
         room.clear();
@@ -431,7 +431,7 @@ impl Sink {
     /// Puts a name, as a key or as a text.
     #[inline(always)]
     fn named(&mut self, name: &str, is_key: bool) -> Result<(), Refusal>
-        ensures { OnOk result (MovesTop (named is_key name.now) self.old self.new) }
+        ensures { OnOk result (MovesTop (put_name is_key name.now) self.old self.new) }
     {
         if is_key {
             self.key(name)
@@ -445,7 +445,7 @@ impl Sink {
 impl Sink {
     /// Begins a list or a map.
     fn open(&mut self, stage: Stage) -> Result<(), Refusal>
-        ensures { OnOk result (Begins stage self.old self.new) }
+        ensures { OnOk result (BeginsStage stage self.old self.new) }
     {
         let frame = Frame::new(stage, self.bytes.len(), self.spans.len());
         if self.bytes.push(0x00).is_err() {
@@ -478,7 +478,7 @@ impl Sink {
     }
 
     pub(crate) fn end_seq(&mut self) -> Result<(), Refusal>
-        ensures { OnOk result (StepsBy (λ s. close (list_of s.top) s.around) self.old self.new) }
+        ensures { OnOk result (StepsBy (λ s. close (ended_list s.top) s.around) self.old self.new) }
     {
         match self.top.stage {
             Stage::List => self.end_list(),
@@ -488,7 +488,7 @@ impl Sink {
 
     fn end_list(&mut self) -> Result<(), Refusal>
         requires { self.old.top.stage ≡ Stage.List }
-        ensures { OnOk result (StepsBy (λ s. close (list_of s.top) s.around) self.old self.new) }
+        ensures { OnOk result (StepsBy (λ s. close (ended_list s.top) s.around) self.old self.new) }
     {
         let list = self.leave()?;
         set_head(&mut self.bytes, &mut self.room, list.place, 4, list.count)?;

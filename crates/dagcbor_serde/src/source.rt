@@ -5,8 +5,8 @@ ghost use Rattle.std.specs.Prelude.{◌≡◌, IfOk, IfErr, OnOk, IfSome};
 ghost use Rattle.dagcbor_heads.specs.Inputs.{OverInput};
 ghost use Rattle.dagcbor_items.specs.AnsweredVariants.{OfItem};
 ghost use Rattle.dagcbor_serde.specs.Sources.{PullsBlock, IsBlockWith, SourceRefused};
-ghost use Rattle.dagcbor_serde.specs.Sources.{TakesBlock, FirstRefused, IsSourceMisfit};
-ghost use Rattle.dagcbor_serde.specs.Sources.{IsFirstMisfit, HoldsBlock, TakesSomeBlock};
+ghost use Rattle.dagcbor_serde.specs.Sources.{TakesBlockBytes, FirstRefused, IsSourceMisfit};
+ghost use Rattle.dagcbor_serde.specs.Sources.{IsFirstMisfit, IsSomeBlock, TakesSomeBlock};
 
 use crate::error::Error;
 use crate::whole::fit;
@@ -55,7 +55,7 @@ pub fn block_from_reader_once<R: BufRead>(
     reader: &mut R,
 ) -> Result<Vec<u8>, DecodeError<io::Error>>
     ensures block { IfOk result (λ v. IfSome (R.remaining reader.old)
-        (λ b. TakesBlock b v.items (R.remaining reader.new))) }
+        (λ b. TakesBlockBytes b v.items (R.remaining reader.new))) }
     ensures refused { IfErr result (λ e. IfSome (R.remaining reader.old) (FirstRefused e)) }
 {
     let mut input = Input::Reader(IoRefReader::new(reader));
@@ -73,7 +73,7 @@ pub fn from_reader<T: DeserializeOwned, R: BufRead + Drop>(
     alloc: Global,
     reader: R,
 ) -> Result<T, Error<io::Error>>
-    ensures block { OnOk result (IfSome (R.remaining reader) HoldsBlock) }
+    ensures block { OnOk result (IfSome (R.remaining reader) IsSomeBlock) }
     ensures refused { IfErr result (λ e. IfSome (R.remaining reader) (IsSourceMisfit e)) }
 {
     match block_from_reader(alloc, reader) {

@@ -4,7 +4,7 @@ ghost use Rattle.std.specs.Prelude.{◌≡◌, ◌≤◌, ℕ, List, [], Some, l
 ghost use Rattle.serde.specs.Event.{Log};
 ghost use Rattle.dagcbor_items.specs.Slices.{IsBlock};
 ghost use Rattle.ipld_tree.specs.Tree.{Tree};
-ghost use Rattle.dagcbor_serde.specs.Blocks.{IsBlockOf, IsRefused, IsMisfitIn};
+ghost use Rattle.dagcbor_serde.specs.Blocks.{IsBlockOfLog, IsRefused, IsMisfitIn};
 
 use crate::block::Block;
 use crate::error::{Error, Misfit, WriteError};
@@ -17,7 +17,7 @@ use std::convert::Infallible;
 /// The one spelling of the tree of the value's events.
 pub fn to_vec<T: Serialize>(alloc: Global, value: &T) -> Result<Vec<u8>, WriteError>
     ensures { IfOk result
-        (λ v. (log : Log) × T.writes value.now (Some []) log × IsBlockOf log v.items) }
+        (λ v. (log : Log) × T.writes value.now (Some []) log × IsBlockOfLog log v.items) }
 {
     let Ok(out) = Vec::with_capacity(alloc, 128) else {
         return Err(WriteError::OutOfMemory);
@@ -65,7 +65,7 @@ pub fn from_slice_lossless<T: Serialize + DeserializeOwned>(
     bytes: &[u8],
 ) -> Result<T, Error<Infallible>>
     ensures value { IfOk result
-        (λ v. (log : Log) × T.writes v (Some []) log × IsBlockOf log bytes.now) }
+        (λ v. (log : Log) × T.writes v (Some []) log × IsBlockOfLog log bytes.now) }
     ensures refused { IfErr result (λ e. IsRefused e bytes.now) }
 {
     let value: T = from_slice_owned(alloc, bytes)?;

@@ -42,10 +42,7 @@ impl Writer {
         if failed {
             return Err(WriteError::Misplaced);
         }
-        match sink.into_bytes() {
-            Ok(bytes) => Ok(bytes),
-            Err(refusal) => Err(refusal.cause()),
-        }
+        sink.into_bytes().map_err(|refusal| refusal.cause())
     }
 }
 

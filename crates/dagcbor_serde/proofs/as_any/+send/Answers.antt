@@ -4,26 +4,26 @@ use Rattle.std.proofs.lemmas.Result.{on_ok_weaker}
 use Rattle.serde.specs.Event.{Logs, map_begins, text, octets, signed, WritesEntry}
 use Rattle.serde.proofs.Events.{WritesEach-more, WritesSeq-ends, WritesUpTo-more, WritesUpTo-all}
 use Rattle.ipld_tree.specs.Ipld.{tree_of}
-use Rattle.dagcbor_serde.specs.Making.{WritesTree}
+use Rattle.dagcbor_serde.specs.Making.{WritesEvents}
 use Rattle.dagcbor_serde.proofs.Making.{sends_null, sends_boolean, sends_integer, sends_text, sends_bytes, sends_link, sends_list, sends_map, null_kind, bool_kind, integer_kind, text_kind, bytes_kind, link_kind, of_kind, map_made}
 use Rattle.dagcbor_serde.proofs.as_any.+send.Goals as goal
 
 pub send_items-loop-item-preserved : goal.send_items-loop-item-preserved
-send_items-loop-item-preserved g t c = WritesEach-more (λ x. WritesTree (tree_of x)) _ _ _ _ _ _ c.loop-item-test.true c.item-item.is c.loop-item.invariant c.in_ok-serialize.ensures
+send_items-loop-item-preserved g t c = WritesEach-more (λ x. WritesEvents (tree_of x)) _ _ _ _ _ _ c.loop-item-test.true c.item-item.is c.loop-item.invariant c.in_ok-serialize.ensures
 
 pub send_items-returns : goal.send_items-returns
-send_items-returns g t c = on_ok_weaker c.end_seq.result (λ ended. sends_list tree_of _ _ _ (WritesSeq-ends (λ x. WritesTree (tree_of x)) _ _ _ c.len.result _ _ _ _ c.deref-item-items.ensures.value (search rules) c.loop-item-test.false c.in_ok-begin_seq.ensures c.loop-item.invariant ended)) c.end_seq.ensures
+send_items-returns g t c = on_ok_weaker c.end_seq.result (λ ended. sends_list tree_of _ _ _ (WritesSeq-ends (λ x. WritesEvents (tree_of x)) _ _ _ c.len.result _ _ _ _ c.deref-item-items.ensures.value (search rules) c.loop-item-test.false c.in_ok-begin_seq.ensures c.loop-item.invariant ended)) c.end_seq.ensures
 
 pub send_entries-loop-key-preserved : goal.send_entries-loop-key-preserved
 send_entries-loop-key-preserved g t c =
     let key = subst (λ s. Logs (g.S.Serializer.written c.begin_key.new.self) (g.S.Serializer.written c.str.new.self) (text s)) c.as_str.ensures.value c.in_ok-str.ensures in
-    WritesUpTo-more (WritesEntry (λ k old new. Logs old new (text (string_bytes k))) (λ v. WritesTree (tree_of v))) _ _ _ (c.in-Some.key.now, c.in-Some.value.now) _ _ _ c.loop-key.invariant c.in-Some.ensures.steps (_, _, _, c.in_ok-begin_key.ensures, key, c.in_ok-end_key.ensures, c.in_ok-serialize.ensures)
+    WritesUpTo-more (WritesEntry (λ k old new. Logs old new (text (string_bytes k))) (λ v. WritesEvents (tree_of v))) _ _ _ (c.in-Some.key.now, c.in-Some.value.now) _ _ _ c.loop-key.invariant c.in-Some.ensures.steps (_, _, _, c.in_ok-begin_key.ensures, key, c.in_ok-end_key.ensures, c.in_ok-serialize.ensures)
 
 pub send_entries-returns : goal.send_entries-returns
 send_entries-returns g t c =
     let len : c.len.result ≡ length c.args.entries.now.entries = search rules in
     let begun = subst (λ n. Logs (g.S.Serializer.written c.args.out.now) (g.S.Serializer.written c.begin_map.new.self) (map_begins (Some n))) len c.in_ok-begin_map.ensures in
-    let each = WritesUpTo-all (WritesEntry (λ k old new. Logs old new (text (string_bytes k))) (λ v. WritesTree (tree_of v))) _ _ _ _ c.loop-key.invariant (grind (arith, common_steps, c.in-None.ensures.steps.0)) in
+    let each = WritesUpTo-all (WritesEntry (λ k old new. Logs old new (text (string_bytes k))) (λ v. WritesEvents (tree_of v))) _ _ _ _ c.loop-key.invariant (grind (arith, common_steps, c.in-None.ensures.steps.0)) in
     on_ok_weaker c.end_map.result (λ ended. sends_map string_bytes tree_of c.args.entries.now.entries _ _ _ (map_made c.args.entries.now c.len.ensures.ordered) (_, _, begun, each, ended)) c.end_map.ensures
 
 pub serialize-returns-in-Null : goal.serialize-returns-in-Null

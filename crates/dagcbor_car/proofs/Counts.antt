@@ -4,7 +4,7 @@ use Rattle.ipld_tree.specs.Cid.{varint}
 use Rattle.ipld_tree.specs.declared.cid_error.CidError.{CidError}
 use Rattle.ipld_tree.proofs.Cids.{varint_unique}
 use Rattle.dagcbor_car.specs.Car.{counted, Section, section_body}
-use Rattle.dagcbor_car.specs.Splits.{SplitsCounted, CountFault, SplitsCid, BeginsNoCid, SplitsSection, BeginsNoSection, SectionFault}
+use Rattle.dagcbor_car.specs.Splits.{SplitsCounted, CountFault, BeginsWithCid, BeginsNoCid, SplitsSection, BeginsNoSection, SectionFault}
 use Rattle.dagcbor_car.specs.declared.error.CarError.{CarError}
 use Rattle.dagcbor_car.specs.declared.error.CarError.TheVariants.{Truncated, InvalidLength, InvalidCid}
 use Rattle.dagcbor_car.proofs.Cars.{counted_unique}
@@ -50,7 +50,7 @@ no_section_named E f b body rest h none = (λ s more k. by s more k, (body, rest
         none.0 s.0 s.1 (k.0.0, same.0)
 
 -- the name and the block of what is counted
-pub section_found : (b body rest block : List ℕ) (s : Section) → s.1 ≡ block → SplitsCounted b body rest → SplitsCid body s.0 block → SplitsSection b s rest
+pub section_found : (b body rest block : List ℕ) (s : Section) → s.1 ≡ block → SplitsCounted b body rest → BeginsWithCid body s.0 block → SplitsSection b s rest
 section_found b body rest block s same h c =
     let whole : body ≡ section_body s = c.1 ∙ ap (λ x. section_body (s.0, x)) (sym same) in
     ((c.0, omega (arith, h.0, ap length whole)), h.1 ∙ ap (λ x. counted x ++ rest) whole)

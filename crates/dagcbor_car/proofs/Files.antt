@@ -12,7 +12,7 @@ use Rattle.dagcbor_car.specs.Extents.{within, wanting, Spends, EndsThere}
 use Rattle.dagcbor_car.specs.Sources.{CarRefuses, LacksMemoryIf, FileLacks, RefusesStart, RefusesNext, TakesStart, TakesSectionBytes}
 use Rattle.ipld_links.specs.Verdicts.{IsVerdict}
 use Rattle.dagcbor_car.specs.Told.{Told, sections_of, AreTold, TellsAll, Tells}
-use Rattle.dagcbor_car.specs.Checks.{IsAfter, ListsMissing, TakesSection, TellsVerdict, HandsOn, of_run, IsNoFile, CarFault, TellsFront, CarRefused, ChecksInput}
+use Rattle.dagcbor_car.specs.Checks.{IsAfter, ListsMissing, TakesSection, TellsVerdict, HandsOnVerdict, of_run, IsNoFile, CarFault, TellsFront, CarRefused, ChecksInput}
 use Rattle.dagcbor_car.specs.Each.{Takes, TakesEach, StopsEach, AreTooMany, RunsEach}
 use Rattle.dagcbor_car.specs.declared.each.ReadCarError.{ReadCarError}
 use Rattle.dagcbor_car.specs.declared.each.ReadCarError.TheVariants as stop
@@ -230,7 +230,7 @@ input_ended {S} {E} holds old mid now extent more check before after (Err e) h e
 module _ {S : Type 0} (holds : S → List Told → Type 0) (old : Reading) (before : S) (name : ℕ) where
   -- what taking a section does
   abbrev Hands : Takes (Checking S) AllocError
-  Hands s from result to = HandsOn holds s from result to
+  Hands s from result to = HandsOnVerdict holds s from result to
 
   -- some sections were handed on to the sink, through this reference
   abbrev IsHandedOn : List Section → Option ℕ → Reading → Checking S → Type 0

@@ -5,7 +5,7 @@ use Rattle.ipld_tree.specs.CidFault.{HasVarints, IsFault, IsVarintFault}
 use Rattle.ipld_tree.specs.declared.cid_error.CidError.{CidError}
 use Rattle.ipld_tree.specs.declared.cid_error.CidError.TheVariants.{InvalidVarint, Truncated, TrailingBytes}
 use Rattle.ipld_tree.proofs.CidFaults.{no_varint, one_varint_more, varint_fault, fault_no_cid, one_fault}
-use Rattle.dagcbor_car.specs.Splits.{SplitsCid, BeginsNoCid}
+use Rattle.dagcbor_car.specs.Splits.{BeginsWithCid, BeginsNoCid}
 use Rattle.dagcbor_car.proofs.Cars.{front_0, front_1}
 
 -- what a varint that was read says
@@ -48,7 +48,7 @@ no_varint_front e s fields rest h few f = no_front e s (λ is. not_trailing e f 
 
 -- ---- version 0
 
-pub front_of_digest : (b digest block : List ℕ) → (digest ≡ take 32 b) × (block ≡ drop 32 b) × (length block + 32 ≡ length b) → SplitsCid (0x12 ∷ 0x20 ∷ b) (cid_parts 0 0x70 0x12 digest) block
+pub front_of_digest : (b digest block : List ℕ) → (digest ≡ take 32 b) × (block ≡ drop 32 b) × (length block + 32 ≡ length b) → BeginsWithCid (0x12 ∷ 0x20 ∷ b) (cid_parts 0 0x70 0x12 digest) block
 front_of_digest b digest block h = (inl (refl, refl, refl, long), ap (λ x. 0x12 ∷ 0x20 ∷ x) split ∙ sym (front_0 (cid_parts 0 0x70 0x12 digest) block refl))
   where
     long : length digest ≡ 32

@@ -8,7 +8,7 @@ use Rattle.dagcbor_car.specs.Car.{header_bytes, Section, section_bytes, car_byte
 use Rattle.dagcbor_car.specs.Splits.{SplitsSection, BeginsNoSection}
 use Rattle.dagcbor_car.specs.Versions.{IsVersion2, begin_of, length_of, HasSpan, HoldsCar, IsFile}
 use Rattle.dagcbor_car.specs.Extents.{within, wanting, Spends, EndsThere}
-use Rattle.dagcbor_car.specs.Sources.{IsStart, RefusesStart, RefusesNext}
+use Rattle.dagcbor_car.specs.Sources.{IsStartOfFile, RefusesStart, RefusesNext}
 use Rattle.dagcbor_car.specs.Checks.{IsCarFront, IsFileFront, IsNoFile, StandBehind}
 use Rattle.dagcbor_car.specs.declared.error.CarError.{CarError}
 use Rattle.dagcbor_car.proofs.Cars.{section_unique, section_some, header_unique}
@@ -81,7 +81,7 @@ pub record IsPlace (b : List ℕ) (roots : List (List ℕ)) (ss : List Section) 
   pub behind : (n : ℕ) → extent ≡ Some n → HasSpan b × (drop (begin_of b + length_of b) b ≡ drop n rest)
   pub all : extent ≡ None → IsVersion2 b → ⊥
 
-pub place_begun : (front rest : List ℕ) (roots : List (List ℕ)) (extent : Option ℕ) → IsHeader roots → IsStart front roots extent → IsPlace (front ++ rest) roots [] extent rest
+pub place_begun : (front rest : List ℕ) (roots : List (List ℕ)) (extent : Option ℕ) → IsHeader roots → IsStartOfFile front roots extent → IsPlace (front ++ rest) roots [] extent rest
 place_begun front rest roots extent header start = record {
   car = header_bytes roots ++ within extent rest;
   inside = start_holds front rest roots extent header start;

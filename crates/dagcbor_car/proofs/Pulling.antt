@@ -11,7 +11,7 @@ use Rattle.ipld_tree.specs.declared.cid_error.CidError.TheVariants as cid
 use Rattle.std.proofs.lemmas.Bool.{cases_lt}
 use Rattle.ipld_tree.proofs.Cids.{varint_unique, varint_length, one_group, more_groups}
 use Rattle.dagcbor_car.specs.Car.{counted, Section, section_bytes}
-use Rattle.dagcbor_car.specs.Splits.{CountFault, SplitsCid, BeginsNoCid, BeginsNoSection, SectionFault}
+use Rattle.dagcbor_car.specs.Splits.{CountFault, BeginsWithCid, BeginsNoCid, BeginsNoSection, SectionFault}
 use Rattle.dagcbor_car.specs.Extents.{of_file, TakesOff}
 use Rattle.dagcbor_car.specs.Sources.{CarRefuses, LacksMemoryIf, SectionLacks, IsShort, TakesSectionBytes}
 use Rattle.dagcbor_car.specs.declared.error.CarError.{CarError}
@@ -169,12 +169,12 @@ counted_lacks (Err e) n {x} {y} {old} {mid} t l = tt
 -- ---- what was looked at
 
 -- a section that was looked at
-pub section_most : (s : Section) (body : List ℕ) (old new : Reading) → SplitsCid body s.0 s.1 → LooksAtMost (2 * length (counted body)) old new → LooksAtMost (2 * length (section_bytes s)) old new
+pub section_most : (s : Section) (body : List ℕ) (old new : Reading) → BeginsWithCid body s.0 s.1 → LooksAtMost (2 * length (counted body)) old new → LooksAtMost (2 * length (section_bytes s)) old new
 section_most s body old new c most = subst (λ x. LooksAtMost (2 * length (counted x)) old new) c.1 most
 
 -- ---- a section
 
-pub section_pulled : (s : Section) (body : List ℕ) {x z : Option ℕ} {old new : Reading} → length body < 2 ^ 64 → TakesOff x old (counted body) z new → SplitsCid body s.0 s.1 → TakesSectionBytes x old s z new
+pub section_pulled : (s : Section) (body : List ℕ) {x z : Option ℕ} {old new : Reading} → length body < 2 ^ 64 → TakesOff x old (counted body) z new → BeginsWithCid body s.0 s.1 → TakesSectionBytes x old s z new
 section_pulled s body {x} {z} {old} {new} h t c = ((c.0, omega (arith, h, ap length c.1)), subst (λ b. TakesOff x old (counted b) z new) c.1 t)
 
 pub no_section_pulled : (E : Type 0) (f : CidError) (body : List ℕ) (old new : Reading) → length body < 2 ^ 64 → Takes old (counted body) new → BeginsNoCid f body

@@ -9,9 +9,9 @@ use Rattle.dagcbor_items.specs.Walks.{forms}
 use Rattle.dagcbor_car.specs.Car.{Section, section_bytes, IsSection, header_bytes}
 use Rattle.dagcbor_car.specs.Versions.{HoldsCar, IsFile}
 use Rattle.dagcbor_car.specs.Extents.{within, wanting, EndsThere}
-use Rattle.dagcbor_car.specs.Sources.{RefusesSection, SectionStream, section_stream, GivesNext, NotBegun}
+use Rattle.dagcbor_car.specs.Sources.{RefusesSection, SectionStream, section_stream, GivesNextSection, NotBegun}
 use Rattle.dagcbor_car.specs.Writers.{WriterState, WritesSection}
-use Rattle.dagcbor_car.specs.Runs.{Item, GivesItems, AreNone, GivesUp, AreItemsOf, RunsAreExact, AreSections, DoesNotBegin, CarsReadBack, WritesSections, CarsAreWritten}
+use Rattle.dagcbor_car.specs.Runs.{Item, GivesItems, AreNone, GivesUpOnFile, AreItemsOf, RunsAreExact, AreSections, DoesNotBegin, CarsReadBack, WritesSections, CarsAreWritten}
 use Rattle.dagcbor_car.specs.declared.error.CarError.{CarError}
 use Rattle.dagcbor_car.specs.declared.error.CarError.TheVariants.{Read, OutOfMemory}
 use Rattle.dagcbor_car.specs.declared.error.CarWriteError.{CarWriteError}
@@ -36,7 +36,7 @@ nothing_more s (item ∷ items) d h =
     (k.0, nothing_more h.0 items (ap (λ t. t.done) k.1 ∙ d) h.2)
 
 -- why no section came
-why : {E : Type 0} (e : CarError E) (extent rest : Option ℕ) (old new : Reading) (b : List ℕ) → old.left ≡ Some b → GivesNext extent old (Err e) rest new → GivesUp old.lends (within extent b) e ⊎ RefusesSection (wanting extent b) e (within extent b)
+why : {E : Type 0} (e : CarError E) (extent rest : Option ℕ) (old new : Reading) (b : List ℕ) → old.left ≡ Some b → GivesNextSection extent old (Err e) rest new → GivesUpOnFile old.lends (within extent b) e ⊎ RefusesSection (wanting extent b) e (within extent b)
 why (Read f) extent rest old new b l n = inl tt
 why OutOfMemory extent rest old new b l n = inl (n.memory.0, λ none. n.memory.1 (ap (option_map (within extent)) l ∙ ap Some none))
 why e extent rest old new b l n = inr (n.taken.1 b l)

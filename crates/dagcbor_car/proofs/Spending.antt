@@ -7,7 +7,7 @@ use Rattle.dagcbor_heads.specs.Looking.{LooksAtMost, LooksAtTaken, LooksAtSome, 
 use Rattle.dagcbor_heads.proofs.Taking.{nothing_taken, takes_both}
 use Rattle.dagcbor_car.specs.Extents.{within, wanting, of_file, Spends, TakesOff}
 use Rattle.dagcbor_car.specs.Sources.{CarRefuses, IsShort}
-use Rattle.dagcbor_car.specs.Steps.{IsOver}
+use Rattle.dagcbor_car.specs.Steps.{ExceedsExtent}
 use Rattle.dagcbor_car.specs.declared.error.CarError.{CarError}
 use Rattle.dagcbor_car.specs.declared.error.CarError.TheVariants.{Read, Truncated, OutOfMemory}
 
@@ -110,7 +110,7 @@ short_within x n old new OutOfMemory r = r
 short_within x n old new e r = (r.0, λ c l. let w = known x old.left c l in let s = r.1 w.0 w.1 in (s.0, omega (arith, s.1, within_le x w.0, ap length w.2)))
 
 -- the file has fewer bytes left
-pub over_short : {E : Type 0} (x : Option ℕ) (n : ℕ) (old : Reading) (e : CarError E) → e ≡ Truncated → IsOver x n → CarRefuses (IsShort n) (of_file x old) e old
+pub over_short : {E : Type 0} (x : Option ℕ) (n : ℕ) (old : Reading) (e : CarError E) → e ≡ Truncated → ExceedsExtent x n → CarRefuses (IsShort n) (of_file x old) e old
 over_short {E} x n old e is h = subst (λ y. CarRefuses {E = E} (IsShort n) (of_file x old) y old) (sym is) (refl, λ c l. let w = known x old.left c l in (refl, few w.0 c w.2))
   where
     few : (b c : List ℕ) → c ≡ within x b → length c < n

@@ -17,7 +17,7 @@ use Rattle.dagcbor_car.specs.Splits.{CountFault, SplitsCounted, IsNoHeader}
 use Rattle.ipld_links.specs.Blocks.{HasBlock}
 use Rattle.dagcbor_car.specs.Versions.{pragma, IsVersion2, number_behind, begin_of, length_of, HasSpan, HoldsCar, IsFile, SpanFault, MayBeVersion2}
 use Rattle.dagcbor_car.specs.Extents.{within, wanting, of_file, Spends, TakesOff}
-use Rattle.dagcbor_car.specs.Sources.{CarRefuses, LacksMemoryIf, FileLacks, SectionLacks, IsShort, RefusesHeader, RefusesStart, IsStart, TakesStart, PullsStart, LooksTwice}
+use Rattle.dagcbor_car.specs.Sources.{CarRefuses, LacksMemoryIf, FileLacks, SectionLacks, IsShort, RefusesHeader, RefusesStart, IsStartOfFile, TakesStart, PullsStart, LooksTwice}
 use Rattle.dagcbor_car.specs.Steps.{TakesSpan, TakesEnclosed, EnclosedLacks}
 use Rattle.dagcbor_car.specs.declared.error.CarError.{CarError}
 use Rattle.dagcbor_car.specs.declared.error.CarError.TheVariants.{Read, Truncated, InvalidOffset, OutOfMemory}
@@ -129,7 +129,7 @@ header_version roots rest h v =
     other_heads 0xa2 0xa1 _ _ (omega arith) (sym (header_spelled roots) ∙ same)
 
 -- behind the start of a file the rest of it is left
-pub start_holds : (front rest : List ℕ) (roots : List (List ℕ)) (x : Option ℕ) → IsHeader roots → IsStart front roots x → HoldsCar (front ++ rest) (header_bytes roots ++ within x rest) (wanting x rest)
+pub start_holds : (front rest : List ℕ) (roots : List (List ℕ)) (x : Option ℕ) → IsHeader roots → IsStartOfFile front roots x → HoldsCar (front ++ rest) (header_bytes roots ++ within x rest) (wanting x rest)
 start_holds front rest roots x header (inl h) =
     let none = subst (λ y. within y rest ≡ rest) (sym h.1) refl in
     (inl (
@@ -164,7 +164,7 @@ start_holds front rest roots x header (inr h) = inr (span_on front rest h.0, is,
     lacks = wanting_behind (Some (length_of front)) x (header_bytes roots) rest h.1.3 ∙ fewer (length_of front) (header_bytes roots ++ rest) (header_bytes roots ++ within x rest) (sym (within_behind (Some (length_of front)) x (header_bytes roots) rest h.1.3)) ∙ ap (λ n. n - length (header_bytes roots ++ within x rest)) (sym long)
 
 -- and behind the file of version 1 of version 2 stands what is behind that
-pub start_behind : (front rest : List ℕ) (roots : List (List ℕ)) (x : Option ℕ) → IsStart front roots x → (n : ℕ) → x ≡ Some n → HasSpan (front ++ rest) × (drop (begin_of (front ++ rest) + length_of (front ++ rest)) (front ++ rest) ≡ drop n rest)
+pub start_behind : (front rest : List ℕ) (roots : List (List ℕ)) (x : Option ℕ) → IsStartOfFile front roots x → (n : ℕ) → x ≡ Some n → HasSpan (front ++ rest) × (drop (begin_of (front ++ rest) + length_of (front ++ rest)) (front ++ rest) ≡ drop n rest)
 start_behind front rest roots x (inl h) n e = let clash = sym h.1 ∙ e in absurd (cc clash)
 start_behind front rest roots x (inr h) n e = (span_on front rest h.0, ap (λ k. drop k (front ++ rest)) sum ∙ drop-append-add front rest n)
   where
@@ -177,7 +177,7 @@ start_behind front rest roots x (inr h) n e = (span_on front rest h.0, ap (λ k.
         let q = number_on 35 front rest (omega (arith, h.0.whole)) in
         omega (arith, p, q, spent, h.1.1, ap length h.1.2, length-append h.1.0 (header_bytes roots))
 
-pub start_all : (front rest : List ℕ) (roots : List (List ℕ)) (x : Option ℕ) → IsHeader roots → IsStart front roots x → x ≡ None → IsVersion2 (front ++ rest) → ⊥
+pub start_all : (front rest : List ℕ) (roots : List (List ℕ)) (x : Option ℕ) → IsHeader roots → IsStartOfFile front roots x → x ≡ None → IsVersion2 (front ++ rest) → ⊥
 start_all front rest roots x header (inl h) e v = header_version roots rest header (subst (λ f. IsVersion2 (f ++ rest)) h.0 v)
 start_all front rest roots x header (inr h) e v = let clash = h.1.3 ∙ ap (option_map (λ m. m + length (header_bytes roots))) e in absurd (cc clash)
 

@@ -14,8 +14,8 @@ use Rattle.dagcbor_car.specs.Sources.{CarRefuses, RefusesStart, RefusesSection, 
 use Rattle.ipld_links.specs.Verdicts.{IsVerified, IsDagCbor, IsVerdict}
 use Rattle.dagcbor_car.specs.Told.{Told, sections_of, AreTold, TellsAll, Tells}
 use Rattle.ipld_links.specs.Sets.{Among, members, AreCids, RemovesCid}
-use Rattle.ipld_links.specs.Held.{IsKept, AddsName, AreNames}
-use Rattle.ipld_links.specs.Within.{IsInlineForm, IsWithin, AddsReached}
+use Rattle.ipld_links.specs.Held.{IsHeldName, AddsName, AreNames}
+use Rattle.ipld_links.specs.Within.{IsInlineForm, IsLinkWithin, AddsReached}
 use Rattle.ipld_links.specs.declared.verdict.Verdict.{Verdict}
 use Rattle.dagcbor_car.specs.declared.error.CarError.{CarError}
 use Rattle.dagcbor_car.specs.declared.error.CarError.TheVariants.{Read, OutOfMemory}
@@ -40,9 +40,9 @@ abbrev pub IsPlainlyLinked : List ℕ → List (List ℕ) → List Section → T
 IsPlainlyLinked form roots sections = Among form roots ⊎ IsLinkIn form sections
 
 -- it is that of such a root or link, or of a link within one
-abbrev pub IsLinked : List ℕ → List (List ℕ) → List Section → Type 0
-IsLinked form roots sections = (link : List ℕ) × (n : ℕ) × IsPlainlyLinked link roots sections
-    × IsWithin n link form
+abbrev pub IsLinkedFrom : List ℕ → List (List ℕ) → List Section → Type 0
+IsLinkedFrom form roots sections = (link : List ℕ) × (n : ℕ) × IsPlainlyLinked link roots sections
+    × IsLinkWithin n link form
 
 -- it names no verified block, nor holds one itself
 abbrev pub NamesNone : List ℕ → List Section → Type 0
@@ -52,15 +52,15 @@ NamesNone form sections = ¬ IsInlineForm form
 -- The roots and the links that name no verified block are listed, each once, in their order.
 abbrev pub ListsMissing : List (List ℕ) → List Section → Vec CidParts Global → Type 0
 ListsMissing roots sections v = IsStrictlySortedBy cid_cmp v.items
-    × ((form : List ℕ) → Among form (forms v.items) ↔ (IsLinked form roots sections × NamesNone form sections))
+    × ((form : List ℕ) → Among form (forms v.items) ↔ (IsLinkedFrom form roots sections × NamesNone form sections))
 
 -- ---- section by section
 
 -- what is known behind these sections of a file of these roots
 pub record IsAfter (check : CarCheck) (roots : List (List ℕ)) (sections : List Section) : Type 0 where
-  pub held : (c : CidParts) → IsKept c check.held ↔ IsHeld c sections
+  pub held : (c : CidParts) → IsHeldName c check.held ↔ IsHeld c sections
   pub names : AreNames check.held
-  pub missing : (form : List ℕ) → Among form (forms (members check.missing)) ↔ (IsLinked form roots sections × NamesNone form sections)
+  pub missing : (form : List ℕ) → Among form (forms (members check.missing)) ↔ (IsLinkedFrom form roots sections × NamesNone form sections)
   pub cids : AreCids check.missing
 
 -- the name of a verified block joined those that are held, and is not missing
@@ -86,9 +86,9 @@ TellsVerdict holds s old before new after = (v : Verdict) × IsVerdict s v × Ta
 
 -- The section is taken, and the verdict on it told, to the sink that is lent; or memory is wanting, and
 -- none is told.
-abbrev pub HandsOn : {S E : Type 0} → (S → List Told → Type 0) → Section → Checking S
+abbrev pub HandsOnVerdict : {S E : Type 0} → (S → List Told → Type 0) → Section → Checking S
     → Result (Unit {0}) E → Checking S → Type 0
-HandsOn holds s old result new = (new.verdicts.ghost_name ≡ old.verdicts.ghost_name) × MatchResult result
+HandsOnVerdict holds s old result new = (new.verdicts.ghost_name ≡ old.verdicts.ghost_name) × MatchResult result
     (λ _. TellsVerdict holds s old.check old.verdicts.now new.check new.verdicts.now)
     (λ _. TellsAll holds old.verdicts.now [] new.verdicts.now)
 

@@ -34,10 +34,10 @@ AreNone items = AllByRecursion (λ item. item ≡ None) items
 
 -- an error that says nothing of the bytes: a fault of the source; or want of memory, which does not
 -- come of a source that lends, nor where no bytes are left
-abbrev pub GivesUp : {E : Type 0} → Bool → List ℕ → CarError E → Type 0
-GivesUp lends b (Read e) = ⊤
-GivesUp lends b OutOfMemory = (lends ≡ false) × (b ≢ [])
-GivesUp lends b _ = ⊥
+abbrev pub GivesUpOnFile : {E : Type 0} → Bool → List ℕ → CarError E → Type 0
+GivesUpOnFile lends b (Read e) = ⊤
+GivesUpOnFile lends b OutOfMemory = (lends ≡ false) × (b ≢ [])
+GivesUpOnFile lends b _ = ⊥
 
 -- The sections that stand one behind the other at the front of the bytes come one by one. Then
 -- comes the end, where no bytes are left, nor wanting; or one error: its cause stands there, and no
@@ -46,7 +46,7 @@ abbrev pub AreItemsOf : {E : Type 0} → Bool → ℕ → List ℕ → List (Ite
 AreItemsOf lends n b [] = ⊤
 AreItemsOf lends n b (Some (Ok s) ∷ items) = (rest : List ℕ) × SplitsSection b s rest
     × AreItemsOf lends n rest items
-AreItemsOf lends n b (Some (Err e) ∷ items) = (GivesUp lends b e ⊎ RefusesSection n e b)
+AreItemsOf lends n b (Some (Err e) ∷ items) = (GivesUpOnFile lends b e ⊎ RefusesSection n e b)
     × AreNone items
 AreItemsOf lends n b (None ∷ items) = (b ≡ []) × (n ≡ 0) × AreNone items
 
@@ -65,7 +65,7 @@ AreSections lends [] sections = ⊤
 AreSections lends (Some (Ok s) ∷ items) sections = (more : List Section) × (sections ≡ s ∷ more)
     × AreSections lends items more
 AreSections lends (Some (Err e) ∷ items) sections =
-    GivesUp lends (flat_map section_bytes sections) e × AreNone items
+    GivesUpOnFile lends (flat_map section_bytes sections) e × AreNone items
 AreSections lends (None ∷ items) sections = (sections ≡ []) × AreNone items
 
 -- an error of the header that says nothing of the bytes: a fault of the source, or want of memory

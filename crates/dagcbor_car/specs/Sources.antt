@@ -80,8 +80,8 @@ RefusesNext extent e b = RefusesSection (wanting extent b) e (within extent b)
 
 -- the bytes begin a file of these roots, and so much of it is left: they are the header; or, of
 -- version 2, its header, any bytes up to where the file of version 1 begins, and the header of that
-abbrev pub IsStart : List ℕ → List (List ℕ) → Option ℕ → Type 0
-IsStart front roots extent = ((front ≡ header_bytes roots) × (extent ≡ None))
+abbrev pub IsStartOfFile : List ℕ → List (List ℕ) → Option ℕ → Type 0
+IsStartOfFile front roots extent = ((front ≡ header_bytes roots) × (extent ≡ None))
     ⊎ (HasSpan front × ((before : List ℕ) × (length before ≡ begin_of front)
     × (front ≡ before ++ header_bytes roots)
     × Spends (Some (length_of front)) (length (header_bytes roots)) extent))
@@ -91,7 +91,7 @@ IsStart front roots extent = ((front ≡ header_bytes roots) × (extent ≡ None
 pub record TakesStart (old : Reading) (roots : List (List ℕ)) (extent : Option ℕ) (new : Reading) : Type 0 where
   pub front : List ℕ
   pub header : IsHeader roots
-  pub start : IsStart front roots extent
+  pub start : IsStartOfFile front roots extent
   pub takes : Takes old front new
   pub looked : LooksAtMost (2 * length front) old new
   pub none_shown : new.shown ≡ []
@@ -159,7 +159,7 @@ is_last None = true
 is_last (Some r) = is_err r
 
 -- what is taken next, when memory is wanted, and how often bytes of the file are looked at
-pub record GivesNext {E : Type 0} (extent : Option ℕ) (old : Reading)
+pub record GivesNextSection {E : Type 0} (extent : Option ℕ) (old : Reading)
     (result : Result (Option Section) (CarError E)) (rest : Option ℕ) (new : Reading) : Type 0 where
   pub taken : PullsSection extent old result rest new
   pub memory : LacksMemoryIf (SectionLacks (of_file extent old)) result
@@ -171,7 +171,7 @@ abbrev pub GivesSection : {E : Type 0} → SectionStream → Option (Result Sect
 GivesSection old item new = MatchBool old.done
     ((item ≡ None) × (new ≡ old))
     ((new.done ≡ is_last item)
-    × GivesNext old.extent old.source (as_pulled item) new.extent new.source)
+    × GivesNextSection old.extent old.source (as_pulled item) new.extent new.source)
 
 -- no file begins, which a fault of the source and want of memory excuse
 abbrev pub NotBegun : {E : Type 0} → Reading → CarError E → Type 0

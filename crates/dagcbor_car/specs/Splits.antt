@@ -21,25 +21,25 @@ abbrev pub SplitsCounted : List ℕ → List ℕ → List ℕ → Type 0
 SplitsCounted b inner rest = (length inner < 2 ^ 64) × (b ≡ counted inner ++ rest)
 
 -- the bytes end inside a length, or before as many follow
-abbrev pub IsCut : List ℕ → Type 0
-IsCut b = IsCutVarint b
+abbrev pub IsCutPart : List ℕ → Type 0
+IsCutPart b = IsCutVarint b
     ⊎ ((n : ℕ) × (rest : List ℕ) × (n < 2 ^ 64) × (length rest < n) × (b ≡ varint n ++ rest))
 
 -- why no bytes stand behind their length
 abbrev pub CountFault : {E : Type 0} → CarError E → List ℕ → Type 0
-CountFault Truncated b = IsCut b
+CountFault Truncated b = IsCutPart b
 CountFault InvalidLength b = IsNoVarint b
 CountFault _ b = ⊥
 
 -- ---- a CID
 
 -- the bytes begin with a CID, and the rest follows
-abbrev pub SplitsCid : List ℕ → CidParts → List ℕ → Type 0
-SplitsCid b c rest = AreCidParts c × (b ≡ cid_bytes c ++ rest)
+abbrev pub BeginsWithCid : List ℕ → CidParts → List ℕ → Type 0
+BeginsWithCid b c rest = AreCidParts c × (b ≡ cid_bytes c ++ rest)
 
 -- no CID stands first, and the fault is that of the bytes as a CID
 abbrev pub BeginsNoCid : CidError → List ℕ → Type 0
-BeginsNoCid e b = ((c : CidParts) (rest : List ℕ) → ¬ SplitsCid b c rest) × IsFault e b
+BeginsNoCid e b = ((c : CidParts) (rest : List ℕ) → ¬ BeginsWithCid b c rest) × IsFault e b
 
 -- ---- a section
 

@@ -7,11 +7,11 @@ use Rattle.dagcbor_car.specs.Car.{IsHeader}
 use Rattle.dagcbor_car.specs.Splits.{CountsBlock}
 use Rattle.dagcbor_car.specs.Versions.{pragma, begin_of, length_of, HasSpan, HoldsCar}
 use Rattle.dagcbor_car.specs.Extents.{within, wanting}
-use Rattle.dagcbor_car.specs.Sources.{IsStart}
+use Rattle.dagcbor_car.specs.Sources.{IsStartOfFile}
 
 -- fewer than so many bytes are left of the file
-abbrev pub IsOver : Option ℕ → ℕ → Type 0
-IsOver extent count = (n : ℕ) × (extent ≡ Some n) × (n < count)
+abbrev pub ExceedsExtent : Option ℕ → ℕ → Type 0
+ExceedsExtent extent count = (n : ℕ) × (extent ≡ Some n) × (n < count)
 
 -- something of the file is to come, and the reader stays
 pub record IsDue (extent : Option ℕ) (old new : Reading) : Type 0 where
@@ -34,7 +34,7 @@ pub record TakesSpan (old : Reading) (n : ℕ) (new : Reading) : Type 0 where
 pub record TakesEnclosed (old : Reading) (roots : List (List ℕ)) (extent : Option ℕ) (new : Reading) : Type 0 where
   pub front : List ℕ
   pub header : IsHeader roots
-  pub start : IsStart (pragma ++ front) roots extent
+  pub start : IsStartOfFile (pragma ++ front) roots extent
   pub takes : Takes old front new
   pub looked : LooksAtMost (2 * length front) old new
   pub none_shown : new.shown ≡ []

@@ -13,7 +13,7 @@ ghost use Rattle.dagcbor_car.specs.Versions.{HoldsCar};
 ghost use Rattle.dagcbor_car.specs.Sources.{LacksMemoryIf};
 ghost use Rattle.dagcbor_car.specs.Checks.{HoldsName, FollowsLinks};
 ghost use Rattle.dagcbor_car.specs.Checks.{IsAfter, TakesSection, ListsMissing, TellsVerdict};
-ghost use Rattle.dagcbor_car.specs.Checks.{HandsOn, of_run, ChecksCar, ChecksInput};
+ghost use Rattle.dagcbor_car.specs.Checks.{HandsOnVerdict, of_run, ChecksCar, ChecksInput};
 ghost use Rattle.dagcbor_car.specs.declared.error.CarError.TheVariants.{OutOfMemory};
 
 use crate::each::{ReadCarError, SectionSink, each_section};
@@ -200,7 +200,7 @@ pub(crate) struct Checking<'a, S> {
 impl<S: VerdictSink> SectionSink for Checking<'_, S> {
     type Stop = AllocError;
 
-    ghost takes = { λ s old result new. HandsOn S.holds s old result new };
+    ghost takes = { λ s old result new. HandsOnVerdict S.holds s old result new };
 
     #[tactic(auto, using(crate::proofs::Files::section_told, crate::proofs::Files::tells_none))]
     fn take(&mut self, section: &Section<'_>) -> Result<(), AllocError> {

@@ -52,6 +52,7 @@ pub fn each_section<'de, R: Read, S: SectionSink>(
     ensures { RunsEach S.takes left.old (input_reading R.reading input.old) sink.old result
         left.new (input_reading R.reading input.new) sink.new }
 {
+    // No file has as many sections; a source that never ends may.
     for count in 0..u64::MAX {
         let more = take_next(alloc, count, input, left, sink)?;
         if !more {

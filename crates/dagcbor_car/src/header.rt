@@ -52,10 +52,7 @@ pub(crate) fn spell_header(alloc: Global, roots: &[Cid]) -> Result<Vec<u8>, Allo
     ensures { IfOk result (λ v. IsSpelling v.items (header_tree (forms roots.now))) }
 {
     // Each list of CIDs has a spelling, which is refused for want of memory alone.
-    match to_vec(alloc, &Header { roots }) {
-        Ok(spelled) => Ok(spelled),
-        Err(_) => Err(AllocError),
-    }
+    to_vec(alloc, &Header { roots }).map_err(|_| AllocError)
 }
 
 /// The roots of the header at the front, and the bytes behind it.

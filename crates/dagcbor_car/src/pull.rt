@@ -17,7 +17,7 @@ ghost use Rattle.dagcbor_car.specs.Sources.{CarRefuses, IsShort, car_error, Take
 ghost use Rattle.dagcbor_car.specs.Sources.{LacksMemoryIf, FileLacks, SectionLacks, RefusesStart};
 ghost use Rattle.dagcbor_car.specs.Sources.{TakesStart, PullsStart, PullsSection};
 ghost use Rattle.dagcbor_car.specs.Sources.{LooksTwice, LooksAtSection};
-ghost use Rattle.dagcbor_car.specs.Steps.{IsOver, IsDue, TakesSpan, TakesEnclosed, EnclosedLacks};
+ghost use Rattle.dagcbor_car.specs.Steps.{ExceedsExtent, IsDue, TakesSpan, TakesEnclosed, EnclosedLacks};
 ghost use Rattle.dagcbor_car.specs.declared.error.CarError.TheVariants.{Truncated};
 
 use crate::error::CarError;
@@ -74,7 +74,7 @@ fn pull_byte<R: Read>(reader: &mut R) -> Result<u8, CarError<R::Error>>
 fn spend<E: Drop>(left: &mut Option<u64>, count: u64) -> Result<(), CarError<E>>
     ensures { MatchResult result
         (λ _. Spends left.old count left.new)
-        (λ e. (e ≡ Truncated) × IsOver left.old count) }
+        (λ e. (e ≡ Truncated) × ExceedsExtent left.old count) }
 {
     let Some(most) = *left else {
         return Ok(());

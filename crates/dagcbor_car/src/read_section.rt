@@ -2,7 +2,7 @@
 
 ghost use Rattle.std.specs.Prelude.{◌≡◌, MatchResult};
 ghost use Rattle.std.specs.Cow.{cow_slice_items};
-ghost use Rattle.dagcbor_car.specs.Splits.{SplitsCid, BeginsNoCid};
+ghost use Rattle.dagcbor_car.specs.Splits.{BeginsWithCid, BeginsNoCid};
 
 use crate::section::{Section, measure_cid};
 use ipld_tree::{Cid, CidError};
@@ -36,7 +36,7 @@ impl<'de> ReadSection<'de> {
     /// The section whose name and block the bytes are.
     pub(crate) fn new(body: CowSlice<'de, u8>) -> Result<ReadSection<'de>, CidError>
         ensures { MatchResult result
-            (λ s. SplitsCid (cow_slice_items body.entry) s.0 s.1)
+            (λ s. BeginsWithCid (cow_slice_items body.entry) s.0 s.1)
             (λ e. BeginsNoCid e (cow_slice_items body.entry)) }
     {
         match measure_cid(&body) {

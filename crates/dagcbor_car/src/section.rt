@@ -2,7 +2,7 @@
 
 ghost use Rattle.std.specs.Prelude.{◌≡◌, ◌<◌, ◌≤◌, ◌∷◌, ◌++◌, length, drop, MatchResult};
 ghost use Rattle.dagcbor_car.specs.declared.error.CarError.TheVariants.{Truncated};
-ghost use Rattle.dagcbor_car.specs.Splits.{SplitsCounted, CountFault, SplitsCid, BeginsNoCid};
+ghost use Rattle.dagcbor_car.specs.Splits.{SplitsCounted, CountFault, BeginsWithCid, BeginsNoCid};
 ghost use Rattle.dagcbor_car.specs.Splits.{SplitsSection, BeginsNoSection, SectionFault};
 
 use crate::error::CarError;
@@ -60,7 +60,7 @@ fn split_bytes(bytes: &[u8], count: u64) -> Result<(&[u8], &[u8]), CarError<Infa
 /// The CID at the front, and how many bytes it has.
 pub(crate) fn measure_cid(bytes: &[u8]) -> Result<(Cid, usize), CidError>
     ensures { MatchResult result
-        (λ p. (p.1 ≤ length bytes.now) × SplitsCid bytes.now p.0 (drop p.1 bytes.now))
+        (λ p. (p.1 ≤ length bytes.now) × BeginsWithCid bytes.now p.0 (drop p.1 bytes.now))
         (λ e. BeginsNoCid e bytes.now) }
 {
     match split_cid(bytes) {
@@ -72,7 +72,7 @@ pub(crate) fn measure_cid(bytes: &[u8]) -> Result<(Cid, usize), CidError>
 /// The CID at the front, and the bytes behind it. The fault is that of `Cid::try_from`.
 fn split_cid(bytes: &[u8]) -> Result<(Cid, &[u8]), CidError>
     ensures { MatchResult result
-        (λ p. SplitsCid bytes.now p.0 p.1.now)
+        (λ p. BeginsWithCid bytes.now p.0 p.1.now)
         (λ e. BeginsNoCid e bytes.now) }
 {
     match bytes {
@@ -87,7 +87,7 @@ fn split_cid(bytes: &[u8]) -> Result<(Cid, &[u8]), CidError>
 #[tactic(auto, using(crate::proofs::Fronts::front_of_digest))]
 fn split_version_0(bytes: &[u8]) -> Result<(Cid, &[u8]), CidError>
     ensures { MatchResult result
-        (λ p. SplitsCid (0x12 ∷ 0x20 ∷ bytes.now) p.0 p.1.now)
+        (λ p. BeginsWithCid (0x12 ∷ 0x20 ∷ bytes.now) p.0 p.1.now)
         (λ e. BeginsNoCid e (0x12 ∷ 0x20 ∷ bytes.now)) }
 {
     match bytes.split_first_chunk::<32>() {
@@ -99,7 +99,7 @@ fn split_version_0(bytes: &[u8]) -> Result<(Cid, &[u8]), CidError>
 /// What stands behind the first byte of version 1.
 fn split_version_1(fields: &[u8]) -> Result<(Cid, &[u8]), CidError>
     ensures { MatchResult result
-        (λ p. SplitsCid (0x01 ∷ fields.now) p.0 p.1.now)
+        (λ p. BeginsWithCid (0x01 ∷ fields.now) p.0 p.1.now)
         (λ e. BeginsNoCid e (0x01 ∷ fields.now)) }
 {
     let (codec, rest) = split_varint(fields)?;

@@ -7,7 +7,7 @@ use Rattle.std.proofs.lemmas.Cmp.{ranked}
 use Rattle.ipld_tree.specs.Cid.{CidParts, AreCidParts}
 use Rattle.ipld_tree.specs.CidHash.{is_equal}
 use Rattle.ipld_links.specs.Sets.{Among, members, AddsCid}
-use Rattle.ipld_links.specs.Held.{front, name_at, named, IsKept, AddsName}
+use Rattle.ipld_links.specs.Held.{front, name_at, name_in_row, IsHeldName, AddsName}
 use Rattle.ipld_links.specs.Within.{AddsUnheld}
 use Rattle.ipld_links.specs.declared.cid_set.CidSet.{CidSet}
 use Rattle.ipld_links.specs.declared.held.HeldNames.{HeldNames}
@@ -63,13 +63,13 @@ behind_at names (Some i) c q e = behind_push names i c q e
 -- ---- look-ups
 
 -- the name with its front is this one
-pub name_kept : (s : HeldNames) (n : ℕ) (name c : CidParts) → n ≡ front c.digest → named s n ≡ Some name → name ≡ c → IsKept c s
-name_kept s n name c is found same = inl (subst (λ m. named s m ≡ Some c) is (found ∙ ap Some same))
+pub name_kept : (s : HeldNames) (n : ℕ) (name c : CidParts) → n ≡ front c.digest → name_in_row s n ≡ Some name → name ≡ c → IsHeldName c s
+name_kept s n name c is found same = inl (subst (λ m. name_in_row s m ≡ Some c) is (found ∙ ap Some same))
 
 -- the name with its front is another
-pub other_kept : (s : HeldNames) (n : ℕ) (name c : CidParts) → n ≡ front c.digest → named s n ≡ Some name → (name ≡ c → ⊥) → IsKept c s → Among c (members s.others)
+pub other_kept : (s : HeldNames) (n : ℕ) (name c : CidParts) → n ≡ front c.digest → name_in_row s n ≡ Some name → (name ≡ c → ⊥) → IsHeldName c s → Among c (members s.others)
 other_kept s n name c is found differs (inr m) = m
-other_kept s n name c is found differs (inl e) = absurd (differs (some_same name c (sym found ∙ ap (named s) is ∙ e)))
+other_kept s n name c is found differs (inl e) = absurd (differs (some_same name c (sym found ∙ ap (name_in_row s) is ∙ e)))
 
 -- ---- one name more
 
@@ -83,7 +83,7 @@ place_named None p end e other = absurd (other e)
 place_named (Some q) p end e other = ap Some (sym e)
 
 -- no name stood there: the place is the one behind the last
-pub none_named : (s : HeldNames) (n p end : ℕ) → end ≡ length s.names.items → p ≡ unwrap_or (get nat_cmp s.places n) end → p ≡ end → named s n ≡ None
+pub none_named : (s : HeldNames) (n p end : ℕ) → end ≡ length s.names.items → p ≡ unwrap_or (get nat_cmp s.places n) end → p ≡ end → name_in_row s n ≡ None
 none_named s n p end long e at = by (get nat_cmp s.places n) e
   where
     past : (names : List CidParts) (i : ℕ) → i ≡ length names → slice_get names i ≡ None
@@ -106,38 +106,38 @@ same_places old new n p before after elsewhere m = by (is_at (nat_cmp n) m) refl
     by true t = let same = at_number n m t in ap (λ k. get nat_cmp new.places k) (sym same) ∙ after ∙ sym before ∙ ap (λ k. get nat_cmp old.places k) same
     by false t = elsewhere m t
 
-same_names : (old new : HeldNames) → new.names ≡ old.names → SamePlaces old new → (n : ℕ) → named new n ≡ named old n
+same_names : (old new : HeldNames) → new.names ≡ old.names → SamePlaces old new → (n : ℕ) → name_in_row new n ≡ name_in_row old n
 same_names old new names places n = ap (λ ns. name_at ns.items (get nat_cmp new.places n)) names ∙ ap (name_at old.names.items) (places n)
 
 -- it was there
 pub name_there : (c : CidParts) (old new : HeldNames) (p : ℕ) → AreCidParts c → new.names ≡ old.names → SamePlaces old new → members new.others ≡ members old.others → get nat_cmp old.places (front c.digest) ≡ Some p → slice_get old.names.items p ≡ Some c → AddsName c old new
 name_there c old new p valid names places others at here = (valid, λ q. (there q, back q))
   where
-    there : (q : CidParts) → IsKept q new → IsKept q old ⊎ (q ≡ c)
+    there : (q : CidParts) → IsHeldName q new → IsHeldName q old ⊎ (q ≡ c)
     there q (inl e) = inl (inl (sym (same_names old new names places (front q.digest)) ∙ e))
     there q (inr m) = inl (inr (subst (Among q) others m))
 
-    back : (q : CidParts) → IsKept q old ⊎ (q ≡ c) → IsKept q new
+    back : (q : CidParts) → IsHeldName q old ⊎ (q ≡ c) → IsHeldName q new
     back q (inl (inl e)) = inl (same_names old new names places (front q.digest) ∙ e)
     back q (inl (inr m)) = inr (subst (Among q) (sym others) m)
-    back q (inr e) = inl (same_names old new names places (front q.digest) ∙ ap (λ (x : CidParts). named old (front x.digest)) e ∙ ap (name_at old.names.items) at ∙ here ∙ ap Some (sym e))
+    back q (inr e) = inl (same_names old new names places (front q.digest) ∙ ap (λ (x : CidParts). name_in_row old (front x.digest)) e ∙ ap (name_at old.names.items) at ∙ here ∙ ap Some (sym e))
 
 -- it joined the others
 pub other_joined : {E : Type 0} (r : Result (Unit {0}) E) (c : CidParts) (old new : HeldNames) → new.names ≡ old.names → SamePlaces old new → OnOk r (AddsCid c old.others new.others) → OnOk r (AddsName c old new)
 other_joined (Err e) c old new names places a = tt
 other_joined (Ok u) c old new names places a = (a.0, λ q. (there q, back q))
   where
-    there : (q : CidParts) → IsKept q new → IsKept q old ⊎ (q ≡ c)
+    there : (q : CidParts) → IsHeldName q new → IsHeldName q old ⊎ (q ≡ c)
     there q (inl e) = inl (inl (sym (same_names old new names places (front q.digest)) ∙ e))
     there q (inr m) = elim ((a.1 q).0 m) [ inl o ↦ inl (inr o) | inr e ↦ inr e ]
 
-    back : (q : CidParts) → IsKept q old ⊎ (q ≡ c) → IsKept q new
+    back : (q : CidParts) → IsHeldName q old ⊎ (q ≡ c) → IsHeldName q new
     back q (inl (inl e)) = inl (same_names old new names places (front q.digest) ∙ e)
     back q (inl (inr m)) = inr ((a.1 q).1 (inl m))
     back q (inr e) = inr ((a.1 q).1 (inr e))
 
 -- it joined the row
-pub row_joined : (c : CidParts) (n : ℕ) (old new : HeldNames) → AreCidParts c → n ≡ front c.digest → named old n ≡ None → new.names.items ≡ old.names.items ++ c ∷ [] → get nat_cmp new.places n ≡ Some (length old.names.items)
+pub row_joined : (c : CidParts) (n : ℕ) (old new : HeldNames) → AreCidParts c → n ≡ front c.digest → name_in_row old n ≡ None → new.names.items ≡ old.names.items ++ c ∷ [] → get nat_cmp new.places n ≡ Some (length old.names.items)
     → ((m : ℕ) → is_at (nat_cmp n) m ≡ false → get nat_cmp new.places m ≡ get nat_cmp old.places m) → members new.others ≡ members old.others → AddsName c old new
 row_joined c n old new valid is none names here elsewhere others = (valid, λ q. by q (is_at (nat_cmp n) (front q.digest)) refl)
   where
@@ -150,33 +150,33 @@ row_joined c n old new valid is none names here elsewhere others = (valid, λ q.
     row : (o : Option ℕ) → name_at new.names.items o ≡ name_at (old.names.items ++ c ∷ []) o
     row o = ap (λ ns. name_at ns o) names
 
-    found : named new n ≡ Some c
+    found : name_in_row new n ≡ Some c
     found = ap (name_at new.names.items) here ∙ row (Some (length old.names.items)) ∙ at_end old.names.items c
 
-    by : (q : CidParts) (b : Bool) → is_at (nat_cmp n) (front q.digest) ≡ b → IsKept q new ↔ (IsKept q old ⊎ (q ≡ c))
+    by : (q : CidParts) (b : Bool) → is_at (nat_cmp n) (front q.digest) ≡ b → IsHeldName q new ↔ (IsHeldName q old ⊎ (q ≡ c))
     by q true t = (there, back)
       where
-        at : named new (front q.digest) ≡ Some c
-        at = ap (named new) (sym (at_number n (front q.digest) t)) ∙ found
+        at : name_in_row new (front q.digest) ≡ Some c
+        at = ap (name_in_row new) (sym (at_number n (front q.digest) t)) ∙ found
 
-        there : IsKept q new → IsKept q old ⊎ (q ≡ c)
+        there : IsHeldName q new → IsHeldName q old ⊎ (q ≡ c)
         there (inl e) = inr (some_same q c (sym e ∙ at))
         there (inr m) = inl (inr (moved q m))
 
-        back : IsKept q old ⊎ (q ≡ c) → IsKept q new
-        back (inl (inl e)) = absurd (no_name q (named old n) none (ap (named old) (at_number n (front q.digest) t) ∙ e))
+        back : IsHeldName q old ⊎ (q ≡ c) → IsHeldName q new
+        back (inl (inl e)) = absurd (no_name q (name_in_row old n) none (ap (name_in_row old) (at_number n (front q.digest) t) ∙ e))
         back (inl (inr m)) = inr (stays q m)
         back (inr e) = inl (at ∙ ap Some (sym e))
     by q false t = (there, back)
       where
-        at : named new (front q.digest) ≡ name_at (old.names.items ++ c ∷ []) (get nat_cmp old.places (front q.digest))
+        at : name_in_row new (front q.digest) ≡ name_at (old.names.items ++ c ∷ []) (get nat_cmp old.places (front q.digest))
         at = row (get nat_cmp new.places (front q.digest)) ∙ ap (name_at (old.names.items ++ c ∷ [])) (elsewhere (front q.digest) t)
 
-        there : IsKept q new → IsKept q old ⊎ (q ≡ c)
+        there : IsHeldName q new → IsHeldName q old ⊎ (q ≡ c)
         there (inl e) = elim (before_at old.names.items (get nat_cmp old.places (front q.digest)) c q (sym at ∙ e)) [ inl k ↦ inl (inl k) | inr k ↦ inr k ]
         there (inr m) = inl (inr (moved q m))
 
-        back : IsKept q old ⊎ (q ≡ c) → IsKept q new
+        back : IsHeldName q old ⊎ (q ≡ c) → IsHeldName q new
         back (inl (inl e)) = inl (at ∙ behind_at old.names.items (get nat_cmp old.places (front q.digest)) c q e)
         back (inl (inr m)) = inr (stays q m)
         back (inr e) =
@@ -186,12 +186,12 @@ row_joined c n old new valid is none names here elsewhere others = (valid, λ q.
 
 -- ---- a set that what is not held joins
 
-pub unheld_added : {E : Type 0} (r : Result (Unit {0}) E) (c : CidParts) (held : HeldNames) (old new : CidSet) → (IsKept c held → ⊥) → OnOk r (AddsCid c old new) → OnOk r (AddsUnheld c held old new)
+pub unheld_added : {E : Type 0} (r : Result (Unit {0}) E) (c : CidParts) (held : HeldNames) (old new : CidSet) → (IsHeldName c held → ⊥) → OnOk r (AddsCid c old new) → OnOk r (AddsUnheld c held old new)
 unheld_added (Err e) c held old new free a = tt
 unheld_added (Ok u) c held old new free a = (
   a.0,
   λ q. (
-    λ m. elim ((a.1 q).0 m) [ inl o ↦ inl o | inr e ↦ inr (e, λ k. free (subst (λ x. IsKept x held) e k)) ],
+    λ m. elim ((a.1 q).0 m) [ inl o ↦ inl o | inr e ↦ inr (e, λ k. free (subst (λ x. IsHeldName x held) e k)) ],
     λ h. elim h [ inl o ↦ (a.1 q).1 (inl o) | inr w ↦ (a.1 q).1 (inr w.0) ],
   ),
 )

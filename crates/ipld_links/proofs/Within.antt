@@ -14,8 +14,8 @@ use Rattle.ipld_links.specs.Names.{IsInline}
 use Rattle.ipld_links.specs.Verdicts.{IsDagCbor}
 use Rattle.ipld_links.specs.Blocks.{HasBlock}
 use Rattle.ipld_links.specs.Sets.{Among, members}
-use Rattle.ipld_links.specs.Held.{IsKept, HoldsNone}
-use Rattle.ipld_links.specs.Within.{IsInlineForm, IsWithin, IsReached, IsReachedName, HoldsReached, AddsUnheld, AddsReached, AddsAll, AreFirstNames, AddsLinks}
+use Rattle.ipld_links.specs.Held.{IsHeldName, HoldsNone}
+use Rattle.ipld_links.specs.Within.{IsInlineForm, IsLinkWithin, IsReached, IsReachedName, HoldsReached, AddsUnheld, AddsReached, AddsAll, AreFirstNames, AddsLinks}
 use Rattle.ipld_links.specs.declared.cid_set.CidSet.{CidSet}
 use Rattle.ipld_links.specs.declared.held.HeldNames.{HeldNames}
 use Rattle.ipld_links.specs.Rows.{HoldsLinks}
@@ -44,7 +44,7 @@ mutual
   entries_are_cids no_entries form p h = absurd h
   entries_are_cids (entry k t es) form p h = elim (among_append form (links_of t) (entries_links es) h) [ inl m ↦ links_are_cids t form p.1 m | inr m ↦ entries_are_cids es form p.3 m ]
 
-within_cid : (n : ℕ) (start form : List ℕ) → IsCid start → IsWithin n start form → IsCid form
+within_cid : (n : ℕ) (start form : List ℕ) → IsCid start → IsLinkWithin n start form → IsCid form
 within_cid zero start form c e = subst IsCid (sym e) c
 within_cid (suc n) start form c w = within_cid n w.1 form (links_are_cids w.0 w.1 w.2.5.0.well_formed w.3) w.4
 
@@ -139,17 +139,17 @@ append_reached q xs ys (inr r) = (r.0, r.1, (r.2.0, r.2.1, append_among r.2.0 xs
 added_both : (xs ys : List (List ℕ)) (held : HeldNames) (old mid new : CidSet) → AddsReached xs held old mid → AddsReached ys held mid new → AddsReached (xs ++ ys) held old new
 added_both xs ys held old mid new first next q = (there, back)
   where
-    there : Among q (members new) → Among q (members old) ⊎ (IsReachedName q (xs ++ ys) × (IsKept q held → ⊥))
+    there : Among q (members new) → Among q (members old) ⊎ (IsReachedName q (xs ++ ys) × (IsHeldName q held → ⊥))
     there m = elim ((next q).0 m) [
       | inl o ↦ elim ((first q).0 o) [ inl k ↦ inl k | inr (r, free) ↦ inr (append_reached q xs ys (inl r), free) ]
       | inr (r, free) ↦ inr (append_reached q xs ys (inr r), free)
     ]
 
-    by : IsReachedName q xs ⊎ IsReachedName q ys → (IsKept q held → ⊥) → Among q (members new)
+    by : IsReachedName q xs ⊎ IsReachedName q ys → (IsHeldName q held → ⊥) → Among q (members new)
     by (inl r) free = (next q).1 (inl ((first q).1 (inr (r, free))))
     by (inr r) free = (next q).1 (inr (r, free))
 
-    back : Among q (members old) ⊎ (IsReachedName q (xs ++ ys) × (IsKept q held → ⊥)) → Among q (members new)
+    back : Among q (members old) ⊎ (IsReachedName q (xs ++ ys) × (IsHeldName q held → ⊥)) → Among q (members new)
     back (inl o) = (next q).1 (inl ((first q).1 (inl o)))
     back (inr (r, free)) = by (reached_append q xs ys r) free
 

@@ -17,22 +17,22 @@ name_at names None = None
 name_at names (Some i) = slice_get names i
 
 -- the name in the row with this front
-abbrev pub named : HeldNames → ℕ → Option CidParts
-named s n = name_at s.names.items (get nat_cmp s.places n)
+abbrev pub name_in_row : HeldNames → ℕ → Option CidParts
+name_in_row s n = name_at s.names.items (get nat_cmp s.places n)
 
 -- the name stands in the row, or is one of the others
-abbrev pub IsKept : CidParts → HeldNames → Type 0
-IsKept c s = (named s (front c.digest) ≡ Some c) ⊎ Among c (members s.others)
+abbrev pub IsHeldName : CidParts → HeldNames → Type 0
+IsHeldName c s = (name_in_row s (front c.digest) ≡ Some c) ⊎ Among c (members s.others)
 
 -- no name is kept
 abbrev pub HoldsNone : HeldNames → Type 0
-HoldsNone s = (c : CidParts) → ¬ IsKept c s
+HoldsNone s = (c : CidParts) → ¬ IsHeldName c s
 
 -- the names are the old ones and this CID
 abbrev pub AddsName : CidParts → HeldNames → HeldNames → Type 0
 AddsName c old new = AreCidParts c
-    × ((q : CidParts) → IsKept q new ↔ (IsKept q old ⊎ (q ≡ c)))
+    × ((q : CidParts) → IsHeldName q new ↔ (IsHeldName q old ⊎ (q ≡ c)))
 
 -- the names are CIDs
 abbrev pub AreNames : HeldNames → Type 0
-AreNames s = (q : CidParts) → IsKept q s → AreCidParts q
+AreNames s = (q : CidParts) → IsHeldName q s → AreCidParts q

@@ -10,7 +10,7 @@ use Rattle.dagcbor_items.specs.Slices.{IsBlock}
 use Rattle.ipld_links.specs.Names.{IsInline}
 use Rattle.ipld_links.specs.Verdicts.{IsDagCbor}
 use Rattle.ipld_links.specs.Sets.{Among, members}
-use Rattle.ipld_links.specs.Held.{IsKept}
+use Rattle.ipld_links.specs.Held.{IsHeldName}
 use Rattle.ipld_links.specs.declared.cid_set.CidSet.{CidSet}
 use Rattle.ipld_links.specs.declared.held.HeldNames.{HeldNames}
 
@@ -25,14 +25,14 @@ HoldsBlock link t = (c : CidParts) × AreCidParts c × (link ≡ cid_bytes c) ×
 
 -- the binary form is the link's own; or that of a link in the block which the name holds itself,
 -- or in the block which the name of such a link holds, and so on, so many blocks deep
-abbrev pub IsWithin : ℕ → List ℕ → List ℕ → Type 0
-IsWithin zero link form = form ≡ link
-IsWithin (suc n) link form = (t : Tree) × (inner : List ℕ) × HoldsBlock link t
-    × Among inner (links_of t) × IsWithin n inner form
+abbrev pub IsLinkWithin : ℕ → List ℕ → List ℕ → Type 0
+IsLinkWithin zero link form = form ≡ link
+IsLinkWithin (suc n) link form = (t : Tree) × (inner : List ℕ) × HoldsBlock link t
+    × Among inner (links_of t) × IsLinkWithin n inner form
 
 -- the binary form is that of one of the links, or of one within them
 abbrev pub IsReached : List ℕ → List (List ℕ) → Type 0
-IsReached form links = (link : List ℕ) × (n : ℕ) × Among link links × IsWithin n link form
+IsReached form links = (link : List ℕ) × (n : ℕ) × Among link links × IsLinkWithin n link form
 
 -- ---- sets of them
 
@@ -47,12 +47,12 @@ HoldsReached s links = (q : CidParts) → Among q (members s) ↔ IsReachedName 
 -- the members are the old ones, and this CID, if it is not held
 abbrev pub AddsUnheld : CidParts → HeldNames → CidSet → CidSet → Type 0
 AddsUnheld c held old new = AreCidParts c
-    × ((q : CidParts) → Among q (members new) ↔ (Among q (members old) ⊎ ((q ≡ c) × ¬ IsKept q held)))
+    × ((q : CidParts) → Among q (members new) ↔ (Among q (members old) ⊎ ((q ≡ c) × ¬ IsHeldName q held)))
 
 -- the members are the old ones, and the names that are reached from the links and are not held
 abbrev pub AddsReached : List (List ℕ) → HeldNames → CidSet → CidSet → Type 0
 AddsReached links held old new = (q : CidParts)
-    → Among q (members new) ↔ (Among q (members old) ⊎ (IsReachedName q links × ¬ IsKept q held))
+    → Among q (members new) ↔ (Among q (members old) ⊎ (IsReachedName q links × ¬ IsHeldName q held))
 
 -- the links are CIDs, and the names that are reached from them and are not held joined the members
 abbrev pub AddsAll : List CidParts → HeldNames → CidSet → CidSet → Type 0

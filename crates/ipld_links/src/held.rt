@@ -5,7 +5,7 @@ ghost use Rattle.std.specs.Prelude.{MatchOption, IfOk, OnOk};
 ghost use Rattle.std.specs.Option.{unwrap_or};
 ghost use Rattle.std.specs.Ordering.{nat_cmp};
 ghost use Rattle.std.specs.BTreeMap.{get, is_at};
-ghost use Rattle.ipld_links.specs.Held.{front, named, HoldsNone, IsKept, AddsName};
+ghost use Rattle.ipld_links.specs.Held.{front, name_in_row, HoldsNone, IsHeldName, AddsName};
 
 use crate::cid_set::CidSet;
 use ipld_tree::Cid;
@@ -37,7 +37,7 @@ impl HeldNames {
 
     /// Whether the name is one of them.
     pub fn contains(&self, cid: &Cid) -> bool
-        ensures { IsTrue result ↔ IsKept cid.now self.now }
+        ensures { IsTrue result ↔ IsHeldName cid.now self.now }
     {
         match self.named(front_of(cid)) {
             Some(name) => is_same(name, cid) || self.others.contains(cid),
@@ -76,8 +76,8 @@ impl HeldNames {
     /// The name in the row with this front.
     fn named(&self, number: u64) -> Option<&Cid>
         ensures { MatchOption result
-            (named self.now number ≡ None)
-            (λ name. named self.now number ≡ Some name.now) }
+            (name_in_row self.now number ≡ None)
+            (λ name. name_in_row self.now number ≡ Some name.now) }
     {
         match self.places.get(&number) {
             Some(place) => self.names.get(*place),

@@ -191,6 +191,7 @@ pub fn reach_from(
     ensures lost { IfOk result (λ r. ListsLost (stored_in blocks.now) root.now r.lost.items) }
 {
     let mut walk = Walk::new(alloc, root)?;
+    // Each turn takes memory for a name that was not seen, of which no memory holds as many.
     for _count in 0..u64::MAX {
         let Some(name) = walk.next() else {
             return Ok(walk.into_reached());

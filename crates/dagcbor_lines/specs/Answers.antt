@@ -19,8 +19,8 @@ use Rattle.dagcbor_heads.specs.declared.error.DecodeError.TheVariants as refusal
 
 -- what `check` says of a block: its kind where it is a tree's spelling, else the name of a refusal
 -- whose cause stands
-abbrev pub IsVerdict : List ℕ → List ℕ → Type 0
-IsVerdict block said =
+abbrev pub IsCheckSaid : List ℕ → List ℕ → Type 0
+IsCheckSaid block said =
     ((t : Tree) × IsBlock block t × (said ≡ codes "ok " ++ kind_name (kind_of t)))
     ⊎ ((e : DecodeError Infallible) × (e ≢ refusals.OutOfMemory) × SliceRefused e block
     × (said ≡ codes "refused " ++ variant_name e))
@@ -44,7 +44,7 @@ IsLinkLine block said =
 
 -- what a command says of a block
 abbrev pub IsSaid : Command → List ℕ → List ℕ → Type 0
-IsSaid Check = IsVerdict
+IsSaid Check = IsCheckSaid
 IsSaid Links = IsLinkLine
 
 -- what a command says of a line
@@ -53,9 +53,9 @@ IsAnswer command line said = MatchResult (decode_of line) (λ block. IsSaid comm
     (λ _. said ≡ codes "refused hex")
 
 -- what a command says of the block whose text a line is, or of none where it is no text
-abbrev pub IsSaidOf : {A : Type 0} → (A → List ℕ) → Command → Option A → List ℕ → Type 0
-IsSaidOf bytes_of command None said = said ≡ codes "refused hex"
-IsSaidOf bytes_of command (Some block) said = IsSaid command (bytes_of block) said
+abbrev pub IsSaidOfText : {A : Type 0} → (A → List ℕ) → Command → Option A → List ℕ → Type 0
+IsSaidOfText bytes_of command None said = said ≡ codes "refused hex"
+IsSaidOfText bytes_of command (Some block) said = IsSaid command (bytes_of block) said
 
 -- what is said, and a line feed, was appended to these bytes
 abbrev pub AppendsLine : (List ℕ → Type 0) → List ℕ → List ℕ → Type 0

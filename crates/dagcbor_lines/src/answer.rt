@@ -6,8 +6,8 @@ ghost use Rattle.std.specs.Io.{StartsWith};
 ghost use Rattle.hex.specs.Hex.{decode_of, encode_lower};
 ghost use Rattle.ipld_tree.specs.Cid.{cid_bytes};
 ghost use Rattle.dagcbor_items.specs.PrintedNames.{variant_name};
-ghost use Rattle.dagcbor_lines.specs.Answers.{links_text, IsVerdict};
-ghost use Rattle.dagcbor_lines.specs.Answers.{IsLinkLine, IsSaid, IsSaidOf, IsAnswer, AppendsLine};
+ghost use Rattle.dagcbor_lines.specs.Answers.{links_text, IsCheckSaid};
+ghost use Rattle.dagcbor_lines.specs.Answers.{IsLinkLine, IsSaid, IsSaidOfText, IsAnswer, AppendsLine};
 ghost use Rattle.dagcbor_lines.specs.Answers.{PushesLine};
 
 use crate::command::Command;
@@ -44,7 +44,7 @@ fn push_refusal(out: &mut Vec<u8>, refusal: &DecodeError<Infallible>) -> Result<
 
 /// Appends what `check` says of a block.
 fn push_verdict(out: &mut Vec<u8>, block: &[u8]) -> Result<(), ToolError>
-    ensures { PushesLine (IsVerdict block.now) out.old.items out.new.items result }
+    ensures { PushesLine (IsCheckSaid block.now) out.old.items out.new.items result }
 {
     match check_slice(block) {
         Ok(kind) => Ok(push_sentence(out, "ok ", kind_name(kind))?),
@@ -135,7 +135,7 @@ fn push_said_of(
     block: Option<&[u8]>,
     out: &mut Vec<u8>,
 ) -> Result<(), ToolError>
-    ensures { PushesLine (IsSaidOf (λ b. b.now) command block.entry) out.old.items out.new.items
+    ensures { PushesLine (IsSaidOfText (λ b. b.now) command block.entry) out.old.items out.new.items
         result }
 {
     match block {

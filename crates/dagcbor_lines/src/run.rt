@@ -161,6 +161,7 @@ pub fn run_lines<R: BufRead, W: Write>(
         block: Vec::new(alloc),
         out: Vec::new(alloc),
     };
+    // No input has as many fills: each but the last takes a byte at least.
     for _ in 0..u64::MAX {
         let more = answer_fill(alloc, command, reader, writer, &mut buffers)?;
         if !more {

@@ -17,8 +17,8 @@ use Rattle.ipld_links.specs.Sound.{IsSound}
 use Rattle.ipld_links.specs.Reaching.{Stored, stored_in, IsThere}
 use Rattle.ipld_links.proofs.Members.{at_same, same_at, among_push, push_among}
 use Rattle.block_lines.specs.Lines.{refused_line}
-use Rattle.held_lines.specs.Taking.{TookEach, FaultBehind, NotBegun, TakesAll}
-use Rattle.held_lines.specs.Holding.{TellsFault, IsKept, Stores, IsGood, Stays, Yields, PutsBack, KeepsNext}
+use Rattle.held_lines.specs.Taking.{TookEach, FaultBehind, TellsNotBegun, TakesAll}
+use Rattle.held_lines.specs.Holding.{TellsFault, IsKeptSection, Stores, IsBest, StaysInPlace, Yields, PutsBack, KeepsNext}
 use Rattle.held_lines.proofs.Taking.{took_knows}
 use Rattle.held_lines.specs.declared.holding.Kept.{Kept}
 use Rattle.held_lines.specs.declared.holding.Kept.TheVariants as which
@@ -31,7 +31,7 @@ use Rattle.held_lines.specs.declared.take.Ended.TheVariants as ended
 pub fault_told : {S Stop : Type 0} (takes : Takes S Stop) (IsSo : List Section → Type 0) (b told : List ℕ) (roots : List (List ℕ)) (old new : S) (e : CarError Infallible) (h : FaultBehind takes roots b old e new) → IsSo h.first.sections → told ≡ refused_line e → TellsFault IsSo b told
 fault_told takes IsSo b told roots old new e h is tells = (e, (h.none, inr (roots, h.first.sections, h.first.wanting, h.first.rest, h.first.front, is, h.refuses)), tells)
 
-pub start_told : (IsSo : List Section → Type 0) (b : List ℕ) (Stop : Type 0) (v : Vec ℕ Global) → NotBegun {Stop = Stop} b (ended.Fault v) → TellsFault IsSo b v.items
+pub start_told : (IsSo : List Section → Type 0) (b : List ℕ) (Stop : Type 0) (v : Vec ℕ Global) → TellsNotBegun {Stop = Stop} b (ended.Fault v) → TellsFault IsSo b v.items
 start_told IsSo b Stop v h = (h.0, (h.1, inl h.2), h.3)
 
 -- ---- what is held
@@ -54,17 +54,17 @@ stores_none kept blocks none = record {
 sound_named : (s : Section) → IsSound s → IsVerified s
 sound_named s sound = inl (sound.by_sha256, sound.digest)
 
-good_named : (kept : Kept) (s : Section) → IsGood kept s → IsVerified s
+good_named : (kept : Kept) (s : Section) → IsBest kept s → IsVerified s
 good_named which.All s good = good
 good_named which.Sound s good = sound_named s good
 
-good_kept : (kept : Kept) (s : Section) → IsGood kept s → IsKept kept s
+good_kept : (kept : Kept) (s : Section) → IsBest kept s → IsKeptSection kept s
 good_kept which.All s good = tt
 good_kept which.Sound s good = good
 
 module _ (kept : Kept) (old new : Stored) (name : CidParts) (block : List ℕ) (sections : List Section) (h : Stores kept sections old) where
   -- the section's bytes are put under its name
-  stores_put : ((q : CidParts) → new q ≡ cond (is_at (cid_cmp name) q) (Some block) (old q)) → IsKept kept (name, block) → ((t : Section) → Among t sections → IsVerified t → t.0 ≡ name → IsVerified (name, block)) → Stores kept (sections ++ (name, block) ∷ []) new
+  stores_put : ((q : CidParts) → new q ≡ cond (is_at (cid_cmp name) q) (Some block) (old q)) → IsKeptSection kept (name, block) → ((t : Section) → Among t sections → IsVerified t → t.0 ≡ name → IsVerified (name, block)) → Stores kept (sections ++ (name, block) ∷ []) new
   stores_put put is best = record {
     some = λ q b e. found q b (is_at (cid_cmp name) q) refl (sym (put q) ∙ e);
     all = λ t m k. elim (among_push t sections (name, block) m) [
@@ -74,11 +74,11 @@ module _ (kept : Kept) (old new : Stored) (name : CidParts) (block : List ℕ) (
     named = λ t m good b e. as_good t m good b (is_at (cid_cmp name) t.0) refl (sym (put t.0) ∙ e);
   }
     where
-      found : (q : CidParts) (b : List ℕ) (t : Bool) → is_at (cid_cmp name) q ≡ t → cond t (Some block) (old q) ≡ Some b → Among (q, b) (sections ++ (name, block) ∷ []) × IsKept kept (q, b)
+      found : (q : CidParts) (b : List ℕ) (t : Bool) → is_at (cid_cmp name) q ≡ t → cond t (Some block) (old q) ≡ Some b → Among (q, b) (sections ++ (name, block) ∷ []) × IsKeptSection kept (q, b)
       found q b true t e =
           let bytes : block ≡ b = cc e in
           let same : (q, b) ≡ (name, block) = λ i. (sym (at_same name q t) i, sym bytes i) in
-          (push_among (q, b) sections (name, block) (inr same), subst (IsKept kept) (sym same) is)
+          (push_among (q, b) sections (name, block) (inr same), subst (IsKeptSection kept) (sym same) is)
       found q b false t e = let k = h.some q b e in (push_among (q, b) sections (name, block) (inl k.0), k.1)
 
       there_by : (q : CidParts) (t : Bool) → is_some (old q) ≡ true → is_some (cond t (Some block) (old q)) ≡ true
@@ -104,12 +104,12 @@ module _ (kept : Kept) (old new : Stored) (name : CidParts) (block : List ℕ) (
       ]
 
   -- what is stored stays as it is
-  stores_same : ((q : CidParts) → new q ≡ old q) → (IsKept kept (name, block) → IsThere old name) → (IsVerified (name, block) → (b : List ℕ) → old name ≡ Some b → IsVerified (name, b)) → Stores kept (sections ++ (name, block) ∷ []) new
+  stores_same : ((q : CidParts) → new q ≡ old q) → (IsKeptSection kept (name, block) → IsThere old name) → (IsVerified (name, block) → (b : List ℕ) → old name ≡ Some b → IsVerified (name, b)) → Stores kept (sections ++ (name, block) ∷ []) new
   stores_same same there better = record {
     some = λ q b e. let k = h.some q b (sym (same q) ∙ e) in (push_among (q, b) sections (name, block) (inl k.0), k.1);
     all = λ t m k. ap is_some (same t.0) ∙ elim (among_push t sections (name, block) m) [
       | inl o ↦ h.all t o k
-      | inr e ↦ subst (λ (p : Section). IsThere old p.0) (sym e) (there (subst (IsKept kept) e k))
+      | inr e ↦ subst (λ (p : Section). IsThere old p.0) (sym e) (there (subst (IsKeptSection kept) e k))
     ];
     named = λ t m good b e. elim (among_push t sections (name, block) m) [
       | inl o ↦ h.named t o good b (sym (same t.0) ∙ e)
@@ -130,31 +130,31 @@ module _ (kept : Kept) (old : BTreeMap CidParts (Vec ℕ Global)) (name : CidPar
   was_stored = ap (option_map (λ (w : Vec ℕ Global). w.items)) (sym was)
 
   -- where no bytes stood there, no section had those that the name says
-  none_named : (k : Kept) (sections : List Section) → Stores k sections (stored_in old) → before ≡ None → IsKept k (name, block) → (t : Section) → Among t sections → IsVerified t → t.0 ≡ name → IsVerified (name, block)
+  none_named : (k : Kept) (sections : List Section) → Stores k sections (stored_in old) → before ≡ None → IsKeptSection k (name, block) → (t : Section) → Among t sections → IsVerified t → t.0 ≡ name → IsVerified (name, block)
   none_named which.Sound sections h free is t m good e = sound_named (name, block) is
   none_named which.All sections h free is t m good e =
       let none : stored_in old t.0 ≡ None = ap (stored_in old) e ∙ was_stored ∙ ap (option_map (λ (w : Vec ℕ Global). w.items)) free in
       absurd (let clash : true ≡ false = sym (h.all t m tt) ∙ ap is_some none in cc clash)
 
   -- why no other section under the name is better
-  best : (sections : List Section) → Stores kept sections (stored_in old) → Stays kept before (name, block) → (t : Section) → Among t sections → IsVerified t → t.0 ≡ name → IsVerified (name, block)
+  best : (sections : List Section) → Stores kept sections (stored_in old) → StaysInPlace kept before (name, block) → (t : Section) → Among t sections → IsVerified t → t.0 ≡ name → IsVerified (name, block)
   best sections h (inl good) t m is e = good_named kept (name, block) good
   best sections h (inr (inl same)) t m is e =
       let stands : stored_in old t.0 ≡ Some block = ap (stored_in old) e ∙ was_stored ∙ ap (option_map (λ (w : Vec ℕ Global). w.items)) same.1 ∙ ap Some same.2 in
       subst (λ q. IsVerified (q, block)) e (h.named t m is block stands)
   best sections h (inr (inr free)) t m is e = none_named kept sections h free.0 free.1 t m is e
 
-  is_kept : (sections : List Section) → Stores kept sections (stored_in old) → Stays kept before (name, block) → IsKept kept (name, block)
+  is_kept : (sections : List Section) → Stores kept sections (stored_in old) → StaysInPlace kept before (name, block) → IsKeptSection kept (name, block)
   is_kept sections h (inl good) = good_kept kept (name, block) good
   is_kept sections h (inr (inl same)) = (h.some name block (was_stored ∙ ap (option_map (λ (w : Vec ℕ Global). w.items)) same.1 ∙ ap Some same.2)).1
   is_kept sections h (inr (inr free)) = free.1
 
   -- what stood there is as good
-  as_named : (k : Kept) (sections : List Section) → Stores k sections (stored_in old) → (IsGood k (name, block) → ⊥) → IsVerified (name, block) → (b : List ℕ) → stored_in old name ≡ Some b → IsVerified (name, b)
+  as_named : (k : Kept) (sections : List Section) → Stores k sections (stored_in old) → (IsBest k (name, block) → ⊥) → IsVerified (name, block) → (b : List ℕ) → stored_in old name ≡ Some b → IsVerified (name, b)
   as_named which.All sections h other is b e = absurd (other is)
   as_named which.Sound sections h other is b e = sound_named (name, b) (h.some name b e).1
 
-  pub kept_there : (new : BTreeMap CidParts (Vec ℕ Global)) → PutsBack name (Some v) old new → Stays kept before (name, block) → (sections : List Section) → Stores kept sections (stored_in old) → Stores kept (sections ++ (name, block) ∷ []) (stored_in new)
+  pub kept_there : (new : BTreeMap CidParts (Vec ℕ Global)) → PutsBack name (Some v) old new → StaysInPlace kept before (name, block) → (sections : List Section) → Stores kept sections (stored_in old) → Stores kept (sections ++ (name, block) ∷ []) (stored_in new)
   kept_there new put stays sections h = stores_put kept (stored_in old) (stored_in new) name block sections h
       (subst (λ b. (q : CidParts) → stored_in new q ≡ cond (is_at (cid_cmp name) q) (Some b) (stored_in old q)) bytes (stored_put old new name (Some v) put))
       (is_kept sections h stays) (best sections h stays)

@@ -15,13 +15,13 @@ use Rattle.dagcbor_car.proofs.Places.{IsPlace, no_file, place_begun, place_more,
 use Rattle.std.specs.declared.convert.Infallible.{Infallible}
 use Rattle.dagcbor_cli.specs.declared.fault.ToolError.{ToolError}
 use Rattle.block_lines.specs.Lines.{refused_line}
-use Rattle.held_lines.specs.Taking.{IsOfBytes, TookEach, TakesFront, TakesWhole, StopsAt, EndsAt, EndsBy, EndsByFault, TakesBehind, TakesAll, TakesFile}
+use Rattle.held_lines.specs.Taking.{IsOfBytes, TookEach, TakesFront, TakesWhole, StopsAtSection, EndsAt, EndsBy, EndsByFault, TakesBehind, TakesAll, TakesFile}
 use Rattle.held_lines.specs.declared.take.Ended.{Ended}
 use Rattle.held_lines.specs.declared.take.Ended.TheVariants as ended
 
 -- ---- refusals of the bytes
 
--- the same refusal, where no source can fault
+-- the refusal, where no source can fault
 abbrev pub alone : {E : Type 0} → CarError E → CarError Infallible
 alone (faults.Read f) = faults.Truncated
 alone faults.Truncated = faults.Truncated
@@ -156,7 +156,7 @@ module _ {S Stop : Type 0} (takes : Takes S Stop) (roots : List (List ℕ)) (b :
   stopped ss extent more mid behind old it new (stop.Section count e) r h t k told = fault_behind count ss extent more mid behind old it new e r h t k told
   stopped ss extent more mid behind old it new (stop.Block count name why) r h t k told =
       let next = left_more b roots ss k.0 extent more mid behind h k.2 in
-      let at : StopsAt takes roots b old why new = record {
+      let at : StopsAtSection takes roots b old why new = record {
         it = it;
         first = taken_front ss extent mid old it h t;
         section = k.0;

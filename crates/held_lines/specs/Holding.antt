@@ -26,28 +26,28 @@ use Rattle.held_lines.specs.declared.holding.Held.{Held}
 
 -- the bytes are no file for this cause: no file begins; or behind the sections of which this is so
 -- no section stands, though bytes do, or are wanting
-abbrev pub IsFault : (List Section → Type 0) → CarError Infallible → List ℕ → Type 0
-IsFault IsSo e b = IsNoFile b × (RefusesStart e b
+abbrev pub IsFileFault : (List Section → Type 0) → CarError Infallible → List ℕ → Type 0
+IsFileFault IsSo e b = IsNoFile b × (RefusesStart e b
     ⊎ ((roots : List (List ℕ)) × (sections : List Section) × (n : ℕ) × (rest : List ℕ)
     × IsFileFront b roots sections n rest × IsSo sections × RefusesSection n e rest))
 
 -- the bytes are no file for some cause, behind sections of which this is so, and a line tells it
 abbrev pub TellsFault : (List Section → Type 0) → List ℕ → List ℕ → Type 0
-TellsFault IsSo b told = (e : CarError Infallible) × IsFault IsSo e b × (told ≡ refused_line e)
+TellsFault IsSo b told = (e : CarError Infallible) × IsFileFault IsSo e b × (told ≡ refused_line e)
 
 -- ---- what is held
 
 -- which sections are kept: each, or the sound ones
-abbrev pub IsKept : Kept → Section → Type 0
-IsKept which.All s = ⊤
-IsKept which.Sound s = IsSound s
+abbrev pub IsKeptSection : Kept → Section → Type 0
+IsKeptSection which.All s = ⊤
+IsKeptSection which.Sound s = IsSound s
 
 -- under each name of a section that is kept stand the bytes of such a section: those that the name
 -- says, where a section has them; under no other name stand any
 pub record Stores (kept : Kept) (sections : List Section) (stored : Stored) : Type 0 where
   pub some : (q : CidParts) (b : List ℕ) → stored q ≡ Some b
-      → Among (q, b) sections × IsKept kept (q, b)
-  pub all : (s : Section) → Among s sections → IsKept kept s → IsThere stored s.0
+      → Among (q, b) sections × IsKeptSection kept (q, b)
+  pub all : (s : Section) → Among s sections → IsKeptSection kept s → IsThere stored s.0
   pub named : (s : Section) → Among s sections → IsVerified s → (b : List ℕ) → stored s.0 ≡ Some b
       → IsVerified (s.0, b)
 
@@ -61,20 +61,20 @@ HoldsFile kept b held = MatchResult held
 -- ---- its steps
 
 -- no section is better than this one
-abbrev pub IsGood : Kept → Section → Type 0
-IsGood which.All s = IsVerified s
-IsGood which.Sound s = IsSound s
+abbrev pub IsBest : Kept → Section → Type 0
+IsBest which.All s = IsVerified s
+IsBest which.Sound s = IsSound s
 
 -- a section stays in the place of what stood under its name: none is better; or the same bytes
 -- stood there; or none did, and it is kept
-abbrev pub Stays : Kept → Option (Vec ℕ Global) → Section → Type 0
-Stays kept before s = IsGood kept s
+abbrev pub StaysInPlace : Kept → Option (Vec ℕ Global) → Section → Type 0
+StaysInPlace kept before s = IsBest kept s
     ⊎ (((v : Vec ℕ Global) × (before ≡ Some v) × (v.items ≡ s.1))
-    ⊎ ((before ≡ None) × IsKept kept s))
+    ⊎ ((before ≡ None) × IsKeptSection kept s))
 
 -- it gives way: others are better, and it is not kept but where a block stood under its name
 abbrev pub Yields : Kept → Option (Vec ℕ Global) → Section → Type 0
-Yields kept before s = ¬ IsGood kept s × (IsKept kept s → is_some before ≡ true)
+Yields kept before s = ¬ IsBest kept s × (IsKeptSection kept s → is_some before ≡ true)
 
 -- this stands under the name, and under each other name what stood there
 abbrev pub PutsBack : CidParts → Option (Vec ℕ Global) → BTreeMap CidParts (Vec ℕ Global)
@@ -83,11 +83,11 @@ PutsBack name before old new = (q : CidParts)
     → get cid_cmp new q ≡ cond (is_at (cid_cmp name) q) before (get cid_cmp old q)
 
 -- a section is one more of those of which some are kept
-abbrev pub Keeps : {E : Type 0} → Kept → Section → Stored → Result (Unit {0}) E → Stored → Type 0
-Keeps kept s old result new = OnOk result ((sections : List Section) → Stores kept sections old
+abbrev pub KeepsSection : {E : Type 0} → Kept → Section → Stored → Result (Unit {0}) E → Stored → Type 0
+KeepsSection kept s old result new = OnOk result ((sections : List Section) → Stores kept sections old
     → Stores kept (sections ++ s ∷ []) new)
 
--- the same of what is held, of which the same are kept
+-- what is held has one section more of those of which some are kept, and which are kept stays
 abbrev pub KeepsNext : Takes Holding AllocError
 KeepsNext s old result new = (new.kept ≡ old.kept)
-    × Keeps old.kept s (stored_in old.blocks) result (stored_in new.blocks)
+    × KeepsSection old.kept s (stored_in old.blocks) result (stored_in new.blocks)

@@ -45,7 +45,7 @@ pub record TakesWhole {S Stop : Type 0} (takes : Takes S Stop) (roots : List (Li
   pub took : TookEach takes old sections new
 
 -- behind such sections stands one that was refused
-pub record StopsAt {S Stop : Type 0} (takes : Takes S Stop) (roots : List (List ℕ)) (b : List ℕ) (old : S) (stop : Stop) (new : S) : Type 0 where
+pub record StopsAtSection {S Stop : Type 0} (takes : Takes S Stop) (roots : List (List ℕ)) (b : List ℕ) (old : S) (stop : Stop) (new : S) : Type 0 where
   pub it : S
   pub first : TakesFront takes roots b old it
   pub section : Section
@@ -64,7 +64,7 @@ pub record FaultBehind {S Stop : Type 0} (takes : Takes S Stop) (roots : List (L
 abbrev pub EndsAt : {S Stop : Type 0} → Takes S Stop → List (List ℕ) → List ℕ → S → Ended Stop → S
     → Type 0
 EndsAt takes roots b old ended.Whole new = TakesWhole takes roots b old new
-EndsAt takes roots b old (ended.Stopped stop) new = StopsAt takes roots b old stop new
+EndsAt takes roots b old (ended.Stopped stop) new = StopsAtSection takes roots b old stop new
 EndsAt takes roots b old (ended.Fault line) new = (e : CarError Infallible)
     × FaultBehind takes roots b old e new × (line.items ≡ refused_line e)
 
@@ -95,19 +95,19 @@ EndsBy (stop.Block count name why) result = result ≡ Ok (ended.Stopped why)
 -- ---- the whole
 
 -- no file begins, of which a line tells
-abbrev pub NotBegun : {Stop : Type 0} → List ℕ → Ended Stop → Type 0
-NotBegun b (ended.Fault line) = (e : CarError Infallible) × IsNoFile b × RefusesStart e b
+abbrev pub TellsNotBegun : {Stop : Type 0} → List ℕ → Ended Stop → Type 0
+TellsNotBegun b (ended.Fault line) = (e : CarError Infallible) × IsNoFile b × RefusesStart e b
     × (line.items ≡ refused_line e)
-NotBegun b _ = ⊥
+TellsNotBegun b _ = ⊥
 
 -- How far the bytes were taken as a file, and of which roots: not at all, and of none; or so far behind
 -- a header.
 abbrev pub TakesAll : {S Stop : Type 0} → Takes S Stop → List ℕ → S → Vec CidParts Global × Ended Stop
     → S → Type 0
-TakesAll takes b old p new = (NotBegun b p.1 × (p.0.items ≡ []) × (new ≡ old))
+TakesAll takes b old p new = (TellsNotBegun b p.1 × (p.0.items ≡ []) × (new ≡ old))
     ⊎ EndsAt takes (forms p.0.items) b old p.1 new
 
--- the same of the bytes that are left, where the source tells them
+-- how far the bytes that are left, where the source tells them, were taken as a file
 abbrev pub TakesFile : {S Stop : Type 0} → Takes S Stop → Reading → S
     → Result (Vec CidParts Global × Ended Stop) ToolError → S → Type 0
 TakesFile takes source old result new = IfOk result (λ p. (b : List ℕ)

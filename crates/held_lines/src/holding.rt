@@ -3,7 +3,7 @@
 ghost use Rattle.std.specs.Prelude.{◌≡◌, is_some, IfOk, IfSome, MatchBool, OnOk};
 ghost use Rattle.ipld_links.specs.Reaching.{stored_in};
 ghost use Rattle.ipld_links.specs.Verdicts.{IsVerified};
-ghost use Rattle.held_lines.specs.Holding.{IsGood, Stays, Yields, PutsBack, Keeps};
+ghost use Rattle.held_lines.specs.Holding.{IsBest, StaysInPlace, Yields, PutsBack, KeepsSection};
 ghost use Rattle.held_lines.specs.Holding.{KeepsNext, HoldsFile};
 
 use crate::take::{Ended, take_input};
@@ -60,8 +60,8 @@ fn is_named(section: &Section<'_>) -> bool
 
 /// Whether no other section is better.
 fn is_good(kept: Kept, section: &Section<'_>) -> bool
-    ensures { MatchBool result (IsGood kept (section.now.cid, section.now.block.now))
-        (¬ IsGood kept (section.now.cid, section.now.block.now)) }
+    ensures { MatchBool result (IsBest kept (section.now.cid, section.now.block.now))
+        (¬ IsBest kept (section.now.cid, section.now.block.now)) }
 {
     match kept {
         Kept::All => is_named(section),
@@ -73,7 +73,7 @@ fn is_good(kept: Kept, section: &Section<'_>) -> bool
 /// where that decides, and once.
 fn stays(kept: Kept, before: &Option<Vec<u8>>, section: &Section<'_>) -> bool
     ensures { MatchBool result
-        (Stays kept before.now (section.now.cid, section.now.block.now))
+        (StaysInPlace kept before.now (section.now.cid, section.now.block.now))
         (Yields kept before.now (section.now.cid, section.now.block.now)) }
 {
     match before {
@@ -111,7 +111,7 @@ fn hold(
     blocks: &mut BTreeMap<Cid, Vec<u8>>,
     section: &Section<'_>,
 ) -> Result<(), AllocError>
-    ensures { Keeps kept (section.now.cid, section.now.block.now) (stored_in blocks.old) result
+    ensures { KeepsSection kept (section.now.cid, section.now.block.now) (stored_in blocks.old) result
         (stored_in blocks.new) }
 {
     let block = section.block.to_vec(alloc)?;

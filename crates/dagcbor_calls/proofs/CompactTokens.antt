@@ -11,7 +11,7 @@ use Rattle.ipld_tree.specs.Tree.{Tree, null, boolean, integer, text, bytes, list
 use Rattle.ipld_tree.specs.Spelling.{item_count, entry_count, text_spelling, spelling, items_spelling, entries_spelling, IsSpelling}
 use Rattle.dagcbor_items.specs.declared.kind.Kind.{Kind}
 use Rattle.dagcbor_calls.specs.Tapes.{token, text_token, tokens_of, items_tokens, entries_tokens, tape_of, PutsTapeOf}
-use Rattle.dagcbor_calls.specs.CompactTapes.{are_ascii, is_integer, compact, compact_tape_of, wrapped, wrapped_as}
+use Rattle.dagcbor_calls.specs.CompactTapes.{are_ascii, is_integer_kind, compact, compact_tape_of, wrapped, wrapped_as}
 use Rattle.dagcbor_calls.specs.declared.compact.CompactToken.{CompactToken}
 use Rattle.dagcbor_calls.proofs.Tapes.{tape_put}
 
@@ -72,13 +72,13 @@ entries_counted (entry k t es) = omega (arith, spelling_some t, entries_counted 
 
 -- ---- tokens
 
-plain_fits : (kind number place : ℕ) → kind % 2 ^ 32 ≡ kind → is_integer kind ≡ false → number < 2 ^ 32 → place < 2 ^ 32 → wrapped (token kind number place) ≡ token kind number place
+plain_fits : (kind number place : ℕ) → kind % 2 ^ 32 ≡ kind → is_integer_kind kind ≡ false → number < 2 ^ 32 → place < 2 ^ 32 → wrapped (token kind number place) ≡ token kind number place
 plain_fits kind number place same plain few near =
     ap (λ k. wrapped_as k (token kind number place)) same
     ∙ ap (λ (o : Bool). token kind (if o then number else number % 2 ^ 32) (place % 2 ^ 32)) plain
     ∙ ap₂ (token kind) (mod-eq_of_lt few) (mod-eq_of_lt near)
 
-integer_fits : (kind number place : ℕ) → kind % 2 ^ 32 ≡ kind → is_integer kind ≡ true → place < 2 ^ 32 → wrapped (token kind number place) ≡ token kind number place
+integer_fits : (kind number place : ℕ) → kind % 2 ^ 32 ≡ kind → is_integer_kind kind ≡ true → place < 2 ^ 32 → wrapped (token kind number place) ≡ token kind number place
 integer_fits kind number place same is near =
     ap (λ k. wrapped_as k (token kind number place)) same
     ∙ ap (λ (o : Bool). token kind (if o then number else number % 2 ^ 32) (place % 2 ^ 32)) is

@@ -5,7 +5,7 @@ use Rattle.dagcbor_heads.specs.Head.{head}
 use Rattle.ipld_tree.specs.Tree.{link}
 use Rattle.ipld_tree.specs.Spelling.{spelling}
 use Rattle.dagcbor_calls.specs.Packed.{put_at}
-use Rattle.dagcbor_calls.specs.Told.{payload_at, null_told, boolean_told, string_told, link_told, bytes_told, TellsLength, tape_told, HasRoomAt, PutsAt, PutsToldAt, CountsTold, FillsTold}
+use Rattle.dagcbor_calls.specs.Told.{payload_at, null_told, boolean_told, string_told, link_told, token_bytes, TellsLength, tape_told, HasRoomAt, PutsAt, PutsToldAt, CountsTold, FillsTold}
 use Rattle.dagcbor_calls.specs.declared.tape.Token.{Token}
 use Rattle.dagcbor_calls.proofs.Putting.{put_fits, length_put_at, put_behind}
 use Rattle.dagcbor_calls.proofs.Telling.{told_first}
@@ -93,7 +93,7 @@ pub record Counted (b : List ℕ) (tape rest : List Token) (count : ℕ) : Type 
 pub none_counted : (b : List ℕ) (tape : List Token) → Counted b tape tape 0
 none_counted b tape = record { done = []; told = λ r e. e; none = λ e. e; counted = omega arith }
 
-pub one_counted : (b : List ℕ) (tape rest more : List Token) (first : Token) (s : List ℕ) (old new : ℕ) → rest ≡ first ∷ more → bytes_told b first.kind first.number first.place ≡ Some s → new ≡ old + length s → Counted b tape rest old → Counted b tape more new
+pub one_counted : (b : List ℕ) (tape rest more : List Token) (first : Token) (s : List ℕ) (old new : ℕ) → rest ≡ first ∷ more → token_bytes b first.kind first.number first.place ≡ Some s → new ≡ old + length s → Counted b tape rest old → Counted b tape more new
 one_counted b tape rest more first s old new is e n g = record {
   done = g.done ++ s;
   told = λ r f. g.told (s ++ r) (ap (tape_told b) is ∙ told_first b s r first more e f) ∙ ap Some (sym (append_assoc g.done s r));
@@ -101,7 +101,7 @@ one_counted b tape rest more first s old new is e n g = record {
   counted = omega (arith, n, g.counted, length-append g.done s);
 }
 
-pub one_is_none : (b : List ℕ) (tape rest more : List Token) (first : Token) (count : ℕ) → rest ≡ first ∷ more → bytes_told b first.kind first.number first.place ≡ None → Counted b tape rest count → tape_told b tape ≡ None
+pub one_is_none : (b : List ℕ) (tape rest more : List Token) (first : Token) (count : ℕ) → rest ≡ first ∷ more → token_bytes b first.kind first.number first.place ≡ None → Counted b tape rest count → tape_told b tape ≡ None
 one_is_none b tape rest more first count is e g = g.none (ap (tape_told b) is ∙ ap (λ o. option_and_then (λ x. option_map (λ y. x ++ y) (tape_told b more)) o) e)
 
 pub all_counted : (b : List ℕ) (tape rest : List Token) (count least : ℕ) → rest ≡ [] → Counted b tape rest count → least ≡ min count (2 ^ 64 - 1) → CountsTold b tape (Some least)
@@ -121,21 +121,21 @@ pub none_put : (b : List ℕ) (tape : List Token) (old : List ℕ) → HasRoomAt
 none_put b tape old h = record { done = []; more = h.0; whole = h.1; told = h.1; fits = omega (arith, h.2); place = refl; stands = refl }
 
 -- the parts of what a tape tells
-first_told : (b m : List ℕ) (first : Token) (more : List Token) → tape_told b (first ∷ more) ≡ Some m → (s r : List ℕ) × (bytes_told b first.kind first.number first.place ≡ Some s) × (tape_told b more ≡ Some r) × (m ≡ s ++ r)
-first_told b m first more p = by (bytes_told b first.kind first.number first.place) refl (tape_told b more) refl
+first_told : (b m : List ℕ) (first : Token) (more : List Token) → tape_told b (first ∷ more) ≡ Some m → (s r : List ℕ) × (token_bytes b first.kind first.number first.place ≡ Some s) × (tape_told b more ≡ Some r) × (m ≡ s ++ r)
+first_told b m first more p = by (token_bytes b first.kind first.number first.place) refl (tape_told b more) refl
   where
-    by : (o : Option (List ℕ)) → o ≡ bytes_told b first.kind first.number first.place → (u : Option (List ℕ)) → u ≡ tape_told b more → (s r : List ℕ) × (bytes_told b first.kind first.number first.place ≡ Some s) × (tape_told b more ≡ Some r) × (m ≡ s ++ r)
+    by : (o : Option (List ℕ)) → o ≡ token_bytes b first.kind first.number first.place → (u : Option (List ℕ)) → u ≡ tape_told b more → (s r : List ℕ) × (token_bytes b first.kind first.number first.place ≡ Some s) × (tape_told b more ≡ Some r) × (m ≡ s ++ r)
     by None e u f = let k : None ≡ Some m = ap₂ (λ o v. option_and_then (λ y. option_map (λ z. y ++ z) v) o) e f ∙ p in absurd (cc k)
     by (Some o) e None f = let k : None ≡ Some m = ap₂ (λ w v. option_and_then (λ y. option_map (λ z. y ++ z) v) w) e f ∙ p in absurd (cc k)
     by (Some o) e (Some u) f = let k : Some (o ++ u) ≡ Some m = ap₂ (λ w v. option_and_then (λ y. option_map (λ z. y ++ z) v) w) e f ∙ p in (o, u, sym e, sym f, sym (cc k))
 
-pub has_room : (b : List ℕ) (tape rest next : List Token) (first : Token) (old now : List ℕ) (at : ℕ) → rest ≡ first ∷ next → Putting b tape rest old now at → HasRoomAt (bytes_told b first.kind first.number first.place) at now
+pub has_room : (b : List ℕ) (tape rest next : List Token) (first : Token) (old now : List ℕ) (at : ℕ) → rest ≡ first ∷ next → Putting b tape rest old now at → HasRoomAt (token_bytes b first.kind first.number first.place) at now
 has_room b tape rest next first old now at is g =
     let k = first_told b g.more first next (sym (ap (tape_told b) is) ∙ g.told) in
     let behind = drop (length g.done) old in
     (k.0, k.2, omega (arith, g.place, g.fits, ap length k.4, length-append k.0 k.1, length-append g.done g.more, ap length g.stands, length-append g.done behind, length-drop (length g.done) old))
 
-pub one_put : (b : List ℕ) (tape rest next : List Token) (first : Token) (old now new : List ℕ) (at end : ℕ) → rest ≡ first ∷ next → PutsToldAt (bytes_told b first.kind first.number first.place) at now new end → Putting b tape rest old now at → Putting b tape next old new end
+pub one_put : (b : List ℕ) (tape rest next : List Token) (first : Token) (old now new : List ℕ) (at end : ℕ) → rest ≡ first ∷ next → PutsToldAt (token_bytes b first.kind first.number first.place) at now new end → Putting b tape rest old now at → Putting b tape next old new end
 one_put b tape rest next first old now new at end is puts g =
     let k = first_told b g.more first next (sym (ap (tape_told b) is) ∙ g.told) in
     let s = k.0 in

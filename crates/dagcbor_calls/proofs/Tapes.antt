@@ -336,7 +336,7 @@ put_behind done old first room =
     ∙ sym (append_assoc done (first ∷ []) (drop (suc (length done)) old))
     ∙ ap (λ n. (done ++ first ∷ []) ++ drop n old) {x = suc (length done)} {y = length done + 1} (omega arith)
 
--- the same of what it is
+-- what equals the entry that was put was put there
 pub put_made : {T : Type 0} (given made : T) (before after : List T) (count : ℕ) → given ≡ made → (count < length before → after ≡ set before count given) → count < length before → after ≡ set before count made
 put_made given made before after count same put room = put room ∙ ap (set before count) same
 

@@ -5,7 +5,7 @@ use Rattle.dagcbor_heads.specs.Head.{head}
 use Rattle.ipld_tree.specs.Tree.{Tree, null, boolean, integer, text, bytes, list, mapping, link, Items, no_items, item, Entries, no_entries, entry}
 use Rattle.ipld_tree.specs.Spelling.{item_count, entry_count, text_spelling, spelling, items_spelling, entries_spelling}
 use Rattle.dagcbor_calls.specs.Tapes.{token_at, tokens_of, items_tokens, entries_tokens, text_token}
-use Rattle.dagcbor_calls.specs.Told.{payload_at, bytes_told, tape_told, TapeTellsBlock}
+use Rattle.dagcbor_calls.specs.Told.{payload_at, token_bytes, tape_told, TapeTellsBlock}
 use Rattle.dagcbor_calls.specs.declared.tape.Token.{Token}
 
 -- a payload behind what stands before it
@@ -19,15 +19,15 @@ payload_there b x s y place is e =
     ∙ ap Some (take-append_seam s y)
 
 -- a token and those behind it
-pub told_first : (b s r : List ℕ) (first : Token) (more : List Token) → bytes_told b first.kind first.number first.place ≡ Some s → tape_told b more ≡ Some r → tape_told b (first ∷ more) ≡ Some (s ++ r)
+pub told_first : (b s r : List ℕ) (first : Token) (more : List Token) → token_bytes b first.kind first.number first.place ≡ Some s → tape_told b more ≡ Some r → tape_told b (first ∷ more) ≡ Some (s ++ r)
 told_first b s r first more p q = ap₂ (λ o u. option_and_then (λ x. option_map (λ y. x ++ y) u) o) p q
 
 -- tokens behind others
 told_both : (b s r : List ℕ) (first more : List Token) → tape_told b first ≡ Some s → tape_told b more ≡ Some r → tape_told b (first ++ more) ≡ Some (s ++ r)
 told_both b s r [] more p q = let none : [] ≡ s = cc p in q ∙ ap (λ x. Some (x ++ r)) none
-told_both b s r (x ∷ xs) more p q = by (λ u f. told_both b u r xs more f q) (bytes_told b x.kind x.number x.place) refl (tape_told b xs) refl
+told_both b s r (x ∷ xs) more p q = by (λ u f. told_both b u r xs more f q) (token_bytes b x.kind x.number x.place) refl (tape_told b xs) refl
   where
-    by : ((u : List ℕ) → tape_told b xs ≡ Some u → tape_told b (xs ++ more) ≡ Some (u ++ r)) → (o : Option (List ℕ)) → o ≡ bytes_told b x.kind x.number x.place → (u : Option (List ℕ)) → u ≡ tape_told b xs → tape_told b (x ∷ (xs ++ more)) ≡ Some (s ++ r)
+    by : ((u : List ℕ) → tape_told b xs ≡ Some u → tape_told b (xs ++ more) ≡ Some (u ++ r)) → (o : Option (List ℕ)) → o ≡ token_bytes b x.kind x.number x.place → (u : Option (List ℕ)) → u ≡ tape_told b xs → tape_told b (x ∷ (xs ++ more)) ≡ Some (s ++ r)
     by behind None e u f = let k : None ≡ Some s = ap₂ (λ o v. option_and_then (λ y. option_map (λ z. y ++ z) v) o) e f ∙ p in absurd (cc k)
     by behind (Some o) e None f = let k : None ≡ Some s = ap₂ (λ w v. option_and_then (λ y. option_map (λ z. y ++ z) v) w) e f ∙ p in absurd (cc k)
     by behind (Some o) e (Some u) f =
@@ -52,7 +52,7 @@ string_is_told b x s y at major e is =
     let front = head major (length s) in
     ap (option_map (λ p. front ++ p)) (payload_there b (x ++ front) s y (at + length front) (inside_next b x front s y is) (further x front at e))
 
-link_is_told : (b x cid y : List ℕ) (at : ℕ) → length x ≡ at → b ≡ x ++ (spelling (link cid) ++ y) → bytes_told b 7 (length cid) (at + length (0xd8 ∷ 0x2a ∷ head 2 (length (0x00 ∷ cid)) ++ 0x00 ∷ [])) ≡ Some (spelling (link cid))
+link_is_told : (b x cid y : List ℕ) (at : ℕ) → length x ≡ at → b ≡ x ++ (spelling (link cid) ++ y) → token_bytes b 7 (length cid) (at + length (0xd8 ∷ 0x2a ∷ head 2 (length (0x00 ∷ cid)) ++ 0x00 ∷ [])) ≡ Some (spelling (link cid))
 link_is_told b x cid y at e is =
     let h = head 2 (length (0x00 ∷ cid)) in
     let front = 0xd8 ∷ 0x2a ∷ h ++ 0x00 ∷ [] in

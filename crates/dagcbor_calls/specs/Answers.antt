@@ -12,7 +12,7 @@ use Rattle.dagcbor_items.specs.Stops.{StandsAt}
 use Rattle.dagcbor_calls.specs.Codes.{kind_code, refusal_code}
 use Rattle.dagcbor_calls.specs.Packed.{packed_links, with_front}
 use Rattle.dagcbor_calls.specs.Tapes.{tape_of, with_tokens}
-use Rattle.dagcbor_calls.specs.Told.{tape_told, HasRoom}
+use Rattle.dagcbor_calls.specs.Told.{tape_told, FitsInto}
 use Rattle.dagcbor_calls.specs.Standing.{AreTokens}
 use Rattle.dagcbor_calls.specs.declared.tape.Token.{Token}
 
@@ -57,8 +57,8 @@ IsTokensAnswer b old new needed place code =
 abbrev pub IsSpellAnswerOf : Option (List ℕ) → List ℕ → List ℕ → ℕ → ℤ → Type 0
 IsSpellAnswerOf None old new needed code = (code ≡ negsuc 19) × (needed ≡ 0) × (new ≡ old)
 IsSpellAnswerOf (Some s) old new needed code = (needed ≡ min (length s) (2 ^ 64 - 1))
-    × (HasRoom s old × (new ≡ s ++ drop (length s) old) × IsCheckAnswer s code
-    ⊎ (¬ HasRoom s old) × (code ≡ negsuc 20) × (new ≡ old))
+    × (FitsInto s old × (new ≡ s ++ drop (length s) old) × IsCheckAnswer s code
+    ⊎ (¬ FitsInto s old) × (code ≡ negsuc 20) × (new ≡ old))
 
 -- what `dagcbor_spell` answers of a tape over these bytes
 abbrev pub IsSpellAnswer : List ℕ → List Token → List ℕ → List ℕ → ℕ → ℤ → Type 0

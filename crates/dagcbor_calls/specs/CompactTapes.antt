@@ -23,13 +23,13 @@ abbrev pub compact_kind : ℕ → List ℕ → ℕ
 compact_kind kind payload = if (kind == 3) && are_ascii payload then 9 else kind
 
 -- an integer, of either sign
-abbrev pub is_integer : ℕ → Bool
-is_integer kind = (kind == 2) || (kind == 8)
+abbrev pub is_integer_kind : ℕ → Bool
+is_integer_kind kind = (kind == 2) || (kind == 8)
 
 -- The compact token of a token of these bytes: of an integer the low and the high half of its number,
 -- and of others its number and its place.
 abbrev pub compact : List ℕ → Token → CompactToken
-compact b t = if is_integer t.kind
+compact b t = if is_integer_kind t.kind
     then compact_token t.kind (t.number % 2 ^ 32) (t.number / 2 ^ 32)
     else compact_token (compact_kind t.kind (take t.number (drop t.place b))) t.number t.place
 
@@ -49,7 +49,7 @@ IsCompactTapeAnswer b old new needed code =
 
 -- a token of which each part is below 2 ^ 32, but an integer's number
 abbrev pub wrapped_as : ℕ → Token → Token
-wrapped_as kind t = token kind (if is_integer kind then t.number else t.number % 2 ^ 32)
+wrapped_as kind t = token kind (if is_integer_kind kind then t.number else t.number % 2 ^ 32)
     (t.place % 2 ^ 32)
 
 abbrev pub wrapped : Token → Token

@@ -25,7 +25,7 @@ abbrev pub with_front : List ℕ → List ℕ → List ℕ
 with_front bytes old = if nat_lt (length old) (length bytes) then old
     else bytes ++ drop (length bytes) old
 
--- the same at a place
+-- memory with the bytes at a place, where there is room for them; else the memory stays
 abbrev pub put_at : ℕ → List ℕ → List ℕ → List ℕ
 put_at at bytes old = if nat_lt (length old) (at + length bytes) then old
     else take at old ++ (bytes ++ drop (at + length bytes) old)

@@ -19,8 +19,8 @@ IsVerifyAnswer name block code =
 
 -- where the CID of a section begins, behind the length; where it ends and the block begins; and
 -- where the block ends and the section
-abbrev pub places_of : Section → List ℕ
-places_of s = length (varint (length (section_body s)))
+abbrev pub section_places : Section → List ℕ
+section_places s = length (varint (length (section_body s)))
     ∷ (length (varint (length (section_body s))) + length (cid_bytes s.0))
     ∷ length (section_bytes s) ∷ []
 
@@ -29,6 +29,6 @@ places_of s = length (varint (length (section_body s)))
 abbrev pub IsSectionAnswer : List ℕ → List ℕ → List ℕ → ℤ → Type 0
 IsSectionAnswer b old new code =
     ((s : Section) × (rest : List ℕ) × (v : Verdict) × SplitsSection b s rest × IsVerdict s v
-    × (code ≡ verdict_code v) × (new ≡ places_of s))
+    × (code ≡ verdict_code v) × (new ≡ section_places s))
     ⊎ ((e : CarError Infallible) × BeginsNoSection b × SectionFault e b × (code ≡ fault_code e)
     × (new ≡ old))

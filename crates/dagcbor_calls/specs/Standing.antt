@@ -83,7 +83,7 @@ StandsLinkIfThere first rest whole b result = MatchOption result
     (λ p. (n : ℕ) × (cid : List ℕ) × HasLinkBytes b n cid (rest p)
     × (first p ≡ token 7 n (whole - length (cid ++ rest p))))
 
--- the same behind a tag of this number
+-- the token of a link behind a tag of this number, which is 42; or none
 abbrev pub StandsTaggedIfThere : {P : Type 0} → (P → Token) → (P → List ℕ) → ℕ → ℕ → List ℕ
     → Option P → Type 0
 StandsTaggedIfThere first rest number whole b result = MatchOption result

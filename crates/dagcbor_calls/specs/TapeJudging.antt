@@ -13,8 +13,8 @@ IsLeafTold told n = (s : List ℕ) × (told ≡ Some s) × (length s ≡ n)
 
 -- Where the tokens from `next` on tell bytes, those from `at` on tell more, of which these are the
 -- rest; and the room is less by what is more.
-abbrev pub Tells : (List ℕ → List ℕ → Type 0) → List ℕ → List Token → ℕ → ℕ → ℕ → ℕ → Type 0
-Tells Splits b tape at next old new = (rest : List ℕ) → tape_told b (drop next tape) ≡ Some rest
+abbrev pub TellsMore : (List ℕ → List ℕ → Type 0) → List ℕ → List Token → ℕ → ℕ → ℕ → ℕ → Type 0
+TellsMore Splits b tape at next old new = (rest : List ℕ) → tape_told b (drop next tape) ≡ Some rest
     → (s : List ℕ) × (tape_told b (drop at tape) ≡ Some s) × Splits s rest
     × (length s + new ≡ length rest + old)
 

@@ -104,7 +104,7 @@ PutsTapeOf tape b old new needed result = MatchResult result
     (λ kind. (t : Tree) × IsBlock b t × (kind ≡ kind_of t) × (needed ≡ length (tape t)) × (needed ≤ length b) × (new ≡ with_tokens (tape t) old))
     (λ e. SliceRefused e b × (e ≢ OutOfMemory) × (needed ≡ 0) × (new ≡ old))
 
--- the same of the tape of its tokens
+-- The tape of its tokens is counted, and put at the front, exactly where the slice is a block.
 abbrev pub PutsTape : List ℕ → List Token → List Token → ℕ → Result Kind (DecodeError Infallible)
     → Type 0
 PutsTape b old new needed result = PutsTapeOf tape_of b old new needed result

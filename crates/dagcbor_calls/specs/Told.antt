@@ -28,8 +28,8 @@ abbrev pub link_told : List ℕ → ℕ → ℕ → Option (List ℕ)
 link_told b n place = option_map (λ s. 0xd8 ∷ 0x2a ∷ head 2 (suc n) ++ 0x00 ∷ s) (payload_at b place n)
 
 -- the bytes of a token by its kind, its number and its place, and none where it is no token
-abbrev pub bytes_told : List ℕ → ℕ → ℕ → ℕ → Option (List ℕ)
-bytes_told b kind n place =
+abbrev pub token_bytes : List ℕ → ℕ → ℕ → ℕ → Option (List ℕ)
+token_bytes b kind n place =
     if nat_eq kind 0 then null_told n
     else if nat_eq kind 1 then boolean_told n
     else if nat_eq kind 2 then Some (head 0 n)
@@ -44,7 +44,7 @@ bytes_told b kind n place =
 -- the bytes of a tape over the bytes that its places speak of
 abbrev pub tape_told : List ℕ → List Token → Option (List ℕ)
 tape_told b [] = Some []
-tape_told b (first ∷ more) = option_and_then (λ s. option_map (λ r. s ++ r) (tape_told b more)) (bytes_told b first.kind first.number first.place)
+tape_told b (first ∷ more) = option_and_then (λ s. option_map (λ r. s ++ r) (tape_told b more)) (token_bytes b first.kind first.number first.place)
 
 -- the tape of a block tells the block
 abbrev pub TapeTellsBlock : Type 0
@@ -68,8 +68,8 @@ abbrev pub PutsToldAt : Option (List ℕ) → ℕ → List ℕ → List ℕ → 
 PutsToldAt told at old new end = (s : List ℕ) → told ≡ Some s → PutsAt s at old new end
 
 -- the memory has room for the bytes, of which there are fewer than 2^64 - 1
-abbrev pub HasRoom : List ℕ → List ℕ → Type 0
-HasRoom s old = (length s ≤ length old) × (length s < 2 ^ 64 - 1)
+abbrev pub FitsInto : List ℕ → List ℕ → Type 0
+FitsInto s old = (length s ≤ length old) × (length s < 2 ^ 64 - 1)
 
 -- how many bytes the tape tells, as far as that is counted
 abbrev pub CountsTold : List ℕ → List Token → Option ℕ → Type 0

@@ -54,7 +54,8 @@ pub fn put_found(block: &[u8], path: &[u8], place: &mut usize, end: &mut usize) 
     put_item(block, &find_slice(block, text), place, end)
 }
 
-/// The same of the part of the block's item to which one segment leads, which is taken whole.
+/// The number of the kind of the item to which one segment leads in the block, taken whole, and where
+/// that begins and ends; or why there is none, and then both stay.
 #[tactic(auto, using(crate::proofs::Finding::found_answer, crate::proofs::Finding::stands_in))]
 pub fn put_part(block: &[u8], segment: &[u8], place: &mut usize, end: &mut usize) -> i32
     ensures { IsPartAnswer block.now segment.now (place.old, end.old) (place.new, end.new) result }

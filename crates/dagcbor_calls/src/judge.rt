@@ -6,8 +6,8 @@ ghost use Rattle.std.specs.Prelude.{option_map};
 ghost use Rattle.ipld_tree.specs.Cid.{IsCid};
 ghost use Rattle.dagcbor_items.specs.Judging.{SplitsItem, SplitsItems, SplitsEntries};
 ghost use Rattle.dagcbor_items.specs.Judging.{SplitsKeyAfter};
-ghost use Rattle.dagcbor_calls.specs.Told.{payload_at, bytes_told};
-ghost use Rattle.dagcbor_calls.specs.TapeJudging.{IsLeafTold, Tells, TellsBlock};
+ghost use Rattle.dagcbor_calls.specs.Told.{payload_at, token_bytes};
+ghost use Rattle.dagcbor_calls.specs.TapeJudging.{IsLeafTold, TellsMore, TellsBlock};
 
 use crate::tape::Token;
 use crate::told::{head_length, headed_length, link_length, payload_at, simple_length};
@@ -42,7 +42,7 @@ fn cid_of<'b>(bytes: &'b [u8], token: &Token) -> Option<&'b [u8]>
 #[inline(always)]
 fn leaf_length(bytes: &[u8], token: &Token) -> Option<usize>
     ensures { IfSome result (λ n. IsLeafTold
-        (bytes_told bytes.now token.now.kind token.now.number token.now.place) n) }
+        (token_bytes bytes.now token.now.kind token.now.number token.now.place) n) }
 {
     match token.kind {
         0 => simple_length(token.number, 0),
@@ -68,7 +68,7 @@ fn behind_item(
     room: &mut usize,
 ) -> Option<usize>
     requires { 1 ≤ steps }
-    ensures { IfSome result (λ next. Tells (λ b rest. SplitsItem b steps rest) bytes.now tape.now at
+    ensures { IfSome result (λ next. TellsMore (λ b rest. SplitsItem b steps rest) bytes.now tape.now at
         next room.old room.new) }
 {
     if at >= tape.len() {
@@ -109,7 +109,7 @@ fn behind_items(
     room: &mut usize,
 ) -> Option<usize>
     requires { 1 ≤ steps }
-    ensures { IfSome result (λ next. Tells (λ b rest. SplitsItems b count steps rest) bytes.now
+    ensures { IfSome result (λ next. TellsMore (λ b rest. SplitsItems b count steps rest) bytes.now
         tape.now at next room.old room.new) }
 {
     let mut next = at;
@@ -133,7 +133,7 @@ fn key_at<'b>(
 ) -> Option<&'b [u8]>
     ensures inside { IfSome result (λ _. at < length tape.now) }
     ensures key { IfSome result
-        (λ key. Tells (λ b rest. SplitsKeyAfter (option_map (λ s. s.now) previous.now)
+        (λ key. TellsMore (λ b rest. SplitsKeyAfter (option_map (λ s. s.now) previous.now)
         b key.now rest) bytes.now tape.now at (at + 1) room.old room.new) }
 {
     if at >= tape.len() {
@@ -163,7 +163,7 @@ fn behind_entries(
     room: &mut usize,
 ) -> Option<usize>
     requires { 1 ≤ steps }
-    ensures { IfSome result (λ next. Tells (λ b rest. SplitsEntries b count steps rest) bytes.now
+    ensures { IfSome result (λ next. TellsMore (λ b rest. SplitsEntries b count steps rest) bytes.now
         tape.now at next room.old room.new) }
 {
     let mut previous = None;

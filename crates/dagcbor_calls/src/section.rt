@@ -5,7 +5,7 @@ ghost use Rattle.std.specs.Prelude.{◌≡◌, length};
 ghost use Rattle.ipld_tree.specs.Cid.{cid_bytes};
 ghost use Rattle.dagcbor_car.specs.Splits.{SplitsSection};
 ghost use Rattle.dagcbor_calls.specs.Codes.{verdict_code};
-ghost use Rattle.dagcbor_calls.specs.Sections.{places_of, IsSectionAnswer, IsVerifyAnswer};
+ghost use Rattle.dagcbor_calls.specs.Sections.{section_places, IsSectionAnswer, IsVerifyAnswer};
 
 use crate::code::{NO_CID, fault_code, kind_code, refusal_code};
 use arrayvec::ArrayVec;
@@ -48,7 +48,7 @@ fn cid_length(cid: &Cid) -> usize
 /// Where the parts of the section stand that begins the bytes, and behind which the rest follows.
 fn places_of(bytes: &[u8], section: &Section<'_>, rest: &[u8]) -> [usize; 3]
     requires { SplitsSection bytes.now (section.now.cid, section.now.block.now) rest.now }
-    ensures { result ≡ places_of (section.now.cid, section.now.block.now) }
+    ensures { result ≡ section_places (section.now.cid, section.now.block.now) }
 {
     let end = bytes.len() - rest.len();
     let block = end - section.block.len();

@@ -2,7 +2,7 @@
 
 ghost use Rattle.std.specs.Prelude.{◌≡◌, ◌+◌, ◌≤◌, length, take, Some, List, ℕ};
 ghost use Rattle.dagcbor_heads.specs.Head.{head};
-ghost use Rattle.dagcbor_calls.specs.Told.{payload_at, string_told, link_told, bytes_told};
+ghost use Rattle.dagcbor_calls.specs.Told.{payload_at, string_told, link_told, token_bytes};
 ghost use Rattle.dagcbor_calls.specs.Told.{tape_told, PutsAt, PutsToldAt, HasRoomAt, HasRoomFor};
 ghost use Rattle.dagcbor_calls.specs.Told.{FillsTold};
 ghost use Rattle.dagcbor_calls.specs.Answers.{IsCheckAnswer, IsSpellAnswer};
@@ -88,9 +88,9 @@ fn put_link(out: &mut [u8], at: usize, bytes: &[u8], token: &Token) -> usize
 /// Puts what the token tells at the place, which has room for it: the place behind it.
 #[inline(always)]
 fn put_told(out: &mut [u8], at: usize, bytes: &[u8], token: &Token) -> usize
-    requires { HasRoomAt (bytes_told bytes.now token.now.kind token.now.number token.now.place) at
+    requires { HasRoomAt (token_bytes bytes.now token.now.kind token.now.number token.now.place) at
         out.old }
-    ensures { PutsToldAt (bytes_told bytes.now token.now.kind token.now.number token.now.place) at
+    ensures { PutsToldAt (token_bytes bytes.now token.now.kind token.now.number token.now.place) at
         out.old out.new result }
 {
     match token.kind {

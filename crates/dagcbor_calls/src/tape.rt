@@ -118,7 +118,7 @@ fn split_link(bytes: &[u8], whole: usize) -> Option<(Token, &[u8])>
     Some((token_before(LINK, count - 1, whole, cid), rest))
 }
 
-/// The same of a tag of this number.
+/// The token of a link behind a tag of this number, and what is behind its CID: only 42 tags a link.
 fn split_tagged(number: u64, bytes: &[u8], whole: usize) -> Option<(Token, &[u8])>
     requires { length bytes.now ≤ whole }
     ensures tokens { number ≡ 42
@@ -186,7 +186,8 @@ fn put_tokens<T: TapeEntry>(bytes: &[u8], tape: &mut [T]) -> usize
     count
 }
 
-/// The same where there is room for them all; else the tape stays.
+/// Puts what is made of the tokens of the bytes at the front of the tape, where there is room for them
+/// all, else the tape stays: how many there are.
 fn put_whole<T: TapeEntry>(bytes: &[u8], tape: &mut [T]) -> usize
     ensures few { result ≤ length bytes.now }
     ensures tokens { (t : Tree) → IsSpelling bytes.now t → (result ≡ length (tape_of t))
@@ -221,7 +222,8 @@ pub(crate) fn put_entries<T: TapeEntry>(
     Ok(kind)
 }
 
-/// The same of the tokens themselves.
+/// The kind of a block, whose tokens are counted, and put at the front of the tape where there is room
+/// for them all.
 pub fn put_tape(
     bytes: &[u8],
     tape: &mut [Token],
@@ -232,7 +234,8 @@ pub fn put_tape(
     put_entries(bytes, tape, needed)
 }
 
-/// The same of any bytes: of such as are refused, the tokens before the place of the fault.
+/// The kind of a block, whose tokens are counted and put as by `put_tape`; of bytes that are refused,
+/// the tokens before the place of the fault are.
 pub fn put_front_tape(
     bytes: &[u8],
     tape: &mut [Token],

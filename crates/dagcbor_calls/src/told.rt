@@ -4,7 +4,7 @@ ghost use Rattle.std.specs.Prelude.{◌≡◌, ◌+◌, ◌<◌, ◌≤◌, ◌+
 ghost use Rattle.dagcbor_heads.specs.Head.{head};
 ghost use Rattle.ipld_tree.specs.Tree.{link};
 ghost use Rattle.ipld_tree.specs.Spelling.{spelling};
-ghost use Rattle.dagcbor_calls.specs.Told.{payload_at, bytes_told, TellsLength, CountsTold};
+ghost use Rattle.dagcbor_calls.specs.Told.{payload_at, token_bytes, TellsLength, CountsTold};
 
 use crate::tape::Token;
 
@@ -69,7 +69,7 @@ pub(crate) fn link_length(cid: &[u8]) -> usize
 /// How many bytes a token tells, where it is one.
 #[inline(always)]
 fn token_length(bytes: &[u8], token: &Token) -> Option<usize>
-    ensures { TellsLength (bytes_told bytes.now token.now.kind token.now.number token.now.place)
+    ensures { TellsLength (token_bytes bytes.now token.now.kind token.now.number token.now.place)
         result }
 {
     match token.kind {

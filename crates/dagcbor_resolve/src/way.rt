@@ -36,6 +36,7 @@ pub fn resolve_way<'p>(
     let mut names = Vec::new(alloc);
     let mut block = *root;
     let mut left = path;
+    // Each turn takes memory for a name, and no memory holds as many.
     for _count in 0..u64::MAX {
         names.push(block)?;
         match resolve_step(&block, stored_bytes(blocks, &block), left) {

@@ -34,7 +34,8 @@ IsUnread stored root line =
     ((c : Commit) (records : List MstEntry) → ¬ IsRepo stored root c records)
     × ((e : RepoError) × RepoRefused stored root e × IsOfRepo e × (line ≡ repo_line root e))
 
--- the same of the one root; or the line tells how many there are
+-- the repository of the one root is not stored whole, and the line tells why; or there are more roots
+-- or none, and it tells how many
 abbrev pub IsUnreadOf : Stored → List CidParts → List ℕ → Type 0
 IsUnreadOf stored roots line =
     OfOneRoot (λ root. IsUnread stored root line) (λ n. line ≡ roots_line n) roots

@@ -87,17 +87,34 @@ SaysRest speech knows teller well (Err e) before result after = (result ≡ Err 
 
 -- ---- the whole
 
--- all is said of a file behind its header, of whose roots it was said before
-abbrev pub SaysSections : {T : Type 0} → Speech → Knowing T → Option ℕ → Reading → T
-    → Option (List ℕ) → Result Bool ToolError → Option (List ℕ) → Type 0
-SaysSections speech knows extent source teller before result after =
-    (start : Reading) (roots : List (List ℕ)) (old : Option (List ℕ))
-    → TakesStart start roots extent source → knows teller roots [] → Appends old before (speech.of_roots roots)
-    → SaysFile speech start old result after
+-- what stands behind a file's header: how many bytes of the file, where that is told, and the input
+-- that has them
+pub record Behind : Type 0 where
+  pub extent : Option ℕ
+  pub source : Reading
 
--- all is said of a file behind its header, of whose roots nothing was said yet
-abbrev pub SaysHeader : {T : Type 0} → Speech → Knowing T → Option ℕ → Reading → List ℕ → T
-    → Option (List ℕ) → Result Bool ToolError → Option (List ℕ) → Type 0
-SaysHeader speech knows extent source text teller old result new =
-    (start : Reading) (roots : List (List ℕ)) → TakesStart start roots extent source
-    → knows teller roots [] → text ≡ speech.of_roots roots → SaysFile speech start old result new
+abbrev pub behind : Option ℕ → Reading → Behind
+behind extent source = record { extent = extent; source = source }
+
+-- a call that writes: what the device held before, the answer, and what the device holds then
+pub record Run : Type 0 where
+  pub before : Option (List ℕ)
+  pub answer : Result Bool ToolError
+  pub after : Option (List ℕ)
+
+abbrev pub run : Option (List ℕ) → Result Bool ToolError → Option (List ℕ) → Run
+run before answer after = record { before = before; answer = answer; after = after }
+
+-- all is said of a file behind its header, of whose roots it was said before
+abbrev pub SaysSections : {T : Type 0} → Speech → Knowing T → Behind → T → Run → Type 0
+SaysSections speech knows at teller said =
+    (start : Reading) (roots : List (List ℕ)) (old : Option (List ℕ))
+    → TakesStart start roots at.extent at.source → knows teller roots []
+    → Appends old said.before (speech.of_roots roots) → SaysFile speech start old said.answer said.after
+
+-- all is said of a file behind its header, of whose roots this is said first
+abbrev pub SaysHeader : {T : Type 0} → Speech → Knowing T → Behind → List ℕ → T → Run → Type 0
+SaysHeader speech knows at text teller said =
+    (start : Reading) (roots : List (List ℕ))
+    → TakesStart start roots at.extent at.source → knows teller roots []
+    → text ≡ speech.of_roots roots → SaysFile speech start said.before said.answer said.after

@@ -7,7 +7,7 @@ ghost use Rattle.dagcbor_items.specs.Walks.{forms};
 ghost use Rattle.dagcbor_car.specs.Car.{Section as CarSection};
 ghost use Rattle.dagcar_lines.specs.Speeches.{Speech, beside, SaysFile};
 ghost use Rattle.dagcar_lines.specs.Steps.{KnowsMore, TellsEnd, work_of, beside_of, SaysSection, SaysRest};
-ghost use Rattle.dagcar_lines.specs.Steps.{SaysSections, SaysHeader};
+ghost use Rattle.dagcar_lines.specs.Steps.{behind, run, SaysSections, SaysHeader};
 
 use block_lines::{Answer, Said, say, say_both};
 use dagcbor_car::{Section, SectionSink, pull_header};
@@ -156,10 +156,12 @@ fn say_sections<'de, T: Teller, R: Read, W: Write, V: Write>(
     output: &mut W,
     errors: &mut V,
 ) -> Result<bool, ToolError>
-    ensures said { SaysSections T.speech T.knows extent (input_reading R.reading input.old) teller
-        (W.contents output.old) result (W.contents output.new) }
-    ensures told { SaysSections (beside T.tells) T.knows extent (input_reading R.reading input.old)
-        teller (V.contents errors.old) result (V.contents errors.new) }
+    ensures said { SaysSections T.speech T.knows
+        (behind extent (input_reading R.reading input.old)) teller
+        (run (W.contents output.old) result (W.contents output.new)) }
+    ensures told { SaysSections (beside T.tells) T.knows
+        (behind extent (input_reading R.reading input.old)) teller
+        (run (V.contents errors.old) result (V.contents errors.new)) }
 {
     let mut telling = Telling::new(alloc, teller, output, errors);
     let ended = take_sections(alloc, &mut telling, input, extent);
@@ -185,10 +187,12 @@ fn say_header<'de, T: Teller, R: Read, W: Write, V: Write>(
     output: &mut W,
     errors: &mut V,
 ) -> Result<bool, ToolError>
-    ensures said { SaysHeader T.speech T.knows extent (input_reading R.reading input.old)
-        of_roots.now teller (W.contents output.old) result (W.contents output.new) }
-    ensures told { SaysHeader (beside T.tells) T.knows extent (input_reading R.reading input.old)
-        [] teller (V.contents errors.old) result (V.contents errors.new) }
+    ensures said { SaysHeader T.speech T.knows
+        (behind extent (input_reading R.reading input.old)) of_roots.now teller
+        (run (W.contents output.old) result (W.contents output.new)) }
+    ensures told { SaysHeader (beside T.tells) T.knows
+        (behind extent (input_reading R.reading input.old)) [] teller
+        (run (V.contents errors.old) result (V.contents errors.new)) }
 {
     write_all(output, of_roots)?;
     say_sections(alloc, teller, input, extent, output, errors)

@@ -25,21 +25,20 @@ WORDS = {
     LIBRARY + "Tree": "Tree null text bytes boolean integer link list_tree entries_tree",
     LIBRARY + "Trees": "field optional variant_tree",
     LIBRARY + "Shapes": "Shape leaf owned_leaf option_of any_tree view_null view_text view_bytes view_bool view_link view_unsigned view_signed takes_none takes_some",
-    LIBRARY + "Collections": "finishing list_of all_of map_of first_then no_more",
-    LIBRARY + "Structs": "required_field no_fields struct_shape",
+    LIBRARY + "Collections": "finishing list_of all_of map_of first_then optional_then no_more",
+    LIBRARY + "Structs": "required_field omissible_field no_fields no_other_fields struct_shape",
     LIBRARY + "EnumViews": "EnumShape enum_of",
-    "Rattle.dagcbor_schema.specs.SchemaFields": "omissible_field no_other_fields",
     "Rattle.dagcbor_schema.specs.ToldValues": "told_by_number",
     "Rattle.dagcbor_schema.specs.Kinds": "by_kind no_kind",
     "Rattle.dagcbor_schema.specs.declared.by_kind.ByKind": "ByKind",
     "Rattle.dagcbor_schema.specs.Envelopes": "envelope_of",
     "Rattle.dagcbor_schema.specs.Implied": "implied unless_implied",
     "Rattle.dagcbor_schema.specs.Pairs": "pair_of named",
-    "Rattle.dagcbor_schema.specs.Parts": "optional_part optional_then",
+    "Rattle.dagcbor_schema.specs.Parts": "optional_part",
     "Rattle.dagcbor_schema.specs.Members": "there absent",
 }
-SCHEMA_WORDS = """ByKind Closed Enveloped Made NoKind Numbered Omissible OptionalPart Part of_name read_enveloped read_made
-    read_numbered read_parts unless_meant write_parts""".split()
+SCHEMA_WORDS = """ByKind Enveloped Made NoKind Numbered OptionalPart Part of_name read_enveloped read_made read_numbered
+    unless_meant write_parts""".split()
 KINDS_PATH = "Rattle.dagcbor_schema.specs.declared.by_kind.ByKind.TheVariants as kinds"
 LETTERS = {"ℕ": "ℕ", "ℤ": "ℤ", "^": "◌^◌", "[]": "[]", "∷": "◌∷◌", "if": "if◌then◌else◌"}
 PUNCTUATION = str.maketrans({char: " " for char in "();,={}⟦⟧<>|[].λ:"})
@@ -515,14 +514,15 @@ class Module:
     @staticmethod
     def code_imports(text):
         text = "\n".join(line for line in text.split("\n") if "///" not in line)
-        text = re.sub(r'"[^"]*"|fn read_parts|ByKind::[A-Z]\w*', "ByKind" if "ByKind::" in text else "", text)
+        text = re.sub(r'"[^"]*"|ByKind::[A-Z]\w*', "ByKind" if "ByKind::" in text else "", text)
         words = set("".join(char if char.isalnum() or char == "_" else " " for char in text).split())
         made = []
         schema = [word for word in SCHEMA_WORDS if word in words]
         if schema:
             made += filled("use dagcbor_schema::", schema, ";")
-        library = """Accessor Bytes Cid DecodeError Deserialize DeserializeOwned Deserializer EnumAccessor Field Ipld Optional Read ReadResult
-            Required Serialize Serializer Shown Variants Write WriteResult read_enum read_struct write_struct""".split()
+        library = """Accessor Bytes Cid Closed DecodeError Deserialize DeserializeOwned Deserializer EnumAccessor Field Ipld Omissible
+            Optional Read ReadResult Required Serialize Serializer Shown Variants Write WriteResult read_enum read_struct read_tuple
+            write_struct""".split()
         made += filled("use serde_ipld_dagcbor::", [word for word in library if word in words], ";")
         made.append("use std::alloc::Global;")
         if "BTreeMap" in words:
@@ -671,8 +671,8 @@ class Module:
             part = Group("OptionalPart(" if field.optional else "Part(", [f"&self.{field_name(field.name)}"], ")")
             write += lines(Group("let row = (", [part, "row"], ")"), 8, ";")
         write.append(f"        write_parts(alloc, {len(kinds)}, row, ser)")
-        read = [f"        let row = read_parts(alloc, {len(kinds)}, de)?;"]
-        read += self.row_apart(kinds, "()")
+        read = [f"        let row = read_tuple(alloc, {len(kinds)}, de)?;"]
+        read += self.row_apart(kinds, "()", "{}")
         read += lines(self.literal(struct), 8)
         return [
             *self.serialize_impl(struct, ghost_rows("λ v. list_tree (", tree, "[]"), write),
@@ -682,16 +682,16 @@ class Module:
 
     def pairs_impls(self, struct):
         kinds = [(field, self.schema.resolve(field.type)) for field in struct.fields]
-        tree, write, of, seen, parts = [], [], self.row_apart(kinds, "()"), [], "()"
+        tree, write, of, seen, parts = [], [], self.row_apart(kinds, "()", "{}"), [], "()"
         for place, (field, kind) in enumerate(kinds):
             word = field_name(field.name)
             tree.append(f'list_tree (Some (text (codes "{field.key}")) ∷ {self.tree(kind, f"v.{word}")} ∷ []) ∷')
             write += lines(Group(f"let {word} = (", [f'"{field.key}"', f"&self.{word}"], ")"), 8, ";")
-            seen.append(f"⟦<(String, {self.code(kind)}) as Shown>⟧.meaning {self.row_place(kinds, place)}.0")
+            seen.append(f"⟦<(String, {self.code(kind)}) as Shown>⟧.meaning {self.row_place(kinds, place)}")
         write.append("        let row = ();")
         for field, kind in reversed(kinds):
             write.append(f"        let row = (Part(&{field_name(field.name)}), row);")
-            parts = f"(Required<(String, {self.code(kind)})>, {parts})"
+            parts = f"((String, {self.code(kind)}), {parts})"
         write.append(f"        write_parts(alloc, {len(kinds)}, row, ser)")
         if kinds:
             of[0] = of[0].replace("= row;", "= parts;")
@@ -707,18 +707,18 @@ class Module:
             *self.serialize_impl(struct, ghost_rows("λ v. list_tree (", tree, "[]"), write),
             *self.shown_impl(struct, meaning),
             *self.made_impl(struct, parts, [f"{name}_row", pairs_of(seen), f"{name}_row_shape"], meaning, f"{name}_of_row",
-                            [f"        read_parts(alloc, {len(kinds)}, de)"], of),
+                            [f"        read_tuple(alloc, {len(kinds)}, de)"], of),
             *self.deserialize_impl(struct, ["        read_made(alloc, de)"]),
         ]
 
     @staticmethod
-    def row_apart(kinds, end):
-        """The lines that take a row apart into its fields."""
+    def row_apart(kinds, end, there="Required({})"):
+        """The lines that take a row apart into its fields, where one that must be there stands so."""
         made = []
         for place, (field, _) in enumerate(kinds):
             name = field_name(field.name)
             rest = "row" if place < len(kinds) - 1 else end
-            made.append(f"        let {f'Omissible({name}, {rest})' if may_lack(field) else f'(Required({name}), {rest})'} = row;")
+            made.append(f"        let {f'Omissible({name}, {rest})' if may_lack(field) else f'({there.format(name)}, {rest})'} = row;")
         return made or [f"        let {end} = row;"]
 
     # -- enums

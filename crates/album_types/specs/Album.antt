@@ -5,9 +5,9 @@ use Rattle.serde_ipld_dagcbor.specs.Tree.{Tree}
 use Rattle.serde_ipld_dagcbor.specs.Shapes.{Shape, leaf, owned_leaf, view_text, view_unsigned}
 use Rattle.serde_ipld_dagcbor.specs.Shapes.{takes_none}
 use Rattle.serde_ipld_dagcbor.specs.Collections.{list_of, all_of}
-use Rattle.serde_ipld_dagcbor.specs.Structs.{required_field, struct_shape}
+use Rattle.serde_ipld_dagcbor.specs.Structs.{required_field, omissible_field, no_other_fields}
+use Rattle.serde_ipld_dagcbor.specs.Structs.{struct_shape}
 use Rattle.serde_ipld_dagcbor.specs.EnumViews.{EnumShape, enum_of}
-use Rattle.dagcbor_schema.specs.SchemaFields.{omissible_field, no_other_fields}
 use Rattle.album_types.specs.declared.album.Format.{Format}
 use Rattle.album_types.specs.declared.album.Format.TheVariants as in_format
 

@@ -2,8 +2,7 @@
 use Rattle.std.specs.Prelude.{ℕ, ◌^◌, List, codes}
 use Rattle.serde_ipld_dagcbor.specs.Tree.{Tree}
 use Rattle.serde_ipld_dagcbor.specs.Shapes.{Shape, leaf, owned_leaf, view_text, view_unsigned}
-use Rattle.serde_ipld_dagcbor.specs.Structs.{required_field, struct_shape}
-use Rattle.dagcbor_schema.specs.SchemaFields.{no_other_fields}
+use Rattle.serde_ipld_dagcbor.specs.Structs.{required_field, no_other_fields, struct_shape}
 
 -- Note: a map of year and text
 abbrev pub NoteView : Type 0

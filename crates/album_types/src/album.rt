@@ -10,11 +10,10 @@ ghost use Rattle.album_types.specs.declared.album.Format.TheVariants as in_forma
 ghost use Rattle.album_types.specs.Album.{TrackView, track_shape};
 ghost use Rattle.album_types.specs.Album.{AlbumView, album_shape};
 
-use dagcbor_schema::{Closed, Omissible};
 use serde_ipld_dagcbor::{
-    DecodeError, Deserialize, DeserializeOwned, Deserializer, EnumAccessor, Field, Optional, Read,
-    ReadResult, Required, Serialize, Serializer, Shown, Variants, Write, WriteResult, read_enum,
-    read_struct, write_struct,
+    Closed, DecodeError, Deserialize, DeserializeOwned, Deserializer, EnumAccessor, Field,
+    Omissible, Optional, Read, ReadResult, Required, Serialize, Serializer, Shown, Variants, Write,
+    WriteResult, read_enum, read_struct, write_struct,
 };
 use std::alloc::Global;
 

@@ -5,10 +5,9 @@ ghost use Rattle.serde_ipld_dagcbor.specs.Tree.{text, integer, entries_tree};
 ghost use Rattle.serde_ipld_dagcbor.specs.Trees.{field};
 ghost use Rattle.album_types.specs.Note.{NoteView, note_shape};
 
-use dagcbor_schema::Closed;
 use serde_ipld_dagcbor::{
-    Deserialize, DeserializeOwned, Deserializer, Field, Read, ReadResult, Required, Serialize,
-    Serializer, Shown, Write, WriteResult, read_struct, write_struct,
+    Closed, Deserialize, DeserializeOwned, Deserializer, Field, Read, ReadResult, Required,
+    Serialize, Serializer, Shown, Write, WriteResult, read_struct, write_struct,
 };
 use std::alloc::Global;
 

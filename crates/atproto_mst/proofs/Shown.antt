@@ -9,9 +9,8 @@ use Rattle.ipld_tree.proofs.Ordered.{KeyAndTree, distinct_from_test}
 use Rattle.ipld_tree.proofs.Unique.{spelling_unique}
 use Rattle.dagcbor_items.specs.Shapes.{leaf, owned_leaf, option_of, natural_below, view_bytes, view_link, view_unsigned}
 use Rattle.dagcbor_read.specs.Collections.{view_items, need_items, list_of, all_of}
-use Rattle.dagcbor_read.specs.Structs.{required_field}
+use Rattle.dagcbor_read.specs.Structs.{required_field, no_other_fields}
 use Rattle.dagcbor_read.specs.Whole.{IsWhole, HoldsNoValue}
-use Rattle.dagcbor_schema.specs.SchemaFields.{no_other_fields}
 use Rattle.dagcbor_schema.proofs.ShownTrees.{IsShownBy, unsigned_shown, bytes_shown, link_shown, option_made, option_shown, list_shown, closed_shown, required_shown, struct_shown}
 use Rattle.repository_types.specs.Repository.{EntryView, entry_shape, NodeView, node_shape}
 use Rattle.repository_types.specs.declared.repository.Entry.{Entry}

@@ -6,9 +6,8 @@ use Rattle.ipld_tree.specs.Tree.{Tree, integer, text, bytes, mapping, link, no_e
 use Rattle.ipld_tree.specs.Spelling.{IsSpelling}
 use Rattle.ipld_tree.proofs.Ordered.{KeyAndTree, distinct_from_test}
 use Rattle.dagcbor_items.specs.Shapes.{leaf, owned_leaf, option_of, view_text, view_bytes, view_link, view_unsigned}
-use Rattle.dagcbor_read.specs.Structs.{required_field}
+use Rattle.dagcbor_read.specs.Structs.{required_field, no_other_fields}
 use Rattle.dagcbor_read.specs.Whole.{IsWhole, HoldsNoValue}
-use Rattle.dagcbor_schema.specs.SchemaFields.{no_other_fields}
 use Rattle.dagcbor_schema.proofs.ShownTrees.{IsShownBy, unsigned_shown, text_shown, bytes_shown, closed_shown, required_shown, struct_shown}
 use Rattle.dagcbor_write.specs.Trees.{field, option_tree}
 use Rattle.dagcbor_write.specs.Answers.{AreSpellingOf}

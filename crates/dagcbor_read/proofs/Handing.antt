@@ -20,7 +20,7 @@ use Rattle.std.specs.declared.borrow.CowStr.{CowStr}
 use Rattle.dagcbor_read.specs.declared.access.enum_accessor.EnumAccessor.{EnumAccessor}
 use Rattle.dagcbor_read.specs.Enums.{EnumState, enum_state, SpendsEnum, ReadsName, BeginsHeld}
 use Rattle.dagcbor_read.specs.Collections.{FieldShape, TakesRow}
-use Rattle.dagcbor_read.specs.Parts.{HandsWholeOn, IsStart, IsNoEnd, IsFurther, RefusesFurther, RefusesAsOr, RefusesEntry, RefusesFieldsAs, IfRefused, FillsAs, IsMissingField, RefusesRest, RefusesListAs, IsTooFew, RefusesEnumAs, RefusesHeldFields}
+use Rattle.dagcbor_read.specs.Parts.{HandsWholeOn, IsStart, IsNoEnd, IsFurther, RefusesFurther, RefusesAsOr, RefusesEntry, RefusesFieldsAs, IfRefused, FillsAs, IsMissingField, Says, RefusesRest, RefusesListAs, RefusesEnumAs, RefusesHeldFields}
 use Rattle.dagcbor_read.proofs.Answered.{KeyRead}
 use Rattle.dagcbor_read.proofs.EntryRows.{FieldsSoFar, no_more_fields}
 use Rattle.dagcbor_read.proofs.ItemRows.{ReadSoFar, no_more_items}
@@ -76,9 +76,12 @@ further_both {a} {b} {c} h k = record {
       (p.0 ++ q.0, q.1, p.2 ∙ ap (λ x. p.0 ++ x) q.2 ∙ sym (append_assoc p.0 q.0 q.1), q.3);
 }
 
--- nothing was read
-pub no_further : {old : DeState} → old.failed ≡ false → IsFurther old old
-no_further sound = record { sound = sound; passed = λ b l. ([], b, refl, l) }
+-- nothing was taken
+pub no_further : {old now : DeState} → now.failed ≡ false → now.input ≡ old.input → IsFurther old now
+no_further {old} {now} sound same = record { sound = sound; passed = λ b l. ([], b, refl, ap (λ (r : Reading). r.left) same ∙ l) }
+
+pub says : {E : Type 0} {e : DecodeError E} {message : List ℕ} → (kept : Name) × (e ≡ Msg kept) × Names kept message → Says message e
+says {E} {e} {message} h = subst (λ (x : DecodeError E). Says message x) (sym h.1) h.2
 
 pub front_further : {V : Type 0} {shape : Shape Tree V} {old now : DeState} {v : V} → now.failed ≡ false → TakesFront shape old.input v now.input → IsFurther old now
 front_further sound h = record { sound = sound; passed = λ b l. let q = h.taken b l in (spelling q.0, q.1, q.2.is, q.5) }
@@ -144,7 +147,7 @@ module _ {E : Type 0} (refuses : DeState → DecodeError E → DeState → Type 
 
   pub missing_told : {T : Type 0} (name : List ℕ) (old new : DeState) (r : Result T (DecodeError E)) → new.failed ≡ false → IfErr r (λ e. (kept : Name) × (e ≡ Msg kept) × Names kept (codes "missing field")) → IfRefused (λ s e t. RefusesFieldsAs refuses name s e t ⊎ IsMissingField e t) old r new
   missing_told name old new (Ok v) sound h fresh = tt
-  missing_told name old new (Err e) sound h fresh = inr (subst (λ (x : DecodeError E). IsMissingField x new) (sym h.1) (h.2, sound))
+  missing_told name old new (Err e) sound h fresh = inr (says h, sound)
 
 -- ---- items
 
@@ -167,9 +170,6 @@ module _ {E : Type 0} (refuses : DeState → DecodeError E → DeState → Type 
   list_not_begun name old new (Err y) e is h sound =
       let k = call_told (BeginsItems 4 name 1) old new (Err e) sound h in
       inl (k.0, subst (λ x. BeginsItems 4 name 1 old.input (Err x) new.input) (sym is) k.1)
-
-pub too_few : {E : Type 0} {e : DecodeError E} → (kept : Name) × (e ≡ Msg kept) × Names kept (codes "Too few elements") → IsTooFew e
-too_few {E} h = subst (λ (x : DecodeError E). IsTooFew x) (sym h.1) h.2
 
 -- ---- variants
 
@@ -227,4 +227,4 @@ module _ {E : Type 0} (refuses : DeState → DecodeError E → DeState → Type 
 
   pub held_missing : {T : Type 0} (variant : EnumState) (old new : DeState) (r : Result T (DecodeError E)) → new.failed ≡ false → IfErr r (λ e. (kept : Name) × (e ≡ Msg kept) × Names kept (codes "missing field")) → IfRefused (λ s x t. RefusesHeldFields refuses variant s x t ⊎ IsMissingField x t) old r new
   held_missing variant old new (Ok v) sound h fresh = tt
-  held_missing variant old new (Err e) sound h fresh = inr (subst (λ (x : DecodeError E). IsMissingField x new) (sym h.1) (h.2, sound))
+  held_missing variant old new (Err e) sound h fresh = inr (says h, sound)

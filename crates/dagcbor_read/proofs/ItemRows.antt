@@ -16,7 +16,7 @@ use Rattle.dagcbor_items.specs.Entering.{Enters}
 use Rattle.dagcbor_read.specs.Accessors.{AccessorState, accessor_state, BeginsItems}
 use Rattle.dagcbor_read.specs.declared.access.accessor.Accessor.{Accessor}
 use Rattle.dagcbor_items.specs.Items.{HasRow}
-use Rattle.dagcbor_read.specs.Collections.{view_list, need_list, view_none, TakesRow, ReadsRest, list_of, all_of, no_more, first_then}
+use Rattle.dagcbor_read.specs.Collections.{view_list, need_list, view_none, TakesRow, ReadsRest, list_of, all_of, no_more, first_then, optional_then}
 use Rattle.dagcbor_items.proofs.Rows.{row_entered, row_first}
 use Rattle.dagcbor_read.proofs.Progressing.{call_answered}
 use Rattle.dagcbor_read.proofs.Passing.{SameReader, refusal_carried, given_back, or_left, or_right, lacks_before}
@@ -52,10 +52,35 @@ none_left {r} {count} h = by h.items h.counted h.accepted
 
 -- ---- an item before others
 
-module _ {V W U : Type 0} (shape : Shape Tree V) (others : Shape Items W) (f : V → W → U) (whole : Shape Items U)
-    (shows : (t : Tree) (ts : Items) → whole.view (item t ts) ≡ option_and_then (λ v. option_map (f v) (others.view ts)) (shape.view t))
-    (needs : (t : Tree) (ts : Items) → whole.need (item t ts) ≡ max (shape.need t) (others.need ts)) where
-  pub row_others : {old new : Reading} {count : ℕ} {v : V} → 0 < count → TakesFront shape old v new → HasRow whole count old → HasRow others (count - 1) new
+-- What the whole shows of an item and of those behind it is made by f of what both show.
+pub record Joins {V W U : Type 0} (shape : Shape Tree V) (others : Shape Items W) (f : V → W → U) (whole : Shape Items U) : Type 0 where
+  pub shows : (t : Tree) (ts : Items) → whole.view (item t ts) ≡ option_and_then (λ v. option_map (f v) (others.view ts)) (shape.view t)
+  pub needs : (t : Tree) (ts : Items) → whole.need (item t ts) ≡ max (shape.need t) (others.need ts)
+  pub loans : (shape.wants_loan || others.wants_loan) ≡ true → whole.wants_loan ≡ true
+  pub memory : (lends : Bool) → (shape.memory lends || others.memory lends) ≡ true → whole.memory lends ≡ true
+
+module _ {V W : Type 0} (shape : Shape Tree V) (others : Shape Items W) where
+  pub first_joins : Joins shape others (λ v w. (v, w)) (first_then shape others)
+  first_joins = record { shows = λ t ts. refl; needs = λ t ts. refl; loans = λ e. e; memory = λ lends e. e }
+
+  pub optional_joins : Joins shape others (λ v w. (Some v, w)) (optional_then shape others)
+  optional_joins = record { shows = λ t ts. refl; needs = λ t ts. refl; loans = λ e. e; memory = λ lends e. e }
+
+one_of : (b : Bool) → (b || b) ≡ true → b ≡ true
+one_of true e = refl
+one_of false e = e
+
+all_joins : {V : Type 0} (shape : Shape Tree V) → Joins shape (all_of shape) (λ v vs. v ∷ vs) (all_of shape)
+all_joins shape = record { shows = λ t ts. refl; needs = λ t ts. refl; loans = one_of shape.wants_loan; memory = λ lends e. refl }
+
+pub as_row : {V : Type 0} {shape : Shape Items V} {old new : Reading} {count count' : ℕ} (v w : V) → count ≡ count' → v ≡ w → TakesRow shape count old v new → TakesRow shape count' old w new
+as_row {V} {shape} {old} {new} {count} {count'} v w e i h = subst (λ x. TakesRow shape count' old x new) i (subst (λ n. TakesRow shape n old v new) e h)
+
+module _ {V W U : Type 0} {shape : Shape Tree V} {others : Shape Items W} {f : V → W → U} {whole : Shape Items U} (j : Joins shape others f whole) where
+  first_of : {r : Reading} {count : ℕ} → 0 < count → HasRow whole count r → HasFront shape r
+  first_of = row_first shape others f whole j.shows j.needs
+
+  row_others : {old new : Reading} {count : ℕ} {v : V} → 0 < count → TakesFront shape old v new → HasRow whole count old → HasRow others (count - 1) new
   row_others {old} {new} {count} {v} some a h = by h.items h.counted h.fronts h.accepted h.within
     where
       by : (ts : Items) → item_count ts ≡ count → AreFronts h.bytes ts h.rest → is_some (whole.view ts) ≡ true → whole.need ts ≤ old.steps → HasRow others (count - 1) new
@@ -70,11 +95,11 @@ module _ {V W U : Type 0} (shape : Shape Tree V) (others : Shape Items W) (f : V
             left = t.5;
             counted = omega (arith, e);
             fronts = more.1;
-            accepted = some_second f (shape.view u) (others.view us) (ap is_some (sym (shows u us)) ∙ ok);
-            within = omega (arith, w, needs u us, a.same.steps);
+            accepted = some_second f (shape.view u) (others.view us) (ap is_some (sym (j.shows u us)) ∙ ok);
+            within = omega (arith, w, j.needs u us, a.same.steps);
           }
 
-  pub row_taken : {old mid new : Reading} {count : ℕ} {v : V} {w : W} → TakesFront shape old v mid → TakesRow others count mid w new → TakesRow whole (count + 1) old (f v w) new
+  row_taken : {old mid new : Reading} {count : ℕ} {v : V} {w : W} → TakesFront shape old v mid → TakesRow others count mid w new → TakesRow whole (count + 1) old (f v w) new
   row_taken {old} {mid} {new} {count} {v} {w} a o = record {
     taken = λ b l.
         let t = a.taken b l in
@@ -83,42 +108,39 @@ module _ {V W U : Type 0} (shape : Shape Tree V) (others : Shape Items W) (f : V
           ts.1,
           omega (arith, ts.2),
           item_closed b t.1 ts.1 t.0 ts.0 t.2 ts.3,
-          shows t.0 ts.0 ∙ ap (option_and_then (λ v. option_map (f v) (others.view ts.0))) t.3 ∙ ap (option_map (f v)) ts.4,
-          omega (arith, needs t.0 ts.0, t.4, ts.5, a.same.steps),
+          j.shows t.0 ts.0 ∙ ap (option_and_then (λ v. option_map (f v) (others.view ts.0))) t.3 ∙ ap (option_map (f v)) ts.4,
+          omega (arith, j.needs t.0 ts.0, t.4, ts.5, a.same.steps),
           ts.6,
         );
     same = stays_both a.same o.same;
   }
 
-pub as_row : {V : Type 0} {shape : Shape Items V} {old new : Reading} {count count' : ℕ} (v w : V) → count ≡ count' → v ≡ w → TakesRow shape count old v new → TakesRow shape count' old w new
-as_row {V} {shape} {old} {new} {count} {count'} v w e i h = subst (λ x. TakesRow shape count' old x new) i (subst (λ n. TakesRow shape n old v new) e h)
-
--- ---- a part before other parts
-
-module _ {V W : Type 0} (shape : Shape Tree V) (others : Shape Items W) where
+  -- the first was refused
   pub part_refused : {E : Type 0} {count : ℕ} (old new : Reading) (e : DecodeError E) → 0 < count → Refuses (HasFront shape old) (MayLack shape.memory old) (shape.wants_loan ≡ true) Anything old e new
-      → Refuses (HasRow (first_then shape others) count old) (MayLack (first_then shape others).memory old) ((shape.wants_loan || others.wants_loan) ≡ true) Anything old e new
-  part_refused {E} {count} old new e some r = refusal_carried Anything Anything old old new e (same_reader (stays old))
-      (row_first shape others (λ v w. (v, w)) (first_then shape others) (λ t ts. refl) (λ t ts. refl) some) (or_left (shape.memory old.lends) (others.memory old.lends)) (or_left shape.wants_loan others.wants_loan) (λ b l g. tt) r
+      → Refuses (HasRow whole count old) (MayLack whole.memory old) (whole.wants_loan ≡ true) Anything old e new
+  part_refused {E} {count} old new e some r = refusal_carried Anything Anything old old new e (same_reader (stays old)) (first_of some)
+      (λ x. j.memory old.lends (or_left (shape.memory old.lends) (others.memory old.lends) x)) (λ x. j.loans (or_left shape.wants_loan others.wants_loan x)) (λ b l g. tt) r
 
+  -- it was read, and the others were refused
   pub parts_refused : {E : Type 0} {before after : AccessorState} {old mid : Reading} {v : V} (new : Reading) (e : DecodeError E) → 0 < before.left → after ≡ record before { left = before.left - 1 } → TakesFront shape old v mid
       → Refuses (HasRow others after.left mid) (MayLack others.memory mid) (others.wants_loan ≡ true) Anything mid e new
-      → Refuses (HasRow (first_then shape others) before.left old) (MayLack (first_then shape others).memory old) ((shape.wants_loan || others.wants_loan) ≡ true) Anything old e new
+      → Refuses (HasRow whole before.left old) (MayLack whole.memory old) (whole.wants_loan ≡ true) Anything old e new
   parts_refused {E} {before} {after} {old} {mid} new e some is a r = refusal_carried Anything Anything old mid new e (same_reader a.same)
-      (λ h. subst (λ n. HasRow others n mid) (sym (ap (λ (c : AccessorState). c.left) is))
-      (row_others shape others (λ v w. (v, w)) (first_then shape others) (λ t ts. refl) (λ t ts. refl) some a h)) (λ x. or_right (shape.memory old.lends) (others.memory old.lends) (lacks_before others.memory a.same.lends x)) (or_right shape.wants_loan others.wants_loan) (λ b l g. tt) r
+      (λ h. subst (λ n. HasRow others n mid) (sym (ap (λ (c : AccessorState). c.left) is)) (row_others some a h))
+      (λ x. j.memory old.lends (or_right (shape.memory old.lends) (others.memory old.lends) (lacks_before others.memory a.same.lends x))) (λ x. j.loans (or_right shape.wants_loan others.wants_loan x)) (λ b l g. tt) r
 
+  -- it was read, and so were the others
   pub parts_taken : {before now_left after : AccessorState} {old mid : Reading} {new : DeState} {v : V} {w : W} → 0 < before.left → now_left ≡ record before { left = before.left - 1 } → TakesFront shape old v mid
       → (new.failed ≡ false) × (after ≡ record now_left { left = after.left }) × (after.left ≤ now_left.left) × TakesRow others (now_left.left - after.left) mid w new.input × (HasRow others now_left.left mid → after.left ≡ 0)
-      → (new.failed ≡ false) × (after ≡ record before { left = after.left }) × (after.left ≤ before.left) × TakesRow (first_then shape others) (before.left - after.left) old (v, w) new.input
-      × (HasRow (first_then shape others) before.left old → after.left ≡ 0)
+      → (new.failed ≡ false) × (after ≡ record before { left = after.left }) × (after.left ≤ before.left) × TakesRow whole (before.left - after.left) old (f v w) new.input
+      × (HasRow whole before.left old → after.left ≡ 0)
   parts_taken {before} {now_left} {after} {old} {mid} {new} {v} {w} some is a r =
       let less : now_left.left ≡ before.left - 1 = ap (λ (c : AccessorState). c.left) is in (
         r.0,
         r.1 ∙ ap (λ (c : AccessorState). record c { left = after.left }) is,
         omega (arith, less, r.2),
-        as_row (v, w) (v, w) (omega (arith, less, some, r.2)) refl (row_taken shape others (λ v w. (v, w)) (first_then shape others) (λ t ts. refl) (λ t ts. refl) a r.3),
-        λ h. r.4 (subst (λ n. HasRow others n mid) (sym less) (row_others shape others (λ v w. (v, w)) (first_then shape others) (λ t ts. refl) (λ t ts. refl) some a h)),
+        as_row (f v w) (f v w) (omega (arith, less, some, r.2)) refl (row_taken a r.3),
+        λ h. r.4 (subst (λ n. HasRow others n mid) (sym less) (row_others some a h)),
       )
 
 -- ---- items of one type
@@ -134,9 +156,6 @@ module _ {V : Type 0} (shape : Shape Tree V) where
     pub takes : (count : ℕ) (ws : List V) (new : Reading) → TakesRow (all_of shape) count now.input ws new
         → TakesRow (all_of shape) (count + (before.left - now_left.left)) old.input (vs ++ ws) new
 
-  first_of : {r : Reading} {count : ℕ} → 0 < count → HasRow (all_of shape) count r → HasFront shape r
-  first_of = row_first shape (all_of shape) (λ v vs. v ∷ vs) (all_of shape) (λ t ts. refl) (λ t ts. refl)
-
   pub one_more_item : {before now_left after : AccessorState} {old now new : DeState} {v : V} (vs ws : List V) → ReadSoFar before old now_left vs now → 0 < now_left.left → after ≡ record now_left { left = now_left.left - 1 } → new.failed ≡ false
       → TakesFront shape now.input v new.input → ws ≡ vs ++ v ∷ [] → ReadSoFar before old after ws new
   one_more_item {before} {now_left} {after} {old} {now} {new} {v} vs ws s some is f a e =
@@ -147,9 +166,9 @@ module _ {V : Type 0} (shape : Shape Tree V) where
         fewer = omega (arith, less, s.fewer);
         same = stays_both s.same a.same;
         has = λ h. subst (λ n. HasRow (all_of shape) n new.input) (sym less)
-            (row_others shape (all_of shape) (λ v vs. v ∷ vs) (all_of shape) (λ t ts. refl) (λ t ts. refl) some a (s.has h));
+            (row_others (all_joins shape) some a (s.has h));
         takes = λ count xs end t. as_row (vs ++ (v ∷ xs)) ((vs ++ v ∷ []) ++ xs) (omega (arith, less, some, s.fewer)) (sym (append_assoc vs (v ∷ []) xs))
-            (s.takes (count + 1) (v ∷ xs) end (row_taken shape (all_of shape) (λ v vs. v ∷ vs) (all_of shape) (λ t ts. refl) (λ t ts. refl) a t));
+            (s.takes (count + 1) (v ∷ xs) end (row_taken (all_joins shape) a t));
       }
 
   -- none of those that are left
@@ -172,7 +191,7 @@ module _ {V : Type 0} (shape : Shape Tree V) where
   pub item_refused : {E : Type 0} {before now_left : AccessorState} {old now : DeState} {vs : List V} (borrows : Type 0) (new : Reading) (e : DecodeError E) → ReadSoFar before old now_left vs now → 0 < now_left.left
       → Refuses (HasFront shape now.input) (MayLack shape.memory now.input) borrows Anything now.input e new → Refuses (HasRow (all_of shape) before.left old.input) (MayLack (all_of shape).memory old.input) borrows Anything old.input e new
   item_refused {E} {before} {now_left} {old} {now} borrows new e s some r =
-      refusal_carried Anything Anything old.input now.input new e (same_reader s.same) (λ h. first_of some (s.has h)) (λ x. refl) (λ x. x) (λ b l g. tt) r
+      refusal_carried Anything Anything old.input now.input new e (same_reader s.same) (λ h. first_of (all_joins shape) some (s.has h)) (λ x. refl) (λ x. x) (λ b l g. tt) r
 
 -- an item that lies where the input has its values joins those that do
 pub lies_pushed : {A X Y : Type 0} (lies : Bool → A → Type 0) {old now : Reading} (r : Result X Y) (xs ys : List A) (o : Option A) (x : A) → Stays old now → o ≡ Some x → IfSome o (lies now.lends) → false ≡ is_err r → ys ≡ cond (is_ok r) (xs ++ x ∷ []) xs

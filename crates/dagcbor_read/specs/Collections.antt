@@ -85,6 +85,27 @@ first_then shape others = record {
   memory = λ lends. shape.memory lends || others.memory lends;
 }
 
+-- an item of a type of its own, before other items; it is absent where no item is left
+abbrev pub view_optional : {V W : Type 0} → (Tree → Option V) → (Items → Option W) → Items
+    → Option (Option V × W)
+view_optional view others no_items = option_map (λ w. (None, w)) (others no_items)
+view_optional view others (item t ts) = option_and_then (λ v. option_map (λ w. (Some v, w)) (others ts)) (view t)
+
+-- the greater of what the first item needs, where it is there, and what the others need
+abbrev pub need_optional : (Tree → ℕ) → (Items → ℕ) → Items → ℕ
+need_optional need others no_items = others no_items
+need_optional need others (item t ts) = max (need t) (others ts)
+
+-- one item of a type, or none, and others behind it
+abbrev pub optional_then : {V W : Type 0} → Shape Tree V → Shape Items W
+    → Shape Items (Option V × W)
+optional_then shape others = record {
+  view = view_optional shape.view others.view;
+  need = need_optional shape.need others.need;
+  wants_loan = shape.wants_loan || others.wants_loan;
+  memory = λ lends. shape.memory lends || others.memory lends;
+}
+
 -- so many items stood at the front which show v, and were taken
 pub record TakesRow {V : Type 0} (shape : Shape Items V) (count : ℕ) (old : Reading) (v : V) (new : Reading) : Type 0 where
   pub taken : (b : List ℕ) → old.left ≡ Some b

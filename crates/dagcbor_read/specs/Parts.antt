@@ -175,10 +175,18 @@ abbrev pub RefusesFieldsAs : {E : Type 0} → (DeState → DecodeError E → DeS
 RefusesFieldsAs refuses name old e new = ((new.failed ≡ true) × BeginsItems 5 name 1 old.input (Err e) new.input)
     ⊎ RefusesFurther (RefusesEntry refuses) old e new
 
+-- the refusal is this message
+abbrev pub Says : {E : Type 0} → List ℕ → DecodeError E → Type 0
+Says text (Msg message) = Names message text
+Says text _ = ⊥
+
 -- a field is missing, once all that is there was read
 abbrev pub IsMissingField : {E : Type 0} → DecodeError E → DeState → Type 0
-IsMissingField (Msg message) new = Names message (codes "missing field") × (new.failed ≡ false)
-IsMissingField _ new = ⊥
+IsMissingField e new = Says (codes "missing field") e × (new.failed ≡ false)
+
+-- a key that no field has
+abbrev pub IsUnknownField : {E : Type 0} → DeState → DecodeError E → DeState → Type 0
+IsUnknownField old e new = Says (codes "unknown field") e × (new ≡ old)
 
 -- what is said of a refusal alone, of what had not failed
 abbrev pub IfRefused : {T E : Type 0} → (DeState → DecodeError E → DeState → Type 0) → DeState
@@ -193,16 +201,17 @@ abbrev pub RefusesItems : {T E : Type 0} → (DeState → Result T (DecodeError 
 RefusesItems answers = RefusesFurther (λ old e new. IsPartsRefusal answers old e new
     ⊎ ((e ≡ OutOfMemory) × (new ≡ old)))
 
--- no item is left for a part
-abbrev pub IsTooFew : {E : Type 0} → DecodeError E → Type 0
-IsTooFew (Msg message) = Names message (codes "Too few elements")
-IsTooFew _ = ⊥
-
--- The first part was refused, or there is none; or the others were.
+-- The first part was refused, or no item is left for it; or the others were.
 abbrev pub RefusesFirst : {T E : Type 0} → (DeState → Result T (DecodeError E) → DeState → Type 0)
     → (DeState → DecodeError E → DeState → Type 0) → DeState → DecodeError E → DeState → Type 0
 RefusesFirst answers others old e new = IsPartsRefusal answers old e new
-    ⊎ ((IsTooFew e × (new.failed ≡ false) × (new.input ≡ old.input)) ⊎ RefusesFurther others old e new)
+    ⊎ ((Says (codes "Too few elements") e × (new.failed ≡ false) × (new.input ≡ old.input)) ⊎ RefusesFurther others old e new)
+
+-- The part that may be absent was refused, or those behind it.
+abbrev pub RefusesOptional : {T E : Type 0}
+    → (DeState → Result T (DecodeError E) → DeState → Type 0)
+    → (DeState → DecodeError E → DeState → Type 0) → DeState → DecodeError E → DeState → Type 0
+RefusesOptional answers others old e new = IsPartsRefusal answers old e new ⊎ RefusesFurther others old e new
 
 -- items are unread
 abbrev pub RefusesUnread : {E : Type 0} → DeState → DecodeError E → DeState → Type 0

@@ -3,7 +3,7 @@ use Rattle.std.specs.Prelude.{◌||◌, ℕ, List, [], ◌∷◌, map, Option, N
 use Rattle.std.specs.Option.{option_flatten}
 use Rattle.std.specs.Borrow.{Bor}
 use Rattle.ipld_tree.specs.Tree.{Tree, any_need}
-use Rattle.dagcbor_items.specs.Shapes.{Shape, option_of, unless_lent}
+use Rattle.dagcbor_items.specs.Shapes.{Shape, option_of, takes_none, unless_lent}
 use Rattle.dagcbor_read.specs.Collections.{FieldShape, struct_of}
 
 -- the texts behind references
@@ -13,6 +13,10 @@ texts = map (λ s. s.now)
 -- no place: the value of any key is skipped
 abbrev pub no_places : FieldShape (Unit {0})
 no_places = record { take = λ s k t. Some s; need = λ k t. any_need t; wants_loan = false; memory = unless_lent }
+
+-- no place: no key is accepted
+abbrev pub no_other_places : FieldShape (Unit {0})
+no_other_places = record { take = λ s k t. None; need = λ k t. 0; wants_loan = false; memory = takes_none }
 
 -- The value of this name goes to the first place, any other to the others.
 abbrev pub place : {V S : Type 0} → List ℕ → Shape Tree V → FieldShape S → FieldShape (Option V × S)
@@ -58,6 +62,10 @@ struct_shape s = struct_of s.fields s.unread s.finish
 abbrev pub no_fields : StructShape (Unit {0}) (Unit {0})
 no_fields = record { fields = no_places; unread = tt; finish = Some }
 
+-- a row of no fields, in a map that has no others
+abbrev pub no_other_fields : StructShape (Unit {0}) (Unit {0})
+no_other_fields = record { fields = no_other_places; unread = tt; finish = Some }
+
 -- the first is there, and so are the others
 abbrev pub finish_required : {V S W : Type 0} → (S → Option W) → Option V × S → Option (V × W)
 finish_required others s = option_and_then (λ v. option_map (λ w. (v, w)) (others s.1)) s.0
@@ -83,4 +91,18 @@ optional_field name shape others = record {
   fields = place name (option_of shape) others.fields;
   unread = (None, others.unread);
   finish = finish_optional others.finish;
+}
+
+-- the first may be absent
+abbrev pub finish_omissible : {V S W : Type 0} → (S → Option W) → Option V × S
+    → Option (Option V × W)
+finish_omissible others s = option_map (λ w. (s.0, w)) (others s.1)
+
+-- a field that may be absent, before others; a null is read as any value is
+abbrev pub omissible_field : {V S W : Type 0} → List ℕ → Shape Tree V → StructShape S W
+    → StructShape (Option V × S) (Option V × W)
+omissible_field name shape others = record {
+  fields = place name shape others.fields;
+  unread = (None, others.unread);
+  finish = finish_omissible others.finish;
 }

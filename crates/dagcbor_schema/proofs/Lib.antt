@@ -1,5 +1,4 @@
 pub mod PartRows
-pub mod PartItems
 pub mod KindFronts
 pub mod EnvelopeFronts
 pub mod VariantFronts

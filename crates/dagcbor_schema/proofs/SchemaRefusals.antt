@@ -1,11 +1,7 @@
 -- What calls answer beside the law, taken from what the calls below them answer.
-use Rattle.std.proofs.Common.{◌≡◌, ℕ, ◌-◌, List, [], false, refl, sym, ap, subst, ◌∙◌, inl, inr, Result, Ok, Err, IsErrAnd, codes}
+use Rattle.std.proofs.Common.{◌≡◌, ℕ, ◌-◌, List, false, sym, ap, subst, ◌∙◌, inl, inr, Result, Ok, Err, IsErrAnd, codes}
 use Rattle.dagcbor_heads.specs.Looking.{Looks}
-use Rattle.dagcbor_heads.specs.Names.{Names}
-use Rattle.dagcbor_heads.specs.Reading.{Reading}
-use Rattle.dagcbor_heads.specs.declared.name.Name.{Name}
 use Rattle.dagcbor_heads.specs.declared.error.DecodeError.{DecodeError}
-use Rattle.dagcbor_heads.specs.declared.error.DecodeError.TheVariants.{Msg}
 use Rattle.ipld_tree.specs.Tree.{text}
 use Rattle.ipld_tree.specs.Spelling.{spelling}
 use Rattle.dagcbor_items.specs.AnsweredVariants.{OfText}
@@ -20,11 +16,8 @@ use Rattle.dagcbor_read.specs.Values.{ReadsValue}
 use Rattle.dagcbor_read.proofs.Handing.{front_further, further_both}
 use Rattle.dagcbor_read.proofs.Progressing.{call_told}
 use Rattle.dagcbor_schema.specs.declared.by_kind.ByKind.{ByKind}
-use Rattle.dagcbor_schema.specs.SchemaAnswers.{Says, PeeksOnce, AnswersOfKind, AnswersByKind, RefusesNamedKey, RefusesBehindTag, RefusesEnvelope}
+use Rattle.dagcbor_schema.specs.SchemaAnswers.{PeeksOnce, AnswersOfKind, AnswersByKind, RefusesNamedKey, RefusesBehindTag, RefusesEnvelope}
 use Rattle.dagcbor_schema.proofs.EnvelopeFronts.{AtFirstKey, AtTold, AtSecondKey, AtHeld}
-
-pub says : {E : Type 0} {e : DecodeError E} {message : List ℕ} → (kept : Name) × (e ≡ Msg kept) × Names kept message → Says message e
-says {E} {e} {message} h = subst (λ (x : DecodeError E). Says message x) (sym h.1) h.2
 
 -- the refusal that `?` hands on
 pub told_as : {T E : Type 0} (Q : DecodeError E → Type 0) (r : Result T (DecodeError E)) (e : DecodeError E) → IsErrAnd r (λ y. y ≡ e) → Q e → IsErrAnd r Q
@@ -42,10 +35,6 @@ module _ {E B I T Y L M K : Type 0} (of_bool : DeState → Result B (DecodeError
     kind_answered old mid new {found} {kind} r is p a = inr (kind, mid, subst (λ k. PeeksOnce {E = E} old (Ok k) mid) is p, a)
 
 -- ---- an envelope
-
--- nothing was taken
-pub stands_further : {old now : DeState} → now.failed ≡ false → now.input ≡ old.input → IsFurther old now
-stands_further {old} {now} sound same = record { sound = sound; passed = λ b l. ([], b, refl, ap (λ (r : Reading). r.left) same ∙ l) }
 
 item_further : {old now : DeState} {key : List ℕ} → now.failed ≡ false → TakesItem 1 old.input (text key) now.input → IsFurther old now
 item_further {old} {now} {key} sound h = record { sound = sound; passed = λ b l. let q = h.taken b l in (spelling (text key), q.0, q.1.is, q.3) }

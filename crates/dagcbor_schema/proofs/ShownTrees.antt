@@ -9,8 +9,7 @@ use Rattle.ipld_tree.specs.Tree.{Tree, null, boolean, integer, text, bytes, list
 use Rattle.ipld_tree.proofs.Ordered.{KeyAndTree, IsRising, Has, key_cmp_same, above, same_entries, HasPair, ordered_has, has_ordered, AreDistinct, rising_ordered}
 use Rattle.dagcbor_items.specs.Shapes.{Shape, view_unsigned, view_text, view_bytes, view_link, view_option, option_of}
 use Rattle.dagcbor_read.specs.Collections.{view_items, view_list, list_of, all_of, FieldShape, view_entries}
-use Rattle.dagcbor_read.specs.Structs.{StructShape, place, struct_shape, finish_required, required_field}
-use Rattle.dagcbor_schema.specs.SchemaFields.{no_other_fields}
+use Rattle.dagcbor_read.specs.Structs.{StructShape, place, struct_shape, finish_required, required_field, no_other_fields}
 
 -- the one tree that shows v
 abbrev pub IsShownBy : {V : Type 0} → Shape Tree V → (V → Tree) → Type 0

@@ -4,9 +4,7 @@ use Rattle.std.specs.Cow.{cow_str_bytes}
 use Rattle.std.specs.declared.borrow.CowStr.{CowStr}
 use Rattle.std.specs.declared.alloc.Global.{Global}
 use Rattle.dagcbor_heads.specs.Looking.{Looks, LooksOnce}
-use Rattle.dagcbor_heads.specs.Names.{Names}
 use Rattle.dagcbor_heads.specs.declared.error.DecodeError.{DecodeError}
-use Rattle.dagcbor_heads.specs.declared.error.DecodeError.TheVariants.{Msg}
 use Rattle.dagcbor_items.specs.AnsweredVariants.{OfText, OfKey}
 use Rattle.dagcbor_items.specs.Entering.{Enters}
 use Rattle.dagcbor_items.specs.LeafReads.{ReadsStr}
@@ -15,18 +13,9 @@ use Rattle.dagcbor_items.specs.declared.kind.Kind.TheVariants as kinds
 use Rattle.dagcbor_read.specs.Accessors.{BeginsItems, ReadsNextKey}
 use Rattle.dagcbor_read.specs.Deserializers.{DeState, Call}
 use Rattle.dagcbor_read.specs.Kinds.{PeeksKind, OfPeek}
-use Rattle.dagcbor_read.specs.Parts.{ReadsOnce, IsPartsRefusal, RefusesFurther, RefusesUnread}
+use Rattle.dagcbor_read.specs.Parts.{ReadsOnce, IsPartsRefusal, RefusesFurther, RefusesUnread, Says}
 use Rattle.dagcbor_schema.specs.declared.by_kind.ByKind.{ByKind}
 use Rattle.dagcbor_schema.specs.declared.by_kind.ByKind.TheVariants as told
-
--- the refusal is this message
-abbrev pub Says : {E : Type 0} → List ℕ → DecodeError E → Type 0
-Says text (Msg message) = Names message text
-Says text _ = ⊥
-
--- a key that no field has
-abbrev pub IsUnknownField : {E : Type 0} → DeState → DecodeError E → DeState → Type 0
-IsUnknownField old e new = Says (codes "unknown field") e × (new ≡ old)
 
 -- ---- a value that is made of what was read
 
@@ -112,11 +101,3 @@ RefusesEnvelope tag content refuses old e new =
     ((new.failed ≡ true) × BeginsItems 5 (codes "map") 1 old.input (Err e) new.input)
     ⊎ ((count : ℕ) × (mid : DeState) × (mid.failed ≡ false) × Enters 5 count old.input mid.input
     × (RefusesNamedKey tag None count mid e new ⊎ RefusesFurther (RefusesBehindTag tag content (count - 1) refuses) mid e new))
-
--- ---- a part that a list may lack
-
--- The part was refused, or those behind it.
-abbrev pub RefusesOptional : {T E : Type 0}
-    → (DeState → Result T (DecodeError E) → DeState → Type 0)
-    → (DeState → DecodeError E → DeState → Type 0) → DeState → DecodeError E → DeState → Type 0
-RefusesOptional answers others old e new = IsPartsRefusal answers old e new ⊎ RefusesFurther others old e new

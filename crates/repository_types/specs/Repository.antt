@@ -4,8 +4,7 @@ use Rattle.serde_ipld_dagcbor.specs.Tree.{Tree}
 use Rattle.serde_ipld_dagcbor.specs.Shapes.{Shape, leaf, owned_leaf, option_of, view_text}
 use Rattle.serde_ipld_dagcbor.specs.Shapes.{view_bytes, view_link, view_unsigned}
 use Rattle.serde_ipld_dagcbor.specs.Collections.{list_of, all_of}
-use Rattle.serde_ipld_dagcbor.specs.Structs.{required_field, struct_shape}
-use Rattle.dagcbor_schema.specs.SchemaFields.{no_other_fields}
+use Rattle.serde_ipld_dagcbor.specs.Structs.{required_field, no_other_fields, struct_shape}
 
 -- Commit: a map of did, version, data, rev, prev and sig
 abbrev pub CommitView : Type 0

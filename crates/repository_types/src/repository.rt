@@ -9,10 +9,9 @@ ghost use Rattle.repository_types.specs.Repository.{UnsignedCommitView, unsigned
 ghost use Rattle.repository_types.specs.Repository.{EntryView, entry_shape};
 ghost use Rattle.repository_types.specs.Repository.{NodeView, node_shape};
 
-use dagcbor_schema::Closed;
 use serde_ipld_dagcbor::{
-    Bytes, Cid, Deserialize, DeserializeOwned, Deserializer, Field, Read, ReadResult, Required,
-    Serialize, Serializer, Shown, Write, WriteResult, read_struct, write_struct,
+    Bytes, Cid, Closed, Deserialize, DeserializeOwned, Deserializer, Field, Read, ReadResult,
+    Required, Serialize, Serializer, Shown, Write, WriteResult, read_struct, write_struct,
 };
 use std::alloc::Global;
 

@@ -1,26 +1,28 @@
-//! What the items of a list make: a vector, or the parts of a tuple.
+//! What the items of a list make: a vector, or the parts of a tuple of any number.
 
 ghost use Rattle.std.specs.Prelude.{◌≡◌, ◌+◌, ◌≤◌, Bool, List, map, false, ⊤, IfOk, IfErr, All};
-ghost use Rattle.std.specs.Prelude.{codes};
+ghost use Rattle.std.specs.Prelude.{codes, Option, option_map, IfSome};
 ghost use Rattle.ipld_tree.specs.Tree.{Items};
 ghost use Rattle.dagcbor_heads.specs.declared.error.DecodeError.{DecodeError};
 ghost use Rattle.dagcbor_read.specs.Deserializers.{DeState, de_state, StaysFailed, Over};
 ghost use Rattle.dagcbor_read.specs.Parts.{RefusesItems, RefusesFirst, RefusesRest, RefusesListAs};
-ghost use Rattle.dagcbor_read.specs.Parts.{IfRefused};
+ghost use Rattle.dagcbor_read.specs.Parts.{RefusesOptional, IfRefused};
 ghost use Rattle.dagcbor_read.specs.Values.{ReadsValue};
 ghost use Rattle.dagcbor_read.specs.Accessors.{accessor_state};
 ghost use Rattle.dagcbor_read.specs.Collections.{list_of, all_of, no_more, first_then, ReadsRow};
-ghost use Rattle.dagcbor_read.specs.Collections.{ReadsRest};
+ghost use Rattle.dagcbor_read.specs.Collections.{optional_then, ReadsRest};
 ghost use Rattle.dagcbor_items.specs.Shapes.{Shape};
 
 use crate::access::accessor::Accessor;
+use crate::access::structs::Omissible;
 use crate::deserialize::Deserialize;
 use crate::deserializer::Deserializer;
 use dagcbor_heads::{DecodeError, Read, ReadResult};
 use std::alloc::Global;
 
-/// What the items of a list make.
-pub(crate) trait Row<'de>: Sized + Drop {
+/// What the items of a list make, one after another: all of one type, in a vector, or each of a
+/// type of its own, as `(A, (B, ()))` has them.
+pub trait Row<'de>: Sized + Drop {
     ghost View: { Type 0 };
 
     ghost meaning: { Self → View };
@@ -121,6 +123,32 @@ impl<'de, T: Deserialize<'de>, L: Row<'de>> Row<'de> for (T, L) {
     }
 }
 
+/// An item that may be absent, where none stands behind it.
+impl<'de, T: Deserialize<'de>, L: Row<'de>> Row<'de> for Omissible<T, L> {
+    ghost View = { Option T.View × L.View };
+
+    ghost meaning = { λ p. (option_map T.meaning p.0, L.meaning p.1) };
+
+    ghost shape = { optional_then T.shape L.shape };
+
+    ghost lies = { λ lends p. IfSome p.0 (T.lies lends) × L.lies lends p.1 };
+
+    ghost refuses = { RefusesOptional T.answers L.refuses };
+
+    fn read_row<R: Read>(
+        alloc: Global,
+        items: &mut Accessor<'de>,
+        de: &mut Deserializer<'de, R>,
+    ) -> ReadResult<Omissible<T, L>, R> {
+        let Some(first) = items.next_element(alloc, de)? else {
+            let none_left = L::read_row(alloc, items, de)?;
+            return Ok(Omissible(None, none_left));
+        };
+        let others = L::read_row(alloc, items, de)?;
+        Ok(Omissible(Some(first), others))
+    }
+}
+
 /// Reads all that is left of a list, and ends it.
 #[inline(always)]
 pub(crate) fn read_rest<'de, L: Row<'de>, R: Read>(
@@ -145,8 +173,9 @@ pub(crate) fn read_rest<'de, L: Row<'de>, R: Read>(
     Ok(row)
 }
 
-/// Reads a tuple whose parts the items make.
-pub(crate) fn read_tuple<'de, L: Row<'de>, R: Read>(
+/// Reads a tuple whose parts the items of a list make: as many as there are. The length is not
+/// looked at.
+pub fn read_tuple<'de, L: Row<'de>, R: Read>(
     alloc: Global,
     len: usize,
     de: &mut Deserializer<'de, R>,

@@ -11,7 +11,7 @@ ghost use Rattle.dagcbor_read.specs.Accessors.{HasHeadOf, BeginsItems, accessor_
 ghost use Rattle.dagcbor_read.specs.Enums.{enum_state, BeginsHeld, ReadsFieldsHeld};
 ghost use Rattle.dagcbor_read.specs.Collections.{value_of, struct_of};
 ghost use Rattle.dagcbor_read.specs.Structs.{texts, no_places, places, finish_required};
-ghost use Rattle.dagcbor_read.specs.Structs.{finish_optional};
+ghost use Rattle.dagcbor_read.specs.Structs.{finish_optional, finish_omissible, no_other_places};
 ghost use Rattle.dagcbor_read.specs.Named.{ReadsNamed, ReadsNamedValue};
 ghost use Rattle.dagcbor_heads.specs.Names.{Names};
 ghost use Rattle.dagcbor_items.specs.Looks.{LooksAtAny};
@@ -19,6 +19,7 @@ ghost use Rattle.dagcbor_items.specs.LeafReads.{ReadsIgnored};
 ghost use Rattle.dagcbor_items.specs.AnsweredVariants.{OfItem};
 ghost use Rattle.dagcbor_read.specs.Parts.{ReadsOnce, HandsOptionOn, RefusesAsOr, RefusesFurther};
 ghost use Rattle.dagcbor_read.specs.Parts.{RefusesFieldsAs, RefusesHeldFields, IfRefused, IsMissingField};
+ghost use Rattle.dagcbor_read.specs.Parts.{IsUnknownField};
 
 use crate::access::accessor::Accessor;
 use crate::access::enum_accessor::EnumAccessor;
@@ -32,6 +33,17 @@ use std::alloc::Global;
 /// A field that must be there.
 #[derive(Drop)]
 pub struct Required<T>(pub T);
+
+/// What may be absent, before others: a field of a map, or an item at the end of a list. A null in
+/// its place is read as any other value of its type, where an `Option` in a row of fields takes it
+/// for an absent one.
+#[derive(Debug, Drop)]
+pub struct Omissible<T, L>(pub Option<T>, pub L);
+
+/// No other field: any other key is refused. In the place of `()`, which skips the values of other
+/// keys.
+#[derive(Clone, Copy, Debug, PartialEq, Eq)]
+pub struct Closed;
 
 /// No field: the value of any key is skipped.
 impl<'de> Fields<'de> for () {
@@ -79,6 +91,55 @@ impl<'de> Fields<'de> for () {
     #[inline(always)]
     fn finish(_places: ()) -> Option<()> {
         Some(())
+    }
+}
+
+/// No field, and any key is refused.
+impl<'de> Fields<'de> for Closed {
+    type Places = ();
+
+    ghost State = { Unit {0} };
+
+    ghost state = { λ u. tt };
+
+    ghost unread = { tt };
+
+    ghost shape = { λ names. no_other_places };
+
+    ghost View = { Unit {0} };
+
+    ghost meaning = { λ u. tt };
+
+    ghost finish = { Some };
+
+    ghost refuses = { IsUnknownField };
+
+    fn unread(_alloc: Global) -> () {}
+
+    fn read_field<R: Read>(
+        _places: &mut (),
+        _alloc: Global,
+        _names: &[&str],
+        _key: &str,
+        _de: &mut Deserializer<'de, R>,
+    ) -> ReadResult<(), R> {
+        Err(DecodeError::custom("unknown field"))
+    }
+
+    fn read_named<R: Read>(
+        _places: &mut (),
+        _alloc: Global,
+        _names: &[&str],
+        _entries: &mut Accessor<'de>,
+        _de: &mut Deserializer<'de, R>,
+        _refusal: &mut Option<DecodeError<R::Error>>,
+    ) -> bool {
+        false
+    }
+
+    #[inline(always)]
+    fn finish(_places: ()) -> Option<Closed> {
+        Some(Closed)
     }
 }
 
@@ -230,7 +291,7 @@ impl<'de, T: Deserialize<'de>, L: Fields<'de>> Fields<'de> for (Required<T>, L) 
     }
 }
 
-/// A field that may be absent, before others.
+/// A field that may be absent or null, before others.
 impl<'de, T: Deserialize<'de>, L: Fields<'de>> Fields<'de> for (Option<T>, L) {
     type Places = (Option<Option<T>>, L::Places);
 
@@ -281,6 +342,60 @@ impl<'de, T: Deserialize<'de>, L: Fields<'de>> Fields<'de> for (Option<T>, L) {
         let (value, others) = places;
         let others = L::finish(others)?;
         Some((value.flatten(), others))
+    }
+}
+
+/// A field that may be absent, and is null where its type has a null, before others.
+impl<'de, T: Deserialize<'de>, L: Fields<'de>> Fields<'de> for Omissible<T, L> {
+    type Places = (Option<T>, L::Places);
+
+    ghost State = { Option T.View × L.State };
+
+    ghost state = { λ p. (option_map T.meaning p.0, L.state p.1) };
+
+    ghost unread = { (None, L.unread) };
+
+    ghost shape = { places T.shape L.shape };
+
+    ghost View = { Option T.View × L.View };
+
+    ghost meaning = { λ p. (option_map T.meaning p.0, L.meaning p.1) };
+
+    ghost finish = { finish_omissible L.finish };
+
+    ghost refuses = { RefusesAsOr T.answers L.refuses };
+
+    fn unread(alloc: Global) -> (Option<T>, L::Places) {
+        (None, L::unread(alloc))
+    }
+
+    fn read_field<R: Read>(
+        places: &mut (Option<T>, L::Places),
+        alloc: Global,
+        names: &[&str],
+        key: &str,
+        de: &mut Deserializer<'de, R>,
+    ) -> ReadResult<(), R> {
+        read_place::<T, L, R>(places, alloc, names, key, de)
+    }
+
+    #[inline(always)]
+    fn read_named<R: Read>(
+        places: &mut (Option<T>, L::Places),
+        alloc: Global,
+        names: &[&str],
+        entries: &mut Accessor<'de>,
+        de: &mut Deserializer<'de, R>,
+        refusal: &mut Option<DecodeError<R::Error>>,
+    ) -> bool {
+        read_named_place::<T, L, R>(places, alloc, names, entries, de, refusal)
+    }
+
+    #[inline(always)]
+    fn finish(places: (Option<T>, L::Places)) -> Option<Omissible<T, L>> {
+        let (value, others) = places;
+        let others = L::finish(others)?;
+        Some(Omissible(value, others))
     }
 }
 

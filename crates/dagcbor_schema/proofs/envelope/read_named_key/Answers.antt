@@ -4,7 +4,7 @@ use Rattle.dagcbor_read.proofs.Answered.{key_read}
 use Rattle.dagcbor_read.proofs.Wholes.{on_refusal}
 use Rattle.dagcbor_schema.proofs.EnvelopeFronts.{key_refused_by_name, other_key}
 use Rattle.dagcbor_schema.specs.SchemaAnswers.{IsOtherKey}
-use Rattle.dagcbor_schema.proofs.SchemaRefusals.{says}
+use Rattle.dagcbor_read.proofs.Handing.{says}
 use Rattle.dagcbor_schema.proofs.envelope.read_named_key.Goals as goal
 
 pub returns-clause-key : goal.returns-clause-key

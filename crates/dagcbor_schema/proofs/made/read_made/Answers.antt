@@ -1,7 +1,7 @@
 use Rattle.std.proofs.Common.{sym, inl, inr}
 use Rattle.dagcbor_heads.proofs.Refusing.{as_refusal}
 use Rattle.dagcbor_read.proofs.Finishing.{value_unfinished}
-use Rattle.dagcbor_schema.proofs.SchemaRefusals.{says}
+use Rattle.dagcbor_read.proofs.Handing.{says}
 use Rattle.dagcbor_schema.proofs.made.read_made.Goals as goal
 
 pub returns-in-None-clause-value : goal.returns-in-None-clause-value

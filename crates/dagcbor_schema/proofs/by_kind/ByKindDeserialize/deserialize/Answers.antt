@@ -1,9 +1,10 @@
 use Rattle.std.proofs.Common.{refl, inl, Err}
 use Rattle.dagcbor_heads.proofs.Refusing.{as_refusal}
+use Rattle.dagcbor_read.proofs.Handing.{says}
 use Rattle.dagcbor_schema.specs.Kinds.{KindShapes}
 use Rattle.dagcbor_schema.specs.SchemaAnswers.{PeeksOnce}
 use Rattle.dagcbor_schema.proofs.KindFronts.{kind_read, kind_not_read, null_not_read, no_kind_shown, bool_part, integer_part, text_part, bytes_part, list_part, map_part, link_part}
-use Rattle.dagcbor_schema.proofs.SchemaRefusals.{kind_answered, told_as, says}
+use Rattle.dagcbor_schema.proofs.SchemaRefusals.{kind_answered, told_as}
 use Rattle.dagcbor_schema.proofs.by_kind.ByKindDeserialize.deserialize.Goals as goal
 
 pub returns-in_err-peek_kind-clause-value : goal.returns-in_err-peek_kind-clause-value

@@ -1,6 +1,6 @@
 use Rattle.std.proofs.Common.{refl, inl, inr}
 use Rattle.dagcbor_heads.proofs.Refusing.{as_refusal}
-use Rattle.dagcbor_schema.proofs.SchemaRefusals.{says}
+use Rattle.dagcbor_read.proofs.Handing.{says}
 use Rattle.dagcbor_schema.proofs.by_kind.NoKindDeserialize.deserialize.Goals as goal
 
 pub returns-in_err-peek_kind-clause-answers : goal.returns-in_err-peek_kind-clause-answers

@@ -3,27 +3,27 @@ use Rattle.dagcbor_heads.proofs.Refusing.{as_refusal}
 use Rattle.dagcbor_read.specs.Accessors.{accessor_state}
 use Rattle.dagcbor_read.specs.Deserializers.{de_state}
 use Rattle.dagcbor_read.proofs.Answered.{element_read, no_element, element_refused, after_some}
-use Rattle.dagcbor_read.proofs.ItemRows.{part_refused, parts_refused, parts_taken}
+use Rattle.dagcbor_read.proofs.ItemRows.{first_joins, part_refused, parts_refused, parts_taken}
 use Rattle.dagcbor_read.proofs.Wholes.{on_refusal}
-use Rattle.dagcbor_read.proofs.Handing.{front_further, too_few}
+use Rattle.dagcbor_read.proofs.Handing.{front_further, says}
 use Rattle.dagcbor_read.proofs.access.row.Tuple2Row.read_row.Goals as goal
 
 pub returns-in_err-first-clause-row : goal.returns-in_err-first-clause-row
 returns-in_err-first-clause-row g c =
     let k = element_refused g.row.R-Error.Denot g.T.Shown.meaning g.T.Shown.shape _ _ (de_state g.R.Read.reading c.next_element.new.de) _ c.requires.sound c.in_err-first.ensures.element in
-    as_refusal _ _ _ _ c.from_residual.ensures.1 (part_refused g.T.Shown.shape g.L.Row.shape _ _ _ k.0 k.1)
+    as_refusal _ _ _ _ c.from_residual.ensures.1 (part_refused (first_joins g.T.Shown.shape g.L.Row.shape) _ _ _ k.0 k.1)
 
 pub returns-in_err-others-clause-row : goal.returns-in_err-others-clause-row
 returns-in_err-others-clause-row g c =
     let k = element_read g.row.R-Error.Denot g.T.Shown.meaning g.T.Shown.shape _ (de_state g.R.Read.reading c.args.de.now) (de_state g.R.Read.reading c.next_element.new.de) _ _ c.in-Some.is c.in_ok-first.ensures.element in
     let after = after_some g.row.R-Error.Denot g.T.Shown.meaning g.T.Shown.shape _ _ (accessor_state c.args.items.now) _ c.in-Some.is c.in_ok-first.ensures.after in
-    as_refusal _ _ _ _ c.from_residual-in_err-others.ensures.1 (parts_refused g.T.Shown.shape g.L.Row.shape _ _ k.some after k.takes c.in_err-others.ensures.row)
+    as_refusal _ _ _ _ c.from_residual-in_err-others.ensures.1 (parts_refused (first_joins g.T.Shown.shape g.L.Row.shape) _ _ k.some after k.takes c.in_err-others.ensures.row)
 
 pub returns-clause-row : goal.returns-clause-row
 returns-clause-row g c =
     let k = element_read g.row.R-Error.Denot g.T.Shown.meaning g.T.Shown.shape _ (de_state g.R.Read.reading c.args.de.now) (de_state g.R.Read.reading c.next_element.new.de) _ _ c.in-Some.is c.in_ok-first.ensures.element in
     let after = after_some g.row.R-Error.Denot g.T.Shown.meaning g.T.Shown.shape _ _ (accessor_state c.args.items.now) _ c.in-Some.is c.in_ok-first.ensures.after in
-    parts_taken g.T.Shown.shape g.L.Row.shape k.some after k.takes c.in_ok-others.ensures.row
+    parts_taken (first_joins g.T.Shown.shape g.L.Row.shape) k.some after k.takes c.in_ok-others.ensures.row
 
 pub returns-in_err-first-clause-refuses : goal.returns-in_err-first-clause-refuses
 returns-in_err-first-clause-refuses g c = on_refusal _ _ _ c.from_residual.ensures.1 (inl (c.in_err-first.ensures.answers c.requires.sound))
@@ -31,7 +31,7 @@ returns-in_err-first-clause-refuses g c = on_refusal _ _ _ c.from_residual.ensur
 pub returns-in_default-clause-refuses : goal.returns-in_default-clause-refuses
 returns-in_default-clause-refuses g c =
     let k = no_element g.row.R-Error.Denot g.T.Shown.meaning g.T.Shown.shape _ (de_state g.R.Read.reading c.args.de.now) (de_state g.R.Read.reading c.next_element.new.de) _ c.in_default.is c.in_ok-first.ensures.element in
-    inr (inl (too_few c.custom.ensures, k.0, k.2))
+    inr (inl (says c.custom.ensures, k.0, k.2))
 
 pub returns-in_err-others-clause-refuses : goal.returns-in_err-others-clause-refuses
 returns-in_err-others-clause-refuses g c =

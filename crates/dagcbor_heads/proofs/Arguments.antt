@@ -5,7 +5,7 @@ use Rattle.std.specs.Int.{bytes_high_first}
 use Rattle.dagcbor_heads.specs.Reading.{Reading}
 use Rattle.dagcbor_heads.specs.Fronts.{FindsEnd, HasPayload, Takes}
 use Rattle.dagcbor_heads.specs.Causes.{ArgumentCause}
-use Rattle.dagcbor_heads.specs.Refusals.{Refuses}
+use Rattle.dagcbor_heads.specs.Refusals.{RefusesPlainly}
 use Rattle.dagcbor_heads.specs.declared.error.Len.TheVariants.{Small}
 use Rattle.dagcbor_heads.specs.declared.error.DecodeError.TheVariants.{Eof}
 use Rattle.dagcbor_heads.specs.declared.name.Name.{Name}
@@ -29,7 +29,7 @@ one_byte_read {i} {argument} {byte} {old} {now} {new} low s t = rw add-one recor
 
 -- the bytes end inside the argument
 pub cut : (E : Type 0) {i argument width : ℕ} {old now new : Reading} (name : Name) → i < width → ReadArgument i argument old now → FindsEnd now new
-    → Refuses {E = E} (HasPayload width old) ⊥ ⊥ (ArgumentCause width) old (Eof name (Small width)) new
+    → RefusesPlainly {E = E} (HasPayload width old) (ArgumentCause width) old (Eof name (Small width)) new
 cut E {i} {argument} {width} {old} {now} {new} name few s f = (
   f.same.faults ∙ s.takes.same.faults,
   λ h. let k = s.takes.taken _ h.left in

@@ -5,7 +5,7 @@ use Rattle.dagcbor_heads.specs.Head.{head}
 use Rattle.dagcbor_heads.specs.Reading.{Reading}
 use Rattle.dagcbor_heads.specs.Fronts.{HasByte, HasHead, HasPayload, StartsWith, Takes, TakesHead}
 use Rattle.dagcbor_heads.specs.Causes.{ByteCause, ArgumentCause, HeadCause, argument_width, least_argument}
-use Rattle.dagcbor_heads.specs.Refusals.{Refuses}
+use Rattle.dagcbor_heads.specs.Refusals.{RefusesPlainly}
 use Rattle.dagcbor_heads.specs.declared.error.DecodeError.{DecodeError}
 use Rattle.dagcbor_heads.specs.declared.error.DecodeError.TheVariants.{Eof, NonMinimal}
 use Rattle.dagcbor_heads.specs.declared.name.Name.{Name}
@@ -20,7 +20,7 @@ head_has_byte h =
     let f = head_first h.major h.argument h.argument_fits in
     record { byte = 32 * h.major + f.0; rest = f.1 ++ h.rest; left = h.left ∙ ap (λ s. Some (s ++ h.rest)) f.3 }
 
-pub first_refused : {E : Type 0} (old new : Reading) (e : DecodeError E) → Refuses (HasByte old) ⊥ ⊥ ByteCause old e new → Refuses (HasHead old) ⊥ ⊥ HeadCause old e new
+pub first_refused : {E : Type 0} (old new : Reading) (e : DecodeError E) → RefusesPlainly (HasByte old) ByteCause old e new → RefusesPlainly (HasHead old) HeadCause old e new
 first_refused old new e r = passed_on ByteCause HeadCause old old new e (stays old) head_has_byte (λ x. x) (λ x. x) (λ b l. (b, l, byte_in_head e b)) r
 
 -- what the first byte says of the head that stands there
@@ -47,7 +47,7 @@ argument_in_head (Eof n expect) first more h = h
 argument_in_head _ first more h = absurd h
 
 pub argument_refused : {E : Type 0} {old mid : Reading} {first width : ℕ} (new : Reading) (e : DecodeError E) → width ≡ argument_width (first % 32) → Takes old (first ∷ []) mid
-    → Refuses (HasPayload width mid) ⊥ ⊥ (ArgumentCause width) mid e new → Refuses (HasHead old) ⊥ ⊥ HeadCause old e new
+    → RefusesPlainly (HasPayload width mid) (ArgumentCause width) mid e new → RefusesPlainly (HasHead old) HeadCause old e new
 argument_refused {E} {old} {mid} {first} {width} new e is t r =
     passed_on (ArgumentCause width) HeadCause old mid new e t.same
     (λ h. let k = head_begins t h in record {
@@ -61,7 +61,7 @@ argument_refused {E} {old} {mid} {first} {width} new e is t r =
 
 -- a head that is longer than it need be
 pub too_long : (E : Type 0) {old mid new : Reading} {first n width : ℕ} (name : Name) → width ≡ argument_width (first % 32) → 24 ≤ first % 32 → n < 256 ^ width → n < least_argument width
-    → Takes old (first ∷ []) mid → Takes mid (bytes_high_first width n) new → Refuses {E = E} (HasHead old) ⊥ ⊥ HeadCause old (NonMinimal name first) new
+    → Takes old (first ∷ []) mid → Takes mid (bytes_high_first width n) new → RefusesPlainly {E = E} (HasHead old) HeadCause old (NonMinimal name first) new
 too_long E {old} {mid} {new} {first} {n} {width} name is wide fits small t u = (
   u.same.faults ∙ t.same.faults,
   λ h. let k = head_begins t h in

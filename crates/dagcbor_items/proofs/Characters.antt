@@ -31,8 +31,8 @@ abbrev IsCharMessage : {E : Type 0} → DecodeError E → Type 0
 IsCharMessage e = (message : Name) × (e ≡ Msg message) × Names message (codes "Char must be one character")
 
 pub no_char : {E : Type 0} (lacks : Type 0) {old new : Reading} (e : DecodeError E) (s t : List ℕ) → IsCharMessage e → t ≡ s → None ≡ only (chars t) → TakesFront (leaf view_text) old s new
-    → Refuses (HasFront (leaf view_char) old) lacks ⊥ CharCause old e new
-no_char {E} lacks {old} {new} e s t is same none h = subst (λ x. Refuses {E = E} (HasFront (leaf view_char) old) lacks ⊥ CharCause old x new) (sym is.1) (
+    → Refuses (record { could = HasFront (leaf view_char) old; lacks = lacks; borrows = ⊥; stands = CharCause }) old e new
+no_char {E} lacks {old} {new} e s t is same none h = subst (λ x. Refuses {E = E} (record { could = HasFront (leaf view_char) old; lacks = lacks; borrows = ⊥; stands = CharCause }) old x new) (sym is.1) (
   h.same.faults,
   λ i. let k = h.taken i.bytes i.left in
       let tree = (front_unique i.bytes i.rest k.1 i.tree k.0 i.front k.2).0 ∙ shown_text k.0 s k.3 in

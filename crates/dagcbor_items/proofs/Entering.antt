@@ -5,7 +5,7 @@ use Rattle.dagcbor_heads.specs.Reading.{Reading, SpentStep}
 use Rattle.dagcbor_heads.specs.Fronts.{HasHead, Takes, TakesHead}
 use Rattle.dagcbor_heads.specs.Causes.{HeadCause, IsNamed}
 use Rattle.dagcbor_heads.specs.Names.{Names}
-use Rattle.dagcbor_heads.specs.Refusals.{Refuses, NoStep}
+use Rattle.dagcbor_heads.specs.Refusals.{RefusesPlainly, NoStep}
 use Rattle.dagcbor_heads.specs.Looking.{LooksAtLeft}
 use Rattle.dagcbor_heads.specs.declared.error.DecodeError.{DecodeError}
 use Rattle.ipld_tree.specs.Tree.{any_need}
@@ -18,15 +18,15 @@ use Rattle.dagcbor_items.proofs.Lists.{is_list_at}
 use Rattle.dagcbor_items.proofs.Maps.{is_map_at}
 use Rattle.dagcbor_items.proofs.Looks.{major_left, major_unread}
 
-pub no_step_inside : {E : Type 0} {text : List ℕ} {old new : Reading} (e : DecodeError E) → StartsWithParts text old → NoStep text old e new → Refuses (HasItem 1 old) ⊥ ⊥ (CauseInside (old.steps + 1)) old e new
+pub no_step_inside : {E : Type 0} {text : List ℕ} {old new : Reading} (e : DecodeError E) → StartsWithParts text old → NoStep text old e new → RefusesPlainly (HasItem 1 old) (CauseInside (old.steps + 1)) old e new
 no_step_inside e (inl (starts, called)) h =
     too_deep ⊥ 1 e h (λ i. omega (arith, ap any_need (is_list_at starts i).1)) (λ n named b l. inr (refl, inl (starts b l), subst (Names n) (called ∙ sym (item_named b 4 (starts b l))) named))
 no_step_inside e (inr (starts, called)) h =
     too_deep ⊥ 1 e h (λ i. omega (arith, ap any_need (is_map_at starts i).1)) (λ n named b l. inr (refl, inr (starts b l), subst (Names n) (called ∙ sym (item_named b 5 (starts b l))) named))
 
 -- behind the spent step no head stands
-pub parts_head_refused : {E : Type 0} {text : List ℕ} {old stepped : Reading} (new : Reading) (e : DecodeError E) → StartsWithParts text old → SpentStep old stepped → IsNamed text e → Refuses (HasHead stepped) ⊥ ⊥ HeadCause stepped e new
-    → Refuses (HasItem 2 stepped) ⊥ ⊥ (CauseInside (stepped.steps + 2)) stepped e new
+pub parts_head_refused : {E : Type 0} {text : List ℕ} {old stepped : Reading} (new : Reading) (e : DecodeError E) → StartsWithParts text old → SpentStep old stepped → IsNamed text e → RefusesPlainly (HasHead stepped) HeadCause stepped e new
+    → RefusesPlainly (HasItem 2 stepped) (CauseInside (stepped.steps + 2)) stepped e new
 parts_head_refused {E} {text} {old} {stepped} new e (inl (starts, called)) s named r =
     head_refused ⊥ 1 4 stepped new e (omega arith) (stepped_major s starts) (subst (λ x. IsNamed x e) called named) r
 parts_head_refused {E} {text} {old} {stepped} new e (inr (starts, called)) s named r =

@@ -5,7 +5,7 @@ use Rattle.dagcbor_heads.specs.Reading.{Reading, Stays}
 use Rattle.dagcbor_heads.specs.Fronts.{HasByte, HasHead, StartsWith, TakesHead}
 use Rattle.dagcbor_heads.specs.Causes.{ByteCause, HeadCause, IsEndNamed, IsNamed}
 use Rattle.dagcbor_heads.specs.Names.{Names}
-use Rattle.dagcbor_heads.specs.Refusals.{Refuses}
+use Rattle.dagcbor_heads.specs.Refusals.{RefusesPlainly, Refuses}
 use Rattle.dagcbor_heads.specs.declared.error.DecodeError.{DecodeError}
 use Rattle.dagcbor_heads.specs.declared.error.DecodeError.TheVariants.{Eof}
 use Rattle.dagcbor_heads.proofs.Heads.{head_first}
@@ -75,18 +75,18 @@ front_byte h = let f = front_first h.bytes h.rest h.tree h.front in record { byt
 pub item_named : (b : List ℕ) (m : ℕ) → MajorAt b m → item_name b ≡ major_name m
 item_named b m h = ap item_name h.2 ∙ ap major_name h.3
 
-pub head_refused : {E : Type 0} (lacks : Type 0) (spent m : ℕ) (old new : Reading) (e : DecodeError E) → m ≤ 5 → StartsWithMajor old m → IsNamed (major_name m) e → Refuses (HasHead old) ⊥ ⊥ HeadCause old e new → Refuses (HasItem (suc spent) old) lacks ⊥ (CauseInside (old.steps + suc spent)) old e new
+pub head_refused : {E : Type 0} (lacks : Type 0) (spent m : ℕ) (old new : Reading) (e : DecodeError E) → m ≤ 5 → StartsWithMajor old m → IsNamed (major_name m) e → RefusesPlainly (HasHead old) HeadCause old e new → Refuses (record { could = HasItem (suc spent) old; lacks = lacks; borrows = ⊥; stands = CauseInside (old.steps + suc spent) }) old e new
 head_refused lacks spent m old new e few starts named r =
     passed_on HeadCause (CauseInside (old.steps + suc spent)) old old new e (stays old) front_head_stands (λ x. absurd x) (λ x. x)
     (λ b l. (b, l, λ h. cause_here _ e b (omega arith) (inl (h, inl (begins_major old m few starts b l), subst (λ x. IsNamed x e) (sym (item_named b m (starts b l))) named)))) r
 
 -- behind the first byte of a number
-pub number_head_refused : {E : Type 0} (lacks : Type 0) {name : List ℕ} (old new : Reading) (e : DecodeError E) (first : ℕ) → StartsWith old first → first / 32 ≤ 1 → name ≡ major_name (first / 32) → IsNamed name e → Refuses (HasHead old) ⊥ ⊥ HeadCause old e new
-    → Refuses (HasItem 1 old) lacks ⊥ (CauseInside (old.steps + 1)) old e new
+pub number_head_refused : {E : Type 0} (lacks : Type 0) {name : List ℕ} (old new : Reading) (e : DecodeError E) (first : ℕ) → StartsWith old first → first / 32 ≤ 1 → name ≡ major_name (first / 32) → IsNamed name e → RefusesPlainly (HasHead old) HeadCause old e new
+    → Refuses (record { could = HasItem 1 old; lacks = lacks; borrows = ⊥; stands = CauseInside (old.steps + 1) }) old e new
 number_head_refused lacks old new e first starts few called named r =
     head_refused lacks 0 (first / 32) old new e (omega (arith, few)) (major_at old first (first / 32) starts refl) (subst (λ x. IsNamed x e) called named) r
 
-pub byte_refused : {E : Type 0} (lacks : Type 0) (spent : ℕ) (old new : Reading) (e : DecodeError E) → IsEndNamed (codes "any") e → Refuses (HasByte old) ⊥ ⊥ ByteCause old e new → Refuses (HasItem (suc spent) old) lacks ⊥ (CauseInside (old.steps + suc spent)) old e new
+pub byte_refused : {E : Type 0} (lacks : Type 0) (spent : ℕ) (old new : Reading) (e : DecodeError E) → IsEndNamed (codes "any") e → RefusesPlainly (HasByte old) ByteCause old e new → Refuses (record { could = HasItem (suc spent) old; lacks = lacks; borrows = ⊥; stands = CauseInside (old.steps + suc spent) }) old e new
 byte_refused lacks spent old new e named r =
     passed_on ByteCause (CauseInside (old.steps + suc spent)) old old new e (stays old) front_byte (λ x. absurd x) (λ x. x) (λ b l. (b, l, λ h. cause_here _ e b (omega arith) (inl (byte_in_head e b h, inl (none e b h), end_of_item e b h named)))) r
   where

@@ -5,7 +5,7 @@ use Rattle.dagcbor_heads.specs.Names.{Names}
 use Rattle.dagcbor_heads.specs.Reading.{Reading, Stays}
 use Rattle.dagcbor_heads.specs.Fronts.{HasByte, HasHead, ShowsByte, StartsWith, TakesHead}
 use Rattle.dagcbor_heads.specs.Causes.{ByteCause, HeadCause, IsEndNamed, IsNamed}
-use Rattle.dagcbor_heads.specs.Refusals.{Refuses}
+use Rattle.dagcbor_heads.specs.Refusals.{RefusesPlainly}
 use Rattle.dagcbor_heads.specs.declared.name.Name.{Name}
 use Rattle.dagcbor_heads.specs.declared.error.DecodeError.{DecodeError}
 use Rattle.dagcbor_heads.specs.declared.error.DecodeError.TheVariants.{Eof, Mismatch}
@@ -51,15 +51,15 @@ pub no_byte_begins : {E : Type 0} (low high : ℕ) (e : DecodeError E) (b : List
 no_byte_begins low high (Eof n expect) b h = λ first more is. absurd (cc (is, h.1))
 no_byte_begins low high _ b h = absurd h
 
-pub kind_byte_refused : {E : Type 0} (name : List ℕ) (low high : ℕ) (old new : Reading) (e : DecodeError E) → IsEndNamed name e → Refuses (HasByte old) ⊥ ⊥ ByteCause old e new
-    → Refuses (HasMajor low high old) ⊥ ⊥ (MajorCause name low high) old e new
+pub kind_byte_refused : {E : Type 0} (name : List ℕ) (low high : ℕ) (old new : Reading) (e : DecodeError E) → IsEndNamed name e → RefusesPlainly (HasByte old) ByteCause old e new
+    → RefusesPlainly (HasMajor low high old) (MajorCause name low high) old e new
 kind_byte_refused name low high old new e named r = passed_on ByteCause (MajorCause name low high) old old new e (stays old) kind_byte (λ x. x) (λ x. x) (λ b l. (b, l, λ h. inl (byte_in_head e b h, end_named name e named, no_byte_begins low high e b h))) r
 
 -- a first byte of another major type
 pub other_kind : (E : Type 0) (name : List ℕ) (low high : ℕ) {old new : Reading} {first : ℕ}
     (kept : Name) → Names kept name → StartsWith old first → Stays old new
     → (low ≤ first / 32 → first / 32 ≤ high → ⊥)
-    → Refuses {E = E} (HasMajor low high old) ⊥ ⊥ (MajorCause name low high) old
+    → RefusesPlainly {E = E} (HasMajor low high old) (MajorCause name low high) old
     (Mismatch kept first) new
 other_kind E name low high {old} {new} {first} kept named starts same other = (
   same.faults,
@@ -75,8 +75,8 @@ other_kind E name low high {old} {new} {first} kept named starts same other = (
 kind_head : {low high : ℕ} {old mid : Reading} {first : ℕ} → high < 8 → ShowsByte old first mid → HasMajor low high old → HasHead mid
 kind_head few h k = record { major = k.major; argument = k.argument; rest = k.rest; major_fits = omega (arith, few, k.highest); argument_fits = k.argument_fits; left = h.kept _ k.left }
 
-pub kind_head_refused : {E : Type 0} (name : List ℕ) (low high : ℕ) {old mid : Reading} {first : ℕ} (new : Reading) (e : DecodeError E) → high < 8 → low ≤ first / 32 → first / 32 ≤ high → IsNamed name e → ShowsByte old first mid → Refuses (HasHead mid) ⊥ ⊥ HeadCause mid e new
-    → Refuses (HasMajor low high old) ⊥ ⊥ (MajorCause name low high) old e new
+pub kind_head_refused : {E : Type 0} (name : List ℕ) (low high : ℕ) {old mid : Reading} {first : ℕ} (new : Reading) (e : DecodeError E) → high < 8 → low ≤ first / 32 → first / 32 ≤ high → IsNamed name e → ShowsByte old first mid → RefusesPlainly (HasHead mid) HeadCause mid e new
+    → RefusesPlainly (HasMajor low high old) (MajorCause name low high) old e new
 kind_head_refused name low high {old} {mid} {first} new e few least most named h r =
     passed_on HeadCause (MajorCause name low high) old mid new e h.same (kind_head few h) (λ x. x) (λ x. x) (λ b l. (b, h.kept b l, λ c. inl (c, named, begins b l))) r
   where

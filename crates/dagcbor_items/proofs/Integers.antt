@@ -9,7 +9,7 @@ use Rattle.dagcbor_heads.specs.Names.{Names}
 use Rattle.dagcbor_heads.specs.Reading.{Reading, Stays}
 use Rattle.dagcbor_heads.specs.Fronts.{HasByte, ShowsByte, StartsWith, TakesHead}
 use Rattle.dagcbor_heads.specs.Causes.{ByteCause, IsEndNamed}
-use Rattle.dagcbor_heads.specs.Refusals.{Refuses}
+use Rattle.dagcbor_heads.specs.Refusals.{RefusesPlainly}
 use Rattle.dagcbor_heads.specs.declared.name.Name.{Name}
 use Rattle.dagcbor_heads.specs.declared.error.DecodeError.{DecodeError}
 use Rattle.dagcbor_heads.specs.declared.error.DecodeError.TheVariants.{Eof, CastOverflow, Mismatch, Unsupported}
@@ -37,8 +37,8 @@ number_kind accepted h =
     let n = is_number accepted h.tree h.accepted in
     has_major 0 1 h zero-le (subst (λ t. major t ≤ 1) (sym n.1) (integer_major n.0))
 
-pub number_refused : {E : Type 0} (name : List ℕ) (old new : Reading) (e : DecodeError E) → Refuses (HasMajor 0 1 old) ⊥ ⊥ (MajorCause name 0 1) old e new
-    → Refuses (HasFront (leaf (view_number Some)) old) ⊥ ⊥ (MajorCause name 0 1) old e new
+pub number_refused : {E : Type 0} (name : List ℕ) (old new : Reading) (e : DecodeError E) → RefusesPlainly (HasMajor 0 1 old) (MajorCause name 0 1) old e new
+    → RefusesPlainly (HasFront (leaf (view_number Some)) old) (MajorCause name 0 1) old e new
 number_refused name old new e r = passed_on (MajorCause name 0 1) (MajorCause name 0 1) old old new e (stays old) (number_kind Some) (λ x. x) (λ x. x) (λ b l. (b, l, λ h. h)) r
 
 -- the number of a head
@@ -78,12 +78,12 @@ number_narrowed accepted {old} {new} n v e h = record {
 abbrev pub Narrowed : {V E : Type 0} → (ℤ → Option V) → (DecodeError E → List ℕ → Type 0) → List ℕ → DecodeError E → List ℕ → Type 0
 Narrowed accepted stands name e b = stands e b ⊎ IsOutside name accepted e b
 
-pub narrow_refused : {V E : Type 0} (accepted : ℤ → Option V) (stands : DecodeError E → List ℕ → Type 0) (name : List ℕ) (old new : Reading) (e : DecodeError E) → Refuses (HasFront (leaf (view_number Some)) old) ⊥ ⊥ stands old e new
-    → Refuses (HasFront (leaf (view_number accepted)) old) ⊥ ⊥ (Narrowed accepted stands name) old e new
+pub narrow_refused : {V E : Type 0} (accepted : ℤ → Option V) (stands : DecodeError E → List ℕ → Type 0) (name : List ℕ) (old new : Reading) (e : DecodeError E) → RefusesPlainly (HasFront (leaf (view_number Some)) old) stands old e new
+    → RefusesPlainly (HasFront (leaf (view_number accepted)) old) (Narrowed accepted stands name) old e new
 narrow_refused accepted stands name old new e r = passed_on stands (Narrowed accepted stands name) old old new e (stays old) (some_number accepted) (λ x. x) (λ x. x) (λ b l. (b, l, λ h. inl h)) r
 
 pub outside : (E : Type 0) {V : Type 0} (accepted : ℤ → Option V) (stands : DecodeError E → List ℕ → Type 0) (name : List ℕ) {old new : Reading} (n : ℤ) (kept : Name) → accepted n ≡ None → Names kept name → TakesFront (leaf (view_number Some)) old n new
-    → Refuses {E = E} (HasFront (leaf (view_number accepted)) old) ⊥ ⊥ (Narrowed accepted stands name) old (CastOverflow kept) new
+    → RefusesPlainly {E = E} (HasFront (leaf (view_number accepted)) old) (Narrowed accepted stands name) old (CastOverflow kept) new
 outside E accepted stands name {old} {new} n kept none named h = (
   h.same.faults,
   λ i. let k = h.taken i.bytes i.left in
@@ -112,16 +112,16 @@ pub natural_taken : {old new : Reading} {kind n : ℕ} (bound : ℕ) → TakesMa
 natural_taken {old} {new} {kind} {n} bound h none few = number_narrowed (natural_below bound) _ _ (natural_is bound kind n none few) (number_taken h)
 
 pub no_natural : (E : Type 0) (name : List ℕ) {old new : Reading} {kind n : ℕ} (bound : ℕ) (kept : Name) → Names kept name → TakesMajor 0 1 old kind n new → (0 < kind) ⊎ (bound ≤ n)
-    → Refuses {E = E} (HasFront (leaf (view_number (natural_below bound))) old) ⊥ ⊥ (Narrowed (natural_below bound) (MajorCause name 0 1) name) old (CastOverflow kept) new
+    → RefusesPlainly {E = E} (HasFront (leaf (view_number (natural_below bound))) old) (Narrowed (natural_below bound) (MajorCause name 0 1) name) old (CastOverflow kept) new
 no_natural E name {old} {new} {kind} {n} bound kept named h other = outside E (natural_below bound) (MajorCause name 0 1) name _ kept (natural_is_not bound kind n other) named (number_taken h)
 
-pub natural_refused : {E : Type 0} (name : List ℕ) (bound : ℕ) (old new : Reading) (e : DecodeError E) → Refuses (HasMajor 0 1 old) ⊥ ⊥ (MajorCause name 0 1) old e new
-    → Refuses (HasFront (leaf (view_number (natural_below bound))) old) ⊥ ⊥ (Narrowed (natural_below bound) (MajorCause name 0 1) name) old e new
+pub natural_refused : {E : Type 0} (name : List ℕ) (bound : ℕ) (old new : Reading) (e : DecodeError E) → RefusesPlainly (HasMajor 0 1 old) (MajorCause name 0 1) old e new
+    → RefusesPlainly (HasFront (leaf (view_number (natural_below bound))) old) (Narrowed (natural_below bound) (MajorCause name 0 1) name) old e new
 natural_refused name bound old new e r = narrow_refused (natural_below bound) (MajorCause name 0 1) name old new e (number_refused name old new e r)
 
 -- another item stands there
 pub other_item : (E : Type 0) (name : List ℕ) {old new : Reading} {first : ℕ} (bound : ℕ) (kept : Name) → Names kept name → StartsWith old first → Stays old new → 1 < first / 32
-    → Refuses {E = E} (HasFront (leaf (view_number (natural_below bound))) old) ⊥ ⊥ (Narrowed (natural_below bound) (MajorCause name 0 1) name) old (Mismatch kept first) new
+    → RefusesPlainly {E = E} (HasFront (leaf (view_number (natural_below bound))) old) (Narrowed (natural_below bound) (MajorCause name 0 1) name) old (Mismatch kept first) new
 other_item E name {old} {new} {first} bound kept named starts same other = natural_refused {E = E} name bound old new (Mismatch kept first) (other_kind E name 0 1 kept named starts same (λ a b. omega (arith, b, other)))
 
 -- ---- numbers of any size
@@ -130,13 +130,13 @@ no_byte_no_tag : {E : Type 0} (e : DecodeError E) (b : List ℕ) → ByteCause e
 no_byte_no_tag (Eof n expect) b h = λ found more is which. let e : [] ≡ found ∷ more = sym h.1 ∙ is in absurd (cc e)
 no_byte_no_tag _ b h = absurd h
 
-pub big_byte_refused : {E : Type 0} (name : List ℕ) (old new : Reading) (e : DecodeError E) → IsEndNamed name e → Refuses (HasByte old) ⊥ ⊥ ByteCause old e new
-    → Refuses (HasFront (leaf (view_number Some)) old) ⊥ ⊥ (BigCause name) old e new
+pub big_byte_refused : {E : Type 0} (name : List ℕ) (old new : Reading) (e : DecodeError E) → IsEndNamed name e → RefusesPlainly (HasByte old) ByteCause old e new
+    → RefusesPlainly (HasFront (leaf (view_number Some)) old) (BigCause name) old e new
 big_byte_refused name old new e named r = passed_on ByteCause (BigCause name) old old new e (stays old) front_byte (λ x. x) (λ x. x) (λ b l. (b, l, λ h. inl (inl (byte_in_head e b h, end_named name e named, no_byte_begins 0 1 e b h), no_byte_no_tag e b h))) r
 
 -- a tag is no number
 pub no_tag : (E : Type 0) (name : List ℕ) {old mid : Reading} {first : ℕ} (kept : Name) → Names kept name → ShowsByte old first mid → (first ≡ 0xc2) ⊎ (first ≡ 0xc3)
-    → Refuses {E = E} (HasFront (leaf (view_number Some)) old) ⊥ ⊥ (BigCause name) old (Unsupported kept first) mid
+    → RefusesPlainly {E = E} (HasFront (leaf (view_number Some)) old) (BigCause name) old (Unsupported kept first) mid
 no_tag E name {old} {mid} {first} kept named h which = (
   h.same.faults,
   λ i. let k = number_kind Some i in

@@ -2,7 +2,7 @@
 use Rattle.std.proofs.Common.{◌≡◌, inl, inr, ℕ, List, refl, sym, subst, Bool, true, false, zero-le, Option, Some, None, IsTrue, IsUtf8, codes, Result, Err}
 use Rattle.std.specs.Borrow.{Bor}
 use Rattle.dagcbor_heads.specs.Reading.{Reading}
-use Rattle.dagcbor_heads.specs.Refusals.{Refuses}
+use Rattle.dagcbor_heads.specs.Refusals.{RefusesOrLacksMemoryUnlent}
 use Rattle.dagcbor_heads.specs.declared.error.DecodeError.{DecodeError}
 use Rattle.dagcbor_heads.specs.declared.error.DecodeError.TheVariants.{RequireUtf8, UnorderedKey}
 use Rattle.dagcbor_heads.proofs.Taking.{stays}
@@ -30,11 +30,11 @@ key_as_text : {previous : Option (List ℕ)} {r : Reading} → HasKey previous r
 key_as_text h = record { bytes = h.bytes; tree = text h.key; rest = h.rest; left = h.left; front = h.front; accepted = refl; within = zero-le }
 
 -- no whole text stood there
-pub key_text_refused : {E : Type 0} (previous : Option (List ℕ)) (old new : Reading) (e : DecodeError E) → Refuses (HasFront (leaf view_text) old) (old.lends ≡ false) ⊥ (TextCause (codes "map key")) old e new
-    → Refuses (HasKey previous old) (old.lends ≡ false) ⊥ (KeyCause previous) old e new
+pub key_text_refused : {E : Type 0} (previous : Option (List ℕ)) (old new : Reading) (e : DecodeError E) → RefusesOrLacksMemoryUnlent (HasFront (leaf view_text) old) (TextCause (codes "map key")) old e new
+    → RefusesOrLacksMemoryUnlent (HasKey previous old) (KeyCause previous) old e new
 key_text_refused previous old new e r = passed_on (TextCause (codes "map key")) (KeyCause previous) old old new e (stays old) key_as_text (λ x. x) (λ x. x) (λ b l. (b, l, λ h. inl h)) r
 
-pub unordered_refused : (E : Type 0) (previous : Option (List ℕ)) {old new : Reading} (key : List ℕ) → TakesItem 1 old (text key) new → (Follows previous key → ⊥) → Refuses {E = E} (HasKey previous old) (old.lends ≡ false) ⊥ (KeyCause previous) old UnorderedKey new
+pub unordered_refused : (E : Type 0) (previous : Option (List ℕ)) {old new : Reading} (key : List ℕ) → TakesItem 1 old (text key) new → (Follows previous key → ⊥) → RefusesOrLacksMemoryUnlent {E = E} (HasKey previous old) (KeyCause previous) old UnorderedKey new
 unordered_refused E previous {old} {new} key h not_after = (
   h.same.faults,
   λ k. let q = h.taken k.bytes k.left in
@@ -55,7 +55,7 @@ follows_as previous k l e f = subst (Follows previous) e f
 pub no_key_refused : {E : Type 0} (previous : Option (List ℕ)) {old new : Reading} (b : List ℕ)
     (e : DecodeError E) → IsNoKey b e → TakesString 3 old b new
     → (IsUtf8 b → Follows previous b → ⊥)
-    → Refuses {E = E} (HasKey previous old) (old.lends ≡ false) ⊥ (KeyCause previous) old e new
+    → RefusesOrLacksMemoryUnlent {E = E} (HasKey previous old) (KeyCause previous) old e new
 no_key_refused {E} previous {old} {new} b (RequireUtf8 kept) h t other =
     key_text_refused {E = E} previous old new (RequireUtf8 kept)
     (no_text_refused E (codes "map key") b kept h.0 t h.1)
@@ -67,7 +67,7 @@ no_key_refused previous b _ h t other = absurd h
 pub found_refused : {E : Type 0} (previous : Option (List ℕ)) (old new : Reading)
     (found : Result (Bor (List ℕ)) (Bor (List ℕ))) (b : Bor (List ℕ)) (e : DecodeError E)
     → found ≡ Err b → TakesKey previous old found new → IsNoKey b.now e
-    → Refuses {E = E} (HasKey previous old) (old.lends ≡ false) ⊥ (KeyCause previous) old e new
+    → RefusesOrLacksMemoryUnlent {E = E} (HasKey previous old) (KeyCause previous) old e new
 found_refused {E} previous old new found b e is h none =
     let P : Result (Bor (List ℕ)) (Bor (List ℕ)) → Type 0 = λ r. TakesKey previous old r new in
     let k = subst P is h in

@@ -3,7 +3,7 @@ use Rattle.std.proofs.Common.{◌≡◌, ℕ, zero, suc, ◌<◌, List, refl, ar
 use Rattle.dagcbor_heads.specs.Reading.{Reading}
 use Rattle.dagcbor_heads.specs.Fronts.{ShowsByte}
 use Rattle.dagcbor_heads.specs.Causes.{IsNamed}
-use Rattle.dagcbor_heads.specs.Refusals.{Refuses}
+use Rattle.dagcbor_heads.specs.Refusals.{RefusesPlainly}
 use Rattle.dagcbor_heads.specs.declared.error.DecodeError.{DecodeError}
 use Rattle.dagcbor_heads.specs.declared.error.DecodeError.TheVariants.{OutOfMemory}
 use Rattle.dagcbor_items.specs.Majors.{HasMajor, TakesMajor, LacksForString}
@@ -16,7 +16,7 @@ head_lacks text kind left OutOfMemory h = absurd h
 head_lacks text kind left _ h = tt
 
 -- nor is one where no byte of the major type stands
-pub major_lacks : {E : Type 0} (name : List ℕ) (low high kind : ℕ) (left : Option (List ℕ)) (old new : Reading) (e : DecodeError E) → Refuses (HasMajor low high old) ⊥ ⊥ (MajorCause name low high) old e new → LacksForString kind left e
+pub major_lacks : {E : Type 0} (name : List ℕ) (low high kind : ℕ) (left : Option (List ℕ)) (old new : Reading) (e : DecodeError E) → RefusesPlainly (HasMajor low high old) (MajorCause name low high) old e new → LacksForString kind left e
 major_lacks name low high kind left old new OutOfMemory h = absurd h.1
 major_lacks name low high kind left old new _ h = tt
 

@@ -39,7 +39,7 @@ no_simple_value {V} {shape} {old} {first} starts major_7 other i =
     let same : first ≡ k.0 = cc in
     other (omega (arith, same, k.2)) (omega (arith, same, k.3))
 
-pub unsupported_refused : (E lacks : Type 0) (spent : ℕ) (old : Reading) (name : Name) (first : ℕ) → Names name (codes "any") → StartsWith old first → first / 32 ≡ 7 → ((0xf4 ≤ first) → (first ≤ 0xf6) → ⊥) → Refuses {E = E} (HasItem (suc spent) old) lacks ⊥ (CauseInside (old.steps + suc spent)) old (Unsupported name first) old
+pub unsupported_refused : (E lacks : Type 0) (spent : ℕ) (old : Reading) (name : Name) (first : ℕ) → Names name (codes "any") → StartsWith old first → first / 32 ≡ 7 → ((0xf4 ≤ first) → (first ≤ 0xf6) → ⊥) → Refuses {E = E} (record { could = HasItem (suc spent) old; lacks = lacks; borrows = ⊥; stands = CauseInside (old.steps + suc spent) }) old (Unsupported name first) old
 unsupported_refused E lacks spent old name first named starts major_7 other = (
   refl,
   no_simple_value starts major_7 other,
@@ -47,7 +47,7 @@ unsupported_refused E lacks spent old name first named starts major_7 other = (
 )
 
 -- an indefinite length, or a break
-pub indefinite_refused : (E lacks : Type 0) (spent : ℕ) {old new : Reading} {first : ℕ} → ShowsByte old first new → first % 32 ≡ 31 → Refuses {E = E} (HasItem (suc spent) old) lacks ⊥ (CauseInside (old.steps + suc spent)) old IndefiniteSize new
+pub indefinite_refused : (E lacks : Type 0) (spent : ℕ) {old new : Reading} {first : ℕ} → ShowsByte old first new → first % 32 ≡ 31 → Refuses {E = E} (record { could = HasItem (suc spent) old; lacks = lacks; borrows = ⊥; stands = CauseInside (old.steps + suc spent) }) old IndefiniteSize new
 indefinite_refused E lacks spent {old} {new} {first} h e = (
   h.same.faults,
   λ i. let f = front_first i.bytes i.rest i.tree i.front in

@@ -5,7 +5,7 @@ use Rattle.dagcbor_heads.specs.Names.{Names}
 use Rattle.dagcbor_heads.specs.Reading.{Reading}
 use Rattle.dagcbor_heads.specs.Fronts.{HasByte, HasHead, HasPayload, ShowsByte, Takes}
 use Rattle.dagcbor_heads.specs.Causes.{ByteCause, HeadCause, PayloadCause, IsEndNamed, IsNamed}
-use Rattle.dagcbor_heads.specs.Refusals.{Refuses}
+use Rattle.dagcbor_heads.specs.Refusals.{RefusesPlainly}
 use Rattle.dagcbor_heads.specs.declared.name.Name.{Name}
 use Rattle.dagcbor_heads.specs.declared.error.DecodeError.{DecodeError}
 use Rattle.dagcbor_heads.specs.declared.error.DecodeError.TheVariants.{Msg, Eof, Unsupported}
@@ -37,7 +37,7 @@ no_byte : {E : Type 0} (name other : List ℕ) (wanted : ℕ) (e : DecodeError E
 no_byte name other wanted (Eof kept expect) b named h = (h.0, h.1, named)
 no_byte name other wanted _ b named h = absurd h
 
-pub wanted_refused : {E : Type 0} (name other : List ℕ) (wanted : ℕ) (old new : Reading) (e : DecodeError E) → IsEndNamed name e → Refuses (HasByte old) ⊥ ⊥ ByteCause old e new → Refuses (HasWanted wanted old) ⊥ ⊥ (IsOtherByte name other wanted) old e new
+pub wanted_refused : {E : Type 0} (name other : List ℕ) (wanted : ℕ) (old new : Reading) (e : DecodeError E) → IsEndNamed name e → RefusesPlainly (HasByte old) ByteCause old e new → RefusesPlainly (HasWanted wanted old) (IsOtherByte name other wanted) old e new
 wanted_refused name other wanted old new e named r = passed_on ByteCause (IsOtherByte name other wanted) old old new e (stays old) wanted_byte (λ x. x) (λ x. x) (λ b l. (b, l, no_byte name other wanted e b named)) r
 
 -- ---- behind the tag
@@ -58,14 +58,14 @@ cid_first h =
 cid_byte : {r : Reading} → HasCid r → HasByte r
 cid_byte h = let f = cid_first h in record { byte = 32 * 2 + f.0; rest = f.1; left = h.left ∙ ap Some f.3 }
 
-pub cid_byte_refused : {E : Type 0} (old new : Reading) (e : DecodeError E) → IsEndNamed (codes "cid") e → Refuses (HasByte old) ⊥ ⊥ ByteCause old e new → Refuses (HasCid old) ⊥ ⊥ LinkBytesCause old e new
+pub cid_byte_refused : {E : Type 0} (old new : Reading) (e : DecodeError E) → IsEndNamed (codes "cid") e → RefusesPlainly (HasByte old) ByteCause old e new → RefusesPlainly (HasCid old) LinkBytesCause old e new
 cid_byte_refused old new e named r = passed_on ByteCause LinkBytesCause old old new e (stays old) cid_byte (λ x. x) (λ x. x) (λ b l. (b, l, λ h. inl (byte_in_head e b h, none e b h, end_named (codes "cid") e named))) r
   where
     none : {E : Type 0} (e : DecodeError E) (b : List ℕ) → ByteCause e b → BeginsAs 2 b
     none (Eof n expect) b h = λ first more is. absurd (cc (is, h.1))
     none _ b h = absurd h
 
-pub cid_head_refused : {E : Type 0} (old new : Reading) (e : DecodeError E) → StartsWithMajor old 2 → IsNamed (codes "cid") e → Refuses (HasHead old) ⊥ ⊥ HeadCause old e new → Refuses (HasCid old) ⊥ ⊥ LinkBytesCause old e new
+pub cid_head_refused : {E : Type 0} (old new : Reading) (e : DecodeError E) → StartsWithMajor old 2 → IsNamed (codes "cid") e → RefusesPlainly (HasHead old) HeadCause old e new → RefusesPlainly (HasCid old) LinkBytesCause old e new
 cid_head_refused old new e starts named r = passed_on HeadCause LinkBytesCause old old new e (stays old) cid_head (λ x. x) (λ x. x) (λ b l. (b, l, λ h. inl (h, begins b l, named))) r
   where
     begins : (b : List ℕ) → old.left ≡ Some b → BeginsAs 2 b
@@ -74,7 +74,7 @@ cid_head_refused old new e starts named r = passed_on HeadCause LinkBytesCause o
         let same : first ≡ s.0 = cc (is, s.2) in
         omega (arith, same, s.3)
 
-pub no_byte_string : (E : Type 0) {old new : Reading} {first : ℕ} (name : Name) → Names name (codes "cid") → ShowsByte old first new → (first / 32 ≡ 2 → ⊥) → Refuses {E = E} (HasCid old) ⊥ ⊥ LinkBytesCause old (Unsupported name first) new
+pub no_byte_string : (E : Type 0) {old new : Reading} {first : ℕ} (name : Name) → Names name (codes "cid") → ShowsByte old first new → (first / 32 ≡ 2 → ⊥) → RefusesPlainly {E = E} (HasCid old) LinkBytesCause old (Unsupported name first) new
 no_byte_string E {old} {new} {first} name named h other = (
   h.same.faults,
   λ k. let f = cid_first k in
@@ -103,8 +103,8 @@ behind_head {old} {mid} {n} h i =
 abbrev pub IsInvalidCid : {E : Type 0} → DecodeError E → Type 0
 IsInvalidCid e = (message : Name) × (e ≡ Msg message) × Names message (codes "Invalid CID")
 
-pub link_too_long : {E : Type 0} {old mid : Reading} {n : ℕ} (e : DecodeError E) → IsInvalidCid e → TakesHeadOf old 2 n mid → 87 < n → Refuses (HasCid old) ⊥ ⊥ LinkBytesCause old e mid
-link_too_long {E} {old} {mid} {n} e is h more = subst (λ x. Refuses {E = E} (HasCid old) ⊥ ⊥ LinkBytesCause old x mid) (sym is.1) (
+pub link_too_long : {E : Type 0} {old mid : Reading} {n : ℕ} (e : DecodeError E) → IsInvalidCid e → TakesHeadOf old 2 n mid → 87 < n → RefusesPlainly (HasCid old) LinkBytesCause old e mid
+link_too_long {E} {old} {mid} {n} e is h more = subst (λ x. RefusesPlainly {E = E} (HasCid old) LinkBytesCause old x mid) (sym is.1) (
   h.same.faults,
   λ i. let k = behind_head h i in omega (arith, cid_length k.cid k.is_cid, k.long, more),
   λ b l. let k = h.taken b l in inr (is.2, (n, k.0, h.fits, k.1, inl more)),
@@ -114,13 +114,13 @@ cut_stands : {E : Type 0} (e : DecodeError E) (b c : List ℕ) (n : ℕ) → n <
 cut_stands (Eof name expect) b c n fits most e named h = inr (n, c, fits, e, h.1, h.0, most, named)
 cut_stands _ b c n fits most e named h = absurd h
 
-pub cid_payload_refused : {E : Type 0} {old mid : Reading} {n : ℕ} (new : Reading) (e : DecodeError E) → TakesHeadOf old 2 n mid → n ≤ 87 → IsEndNamed (codes "cid") e → Refuses (HasPayload n mid) ⊥ ⊥ (PayloadCause n) mid e new → Refuses (HasCid old) ⊥ ⊥ LinkBytesCause old e new
+pub cid_payload_refused : {E : Type 0} {old mid : Reading} {n : ℕ} (new : Reading) (e : DecodeError E) → TakesHeadOf old 2 n mid → n ≤ 87 → IsEndNamed (codes "cid") e → RefusesPlainly (HasPayload n mid) (PayloadCause n) mid e new → RefusesPlainly (HasCid old) LinkBytesCause old e new
 cid_payload_refused {E} {old} {mid} {n} new e h most named r = passed_on (PayloadCause n) LinkBytesCause old mid new e h.same
     (λ i. let k = behind_head h i in record { payload = 0x00 ∷ k.cid; rest = k.rest; long = k.long; left = k.left }) (λ x. x) (λ x. x)
     (λ b l. let k = h.taken b l in (k.0, k.2, cut_stands e b k.0 n h.fits most k.1 named)) r
 
-pub no_cid : {E : Type 0} {old mid new : Reading} {n : ℕ} (e : DecodeError E) (s : List ℕ) → IsInvalidCid e → TakesHeadOf old 2 n mid → length s ≡ n → Takes mid s new → IsZeroAndCid s None → Refuses (HasCid old) ⊥ ⊥ LinkBytesCause old e new
-no_cid {E} {old} {mid} {new} {n} e s is h long p other = subst (λ x. Refuses {E = E} (HasCid old) ⊥ ⊥ LinkBytesCause old x new) (sym is.1) (
+pub no_cid : {E : Type 0} {old mid new : Reading} {n : ℕ} (e : DecodeError E) (s : List ℕ) → IsInvalidCid e → TakesHeadOf old 2 n mid → length s ≡ n → Takes mid s new → IsZeroAndCid s None → RefusesPlainly (HasCid old) LinkBytesCause old e new
+no_cid {E} {old} {mid} {new} {n} e s is h long p other = subst (λ x. RefusesPlainly {E = E} (HasCid old) LinkBytesCause old x new) (sym is.1) (
   p.same.faults ∙ h.same.faults,
   λ i. let k = behind_head h i in
       let q = p.taken _ k.left in
@@ -174,7 +174,7 @@ behind_first h i =
     let same : 0x2a ∷ (bytes_spelling (0x00 ∷ i.cid) ++ i.rest) ≡ k.0 = cc is in
     k.2 ∙ ap Some (sym same)
 
-link_cid_refused : {E : Type 0} {old mid tagged : Reading} (new : Reading) (e : DecodeError E) → Takes old (0xd8 ∷ []) mid → Takes mid (0x2a ∷ []) tagged → Refuses (HasCid tagged) ⊥ ⊥ LinkBytesCause tagged e new → Refuses (HasFront (leaf view_link) old) ⊥ ⊥ LinkCause old e new
+link_cid_refused : {E : Type 0} {old mid tagged : Reading} (new : Reading) (e : DecodeError E) → Takes old (0xd8 ∷ []) mid → Takes mid (0x2a ∷ []) tagged → RefusesPlainly (HasCid tagged) LinkBytesCause tagged e new → RefusesPlainly (HasFront (leaf view_link) old) LinkCause old e new
 link_cid_refused {E} {old} {mid} {tagged} new e h p r = passed_on LinkBytesCause LinkCause old tagged new e (stays_both h.same p.same)
     (λ f. let i = link_stands f in
     let q = p.taken _ (behind_first h i) in
@@ -214,6 +214,6 @@ link_front {V} {shape} {old} starts i =
     let l = is_link i.tree (major_of_front i.bytes i.rest i.tree 6 (starts i.bytes i.left) i.front) in
     record { bytes = i.bytes; tree = i.tree; rest = i.rest; left = i.left; front = i.front; accepted = ap (λ t. is_some (view_link t)) l.1; within = zero-le }
 
-pub link_refused : {E : Type 0} (old new : Reading) (e : DecodeError E) → StartsWithMajor old 6 → Refuses (HasFront (leaf view_link) old) ⊥ ⊥ LinkCause old e new → Refuses (HasItem 1 old) ⊥ ⊥ (CauseInside (old.steps + 1)) old e new
+pub link_refused : {E : Type 0} (old new : Reading) (e : DecodeError E) → StartsWithMajor old 6 → RefusesPlainly (HasFront (leaf view_link) old) LinkCause old e new → RefusesPlainly (HasItem 1 old) (CauseInside (old.steps + 1)) old e new
 link_refused old new e starts r = passed_on LinkCause (CauseInside (old.steps + 1)) old old new e (stays old) (link_front starts) (λ x. x) (λ x. x)
     (λ b l. (b, l, λ h. cause_here _ e b (omega arith) (inr (inr (starts b l, h))))) r

@@ -2,7 +2,7 @@
 use Rattle.std.proofs.Common.{◌≡◌, inl, inr, ℕ, ◌+◌, ◌-◌, ◌^◌, ◌<◌, List, ◌++◌, refl, sym, ap, ◌∙◌, subst, arith, append_assoc, String, BTreeMap, Global, false, is_err, Option, Some, None, Result, Ok, Err, OnOk}
 use Rattle.dagcbor_heads.specs.Head.{head}
 use Rattle.dagcbor_heads.specs.Reading.{Reading, with_steps}
-use Rattle.dagcbor_heads.specs.Refusals.{Refuses}
+use Rattle.dagcbor_heads.specs.Refusals.{RefusesOrLacksMemoryUnlent, Refuses}
 use Rattle.dagcbor_heads.specs.declared.error.DecodeError.{DecodeError}
 use Rattle.dagcbor_heads.proofs.Taking.{stays, stays_both}
 use Rattle.dagcbor_heads.proofs.Refusing.{passed_on}
@@ -58,7 +58,7 @@ next_entries {old} {now} {count} {left} {es} {previous} s i =
     }
 
 pub next_key_refused : {E lacks' : Type 0} {old now : Reading} {count left : ℕ} {es : Entries} {previous : Option (List ℕ)} (new : Reading) (e : DecodeError E) → 0 < left → ReadEntries count left old es previous now → (now.lends ≡ false → lacks')
-    → Refuses (HasKey previous now) (now.lends ≡ false) ⊥ (KeyCause previous) now e new → Refuses (HasEntries count old) lacks' ⊥ (CauseInEntries count old.steps) old e new
+    → RefusesOrLacksMemoryUnlent (HasKey previous now) (KeyCause previous) now e new → Refuses (record { could = HasEntries count old; lacks = lacks'; borrows = ⊥; stands = CauseInEntries count old.steps }) old e new
 next_key_refused {E} {lacks'} {old} {now} {count} {left} {es} {previous} new e more s w r = passed_on (KeyCause previous) (CauseInEntries count old.steps) old now new e s.takes.same (λ i. row_key more (next_entries s i)) w (λ x. x)
     (λ b l. let k = s.takes.taken b l in (k.0, k.3, λ here. (es, k.0, k.1, omega (arith, s.counted, more), inl (subst (λ p. KeyCause {E = E} p e k.0) (sym s.last) here)))) r
 
@@ -70,7 +70,7 @@ next_value key more s a i =
     record { bytes = v.2; tree = v.0; rest = entries_spelling v.1 ++ row.rest; left = v.4; front = v.5; accepted = refl; within = omega (arith, row.within, ap entries_need v.3, a.same.steps) }
 
 pub next_value_refused : {E lacks lacks' : Type 0} {old now mid : Reading} {count left : ℕ} {es : Entries} {previous : Option (List ℕ)} (key : List ℕ) (new : Reading) (e : DecodeError E) → 0 < left → ReadEntries count left old es previous now → Follows previous key → TakesItem 1 now (text key) mid → (lacks → lacks')
-    → Refuses (HasItem 0 mid) lacks ⊥ (CauseInside (mid.steps + 0)) mid e new → Refuses (HasEntries count old) lacks' ⊥ (CauseInEntries count old.steps) old e new
+    → Refuses (record { could = HasItem 0 mid; lacks = lacks; borrows = ⊥; stands = CauseInside (mid.steps + 0) }) mid e new → Refuses (record { could = HasEntries count old; lacks = lacks'; borrows = ⊥; stands = CauseInEntries count old.steps }) old e new
 next_value_refused {E} {lacks} {lacks'} {old} {now} {mid} {count} {left} {es} {previous} key new e more s f a w r = passed_on (CauseInside (mid.steps + 0)) (CauseInEntries count old.steps) old mid new e
     (stays_both s.takes.same a.same) (next_value key more s a) w (λ x. x)
     (λ b l. let k = s.takes.taken b l in let q = a.taken k.0 k.3 in (
@@ -119,7 +119,7 @@ map_entries {old} {mid} {n} starts h i =
     let l = is_map_at starts i in
     entries_entered l.0 h i.left (subst (λ t. IsFront i.bytes t i.rest) l.1 i.front) refl (omega (arith, i.within, ap any_need l.1, h.takes.same.steps))
 
-pub map_refused : {E lacks lacks' : Type 0} {old mid : Reading} (new : Reading) (n : ℕ) (e : DecodeError E) → StartsWithMajor old 5 → Enters 5 n old mid → (lacks → lacks') → Refuses (HasEntries n mid) lacks ⊥ (CauseInEntries n mid.steps) mid e new → Refuses (HasItem 1 old) lacks' ⊥ (CauseInside (old.steps + 1)) old e new
+pub map_refused : {E lacks lacks' : Type 0} {old mid : Reading} (new : Reading) (n : ℕ) (e : DecodeError E) → StartsWithMajor old 5 → Enters 5 n old mid → (lacks → lacks') → Refuses (record { could = HasEntries n mid; lacks = lacks; borrows = ⊥; stands = CauseInEntries n mid.steps }) mid e new → Refuses (record { could = HasItem 1 old; lacks = lacks'; borrows = ⊥; stands = CauseInside (old.steps + 1) }) old e new
 map_refused {E} {lacks} {lacks'} {old} {mid} new n e starts h w r = stepped_refused new 1 e (spent_step h) w (passed_on (CauseInEntries n mid.steps) (CauseInside (old.steps - 1 + 2)) (with_steps (old.steps - 1) old) mid new e h.takes.same (map_entries starts h) (λ x. x) (λ x. x)
     (λ b l. let k = h.takes.taken b l in (k.0, k.2, λ s. at_steps {E = E} e b _ _ (omega (arith, h.takes.same.steps)) (in_map n mid.steps e b k.0 h.fits k.1 s))) r)
 

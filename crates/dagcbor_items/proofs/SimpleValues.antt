@@ -3,7 +3,7 @@ use Rattle.std.proofs.Common.{◌≡◌, ℕ, List, [], ◌∷◌, ◌++◌, Boo
 use Rattle.dagcbor_heads.specs.Reading.{Reading}
 use Rattle.dagcbor_heads.specs.Fronts.{HasByte, Takes}
 use Rattle.dagcbor_heads.specs.Causes.{ByteCause, IsEndNamed}
-use Rattle.dagcbor_heads.specs.Refusals.{Refuses}
+use Rattle.dagcbor_heads.specs.Refusals.{RefusesPlainly}
 use Rattle.dagcbor_heads.specs.declared.error.DecodeError.{DecodeError}
 use Rattle.dagcbor_heads.specs.declared.error.DecodeError.TheVariants.{Eof}
 use Rattle.dagcbor_heads.proofs.Taking.{stays}
@@ -35,7 +35,7 @@ null_byte : {r : Reading} → HasFront (leaf view_null) r → HasWanted 0xf6 r
 null_byte h = record { rest = h.rest; left = h.left ∙ ap Some (h.front.is ∙ ap (λ t. spelling t ++ h.rest) (is_null h.tree h.accepted)) }
 
 pub null_read : {E : Type 0} (old new : Reading) (result : Result (Unit {0}) (DecodeError E))
-    → MatchResult result (λ _. Takes old (0xf6 ∷ []) new) (λ e. Refuses (HasWanted 0xf6 old) ⊥ ⊥ (IsOtherByte (codes "unit") (codes "unit") 0xf6) old e new)
+    → MatchResult result (λ _. Takes old (0xf6 ∷ []) new) (λ e. RefusesPlainly (HasWanted 0xf6 old) (IsOtherByte (codes "unit") (codes "unit") 0xf6) old e new)
     → ReadsNull old result new
 null_read old new (Ok u) h = spelling_taken view_null null u tt tt refl h
 null_read old new (Err e) h = passed_on (IsOtherByte (codes "unit") (codes "unit") 0xf6) (IsOtherByte (codes "unit") (codes "unit") 0xf6) old old new e (stays old) null_byte (λ x. x) (λ x. x) (λ b l. (b, l, λ s. s)) h
@@ -49,5 +49,5 @@ no_byte : {E : Type 0} (e : DecodeError E) (b : List ℕ) → IsEndNamed (codes 
 no_byte (Eof name expect) b named h = (h.0, h.1, named)
 no_byte _ b named h = absurd h
 
-pub bool_byte_refused : {E : Type 0} (old new : Reading) (e : DecodeError E) → IsEndNamed (codes "bool") e → Refuses (HasByte old) ⊥ ⊥ ByteCause old e new → Refuses (HasFront (leaf view_bool) old) ⊥ ⊥ BoolCause old e new
+pub bool_byte_refused : {E : Type 0} (old new : Reading) (e : DecodeError E) → IsEndNamed (codes "bool") e → RefusesPlainly (HasByte old) ByteCause old e new → RefusesPlainly (HasFront (leaf view_bool) old) BoolCause old e new
 bool_byte_refused old new e named r = passed_on ByteCause BoolCause old old new e (stays old) front_byte (λ x. x) (λ x. x) (λ b l. (b, l, no_byte e b named)) r

@@ -5,7 +5,7 @@ use Rattle.std.specs.declared.convert.Infallible.{Infallible}
 use Rattle.dagcbor_heads.specs.Reading.{Reading}
 use Rattle.dagcbor_heads.specs.Fronts.{FindsEnd, ShowsByte}
 use Rattle.dagcbor_heads.specs.Causes.{HeadCause}
-use Rattle.dagcbor_heads.specs.Refusals.{Refuses}
+use Rattle.dagcbor_heads.specs.Refusals.{RefusesOrLacksMemory, Refuses}
 use Rattle.dagcbor_heads.specs.declared.name.Name.{Name}
 use Rattle.dagcbor_heads.specs.declared.error.DecodeError.{DecodeError}
 use Rattle.dagcbor_heads.specs.declared.error.DecodeError.TheVariants.{Read, RequireBorrowed, OutOfMemory, Failed, TrailingData, DepthOverflow, UnorderedKey}
@@ -122,7 +122,7 @@ no_loan E n = record { deep = λ l b x. x; head = λ b x. x; kind = λ n l h b x
 no_failure : (E : Type 0) → IsCauseless {E = E} Failed
 no_failure E = record { deep = λ l b x. x; head = λ b x. x; kind = λ n l h b x. x; cut = λ n k b x. x; garbled = λ n b x. x; simple = λ b x. x; byte = λ n o w b x. x; cid = λ b x. x; key = λ is. absurd (cc is) }
 
-pub slice_refused : (e : DecodeError Infallible) (old new : Reading) (b : List ℕ) → old.left ≡ Some b → old.steps ≡ 256 → Refuses (HasItem 0 old) ⊤ ⊥ (CauseInside (old.steps + 0)) old e new → SliceRefused e b
+pub slice_refused : (e : DecodeError Infallible) (old new : Reading) (b : List ℕ) → old.left ≡ Some b → old.steps ≡ 256 → RefusesOrLacksMemory (HasItem 0 old) (CauseInside (old.steps + 0)) old e new → SliceRefused e b
 slice_refused (Read x) old new b l s r = elim x [ ]
 slice_refused OutOfMemory old new b l s r = tt
 slice_refused (RequireBorrowed n) old new b l s r = absurd r.1
@@ -175,7 +175,7 @@ wanting : (takes_memory : Bool) (old : Reading) (b : List ℕ) → old.left ≡ 
 wanting takes_memory old b l lends (inl x) = absurd (let differ = sym lends ∙ x in cc)
 wanting takes_memory old b l lends (inr x) = (x.0, x.1 b l)
 
-item_refused : (takes_memory : Bool) (e : DecodeError Infallible) (old new : Reading) (b : List ℕ) → old.left ≡ Some b → old.steps ≡ 256 → old.lends ≡ true → Refuses (HasItem 0 old) (WalkLacks takes_memory old) ⊥ (CauseInside (old.steps + 0)) old e new → LinksRefused e b
+item_refused : (takes_memory : Bool) (e : DecodeError Infallible) (old new : Reading) (b : List ℕ) → old.left ≡ Some b → old.steps ≡ 256 → old.lends ≡ true → Refuses (record { could = HasItem 0 old; lacks = WalkLacks takes_memory old; borrows = ⊥; stands = CauseInside (old.steps + 0) }) old e new → LinksRefused e b
 item_refused takes_memory (Read x) old new b l s lends r = elim x [ ]
 item_refused takes_memory OutOfMemory old new b l s lends r = (wanting takes_memory old b l lends r.1).1
 item_refused takes_memory (RequireBorrowed n) old new b l s lends r = absurd r.1
@@ -193,6 +193,6 @@ pub walk_refused : {S : Type 0} (sink : Sink S) (b : List ℕ) (old new : Readin
     → RefusesWalk sink (HasItem 0 old) (CauseInside (old.steps + 0)) old before e new after → RefusesFirst sink b before e after
 walk_refused sink b old new before after e l s lends r = record {
   refused = item_refused sink.takes_memory e old new b l s lends r.refuses;
-  lacks = λ same. (wanting sink.takes_memory old b l lends (subst (λ x. Refuses (HasItem 0 old) (WalkLacks sink.takes_memory old) ⊥ (CauseInside (old.steps + 0)) old x new) same r.refuses).1).0;
+  lacks = λ same. (wanting sink.takes_memory old b l lends (subst (λ x. Refuses (record { could = HasItem 0 old; lacks = WalkLacks sink.takes_memory old; borrows = ⊥; stands = CauseInside (old.steps + 0) }) old x new) same r.refuses).1).0;
   handed = subst (λ left. HandsLinks sink left before after) l r.handed;
 }

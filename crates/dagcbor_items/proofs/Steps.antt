@@ -21,16 +21,16 @@ need_positive _ = omega arith
 
 -- no step is left for what stands there
 pub too_deep : {E : Type 0} (lacks : Type 0) (spent : ℕ) {text : List ℕ} {old new : Reading} (e : DecodeError E) → NoStep text old e new → ((i : HasItem spent old) → spent + 1 ≤ any_need i.tree)
-    → ((n : Name) → Names n text → (b : List ℕ) → old.left ≡ Some b → IsTooDeep {E = E} spent (DepthOverflow n) b) → Refuses (HasItem spent old) lacks ⊥ (CauseInside (old.steps + spent)) old e new
+    → ((n : Name) → Names n text → (b : List ℕ) → old.left ≡ Some b → IsTooDeep {E = E} spent (DepthOverflow n) b) → Refuses (record { could = HasItem spent old; lacks = lacks; borrows = ⊥; stands = CauseInside (old.steps + spent) }) old e new
 too_deep {E} lacks spent {text} {old} e h deep cause = no_step_refused lacks ⊥ (CauseInside (old.steps + spent)) e (stays old) h (λ i. omega (arith, i.within, deep i))
     (λ n named b l. at_steps {E = E} (DepthOverflow n) b spent _ (omega (arith, h.none)) (stands_here {E = E} spent (DepthOverflow n) b (inl (cause n named b l))))
 
-pub no_step_left : {E : Type 0} (lacks : Type 0) {old new : Reading} (e : DecodeError E) → NoStep (codes "any") old e new → Refuses (HasItem 0 old) lacks ⊥ (CauseInside (old.steps + 0)) old e new
+pub no_step_left : {E : Type 0} (lacks : Type 0) {old new : Reading} (e : DecodeError E) → NoStep (codes "any") old e new → Refuses (record { could = HasItem 0 old; lacks = lacks; borrows = ⊥; stands = CauseInside (old.steps + 0) }) old e new
 no_step_left lacks e h = too_deep lacks 0 e h (λ i. need_positive i.tree) (λ n named b l. inl (refl, named))
 
 -- a call that may lack memory refuses what one refuses that lacks less
-pub more_lacks : {E : Type 0} {lacks : Type 0} (lacks' : Type 0) (spent : ℕ) (old new : Reading) (e : DecodeError E) → (lacks → lacks') → Refuses (HasItem spent old) lacks ⊥ (CauseInside (old.steps + spent)) old e new
-    → Refuses (HasItem spent old) lacks' ⊥ (CauseInside (old.steps + spent)) old e new
+pub more_lacks : {E : Type 0} {lacks : Type 0} (lacks' : Type 0) (spent : ℕ) (old new : Reading) (e : DecodeError E) → (lacks → lacks') → Refuses (record { could = HasItem spent old; lacks = lacks; borrows = ⊥; stands = CauseInside (old.steps + spent) }) old e new
+    → Refuses (record { could = HasItem spent old; lacks = lacks'; borrows = ⊥; stands = CauseInside (old.steps + spent) }) old e new
 more_lacks lacks' spent old new e w r = passed_on (CauseInside (old.steps + spent)) (CauseInside (old.steps + spent)) old old new e (stays old) (λ x. x) w (λ x. x) (λ b l. (b, l, λ h. h)) r
 
 -- ---- a step was spent
@@ -55,7 +55,7 @@ steps_same : {old stepped : Reading} (spent : ℕ) → SpentStep old stepped →
 steps_same spent s = omega (arith, s.some, ap (λ (r : Reading). r.steps) s.is)
 
 pub stepped_refused : {E lacks lacks' : Type 0} {old stepped : Reading} (new : Reading) (spent : ℕ) (e : DecodeError E) → SpentStep old stepped → (lacks → lacks')
-    → Refuses (HasItem (spent + 1) stepped) lacks ⊥ (CauseInside (stepped.steps + (spent + 1))) stepped e new → Refuses (HasItem spent old) lacks' ⊥ (CauseInside (old.steps + spent)) old e new
+    → Refuses (record { could = HasItem (spent + 1) stepped; lacks = lacks; borrows = ⊥; stands = CauseInside (stepped.steps + (spent + 1)) }) stepped e new → Refuses (record { could = HasItem spent old; lacks = lacks'; borrows = ⊥; stands = CauseInside (old.steps + spent) }) old e new
 stepped_refused {E} {lacks} {lacks'} {old} {stepped} new spent (Read e) s k r = omega (arith, ap (λ (r : Reading). r.faults) s.is, r)
 stepped_refused {E} {lacks} {lacks'} {old} {stepped} new spent OutOfMemory s k r = (r.0 ∙ ap (λ (r : Reading). r.faults) s.is, k r.1)
 stepped_refused {E} {lacks} {lacks'} {old} {stepped} new spent (RequireBorrowed n) s k r = absurd r.1

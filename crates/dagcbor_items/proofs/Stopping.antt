@@ -2,7 +2,7 @@
 use Rattle.std.proofs.Common.{◌≡◌, inl, inr, ℕ, ◌+◌, ◌-◌, ◌<◌, ◌≤◌, List, false, true, sym, ◌∙◌, subst, arith, Option, Some, codes}
 use Rattle.std.specs.declared.convert.Infallible.{Infallible}
 use Rattle.dagcbor_heads.specs.Reading.{Reading}
-use Rattle.dagcbor_heads.specs.Refusals.{Refuses}
+use Rattle.dagcbor_heads.specs.Refusals.{RefusesOrLacksMemoryUnlent, Refuses}
 use Rattle.dagcbor_heads.specs.Splits.{SplitsHead}
 use Rattle.dagcbor_heads.specs.declared.error.DecodeError.{DecodeError}
 use Rattle.dagcbor_heads.specs.declared.error.DecodeError.TheVariants.{Read, RequireBorrowed, OutOfMemory, Failed, DepthOverflow, UnorderedKey}
@@ -24,7 +24,7 @@ use Rattle.dagcbor_items.proofs.Places.{at_steps, in_list, in_map}
 -- with no want of memory, a refusal over a slice names a cause that stands
 pub cause_named : (could lacks : Type 0) (stands : DecodeError Infallible → List ℕ → Type 0)
     (b : List ℕ) (old new : Reading) (e : DecodeError Infallible) → old.left ≡ Some b
-    → (lacks → ⊥) → Refuses could lacks ⊥ stands old e new → stands e b
+    → (lacks → ⊥) → Refuses (record { could = could; lacks = lacks; borrows = ⊥; stands = stands }) old e new → stands e b
 cause_named could lacks stands b old new (Read x) l enough r = elim x [ ]
 cause_named could lacks stands b old new OutOfMemory l enough r = absurd (enough r.1)
 cause_named could lacks stands b old new (RequireBorrowed n) l enough r = absurd r.1
@@ -35,7 +35,7 @@ cause_named could lacks stands b old new e l enough r = r.2 b l
 -- the walk of an item that takes no memory is refused
 pub item_named : (b : List ℕ) (steps : ℕ) (old new : Reading) (e : DecodeError Infallible)
     → old.left ≡ Some b → old.steps ≡ steps → old.lends ≡ true
-    → Refuses (HasItem 0 old) (WalkLacks false old) ⊥ (CauseInside (old.steps + 0)) old e new
+    → Refuses (record { could = HasItem 0 old; lacks = WalkLacks false old; borrows = ⊥; stands = CauseInside (old.steps + 0) }) old e new
     → CauseInside steps e b
 item_named b steps old new e l s lends r =
     at_steps {E = Infallible} e b (old.steps + 0) steps (omega (arith, s))
@@ -48,7 +48,7 @@ item_named b steps old new e l s lends r =
 -- no key is read
 pub key_named : (previous : Option (List ℕ)) (b : List ℕ) (old new : Reading)
     (e : DecodeError Infallible) → old.left ≡ Some b → old.lends ≡ true
-    → Refuses (HasFront (leaf view_text) old) (old.lends ≡ false) ⊥ (TextCause (codes "map key")) old e new
+    → RefusesOrLacksMemoryUnlent (HasFront (leaf view_text) old) (TextCause (codes "map key")) old e new
     → KeyCause previous e b
 key_named previous b old new e l lends r =
     inl (cause_named (HasFront (leaf view_text) old) (old.lends ≡ false) (TextCause (codes "map key")) b old new e l (λ x. let differ = sym lends ∙ x in cc) r)

@@ -72,7 +72,7 @@ text_front = string_front 3 view_text text (λ s. refl) is_text
 pub text_taken : {old new : Reading} (s : List ℕ) → TakesFront (leaf view_text) old s new → TakesItem 1 old (text s) new
 text_taken = string_taken view_text text shown_text (λ s. refl)
 
-pub text_refused : {E : Type 0} (lacks : Type 0) (old new : Reading) (e : DecodeError E) → StartsWithMajor old 3 → Refuses (HasFront (leaf view_text) old) lacks ⊥ (TextCause (codes "string")) old e new → Refuses (HasItem 1 old) lacks ⊥ (CauseInside (old.steps + 1)) old e new
+pub text_refused : {E : Type 0} (lacks : Type 0) (old new : Reading) (e : DecodeError E) → StartsWithMajor old 3 → Refuses (record { could = HasFront (leaf view_text) old; lacks = lacks; borrows = ⊥; stands = TextCause (codes "string") }) old e new → Refuses (record { could = HasItem 1 old; lacks = lacks; borrows = ⊥; stands = CauseInside (old.steps + 1) }) old e new
 text_refused lacks old new e starts r =
     passed_on (TextCause (codes "string")) (CauseInside (old.steps + 1)) old old new e (stays old) (text_front starts) (λ x. x) (λ x. x) (λ b l. (b, l, text_stands _ (omega arith) e b (starts b l))) r
 
@@ -90,7 +90,7 @@ bytes_taken = string_taken view_bytes bytes shown_bytes (λ s. refl)
 pub bytes_as_tree : {old new : Reading} (v : Vec ℕ Global) → TakesFront (leaf view_bytes) old v.items new → TakesItem 1 old (tree_of (Bytes' v)) new
 bytes_as_tree {old} {new} v h = as_tree (bytes v.items) _ (tree_of_Bytes v) (bytes_taken v.items h)
 
-pub bytes_refused : {E : Type 0} (lacks : Type 0) (old new : Reading) (e : DecodeError E) → StartsWithMajor old 2 → Refuses (HasFront (leaf view_bytes) old) lacks ⊥ (StringCause (codes "bytes") 2) old e new → Refuses (HasItem 1 old) lacks ⊥ (CauseInside (old.steps + 1)) old e new
+pub bytes_refused : {E : Type 0} (lacks : Type 0) (old new : Reading) (e : DecodeError E) → StartsWithMajor old 2 → Refuses (record { could = HasFront (leaf view_bytes) old; lacks = lacks; borrows = ⊥; stands = StringCause (codes "bytes") 2 }) old e new → Refuses (record { could = HasItem 1 old; lacks = lacks; borrows = ⊥; stands = CauseInside (old.steps + 1) }) old e new
 bytes_refused lacks old new e starts r =
     passed_on (StringCause (codes "bytes") 2) (CauseInside (old.steps + 1)) old old new e (stays old) (bytes_front starts) (λ x. x) (λ x. x) (λ b l. (b, l, bytes_stand _ (omega arith) e b (starts b l))) r
 

@@ -7,7 +7,7 @@ use Rattle.dagcbor_heads.specs.Names.{Names}
 use Rattle.dagcbor_heads.specs.Reading.{Reading, Stays}
 use Rattle.dagcbor_heads.specs.Fronts.{HasHead, HasPayload, ShowsByte, Takes}
 use Rattle.dagcbor_heads.specs.Causes.{HeadCause, PayloadCause, IsNamed, IsPayloadNamed}
-use Rattle.dagcbor_heads.specs.Refusals.{Refuses}
+use Rattle.dagcbor_heads.specs.Refusals.{RefusesPlainly, RefusesOrLacksMemoryUnlent, Refuses}
 use Rattle.dagcbor_heads.specs.declared.name.Name.{Name}
 use Rattle.dagcbor_heads.specs.declared.error.DecodeError.{DecodeError}
 use Rattle.dagcbor_heads.specs.declared.error.DecodeError.TheVariants.{Eof, RequireUtf8}
@@ -44,7 +44,7 @@ is_cut name kind n (Eof kept expect) b c fits e named h = (named, (n, c, fits, e
 is_cut name kind n _ b c fits e named h = absurd h
 
 payload_refused : {E : Type 0} (lacks : Type 0) (name : List ℕ) (kind : ℕ) {n : ℕ} {old mid : Reading} (new : Reading) (e : DecodeError E) → n < 2 ^ 64 → Takes old (head kind n) mid → IsPayloadNamed name e
-    → (lacks' : Type 0) → (lacks → lacks') → Refuses (HasPayload n mid) lacks ⊥ (PayloadCause n) mid e new → Refuses (HasString kind old) lacks' ⊥ (StringCause name kind) old e new
+    → (lacks' : Type 0) → (lacks → lacks') → Refuses (record { could = HasPayload n mid; lacks = lacks; borrows = ⊥; stands = PayloadCause n }) mid e new → Refuses (record { could = HasString kind old; lacks = lacks'; borrows = ⊥; stands = StringCause name kind }) old e new
 payload_refused lacks name kind {n} {old} {mid} new e fits t named lacks' want r = passed_on (PayloadCause n) (StringCause name kind) old mid new e t.same
     (λ h. let k = behind_kind fits t h in record { payload = h.payload; rest = h.rest; long = k.0; left = k.1 }) want (λ x. x)
     (λ b l. let k = t.taken b l in (k.0, k.2, λ c. inr (is_cut name kind n e b k.0 fits k.1 named c))) r
@@ -57,14 +57,14 @@ string_taken {kind} {n} {old} {mid} {new} s fits t long p = record {
 
 pub string_read : {E : Type 0} (name : List ℕ) (kind : ℕ) {m n : ℕ} {old mid : Reading} (new : Reading) (result : Result (CowSlice ℕ Global) (DecodeError E)) → TakesMajor kind kind old m n mid
     → IfErr result (λ e. IsPayloadNamed name e)
-    → MatchResult result (λ c. (length (cow_slice_items c) ≡ n) × Takes mid (cow_slice_items c) new) (λ e. Refuses (HasPayload n mid) (mid.lends ≡ false) ⊥ (PayloadCause n) mid e new)
+    → MatchResult result (λ c. (length (cow_slice_items c) ≡ n) × Takes mid (cow_slice_items c) new) (λ e. RefusesOrLacksMemoryUnlent (HasPayload n mid) (PayloadCause n) mid e new)
     → ReadsString cow_slice_items name kind old result new
 string_read name kind new (Ok c) t named h = string_taken (cow_slice_items c) t.argument_fits (of_kind t) h.0 h.1
 string_read name kind {m} {n} {old} {mid} new (Err e) t named h = payload_refused (mid.lends ≡ false) name kind new e t.argument_fits (of_kind t) named (old.lends ≡ false) (λ x. sym t.takes.same.lends ∙ x) h
 
 -- no byte of the major type stood there
-pub string_kind_refused : {E : Type 0} (lacks : Type 0) (name : List ℕ) (kind : ℕ) (old new : Reading) (e : DecodeError E) → Refuses (HasMajor kind kind old) ⊥ ⊥ (MajorCause name kind kind) old e new
-    → Refuses (HasString kind old) lacks ⊥ (StringCause name kind) old e new
+pub string_kind_refused : {E : Type 0} (lacks : Type 0) (name : List ℕ) (kind : ℕ) (old new : Reading) (e : DecodeError E) → RefusesPlainly (HasMajor kind kind old) (MajorCause name kind kind) old e new
+    → Refuses (record { could = HasString kind old; lacks = lacks; borrows = ⊥; stands = StringCause name kind }) old e new
 string_kind_refused lacks name kind old new e r =
     passed_on (MajorCause name kind kind) (StringCause name kind) old old new e (stays old) string_kind (λ x. absurd x) (λ x. x) (λ b l. (b, l, λ c. inl c)) r
   where
@@ -72,8 +72,8 @@ string_kind_refused lacks name kind old new e r =
     string_kind h = record { major = kind; argument = length h.payload; rest = h.payload ++ h.rest; lowest = omega arith; highest = omega arith; argument_fits = h.fits; left = h.left }
 
 -- no head stood there, behind a first byte of the major type
-pub string_head_refused : {E : Type 0} (lacks : Type 0) (name : List ℕ) (kind : ℕ) (old new : Reading) (e : DecodeError E) → kind < 8 → StartsWithMajor old kind → IsNamed name e → Refuses (HasHead old) ⊥ ⊥ HeadCause old e new
-    → Refuses (HasString kind old) lacks ⊥ (StringCause name kind) old e new
+pub string_head_refused : {E : Type 0} (lacks : Type 0) (name : List ℕ) (kind : ℕ) (old new : Reading) (e : DecodeError E) → kind < 8 → StartsWithMajor old kind → IsNamed name e → RefusesPlainly (HasHead old) HeadCause old e new
+    → Refuses (record { could = HasString kind old; lacks = lacks; borrows = ⊥; stands = StringCause name kind }) old e new
 string_head_refused lacks name kind old new e few starts named r =
     passed_on HeadCause (StringCause name kind) old old new e (stays old) string_head (λ x. absurd x) (λ x. x) (λ b l. (b, l, λ c. inl (inl (c, named, begins b l)))) r
   where
@@ -115,8 +115,8 @@ bytes_stand {r} h =
     let f = subst (λ t. IsFront h.bytes t h.rest) (shown_bytes h.tree s.0 s.1) h.front in
     record { payload = s.0; rest = h.rest; fits = f.spellable; left = h.left ∙ ap Some (f.is ∙ append_assoc (head 2 (length s.0)) s.0 h.rest) }
 
-pub bytes_string_refused : {E : Type 0} (lacks : Type 0) (old new : Reading) (e : DecodeError E) → Refuses (HasString 2 old) lacks ⊥ (StringCause (codes "bytes") 2) old e new
-    → Refuses (HasFront (leaf view_bytes) old) lacks ⊥ (StringCause (codes "bytes") 2) old e new
+pub bytes_string_refused : {E : Type 0} (lacks : Type 0) (old new : Reading) (e : DecodeError E) → Refuses (record { could = HasString 2 old; lacks = lacks; borrows = ⊥; stands = StringCause (codes "bytes") 2 }) old e new
+    → Refuses (record { could = HasFront (leaf view_bytes) old; lacks = lacks; borrows = ⊥; stands = StringCause (codes "bytes") 2 }) old e new
 bytes_string_refused lacks old new e r = passed_on (StringCause (codes "bytes") 2) (StringCause (codes "bytes") 2) old old new e (stays old) bytes_stand (λ x. x) (λ x. x) (λ b l. (b, l, λ c. c)) r
 
 pub bytes_read : {E : Type 0} (old new : Reading) (result : Result (CowSlice ℕ Global) (DecodeError E)) → ReadsString cow_slice_items (codes "bytes") 2 old result new → ReadsByteSlice old result new
@@ -137,15 +137,15 @@ text_stands {r} h =
     let s = text_front h in
     record { payload = s.0; rest = h.rest; fits = s.1.spellable; left = h.left ∙ ap Some (s.1.is ∙ append_assoc (head 3 (length s.0)) s.0 h.rest) }
 
-pub text_string_refused : {E : Type 0} (lacks : Type 0) (name : List ℕ) (old new : Reading) (e : DecodeError E) → Refuses (HasString 3 old) lacks ⊥ (StringCause name 3) old e new
-    → Refuses (HasFront (leaf view_text) old) lacks ⊥ (TextCause name) old e new
+pub text_string_refused : {E : Type 0} (lacks : Type 0) (name : List ℕ) (old new : Reading) (e : DecodeError E) → Refuses (record { could = HasString 3 old; lacks = lacks; borrows = ⊥; stands = StringCause name 3 }) old e new
+    → Refuses (record { could = HasFront (leaf view_text) old; lacks = lacks; borrows = ⊥; stands = TextCause name }) old e new
 text_string_refused lacks name old new e r = passed_on (StringCause name 3) (TextCause name) old old new e (stays old) text_stands (λ x. x) (λ x. x) (λ b l. (b, l, λ c. inl c)) r
 
 pub text_string_taken : {old new : Reading} (s payload : List ℕ) → s ≡ payload → IsUtf8 s → TakesString 3 old payload new → TakesFront (leaf view_text) old s new
 text_string_taken {old} {new} s payload e u h = let k = subst (λ x. TakesString 3 old x new) (sym e) h in spelling_taken view_text (text s) s u k.fits refl k.takes
 
 pub no_text_refused : (E : Type 0) (name : List ℕ) {old new : Reading} (s : List ℕ) (kept : Name) → Names kept name → TakesString 3 old s new → (IsUtf8 s → ⊥)
-    → Refuses {E = E} (HasFront (leaf view_text) old) ⊥ ⊥ (TextCause name) old (RequireUtf8 kept) new
+    → RefusesPlainly {E = E} (HasFront (leaf view_text) old) (TextCause name) old (RequireUtf8 kept) new
 no_text_refused E name {old} {new} s kept named h not_text = (
   h.takes.same.faults,
   λ i. let t = text_front i in

@@ -56,8 +56,8 @@ pub lacks_before : {takes_memory : Bool} {old mid : Reading} → Stays old mid �
 lacks_before h behind (inl l) = inl (sym h.lends ∙ l)
 lacks_before h behind (inr m) = inr (m.0, λ b l. let k = behind b l in let link = m.1 k.1 k.3 in (link.0, links_behind k.0 b k.1 (link.0 ∷ []) k.2 link.1))
 
-pub step_refused : {E : Type 0} (takes_memory : Bool) {old stepped : Reading} (new : Reading) (spent : ℕ) (e : DecodeError E) → SpentStep old stepped → Refuses (HasItem (spent + 1) stepped) (WalkLacks takes_memory stepped) ⊥ (CauseInside (stepped.steps + (spent + 1))) stepped e new
-    → Refuses (HasItem spent old) (WalkLacks takes_memory old) ⊥ (CauseInside (old.steps + spent)) old e new
+pub step_refused : {E : Type 0} (takes_memory : Bool) {old stepped : Reading} (new : Reading) (spent : ℕ) (e : DecodeError E) → SpentStep old stepped → Refuses (record { could = HasItem (spent + 1) stepped; lacks = WalkLacks takes_memory stepped; borrows = ⊥; stands = CauseInside (stepped.steps + (spent + 1)) }) stepped e new
+    → Refuses (record { could = HasItem spent old; lacks = WalkLacks takes_memory old; borrows = ⊥; stands = CauseInside (old.steps + spent) }) old e new
 step_refused {E} takes_memory {old} {stepped} new spent e s r = stepped_refused new spent e s lacks r
   where
     lacks : WalkLacks takes_memory stepped → WalkLacks takes_memory old

@@ -32,7 +32,12 @@ abbrev pub Reads : {T V E : Type 0} → (T → V) → Shape Tree V → Type 0 �
     → (DecodeError E → List ℕ → Type 0) → Reading → Result T (DecodeError E) → Reading → Type 0
 Reads meaning shape lacks borrows stands old result new = MatchResult result
     (λ v. TakesFront shape old (meaning v) new)
-    (λ e. Refuses (HasFront shape old) lacks borrows stands old e new)
+    (λ e. Refuses (record {
+      could = HasFront shape old;
+      lacks = lacks;
+      borrows = borrows;
+      stands = stands;
+    }) old e new)
 
 -- reading it there may take memory
 abbrev pub MayLack : (Bool → Bool) → Reading → Type 0
@@ -46,3 +51,14 @@ NoStepIfDeep old _ = ⊤
 -- any cause
 abbrev pub Anything : {E : Type 0} → DecodeError E → List ℕ → Type 0
 Anything e b = ⊤
+
+-- A typed read is refused for want of memory, or of a loan, where its shape says that reading it may
+-- take one, and for any cause where what could be read does not stand there.
+abbrev pub RefusesRead : {Data V E : Type 0} → (could : Type 0) → Shape Data V → Reading
+    → DecodeError E → Reading → Type 0
+RefusesRead could shape old = Refuses (record {
+  could = could;
+  lacks = MayLack shape.memory old;
+  borrows = shape.wants_loan ≡ true;
+  stands = Anything;
+}) old

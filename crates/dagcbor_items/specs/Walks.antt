@@ -60,7 +60,12 @@ pub record HandsLinks {S : Type 0} (sink : Sink S) (left : Option (List ℕ)) (b
 pub record RefusesWalk {E S : Type 0} (sink : Sink S) (could : Type 0)
     (stands : DecodeError E → List ℕ → Type 0) (old : Reading) (before : S) (e : DecodeError E)
     (new : Reading) (after : S) : Type 0 where
-  pub refuses : Refuses could (WalkLacks sink.takes_memory old) ⊥ stands old e new
+  pub refuses : Refuses (record {
+    could = could;
+    lacks = WalkLacks sink.takes_memory old;
+    borrows = ⊥;
+    stands = stands;
+  }) old e new
   pub handed : HandsLinks sink old.left before after
 
 -- ---- walks
@@ -106,4 +111,9 @@ abbrev pub GathersLinks : {E : Type 0} → Reading → Result (Vec CidParts Glob
     → Reading → Type 0
 GathersLinks old result new = MatchResult result
     (λ v. (t : Tree) × TakesItem 0 old t new × (forms v.items ≡ links_of t))
-    (λ e. Refuses (HasItem 0 old) (WalkLacks true old) ⊥ (CauseInside (old.steps + 0)) old e new)
+    (λ e. Refuses (record {
+      could = HasItem 0 old;
+      lacks = WalkLacks true old;
+      borrows = ⊥;
+      stands = CauseInside (old.steps + 0);
+    }) old e new)

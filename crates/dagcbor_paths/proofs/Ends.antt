@@ -6,7 +6,7 @@ use Rattle.std.specs.Result.{result_ok}
 use Rattle.std.specs.declared.convert.Infallible.{Infallible}
 use Rattle.std.proofs.Math.Seq.{take-append_seam}
 use Rattle.dagcbor_heads.specs.Reading.{Reading}
-use Rattle.dagcbor_heads.specs.Refusals.{Refuses}
+use Rattle.dagcbor_heads.specs.Refusals.{RefusesPlainly}
 use Rattle.dagcbor_heads.specs.declared.error.DecodeError.{DecodeError}
 use Rattle.dagcbor_heads.specs.declared.error.DecodeError.TheVariants.{Read, RequireBorrowed, OutOfMemory, Failed, DepthOverflow}
 use Rattle.ipld_tree.specs.Cid.{CidParts, AreCidParts, cid_bytes}
@@ -61,7 +61,7 @@ item_told b at rest first item t ends split is kind place part k =
 
 -- ---- the link
 
-refused_plainly : (could : Type 0) (stands : DecodeError Infallible → List ℕ → Type 0) (old new : Reading) (e : DecodeError Infallible) → Refuses could ⊥ ⊥ stands old e new → ¬ could
+refused_plainly : (could : Type 0) (stands : DecodeError Infallible → List ℕ → Type 0) (old new : Reading) (e : DecodeError Infallible) → RefusesPlainly could stands old e new → ¬ could
 refused_plainly could stands old new (Read x) r = elim x [ ]
 refused_plainly could stands old new OutOfMemory r = absurd r.1
 refused_plainly could stands old new (RequireBorrowed n) r = absurd r.1

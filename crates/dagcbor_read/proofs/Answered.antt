@@ -2,7 +2,7 @@
 use Rattle.std.proofs.Common.{◌≡◌, ℕ, List, Global, ◌<◌, ◌-◌, true, false, refl, subst, Option, None, Some, IfSome, Ok, Err}
 use Rattle.std.specs.Cow.{cow_str_bytes}
 use Rattle.std.specs.declared.borrow.CowStr.{CowStr}
-use Rattle.dagcbor_heads.specs.Refusals.{Refuses}
+use Rattle.dagcbor_heads.specs.Refusals.{RefusesOrLacksMemoryUnlent}
 use Rattle.dagcbor_heads.specs.declared.error.DecodeError.{DecodeError}
 use Rattle.ipld_tree.specs.Tree.{Tree, text}
 use Rattle.dagcbor_items.specs.Untyped.{TakesItem}
@@ -10,7 +10,7 @@ use Rattle.dagcbor_items.specs.Places.{Follows}
 use Rattle.dagcbor_items.specs.ItemCauses.{KeyCause}
 use Rattle.dagcbor_items.specs.Entries.{HasKey}
 use Rattle.dagcbor_read.specs.Deserializers.{DeState, Call}
-use Rattle.dagcbor_items.specs.TypedReads.{HasFront, TakesFront, MayLack, Anything}
+use Rattle.dagcbor_items.specs.TypedReads.{RefusesRead, HasFront, TakesFront}
 use Rattle.dagcbor_read.proofs.Progressing.{call_answered, call_told}
 use Rattle.dagcbor_read.specs.Accessors.{AccessorState, ReadsElement, after_element, ReadsNextKey, KeepsKey, after_key}
 use Rattle.dagcbor_items.specs.Shapes.{Shape}
@@ -35,7 +35,7 @@ module _ (E : Type 0) {T V : Type 0} (meaning : T → V) (shape : Shape Tree V) 
       (k.1, k.2.0, k.2.1)
 
   pub element_refused : (left : ℕ) (old new : DeState) (e : DecodeError E) → old.failed ≡ false → Call (ReadsElement {T = T} meaning shape left) old (Err e) new
-      → (0 < left) × Refuses (HasFront shape old.input) (MayLack shape.memory old.input) (shape.wants_loan ≡ true) Anything old.input e new.input
+      → (0 < left) × RefusesRead (HasFront shape old.input) shape old.input e new.input
   element_refused left old new e f h = (call_told (ReadsElement meaning shape left) old new (Err e) f h).1
 
   pub after_some : (o : Option T) (v : T) (c d : AccessorState) → o ≡ Some v → d ≡ after_element {E = E} (Ok o) c → d ≡ record c { left = c.left - 1 }
@@ -63,7 +63,7 @@ no_key E last left old new o e h =
     (r.1, r.2.0, r.2.1)
 
 pub key_refused : (E : Type 0) (last : Option (List ℕ)) (left : ℕ) (old new : DeState) (e : DecodeError E) → old.failed ≡ false → Call (ReadsNextKey last left) old (Err e) new
-    → (0 < left) × Refuses (HasKey last old.input) (old.input.lends ≡ false) ⊥ (KeyCause last) old.input e new.input
+    → (0 < left) × RefusesOrLacksMemoryUnlent (HasKey last old.input) (KeyCause last) old.input e new.input
 key_refused E last left old new e f h = (call_told (ReadsNextKey last left) old new (Err e) f h).1
 
 pub after_some_key : (E : Type 0) (o : Option (CowStr Global)) (k : CowStr Global) (c d : AccessorState) → o ≡ Some k → d ≡ after_key {E = E} (Ok o) c → d ≡ record c { left = c.left - 1; last = Some (cow_str_bytes k); owes_value = true }
@@ -80,7 +80,7 @@ kept_read E last (Some k) left old new u some h =
 kept_read E last None left old new u some h = absurd (call_answered (KeepsKey {E = E} last None) old new u h).2
 
 pub kept_refused : (E : Type 0) (last kept : Option (List ℕ)) (old new : DeState) (e : DecodeError E) → old.failed ≡ false → Call (KeepsKey last kept) old (Err e) new
-    → Refuses (HasKey last old.input) (old.input.lends ≡ false) ⊥ (KeyCause last) old.input e new.input
+    → RefusesOrLacksMemoryUnlent (HasKey last old.input) (KeyCause last) old.input e new.input
 kept_refused E last (Some k) old new e f h = (call_told (KeepsKey last (Some k)) old new (Err e) f h).1
 kept_refused E last None old new e f h = (call_told (KeepsKey last None) old new (Err e) f h).1
 

@@ -3,11 +3,11 @@ use Rattle.std.proofs.Common.{◌≡◌, ℕ, ◌<◌, List, inl, inr, sym, ap, 
 use Rattle.dagcbor_heads.specs.Reading.{Reading, SpentStep, Stays}
 use Rattle.dagcbor_heads.specs.Causes.{IsDepthNamed}
 use Rattle.dagcbor_heads.specs.Names.{Names}
-use Rattle.dagcbor_heads.specs.Refusals.{Refuses, NoStep}
+use Rattle.dagcbor_heads.specs.Refusals.{RefusesPlainly, NoStep}
 use Rattle.dagcbor_heads.specs.declared.name.Name.{Name}
 use Rattle.dagcbor_heads.specs.declared.error.DecodeError.{DecodeError}
 use Rattle.dagcbor_heads.specs.declared.error.DecodeError.TheVariants.{Mismatch, DepthOverflow}
-use Rattle.dagcbor_heads.proofs.Refusing.{no_step_refused}
+use Rattle.dagcbor_heads.proofs.Refusing.{no_step_refused, SameReader, refusal_carried}
 use Rattle.dagcbor_items.specs.AnsweredVariants.{OfByte, OfHead}
 use Rattle.dagcbor_items.specs.Majors.{HasMajor}
 use Rattle.dagcbor_items.specs.LeafCauses.{MajorCause}
@@ -15,7 +15,6 @@ use Rattle.dagcbor_items.proofs.PartRefusals.{byte_kind}
 use Rattle.dagcbor_read.specs.Enums.{EnumState, IsOtherForm, OfForm}
 use Rattle.dagcbor_items.specs.TypedReads.{NoStepIfDeep}
 use Rattle.dagcbor_read.specs.Accessors.{HasHeadOf, EnterCause, OfBegin}
-use Rattle.dagcbor_read.proofs.Passing.{SameReader, refusal_carried}
 
 pub same_stepped : {old stepped : Reading} → SpentStep old stepped → SameReader old stepped
 same_stepped s = record { faults = ap (λ (r : Reading). r.faults) s.is; lends = ap (λ (r : Reading). r.lends) s.is }
@@ -25,7 +24,7 @@ left_stepped s = ap (λ (r : Reading). r.left) s.is
 
 -- no step was left
 pub no_step_told : {E could : Type 0} (stands : DecodeError E → List ℕ → Type 0) {text : List ℕ} {old mid new : Reading} (e : DecodeError E) → Stays old mid → NoStep text mid e new → (could → 0 < old.steps)
-    → ((n : Name) → Names n text → (b : List ℕ) → stands (DepthOverflow n) b) → Refuses could ⊥ ⊥ stands old e new × NoStepIfDeep old e
+    → ((n : Name) → Names n text → (b : List ℕ) → stands (DepthOverflow n) b) → RefusesPlainly could stands old e new × NoStepIfDeep old e
 no_step_told {E} stands {text} {old} {mid} {new} e k h some cause = (no_step_refused ⊥ ⊥ stands e k h some (λ n named b l. cause n named b), none e h)
   where
     none : (e : DecodeError E) → NoStep text mid e new → NoStepIfDeep old e
@@ -35,8 +34,8 @@ no_step_told {E} stands {text} {old} {mid} {new} e k h some cause = (no_step_ref
 -- no head of the major type stood there
 pub major_entered : {E : Type 0} {old stepped : Reading} (major : ℕ) (name : List ℕ) (new : Reading)
     (e : DecodeError E) → SpentStep old stepped → OfHead e
-    → Refuses (HasMajor major major stepped) ⊥ ⊥ (MajorCause name major major) stepped e new
-    → Refuses (HasHeadOf major old) ⊥ ⊥ (EnterCause major name) old e new × NoStepIfDeep old e
+    → RefusesPlainly (HasMajor major major stepped) (MajorCause name major major) stepped e new
+    → RefusesPlainly (HasHeadOf major old) (EnterCause major name) old e new × NoStepIfDeep old e
 major_entered {E} {old} {stepped} major name new e s of r = (
   refusal_carried (MajorCause name major major) (EnterCause major name) old stepped new e
       (same_stepped s) (head_stepped s) (λ x. x) (λ x. x)

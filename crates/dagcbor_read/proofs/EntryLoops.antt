@@ -19,7 +19,8 @@ use Rattle.dagcbor_read.proofs.Answered.{KeyRead, key_read, no_key, after_some_k
 use Rattle.dagcbor_read.proofs.Answered as answer
 use Rattle.dagcbor_read.proofs.EntryRows.{FieldsSoFar, no_field_so_far, key_not_read, value_not_read, one_more_field, all_fields_read, map_has_fields, typed_map_taken}
 use Rattle.dagcbor_read.proofs.FieldPlaces.{takes_as, front_as}
-use Rattle.dagcbor_read.proofs.Passing.{refusal_carried, or_left, lacks_before}
+use Rattle.dagcbor_heads.proofs.Refusing.{refusal_carried}
+use Rattle.dagcbor_read.proofs.Passing.{or_left, lacks_before}
 
 module _ {S : Type 0} (shape : FieldShape S) (start : S) where
   -- A map was begun, and entries of it were read, which brought the state to s: the invariant of the loop.
@@ -54,13 +55,13 @@ module _ {S : Type 0} (shape : FieldShape S) (start : S) where
 
   -- what the rest of the map refuses, the map refuses
   map_refused : {E : Type 0} {old now : DeState} {entries : AccessorState} {s : S} (B : Type 0) (new : DeState) (e : DecodeError E) (i : MapSoFar old entries s now)
-      → Refuses (HasFields shape start i.before.last i.before.left i.mid.input) (MayLack (fields_memory shape) i.mid.input) B Anything i.mid.input e new.input → Refuses (HasFront (fields_of shape start) old.input) (MayLack (fields_memory shape) old.input) B Anything old.input e new.input
+      → Refuses (record { could = HasFields shape start i.before.last i.before.left i.mid.input; lacks = MayLack (fields_memory shape) i.mid.input; borrows = B; stands = Anything }) i.mid.input e new.input → Refuses (record { could = HasFront (fields_of shape start) old.input; lacks = MayLack (fields_memory shape) old.input; borrows = B; stands = Anything }) old.input e new.input
   map_refused {E} {old} {now} B new e i r = refusal_carried Anything Anything old.input i.mid.input new.input e record { faults = i.enters.takes.same.faults; lends = i.enters.takes.same.lends }
       (λ x. subst (λ l. HasFields shape start l i.before.left i.mid.input) (sym i.first) (map_has_fields shape start i.enters x)) (lacks_before (fields_memory shape) i.enters.takes.same.lends) (λ x. x) (λ b l g. tt) r
 
   -- the next key was refused
   pub map_key_refused : {old : DeState} {entries : AccessorState} {s : S} (E B : Type 0) (now new : DeState) (e : DecodeError E) → MapSoFar old entries s now → Call (ReadsNextKey entries.last entries.left) now (Err e) new
-      → Refuses (HasFront (fields_of shape start) old.input) (MayLack (fields_memory shape) old.input) B Anything old.input e new.input
+      → Refuses (record { could = HasFront (fields_of shape start) old.input; lacks = MayLack (fields_memory shape) old.input; borrows = B; stands = Anything }) old.input e new.input
   map_key_refused E B now new e i h =
       let k = answer.key_refused E _ _ now new e i.fields.sound h in
       map_refused B new e i (key_not_read shape B _ _ i.fields k.0 k.1)
@@ -73,10 +74,10 @@ module _ {S : Type 0} (shape : FieldShape S) (start : S) where
   -- Its value was refused: the value of this name is read into the state by f.
   pub map_value_refused : {old : DeState} {with_key : AccessorState} {key : List ℕ} {s : S} (E B borrows T : Type 0) {V : Type 0} (part : Shape Tree V) (name : List ℕ) (f : V → S) (mid new : DeState) (e : DecodeError E) → MapAtValue old with_key key s mid
       → key ≡ name → ((t : Tree) → shape.take s name t ≡ option_map f (part.view t)) → ((t : Tree) → shape.need name t ≡ part.need t) → (borrows → B) → ((lends : Bool) → part.memory lends ≡ true → fields_memory shape lends ≡ true)
-      → Call {T = T} (λ old r new. MatchResult r (λ v. ⊤) (λ e. Refuses (HasFront part old) (MayLack part.memory old) borrows Anything old e new)) mid (Err e) new
-      → Refuses (HasFront (fields_of shape start) old.input) (MayLack (fields_memory shape) old.input) B Anything old.input e new.input
+      → Call {T = T} (λ old r new. MatchResult r (λ v. ⊤) (λ e. Refuses (record { could = HasFront part old; lacks = MayLack part.memory old; borrows = borrows; stands = Anything }) old e new)) mid (Err e) new
+      → Refuses (record { could = HasFront (fields_of shape start) old.input; lacks = MayLack (fields_memory shape) old.input; borrows = B; stands = Anything }) old.input e new.input
   map_value_refused {old} {with_key} {key} {s} E B borrows T part name f mid new e at is same as_much lent may h =
-      let r = (call_told (λ old r new. MatchResult r (λ v. ⊤) (λ e. Refuses (HasFront part old) (MayLack part.memory old) borrows Anything old e new)) mid new (Err e) at.read.sound h).1 in
+      let r = (call_told (λ old r new. MatchResult r (λ v. ⊤) (λ e. Refuses (record { could = HasFront part old; lacks = MayLack part.memory old; borrows = borrows; stands = Anything }) old e new)) mid new (Err e) at.read.sound h).1 in
       let r' = refusal_carried Anything Anything mid.input mid.input new.input e record { faults = refl; lends = refl } (λ front. front_as f part (value_of shape s name) same as_much front) (may mid.input.lends) lent (λ b l g. tt) r in
       map_refused B new e at.so_far (value_not_read shape (MayLack (fields_memory shape) mid.input) B new.input e key name (sym is) at.so_far.fields at.read (λ x. x) r')
 
@@ -93,8 +94,8 @@ module _ {S : Type 0} (shape : FieldShape S) (start : S) where
 
   -- Its value was passed over, which was refused: it is no field's.
   pub skip_refused : {old : DeState} {with_key : AccessorState} {key : List ℕ} {s : S} (E B T : Type 0) (mid new : DeState) (e : DecodeError E) → MapAtValue old with_key key s mid → ((t : Tree) → shape.take s key t ≡ Some s) → ((t : Tree) → shape.need key t ≡ any_need t)
-      → Call {T = T} (λ old r new. MatchResult r (λ v. ⊤) (λ e. Refuses (HasFront ignored_item old) (MayLack unless_lent old) (false ≡ true) Anything old e new)) mid (Err e) new
-      → Refuses (HasFront (fields_of shape start) old.input) (MayLack (fields_memory shape) old.input) B Anything old.input e new.input
+      → Call {T = T} (λ old r new. MatchResult r (λ v. ⊤) (λ e. Refuses (record { could = HasFront ignored_item old; lacks = MayLack unless_lent old; borrows = false ≡ true; stands = Anything }) old e new)) mid (Err e) new
+      → Refuses (record { could = HasFront (fields_of shape start) old.input; lacks = MayLack (fields_memory shape) old.input; borrows = B; stands = Anything }) old.input e new.input
   skip_refused {old} {with_key} {key} {s} E B T mid new e at same as_much h = map_value_refused E B (false ≡ true) T ignored_item key (λ _. s) mid new e at refl same as_much (λ l. absurd (cc l)) (λ lends. or_left (unless_lent lends) (shape.memory lends)) h
 
   -- Its value was passed over.

@@ -2,7 +2,7 @@
 use Rattle.std.proofs.Common.{◌≡◌, ℕ, ◌+◌, ◌-◌, ◌<◌, ◌≤◌, Bool, List, ◌++◌, true, false, refl, sym, ap, ◌∙◌, subst, arith, Option, None, Some, is_some, option_and_then, Result, Ok, Err, MatchResult, MatchBool, IfOk}
 use Rattle.dagcbor_heads.specs.Head.{head}
 use Rattle.dagcbor_heads.specs.Reading.{Reading, Stays, with_steps}
-use Rattle.dagcbor_heads.specs.Refusals.{Refuses}
+use Rattle.dagcbor_heads.specs.Refusals.{RefusesOrLacksMemoryUnlent, Refuses}
 use Rattle.dagcbor_heads.specs.declared.error.DecodeError.{DecodeError}
 use Rattle.dagcbor_heads.proofs.Taking.{stays, stays_both}
 use Rattle.ipld_tree.specs.Tree.{Tree, text, mapping, Entries, no_entries, entry, Precedes}
@@ -13,7 +13,7 @@ use Rattle.dagcbor_items.specs.Places.{Follows}
 use Rattle.dagcbor_items.specs.ItemCauses.{KeyCause}
 use Rattle.dagcbor_items.specs.Entries.{HasKey, AllFollow}
 use Rattle.dagcbor_read.specs.Deserializers.{DeState, Call}
-use Rattle.dagcbor_items.specs.TypedReads.{HasFront, TakesFront, MayLack, Anything}
+use Rattle.dagcbor_items.specs.TypedReads.{RefusesRead, HasFront, TakesFront, MayLack, Anything}
 use Rattle.dagcbor_read.specs.Values.{ReadsValue}
 use Rattle.dagcbor_items.specs.Entering.{Enters}
 use Rattle.dagcbor_read.specs.Accessors.{AccessorState, accessor_state, BeginsItems}
@@ -25,7 +25,8 @@ use Rattle.dagcbor_items.proofs.Maps.{map_closed}
 use Rattle.dagcbor_read.proofs.Progressing.{call_answered}
 use Rattle.dagcbor_read.proofs.Answered.{KeyRead}
 use Rattle.dagcbor_read.proofs.ItemRows.{same_reader, left_again}
-use Rattle.dagcbor_read.proofs.Passing.{refusal_carried, or_left, lacks_before, lacks_unlent}
+use Rattle.dagcbor_heads.proofs.Refusing.{refusal_carried}
+use Rattle.dagcbor_read.proofs.Passing.{or_left, lacks_before, lacks_unlent}
 use Rattle.dagcbor_items.specs.Shapes.{unless_lent}
 
 module _ {S : Type 0} (shape : FieldShape S) where
@@ -115,14 +116,14 @@ module _ {S : Type 0} (shape : FieldShape S) where
   }
 
   pub key_not_read : {E : Type 0} {start s : S} {before now_left : AccessorState} {old now : DeState} (borrows : Type 0) (new : Reading) (e : DecodeError E) → FieldsSoFar start before old now_left s now → 0 < now_left.left
-      → Refuses (HasKey now_left.last now.input) (now.input.lends ≡ false) ⊥ (KeyCause now_left.last) now.input e new
-      → Refuses (HasFields shape start before.last before.left old.input) (MayLack (fields_memory shape) old.input) borrows Anything old.input e new
+      → RefusesOrLacksMemoryUnlent (HasKey now_left.last now.input) (KeyCause now_left.last) now.input e new
+      → Refuses (record { could = HasFields shape start before.last before.left old.input; lacks = MayLack (fields_memory shape) old.input; borrows = borrows; stands = Anything }) old.input e new
   key_not_read {E} {start} {s} {before} {now_left} {old} {now} borrows new e i some r =
       refusal_carried (KeyCause now_left.last) Anything old.input now.input new e (same_reader i.same) (λ h. row_key some (i.has h)) (λ x. or_left (unless_lent old.input.lends) (shape.memory old.input.lends) (lacks_unlent i.same.lends x)) (λ x. absurd x) (λ b l g. tt) r
 
   pub value_not_read : {E : Type 0} {start s : S} {before now_left : AccessorState} {old now mid : DeState} (L borrows : Type 0) (new : Reading) (e : DecodeError E) (key text' : List ℕ) → text' ≡ key → FieldsSoFar start before old now_left s now
-      → KeyRead now_left.last now_left.left now key mid → (L → MayLack (fields_memory shape) mid.input) → Refuses (HasFront (value_of shape s text') mid.input) L borrows Anything mid.input e new
-      → Refuses (HasFields shape start before.last before.left old.input) (MayLack (fields_memory shape) old.input) borrows Anything old.input e new
+      → KeyRead now_left.last now_left.left now key mid → (L → MayLack (fields_memory shape) mid.input) → Refuses (record { could = HasFront (value_of shape s text') mid.input; lacks = L; borrows = borrows; stands = Anything }) mid.input e new
+      → Refuses (record { could = HasFields shape start before.last before.left old.input; lacks = MayLack (fields_memory shape) old.input; borrows = borrows; stands = Anything }) old.input e new
   value_not_read {E} {start} {s} {before} {now_left} {old} {now} {mid} L borrows new e key text' is i k may r =
       let same = same_reader (stays_both i.same k.takes.same) in
       refusal_carried Anything Anything old.input mid.input new e same
@@ -212,7 +213,7 @@ module _ {S : Type 0} (shape : FieldShape S) where
         by : (m : Bool) → e.in_map ≡ m → MatchBool m (BeginsItems {E = E} 5 name (e.steps + 1) old.input (Ok a) mid.input) ⊥ → (result : Result T (DecodeError E)) → ReadsEntriesLeft meaning shape start (accessor_state a) mid result new
             → IfOk result (λ v. new.failed ≡ false) × MatchResult result
             (λ v. (e.in_map ≡ true) × ((now : Reading) × TakesFront (fields_of shape start) old.input (meaning v) now × (new.input ≡ with_steps (now.steps + e.steps) now)))
-            (λ x. MatchBool m (Refuses (HasFront (fields_of shape start) old.input) (MayLack (fields_memory shape) old.input) (shape.wants_loan ≡ true) Anything old.input x new.input) (IsOtherForm e x × (new.input ≡ old.input)))
+            (λ x. MatchBool m (RefusesRead (HasFront (fields_of shape start) old.input) (fields_of shape start) old.input x new.input) (IsOtherForm e x × (new.input ≡ old.input)))
         by false is k result r = absurd k
         by true is k (Ok v) r =
             let steps : a.steps ≡ e.steps + 1 = ap (λ (c : AccessorState). c.steps) k.0 in

@@ -10,7 +10,7 @@ use Rattle.ipld_tree.specs.Tree.{Tree, list, Items, no_items, item}
 use Rattle.ipld_tree.specs.Spelling.{item_count, IsFront, AreFronts}
 use Rattle.ipld_tree.proofs.Fronts.{list_closed, item_closed, items_after}
 use Rattle.dagcbor_read.specs.Deserializers.{DeState, Call}
-use Rattle.dagcbor_items.specs.TypedReads.{HasFront, TakesFront, MayLack, Anything}
+use Rattle.dagcbor_items.specs.TypedReads.{RefusesRead, HasFront, TakesFront, MayLack, Anything}
 use Rattle.dagcbor_read.specs.Values.{ReadsValue}
 use Rattle.dagcbor_items.specs.Entering.{Enters}
 use Rattle.dagcbor_read.specs.Accessors.{AccessorState, accessor_state, BeginsItems}
@@ -19,7 +19,8 @@ use Rattle.dagcbor_items.specs.Items.{HasRow}
 use Rattle.dagcbor_read.specs.Collections.{view_list, need_list, view_none, TakesRow, ReadsRest, list_of, all_of, no_more, first_then, optional_then}
 use Rattle.dagcbor_items.proofs.Rows.{row_entered, row_first}
 use Rattle.dagcbor_read.proofs.Progressing.{call_answered}
-use Rattle.dagcbor_read.proofs.Passing.{SameReader, refusal_carried, given_back, or_left, or_right, lacks_before}
+use Rattle.dagcbor_heads.proofs.Refusing.{SameReader, refusal_carried}
+use Rattle.dagcbor_read.proofs.Passing.{given_back, or_left, or_right, lacks_before}
 use Rattle.dagcbor_items.specs.Shapes.{Shape}
 
 pub same_reader : {old new : Reading} → Stays old new → SameReader old new
@@ -116,15 +117,15 @@ module _ {V W U : Type 0} {shape : Shape Tree V} {others : Shape Items W} {f : V
   }
 
   -- the first was refused
-  pub part_refused : {E : Type 0} {count : ℕ} (old new : Reading) (e : DecodeError E) → 0 < count → Refuses (HasFront shape old) (MayLack shape.memory old) (shape.wants_loan ≡ true) Anything old e new
-      → Refuses (HasRow whole count old) (MayLack whole.memory old) (whole.wants_loan ≡ true) Anything old e new
+  pub part_refused : {E : Type 0} {count : ℕ} (old new : Reading) (e : DecodeError E) → 0 < count → RefusesRead (HasFront shape old) shape old e new
+      → RefusesRead (HasRow whole count old) whole old e new
   part_refused {E} {count} old new e some r = refusal_carried Anything Anything old old new e (same_reader (stays old)) (first_of some)
       (λ x. j.memory old.lends (or_left (shape.memory old.lends) (others.memory old.lends) x)) (λ x. j.loans (or_left shape.wants_loan others.wants_loan x)) (λ b l g. tt) r
 
   -- it was read, and the others were refused
   pub parts_refused : {E : Type 0} {before after : AccessorState} {old mid : Reading} {v : V} (new : Reading) (e : DecodeError E) → 0 < before.left → after ≡ record before { left = before.left - 1 } → TakesFront shape old v mid
-      → Refuses (HasRow others after.left mid) (MayLack others.memory mid) (others.wants_loan ≡ true) Anything mid e new
-      → Refuses (HasRow whole before.left old) (MayLack whole.memory old) (whole.wants_loan ≡ true) Anything old e new
+      → RefusesRead (HasRow others after.left mid) others mid e new
+      → RefusesRead (HasRow whole before.left old) whole old e new
   parts_refused {E} {before} {after} {old} {mid} new e some is a r = refusal_carried Anything Anything old mid new e (same_reader a.same)
       (λ h. subst (λ n. HasRow others n mid) (sym (ap (λ (c : AccessorState). c.left) is)) (row_others some a h))
       (λ x. j.memory old.lends (or_right (shape.memory old.lends) (others.memory old.lends) (lacks_before others.memory a.same.lends x))) (λ x. j.loans (or_right shape.wants_loan others.wants_loan x)) (λ b l g. tt) r
@@ -189,7 +190,7 @@ module _ {V : Type 0} (shape : Shape Tree V) where
       )
 
   pub item_refused : {E : Type 0} {before now_left : AccessorState} {old now : DeState} {vs : List V} (borrows : Type 0) (new : Reading) (e : DecodeError E) → ReadSoFar before old now_left vs now → 0 < now_left.left
-      → Refuses (HasFront shape now.input) (MayLack shape.memory now.input) borrows Anything now.input e new → Refuses (HasRow (all_of shape) before.left old.input) (MayLack (all_of shape).memory old.input) borrows Anything old.input e new
+      → Refuses (record { could = HasFront shape now.input; lacks = MayLack shape.memory now.input; borrows = borrows; stands = Anything }) now.input e new → Refuses (record { could = HasRow (all_of shape) before.left old.input; lacks = MayLack (all_of shape).memory old.input; borrows = borrows; stands = Anything }) old.input e new
   item_refused {E} {before} {now_left} {old} {now} borrows new e s some r =
       refusal_carried Anything Anything old.input now.input new e (same_reader s.same) (λ h. first_of (all_joins shape) some (s.has h)) (λ x. refl) (λ x. x) (λ b l g. tt) r
 

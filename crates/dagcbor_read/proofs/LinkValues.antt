@@ -20,7 +20,7 @@ link_read old new (Err e) h = passed_on LinkCause Anything old old new e (stays 
 
 -- what a call did on what had not failed
 value_read : {E : Type 0} (old new : DeState) (r : Result CidParts (DecodeError E)) → (new.failed ≡ is_err r) × Reads cid_bytes (leaf view_link) (false ≡ true) (false ≡ true) Anything old.input r new.input
-    → MatchResult r (λ v. (new.failed ≡ false) × TakesFront (leaf view_link) old.input (cid_bytes v) new.input) (λ e. Refuses (HasFront (leaf view_link) old.input) (false ≡ true) (false ≡ true) Anything old.input e new.input)
+    → MatchResult r (λ v. (new.failed ≡ false) × TakesFront (leaf view_link) old.input (cid_bytes v) new.input) (λ e. Refuses (record { could = HasFront (leaf view_link) old.input; lacks = false ≡ true; borrows = false ≡ true; stands = Anything }) old.input e new.input)
 value_read old new (Ok v) h = h
 value_read old new (Err e) h = h.1
 

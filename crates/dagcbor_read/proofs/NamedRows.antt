@@ -1,15 +1,14 @@
 -- Entries whose keys are names of a row.
 use Rattle.std.proofs.Common.{◌≡◌, ℕ, ◌<◌, List, Bool, true, false, refl, sym, ap, ◌∙◌, subst, Option, None, Some, option_map, if◌then◌else◌, bytes_eq}
 use Rattle.std.proofs.lemmas.Slice.Eq.{bytes_eq-Decides}
-use Rattle.dagcbor_heads.specs.Refusals.{Refuses}
 use Rattle.dagcbor_heads.specs.declared.error.DecodeError.{DecodeError}
 use Rattle.ipld_tree.specs.Tree.{Tree}
 use Rattle.dagcbor_items.specs.Entries.{HasName}
 use Rattle.dagcbor_items.specs.Shapes.{Shape, unless_lent}
-use Rattle.dagcbor_items.specs.TypedReads.{MayLack, Anything}
+use Rattle.dagcbor_items.specs.TypedReads.{RefusesRead, MayLack, Anything}
 use Rattle.dagcbor_items.proofs.StringItems.{text_taken}
 use Rattle.dagcbor_read.specs.Accessors.{AccessorState, with_key, with_value}
-use Rattle.dagcbor_read.specs.Collections.{FieldShape, value_of, HasFields, fields_memory}
+use Rattle.dagcbor_read.specs.Collections.{FieldShape, value_of, HasFields, fields_memory, all_entries}
 use Rattle.dagcbor_read.specs.Deserializers.{DeState}
 use Rattle.dagcbor_read.specs.Named.{TakesName, TakesKnown, TakesField, ReadsNamed, ReadsNamedValue}
 use Rattle.dagcbor_read.specs.Structs.{place}
@@ -17,7 +16,8 @@ use Rattle.dagcbor_read.proofs.Answered.{KeyRead}
 use Rattle.dagcbor_read.proofs.EntryRows.{FieldsSoFar, one_more_field, value_not_read}
 use Rattle.dagcbor_read.proofs.ItemRows.{same_reader}
 use Rattle.dagcbor_read.proofs.FieldPlaces.{other_name, takes_as, front_as}
-use Rattle.dagcbor_read.proofs.Passing.{refusal_carried, or_left, or_right, lacks_before}
+use Rattle.dagcbor_heads.proofs.Refusing.{refusal_carried}
+use Rattle.dagcbor_read.proofs.Passing.{or_left, or_right, lacks_before}
 
 name_taken : {last : Option (List ℕ)} {name : List ℕ} {old mid : DeState} → TakesName last name old mid → TakesKnown (λ k. HasName last k old.input) last old name mid
 name_taken h = record { is = h.0; follows = h.0.follows; read = h.1; takes = text_taken _ h.2 }
@@ -104,7 +104,7 @@ module _ {S : Type 0} (shape : FieldShape S) {start s : S} {before now_left : Ac
 
   pub named_value_refused : {E : Type 0} (after : AccessorState) (s' : S) (new : DeState) (refusal : Option (DecodeError E)) (e : DecodeError E) → refusal ≡ Some e → FieldsSoFar shape start before old now_left s now → 0 < now_left.left
       → ReadsNamed shape s now_left now false refusal s' after new
-      → Refuses (HasFields shape start before.last before.left old.input) (MayLack (fields_memory shape) old.input) (shape.wants_loan ≡ true) Anything old.input e new.input
+      → RefusesRead (HasFields shape start before.last before.left old.input) (all_entries shape start) old.input e new.input
   named_value_refused {E} after s' new refusal e is i some h =
       let r = subst (λ x. ReadsNamed shape s now_left now false x s' after new) is h in
       value_not_read shape (MayLack shape.memory r.mid.input) (shape.wants_loan ≡ true) new.input e r.key r.key refl i (key_known some r.begun) (or_right (unless_lent r.mid.input.lends) (shape.memory r.mid.input.lends)) r.refused
@@ -116,6 +116,6 @@ module _ {S : Type 0} (shape : FieldShape S) {start s : S} {before now_left : Ac
       (subst (λ x. FieldsSoFar shape start before old x s' new) (sym k.1) (subst (λ x. FieldsSoFar shape start before old now_left x new) (sym k.0) (subst (λ x. FieldsSoFar shape start before old now_left s x) (sym k.2) i)), k.1)
 
   pub others_refused : {E : Type 0} (new : DeState) (e : DecodeError E) → FieldsSoFar shape start before old now_left s now
-      → Refuses (HasFields shape s now_left.last now_left.left now.input) (MayLack (fields_memory shape) now.input) (shape.wants_loan ≡ true) Anything now.input e new.input
-      → Refuses (HasFields shape start before.last before.left old.input) (MayLack (fields_memory shape) old.input) (shape.wants_loan ≡ true) Anything old.input e new.input
+      → RefusesRead (HasFields shape s now_left.last now_left.left now.input) (all_entries shape s) now.input e new.input
+      → RefusesRead (HasFields shape start before.last before.left old.input) (all_entries shape start) old.input e new.input
   others_refused {E} new e i r = refusal_carried Anything Anything old.input now.input new.input e (same_reader i.same) i.has (lacks_before (fields_memory shape) i.same.lends) (λ x. x) (λ b l g. tt) r

@@ -18,13 +18,14 @@ use Rattle.dagcbor_items.specs.LeafCauses.{TextCause}
 use Rattle.dagcbor_items.specs.Shapes.{view_text, leaf, unless_lent, Shape}
 use Rattle.dagcbor_read.specs.EnumViews.{view_enum, need_enum, HasVariant, TakesVariant, ReadsVariant, EnumShape, enum_of, part_of}
 use Rattle.dagcbor_read.specs.Deserializers.{DeState, Call}
-use Rattle.dagcbor_items.specs.TypedReads.{HasFront, TakesFront, MayLack, Anything}
+use Rattle.dagcbor_items.specs.TypedReads.{RefusesRead, HasFront, TakesFront, MayLack, Anything}
 use Rattle.dagcbor_read.specs.Values.{ReadsValue}
 use Rattle.dagcbor_read.specs.Enums.{EnumState, enum_state, TakesForm, HasStepEnum, StepEnumCause, SpendsEnum, ReadsName, IsOtherForm, ReadsHeld, ReadsFieldsHeld}
 use Rattle.dagcbor_read.specs.declared.access.enum_accessor.EnumAccessor.{EnumAccessor}
 use Rattle.dagcbor_read.proofs.Progressing.{call_answered, call_told}
 use Rattle.dagcbor_read.proofs.FieldPlaces.{front_as}
-use Rattle.dagcbor_read.proofs.Passing.{SameReader, Entered, given_back, refusal_carried, or_left, or_right, lacks_before, lacks_unlent}
+use Rattle.dagcbor_heads.proofs.Refusing.{SameReader, refusal_carried}
+use Rattle.dagcbor_read.proofs.Passing.{Entered, given_back, or_left, or_right, lacks_before, lacks_unlent}
 
 -- ---- texts and the first byte
 
@@ -78,16 +79,16 @@ same_named : {e : EnumState} {k : List ℕ} {old now : Reading} → Named e k ol
 same_named {e} n = let a = enum_entered e n.spent in record { faults = n.name.same.faults ∙ a.faults; lends = n.name.same.lends ∙ a.lends }
 
 refusal_passed : {E could could' lacks lacks' borrows borrows' : Type 0} {e : EnumState} {k : List ℕ} {old now : Reading} (new : Reading) (r : DecodeError E) → Named e k old now → (could' → could) → (lacks → lacks') → (borrows → borrows')
-    → Refuses could lacks borrows Anything now r new → Refuses could' lacks' borrows' Anything old r new
+    → Refuses (record { could = could; lacks = lacks; borrows = borrows; stands = Anything }) now r new → Refuses (record { could = could'; lacks = lacks'; borrows = borrows'; stands = Anything }) old r new
 refusal_passed {E} {could} {could'} {lacks} {lacks'} {borrows} {borrows'} {e} {k} {old} {now} new r n c m w h = refusal_carried Anything Anything old now new r (same_named n) c m w (λ b l g. tt) h
 
-other_form_refused : {E could : Type 0} (lacks borrows : Type 0) (old new : Reading) (e : EnumState) (r : DecodeError E) → IsOtherForm e r → new.faults ≡ old.faults → (could → ⊥) → Refuses could lacks borrows Anything old r new
+other_form_refused : {E could : Type 0} (lacks borrows : Type 0) (old new : Reading) (e : EnumState) (r : DecodeError E) → IsOtherForm e r → new.faults ≡ old.faults → (could → ⊥) → Refuses (record { could = could; lacks = lacks; borrows = borrows; stands = Anything }) old r new
 other_form_refused lacks borrows old new e (Mismatch n f) h same never = (same, never, λ b l. tt)
 other_form_refused lacks borrows old new e _ h same never = absurd h
 
 -- a refusal with a message of the type's own
-pub told_refused : {E could : Type 0} (lacks borrows : Type 0) (old : Reading) {message : Name} (r : DecodeError E) (new : Reading) → r ≡ Msg message → new.faults ≡ old.faults → (could → ⊥) → Refuses could lacks borrows Anything old r new
-told_refused {E} {could} lacks borrows old {message} r new is same never = subst (λ x. Refuses could lacks borrows Anything old x new) (sym is) (same, never, λ b l. tt)
+pub told_refused : {E could : Type 0} (lacks borrows : Type 0) (old : Reading) {message : Name} (r : DecodeError E) (new : Reading) → r ≡ Msg message → new.faults ≡ old.faults → (could → ⊥) → Refuses (record { could = could; lacks = lacks; borrows = borrows; stands = Anything }) old r new
+told_refused {E} {could} lacks borrows old {message} r new is same never = subst (λ x. Refuses (record { could = could; lacks = lacks; borrows = borrows; stands = Anything }) old x new) (sym is) (same, never, λ b l. tt)
 
 module _ {V : Type 0} (shape : EnumShape V) where
   record UnitFront (r : Reading) : Type 0 where
@@ -207,13 +208,13 @@ module _ {V : Type 0} (shape : EnumShape V) where
   -- ---- refusals
 
   pub not_begun : {E : Type 0} (borrows : Type 0) (name : List ℕ) (old new : DeState) (r : DecodeError E) → old.failed ≡ false → Call (SpendsEnum name) old (Err r) new
-      → Refuses (HasFront (enum_of shape) old.input) (MayLack (enum_of shape).memory old.input) borrows Anything old.input r new.input
+      → Refuses (record { could = HasFront (enum_of shape) old.input; lacks = MayLack (enum_of shape).memory old.input; borrows = borrows; stands = Anything }) old.input r new.input
   not_begun {E} borrows name old new r f h = refusal_carried (StepEnumCause name) Anything old.input old.input new.input r (record { faults = refl; lends = refl }) can_begin (λ x. absurd x) (λ x. absurd x) (λ b l g. tt)
       (call_told (SpendsEnum name) old new (Err r) f h).1.0
 
   -- no variant's name stood there
   pub not_named : {E : Type 0} (borrows : Type 0) (name : List ℕ) (old mid new : DeState) (a : EnumAccessor) (r : DecodeError E) → Call (SpendsEnum {E = E} name) old (Ok a) mid → Call ReadsName mid (Err r) new
-      → Refuses (HasFront (enum_of shape) old.input) (MayLack (enum_of shape).memory old.input) borrows Anything old.input r new.input
+      → Refuses (record { could = HasFront (enum_of shape) old.input; lacks = MayLack (enum_of shape).memory old.input; borrows = borrows; stands = Anything }) old.input r new.input
   unfolding Spent
   not_named {E} borrows name old mid new a r h k =
       let s = call_answered (SpendsEnum name) old mid a h in
@@ -317,7 +318,7 @@ module _ {V : Type 0} (shape : EnumShape V) where
 
   -- no variant has the name
   pub unknown_variant : {E : Type 0} (borrows : Type 0) (e : EnumState) (old : Reading) {k : List ℕ} {message : Name} (r : DecodeError E) → r ≡ Msg message → shape.unit k ≡ None → ((t : Tree) → shape.part k t ≡ None)
-      → Refuses (HasVariant shape k e old) (MayLack shape.memory old) borrows Anything old r old
+      → Refuses (record { could = HasVariant shape k e old; lacks = MayLack shape.memory old; borrows = borrows; stands = Anything }) old r old
   unknown_variant borrows e old {k} r is none no_part = told_refused (MayLack shape.memory old) borrows old r old is refl (by e.in_map)
     where
       by : (b : Bool) → MatchBool b (HasFront (part_of shape k) old) (is_some (shape.unit k) ≡ true) → ⊥
@@ -329,11 +330,11 @@ module _ {V : Type 0} (shape : EnumShape V) where
   module _ {W : Type 0} (f : W → V) (own : Shape Tree W) {T : Type 0} (E : Type 0) (meaning : T → W) where
     pub fields_refused : (borrows : Type 0) (e : EnumState) (old new : DeState) {k : List ℕ} (name : List ℕ) (r : DecodeError E) → k ≡ name → shape.unit name ≡ None → ((t : Tree) → shape.part name t ≡ option_map f (own.view t)) → ((t : Tree) → shape.need name t ≡ own.need t)
         → (own.wants_loan ≡ true → borrows) → ((lends : Bool) → own.memory lends ≡ true → shape.memory lends ≡ true) → old.failed ≡ false → ReadsFieldsHeld meaning own e old (Err r) new
-        → Refuses (HasVariant shape k e old.input) (MayLack shape.memory old.input) borrows Anything old.input r new.input
+        → Refuses (record { could = HasVariant shape k e old.input; lacks = MayLack shape.memory old.input; borrows = borrows; stands = Anything }) old.input r new.input
     fields_refused borrows e old new {k} name r is none same much w may sound h = by e.in_map (h sound).1
       where
-        by : (m : Bool) → MatchBool m (Refuses (HasFront own old.input) (MayLack own.memory old.input) (own.wants_loan ≡ true) Anything old.input r new.input) (IsOtherForm e r × (new.input ≡ old.input))
-            → Refuses (MatchBool m (HasFront (part_of shape k) old.input) (is_some (shape.unit k) ≡ true)) (MayLack shape.memory old.input) borrows Anything old.input r new.input
+        by : (m : Bool) → MatchBool m (RefusesRead (HasFront own old.input) own old.input r new.input) (IsOtherForm e r × (new.input ≡ old.input))
+            → Refuses (record { could = MatchBool m (HasFront (part_of shape k) old.input) (is_some (shape.unit k) ≡ true); lacks = MayLack shape.memory old.input; borrows = borrows; stands = Anything }) old.input r new.input
         by true g = refusal_carried Anything Anything old.input old.input new.input r (record { faults = refl; lends = refl })
             (λ i. front_as f own (part_of shape name) same much (subst (λ x. HasFront (part_of shape x) old.input) is i)) (may old.input.lends) w (λ b l x. tt) g
         by false g = other_form_refused (MayLack shape.memory old.input) borrows old.input new.input e r g.0 (ap (λ (x : Reading). x.faults) g.1) (λ i. none_some (ap shape.unit is ∙ none) i)
@@ -341,5 +342,5 @@ module _ {V : Type 0} (shape : EnumShape V) where
     -- by a call of the accessor
     pub held_refused : (borrows : Type 0) (e : EnumState) (old new : DeState) {k : List ℕ} (name : List ℕ) (r : DecodeError E) → k ≡ name → shape.unit name ≡ None → ((t : Tree) → shape.part name t ≡ option_map f (own.view t)) → ((t : Tree) → shape.need name t ≡ own.need t)
         → (own.wants_loan ≡ true → borrows) → ((lends : Bool) → own.memory lends ≡ true → shape.memory lends ≡ true) → old.failed ≡ false → Call (ReadsHeld meaning own e) old (Err r) new
-        → Refuses (HasVariant shape k e old.input) (MayLack shape.memory old.input) borrows Anything old.input r new.input
+        → Refuses (record { could = HasVariant shape k e old.input; lacks = MayLack shape.memory old.input; borrows = borrows; stands = Anything }) old.input r new.input
     held_refused borrows e old new name r is none same much w may sound h = fields_refused borrows e old new name r is none same much w may sound (λ f. (tt, (call_told (ReadsHeld meaning own e) old new (Err r) f h).1))

@@ -2,14 +2,14 @@
 use Rattle.std.proofs.Common.{◌≡◌, inl, inr, ℕ, ◌+◌, ◌<◌, List, [], ◌∷◌, ◌++◌, true, refl, sym, ap, ◌∙◌, arith, zero-le, ◌⊎◌, Some, None, Option, option_map, is_some}
 use Rattle.dagcbor_heads.specs.Reading.{Reading, with_steps}
 use Rattle.dagcbor_heads.specs.Fronts.{ShowsByte, Takes}
-use Rattle.dagcbor_heads.specs.Refusals.{Refuses}
+use Rattle.dagcbor_heads.specs.Refusals.{RefusesPlainly, Refuses}
 use Rattle.dagcbor_heads.specs.declared.error.DecodeError.{DecodeError}
 use Rattle.dagcbor_heads.proofs.Taking.{stays}
-use Rattle.dagcbor_heads.proofs.Refusing.{passed_on}
+use Rattle.dagcbor_heads.proofs.Refusing.{passed_on, refusal_carried}
 use Rattle.ipld_tree.specs.Tree.{Tree, null}
 use Rattle.ipld_tree.specs.Spelling.{spelling, IsFront}
 use Rattle.dagcbor_items.specs.TypedReads.{HasFront, TakesFront, MayLack, Anything}
-use Rattle.dagcbor_read.proofs.Passing.{refusal_carried, given_back, lacks_before}
+use Rattle.dagcbor_read.proofs.Passing.{given_back, lacks_before}
 use Rattle.dagcbor_items.specs.Shapes.{view_option, need_option, Shape, option_of}
 use Rattle.dagcbor_read.specs.Options.{CanEnter, EntersSome, OptionCause}
 use Rattle.dagcbor_items.proofs.Fronts.{front_byte}
@@ -54,8 +54,8 @@ wants_step h other i =
       | inr s ↦ s
     ]
 
-pub not_entered : {V E : Type 0} (shape : Shape Tree V) (borrows : Type 0) (old new : Reading) (e : DecodeError E) → Refuses (CanEnter old) ⊥ ⊥ OptionCause old e new
-    → Refuses (HasFront (option_of shape) old) (MayLack shape.memory old) borrows Anything old e new
+pub not_entered : {V E : Type 0} (shape : Shape Tree V) (borrows : Type 0) (old new : Reading) (e : DecodeError E) → RefusesPlainly (CanEnter old) OptionCause old e new
+    → Refuses (record { could = HasFront (option_of shape) old; lacks = MayLack shape.memory old; borrows = borrows; stands = Anything }) old e new
 not_entered shape borrows old new e r = passed_on OptionCause Anything old old new e (stays old) (can_enter shape old) (λ x. absurd x) (λ x. absurd x) (λ b l. (b, l, λ h. tt)) r
 
 pub null_entered : {V : Type 0} (shape : Shape Tree V) {old new : Reading} → Takes old (0xf6 ∷ []) new → TakesFront (option_of shape) old None new
@@ -99,6 +99,6 @@ part_stands shape {old} {mid} h i =
     some_of (Some a) e = refl
     some_of None e = e
 
-pub some_refused : {V E : Type 0} (shape : Shape Tree V) (borrows : Type 0) {old mid : Reading} (new : Reading) (e : DecodeError E) → EntersSome old mid → Refuses (HasFront shape mid) (MayLack shape.memory mid) borrows Anything mid e new
-    → Refuses (HasFront (option_of shape) old) (MayLack shape.memory old) borrows Anything old e new
+pub some_refused : {V E : Type 0} (shape : Shape Tree V) (borrows : Type 0) {old mid : Reading} (new : Reading) (e : DecodeError E) → EntersSome old mid → Refuses (record { could = HasFront shape mid; lacks = MayLack shape.memory mid; borrows = borrows; stands = Anything }) mid e new
+    → Refuses (record { could = HasFront (option_of shape) old; lacks = MayLack shape.memory old; borrows = borrows; stands = Anything }) old e new
 some_refused shape borrows {old} {mid} new e h r = refusal_carried Anything Anything old mid new e (record { faults = h.faults; lends = h.lends }) (part_stands shape h) (lacks_before shape.memory h.lends) (λ x. x) (λ b l g. tt) r

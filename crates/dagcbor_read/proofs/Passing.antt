@@ -1,26 +1,7 @@
--- A refusal of a part is a refusal of the whole, though steps were spent.
-use Rattle.std.proofs.Common.{◌≡◌, ℕ, ◌+◌, List, Bool, true, false, ◌||◌, refl, sym, ap, ◌∙◌, arith, Some}
+-- What is kept over a part: steps that were spent on it, and where memory may be wanting.
+use Rattle.std.proofs.Common.{◌≡◌, ℕ, ◌+◌, Bool, true, false, ◌||◌, refl, sym, ap, ◌∙◌, arith}
 use Rattle.dagcbor_heads.specs.Reading.{Reading, Stays, with_steps}
-use Rattle.dagcbor_heads.specs.Refusals.{Refuses}
-use Rattle.dagcbor_heads.specs.declared.error.DecodeError.{DecodeError}
 use Rattle.dagcbor_items.specs.Shapes.{unless_lent}
-use Rattle.dagcbor_heads.specs.declared.error.DecodeError.TheVariants.{Read, RequireBorrowed, OutOfMemory, Failed, DepthOverflow}
-
--- what a reader keeps between calls of a part, whatever its steps are
-pub record SameReader (old mid : Reading) : Type 0 where
-  pub faults : mid.faults ≡ old.faults
-  pub lends : mid.lends ≡ old.lends
-
-pub refusal_carried : {E could could' lacks lacks' borrows borrows' : Type 0} (stands stands' : DecodeError E → List ℕ → Type 0) (old mid new : Reading) (e : DecodeError E)
-    → SameReader old mid → (could' → could) → (lacks → lacks') → (borrows → borrows')
-    → ((b : List ℕ) → old.left ≡ Some b → ((c : List ℕ) → mid.left ≡ Some c → stands e c) → stands' e b)
-    → Refuses could lacks borrows stands mid e new → Refuses could' lacks' borrows' stands' old e new
-refusal_carried stands stands' old mid new (Read e) h c k w s r = omega (arith, h.faults, r)
-refusal_carried stands stands' old mid new OutOfMemory h c k w s r = (r.0 ∙ h.faults, k r.1)
-refusal_carried stands stands' old mid new (RequireBorrowed n) h c k w s r = (r.0 ∙ h.faults, w r.1, sym h.lends ∙ r.2)
-refusal_carried stands stands' old mid new Failed h c k w s r = r
-refusal_carried stands stands' old mid new (DepthOverflow n) h c k w s r = (r.0 ∙ h.faults, λ x. r.1 (c x), λ b l. s b l r.2, r.3)
-refusal_carried stands stands' old mid new _ h c k w s r = (r.0 ∙ h.faults, λ x. r.1 (c x), λ b l. s b l r.2)
 
 -- ---- steps that are given back
 

@@ -106,7 +106,7 @@ module _ {S T V : Type 0} (E : Type 0) (see : S → StreamState) (meaning : T �
   ends s t (Err e ∷ xs) h = let k = goes_on (Result T (DecodeError E)) _ _ (see s).done (Err e) h.1.0 in nothing_more h.0 t xs k.1.0 h.2
 
   -- why there was no value
-  no_value : (b : List ℕ) (old new : Reading) (e : DecodeError E) → old.left ≡ Some b → Refuses (HasFront shape old) (MayLack shape.memory old × SomeLeft old) ((shape.wants_loan ≡ true) × SomeLeft old) AreSome old e new
+  no_value : (b : List ℕ) (old new : Reading) (e : DecodeError E) → old.left ≡ Some b → Refuses (record { could = HasFront shape old; lacks = MayLack shape.memory old × SomeLeft old; borrows = (shape.wants_loan ≡ true) × SomeLeft old; stands = AreSome }) old e new
       → GaveUp E shape old.lends b e ⊎ NoValue shape old.steps b
   no_value b old new (Read x) l r = inl tt
   no_value b old new OutOfMemory l r = inl (r.1.0, r.1.1 b l)

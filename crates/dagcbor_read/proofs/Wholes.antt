@@ -12,7 +12,7 @@ use Rattle.ipld_tree.proofs.Fronts.{front_unique}
 use Rattle.dagcbor_read.specs.Deserializers.{DeState, Ends, TellsEnd}
 use Rattle.dagcbor_items.proofs.SliceReads.{whole_front}
 use Rattle.dagcbor_read.proofs.Progressing.{match_false}
-use Rattle.dagcbor_items.specs.TypedReads.{HasFront, TakesFront, MayLack, Anything}
+use Rattle.dagcbor_items.specs.TypedReads.{RefusesRead, HasFront, TakesFront, MayLack, Anything}
 use Rattle.dagcbor_read.specs.Values.{ReadsValue}
 use Rattle.dagcbor_read.specs.Whole.{IsWhole, HoldsNoValue, IsFirst, TakesFirst, BeginsWithNoValue, IsReadExcuse, OfWhole, IsForBehind, LacksMemoryIf}
 use Rattle.dagcbor_items.specs.Shapes.{Shape}
@@ -95,7 +95,7 @@ module _ {V : Type 0} (shape : Shape Tree V) (steps : ℕ) where
   NotFirst left e = (IsReadExcuse e ⊎ IfSome left (BeginsWithNoValue shape steps)) × OfWhole e × LacksMemoryIf (shape.memory false) e
 
   first_refused : {E : Type 0} (left : Option (List ℕ)) (old new : Reading) (e : DecodeError E) → old.left ≡ left → old.steps ≡ steps → shape.wants_loan ≡ false → old.lends ≡ false
-      → Refuses (HasFront shape old) (MayLack shape.memory old) (shape.wants_loan ≡ true) Anything old e new → NotFirst left e
+      → RefusesRead (HasFront shape old) shape old e new → NotFirst left e
   first_refused left old new (Read x) at s o n r = (inl tt, tt, tt)
   first_refused left old new OutOfMemory at s o n r = (inl tt, tt, ap shape.memory (sym n) ∙ r.1)
   first_refused left old new (RequireBorrowed name) at s o n r = let differ = sym o ∙ r.1 in cc
@@ -110,7 +110,7 @@ module _ {V : Type 0} (shape : Shape Tree V) (steps : ℕ) where
       first_read : (Stays start.input mid.input → (b : List ℕ) → mid.input.left ≡ Some b → after ≡ Some b) → IfOk r (λ v. IfSome left (λ b. TakesFirst shape steps b (meaning v) after))
       first_read f = by r (h sound)
         where
-          by : (r : Result T (DecodeError E)) → MatchResult r (λ v. (mid.failed ≡ false) × TakesFront shape start.input (meaning v) mid.input) (λ e. Refuses (HasFront shape start.input) (MayLack shape.memory start.input) (shape.wants_loan ≡ true) Anything start.input e mid.input)
+          by : (r : Result T (DecodeError E)) → MatchResult r (λ v. (mid.failed ≡ false) × TakesFront shape start.input (meaning v) mid.input) (λ e. RefusesRead (HasFront shape start.input) shape start.input e mid.input)
               → IfOk r (λ v. IfSome left (λ b. TakesFirst shape steps b (meaning v) after))
           by (Ok v) k = if_known left _ (λ b l.
               let taken = k.1.taken b (at ∙ l) in
@@ -120,7 +120,7 @@ module _ {V : Type 0} (shape : Shape Tree V) (steps : ℕ) where
       first_not_read : IfErr r (NotFirst left)
       first_not_read = by r (h sound)
         where
-          by : (r : Result T (DecodeError E)) → MatchResult r (λ v. (mid.failed ≡ false) × TakesFront shape start.input (meaning v) mid.input) (λ e. Refuses (HasFront shape start.input) (MayLack shape.memory start.input) (shape.wants_loan ≡ true) Anything start.input e mid.input)
+          by : (r : Result T (DecodeError E)) → MatchResult r (λ v. (mid.failed ≡ false) × TakesFront shape start.input (meaning v) mid.input) (λ e. RefusesRead (HasFront shape start.input) shape start.input e mid.input)
               → IfErr r (NotFirst left)
           by (Ok v) k = tt
           by (Err e) k = first_refused left start.input mid.input e at s o n k
@@ -156,7 +156,7 @@ module _ {V : Type 0} (shape : Shape Tree V) (steps : ℕ) where
 
     -- no value was read; a loan was not wanting
     pub value_refused : (borrows : Type 0) (e : DecodeError E) (old new : Reading) → old.left ≡ left → old.steps ≡ steps → old.lends ≡ lends → (borrows → old.lends ≡ false → ⊥)
-        → Refuses (HasFront shape old) (MayLack shape.memory old) borrows Anything old e new → NotWhole left lends e
+        → Refuses (record { could = HasFront shape old; lacks = MayLack shape.memory old; borrows = borrows; stands = Anything }) old e new → NotWhole left lends e
     value_refused borrows (Read x) old new at s o n r = (inl tt, tt, if_known left _ (λ b l v rest h. inl tt), tt)
     value_refused borrows OutOfMemory old new at s o n r = (inl tt, tt, if_known left _ (λ b l v rest h. inl tt), ap shape.memory (sym o) ∙ r.1)
     value_refused borrows (RequireBorrowed name) old new at s o n r = absurd (n r.1 r.2)

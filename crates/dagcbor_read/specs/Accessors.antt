@@ -6,7 +6,7 @@ use Rattle.std.specs.declared.alloc.Global.{Global}
 use Rattle.dagcbor_heads.specs.Head.{head}
 use Rattle.dagcbor_heads.specs.Reading.{Reading, with_steps}
 use Rattle.dagcbor_heads.specs.Causes.{HeadCause, IsNamed}
-use Rattle.dagcbor_heads.specs.Refusals.{Refuses}
+use Rattle.dagcbor_heads.specs.Refusals.{RefusesPlainly, RefusesOrLacksMemoryUnlent}
 use Rattle.dagcbor_heads.specs.Names.{Names}
 use Rattle.dagcbor_heads.specs.declared.name.Name.{Name}
 use Rattle.dagcbor_heads.specs.declared.error.DecodeError.{DecodeError}
@@ -18,7 +18,7 @@ use Rattle.dagcbor_items.specs.ItemCauses.{KeyCause}
 use Rattle.dagcbor_items.specs.Entering.{Enters}
 use Rattle.dagcbor_items.specs.Entries.{HasKey}
 use Rattle.dagcbor_items.specs.AnsweredVariants.{OfHead}
-use Rattle.dagcbor_items.specs.TypedReads.{HasFront, TakesFront, NoStepIfDeep, MayLack, Anything}
+use Rattle.dagcbor_items.specs.TypedReads.{RefusesRead, HasFront, TakesFront, NoStepIfDeep}
 use Rattle.dagcbor_read.specs.declared.access.accessor.Accessor.{Accessor}
 use Rattle.dagcbor_items.specs.Shapes.{Shape, view_text, leaf}
 
@@ -82,7 +82,7 @@ abbrev pub ReadsHead : {E : Type 0} → ℕ → List ℕ → Reading → Result 
     → Type 0
 ReadsHead major name old result new = MatchResult result
     (λ count. Enters major count old new)
-    (λ e. Refuses (HasHeadOf major old) ⊥ ⊥ (EnterCause major name) old e new × NoStepIfDeep old e)
+    (λ e. RefusesPlainly (HasHeadOf major old) (EnterCause major name) old e new × NoStepIfDeep old e)
 
 -- A list or map is begun exactly where its head stands and a step is left. Its end gives so many
 -- steps back.
@@ -90,7 +90,7 @@ abbrev pub BeginsItems : {E : Type 0} → ℕ → List ℕ → ℕ → Reading �
     → Reading → Type 0
 BeginsItems major name steps old result new = MatchResult result
     (λ a. (accessor_state a ≡ fresh a.name (major == 5) a.left steps) × Names a.name name × Enters major a.left old new)
-    (λ e. Refuses (HasHeadOf major old) ⊥ ⊥ (EnterCause major name) old e new × NoStepIfDeep old e)
+    (λ e. RefusesPlainly (HasHeadOf major old) (EnterCause major name) old e new × NoStepIfDeep old e)
 
 -- ---- going on
 
@@ -101,7 +101,7 @@ ReadsElement meaning shape left old (Ok None) new = (left ≡ 0) × (new ≡ old
 ReadsElement meaning shape left old (Ok (Some v)) new = (0 < left)
     × TakesFront shape old (meaning v) new
 ReadsElement meaning shape left old (Err e) new = (0 < left)
-    × Refuses (HasFront shape old) (MayLack shape.memory old) (shape.wants_loan ≡ true) Anything old e new
+    × RefusesRead (HasFront shape old) shape old e new
 
 -- an item that was answered leaves one fewer
 abbrev pub after_element : {T E : Type 0} → Result (Option T) (DecodeError E) → AccessorState
@@ -117,21 +117,21 @@ ReadsNextKey last left old (Ok None) new = (left ≡ 0) × (new ≡ old)
 ReadsNextKey last left old (Ok (Some k)) new = (0 < left) × Follows last (cow_str_bytes k)
     × TakesFront (leaf view_text) old (cow_str_bytes k) new
 ReadsNextKey last left old (Err e) new = (0 < left)
-    × Refuses (HasKey last old) (old.lends ≡ false) ⊥ (KeyCause last) old e new
+    × RefusesOrLacksMemoryUnlent (HasKey last old) (KeyCause last) old e new
 
 -- a key that stands after the one before it, and the same once more
 abbrev pub ReadsKeyAfter : {E : Type 0} → Option (List ℕ) → Reading
     → Result (CowStr Global × CowStr Global) (DecodeError E) → Reading → Type 0
 ReadsKeyAfter last old result new = MatchResult result
     (λ p. (cow_str_bytes p.1 ≡ cow_str_bytes p.0) × Follows last (cow_str_bytes p.0) × TakesFront (leaf view_text) old (cow_str_bytes p.0) new)
-    (λ e. Refuses (HasKey last old) (old.lends ≡ false) ⊥ (KeyCause last) old e new)
+    (λ e. RefusesOrLacksMemoryUnlent (HasKey last old) (KeyCause last) old e new)
 
 -- a key that stands after the one before it, which is kept
 abbrev pub KeepsKey : {E : Type 0} → Option (List ℕ) → Option (List ℕ) → Reading
     → Result (Unit {0}) (DecodeError E) → Reading → Type 0
 KeepsKey last (Some k) old (Ok u) new = Follows last k × TakesFront (leaf view_text) old k new
 KeepsKey last None old (Ok u) new = ⊥
-KeepsKey last kept old (Err e) new = Refuses (HasKey last old) (old.lends ≡ false) ⊥ (KeyCause last) old e new
+KeepsKey last kept old (Err e) new = RefusesOrLacksMemoryUnlent (HasKey last old) (KeyCause last) old e new
 
 -- one pair fewer is left, whose key is this, and its value is to be read
 abbrev pub with_key : List ℕ → AccessorState → AccessorState

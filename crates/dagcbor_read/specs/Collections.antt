@@ -4,7 +4,6 @@ use Rattle.std.specs.declared.alloc.Global.{Global}
 use Rattle.std.proofs.Common.{sym, subst}
 use Rattle.std.specs.BTreeMap.{insert_entry}
 use Rattle.dagcbor_heads.specs.Reading.{Reading, Stays, with_steps}
-use Rattle.dagcbor_heads.specs.Refusals.{Refuses}
 use Rattle.dagcbor_heads.specs.declared.error.DecodeError.{DecodeError}
 use Rattle.ipld_tree.specs.Key.{key_cmp}
 use Rattle.ipld_tree.specs.Tree.{Tree, list, mapping, Items, no_items, item, Entries, no_entries, entry}
@@ -12,7 +11,7 @@ use Rattle.dagcbor_items.specs.Items.{HasRow}
 use Rattle.dagcbor_items.specs.Entries.{AllFollow, HasEntryRow}
 use Rattle.ipld_tree.specs.Spelling.{item_count, entry_count, AreFronts, AreEntryFronts}
 use Rattle.dagcbor_read.specs.Deserializers.{DeState}
-use Rattle.dagcbor_items.specs.TypedReads.{MayLack, Anything}
+use Rattle.dagcbor_items.specs.TypedReads.{RefusesRead}
 use Rattle.dagcbor_read.specs.Accessors.{AccessorState}
 use Rattle.dagcbor_items.specs.Shapes.{Shape, takes_none, takes_some, unless_lent}
 
@@ -121,14 +120,14 @@ ReadsRow meaning shape before old result after new = MatchResult result
     (λ v. (new.failed ≡ false) × (after ≡ record before { left = after.left }) × (after.left ≤ before.left)
     × TakesRow shape (before.left - after.left) old.input (meaning v) new.input
     × (HasRow shape before.left old.input → after.left ≡ 0))
-    (λ e. Refuses (HasRow shape before.left old.input) (MayLack shape.memory old.input) (shape.wants_loan ≡ true) Anything old.input e new.input)
+    (λ e. RefusesRead (HasRow shape before.left old.input) shape old.input e new.input)
 
 -- All that is left of a list that was begun is read, and it is ended: its steps are given back.
 abbrev pub ReadsRest : {T V E : Type 0} → (T → V) → Shape Items V → AccessorState → DeState
     → Result T (DecodeError E) → DeState → Type 0
 ReadsRest meaning shape before old result new = MatchResult result
     (λ v. (new.failed ≡ false) × (now : Reading) × TakesRow shape before.left old.input (meaning v) now × (new.input ≡ with_steps (now.steps + before.steps) now))
-    (λ e. Refuses (HasRow shape before.left old.input) (MayLack shape.memory old.input) (shape.wants_loan ≡ true) Anything old.input e new.input)
+    (λ e. RefusesRead (HasRow shape before.left old.input) shape old.input e new.input)
 
 -- neither wants a loan
 abbrev pub neither : {a b : Bool} → a ≡ false → b ≡ false → (a || b) ≡ false
@@ -216,7 +215,8 @@ abbrev pub ReadsEntriesLeft : {T S E : Type 0} → (T → S) → FieldShape S �
     → DeState → Result T (DecodeError E) → DeState → Type 0
 ReadsEntriesLeft meaning shape start before old result new = MatchResult result
     (λ v. (new.failed ≡ false) × (now : Reading) × TakesFields shape start before.last before.left old.input (meaning v) now × (new.input ≡ with_steps (now.steps + before.steps) now))
-    (λ e. Refuses (HasFields shape start before.last before.left old.input) (MayLack (fields_memory shape) old.input) (shape.wants_loan ≡ true) Anything old.input e new.input)
+    (λ e. RefusesRead (HasFields shape start before.last before.left old.input)
+    (all_entries shape start) old.input e new.input)
 
 -- what a value shows to the place of a field
 abbrev pub view_slot : {V : Type 0} → (Tree → Option V) → Tree → Option (Option V)

@@ -68,4 +68,9 @@ abbrev pub ReadsVariant : {T V E : Type 0} → (T → V) → EnumShape V → Lis
     → Result T (DecodeError E) → DeState → Type 0
 ReadsVariant meaning shape k e old result new = MatchResult result
     (λ v. (new.failed ≡ false) × TakesVariant shape k e old.input (meaning v) new.input)
-    (λ r. Refuses (HasVariant shape k e old.input) (MayLack shape.memory old.input) (shape.wants_loan ≡ true) Anything old.input r new.input)
+    (λ r. Refuses (record {
+      could = HasVariant shape k e old.input;
+      lacks = MayLack shape.memory old.input;
+      borrows = shape.wants_loan ≡ true;
+      stands = Anything;
+    }) old.input r new.input)

@@ -2,7 +2,7 @@
 use Rattle.std.specs.Prelude.{◌≡◌, ◌≢◌, ◌⊎◌, ℕ, ◌+◌, ◌-◌, ◌/◌, ◌<◌, Bool, true, false, List, [], ◌∷◌, Some, Result, MatchResult, MatchBool, IfOk, codes, ⊤}
 use Rattle.dagcbor_heads.specs.Reading.{Reading, with_steps}
 use Rattle.dagcbor_heads.specs.Fronts.{Takes, ShowsByte}
-use Rattle.dagcbor_heads.specs.Refusals.{Refuses}
+use Rattle.dagcbor_heads.specs.Refusals.{RefusesPlainly}
 use Rattle.dagcbor_heads.specs.Names.{Names}
 use Rattle.dagcbor_heads.specs.declared.error.DecodeError.{DecodeError}
 use Rattle.dagcbor_heads.specs.declared.error.DecodeError.TheVariants.{Eof, Mismatch, DepthOverflow}
@@ -15,7 +15,7 @@ use Rattle.dagcbor_items.specs.Shapes.{view_text, leaf, Shape}
 use Rattle.dagcbor_items.specs.LeafCauses.{TextCause}
 use Rattle.dagcbor_read.specs.Deserializers.{DeState}
 use Rattle.dagcbor_items.specs.AnsweredVariants.{OfByte}
-use Rattle.dagcbor_items.specs.TypedReads.{Reads, HasFront, MayLack, TakesFront, NoStepIfDeep, Anything}
+use Rattle.dagcbor_items.specs.TypedReads.{RefusesRead, Reads, HasFront, TakesFront, NoStepIfDeep}
 use Rattle.dagcbor_read.specs.Accessors.{BeginsItems}
 use Rattle.dagcbor_read.specs.declared.access.accessor.Accessor.{Accessor}
 use Rattle.dagcbor_read.specs.declared.access.enum_accessor.EnumAccessor.{EnumAccessor}
@@ -61,7 +61,7 @@ abbrev pub BeginsEnum : {E : Type 0} → Reading → Result EnumAccessor (Decode
     → Type 0
 BeginsEnum old result new = MatchResult result
     (λ a. ((enum_state a).steps ≡ 0) × TakesForm (enum_state a) old new)
-    (λ e. Refuses (HasEnum old) ⊥ ⊥ EnumCause old e new)
+    (λ e. RefusesPlainly (HasEnum old) EnumCause old e new)
 
 -- why an enum that takes a step is not begun
 abbrev pub StepEnumCause : {E : Type 0} → List ℕ → DecodeError E → List ℕ → Type 0
@@ -82,7 +82,7 @@ abbrev pub SpendsEnum : {E : Type 0} → List ℕ → Reading → Result EnumAcc
     → Reading → Type 0
 SpendsEnum name old result new = MatchResult result
     (λ a. ((enum_state a).steps ≡ 1) × (0 < old.steps) × (new.steps < new.budget) × TakesForm (enum_state a) (with_steps (old.steps - 1) old) new)
-    (λ e. Refuses (HasStepEnum old) ⊥ ⊥ (StepEnumCause name) old e new × NoStepIfDeep old e)
+    (λ e. RefusesPlainly (HasStepEnum old) (StepEnumCause name) old e new × NoStepIfDeep old e)
 
 -- ---- the variant
 
@@ -126,7 +126,8 @@ abbrev pub ReadsHeld : {T V E : Type 0} → (T → V) → Shape Tree V → EnumS
     → Result T (DecodeError E) → Reading → Type 0
 ReadsHeld meaning shape e old result new = MatchResult result
     (λ v. (e.in_map ≡ true) × ((now : Reading) × TakesFront shape old (meaning v) now × (new ≡ with_steps (now.steps + e.steps) now)))
-    (λ r. MatchBool e.in_map (Refuses (HasFront shape old) (MayLack shape.memory old) (shape.wants_loan ≡ true) Anything old r new) (IsOtherForm e r × (new ≡ old)))
+    (λ r. MatchBool e.in_map (RefusesRead (HasFront shape old) shape old r new)
+    (IsOtherForm e r × (new ≡ old)))
 
 -- The fields that a variant holds are read as the law of their type says, where nothing had failed.
 -- After an answer nothing has failed.

@@ -1,15 +1,14 @@
 -- What a read of an entry does whose key a slice has whole, and is one of the names of a row.
 use Rattle.std.specs.Prelude.{◌≡◌, ℕ, Bool, true, false, List, Option, None, Some, Result, MatchResult, ⊤}
-use Rattle.dagcbor_heads.specs.Refusals.{Refuses}
 use Rattle.dagcbor_heads.specs.declared.error.DecodeError.{DecodeError}
 use Rattle.ipld_tree.specs.Tree.{Tree, text}
 use Rattle.dagcbor_items.specs.Untyped.{TakesItem}
 use Rattle.dagcbor_items.specs.Entries.{HasName}
 use Rattle.dagcbor_items.specs.Places.{Follows}
 use Rattle.dagcbor_items.specs.Shapes.{Shape, view_text, leaf}
-use Rattle.dagcbor_items.specs.TypedReads.{HasFront, TakesFront, MayLack, Anything}
+use Rattle.dagcbor_items.specs.TypedReads.{RefusesRead, HasFront, TakesFront}
 use Rattle.dagcbor_read.specs.Accessors.{AccessorState, with_key, with_value}
-use Rattle.dagcbor_read.specs.Collections.{FieldShape, value_of, HasFields, fields_memory}
+use Rattle.dagcbor_read.specs.Collections.{FieldShape, value_of, HasFields, all_entries}
 use Rattle.dagcbor_read.specs.Deserializers.{DeState}
 
 -- a slice began with this name, behind the last key, and it was taken
@@ -38,7 +37,8 @@ pub record RefusesValue {S E : Type 0} (known : List ℕ → Type 0) (shape : Fi
   pub key : List ℕ
   pub mid : DeState
   pub begun : TakesKnown known before.last old key mid
-  pub refused : Refuses (HasFront (value_of shape state key) mid.input) (MayLack shape.memory mid.input) (shape.wants_loan ≡ true) Anything mid.input e new.input
+  pub refused : RefusesRead (HasFront (value_of shape state key) mid.input) (value_of shape state key)
+      mid.input e new.input
 
 -- The value of a name that was taken was read; or it was refused.
 abbrev pub ReadsNamedValue : {V E : Type 0} → Shape Tree V → AccessorState → DeState → Bool
@@ -46,7 +46,8 @@ abbrev pub ReadsNamedValue : {V E : Type 0} → Shape Tree V → AccessorState �
 ReadsNamedValue shape before old true refusal (Some v) after new = (after ≡ with_value before)
     × (new.failed ≡ false) × TakesFront shape old.input v new.input
 ReadsNamedValue shape before old true refusal None after new = ⊥
-ReadsNamedValue shape before old false (Some e) s after new = Refuses (HasFront shape old.input) (MayLack shape.memory old.input) (shape.wants_loan ≡ true) Anything old.input e new.input
+ReadsNamedValue shape before old false (Some e) s after new =
+    RefusesRead (HasFront shape old.input) shape old.input e new.input
 ReadsNamedValue shape before old false None s after new = ⊥
 
 -- The next entry was read, whose key a slice has whole; or its value was refused; or nothing was
@@ -62,4 +63,5 @@ abbrev pub ReadsByKey : {S E : Type 0} → FieldShape S → S → AccessorState 
     → Result (Unit {0}) (DecodeError E) → S → AccessorState → DeState → Type 0
 ReadsByKey shape state before old result s after new = MatchResult result
     (λ _. TakesField (λ k. ⊤) shape state before old s after new)
-    (λ e. Refuses (HasFields shape state before.last before.left old.input) (MayLack (fields_memory shape) old.input) (shape.wants_loan ≡ true) Anything old.input e new.input)
+    (λ e. RefusesRead (HasFields shape state before.last before.left old.input)
+    (all_entries shape state) old.input e new.input)

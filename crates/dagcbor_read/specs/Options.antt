@@ -2,14 +2,14 @@
 use Rattle.std.specs.Prelude.{◌≡◌, ◌≢◌, ℕ, ◌+◌, ◌<◌, ◌⊎◌, Bool, true, List, [], ◌∷◌, Option, Some, option_map, Result, MatchResult, MatchBool, codes}
 use Rattle.dagcbor_heads.specs.Reading.{Reading, Keeps}
 use Rattle.dagcbor_heads.specs.Fronts.{Takes}
-use Rattle.dagcbor_heads.specs.Refusals.{Refuses}
+use Rattle.dagcbor_heads.specs.Refusals.{RefusesPlainly}
 use Rattle.dagcbor_heads.specs.Names.{Names}
 use Rattle.dagcbor_heads.specs.declared.error.DecodeError.{DecodeError}
 use Rattle.dagcbor_heads.specs.declared.error.DecodeError.TheVariants.{Eof, DepthOverflow}
 use Rattle.dagcbor_heads.specs.declared.error.Len.TheVariants.{Small}
 use Rattle.ipld_tree.specs.Tree.{Tree}
 use Rattle.dagcbor_items.specs.Shapes.{Shape, option_of}
-use Rattle.dagcbor_items.specs.TypedReads.{HasFront, MayLack, TakesFront, NoStepIfDeep, Anything}
+use Rattle.dagcbor_items.specs.TypedReads.{RefusesRead, HasFront, TakesFront, NoStepIfDeep}
 
 -- a null stands at the front, or another byte, and a step is left
 pub record CanEnter (r : Reading) : Type 0 where
@@ -38,7 +38,7 @@ OptionCause _ b = ⊥
 
 -- no option is entered
 abbrev pub RefusesToEnter : {E : Type 0} → Reading → DecodeError E → Reading → Type 0
-RefusesToEnter old e new = Refuses (CanEnter old) ⊥ ⊥ OptionCause old e new × NoStepIfDeep old e
+RefusesToEnter old e new = RefusesPlainly (CanEnter old) OptionCause old e new × NoStepIfDeep old e
 
 -- A null was taken, or a step was spent on another value.
 abbrev pub EntersOption : {E : Type 0} → Reading → Result Bool (DecodeError E) → Reading → Type 0
@@ -49,7 +49,7 @@ EntersOption old result new = MatchResult result
 -- the part behind the step was refused, as its law says
 abbrev pub RefusesPart : {V E : Type 0} → Shape Tree V → Reading → DecodeError E → Reading → Type 0
 RefusesPart shape old e new = (mid : Reading) × EntersSome old mid
-    × Refuses (HasFront shape mid) (MayLack shape.memory mid) (shape.wants_loan ≡ true) Anything mid e new
+    × RefusesRead (HasFront shape mid) shape mid e new
 
 -- A null is read, or another value as the law of its type says. A refusal is the part's, or it came
 -- before the part with its cause.
@@ -57,5 +57,5 @@ abbrev pub ReadsOption : {T V E : Type 0} → (T → V) → Shape Tree V → Rea
     → Result (Option T) (DecodeError E) → Reading → Type 0
 ReadsOption meaning shape old result new = MatchResult result
     (λ o. TakesFront (option_of shape) old (option_map meaning o) new)
-    (λ e. Refuses (HasFront (option_of shape) old) (MayLack shape.memory old) (shape.wants_loan ≡ true) Anything old e new
+    (λ e. RefusesRead (HasFront (option_of shape) old) shape old e new
     × (RefusesToEnter old e new ⊎ RefusesPart shape old e new))

@@ -66,8 +66,12 @@ abbrev pub ReadsNext : {T V E : Type 0} → (T → V) → Shape Tree V → Readi
     → Result (Option T) (DecodeError E) → Reading → Type 0
 ReadsNext meaning shape old result new = MatchResult result
     (λ next. MatchOption next (FindsEnd old new) (λ v. TakesFront shape old (meaning v) new))
-    (λ e. Refuses (HasFront shape old) (MayLack shape.memory old × SomeLeft old)
-    ((shape.wants_loan ≡ true) × SomeLeft old) AreSome old e new)
+    (λ e. Refuses (record {
+      could = HasFront shape old;
+      lacks = MayLack shape.memory old × SomeLeft old;
+      borrows = (shape.wants_loan ≡ true) × SomeLeft old;
+      stands = AreSome;
+    }) old e new)
 
 -- what `next` gives is what reading answered, and the last but after a value
 abbrev pub as_answer : {T E : Type 0} → Option (Result T (DecodeError E))

@@ -1,10 +1,9 @@
 -- The law of a type that is read, and what a call says that reads a value by it.
 use Rattle.std.specs.Prelude.{◌≡◌, ℕ, List, Some, true, false, Result, Err, IfErr, MatchResult}
 use Rattle.dagcbor_heads.specs.Reading.{Reading}
-use Rattle.dagcbor_heads.specs.Refusals.{Refuses}
 use Rattle.dagcbor_heads.specs.declared.error.DecodeError.{DecodeError}
 use Rattle.ipld_tree.specs.Tree.{Tree}
-use Rattle.dagcbor_items.specs.TypedReads.{Reads, HasFront, TakesFront, MayLack, Anything}
+use Rattle.dagcbor_items.specs.TypedReads.{RefusesRead, Reads, HasFront, TakesFront, MayLack, Anything}
 use Rattle.dagcbor_read.specs.Deserializers.{DeState}
 use Rattle.dagcbor_items.specs.Shapes.{Shape}
 
@@ -13,7 +12,7 @@ abbrev pub ReadsValue : {T V E : Type 0} → (T → V) → Shape Tree V → DeSt
     → Result T (DecodeError E) → DeState → Type 0
 ReadsValue meaning shape old result new = old.failed ≡ false → MatchResult result
     (λ v. (new.failed ≡ false) × TakesFront shape old.input (meaning v) new.input)
-    (λ e. Refuses (HasFront shape old.input) (MayLack shape.memory old.input) (shape.wants_loan ≡ true) Anything old.input e new.input)
+    (λ e. RefusesRead (HasFront shape old.input) shape old.input e new.input)
 
 -- A call reads a value as the law of its type says.
 abbrev pub ReadsPart : {T V E : Type 0} → (T → V) → Shape Tree V → Reading

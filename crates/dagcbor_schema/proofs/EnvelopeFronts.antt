@@ -4,19 +4,19 @@ use Rattle.std.proofs.lemmas.Slice.Eq.{bytes_eq-Decides}
 use Rattle.std.specs.Prelude.{⊤}
 use Rattle.dagcbor_heads.specs.Head.{head}
 use Rattle.dagcbor_heads.specs.Reading.{Reading, with_steps}
-use Rattle.dagcbor_heads.specs.Refusals.{Refuses}
+use Rattle.dagcbor_heads.specs.Refusals.{RefusesOrLacksMemoryUnlent, Refuses}
 use Rattle.dagcbor_heads.specs.declared.error.DecodeError.{DecodeError}
 use Rattle.dagcbor_heads.specs.declared.error.DecodeError.TheVariants.{Msg, LengthMismatch}
 use Rattle.dagcbor_heads.specs.declared.name.Name.{Name}
 use Rattle.dagcbor_heads.proofs.Taking.{stays, stays_both}
-use Rattle.dagcbor_heads.proofs.Refusing.{as_refusal}
+use Rattle.dagcbor_heads.proofs.Refusing.{as_refusal, SameReader, refusal_carried}
 use Rattle.ipld_tree.specs.Tree.{Tree, text, mapping, Entries, no_entries, entry}
 use Rattle.ipld_tree.specs.Spelling.{IsFront, AreEntryFronts, entries_spelling}
 use Rattle.ipld_tree.proofs.Fronts.{front_unique, map_opened, entry_opened, entry_closed}
 use Rattle.dagcbor_items.specs.Entering.{Enters}
 use Rattle.dagcbor_items.specs.Places.{Follows}
 use Rattle.dagcbor_items.specs.Shapes.{Shape, cow_leaf, view_text, unless_lent}
-use Rattle.dagcbor_items.specs.TypedReads.{HasFront, TakesFront, MayLack, Anything}
+use Rattle.dagcbor_items.specs.TypedReads.{RefusesRead, HasFront, TakesFront, MayLack, Anything}
 use Rattle.dagcbor_items.specs.Untyped.{TakesItem}
 use Rattle.dagcbor_items.proofs.Maps.{map_closed}
 use Rattle.dagcbor_read.specs.Accessors.{AccessorState, accessor_state, HasHeadOf, BeginsItems, EndsItems, LeavesUnread, with_key, with_value}
@@ -27,15 +27,15 @@ use Rattle.dagcbor_read.specs.EnumViews.{EnumShape, part_of}
 use Rattle.dagcbor_read.proofs.Progressing.{call_answered, call_told}
 use Rattle.dagcbor_read.proofs.FieldPlaces.{takes_as, front_as}
 use Rattle.dagcbor_read.proofs.ItemRows.{same_reader, left_again}
-use Rattle.dagcbor_read.proofs.Passing.{SameReader, refusal_carried, or_left, or_right, lacks_before, lacks_unlent}
+use Rattle.dagcbor_read.proofs.Passing.{or_left, or_right, lacks_before, lacks_unlent}
 use Rattle.dagcbor_schema.specs.Envelopes.{view_envelope, need_envelope, envelope_of, HasNamedKey, ReadsNamedKey}
 
 -- ---- a key that is known beforehand
 
 -- none was left, or it was another
 pub key_refused_by_name : {E : Type 0} (L B : Type 0) (name : List ℕ) (before : AccessorState) (old new : Reading) (message : Name) (e : DecodeError E) → e ≡ Msg message → new.faults ≡ old.faults → (HasNamedKey name before old → ⊥)
-    → Refuses (HasNamedKey name before old) L B Anything old e new
-key_refused_by_name {E} L B name before old new message e is same never = subst (λ x. Refuses {E = E} (HasNamedKey name before old) L B Anything old x new) (sym is) (same, never, λ b l. tt)
+    → Refuses (record { could = HasNamedKey name before old; lacks = L; borrows = B; stands = Anything }) old e new
+key_refused_by_name {E} L B name before old new message e is same never = subst (λ x. Refuses {E = E} (record { could = HasNamedKey name before old; lacks = L; borrows = B; stands = Anything }) old x new) (sym is) (same, never, λ b l. tt)
 
 pub other_key : {name key : List ℕ} {before : AccessorState} {old mid : Reading} → TakesItem 1 old (text key) mid → (key ≡ name → ⊥) → HasNamedKey name before old → ⊥
 other_key {name} {key} {before} {old} {mid} a n h =
@@ -314,19 +314,19 @@ module _ {V : Type 0} (tag content : List ℕ) (shape : EnumShape V) where
   unlent : (old mid : Reading) → mid.lends ≡ old.lends → mid.lends ≡ false → MayLack Envelope.memory old
   unlent old mid same h = or_left (unless_lent old.lends) (shape.memory old.lends) (lacks_unlent same h)
 
-  pub tag_refused : {E : Type 0} (B : Type 0) {old mid : DeState} {entries : AccessorState} (new : Reading) (e : DecodeError E) → AtFirstKey old entries mid → Refuses (HasNamedKey tag entries mid.input) (mid.input.lends ≡ false) ⊥ Anything mid.input e new
-      → Refuses (HasFront Envelope old.input) (MayLack Envelope.memory old.input) B Anything old.input e new
+  pub tag_refused : {E : Type 0} (B : Type 0) {old mid : DeState} {entries : AccessorState} (new : Reading) (e : DecodeError E) → AtFirstKey old entries mid → RefusesOrLacksMemoryUnlent (HasNamedKey tag entries mid.input) Anything mid.input e new
+      → Refuses (record { could = HasFront Envelope old.input; lacks = MayLack Envelope.memory old.input; borrows = B; stands = Anything }) old.input e new
   tag_refused {E} B {old} {mid} new e s r = refusal_carried Anything Anything old.input mid.input new e (same_begun s) (λ h. has_tag refl s.last (at_tag s.enters h))
       (unlent old.input mid.input (same_begun s).lends) (λ x. absurd x) (λ b l g. tt) r
 
   pub name_refused : {E T : Type 0} (B : Type 0) (meaning : T → List ℕ) {old mid : DeState} {entries : AccessorState} (new : DeState) (e : DecodeError E) → AtTold old entries mid → Call (ReadsPart meaning (cow_leaf view_text)) mid (Err e) new
-      → Refuses (HasFront Envelope old.input) (MayLack Envelope.memory old.input) B Anything old.input e new.input
+      → Refuses (record { could = HasFront Envelope old.input; lacks = MayLack Envelope.memory old.input; borrows = B; stands = Anything }) old.input e new.input
   name_refused {E} B meaning {old} {mid} new e s h = refusal_carried Anything Anything old.input mid.input new.input e (same_told s) (λ f. has_name (name_stands s f))
       (λ x. or_left (unless_lent old.input.lends) (shape.memory old.input.lends) (ap unless_lent (sym (same_told s).lends) ∙ x)) (λ x. absurd (cc x)) (λ b l g. tt)
       (call_told (ReadsPart meaning (cow_leaf view_text)) mid new (Err e) s.sound h).1
 
-  pub content_refused : {E : Type 0} (B : Type 0) {name : List ℕ} {old mid : DeState} {entries : AccessorState} (new : Reading) (e : DecodeError E) → AtSecondKey name old entries mid → Refuses (HasNamedKey content entries mid.input) (mid.input.lends ≡ false) ⊥ Anything mid.input e new
-      → Refuses (HasFront Envelope old.input) (MayLack Envelope.memory old.input) B Anything old.input e new
+  pub content_refused : {E : Type 0} (B : Type 0) {name : List ℕ} {old mid : DeState} {entries : AccessorState} (new : Reading) (e : DecodeError E) → AtSecondKey name old entries mid → RefusesOrLacksMemoryUnlent (HasNamedKey content entries mid.input) Anything mid.input e new
+      → Refuses (record { could = HasFront Envelope old.input; lacks = MayLack Envelope.memory old.input; borrows = B; stands = Anything }) old.input e new
   content_refused {E} B {name} {old} {mid} {entries} new e s r = refusal_carried Anything Anything old.input mid.input new e (same_second s)
       (λ h. has_content (some h) last (content_stands s h)) (unlent old.input mid.input (same_second s).lends) (λ x. absurd x) (λ b l g. tt) r
     where
@@ -341,18 +341,18 @@ module _ {V : Type 0} (tag content : List ℕ) (shape : EnumShape V) where
           omega (arith, two, less, same)
 
   pub held_refused : {E : Type 0} {name text' : List ℕ} {old mid : DeState} {entries : AccessorState} (new : Reading) (e : DecodeError E) → text' ≡ name → AtHeld name old entries mid
-      → (mid.failed ≡ false → Refuses (HasFront (part_of shape text') mid.input) (MayLack shape.memory mid.input) (shape.wants_loan ≡ true) Anything mid.input e new)
-      → Refuses (HasFront Envelope old.input) (MayLack Envelope.memory old.input) (shape.wants_loan ≡ true) Anything old.input e new
+      → (mid.failed ≡ false → RefusesRead (HasFront (part_of shape text') mid.input) shape mid.input e new)
+      → Refuses (record { could = HasFront Envelope old.input; lacks = MayLack Envelope.memory old.input; borrows = shape.wants_loan ≡ true; stands = Anything }) old.input e new
   held_refused {E} {name} {text'} {old} {mid} new e is s r = refusal_carried Anything Anything old.input mid.input new e (same_held s) (λ h. subst (λ x. HasFront (part_of shape x) mid.input) (sym is) (held_stands s h))
       (λ x. or_right (unless_lent old.input.lends) (shape.memory old.input.lends) (lacks_before shape.memory (same_held s).lends x)) (λ x. x) (λ b l g. tt) (r s.sound)
 
-  unread_refused : {E could : Type 0} (L B : Type 0) (c : AccessorState) (old new : Reading) (e : DecodeError E) → LeavesUnread c e → new.faults ≡ old.faults → (could → ⊥) → Refuses could L B Anything old e new
+  unread_refused : {E could : Type 0} (L B : Type 0) (c : AccessorState) (old new : Reading) (e : DecodeError E) → LeavesUnread c e → new.faults ≡ old.faults → (could → ⊥) → Refuses (record { could = could; lacks = L; borrows = B; stands = Anything }) old e new
   unread_refused L B c old new (LengthMismatch name expect value) h same never = (same, never, λ b l. tt)
   unread_refused L B c old new _ h same never = absurd h
 
   pub end_refused : {E T : Type 0} (B : Type 0) {name text' : List ℕ} {old mid now : DeState} {entries : AccessorState} (meaning : T → V) (v : T) (end : AccessorState) (new : DeState) (e : DecodeError E) → text' ≡ name → AtHeld name old entries mid
       → ReadsValue {E = E} meaning (part_of shape text') mid (Ok v) now → end ≡ with_value entries → Call (EndsItems end) now (Err e) new
-      → Refuses (HasFront Envelope old.input) (MayLack Envelope.memory old.input) B Anything old.input e new.input
+      → Refuses (record { could = HasFront Envelope old.input; lacks = MayLack Envelope.memory old.input; borrows = B; stands = Anything }) old.input e new.input
   end_refused {E} {T} B {name} {text'} {old} {mid} {now} {entries} meaning v end new e is s r after h =
       let k = r s.sound in
       let q = (call_told (EndsItems end) now new (Err e) k.0 h).1 in
@@ -399,7 +399,7 @@ module _ {V W : Type 0} (shape : EnumShape V) (f : W → V) (own : Shape Tree W)
   -- what it holds was refused
   pub content_not_read : (borrows : Type 0) (old new : DeState) {k : List ℕ} (name : List ℕ) (r : DecodeError E) → k ≡ name → ((t : Tree) → shape.part name t ≡ option_map f (own.view t)) → ((t : Tree) → shape.need name t ≡ own.need t)
       → (own.wants_loan ≡ true → borrows) → ((lends : Bool) → own.memory lends ≡ true → shape.memory lends ≡ true) → old.failed ≡ false → Call (ReadsPart meaning own) old (Err r) new
-      → Refuses (HasFront (part_of shape k) old.input) (MayLack shape.memory old.input) borrows Anything old.input r new.input
+      → Refuses (record { could = HasFront (part_of shape k) old.input; lacks = MayLack shape.memory old.input; borrows = borrows; stands = Anything }) old.input r new.input
   content_not_read borrows old new {k} name r is same much lent may sound h = refusal_carried Anything Anything old.input old.input new.input r (same_reader (stays old.input))
       (λ i. front_as f own (part_of shape name) same much (subst (λ x. HasFront (part_of shape x) old.input) is i)) (may old.input.lends) lent (λ b l g. tt)
       (call_told (ReadsPart meaning own) old new (Err r) sound h).1
@@ -417,10 +417,10 @@ module _ {V W : Type 0} (shape : EnumShape V) (f : W → V) (own : Shape Tree W)
   -- which `?` hands on
   pub content_handed_on : {U : Type 0} (P : U → Type 0) (borrows : Type 0) (old new : DeState) {k : List ℕ} (name : List ℕ) (r : DecodeError E) (result : Result U (DecodeError E)) → IsErrAnd result (λ y. y ≡ r) → k ≡ name
       → ((t : Tree) → shape.part name t ≡ option_map f (own.view t)) → ((t : Tree) → shape.need name t ≡ own.need t) → (own.wants_loan ≡ true → borrows) → ((lends : Bool) → own.memory lends ≡ true → shape.memory lends ≡ true) → old.failed ≡ false
-      → Call {T = T} (λ old r new. MatchResult r (λ v. ⊤) (λ e. Refuses (HasFront own old) (MayLack own.memory old) (own.wants_loan ≡ true) Anything old e new)) old (Err r) new
-      → MatchResult result P (λ e. Refuses (HasFront (part_of shape k) old.input) (MayLack shape.memory old.input) borrows Anything old.input e new.input)
+      → Call {T = T} (λ old r new. MatchResult r (λ v. ⊤) (λ e. RefusesRead (HasFront own old) own old e new)) old (Err r) new
+      → MatchResult result P (λ e. Refuses (record { could = HasFront (part_of shape k) old.input; lacks = MayLack shape.memory old.input; borrows = borrows; stands = Anything }) old.input e new.input)
   content_handed_on P borrows old new {k} name r result told is same much lent may sound h =
-      as_refusal P (λ e. Refuses {E = E} (HasFront (part_of shape k) old.input) (MayLack shape.memory old.input) borrows Anything old.input e new.input) result r told
+      as_refusal P (λ e. Refuses {E = E} (record { could = HasFront (part_of shape k) old.input; lacks = MayLack shape.memory old.input; borrows = borrows; stands = Anything }) old.input e new.input) result r told
       (refusal_carried Anything Anything old.input old.input new.input r (same_reader (stays old.input))
       (λ i. front_as f own (part_of shape name) same much (subst (λ x. HasFront (part_of shape x) old.input) is i)) (may old.input.lends) lent (λ b l g. tt)
-      (call_told (λ old r new. MatchResult r (λ v. ⊤) (λ e. Refuses (HasFront own old) (MayLack own.memory old) (own.wants_loan ≡ true) Anything old e new)) old new (Err r) sound h).1)
+      (call_told (λ old r new. MatchResult r (λ v. ⊤) (λ e. RefusesRead (HasFront own old) own old e new)) old new (Err r) sound h).1)

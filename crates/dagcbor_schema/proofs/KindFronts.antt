@@ -19,12 +19,13 @@ use Rattle.dagcbor_schema.specs.declared.by_kind.ByKind.TheVariants as told
 use Rattle.dagcbor_items.specs.TreeKinds.{kind_of}
 use Rattle.dagcbor_items.specs.declared.kind.Kind.{Kind}
 use Rattle.dagcbor_items.specs.Shapes.{Shape}
-use Rattle.dagcbor_items.specs.TypedReads.{HasFront, TakesFront, MayLack, Anything}
+use Rattle.dagcbor_items.specs.TypedReads.{RefusesRead, HasFront, TakesFront, Anything}
 use Rattle.dagcbor_read.specs.Deserializers.{DeState, Call}
 use Rattle.dagcbor_read.specs.Kinds.{ShowsKind, PeeksKind}
 use Rattle.dagcbor_read.proofs.Progressing.{call_answered, call_told}
 use Rattle.dagcbor_read.proofs.ItemRows.{same_reader}
-use Rattle.dagcbor_read.proofs.Passing.{refusal_carried, or_left, or_right}
+use Rattle.dagcbor_heads.proofs.Refusing.{refusal_carried}
+use Rattle.dagcbor_read.proofs.Passing.{or_left, or_right}
 
 is_mapped : {V W : Type 0} (f : V → W) (o : Option V) → is_some (option_map f o) ≡ is_some o
 is_mapped f None = refl
@@ -66,8 +67,8 @@ module _ {V W : Type 0} {kind : Kind} {f : V → W} {part : Shape Tree V} {whole
       (q.0, kind_taken (subst (λ x. ShowsKind old.input x mid.input) is k.2) q.1)
 
   pub kind_not_read : {E : Type 0} (old mid : DeState) (new : Reading) (found : Kind) (e : DecodeError E) → found ≡ kind → Call (PeeksKind {E = E}) old (Ok found) mid
-      → (mid.failed ≡ false → Refuses (HasFront part mid.input) (MayLack part.memory mid.input) (part.wants_loan ≡ true) Anything mid.input e new)
-      → Refuses (HasFront whole old.input) (MayLack whole.memory old.input) (whole.wants_loan ≡ true) Anything old.input e new
+      → (mid.failed ≡ false → RefusesRead (HasFront part mid.input) part mid.input e new)
+      → RefusesRead (HasFront whole old.input) whole old.input e new
   kind_not_read {E} old mid new found e is h r =
       let k = call_answered PeeksKind old mid found h in
       let s : ShowsKind old.input kind mid.input = subst (λ x. ShowsKind old.input x mid.input) is k.2 in
@@ -157,19 +158,19 @@ module _ {B I T Y L M K : Type 0} (s : KindShapes B I T Y L M K) where
   null_shows_nothing t e a = let none : true ≡ false = sym a ∙ ap is_some (told_of kinds.Null t e) in absurd (cc none)
 
   -- a null stands at the front
-  pub null_refused : {E : Type 0} {old mid : Reading} (L B : Type 0) (new : Reading) (message : Name) (e : DecodeError E) → ShowsKind old kinds.Null mid → e ≡ Msg message → new.faults ≡ mid.faults → Refuses (HasFront (by_kind s) old) L B Anything old e new
-  null_refused {E} {old} {mid} L B new message e k is same = subst (λ x. Refuses {E = E} (HasFront (by_kind s) old) L B Anything old x new) (sym is) (
+  pub null_refused : {E : Type 0} {old mid : Reading} (L B : Type 0) (new : Reading) (message : Name) (e : DecodeError E) → ShowsKind old kinds.Null mid → e ≡ Msg message → new.faults ≡ mid.faults → Refuses (record { could = HasFront (by_kind s) old; lacks = L; borrows = B; stands = Anything }) old e new
+  null_refused {E} {old} {mid} L B new message e k is same = subst (λ x. Refuses {E = E} (record { could = HasFront (by_kind s) old; lacks = L; borrows = B; stands = Anything }) old x new) (sym is) (
     same ∙ k.same.faults,
     λ h. null_shows_nothing h.tree (sym (k.is h.bytes h.left h.tree h.rest h.front)) h.accepted,
     λ b l. tt,
   )
 
   pub null_not_read : {E : Type 0} (L B : Type 0) (old mid : DeState) (new : Reading) (found : Kind) (message : Name) (e : DecodeError E) → found ≡ kinds.Null → Call (PeeksKind {E = E}) old (Ok found) mid → e ≡ Msg message → new ≡ mid.input
-      → Refuses (HasFront (by_kind s) old.input) L B Anything old.input e new
+      → Refuses (record { could = HasFront (by_kind s) old.input; lacks = L; borrows = B; stands = Anything }) old.input e new
   null_not_read {E} L B old mid new found message e is h told same =
       let k = call_answered PeeksKind old mid found h in
       null_refused L B new message e (subst (λ x. ShowsKind old.input x mid.input) is k.2) told (ap (λ (r : Reading). r.faults) same)
 
   -- no byte stands there
-  pub no_kind_shown : {E : Type 0} (L B : Type 0) (old new : DeState) (e : DecodeError E) → old.failed ≡ false → Call PeeksKind old (Err e) new → Refuses (HasFront (by_kind s) old.input) L B Anything old.input e new.input
+  pub no_kind_shown : {E : Type 0} (L B : Type 0) (old new : DeState) (e : DecodeError E) → old.failed ≡ false → Call PeeksKind old (Err e) new → Refuses (record { could = HasFront (by_kind s) old.input; lacks = L; borrows = B; stands = Anything }) old.input e new.input
   no_kind_shown {E} L B old new e sound h = refusal_carried ByteCause Anything old.input old.input new.input e (same_reader (stays old.input)) (λ f. front_byte f.left f.front) (λ x. absurd x) (λ x. absurd x) (λ b l g. tt) (call_told PeeksKind old new (Err e) sound h).1

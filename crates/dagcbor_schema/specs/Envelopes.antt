@@ -1,7 +1,7 @@
 -- A map of two entries, whose first tells what the second holds.
 use Rattle.std.specs.Prelude.{◌≡◌, ◌||◌, ◌<◌, ℕ, ◌+◌, List, Option, None, if◌then◌else◌, Result, MatchResult, false, bytes_eq}
 use Rattle.dagcbor_heads.specs.Reading.{Reading}
-use Rattle.dagcbor_heads.specs.Refusals.{Refuses}
+use Rattle.dagcbor_heads.specs.Refusals.{RefusesOrLacksMemoryUnlent}
 use Rattle.dagcbor_heads.specs.declared.error.DecodeError.{DecodeError}
 use Rattle.ipld_tree.specs.Tree.{Tree, text, mapping, no_entries, entry}
 use Rattle.dagcbor_items.specs.Places.{Follows}
@@ -50,4 +50,4 @@ abbrev pub ReadsNamedKey : {E : Type 0} → List ℕ → AccessorState → DeSta
     → Result (Unit {0}) (DecodeError E) → AccessorState → DeState → Type 0
 ReadsNamedKey name before old result after new = MatchResult result
     (λ _. (new.failed ≡ false) × (0 < before.left) × Follows before.last name × TakesItem 1 old.input (text name) new.input × (after ≡ with_key name before))
-    (λ e. Refuses (HasNamedKey name before old.input) (old.input.lends ≡ false) ⊥ Anything old.input e new.input)
+    (λ e. RefusesOrLacksMemoryUnlent (HasNamedKey name before old.input) Anything old.input e new.input)

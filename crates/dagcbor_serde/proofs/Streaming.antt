@@ -45,7 +45,7 @@ item_before {byte} {old} {mid} {new} {t} s a = record {
 
 -- no item is read behind a look
 pub refused_behind : {E : Type 0} {byte : ℕ} (old mid new : Reading) (e : DecodeError E) → ShowsByte old byte mid → RefusesOrLacksMemory (HasItem 0 mid) (CauseInside (mid.steps + 0)) mid e new
-    → Refuses (HasItem 0 old) (SomeLeft old) ⊥ (CauseInSome (old.steps + 0)) old e new
+    → Refuses (record { could = HasItem 0 old; lacks = SomeLeft old; borrows = ⊥; stands = CauseInSome (old.steps + 0) }) old e new
 refused_behind {E} {byte} old mid new e s r = passed_on (CauseInside (mid.steps + 0)) (CauseInSome (old.steps + 0)) old mid new e s.same
     (λ h. record { bytes = h.bytes; tree = h.tree; rest = h.rest; left = s.kept h.bytes h.left; front = h.front; accepted = h.accepted; within = omega (arith, h.within, s.same.steps) })
     (λ h. shown_some s) (λ h. h)

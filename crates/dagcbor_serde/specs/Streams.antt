@@ -43,7 +43,12 @@ ReadsNext old None new = FindsEnd old new
 ReadsNext old (Some (Ok v)) new = (t : Tree) × TakesItem 0 old t new
 ReadsNext old (Some (Err (Misfit m at))) new = TakesMisfit old at new
 ReadsNext old (Some (Err (NoBlock e))) new =
-    Refuses (HasItem 0 old) (SomeLeft old) ⊥ (CauseInSome (old.steps + 0)) old e new
+    Refuses (record {
+      could = HasItem 0 old;
+      lacks = SomeLeft old;
+      borrows = ⊥;
+      stands = CauseInSome (old.steps + 0);
+    }) old e new
 
 -- whether nothing comes behind what was given
 abbrev pub is_last : {T E : Type 0} → Option (Result T (Error E)) → Bool

@@ -59,6 +59,38 @@ impl<W: Write> Write for &mut W {
     }
 }
 
+/// Appends to the bytes, which contracts see.
+impl Write for Vec<u8> {
+    type Error = Infallible;
+
+    ghost written = { λ v. record { bytes = Some v.items; faults = 0; through = [] } };
+
+    ghost takes_memory = { true };
+
+    /// Appends the bytes. Where memory runs out, nothing has changed.
+    fn push(&mut self, bytes: &[u8]) -> Result<(), EncodeError<Infallible>>
+        ensures written { Writes (Some bytes.now)
+            (record { bytes = Some self.old.items; faults = 0; through = [] })
+            (record { bytes = Some self.new.items; faults = 0; through = [] }) result }
+        ensures memory { WantsMemoryOnlyIf true result }
+        ensures unchanged { OnErr result (self.new.items ≡ self.old.items) }
+    {
+        if self.extend_from_slice(bytes).is_ok() {
+            return Ok(());
+        }
+        out_of_memory()
+    }
+
+    #[inline(always)]
+    fn push_at_once(&mut self, front: &[u8], rest: &[u8]) -> bool {
+        let room = self.capacity() - self.len();
+        if room < front.len() || room - front.len() < rest.len() {
+            return false;
+        }
+        self.extend_from_slice(front).is_ok() && self.extend_from_slice(rest).is_ok()
+    }
+}
+
 /// A writer to memory. Contracts see the bytes that it holds.
 #[derive(Drop)]
 pub struct BufWriter {
@@ -119,19 +151,12 @@ impl Write for BufWriter {
         ensures memory { WantsMemoryOnlyIf true result }
         ensures unchanged { OnErr result (self.new ≡ self.old) }
     {
-        if self.bytes.extend_from_slice(bytes).is_ok() {
-            return Ok(());
-        }
-        out_of_memory()
+        <Vec<u8> as Write>::push(&mut self.bytes, bytes)
     }
 
     #[inline(always)]
     fn push_at_once(&mut self, front: &[u8], rest: &[u8]) -> bool {
-        let room = self.bytes.capacity() - self.bytes.len();
-        if room < front.len() || room - front.len() < rest.len() {
-            return false;
-        }
-        self.bytes.extend_from_slice(front).is_ok() && self.bytes.extend_from_slice(rest).is_ok()
+        self.bytes.push_at_once(front, rest)
     }
 }
 

@@ -5,7 +5,7 @@ ghost use Rattle.dagcbor_heads.specs.Head.{head};
 ghost use Rattle.dagcbor_serde.specs.Refusing.{LacksMemory, LacksMemoryOrPlace, ItemRefused};
 
 use crate::error::Refusal;
-use dagcbor_heads::head_bytes;
+use dagcbor_heads::{Write, push_head, push_head_at_once, push_headed_at_once};
 
 /// What is open, and what it wants next.
 #[derive(Clone, Copy, Default, Drop, PartialEq, Eq)]
@@ -79,55 +79,6 @@ pub(crate) fn push(out: &mut Vec<u8>, bytes: &[u8]) -> Result<(), Refusal>
         .map_err(|_| Refusal::OutOfMemory)
 }
 
-/// Appends the shortest head.
-#[inline(never)]
-fn push_head(out: &mut Vec<u8>, major: u8, argument: u64) -> Result<(), Refusal>
-    requires { major ≤ 7 }
-    ensures appended { OnOk result (out.new.items ≡ out.old.items ++ head major argument) }
-    ensures refused { IfErr result LacksMemory }
-{
-    let (bytes, count) = head_bytes(major, argument);
-    push(out, &bytes[..count])
-}
-
-/// Appends both where there is room for them; else appends nothing, and answers false.
-#[inline(always)]
-fn push_at_once(out: &mut Vec<u8>, front: &[u8], rest: &[u8]) -> bool
-    ensures { MatchBool result (out.new.items ≡ out.old.items ++ (front.now ++ rest.now))
-        (out.new.items ≡ out.old.items) }
-{
-    let room = out.capacity() - out.len();
-    if room < front.len() || room - front.len() < rest.len() {
-        return false;
-    }
-    out.extend_from_slice(front).is_ok() && out.extend_from_slice(rest).is_ok()
-}
-
-/// Appends the shortest head where there is room for it; else appends nothing, and answers false.
-#[tactic(auto, unfolding(dagcbor_heads::specs::Head::head))]
-#[inline(always)]
-fn push_head_at_once(out: &mut Vec<u8>, major: u8, argument: u64) -> bool
-    requires { major ≤ 7 }
-    ensures { MatchBool result (out.new.items ≡ out.old.items ++ head major argument)
-        (out.new.items ≡ out.old.items) }
-{
-    let first = 32 * major;
-    if argument < 24 {
-        push_at_once(out, &[first + argument as u8], &[])
-    } else if argument < 1 << 8 {
-        push_at_once(out, &[first + 24, argument as u8], &[])
-    } else if argument < 1 << 16 {
-        let [a, b] = (argument as u16).to_be_bytes();
-        push_at_once(out, &[first + 25, a, b], &[])
-    } else if argument < 1 << 32 {
-        let [a, b, c, d] = (argument as u32).to_be_bytes();
-        push_at_once(out, &[first + 26, a, b, c, d], &[])
-    } else {
-        let [a, b, c, d, e, f, g, h] = argument.to_be_bytes();
-        push_at_once(out, &[first + 27, a, b, c, d, e, f, g, h], &[])
-    }
-}
-
 /// Appends the shortest head and nothing behind it.
 #[inline(always)]
 pub(crate) fn append_head(out: &mut Vec<u8>, major: u8, argument: u64) -> Result<(), Refusal>
@@ -138,11 +89,10 @@ pub(crate) fn append_head(out: &mut Vec<u8>, major: u8, argument: u64) -> Result
     if push_head_at_once(out, major, argument) {
         return Ok(());
     }
-    push_head(out, major, argument)
+    append_slowly(out, major, argument, &[])
 }
 
 /// Appends the shortest head and what is behind it.
-#[tactic(auto, unfolding(dagcbor_heads::specs::Head::head))]
 #[inline(always)]
 pub(crate) fn append(
     out: &mut Vec<u8>,
@@ -154,7 +104,7 @@ pub(crate) fn append(
     ensures appended { OnOk result (out.new.items ≡ out.old.items ++ (head major argument ++ payload.now)) }
     ensures refused { IfErr result LacksMemory }
 {
-    if argument < 24 && push_at_once(out, &[32 * major + argument as u8], payload) {
+    if push_headed_at_once(out, major, argument, payload) {
         return Ok(());
     }
     append_slowly(out, major, argument, payload)
@@ -166,7 +116,9 @@ fn append_slowly(out: &mut Vec<u8>, major: u8, argument: u64, payload: &[u8]) ->
     ensures appended { OnOk result (out.new.items ≡ out.old.items ++ (head major argument ++ payload.now)) }
     ensures refused { IfErr result LacksMemory }
 {
-    push_head(out, major, argument)?;
+    if push_head(out, major, argument).is_err() {
+        return Err(Refusal::OutOfMemory);
+    }
     push(out, payload)
 }
 
@@ -181,7 +133,7 @@ pub(crate) fn append_link(out: &mut Vec<u8>, cid: &[u8]) -> Result<(), Refusal>
     let count = cid.len();
     if count >= 23
         && count < 255
-        && push_at_once(out, &[0xd8, 0x2a, 0x58, count as u8 + 1, 0x00], cid)
+        && out.push_at_once(&[0xd8, 0x2a, 0x58, count as u8 + 1, 0x00], cid)
     {
         return Ok(());
     }
@@ -199,7 +151,7 @@ fn append_link_slowly(out: &mut Vec<u8>, cid: &[u8]) -> Result<(), Refusal>
         return Err(Refusal::OutOfMemory);
     };
     push(out, &[0xd8, 0x2a])?;
-    push_head(out, 2, length)?;
+    append_head(out, 2, length)?;
     push(out, &[0x00])?;
     push(out, cid)
 }
@@ -246,7 +198,7 @@ fn insert_head(
     room.clear();
     push(room, &out[place + 1..])?;
     out.truncate(place);
-    push_head(out, major, count as u64)?;
+    append_head(out, major, count as u64)?;
     push(out, room)
 }
 

@@ -341,7 +341,7 @@ module _ {V : Type 0} (tag content : List ℕ) (shape : EnumShape V) where
           omega (arith, two, less, same)
 
   pub held_refused : {E : Type 0} {name text' : List ℕ} {old mid : DeState} {entries : AccessorState} (new : Reading) (e : DecodeError E) → text' ≡ name → AtHeld name old entries mid
-      → (mid.failed ≡ false → RefusesRead (HasFront (part_of shape text') mid.input) shape mid.input e new)
+      → (mid.failed ≡ false → RefusesRead (HasFront (part_of shape text') mid.input) (part_of shape text') mid.input e new)
       → Refuses (record { could = HasFront Envelope old.input; lacks = MayLack Envelope.memory old.input; borrows = shape.wants_loan ≡ true; stands = Anything }) old.input e new
   held_refused {E} {name} {text'} {old} {mid} new e is s r = refusal_carried Anything Anything old.input mid.input new e (same_held s) (λ h. subst (λ x. HasFront (part_of shape x) mid.input) (sym is) (held_stands s h))
       (λ x. or_right (unless_lent old.input.lends) (shape.memory old.input.lends) (lacks_before shape.memory (same_held s).lends x)) (λ x. x) (λ b l g. tt) (r s.sound)

@@ -38,7 +38,7 @@ pub use payloads::PayloadReader;
 pub use printed_names::{kind_name, variant_name};
 pub use simple::{pull_bool, pull_null};
 pub use sink::{LinkSink, NoLinks};
-pub use skip::{behind_item, behind_items};
+pub use skip::{behind_item, behind_items, behind_token};
 pub use slices::{Refused, any_from_slice, check_slice, judge_slice, links_from_slice, walk_slice};
 pub use strings::{pull_char, pull_owned_bytes, pull_owned_text, pull_slice, pull_str};
 pub use walk::{gather_links, skip_any, walk_any};

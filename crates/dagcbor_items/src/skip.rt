@@ -8,7 +8,7 @@ use dagcbor_heads::split_head;
 
 /// What is behind a head, and behind its string, where it is one of a string.
 #[inline(always)]
-fn behind_token(major: u8, argument: u64, behind: &[u8]) -> Option<&[u8]>
+pub fn behind_token(major: u8, argument: u64, behind: &[u8]) -> Option<&[u8]>
     ensures { MatchOption result
         (IsTrue (is_string major) × (length behind.now < argument))
         (λ rest. (rest.now ≡ (if is_string major then drop argument behind.now else behind.now))) }

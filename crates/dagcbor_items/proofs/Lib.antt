@@ -8,6 +8,7 @@ pub mod Walking
 pub mod Judging
 pub mod Stopping
 pub mod Rows
+pub mod Skipping
 pub mod Lists
 pub mod Pushes
 pub mod Keys

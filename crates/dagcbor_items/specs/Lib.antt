@@ -28,6 +28,7 @@ pub mod Majors
 pub mod AnsweredVariants
 pub mod LeafReads
 pub mod TreeKinds
+pub mod Skips
 pub mod Slices
 pub mod PrintedNames
 pub mod Stops

@@ -32,6 +32,7 @@ use dagcbor_heads::{DecodeError, Name, SliceReader, is_indefinite, split_head};
 use ipld_tree::{Cid, comes_before};
 use simdutf8::is_utf8;
 use std::convert::Infallible;
+use std::str::from_utf8;
 
 /// The next n bytes, and the bytes behind them.
 #[inline(always)]
@@ -56,6 +57,17 @@ pub(crate) fn is_plain(bytes: &[u8]) -> bool
     bytes.iter().all(|byte| byte.is_ascii())
 }
 
+#[inline(never)]
+fn is_any_text(bytes: &[u8]) -> bool
+    ensures { IsTrue result ↔ IsUtf8 bytes.now }
+{
+    // Of few bytes the other call takes four times as long.
+    if bytes.len() < SHORT {
+        return from_utf8(bytes).is_ok();
+    }
+    is_utf8(bytes)
+}
+
 /// Whether the bytes are a text.
 #[inline(always)]
 pub fn is_text(bytes: &[u8]) -> bool
@@ -64,7 +76,7 @@ pub fn is_text(bytes: &[u8]) -> bool
     if bytes.len() < SHORT && is_plain(bytes) {
         return true;
     }
-    is_utf8(bytes)
+    is_any_text(bytes)
 }
 
 /// The bytes of a text of n bytes, and the bytes behind it.

@@ -13,10 +13,10 @@ ghost use Rattle.dagcbor_items.specs.Shapes.{view_text, leaf};
 ghost use Rattle.dagcbor_items.specs.TypedReads.{TakesFront};
 ghost use Rattle.dagcbor_items.specs.AnsweredVariants.{OfKey};
 
+use crate::judge;
 use crate::strings::{no_text, pull_str};
 use crate::utf8::as_text;
 use dagcbor_heads::{DecodeError, Input, Read, ReadResult};
-use ipld_tree::comes_before;
 use std::alloc::Global;
 use std::borrow::CowStr;
 use std::str::from_utf8_unchecked;
@@ -25,10 +25,8 @@ use std::str::from_utf8_unchecked;
 fn follows(previous: &Option<CowStr<'_>>, key: &str) -> bool
     ensures { IsTrue result ↔ Follows (option_map cow_str_bytes previous.now) key.now }
 {
-    match previous {
-        None => true,
-        Some(before) => comes_before(before.as_str().as_bytes(), key.as_bytes()),
-    }
+    let before = previous.as_ref().map(|before| before.as_str().as_bytes());
+    judge::follows(&before, key.as_bytes())
 }
 
 /// The bytes as a key that may stand behind the one before it.

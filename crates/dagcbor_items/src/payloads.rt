@@ -14,7 +14,7 @@ ghost use Rattle.dagcbor_items.specs.LeafReads.{ReadsTextAs};
 ghost use Rattle.dagcbor_items.specs.AnsweredVariants.{OfKey, OfHead, OfText};
 ghost use Rattle.dagcbor_items.specs.Untyped.{SkipsEnteredItem, StartsWithMajor, TakesItem};
 
-use crate::judge::behind_leaf;
+use crate::judge::{behind_leaf, follows};
 use crate::key::read_key;
 use crate::majors::peek_major;
 use crate::strings::{no_text, pull_peeked_slice, pull_peeked_str};
@@ -22,7 +22,6 @@ use crate::utf8::as_text;
 use dagcbor_heads::{
     DecodeError, Input, Len, Name, Read, ReadResult, SliceReader, pull_head, split_head,
 };
-use ipld_tree::comes_before;
 use std::alloc::Global;
 use std::borrow::CowStr;
 use std::convert::Infallible;
@@ -188,10 +187,8 @@ pub(crate) fn pull_lent_text<'de>(
 fn lent_follows(previous: &Option<&str>, key: &str) -> bool
     ensures { IsTrue result ↔ Follows (option_map (λ s. s.now) previous.now) key.now }
 {
-    match previous {
-        None => true,
-        Some(before) => comes_before(before.as_bytes(), key.as_bytes()),
-    }
+    let before = previous.map(|before| before.as_bytes());
+    follows(&before, key.as_bytes())
 }
 
 /// How many bytes the item at the front has, where it holds no others and no link.

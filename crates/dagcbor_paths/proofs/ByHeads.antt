@@ -6,11 +6,12 @@ use Rattle.std.proofs.Math.Seq.{take-append_seam, drop-append_seam}
 use Rattle.std.specs.Fmt.{decimal}
 use Rattle.dagcbor_heads.specs.Head.{head}
 use Rattle.dagcbor_heads.specs.Splits.{SplitsHead, BeginsWithHead}
-use Rattle.ipld_tree.specs.Tree.{Tree, text, list, mapping, Items, any_need}
-use Rattle.ipld_tree.specs.Spelling.{item_count, items_spelling, IsFront}
+use Rattle.ipld_tree.specs.Tree.{Tree, text, list, mapping, Items, any_need, items_need}
+use Rattle.ipld_tree.specs.Spelling.{item_count, IsFront, AreFronts}
 use Rattle.ipld_tree.proofs.Unique.{major}
 use Rattle.ipld_tree.proofs.Fronts.{is_list, is_mapping, list_opened, map_opened}
-use Rattle.dagcbor_items.specs.Judging.{SplitsPayload, SplitsItems}
+use Rattle.dagcbor_items.specs.Judging.{SplitsPayload}
+use Rattle.dagcbor_items.specs.Skips.{FindsBehindItems}
 use Rattle.dagcbor_items.proofs.Judging.{head_opened, no_front, text_opened, too_few}
 use Rattle.dagcbor_paths.specs.Paths.{IsItemAt, IsPart}
 use Rattle.dagcbor_paths.specs.Parts.{EndsWith, GivesPart, FindsItem, FindsValue, FindsPart}
@@ -44,12 +45,14 @@ dropped_end n c back e = (take n c, sym (take-append-drop n c) ∙ ap (λ x. tak
 pub no_item_of : {A : Type 0} (bytes_of : A → List ℕ) (b : List ℕ) (count n : ℕ) → count ≤ n → FindsItem {A = A} bytes_of b count n None
 no_item_of bytes_of b count n many = λ ts rest f e need t h. omega (arith, many, e, index_below n ts t h)
 
-pub item_found : {A : Type 0} (bytes_of : A → List ℕ) (b : List ℕ) (count n : ℕ) (r : Option A) → n < count → MatchOption r (¬ ((at : List ℕ) × SplitsItems b n 256 at)) (λ a. SplitsItems b n 256 (bytes_of a)) → FindsItem bytes_of b count n r
-item_found bytes_of b count n None few none = λ ts rest f e need. absurd (none (some_items n ts b rest f need (omega (arith, few, e))))
-item_found bytes_of b count n (Some a) few k = λ ts rest f e need. item_begins n ts k.0 b (bytes_of a) rest f need k.2 k.1 (omega (arith, few, e))
+item_there : {A : Type 0} (bytes_of : A → List ℕ) (b at rest : List ℕ) (n : ℕ) (ts us : Items) (r : Option A) → AreFronts b ts rest → items_need ts ≤ 256 → AreFronts b us at → item_count us ≡ n → n < item_count ts → MatchOption r ⊥ (λ a. bytes_of a ≡ at) → GivesPart bytes_of (IsItemAt n ts) r
+item_there bytes_of b at rest n ts us None f need g e few m = absurd m
+item_there bytes_of b at rest n ts us (Some a) f need g e few m = item_begins n ts us b (bytes_of a) rest f need (subst (AreFronts b us) (sym m) g) e few
 
-pub items_within : (b at : List ℕ) (n : ℕ) → SplitsItems b n 256 at → EndsWith b at
-items_within b at n k = (items_spelling k.0, k.2.is)
+pub item_found : {A : Type 0} (bytes_of : A → List ℕ) (b : List ℕ) (count n : ℕ) (r : Option A) → n < count → FindsBehindItems bytes_of b n r → FindsItem bytes_of b count n r
+item_found bytes_of b count n r few found = λ ts rest f e need.
+    let k = some_items n ts b rest f need (omega (arith, few, e)) in
+    item_there bytes_of b k.0 rest n ts k.1.0 r f need k.1.2 k.1.1 (omega (arith, few, e)) (found k.1.0 k.0 k.1.2 k.1.1)
 
 -- ---- parts
 
@@ -97,7 +100,3 @@ no_head bytes_of segment b none = λ t k. absurd (no_front b k.0 t none k.1)
 pub behind_head_some : {A : Type 0} (bytes_of : A → List ℕ) (m n : ℕ) (b c : List ℕ) (r : Option A) → SplitsHead b m n c → IfSome r (λ a. EndsWith c (bytes_of a)) → IfSome r (λ a. EndsWith b (bytes_of a))
 behind_head_some bytes_of m n b c None h e = tt
 behind_head_some bytes_of m n b c (Some a) h e = behind_head m n b c (bytes_of a) h e
-
-pub items_within_some : {A : Type 0} (bytes_of : A → List ℕ) (b : List ℕ) (n : ℕ) (r : Option A) → MatchOption r (¬ ((at : List ℕ) × SplitsItems b n 256 at)) (λ a. SplitsItems b n 256 (bytes_of a)) → IfSome r (λ a. EndsWith b (bytes_of a))
-items_within_some bytes_of b n None k = tt
-items_within_some bytes_of b n (Some a) k = items_within b (bytes_of a) n k

@@ -13,7 +13,6 @@ use Rattle.ipld_tree.specs.Cid.{CidParts, AreCidParts, cid_bytes}
 use Rattle.ipld_tree.specs.Tree.{Tree, link}
 use Rattle.ipld_tree.specs.Spelling.{IsFront, spelling}
 use Rattle.ipld_tree.proofs.Fronts.{front_unique, front_first}
-use Rattle.dagcbor_items.specs.Judging.{SplitsItem}
 use Rattle.dagcbor_items.specs.Links.{ReadsLink}
 use Rattle.dagcbor_items.specs.LinkCauses.{LinkCause}
 use Rattle.dagcbor_items.specs.Shapes.{view_link}
@@ -43,10 +42,9 @@ front_taken b s rest is =
     let long : length b - length rest ≡ length s = omega (arith, ap length is, length-append s rest) in
     ap (λ n. take n b) long ∙ ap (take (length s)) is ∙ take-append_seam s rest
 
-pub item_told : (b at rest : List ℕ) (first : ℕ) (item : Item) (t : Tree) → EndsWith b at → SplitsItem at 256 rest → Some first ≡ slice_get at 0 → IsKindAt first item.kind → item.place ≡ length b - length at → item.bytes.now ≡ take (length at - length rest) at → BeginsWithTree at t → IsItem b t item
-item_told b at rest first item t ends split is kind place part k =
-    let same = front_unique at rest k.0 split.0 t split.1 k.1 in
-    let whole : at ≡ spelling t ++ rest = k.1.is ∙ ap (λ x. spelling t ++ x) (sym same.1) in
+pub item_told : (b at rest : List ℕ) (first : ℕ) (item : Item) (t : Tree) → EndsWith b at → ((u : Tree) (r : List ℕ) → IsFront at u r → rest ≡ r) → Some first ≡ slice_get at 0 → IsKindAt first item.kind → item.place ≡ length b - length at → item.bytes.now ≡ take (length at - length rest) at → BeginsWithTree at t → IsItem b t item
+item_told b at rest first item t ends found is kind place part k =
+    let whole : at ≡ spelling t ++ rest = k.1.is ∙ ap (λ x. spelling t ++ x) (sym (found t k.0 k.1)) in
     let spelled : item.bytes.now ≡ spelling t = part ∙ front_taken at (spelling t) rest whole in
     record {
       kind = kind_told at k.0 t first item.kind is kind k.1;

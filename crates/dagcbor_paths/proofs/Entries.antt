@@ -2,10 +2,9 @@
 use Rattle.std.proofs.Common.{◌≡◌, inl, inr, ℕ, ◌-◌, ◌<◌, ◌≤◌, List, [], ◌++◌, true, refl, sym, ap, ◌∙◌, subst, arith, append_assoc, None, Some, Less, Equal}
 use Rattle.ipld_tree.specs.Key.{key_cmp, comes_before}
 use Rattle.ipld_tree.specs.Tree.{Tree, text, Entries, no_entries, entry, AreEntries, any_need, entries_need}
-use Rattle.ipld_tree.specs.Spelling.{entry_count, spelling, entries_spelling, IsFront, AreEntryFronts}
+use Rattle.ipld_tree.specs.Spelling.{entry_count, entries_spelling, IsFront, AreEntryFronts}
 use Rattle.ipld_tree.proofs.Fronts.{entry_opened, entries_after}
 use Rattle.ipld_tree.proofs.Ordered.{IsRising, Has, key_cmp_total, key_cmp_same, less_from_before, above}
-use Rattle.dagcbor_items.specs.Judging.{SplitsItem}
 use Rattle.dagcbor_paths.specs.Paths.{IsValueOf}
 use Rattle.dagcbor_paths.specs.Parts.{EndsWith, FindsValue}
 
@@ -80,11 +79,11 @@ no_key_there bytes_of b now key count to_come some s none = λ es rest f e n. le
     by rest (entry k u gs) e f = let o = entry_opened now rest k u gs f in none k o.0 o.1
 
 -- no value stands behind it
-pub no_value_there : {A : Type 0} (bytes_of : A → List ℕ) (b now next value key : List ℕ) (count to_come : ℕ) → 0 < to_come → KeysPassed b count to_come key now → IsNextKey now next value → ¬ ((rest : List ℕ) × SplitsItem value 256 rest) → FindsValue {A = A} bytes_of b count key None
+pub no_value_there : {A : Type 0} (bytes_of : A → List ℕ) (b now next value key : List ℕ) (count to_come : ℕ) → 0 < to_come → KeysPassed b count to_come key now → IsNextKey now next value → ((t : Tree) (rest : List ℕ) → IsFront value t rest → ⊥) → FindsValue {A = A} bytes_of b count key None
 no_value_there bytes_of b now next value key count to_come some s splits none = λ es rest f e n.
     let q = s.left es rest f e n in
     let o = next_entry now next value rest to_come q.0 some q.1 q.2 q.3 splits in
-    absurd (none (o.behind, (o.tree, o.front, o.need)))
+    absurd (none o.tree o.behind o.front)
 
 -- the key stands there
 pub value_found : {A : Type 0} (bytes_of : A → List ℕ) (a : A) (b now next key : List ℕ) (count to_come : ℕ) → 0 < to_come → KeysPassed b count to_come key now → IsNextKey now next (bytes_of a) → next ≡ key → FindsValue bytes_of b count key (Some a)
@@ -101,18 +100,18 @@ key_passed_over bytes_of b now next value key count to_come some s splits before
     λ t h. no_key_from key next o.tree t o.more (subst AreEntries o.is q.2.well_formed) before (subst (λ x. IsValueOf key x t) o.is (q.5 t h))
 
 -- another key stands there, and is passed
-pub one_key_passed : (b now next value rest key : List ℕ) (count to_come : ℕ) → 0 < to_come → KeysPassed b count to_come key now → IsNextKey now next value → EndsWith now value → ¬ (next ≡ key) → SplitsItem value 256 rest → KeysPassed b count (to_come - 1) key rest
-one_key_passed b now next value rest key count to_come some s splits ends other item = record {
+pub one_key_passed : (b now next value rest key : List ℕ) (count to_come : ℕ) → 0 < to_come → KeysPassed b count to_come key now → IsNextKey now next value → EndsWith now value → ¬ (next ≡ key) → ((t : Tree) (r : List ℕ) → IsFront value t r → rest ≡ r) → EndsWith value rest → KeysPassed b count (to_come - 1) key rest
+one_key_passed b now next value rest key count to_come some s splits ends other found within = record {
   left = λ es end f e n. let q = s.left es end f e n in behind es end q.0 q.1 q.2 q.3 q.4 q.5;
-  before = s.before ++ (ends.0 ++ spelling item.0);
-  whole = s.whole ∙ ap (λ x. s.before ++ x) (ends.1 ∙ ap (λ x. ends.0 ++ x) item.1.is ∙ sym (append_assoc ends.0 (spelling item.0) rest)) ∙ sym (append_assoc s.before (ends.0 ++ spelling item.0) rest);
+  before = s.before ++ (ends.0 ++ within.0);
+  whole = s.whole ∙ ap (λ x. s.before ++ x) (ends.1 ∙ ap (λ x. ends.0 ++ x) within.1 ∙ sym (append_assoc ends.0 (within.0) rest)) ∙ sym (append_assoc s.before (ends.0 ++ within.0) rest);
 }
   where
     behind : (es : Entries) (end : List ℕ) (fs : Entries) → entry_count fs ≡ to_come → AreEntryFronts now fs end → entries_need fs ≤ 256 → ((t : Tree) → IsValueOf key fs t → IsValueOf key es t) → ((t : Tree) → IsValueOf key es t → IsValueOf key fs t)
         → (gs : Entries) × (entry_count gs ≡ to_come - 1) × AreEntryFronts rest gs end × (entries_need gs ≤ 256) × ((t : Tree) → IsValueOf key gs t → IsValueOf key es t) × ((t : Tree) → IsValueOf key es t → IsValueOf key gs t)
     behind es end fs e f n into out =
         let o = next_entry now next value end to_come fs some e f n splits in
-        let a = entries_after now value rest end next next item.0 o.tree o.more o.key item.1 (subst (λ x. AreEntryFronts now x end) o.is f) in (
+        let a = entries_after now value rest end next next o.tree o.tree o.more o.key (subst (IsFront value o.tree) (sym (found o.tree o.behind o.front)) o.front) (subst (λ x. AreEntryFronts now x end) o.is f) in (
           o.more,
           omega (arith, some, e, ap entry_count o.is),
           a.3,

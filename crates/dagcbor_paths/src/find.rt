@@ -11,9 +11,8 @@ ghost use Rattle.dagcbor_paths.specs.Finding.{FindsItemIn, IsFoundIn, StopsInBlo
 
 use crate::parts::part_at;
 use crate::segments::next_segment;
-use crate::skip::behind_item;
 use dagcbor_heads::{DecodeError, SliceReader};
-use dagcbor_items::{Kind, check_slice, kind_at, pull_link};
+use dagcbor_items::{Kind, behind_item, check_slice, kind_at, pull_link};
 use ipld_tree::Cid;
 use std::convert::Infallible;
 

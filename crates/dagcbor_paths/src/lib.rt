@@ -4,7 +4,6 @@
 mod find;
 mod parts;
 mod segments;
-mod skip;
 
 pub use find::{
     Found, Item, Stop, find_in_block, find_judged, find_segments, find_slice, follow_slice,

@@ -6,6 +6,7 @@ ghost use Rattle.std.specs.Prelude.{◌≤◌, length};
 use crate::error::Misfit;
 use crate::link::LINK;
 use dagcbor_heads::{Name as Kept, split_head};
+use dagcbor_items::behind_item;
 use serde::{Case, Format, Kind, Name, find};
 use smallvec::SmallVec;
 use std::alloc::Global;
@@ -97,30 +98,6 @@ fn is_link_name(names: &[Name<'_>]) -> bool {
         [name] => name.case == LINK.case && matches!(name.name.as_bytes(), b"/"),
         _ => false,
     }
-}
-
-/// What is behind one item.
-fn behind_one(bytes: &[u8]) -> Option<&[u8]> {
-    let mut rest = bytes;
-    let mut wanted = 1u64;
-    for _ in 0..bytes.len() {
-        let (major, argument, behind) = split_head(rest)?;
-        wanted = wanted.checked_sub(1)?;
-        rest = match major {
-            2 | 3 => behind.get(usize::try_from(argument).ok()?..)?,
-            _ => behind,
-        };
-        wanted = match major {
-            4 => wanted.checked_add(argument)?,
-            5 => wanted.checked_add(argument)?.checked_add(argument)?,
-            6 => wanted.checked_add(1)?,
-            _ => wanted,
-        };
-        if wanted == 0 {
-            return Some(rest);
-        }
-    }
-    None
 }
 
 impl<'r> Block<'r> {
@@ -461,7 +438,7 @@ impl<'r> Format for Block<'r> {
         if !self.is_outside() {
             return Err(mismatch(self.rest));
         }
-        match behind_one(self.rest) {
+        match behind_item(self.rest) {
             Some(behind) => {
                 self.rest = behind;
                 Ok(())

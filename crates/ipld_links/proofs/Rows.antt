@@ -1,5 +1,5 @@
 -- The links of items in a row.
-use Rattle.std.proofs.Common.{◌≡◌, ◌≢◌, ℕ, ◌+◌, ◌<◌, ◌≤◌, List, [], ◌∷◌, ◌++◌, length, length-append, append_assoc, append-nil, drop, take, refl, IsTrue, Bool, true, false, length-drop, if◌then◌else◌, pos, negsuc, sym, ap, ◌∙◌, subst, arith, flat_map}
+use Rattle.std.proofs.Common.{◌≡◌, ◌≢◌, ℕ, ◌+◌, ◌<◌, ◌≤◌, List, [], ◌∷◌, ◌++◌, length, length-append, append_assoc, append-nil, drop, take, refl, IsTrue, if◌then◌else◌, pos, negsuc, sym, ap, ◌∙◌, subst, arith, flat_map}
 use Rattle.std.specs.List.{AllByRecursion}
 use Rattle.std.proofs.Math.Seq.{drop-append_seam, take-append_seam}
 use Rattle.std.proofs.lemmas.List.Concat.{flat_map-append}
@@ -12,12 +12,13 @@ use Rattle.ipld_tree.specs.Spelling.{IsSpellable, AreSpellableItems, AreSpellabl
 use Rattle.ipld_tree.proofs.Unique.{major, argument, payload}
 use Rattle.ipld_tree.proofs.Fronts.{front_unique, is_link}
 use Rattle.dagcbor_items.specs.Judging.{SplitsCid}
+use Rattle.dagcbor_items.specs.Skips.{is_string}
 use Rattle.dagcbor_items.specs.Walks.{forms}
 use Rattle.dagcbor_items.specs.Slices.{IsBlock, AreFirstLinks}
 use Rattle.dagcbor_items.proofs.SliceReads.{whole_front}
 use Rattle.dagcbor_items.proofs.Judging.{head_opened, no_front, bytes_opened, link_opened}
 use Rattle.ipld_links.specs.Blocks.{HasBlock}
-use Rattle.ipld_links.specs.Rows.{HoldsLinks, is_string}
+use Rattle.ipld_links.specs.Rows.{HoldsLinks}
 
 -- ---- parts in a row
 
@@ -201,11 +202,3 @@ all_so_far b found rest s none = sym (s.all ∙ ap (λ ls. forms found ++ ls) no
 
 pub first_so_far : (b : List ℕ) (found : List CidParts) (rest : List ℕ) (s : LinksSoFar b found rest) → s.more ≡ [] → AreFirstLinks b (forms found)
 first_so_far b found rest s none = (s.tree, [], whole_front s.block.0, s.block.1, all_so_far b found rest s none)
-
--- what is behind a token is shorter
-pub token_shorter : (b c r : List ℕ) (m n : ℕ) → SplitsHead b m n c → r ≡ (if is_string m then drop n c else c) → length r < length b
-token_shorter b c r m n h e = omega (arith, behind_shorter b c m n h, ap length e, by (is_string m))
-  where
-    by : (x : Bool) → length (if x then drop n c else c) ≤ length c
-    by true = omega (arith, length-drop n c)
-    by false = omega arith

@@ -1,5 +1,5 @@
 -- The links of items in a row.
-use Rattle.std.specs.Prelude.{◌≡◌, ◌==◌, ◌||◌, ℕ, Bool, List}
+use Rattle.std.specs.Prelude.{◌≡◌, ℕ, List}
 use Rattle.std.specs.List.{AllByRecursion, flat_map}
 use Rattle.ipld_tree.specs.Tree.{Tree, IsTree, links_of}
 use Rattle.ipld_tree.specs.Spelling.{IsSpellable, spelling}
@@ -11,7 +11,3 @@ pub record HoldsLinks (b : List ℕ) (links : List (List ℕ)) : Type 0 where
   pub whole : AllByRecursion (λ t. IsTree t × IsSpellable t) trees
   pub is : b ≡ flat_map spelling trees
   pub are : links ≡ flat_map links_of trees
-
--- whether a head of this major type is one of a string
-abbrev pub is_string : ℕ → Bool
-is_string major = (major == 2) || (major == 3)

@@ -1,15 +1,15 @@
 //! The links of blocks that were judged: nothing of these is tested again.
 
-ghost use Rattle.std.specs.Prelude.{◌≡◌, ◌+◌, ◌<◌, ◌≤◌, List, ℕ, [], ◌∷◌, length, drop};
-ghost use Rattle.std.specs.Prelude.{if◌then◌else◌, IsTrue, IfSome, IfOk, MatchOption};
+ghost use Rattle.std.specs.Prelude.{◌≡◌, ◌+◌, ◌<◌, List, ℕ, [], ◌∷◌, length, IfSome, IfOk, MatchOption};
 ghost use Rattle.ipld_tree.specs.Cid.{cid_bytes};
 ghost use Rattle.dagcbor_items.specs.Judging.{SplitsCid};
 ghost use Rattle.dagcbor_items.specs.Slices.{AreFirstLinks};
 ghost use Rattle.dagcbor_items.specs.Walks.{forms};
 ghost use Rattle.ipld_links.specs.Blocks.{HasBlock};
-ghost use Rattle.ipld_links.specs.Rows.{HoldsLinks, is_string};
+ghost use Rattle.ipld_links.specs.Rows.{HoldsLinks};
 
 use dagcbor_heads::split_head;
+use dagcbor_items::behind_token;
 use ipld_tree::Cid;
 use std::alloc::{AllocError, Global};
 
@@ -31,19 +31,6 @@ fn split_link(bytes: &[u8]) -> (Cid, &[u8])
     (cid, rest)
 }
 
-/// The bytes behind a head, and behind its string, where it is one of a string.
-#[inline(always)]
-fn behind_token(major: u8, argument: u64, behind: &[u8]) -> &[u8]
-    requires { IsTrue (is_string major) → argument ≤ length behind.now }
-    ensures { result.now ≡ (if is_string major then drop argument behind.now else behind.now) }
-{
-    if major == 2 || major == 3 {
-        behind.split_at(argument as usize).1
-    } else {
-        behind
-    }
-}
-
 /// The first link of items in a row, and the bytes behind it. Of lists and maps only the heads are
 /// looked at, as their parts follow them.
 pub(crate) fn next_link(items: &[u8]) -> Option<(Cid, &[u8])>
@@ -59,7 +46,7 @@ pub(crate) fn next_link(items: &[u8]) -> Option<(Cid, &[u8])>
         if major == 6 {
             return Some(split_link(behind));
         }
-        rest = behind_token(major, argument, behind);
+        rest = behind_token(major, argument, behind)?;
     }
     None
 }

@@ -1,7 +1,8 @@
 use Rattle.std.proofs.Common.{◌∷◌, ap, ◌∙◌, subst, arith}
 use Rattle.ipld_tree.specs.Cid.{cid_bytes}
 use Rattle.ipld_links.specs.Rows.{HoldsLinks}
-use Rattle.ipld_links.proofs.Rows.{token_passed, token_shorter, link_passed, one_cid, none_left, cid_shorter, behind_shorter}
+use Rattle.dagcbor_items.proofs.Skipping.{token_shorter}
+use Rattle.ipld_links.proofs.Rows.{token_passed, link_passed, one_cid, none_left, cid_shorter, behind_shorter}
 use Rattle.ipld_links.proofs.links.next_link.Goals as goal
 
 pub split_link-requires : goal.split_link-requires
@@ -20,17 +21,19 @@ returns-then-major-eq6-clause-shorter c =
     let some = c.loop-major.invariant.1 in
     omega (arith, cid_shorter c.in-Some.behind.now (cid_bytes c.split_link.result.0) c.split_link.result.1.now c.split_link.ensures, behind_shorter c.loop-major.rest.now c.in-Some.behind.now c.in-Some.major c.in-Some.argument c.in-Some.ensures)
 
-pub behind_token-rest-requires : goal.behind_token-rest-requires
-behind_token-rest-requires c = (token_passed c.loop-major.rest.now c.in-Some.behind.now c.in-Some.major c.in-Some.argument c.requires.0 c.if-major-eq6.false c.in-Some.ensures (c.loop-major.invariant.0 c.requires.0 c.requires.1)).0
+pub returns-in_err-rest-clause-link : goal.returns-in_err-rest-clause-link
+returns-in_err-rest-clause-link c links holds =
+    let k = token_passed c.loop-major.rest.now c.in-Some.behind.now c.in-Some.major c.in-Some.argument links c.if-major-eq6.false c.in-Some.ensures (c.loop-major.invariant.0 links holds) in
+    absurd (omega (arith, c.in_err-rest.ensures.1, k.0 c.in_err-rest.ensures.0))
 
 pub loop-major-smaller : goal.loop-major-smaller
-loop-major-smaller c = token_shorter c.loop-major.rest.now c.in-Some.behind.now c.behind_token-rest.result.now c.in-Some.major c.in-Some.argument c.in-Some.ensures c.behind_token-rest.ensures
+loop-major-smaller c = token_shorter c.loop-major.rest.now c.in-Some.behind.now c.in_ok-rest.rest.now c.in-Some.major c.in-Some.argument c.in-Some.ensures c.in_ok-rest.ensures
 
 pub loop-major-preserved : goal.loop-major-preserved
 loop-major-preserved c =
     let some = c.loop-major.invariant.1 in (
-      λ links holds. rw c.behind_token-rest.ensures (token_passed c.loop-major.rest.now c.in-Some.behind.now c.in-Some.major c.in-Some.argument links c.if-major-eq6.false c.in-Some.ensures (c.loop-major.invariant.0 links holds)).1,
-      omega (arith, token_shorter c.loop-major.rest.now c.in-Some.behind.now c.behind_token-rest.result.now c.in-Some.major c.in-Some.argument c.in-Some.ensures c.behind_token-rest.ensures),
+      λ links holds. rw c.in_ok-rest.ensures (token_passed c.loop-major.rest.now c.in-Some.behind.now c.in-Some.major c.in-Some.argument links c.if-major-eq6.false c.in-Some.ensures (c.loop-major.invariant.0 links holds)).1,
+      omega (arith, token_shorter c.loop-major.rest.now c.in-Some.behind.now c.in_ok-rest.rest.now c.in-Some.major c.in-Some.argument c.in-Some.ensures c.in_ok-rest.ensures),
     )
 
 pub returns-clause-link : goal.returns-clause-link

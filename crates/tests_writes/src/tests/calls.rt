@@ -1,5 +1,5 @@
-//! Calls of a `Serializer` and of its collectors that no type of the library and none by hand makes,
-//! and what they tell of their state.
+//! Calls of a `Serializer` and of its collectors that no type of the library and none by hand
+//! makes, and what they tell of their state.
 
 use crate::tests::maps::{Ended, LARGE, is_ended};
 use dagcbor_heads::{BufWriter, EncodeError};

@@ -8,7 +8,10 @@ use crate::types::{
 };
 use dagcbor_serde::{Any, ByteBuf, from_slice_owned, to_vec};
 use ipld_tree::Ipld;
+use serde::DeserializeOwned;
+use std::alloc::Global;
 use std::collections::{BTreeMap, BTreeSet};
+use std::fmt::Debug;
 use std::test::Fail;
 use tests_shared::{agree, is_told};
 
@@ -26,12 +29,17 @@ fn types_of_std_have_one_form(rt: HostRuntime) -> Result<(), Fail> {
     let lists = b"\x84\x82\x01\xf5\x83\x01\x02\x03\x82\x01\x03\x82\x09\x08";
     is_written_again::<((u8, bool), [u8; 3], BTreeSet<u8>, Vec<u8>)>(alloc, lists)?;
     // As in Rust, the outer `Option` takes the null.
-    agree(
-        to_vec(alloc, &Some(None::<u8>))?.as_slice(),
-        b"\xf6".as_slice(),
-    )?;
-    let read: Option<Option<u8>> = from_slice_owned(alloc, b"\xf6")?;
-    agree(read, None)
+    is_told(alloc, &to_vec(alloc, &Some(None::<u8>)), "Ok([246])")?;
+    is_shown::<Option<Option<u8>>>(alloc, b"\xf6", "Ok(None)")
+}
+
+/// The bytes show this to the type, as text.
+fn is_shown<T: DeserializeOwned + Debug>(
+    alloc: Global,
+    bytes: &[u8],
+    told: &str,
+) -> Result<(), Fail> {
+    is_told(alloc, &from_slice_owned::<T>(alloc, bytes), told)
 }
 
 /// Keys of maps, as they are given and in key order.

@@ -1,11 +1,10 @@
 //! Untyped reads of a buffered source, skips and checks, which are untyped reads of a slice.
 
 use crate::reads::tells;
-use crate::std_devices::Source;
-use crate::told::{agree, is_told, writes};
 use serde_ipld_dagcbor::{DecodeError, IgnoredAny, Ipld, check_slice, from_reader, from_slice};
 use std::alloc::{AllocError, Global};
 use std::test::Fail;
+use tests_shared::{Source, agree, is_told, writes};
 
 /// What an untyped read answers, as text.
 fn told(alloc: Global, bytes: &[u8]) -> Result<String, AllocError> {
@@ -56,28 +55,10 @@ pub fn each_is_refused(alloc: Global, rows: &[(&[u8], &str)]) -> Result<(), Fail
     Ok(())
 }
 
-/// Whether the bytes are read as the value.
-pub fn is_read_as(alloc: Global, bytes: &[u8], value: &Ipld) -> bool {
-    match from_slice::<Ipld>(alloc, bytes) {
-        Ok(read) => read == *value,
-        Err(_) => false,
-    }
-}
-
-/// Fails where the value is not written as these bytes, or these, however they come, are not read
-/// as the value.
-pub fn goes_both_ways(alloc: Global, value: &Ipld, spelling: &[u8]) -> Result<(), Fail> {
-    writes(alloc, value, spelling)?;
-    reads_alike(alloc, spelling)?;
-    agree(
-        (spelling, is_read_as(alloc, spelling, value)),
-        (spelling, true),
-    )
-}
-
 /// Fails where the bytes, however they come, are not read as a value that is written as they.
 pub fn is_written_again(alloc: Global, bytes: &[u8]) -> Result<(), Fail> {
-    goes_both_ways(alloc, &from_slice(alloc, bytes)?, bytes)
+    writes(alloc, &from_slice::<Ipld>(alloc, bytes)?, bytes)?;
+    reads_alike(alloc, bytes)
 }
 
 /// Whether the bytes are refused as cut.

@@ -1,11 +1,11 @@
 //! What values of the examples are written and read as, by whichever way their types are made.
 
 use crate::reads::each_answers;
-use crate::told::writes;
 use serde_ipld_dagcbor::{Deserialize, Serialize};
 use std::alloc::Global;
 use std::fmt::Debug;
 use std::test::Fail;
+use tests_shared::writes;
 
 /// The note of the year 23 and of the text "hi".
 const NOTE: &[u8] = b"\xa2\x64text\x62hi\x64year\x17";

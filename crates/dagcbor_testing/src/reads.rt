@@ -1,12 +1,11 @@
 //! What a typed read answers, however the bytes come.
 
 use crate::own_devices::Pieces;
-use crate::std_devices::Source;
-use crate::told::is_told;
 use serde_ipld_dagcbor::{Deserialize, Deserializer, IoReader, Read, ReadResult, from_slice};
 use std::alloc::Global;
 use std::fmt::Debug;
 use std::test::Fail;
+use tests_shared::{Source, is_told};
 
 /// Fails where a read answers anything but this, as text.
 pub fn tells<'de, T: Deserialize<'de> + Debug>(

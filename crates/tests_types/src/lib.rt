@@ -1,4 +1,5 @@
-//! Tests of `serde_ipld_dagcbor`: tables of bytes and answers, each public call, and types by hand.
+//! Tests of `serde_ipld_dagcbor`: tables of bytes and answers, public calls, and types by hand. What
+//! is written alone is tested in `tests_writes`.
 #![tactic(auto)]
 
 #[cfg(test)]

@@ -5,12 +5,12 @@ ghost use Rattle.std.specs.Prelude.{⊤, true};
 
 use crate::tests::sections::{CHANGED, EMPTY, HEADER, NUMBERS, SECTION, UNORDERED};
 use dagcbor_car::{CarError, Section, VerdictSink, check_car};
-use dagcbor_testing::{agree, joined};
 use ipld_links::Verdict;
 use ipld_tree::Cid;
 use std::alloc::{AllocError, Global};
 use std::convert::Infallible;
 use std::test::Fail;
+use tests_shared::{agree, joined};
 
 /// The header of the root `PARENT`, its section, and that of `NUMBERS`. The block of `PARENT` is the
 /// list of a link to `NUMBERS`, one to `FOO`, and again one to `NUMBERS`.

@@ -2,10 +2,10 @@
 
 use crate::tests::store::put;
 use dagcbor_blocks::Blocks;
-use dagcbor_testing::{LINK, agree};
 use serde_ipld_dagcbor::{Cid, Ipld, from_slice};
 use std::alloc::Global;
 use std::test::Fail;
+use tests_shared::{LINK, agree};
 
 /// Keeps a list of links, and answers its name.
 fn put_links(alloc: Global, blocks: &mut Blocks, names: &[Cid]) -> Result<Cid, Fail> {

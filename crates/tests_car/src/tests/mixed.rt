@@ -4,10 +4,10 @@
 use crate::tests::sections::RAW;
 use crate::tests::store::{gives, lacks};
 use dagcbor_blocks::Blocks;
-use dagcbor_testing::{agree, is_told, joined};
 use serde_ipld_dagcbor::{BufWriter, Cid, Input, SliceReader};
 use std::alloc::Global;
 use std::test::Fail;
+use tests_shared::{agree, is_told, joined};
 
 /// The header of one root, the name of `PARENT`.
 const HEADER: &[u8] =

@@ -5,11 +5,11 @@ ghost use Rattle.serde_ipld_dagcbor.specs.Tree.{integer, entries_tree};
 ghost use Rattle.serde_ipld_dagcbor.specs.Trees.{field};
 
 use dagcbor_blocks::name_of;
-use dagcbor_testing::agree;
 use serde_ipld_dagcbor::{Field, Serialize, Serializer, Write, WriteResult, write_struct};
 use std::alloc::Global;
 use std::collections::HashMap;
 use std::test::Fail;
+use tests_shared::agree;
 
 struct Pair {
     a: u8,

@@ -2,11 +2,11 @@
 
 use crate::tests::sections::NUMBERS;
 use dagcbor_blocks::{Blocks, name_of};
-use dagcbor_testing::{LINK, agree, is_told};
 use serde_ipld_dagcbor::{Cid, Deserialize, Ipld, Serialize, from_slice};
 use std::alloc::{AllocError, Global};
 use std::fmt::Debug;
 use std::test::Fail;
+use tests_shared::{LINK, agree, is_told};
 
 fn numbers(alloc: Global) -> Result<Vec<u8>, AllocError> {
     Ok(vec![in alloc; 1u8, 2, 3]?)

@@ -2,10 +2,10 @@
 
 use dagcbor_blocks::Blocks;
 use dagcbor_heads::{BufWriter, Input, SliceReader};
-use dagcbor_testing::{agree, is_told};
 use ipld_tree::Cid;
 use std::alloc::Global;
 use std::test::Fail;
+use tests_shared::{agree, is_told};
 
 /// The file of a text, the numbers, an integer, a map of a link to the numbers, and the list of
 /// `ROOT`.

@@ -4,10 +4,10 @@ use crate::tests::files::cids_of;
 use crate::tests::sections::{EMPTY, NUMBERS};
 use dagcbor_car::{CarReader, CarWriter};
 use dagcbor_heads::{BufWriter, SliceReader};
-use dagcbor_testing::{agree, joined};
 use ipld_tree::Cid;
 use std::alloc::Global;
 use std::test::Fail;
+use tests_shared::{agree, joined};
 
 /// The name of "foo", of version 0.
 const FOO: &[u8] =

@@ -2,13 +2,13 @@
 
 ghost use Rattle.std.specs.Prelude.{◌≤◌};
 
-use dagcbor_testing::{Source, agree, is_told};
 use serde_ipld_dagcbor::{
     Deserialize, Deserializer, IoReader, Ipld, SliceReader, from_slice_with_depth,
 };
 use std::alloc::Global;
 use std::fmt::Debug;
 use std::test::Fail;
+use tests_shared::{Source, agree, is_told};
 
 /// Fails where a read within no step, or within one, answers anything but this, as text.
 fn tells_within<'de, T: Deserialize<'de> + Debug>(

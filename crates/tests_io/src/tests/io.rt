@@ -1,7 +1,6 @@
 //! Values from buffered sources of std and to devices of std, however little they show or take at
 //! once.
 
-use dagcbor_testing::{Sink, Source, agree, is_told};
 use serde_ipld_dagcbor::{
     Cid, DecodeError, DeserializeOwned, EncodeError, Ipld, Serialize, from_reader,
     from_reader_once, from_slice, to_writer,
@@ -10,6 +9,7 @@ use std::alloc::Global;
 use std::fmt::Debug;
 use std::io::ErrorKind;
 use std::test::Fail;
+use tests_shared::{Sink, Source, agree, is_told};
 
 /// Fails where a read of the whole source answers anything else.
 fn comes<'de, T: DeserializeOwned<'de> + Debug>(

@@ -5,12 +5,12 @@ use dagcbor_heads::{
     DecodeError, Input, IoReader, IoRefReader, Read, is_at_end, peek_one, pull_head, pull_one,
     pull_payload, pull_short_payload,
 };
-use dagcbor_testing::{Source, agree, is_told};
 use std::alloc::Global;
 use std::borrow::CowSlice;
 use std::io;
 use std::io::ErrorKind;
 use std::test::Fail;
+use tests_shared::{Source, agree, is_told};
 
 /// A source, as an input.
 type Gathering<'a> = Input<'a, IoReader<Source<'a>>>;

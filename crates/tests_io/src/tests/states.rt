@@ -1,6 +1,6 @@
 //! What a `Deserializer`, a `Serializer` and their devices are like between calls.
 
-use dagcbor_testing::{FaultyWriter, Pieces, agree, is_told};
+use dagcbor_testing::{FaultyWriter, Pieces};
 use serde_ipld_dagcbor::{
     BufWriter, DecodeError, Deserializer, EncodeError, Message, Name, Serializer, SliceReader,
     Write,
@@ -9,6 +9,7 @@ use std::alloc::{AllocError, Global};
 use std::convert::Infallible;
 use std::fmt::Display;
 use std::test::Fail;
+use tests_shared::{agree, is_told};
 
 /// An item and the end behind it, twice, as text.
 fn twice(alloc: Global, bytes: &[u8]) -> Result<String, AllocError> {

@@ -3,7 +3,7 @@
 ghost use Rattle.std.specs.Prelude.{◌+◌, ◌≤◌, length, IfOk, List, Option, true};
 ghost use Rattle.serde_ipld_dagcbor.specs.Streams.{AreStreamItems, AreUpTo};
 
-use dagcbor_testing::{Pieces, Source, agree, is_told, joined};
+use dagcbor_testing::Pieces;
 use serde_ipld_dagcbor::{
     DecodeError, Deserialize, Deserializer, IoReader, Ipld, Read, SliceReader, StreamDeserializer,
     from_slice, iter_from_reader, laws,
@@ -12,6 +12,7 @@ use std::alloc::{AllocError, Global};
 use std::convert::Infallible;
 use std::fmt::Debug;
 use std::test::Fail;
+use tests_shared::{Source, agree, is_told, joined};
 
 /// Fails where something else comes next, as text.
 fn comes<'de, T: Deserialize<'de> + Debug, R: Read>(

@@ -1,11 +1,11 @@
 //! Heads onto devices.
 
 use dagcbor_heads::{EncodeError, IoRefWriter, IoWriter, Write, push_head};
-use dagcbor_testing::{Sink, agree};
 use std::alloc::Global;
 use std::io;
 use std::io::ErrorKind;
 use std::test::Fail;
+use tests_shared::{Sink, agree};
 
 /// Fails where the sink holds other bytes, or was called another number of times.
 fn is_held(sink: &Sink, held: &[u8], calls: u64) -> Result<(), Fail> {

@@ -2,8 +2,8 @@
 
 use dagcbor_items::Kind;
 use dagcbor_paths::find_slice;
-use dagcbor_testing::agree;
 use std::test::Fail;
+use tests_shared::agree;
 
 /// Where an item of this kind begins, and its length.
 pub(super) type Place = (Kind, usize, usize);

@@ -1,11 +1,11 @@
 //! Rows are of a walk over decoded blocks that was written apart, in Python, names and all.
 
 use dagcbor_resolve::{resolve, resolve_way};
-use dagcbor_testing::{agree, is_told};
 use ipld_tree::Cid;
 use std::alloc::Global;
 use std::collections::BTreeMap;
 use std::test::Fail;
+use tests_shared::{agree, is_told};
 
 /// Links to each of the others, and to a block that is not held.
 const ROOT: &[u8] =

@@ -3,8 +3,8 @@
 use super::find::Place;
 use dagcbor_items::Kind;
 use dagcbor_paths::find_segments;
-use dagcbor_testing::agree;
 use std::test::Fail;
+use tests_shared::agree;
 
 /// `{"": {"": 1}, "/": 2, "0": [3], "a/b": {"/": {"c/": 4}}, "a//b": 5}`, whose keys stand by their
 /// lengths.

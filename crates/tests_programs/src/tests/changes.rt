@@ -3,9 +3,9 @@
 
 use crate::tests::records::{HEADER, NODES, file_of};
 use dagcar_lines::run_changes;
-use dagcbor_testing::agree;
 use std::alloc::Global;
 use std::test::Fail;
+use tests_shared::agree;
 
 /// A file of a repository without 1 and 5, with 2 and one key more behind the last, and with other records
 /// of 4 and of that last one. None of its records is there.

@@ -1,10 +1,10 @@
 //! The lines, words and faults of `dagcar`. The expected lines are made by another program.
 
 use dagcar_lines::run_command;
-use dagcbor_testing::{StingySink, agree, joined};
 use std::alloc::Global;
 use std::io::{BufRead, Write};
 use std::test::Fail;
+use tests_shared::{StingySink, agree, joined};
 
 /// A file whose root links to its second section; the third is of another codec.
 const GOOD: &[u8] =

@@ -2,10 +2,10 @@
 
 use crate::tests::dagcar::owned_words;
 use dagcbor_lines::{run_check, run_command, run_links};
-use dagcbor_testing::{FaultySource, StingySink, agree};
 use std::alloc::Global;
 use std::io::ErrorKind;
 use std::test::Fail;
+use tests_shared::{FaultySource, StingySink, agree};
 
 const LINES: &[u8] = b"1817\nzz\n\nF6\n63616263\r\nF5\n420102";
 

@@ -1,9 +1,9 @@
 //! `get` and `tree`: blocks out of a file. The expected bytes are made by another program.
 
 use crate::tests::dagcar::run_words;
-use dagcbor_testing::agree;
 use std::alloc::Global;
 use std::test::Fail;
+use tests_shared::agree;
 
 /// A file whose root leads nowhere: another integer, the numbers, other bytes under the name of the map,
 /// a node of version 0, a raw leaf, the list, the map, a block by the identity, a list of a link that

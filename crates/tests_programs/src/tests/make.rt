@@ -1,8 +1,8 @@
 //! `make`: blocks of DAG-JSON. The expected bytes are made by another program.
 
 use crate::tests::dagcar::{gives, run_word};
-use dagcbor_testing::agree;
 use std::test::Fail;
+use tests_shared::agree;
 
 /// Texts that are none, and what is told of them.
 const REFUSED: &[(&[u8], &str)] = &[

@@ -3,9 +3,9 @@
 
 use crate::tests::dagcar::run_words;
 use crate::tests::paths::FILE;
-use dagcbor_testing::agree;
 use std::alloc::Global;
 use std::test::Fail;
+use tests_shared::agree;
 
 const ROOT: &str = "bafyreihmge4qxbweeb5hev33cwr6r7cxcxne7tb4mygmq3wsduicvzrusa";
 

@@ -2,9 +2,9 @@
 //! another program.
 
 use crate::tests::dagcar::{fills, run_words};
-use dagcbor_testing::{agree, joined};
 use std::alloc::Global;
 use std::test::Fail;
+use tests_shared::{agree, joined};
 
 /// The header of a file whose root is the commit.
 pub const HEADER: &[u8] =

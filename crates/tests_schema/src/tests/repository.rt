@@ -5,10 +5,11 @@ use crate::tests::blocks::{
     COMMIT_UNSIGNED, NODE, NODE_NO_LEFT,
 };
 use crate::tests::written_again::each_is_written_again;
-use dagcbor_testing::{agree, each_answers};
+use dagcbor_testing::each_answers;
 use repository_types::{Commit, Node, UnsignedCommit};
 use serde_ipld_dagcbor::{from_slice, to_vec};
 use std::test::Fail;
+use tests_shared::agree;
 
 #[test]
 fn blocks_are_written_again(rt: HostRuntime) -> Result<(), Fail> {

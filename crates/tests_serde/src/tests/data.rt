@@ -1,19 +1,20 @@
 //! Any data in fields, and the data of another format.
 
-use super::{CID, goes_both_ways, is_refused, link, text};
+use super::{CID, is_refused, is_written_again, link};
 use crate::types::Envelope;
-use dagcbor_serde::{Any, from_slice_owned, to_vec};
-use dagcbor_testing::agree;
-use ipld_tree::{Cid, Ipld};
+use dagcbor_serde::{Any, Link, from_slice_owned, to_vec};
+use ipld_tree::Cid;
+use std::alloc::Global;
 use std::collections::BTreeMap;
 use std::test::Fail;
+use tests_shared::{agree, nested};
 
-const ENVELOPE: &[u8] =
-    b"\xa4\x63\x63\x69\x64\xd8\x2a\x45\x00\x01\x55\x00\x00\x63\x72\x61\x77\x42\x09\x08\x64\x62\x6f\x64\x79\xa3\x61\x61\xa1\x61\x2f\x41\x01\x62\x7a\x7a\x87\x01\x20\xf6\xf5\x41\xff\x61\x74\xa0\x64\x6c\x69\x6e\x6b\xd8\x2a\x45\x00\x01\x55\x00\x00\x64\x64\x61\x74\x61\x82\xd8\x2a\x45\x00\x01\x55\x00\x00\x41\x78";
+pub(super) const ENVELOPE: &[u8] =
+    b"\xa5\x63cid\xd8\x2a\x45\x00\x01\x55\x00\x00\x63raw\x42\x09\x08\x64body\xa2\x61a\xa1\x61/\x41\x01\x62zz\x87\x01\x20\xf6\xf5\x41\xff\x61t\xa0\x64data\x82\xd8\x2a\x45\x00\x01\x55\x00\x00\x41x\x64link\xd8\x2a\x45\x00\x01\x55\x00\x00";
 
-/// The map from "b" and "aa" to a link each.
+/// The map from "b" and "aa" to a link each, and a number.
 const PINS: &[u8] =
-    b"\xa2\x61\x62\xd8\x2a\x45\x00\x01\x55\x00\x00\x62\x61\x61\xd8\x2a\x45\x00\x01\x55\x00\x00";
+    b"\x82\xa2\x61b\xd8\x2a\x45\x00\x01\x55\x00\x00\x62aa\xd8\x2a\x45\x00\x01\x55\x00\x00\x07";
 
 #[test]
 fn any_data_goes_both_ways(rt: HostRuntime) -> Result<(), Fail> {
@@ -21,46 +22,54 @@ fn any_data_goes_both_ways(rt: HostRuntime) -> Result<(), Fail> {
     let read: Envelope = from_slice_owned(alloc, ENVELOPE)?;
     agree(read.raw.as_slice(), b"\x09\x08".as_slice())?;
     agree(read.cid, Cid::try_from(CID)?)?;
-    goes_both_ways(alloc, &read, ENVELOPE)?;
-    goes_both_ways(alloc, &Some(Any(Ipld::Integer(7))), b"\x07")?;
-    let mut pins = BTreeMap::new(alloc);
-    pins.insert(text(alloc, "aa")?, link()?)?;
-    pins.insert(text(alloc, "b")?, link()?)?;
-    goes_both_ways(alloc, &pins, PINS)
+    agree(to_vec(alloc, &read)?.as_slice(), ENVELOPE)?;
+    is_written_again::<(BTreeMap<String, Link>, Option<Any>)>(alloc, PINS)
 }
 
-/// The deepest block is read, and as many lists of JSON: one more is no block, or invalid.
+/// The deepest block is read: one list more is no block.
 #[test]
 fn any_data_is_as_deep_as_a_block(rt: HostRuntime) -> Result<(), Fail> {
     let alloc = rt.alloc();
-    let mut deep = vec![in alloc; 0x81u8; 127]?;
-    deep.push(0x80)?;
-    let read: Any = from_slice_owned(alloc, &deep)?;
-    agree(to_vec(alloc, &read)?.as_slice(), deep.as_slice())?;
-    let mut deeper = vec![in alloc; 0x81u8; 128]?;
-    deeper.push(0x80)?;
+    is_written_again::<Any>(alloc, &nested(alloc, b"\x81", 127, b"\x80")?)?;
+    let deeper = nested(alloc, b"\x81", 128, b"\x80")?;
     is_refused::<Any>(alloc, &deeper, r#"NoBlock(DepthOverflow { name: "any" })"#)
 }
+
+/// Fails where any data of JSON is told otherwise again.
+fn is_told_again(alloc: Global, told: &str) -> Result<(), Fail> {
+    let read: Any = serde_json::from_str(alloc, told)?;
+    agree(serde_json::to_string(alloc, &read)?.as_str(), told)
+}
+
+const JSON: &str = r#"{"a":{"/":[1,85,0,0]},"b":[1,-2,null,true,"t",{}]}"#;
+
+const OF_JSON: &[u8] =
+    b"\xa2\x61a\xd8\x2a\x45\x00\x01\x55\x00\x00\x61b\x86\x01\x21\xf6\xf5\x61t\xa0";
 
 /// A link of JSON is read as one, and another map of that name as a map.
 #[test]
 fn any_data_goes_through_json(rt: HostRuntime) -> Result<(), Fail> {
     let alloc = rt.alloc();
-    let told = r#"{"a":{"/":[1,85,0,0]},"b":[1,-2,null,true,"t",{}]}"#;
-    let read: Any = serde_json::from_str(alloc, told)?;
-    agree(serde_json::to_string(alloc, &read)?.as_str(), told)?;
-    let bytes =
-        b"\xa2\x61\x61\xd8\x2a\x45\x00\x01\x55\x00\x00\x61\x62\x86\x01\x21\xf6\xf5\x61\x74\xa0";
-    agree(to_vec(alloc, &read)?.as_slice(), bytes.as_slice())?;
-    let rows: &[&str] = &[
+    let read: Any = serde_json::from_str(alloc, JSON)?;
+    agree(to_vec(alloc, &read)?.as_slice(), OF_JSON)?;
+    let rows = &[
+        JSON,
         r#"{"/":"x"}"#,
         r#"{"/":[1,85,0]}"#,
         r#"{"/":[1,85,0,0],"a":1}"#,
     ];
     for told in rows {
-        let read: Any = serde_json::from_str(alloc, told)?;
-        agree(serde_json::to_string(alloc, &read)?.as_str(), *told)?;
+        is_told_again(alloc, told)?;
     }
-    let float = serde_json::from_str::<Any>(alloc, "1.5");
-    agree(float.is_err(), true)
+    agree(serde_json::from_str::<Any>(alloc, "1.5").is_err(), true)
+}
+
+/// To JSON a link is a map with its name, and it is read from that again.
+#[test]
+fn a_link_goes_through_json(rt: HostRuntime) -> Result<(), Fail> {
+    let alloc = rt.alloc();
+    let text = serde_json::to_string(alloc, &link()?)?;
+    agree(text.as_str(), r#"{"/":[1,85,0,0]}"#)?;
+    let again: Link = serde_json::from_str(alloc, text.as_str())?;
+    agree(again, link()?)
 }

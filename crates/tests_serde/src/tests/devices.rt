@@ -1,14 +1,15 @@
 //! Values to devices and from sources. What a device that fails holds, and what a source that fails
 //! answers, `faults/run` shows.
 
-use super::{RECORD, link};
-use crate::types::Record;
+use super::data::ENVELOPE;
+use super::link;
+use crate::types::Envelope;
 use dagcbor_serde::{
     DeviceError, Link, WriteError, block_from_reader, block_from_reader_once, from_reader,
     from_reader_once, to_vec, to_writer,
 };
-use dagcbor_testing::{Source, agree, is_told};
 use std::test::Fail;
+use tests_shared::{Source, agree, is_told};
 
 #[test]
 fn nothing_of_a_refused_value_is_sent(rt: HostRuntime) -> Result<(), Fail> {
@@ -24,9 +25,9 @@ fn nothing_of_a_refused_value_is_sent(rt: HostRuntime) -> Result<(), Fail> {
 #[test]
 fn sources_are_read(rt: HostRuntime) -> Result<(), Fail> {
     let alloc = rt.alloc();
-    let read: Record = from_reader(alloc, Source::new(RECORD, 1))?;
-    agree(to_vec(alloc, &read)?.as_slice(), RECORD)?;
-    agree(block_from_reader(alloc, RECORD)?.as_slice(), RECORD)?;
+    let read: Envelope = from_reader(alloc, Source::new(ENVELOPE, 1))?;
+    agree(to_vec(alloc, &read)?.as_slice(), ENVELOPE)?;
+    agree(block_from_reader(alloc, ENVELOPE)?.as_slice(), ENVELOPE)?;
     let mut three = b"\x07\xd8\x2a\x45\x00\x01\x55\x00\x00\x61t".as_slice();
     agree(from_reader_once::<u8, _>(alloc, &mut three)?, 7)?;
     agree(from_reader_once::<Link, _>(alloc, &mut three)?, link()?)?;

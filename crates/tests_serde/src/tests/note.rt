@@ -2,9 +2,9 @@
 
 use super::is_refused;
 use dagcbor_serde::{from_slice, to_vec};
-use dagcbor_testing::agree;
 use serde::{Deserialize, Serialize};
 use std::test::Fail;
+use tests_shared::agree;
 
 /// A year, and what was said in it.
 #[derive(Drop, Serialize, Deserialize)]

@@ -1,11 +1,11 @@
 //! A `Deserializer` after a refusal, and the parts of a list and a map one by one.
 
-use dagcbor_testing::is_told;
 use serde_ipld_dagcbor::{DecodeError, Deserializer, SliceReader};
 use std::alloc::Global;
 use std::borrow::CowStr;
 use std::convert::Infallible;
 use std::test::Fail;
+use tests_shared::is_told;
 
 #[test]
 fn a_refusal_of_a_typed_read_lasts(rt: HostRuntime) -> Result<(), Fail> {

@@ -11,7 +11,7 @@ mod second;
 mod tagged;
 mod variant_fields;
 
-use dagcbor_testing::{LINK, agree, answers, is_told, joined, writes};
+use dagcbor_testing::answers;
 use data_enum::DataEnum;
 use enum_struct::{Enum, EnumStruct};
 use kinded::Kinded;
@@ -24,6 +24,7 @@ use serde_ipld_dagcbor::{Bytes, Cid, Deserializer};
 use std::alloc::Global;
 use std::test::Fail;
 use tagged::CidInInternallyTaggedEnum;
+use tests_shared::{LINK, agree, is_told, joined, writes};
 
 /// A type by hand.
 enum Type {

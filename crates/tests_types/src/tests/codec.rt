@@ -2,7 +2,6 @@
 
 ghost use Rattle.tests_types.specs.ThereAndBack.{IsThereAndBack};
 
-use dagcbor_testing::{LINK, THREE_LINKS, agree, is_told, joined};
 use serde_ipld_dagcbor::codec::DagCborCodec;
 use serde_ipld_dagcbor::error::CodecError;
 use serde_ipld_dagcbor::{
@@ -10,6 +9,7 @@ use serde_ipld_dagcbor::{
 };
 use std::alloc::Global;
 use std::test::Fail;
+use tests_shared::{LINK, THREE_LINKS, agree, is_told, joined};
 
 const HELLO: &[u8] = b"\x6c\x68\x65\x6c\x6c\x6f\x20\x77\x6f\x72\x6c\x64\x21";
 

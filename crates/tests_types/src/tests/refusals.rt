@@ -1,14 +1,16 @@
 //! What is refused, and by which name, however the bytes come: also where they are skipped, or
 //! judged.
 
-use dagcbor_testing::{LINK, Pieces, each_is_refused, is_refused, is_told, joined};
+use dagcbor_testing::{Pieces, each_is_refused, is_refused};
 use serde_ipld_dagcbor::Deserializer;
 use std::alloc::Global;
 use std::test::Fail;
+use tests_shared::{LINK, is_told, joined};
 
 const LEAVES: &[(&[u8], &str)] = &[
     (b"\x18\x17", r#"NonMinimal { name: "u64", found: 24 }"#),
     (b"\x38\x05", r#"NonMinimal { name: "any", found: 56 }"#),
+    (b"\x58\x17", r#"NonMinimal { name: "bytes", found: 88 }"#),
     (b"\x19\x01", r#"Eof { name: "u64", expect: Small(2) }"#),
     (b"", r#"Eof { name: "any", expect: Small(1) }"#),
     (b"\x62\xc3\x28\xff", r#"RequireUtf8 { name: "string" }"#),
@@ -58,6 +60,14 @@ const TREES: &[(&[u8], &str)] = &[
     (
         b"\x98\x01\xf6",
         r#"NonMinimal { name: "array", found: 152 }"#,
+    ),
+    (
+        b"\xb8\x01\x60\xf6",
+        r#"NonMinimal { name: "map", found: 184 }"#,
+    ),
+    (
+        b"\xa1\x78\x01\x61\x01",
+        r#"NonMinimal { name: "map key", found: 120 }"#,
     ),
     (
         b"\xf9\x3e\x00",

@@ -1,14 +1,51 @@
-//! Lists and maps, read and written.
+//! Trees, read and written: the examples of the format.
 
-use dagcbor_testing::{
-    agree, beginnings_are_cut, goes_both_ways, is_refused, is_told, is_written_again, nested, tells,
-};
+use dagcbor_testing::{beginnings_are_cut, is_refused, is_written_again, tells};
 use serde_ipld_dagcbor::{IgnoredAny, Ipld, check_slice, from_slice};
-use std::alloc::{AllocError, Global};
-use std::collections::BTreeMap;
 use std::test::Fail;
+use tests_shared::{agree, is_told, joined, nested};
 
 const TREES: &[(&[u8], &str)] = &[
+    (b"\x17", "Ok(Integer(23))"),
+    (b"\x18\x18", "Ok(Integer(24))"),
+    (b"\x18\xff", "Ok(Integer(255))"),
+    (b"\x19\x01\x00", "Ok(Integer(256))"),
+    (b"\x19\xff\xff", "Ok(Integer(65535))"),
+    (b"\x1a\x00\x01\x00\x00", "Ok(Integer(65536))"),
+    (
+        b"\x1b\x00\x00\x00\x01\x00\x00\x00\x00",
+        "Ok(Integer(4294967296))",
+    ),
+    (b"\x39\x01\x2b", "Ok(Integer(-300))"),
+    (
+        b"\x3b\xff\xff\xff\xff\xff\xff\xff\xff",
+        "Ok(Integer(-18446744073709551616))",
+    ),
+    (b"\x3a\x01\x67\x9e\x7c", "Ok(Integer(-23567997))"),
+    (b"\x1a\x05\xe2\xbe\x12", "Ok(Integer(98745874))"),
+    (b"\x38\xff", "Ok(Integer(-256))"),
+    (b"\x39\x01\x00", "Ok(Integer(-257))"),
+    (
+        b"\x3b\x7f\xff\xff\xff\xff\xff\xff\xff",
+        "Ok(Integer(-9223372036854775808))",
+    ),
+    (
+        b"\x3b\xa5\xf7\x02\xb3\xa5\xf7\x02\xb3",
+        "Ok(Integer(-11959030306112471732))",
+    ),
+    (b"\x39\x07\xde", "Ok(Integer(-2015))"),
+    (b"\x1a\x00\xbc\x61\x4e", "Ok(Integer(12345678))"),
+    (b"\x00", "Ok(Integer(0))"),
+    (b"\xf6", "Ok(Null)"),
+    (b"\xf4", "Ok(Bool(false))"),
+    (b"\xf5", "Ok(Bool(true))"),
+    (b"\x66foobar", r#"Ok(String("foobar"))"#),
+    (
+        b"\x6a\x61\xc3\xa2\xc3\xb8\xe2\x86\x93\xc3\xa9",
+        r#"Ok(String("aâø↓é"))"#,
+    ),
+    (b"\x46foobar", "Ok(Bytes([102, 111, 111, 98, 97, 114]))"),
+    (b"\x42\xaf\xfe", "Ok(Bytes([175, 254]))"),
     (b"\x80", "Ok(List([]))"),
     (b"\xa0", "Ok(Map({}))"),
     (
@@ -40,6 +77,11 @@ const TREES: &[(&[u8], &str)] = &[
         b"\xa3\x61\x61\x01\x61\x62\x02\x63\x61\x62\x63\x03",
         r#"Ok(Map({"a": Integer(1), "abc": Integer(3), "b": Integer(2)}))"#,
     ),
+    // What is said of three languages: 103 bytes.
+    (
+        b"\xa3\x62js\x83\x6blightweight\x6binterpreted\x6fobject-oriented\x64rust\x83\x64safe\x6aconcurrent\x64fast\x66python\x83\x68powerful\x68friendly\x64open",
+        r#"Ok(Map({"js": List([String("lightweight"), String("interpreted"), String("object-oriented")]), "python": List([String("powerful"), String("friendly"), String("open")]), "rust": List([String("safe"), String("concurrent"), String("fast")])}))"#,
+    ),
 ];
 
 #[test]
@@ -50,52 +92,6 @@ fn trees_are_read_and_written(rt: HostRuntime) -> Result<(), Fail> {
         beginnings_are_cut(rt.alloc(), bytes)?;
     }
     Ok(())
-}
-
-/// Three languages, and what is said of them.
-pub(crate) const LANGUAGES: &[(&str, &[&str])] = &[
-    ("python", &["powerful", "friendly", "open"]),
-    ("js", &["lightweight", "interpreted", "object-oriented"]),
-    ("rust", &["safe", "concurrent", "fast"]),
-];
-
-/// A list of texts.
-fn texts(alloc: Global, words: &[&str]) -> Result<Ipld, AllocError> {
-    let mut items = Vec::new(alloc);
-    for word in words {
-        items.push(Ipld::String(String::from_str(alloc, word)?))?;
-    }
-    Ok(Ipld::List(items))
-}
-
-/// A map from three languages to what is said of them.
-fn languages(alloc: Global) -> Result<Ipld, AllocError> {
-    let mut entries = BTreeMap::new(alloc);
-    for (language, words) in LANGUAGES {
-        drop(entries.insert(String::from_str(alloc, language)?, texts(alloc, words)?)?);
-    }
-    Ok(Ipld::Map(entries))
-}
-
-/// A list of 300 times null.
-fn nulls(alloc: Global) -> Result<Ipld, AllocError> {
-    let mut items = Vec::new(alloc);
-    for _ in 0..300u64 {
-        items.push(Ipld::Null)?;
-    }
-    Ok(Ipld::List(items))
-}
-
-#[test]
-fn trees_go_both_ways(rt: HostRuntime) -> Result<(), Fail> {
-    let alloc = rt.alloc();
-    let spelling =
-        b"\xa3\x62js\x83\x6blightweight\x6binterpreted\x6fobject-oriented\x64rust\x83\x64safe\x6aconcurrent\x64fast\x66python\x83\x68powerful\x68friendly\x64open";
-    agree(spelling.len(), 103)?;
-    goes_both_ways(alloc, &languages(alloc)?, spelling)?;
-    let mut list = Vec::from_slice(alloc, b"\x99\x01\x2c")?;
-    list.resize(303, 0xf6)?;
-    goes_both_ways(alloc, &nulls(alloc)?, &list)
 }
 
 /// Pieces, what follows 127 of them, and the kind of the whole.
@@ -114,7 +110,9 @@ fn what_is_within_the_steps_is_read(rt: HostRuntime) -> Result<(), Fail> {
         tells::<IgnoredAny>(alloc, &bytes, "Ok(IgnoredAny)")?;
         is_told(alloc, &check_slice(&bytes), kind)?;
     }
-    Ok(())
+    // The steps of 300 items come back.
+    let nulls = b"\xf6".repeat(alloc, 300)?;
+    is_written_again(alloc, &joined(alloc, &[b"\x99\x01\x2c", &nulls])?)
 }
 
 /// Pieces, and what follows 128 of them.

@@ -1,8 +1,9 @@
 //! An album, written and read. The rows are spelled by a script that knows the rules alone.
 
-use dagcbor_testing::{BLUE_TOLD, DEMO_TOLD, each_answers, writes};
+use dagcbor_testing::{BLUE_TOLD, DEMO_TOLD, each_answers};
 use std::alloc::{AllocError, Global};
 use std::test::Fail;
+use tests_shared::writes;
 use uses::{Album, Format, Track};
 
 fn track(

@@ -1,6 +1,5 @@
 //! The short recipes of docs/CALLING.md, and the examples beside the calls, word for word.
 
-use dagcbor_testing::{LINK, agree, is_told};
 use serde_ipld_dagcbor::codec::DagCborCodec;
 use serde_ipld_dagcbor::{
     Codec, Ipld, Kind, Links, any_from_slice, check_slice, from_reader, from_reader_once,
@@ -8,6 +7,7 @@ use serde_ipld_dagcbor::{
 };
 use std::collections::BTreeMap;
 use std::test::Fail;
+use tests_shared::{LINK, agree, is_told};
 
 #[test]
 fn a_pair(rt: HostRuntime) -> Result<(), Fail> {

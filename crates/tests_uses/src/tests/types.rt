@@ -1,12 +1,13 @@
 //! Each type, written and read, and the caller.
 
-use dagcbor_testing::{Sink, Source, agree, answers, each_answers, each_writes, is_told, writes};
+use dagcbor_testing::{answers, each_answers};
 use serde_ipld_dagcbor::{from_reader, to_writer};
 use std::alloc::{AllocError, Global};
 use std::fs;
 use std::fs::File;
 use std::io::{BufReader, BufWriter, Write};
 use std::test::Fail;
+use tests_shared::{Sink, Source, agree, each_writes, is_told, writes};
 use uses::{Color, Mascot, OptionalPerson, Person, year_of};
 
 #[test]

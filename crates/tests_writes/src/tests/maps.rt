@@ -1,10 +1,11 @@
 //! Maps whose keys come in any order, or are not what they must be, written.
 
-use dagcbor_testing::{LINK, agree, is_told, joined};
-use serde_ipld_dagcbor::{BufWriter, Cid, EncodeError, Serializer, from_slice};
+use dagcbor_heads::{BufWriter, EncodeError};
+use dagcbor_write::Serializer;
 use std::alloc::Global;
 use std::convert::Infallible;
 use std::test::Fail;
+use tests_shared::{agree, is_told, joined};
 
 /// Without a spelling.
 pub(crate) const LARGE: u128 = 18_446_744_073_709_551_616;
@@ -104,21 +105,4 @@ fn shorter_keys_come_first(rt: HostRuntime) -> Result<(), Fail> {
         "Ok(())",
         &wanted,
     )
-}
-
-/// What a map is answered that gets a link as a key.
-fn under_link(alloc: Global, cid: Cid) -> Ended {
-    let mut ser = Serializer::new(BufWriter::new(Vec::new(alloc)));
-    let mut map = ser.serialize_map(alloc, Some(1));
-    let answer = map.serialize_entry(&cid, &0u8);
-    drop(map);
-    (answer, ser.into_inner().into_inner())
-}
-
-#[test]
-fn a_link_is_no_key(rt: HostRuntime) -> Result<(), Fail> {
-    let alloc = rt.alloc();
-    let map = under_link(alloc, from_slice(alloc, LINK)?);
-    let told = r#"Err(Msg("Map keys must be strings"))"#;
-    is_ended(alloc, Ok(map), told, b"")
 }

@@ -1,6 +1,6 @@
 //! Any data in the fields of a type, and links, data and bytes under their own types.
 
-use dagcbor_serde::Any;
+use dagcbor_serde::{Any, Link};
 use ipld_tree::{Cid, Ipld};
 use serde::{Deserialize, Serialize};
 
@@ -11,6 +11,7 @@ pub struct Envelope {
     pub cid: Cid,
     #[serde(with = "dagcbor_serde::as_any")]
     pub data: Ipld,
+    pub link: Link,
     #[serde(with = "dagcbor_serde::as_bytes")]
     pub raw: Vec<u8>,
 }

@@ -1,0 +1,62 @@
+//! Structs: one for each form that a derive knows, as docs/TYPES.md lists them.
+
+use crate::types::Tagged;
+use dagcbor_serde::Any;
+use serde::{Deserialize, Serialize};
+
+#[derive(Drop, Serialize, Deserialize)]
+pub struct Unit;
+
+#[derive(Drop, Serialize, Deserialize)]
+pub struct Metres(pub u16);
+
+#[derive(Drop, Serialize, Deserialize)]
+pub struct Point(pub i8, pub i8);
+
+#[derive(Drop, Serialize, Deserialize)]
+#[serde(transparent)]
+pub struct Wrapper {
+    pub inner: Point,
+}
+
+#[derive(Drop, Serialize, Deserialize)]
+pub struct Plain {
+    pub b: u8,
+}
+
+/// Fields under other names, left out, or made.
+#[derive(Drop, Serialize, Deserialize)]
+#[serde(rename_all = "SCREAMING-KEBAB-CASE", deny_unknown_fields)]
+pub struct Renamed {
+    pub first_name: u8,
+    #[serde(rename = "other", default)]
+    pub second: u8,
+    #[serde(alias = "old", default = "seven")]
+    pub third: u8,
+    #[serde(skip)]
+    pub fourth: u8,
+    #[serde(skip_serializing_if = "Option::is_none")]
+    pub fifth: Option<u8>,
+}
+
+fn seven() -> u8 {
+    7
+}
+
+/// Maps that share one map, beside any data.
+#[derive(Drop, Serialize, Deserialize)]
+pub struct Flat {
+    #[serde(flatten)]
+    pub tagged: Tagged,
+    pub z: Any,
+    #[serde(flatten)]
+    pub more: Plain,
+}
+
+/// Two fields of one name share a map.
+#[derive(Drop, Serialize)]
+pub struct Twice {
+    pub b: u8,
+    #[serde(flatten)]
+    pub rest: Plain,
+}

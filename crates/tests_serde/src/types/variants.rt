@@ -1,0 +1,50 @@
+//! Enums: one for each way to tell their variants apart, as docs/TYPES.md lists them.
+
+use crate::types::Plain;
+use dagcbor_serde::{ByteBuf, Link};
+use serde::{Deserialize, Serialize};
+
+/// Each kind of variant, under other names.
+#[derive(Drop, Serialize, Deserialize)]
+#[serde(rename_all = "snake_case", rename_all_fields = "camelCase")]
+pub enum Shape {
+    Dot,
+    Circle(u32),
+    Line(i8, i8),
+    TurnLeft { by_degrees: u16 },
+}
+
+#[derive(Drop, PartialEq, Eq, PartialOrd, Ord, Serialize, Deserialize)]
+pub enum Side {
+    Left,
+    Right,
+}
+
+/// Told by a field beside the data.
+#[derive(Drop, Serialize, Deserialize)]
+#[serde(tag = "t", content = "c")]
+pub enum Adjacent {
+    Unit,
+    Two(u8, u8),
+    Whole(Plain),
+}
+
+/// Told by a field among the data: that of a struct, and a link.
+#[derive(Drop, Serialize, Deserialize)]
+#[serde(tag = "type")]
+pub enum Tagged {
+    Empty,
+    Whole(Plain),
+    Pinned { cid: Link },
+    #[serde(other)]
+    Unknown,
+}
+
+/// Told by nothing: bytes are tried before a link.
+#[derive(Drop, Serialize, Deserialize)]
+#[serde(untagged)]
+pub enum Either {
+    Octets(ByteBuf),
+    Pinned(Link),
+    Pair(Link, u8),
+}

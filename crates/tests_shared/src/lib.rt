@@ -1,0 +1,15 @@
+//! What tests of many crates share, and what needs no reader of types: what a call answers beside
+//! what is wanted, what a value is written as, devices of std, and pieces of blocks.
+#![tactic(auto)]
+
+mod failing_devices;
+mod pieces_of_blocks;
+mod std_devices;
+mod told;
+mod written;
+
+pub use failing_devices::{FaultySource, StingySink};
+pub use pieces_of_blocks::{LINK, THREE_LINKS, joined, nested};
+pub use std_devices::{Sink, Source};
+pub use told::{agree, is_told};
+pub use written::{each_writes, is_unwritten, writes};

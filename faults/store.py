@@ -345,8 +345,13 @@ def roots(program, at, draw):
     expect("gc of the earlier version", run(program, old, "gc"), 1, b"", NO_ROOTS)
     expect("drop-root of the earlier version", run(program, old, "drop-root", text_of(lost)), 1, b"removed 0\n", b"dagstore: no root has the name\n")
     expect("export of the earlier version", run(program, old, "export"), 0, car_of(ordered))
+    more = dict([parent_of([lost])])
+    expect("import of a root to the earlier version", run(program, old, "import", given=car_of(more, [lost])), 1, b"", EARLIER)
     if tables_of(old) != (blocks, []):
         wrong.append("a file of the earlier version was changed")
+    expect("import of no root to the earlier version", run(program, old, "import", given=car_of(more)), 0, b"stored 1\n")
+    if tables_of(old) != ({**blocks, **more}, []):
+        wrong.append("a file of the earlier version does not have what was imported")
     return wrong
 
 

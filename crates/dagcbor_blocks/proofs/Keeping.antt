@@ -25,7 +25,7 @@ use Rattle.dagcbor_blocks.specs.Errors.{TellsOfDecoding}
 use Rattle.ipld_links.specs.Sound.{IsSound}
 use Rattle.ipld_links.proofs.Sounding.{sound_own}
 use Rattle.dagcbor_blocks.specs.Sound.{IsSoundEntry}
-use Rattle.dagcbor_blocks.specs.Blocks.{Held, block_at, HoldsAlso, HoldsOther, ExceedsSteps, Puts, HoldsRead, GetRefused}
+use Rattle.dagcbor_blocks.specs.Blocks.{Held, block_at, HoldsAlso, HoldsOther, ExceedsSteps, Puts, HoldsRead, NotReadAs}
 use Rattle.ipld_links.specs.Sets.{Among}
 use Rattle.ipld_links.specs.Blocks.{HasBlock}
 use Rattle.dagcbor_blocks.specs.Steps.{HasTree, DepthRefused, StoresBlock}
@@ -170,12 +170,12 @@ put_done law (Some t) v name old new (Err OutOfMemory) a has named h = (h.0, tt)
 -- ---- getting
 
 module _ {V : Type 0} (shape : Shape Tree V) where
-  pub not_got : (name : CidParts) (blocks : Held) (b : List ℕ) (e : DecodeError Infallible) (told : BlockError) → HoldsRead name b blocks → ((e ≡ unread.OutOfMemory) ⊎ HoldsNoValue shape default_steps b) × OfWhole e × LacksMemoryIf (shape.memory true) e → TellsOfDecoding e told → GetRefused shape name blocks told
+  pub not_got : (name : CidParts) (blocks : Held) (b : List ℕ) (e : DecodeError Infallible) (told : BlockError) → HoldsRead name b blocks → ((e ≡ unread.OutOfMemory) ⊎ HoldsNoValue shape default_steps b) × OfWhole e × LacksMemoryIf (shape.memory true) e → TellsOfDecoding e told → NotReadAs shape name blocks told
   not_got name blocks b (unread.Read e) told at r h = elim e [ ]
-  not_got name blocks b unread.OutOfMemory told at r h = subst (GetRefused shape name blocks) (sym h) ((b, at), r.2)
+  not_got name blocks b unread.OutOfMemory told at r h = subst (NotReadAs shape name blocks) (sym h) ((b, at), r.2)
   not_got name blocks b (unread.RequireBorrowed n) told at r h = absurd r.1
   not_got name blocks b unread.Failed told at r h = absurd r.1
-  not_got name blocks b _ told at r h = elim r.0 [ inl k ↦ absurd (cc k) | inr k ↦ subst (GetRefused shape name blocks) (sym h) (tt, (b, at, k)) ]
+  not_got name blocks b _ told at r h = elim r.0 [ inl k ↦ absurd (cc k) | inr k ↦ subst (NotReadAs shape name blocks) (sym h) (tt, (b, at, k)) ]
 
 -- a block of DAG-CBOR is sound under its own name
 pub sound_named : (name : CidParts) (b : List ℕ) → name ≡ block_name b → HasBlock b → IsSound (name, b)

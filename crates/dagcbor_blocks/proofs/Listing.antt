@@ -22,7 +22,7 @@ use Rattle.dagcbor_blocks.specs.Errors.{TellsOfDecoding}
 use Rattle.dagcbor_blocks.specs.Sound.{IsSoundEntry}
 use Rattle.ipld_links.specs.Sets.{Among, members}
 use Rattle.ipld_links.specs.declared.cid_set.CidSet.{CidSet}
-use Rattle.dagcbor_blocks.specs.Blocks.{IsLinked, NamesNone}
+use Rattle.dagcbor_blocks.specs.Blocks.{IsHeldLink, NamesNoneHeld}
 use Rattle.dagcbor_blocks.specs.Steps.{IsUnheld}
 use Rattle.dagcbor_blocks.specs.declared.error.BlockError.{BlockError}
 use Rattle.dagcbor_blocks.specs.declared.error.BlockError.TheVariants.{OutOfMemory}
@@ -166,10 +166,10 @@ not_unheld q v (x ∷ es) (inr m) e = by (is_at (cid_cmp q) x.0) e (λ l. not_un
     by false l f = f l
 
 module _ (cids : CidEqualityIsOfBytes) (blocks : BTreeMap CidParts (Vec ℕ Global)) (sound : ∥ AllByRecursion IsSoundEntry blocks.entries ∥₁) where
-  linked_in : (form : List ℕ) → Linked blocks.entries form → IsLinked form (shown blocks.entries)
+  linked_in : (form : List ℕ) → Linked blocks.entries form → IsHeldLink form (shown blocks.entries)
   linked_in form l = ((l.0.0, l.0.1.items), l.1, among_map (λ (e : BlockEntry). (e.0, e.1.items)) l.0 blocks.entries l.2, l.3, l.4, l.5)
 
-  in_linked : (form : List ℕ) → IsLinked form (shown blocks.entries) → Linked blocks.entries form
+  in_linked : (form : List ℕ) → IsHeldLink form (shown blocks.entries) → Linked blocks.entries form
   in_linked form l =
       let e = map_among (λ (e : BlockEntry). (e.0, e.1.items)) l.0 blocks.entries l.2 in
       (e.0, l.1, e.1, subst IsDagCbor (ap (λ (p : CidParts × List ℕ). p.0) e.2) l.3, subst (λ b. IsSpelling b l.1) (ap (λ (p : CidParts × List ℕ). p.1) e.2) l.4, l.5)
@@ -183,7 +183,7 @@ module _ (cids : CidEqualityIsOfBytes) (blocks : BTreeMap CidParts (Vec ℕ Glob
       let is = cid_unique cids k.0.0 q b.valid p key in
       not_unheld q k.0.1 blocks.entries (subst (λ (n : CidParts). Among (n, k.0.1) blocks.entries) is k.1) free)
 
-  names_unheld : (q : CidParts) → NamesNone (cid_bytes q) (shown blocks.entries) → IsUnheld blocks q
+  names_unheld : (q : CidParts) → NamesNoneHeld (cid_bytes q) (shown blocks.entries) → IsUnheld blocks q
   names_unheld q n = by (get cid_cmp blocks q) refl
     where
       by : (o : Option (Vec ℕ Global)) → get cid_cmp blocks q ≡ o → get cid_cmp blocks q ≡ None
@@ -191,17 +191,17 @@ module _ (cids : CidEqualityIsOfBytes) (blocks : BTreeMap CidParts (Vec ℕ Glob
       by (Some v) e = absurd (n (q, v.items) (among_map (λ (e : BlockEntry). (e.0, e.1.items)) (q, v) blocks.entries (found_among q blocks.entries v e)) refl)
 
   pub all_listed : (s : CidSet) (rest : List BlockEntry) (items : List CidParts) → rest ≡ [] → SoFar blocks rest s → items ≡ (members s)
-      → (form : List ℕ) → Among form (forms items) ↔ (IsLinked form (shown blocks.entries) × NamesNone form (shown blocks.entries))
+      → (form : List ℕ) → Among form (forms items) ↔ (IsHeldLink form (shown blocks.entries) × NamesNoneHeld form (shown blocks.entries))
   all_listed s rest items end h is form = (
     λ m.
         let k = map_among cid_bytes form items m in
         let w = (h.listed k.0).0 (subst (Among k.0) is k.1) in
-        subst (λ f. IsLinked f (shown blocks.entries) × NamesNone f (shown blocks.entries)) (sym k.2)
+        subst (λ f. IsHeldLink f (shown blocks.entries) × NamesNoneHeld f (shown blocks.entries)) (sym k.2)
         (linked_in (cid_bytes k.0) (subst (λ vs. Linked vs (cid_bytes k.0)) seen w.1), unnamed k.0 w.0 w.2),
     λ m.
         let c = links_are_cids m.0.1 form m.0.4.well_formed m.0.5 in
         let l = subst (λ f. Linked h.seen f) c.2 (subst (λ vs. Linked vs form) (sym seen) (in_linked form m.0)) in
-        let n = subst (λ f. NamesNone f (shown blocks.entries)) c.2 m.1 in
+        let n = subst (λ f. NamesNoneHeld f (shown blocks.entries)) c.2 m.1 in
         let found = (h.listed c.0).1 c.1 l (names_unheld c.0 n) in
         subst (λ f. Among f (forms items)) (sym c.2) (among_map cid_bytes c.0 items (subst (Among c.0) (sym is) found)),
   )

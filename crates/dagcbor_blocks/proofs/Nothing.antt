@@ -4,7 +4,7 @@ use Rattle.std.specs.List.Sorted.{IsStrictlySortedBy}
 use Rattle.serde_ipld_dagcbor.specs.Cid.{CidParts, cid_cmp}
 use Rattle.serde_ipld_dagcbor.specs.Walks.{forms}
 use Rattle.ipld_links.specs.Sets.{Among}
-use Rattle.dagcbor_blocks.specs.Blocks.{Held, ListsMissing}
+use Rattle.dagcbor_blocks.specs.Blocks.{Held, ListsUnheld}
 use Rattle.dagcbor_blocks.specs.declared.error.BlockError.{BlockError}
 
 none_of : {A : Type 0} (xs : List A) → length xs ≡ 0 → xs ≡ []
@@ -12,10 +12,10 @@ none_of [] e = refl
 none_of (x ∷ xs) e = absurd (omega (arith, e))
 
 -- no block is held, and no link is listed
-pub nothing_missing : {A : Type 0} (shown : A → CidParts × List ℕ) (entries : List A) (v : Vec CidParts Global) → length entries ≡ 0 → v.items ≡ [] → ListsMissing (map shown entries) (Ok v)
+pub nothing_missing : {A : Type 0} (shown : A → CidParts × List ℕ) (entries : List A) (v : Vec CidParts Global) → length entries ≡ 0 → v.items ≡ [] → ListsUnheld (map shown entries) (Ok v)
 unfolding IsStrictlySortedBy
 nothing_missing shown entries v none empty =
-    let P : Held → Type 0 = λ held. ListsMissing held (Ok v) in
+    let P : Held → Type 0 = λ held. ListsUnheld held (Ok v) in
     let sorted = subst (IsStrictlySortedBy cid_cmp) (sym empty) (search rules) in
     subst P (sym (ap (map shown) (none_of entries none))) (sorted, λ form. (λ m. absurd (subst (λ xs. Among form (forms xs)) empty m), λ l. absurd l.0.2))
 

@@ -10,7 +10,7 @@ use Rattle.ipld_links.specs.Reaching.{stored_in, ListsReachable}
 use Rattle.dagcbor_car.specs.Reached.{sections_at}
 use Rattle.ipld_links.proofs.Reaching.{none_found}
 use Rattle.dagcbor_blocks.specs.Blocks.{Held}
-use Rattle.dagcbor_blocks.specs.Reaching.{stored, MayLead, IsNotHeld, tree_bytes, OfReachable, TreeRefused}
+use Rattle.dagcbor_blocks.specs.Reaching.{stored, MayLead, IsNotHeld, tree_bytes, OfReachable, TreeUnwritten}
 use Rattle.dagcbor_blocks.specs.declared.tree_error.WriteTreeError.TheVariants as trees
 use Rattle.dagcbor_blocks.proofs.Keeping.{shown, block_at_shown}
 
@@ -44,10 +44,10 @@ module _ (map : BTreeMap CidParts (Vec ℕ Global)) (root : CidParts) (leads : M
   tree_stopped : {E : Type 0} (old new : Written) (e : EncodeError E) → Stops (Some sent) old new e → OfReachable (shown map.entries) root (λ qs. Stops (Some (tree_bytes (shown map.entries) root qs)) old new e)
   tree_stopped old new e stops = (leads, (names, listed, subst (λ b. Stops (Some b) old new e) same_sent stops))
 
-  pub tree_faulted : {E : Type 0} (takes_memory : Bool) (old new : Written) (e : E) → Stops (Some sent) old new (unwritten.Write e) → TreeRefused (shown map.entries) root takes_memory old (trees.Write e) new
+  pub tree_faulted : {E : Type 0} (takes_memory : Bool) (old new : Written) (e : E) → Stops (Some sent) old new (unwritten.Write e) → TreeUnwritten (shown map.entries) root takes_memory old (trees.Write e) new
   tree_faulted takes_memory old new e stops = tree_stopped old new (unwritten.Write e) stops
 
-  pub tree_lacks : (T : Type 0) {E : Type 0} (takes_memory : Bool) (old new : Written) (e : EncodeError E) → ((f : E) → e ≡ unwritten.Write f → ⊥) → Stops (Some sent) old new e → UnsentWithoutMemory {T = T} takes_memory old (Err e) new → TreeRefused {E = E} (shown map.entries) root takes_memory old trees.OutOfMemory new
+  pub tree_lacks : (T : Type 0) {E : Type 0} (takes_memory : Bool) (old new : Written) (e : EncodeError E) → ((f : E) → e ≡ unwritten.Write f → ⊥) → Stops (Some sent) old new e → UnsentWithoutMemory {T = T} takes_memory old (Err e) new → TreeUnwritten {E = E} (shown map.entries) root takes_memory old trees.OutOfMemory new
   tree_lacks T {E} takes_memory old new unwritten.OutOfMemory other stops unsent = (unsent, inr (tree_stopped {E = E} old new unwritten.OutOfMemory stops))
   tree_lacks T takes_memory old new (unwritten.Write f) other stops unsent = absurd (other f refl)
   tree_lacks T takes_memory old new (unwritten.Msg m) other stops unsent = absurd (cc stops.0)

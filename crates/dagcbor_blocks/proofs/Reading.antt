@@ -14,7 +14,7 @@ use Rattle.dagcbor_car.specs.declared.each.ReadCarError.{ReadCarError}
 use Rattle.dagcbor_car.specs.declared.each.ReadCarError.TheVariants as stop
 use Rattle.dagcbor_blocks.specs.Blocks.{Held, held_blocks, block_at, HoldsAlso}
 use Rattle.dagcbor_blocks.specs.Bytes.{PutsBytes, PutBytesRefused}
-use Rattle.dagcbor_blocks.specs.Cars.{IsReadTo, KeepsAll, ReadRefused}
+use Rattle.dagcbor_blocks.specs.Cars.{IsKeptTo, KeepsAll, FileUnread}
 use Rattle.dagcbor_blocks.specs.declared.put_error.PutBlockError.{PutBlockError}
 use Rattle.dagcbor_blocks.specs.declared.store.Blocks.{Blocks}
 use Rattle.ipld_links.proofs.Members.{among_push, push_among}
@@ -58,7 +58,7 @@ pub record IsReadAt (roots : List (List ℕ)) (sections : List Section) (old : R
   pub blocks : AllByRecursion IsSound sections
   pub holds : HoldsAlso before sections after
 
-pub read_to : {roots : List (List ℕ)} {ss : List Section} {old : Reading} {before : Held} {extent : Option ℕ} {now : Reading} {after : Held} → IsReadAt roots ss old before extent now after → IsReadTo roots ss old before extent now after
+pub read_to : {roots : List (List ℕ)} {ss : List Section} {old : Reading} {before : Held} {extent : Option ℕ} {now : Reading} {after : Held} → IsReadAt roots ss old before extent now after → IsKeptTo roots ss old before extent now after
 read_to {roots} {ss} {old} {before} {extent} {now} {after} h = record {
   known = λ b l. let k = h.known b l in (k.0, k.1, place_front b k.0 roots ss extent k.2);
   same = h.same;
@@ -111,21 +111,21 @@ read_along roots ss extent rest start source mid before old new =
 
 -- ---- refusals
 
-pub not_begun : {E : Type 0} (T : Type 0) (e : CarError E) (old new : Reading) (blocks : Held) → CarRefuses RefusesStart old e new → LacksMemoryIf {T = T} (FileLacks old) (Err e) → ReadRefused old blocks (stop.Header e) new blocks
+pub not_begun : {E : Type 0} (T : Type 0) (e : CarError E) (old new : Reading) (blocks : Held) → CarRefuses RefusesStart old e new → LacksMemoryIf {T = T} (FileLacks old) (Err e) → FileUnread old blocks (stop.Header e) new blocks
 not_begun T e old new blocks refused memory = inl ((refused, lacks_alike T (FileLacks old) e memory), refl)
 
 module _ {E : Type 0} (roots : List (List ℕ)) (start : Reading) (before : Held) where
-  stopped : (ss : List Section) (extent : Option ℕ) (mid : Reading) (it : Blocks) (e : ReadCarError E PutBlockError) (more : Option ℕ) (behind : Reading) (new : Blocks) → IsReadAt roots ss start before extent mid (held_blocks it) → StopsEach Keeps (length ss) extent mid it e more behind new → ReadRefused start before e behind (held_blocks new)
+  stopped : (ss : List Section) (extent : Option ℕ) (mid : Reading) (it : Blocks) (e : ReadCarError E PutBlockError) (more : Option ℕ) (behind : Reading) (new : Blocks) → IsReadAt roots ss start before extent mid (held_blocks it) → StopsEach Keeps (length ss) extent mid it e more behind new → FileUnread start before e behind (held_blocks new)
   stopped ss extent mid it (stop.Header e) more behind new h k = absurd k
-  stopped ss extent mid it (stop.Section n e) more behind new h k = inr (roots, ss, extent, mid, subst (λ (b : Blocks). IsReadTo roots ss start before extent mid (held_blocks b)) (sym k.2) (read_to h), inl (k.0, k.1))
+  stopped ss extent mid it (stop.Section n e) more behind new h k = inr (roots, ss, extent, mid, subst (λ (b : Blocks). IsKeptTo roots ss start before extent mid (held_blocks b)) (sym k.2) (read_to h), inl (k.0, k.1))
   stopped ss extent mid it (stop.Block n name e) more behind new h k =
-      inr (roots, ss, extent, mid, subst (IsReadTo roots ss start before extent mid) (sym k.4.0) (read_to h), inl (k.0, more, k.1, k.2, k.3, subst (λ held. PutBytesRefused k.0 held e) (sym k.4.0) k.4.1))
+      inr (roots, ss, extent, mid, subst (IsKeptTo roots ss start before extent mid) (sym k.4.0) (read_to h), inl (k.0, more, k.1, k.2, k.3, subst (λ held. PutBytesRefused k.0 held e) (sym k.4.0) k.4.1))
 
-  pub read_stopped : (extent : Option ℕ) (source : Reading) (old : Blocks) (e : ReadCarError E PutBlockError) (more : Option ℕ) (behind : Reading) (new : Blocks) → IsReadAt roots [] start before extent source (held_blocks old) → RunsEach Keeps extent source old (Err e) more behind new → ReadRefused start before e behind (held_blocks new)
+  pub read_stopped : (extent : Option ℕ) (source : Reading) (old : Blocks) (e : ReadCarError E PutBlockError) (more : Option ℕ) (behind : Reading) (new : Blocks) → IsReadAt roots [] start before extent source (held_blocks old) → RunsEach Keeps extent source old (Err e) more behind new → FileUnread start before e behind (held_blocks new)
   read_stopped extent source old e more behind new h (ss, rest, mid, it, t, inl k) = stopped ss rest mid it e more behind new (read_along roots ss extent rest start source mid before old it h t) k
   read_stopped extent source old e more behind new h (ss, rest, mid, it, t, inr k) =
       let at = read_along roots ss extent rest start source mid before old it h t in
-      inr (roots, ss, rest, mid, subst (λ (b : Blocks). IsReadTo roots ss start before rest mid (held_blocks b)) (sym k.1) (read_to at), inr (k.0, k.2))
+      inr (roots, ss, rest, mid, subst (λ (b : Blocks). IsKeptTo roots ss start before rest mid (held_blocks b)) (sym k.1) (read_to at), inr (k.0, k.2))
 
 pub read_all : (E : Type 0) (roots : List (List ℕ)) (start : Reading) (before : Held) (extent : Option ℕ) (source : Reading) (old : Blocks) (count : ℕ) (more : Option ℕ) (behind : Reading) (new : Blocks) → IsReadAt roots [] start before extent source (held_blocks old) → RunsEach {E = E} Keeps extent source old (Ok count) more behind new
     → (sections : List Section) × KeepsAll roots sections start before behind (held_blocks new)

@@ -25,8 +25,8 @@ use Rattle.ipld_links.specs.Sound.{IsSound}
 use Rattle.ipld_links.proofs.Sounding.{never_unsound}
 use Rattle.dagcbor_blocks.specs.Sound.{IsSoundEntry}
 use Rattle.dagcbor_blocks.specs.Bytes.{PutBytesRefused}
-use Rattle.dagcbor_blocks.specs.Cars.{StopsAt, NotBegun, ReadRefused}
-use Rattle.dagcbor_blocks.specs.Laws.{IsReadBack, WrittenThenRead}
+use Rattle.dagcbor_blocks.specs.Cars.{KeepsNoneNext, NoFileBegins, FileUnread}
+use Rattle.dagcbor_blocks.specs.Laws.{IsFilledBack, WrittenThenFilled}
 use Rattle.dagcbor_blocks.specs.declared.put_error.PutBlockError.{PutBlockError}
 use Rattle.dagcbor_blocks.specs.declared.put_error.PutBlockError.TheVariants.{Unsound, Collision, OutOfMemory}
 use Rattle.dagcbor_car.specs.declared.each.ReadCarError.{ReadCarError}
@@ -84,19 +84,19 @@ module _ (roots : List (List ℕ)) (blocks ss after : Held) (s : Section) (finds
   not_refused sound Collision r n = no_other blocks ss after s finds m within h r.1
   not_refused sound OutOfMemory r n = n refl
 
-  pub for_memory : ∥ IsSound s ∥₁ → (n : ℕ) (name : CidParts) (e : PutBlockError) → PutBytesRefused s after e → IsReadBack roots blocks (Err (stop.Block n name e)) after
+  pub for_memory : ∥ IsSound s ∥₁ → (n : ℕ) (name : CidParts) (e : PutBlockError) → PutBytesRefused s after e → IsFilledBack roots blocks (Err (stop.Block n name e)) after
   for_memory sound n name OutOfMemory r = tt
   for_memory sound n name e r = absurd (not_there sound (λ k. not_refused k e r (λ same. cc same)))
 
 -- ---- no refusal of the file
 
 -- where no cause stands only want of memory is told
-begins_for_memory : (old new : Reading) (b : List ℕ) (roots : List (List ℕ)) (blocks after : Held) → old.left ≡ Some b → ((c : CarError Infallible) → RefusesStart c b → ⊥) → (c : CarError Infallible) → CarRefuses RefusesStart old c new → IsReadBack roots blocks (Err (stop.Header c)) after
+begins_for_memory : (old new : Reading) (b : List ℕ) (roots : List (List ℕ)) (blocks after : Held) → old.left ≡ Some b → ((c : CarError Infallible) → RefusesStart c b → ⊥) → (c : CarError Infallible) → CarRefuses RefusesStart old c new → IsFilledBack roots blocks (Err (stop.Header c)) after
 begins_for_memory old new b roots blocks after l never (car.Read f) r = elim f [ ]
 begins_for_memory old new b roots blocks after l never car.OutOfMemory r = tt
 begins_for_memory old new b roots blocks after l never c r = absurd (never c (r.1 b l))
 
-goes_on_for_memory : (extent : Option ℕ) (mid new : Reading) (rest : List ℕ) (roots : List (List ℕ)) (blocks after : Held) (n : ℕ) → mid.left ≡ Some rest → ((c : CarError Infallible) → RefusesNext extent c rest → ⊥) → (c : CarError Infallible) → CarRefuses (RefusesNext extent) mid c new → IsReadBack roots blocks (Err (stop.Section n c)) after
+goes_on_for_memory : (extent : Option ℕ) (mid new : Reading) (rest : List ℕ) (roots : List (List ℕ)) (blocks after : Held) (n : ℕ) → mid.left ≡ Some rest → ((c : CarError Infallible) → RefusesNext extent c rest → ⊥) → (c : CarError Infallible) → CarRefuses (RefusesNext extent) mid c new → IsFilledBack roots blocks (Err (stop.Section n c)) after
 goes_on_for_memory extent mid new rest roots blocks after n l never (car.Read f) r = elim f [ ]
 goes_on_for_memory extent mid new rest roots blocks after n l never car.OutOfMemory r = tt
 goes_on_for_memory extent mid new rest roots blocks after n l never c r = absurd (never c (r.1 rest l))
@@ -115,7 +115,7 @@ next_among rest behind ss (t ∷ more) blocks s all is whole own first =
 
 module _ (es : List BlockEntry) (finds : FindsMembers (shown es)) (sound : ∥ AllByRecursion IsSoundEntry es ∥₁) (b : List ℕ) (roots : List (List ℕ)) (old new : Reading) (after : Held) (file : IsCar b roots (shown es)) (l : old.left ≡ Some b) where
   stops_for_memory : (others : List (List ℕ)) (ss more : List Section) (extent : Option ℕ) (mid : Reading) (rest : List ℕ) (e : ReadCarError Infallible PutBlockError) → HoldsAlso [] ss after → AllByRecursion IsSection more → wanting extent rest ≡ 0 → within extent rest ≡ flat_map section_bytes more → shown es ≡ ss ++ more → mid.left ≡ Some rest
-      → StopsAt (length ss) extent mid after e new → IsReadBack roots (shown es) (Err e) after
+      → KeepsNoneNext (length ss) extent mid after e new → IsFilledBack roots (shown es) (Err e) after
   stops_for_memory others ss more extent mid rest (stop.Header c) holds all none is whole left f = absurd f
   stops_for_memory others ss more extent mid rest (stop.Section n c) holds all none is whole left f = goes_on_for_memory extent mid new rest roots (shown es) after n left (never_no_section rest extent more all none is) c f.1.0
   stops_for_memory others ss more extent mid rest (stop.Block n name e) holds all none is whole left t =
@@ -124,13 +124,13 @@ module _ (es : List BlockEntry) (finds : FindsMembers (shown es)) (sound : ∥ A
       let m = next_among (within extent rest) (within t.1 w.0) ss more (shown es) t.0 all is whole t.3.0 first in
       for_memory roots (shown es) ss after t.0 finds m (λ x n. subst (Among x) (sym whole) (among_left x ss more n)) holds (∥∥₁_map sound (λ k. held_named es t.0 k m)) n name e t.5
 
-  begun_for_memory : (e : ReadCarError Infallible PutBlockError) → NotBegun old e new → IsReadBack roots (shown es) (Err e) after
+  begun_for_memory : (e : ReadCarError Infallible PutBlockError) → NoFileBegins old e new → IsFilledBack roots (shown es) (Err e) after
   begun_for_memory (stop.Header c) h = begins_for_memory old new b roots (shown es) after l (λ c r. no_file c b r roots (shown es) (file_of_car b roots (shown es) file)) c h.0
   begun_for_memory e h = absurd h
 
-  refused_for_memory : (e : ReadCarError Infallible PutBlockError) → ReadRefused old [] e new after → IsReadBack roots (shown es) (Err e) after
+  refused_for_memory : (e : ReadCarError Infallible PutBlockError) → FileUnread old [] e new after → IsFilledBack roots (shown es) (Err e) after
   refused_for_memory e (inl h) = begun_for_memory e h.0
-  refused_for_memory e (inr (others, ss, extent, mid, to, inr many)) = subst (λ (x : ReadCarError Infallible PutBlockError). IsReadBack roots (shown es) (Err x) after) (sym many.1.0) tt
+  refused_for_memory e (inr (others, ss, extent, mid, to, inr many)) = subst (λ (x : ReadCarError Infallible PutBlockError). IsFilledBack roots (shown es) (Err x) after) (sym many.1.0) tt
   refused_for_memory e (inr (others, ss, extent, mid, to, inl stops)) =
       let k = to.known b l in
       let one = holds_one b k.2.0 b (wanting extent k.0) 0 k.2.1 (car_holds b roots (shown es) file) in
@@ -140,7 +140,7 @@ module _ (es : List BlockEntry) (finds : FindsMembers (shown es)) (sound : ∥ A
       let o = others_behind ss (shown es) (within extent k.0) front.all file.all same.1 in
       stops_for_memory others ss o.0 extent mid k.0 e to.holds o.1 one.1 o.2 o.3 k.1 stops
 
-pub reads_back : FilesAreUnique → (es : List BlockEntry) → IsStrictlySortedBy cid_cmp (keys_of es) → ∥ AllByRecursion IsSoundEntry es ∥₁ → WrittenThenRead (shown es)
+pub reads_back : FilesAreUnique → (es : List BlockEntry) → IsStrictlySortedBy cid_cmp (keys_of es) → ∥ AllByRecursion IsSoundEntry es ∥₁ → WrittenThenFilled (shown es)
 reads_back law es sorted sound b roots old new after (Ok v) file l h =
     let same = law b (forms v.items) roots h.0 (shown es) (h.1.is_car b l).0 (file_of_car b roots (shown es) file) in
     (same.0, same_held (shown es) after (finds_members es sorted) (subst (λ ss. HoldsAlso [] ss after) same.1 h.1.holds))

@@ -45,18 +45,18 @@ FindsMembers blocks = (name : CidParts) (b : List ℕ)
 -- ---- refusals
 
 -- a refusal of the value, which says nothing of memory or of a device
-abbrev pub IsOfValue : {E : Type 0} → EncodeError E → Type 0
-IsOfValue (unwritten.Msg m) = ⊤
-IsOfValue (unwritten.Write e) = ⊥
-IsOfValue unwritten.OutOfMemory = ⊥
+abbrev pub IsRefusalOfValue : {E : Type 0} → EncodeError E → Type 0
+IsRefusalOfValue (unwritten.Msg m) = ⊤
+IsRefusalOfValue (unwritten.Write e) = ⊥
+IsRefusalOfValue unwritten.OutOfMemory = ⊥
 
 -- a refusal of the bytes, which says nothing of memory, of a source, of a loan or of earlier calls
-abbrev pub IsOfBytes : {E : Type 0} → DecodeError E → Type 0
-IsOfBytes (unread.Read e) = ⊥
-IsOfBytes unread.OutOfMemory = ⊥
-IsOfBytes (unread.RequireBorrowed name) = ⊥
-IsOfBytes unread.Failed = ⊥
-IsOfBytes _ = ⊤
+abbrev pub IsRefusalOfBytes : {E : Type 0} → DecodeError E → Type 0
+IsRefusalOfBytes (unread.Read e) = ⊥
+IsRefusalOfBytes unread.OutOfMemory = ⊥
+IsRefusalOfBytes (unread.RequireBorrowed name) = ⊥
+IsRefusalOfBytes unread.Failed = ⊥
+IsRefusalOfBytes _ = ⊤
 
 -- the tree needs more than 256 steps, and the cause of this refusal stands in its spelling
 abbrev pub ExceedsSteps : DecodeError Infallible → Tree → Type 0
@@ -76,49 +76,49 @@ HoldsAlso old these new = (q : CidParts) (b : List ℕ)
 
 -- why a value is not kept: it has no tree, or its tree no spelling; its spelling's tree needs more
 -- than 256 steps; or other bytes are held under its name
-abbrev pub PutRefused : Option Tree → Held → BlockError → Type 0
-PutRefused tree old (Encode e) = IsOfValue e × IfSome tree (λ t. ¬ IsSpellable t)
-PutRefused tree old (Decode e) = IsSomeAnd tree (ExceedsSteps e)
-PutRefused tree old OtherCodec = ⊥
-PutRefused tree old Collision = IsSomeAnd tree (λ t. HoldsOther (block_name (spelling t)) (spelling t) old)
-PutRefused tree old OutOfMemory = ⊤
+abbrev pub ValueRefused : Option Tree → Held → BlockError → Type 0
+ValueRefused tree old (Encode e) = IsRefusalOfValue e × IfSome tree (λ t. ¬ IsSpellable t)
+ValueRefused tree old (Decode e) = IsSomeAnd tree (ExceedsSteps e)
+ValueRefused tree old OtherCodec = ⊥
+ValueRefused tree old Collision = IsSomeAnd tree (λ t. HoldsOther (block_name (spelling t)) (spelling t) old)
+ValueRefused tree old OutOfMemory = ⊤
 
 -- The spelling of the value's tree is kept under its name. A refusal changes nothing.
 abbrev pub Puts : Option Tree → Held → Result CidParts BlockError → Held → Type 0
 Puts tree old result new = MatchResult result
     (λ name. IsSomeAnd tree (λ t. IsBlock (spelling t) t × (name ≡ block_name (spelling t))
     × HoldsAlso old ((name, spelling t) ∷ []) new))
-    (λ e. (new ≡ old) × PutRefused tree old e)
+    (λ e. (new ≡ old) × ValueRefused tree old e)
 
 -- ---- getting
 
 -- the bytes are held under the name, by which their SHA-256 is its digest
-abbrev pub IsHeld : CidParts → List ℕ → Held → Type 0
-IsHeld name b blocks = (block_at name blocks ≡ Some b) × (name.digest ≡ sha256 b)
+abbrev pub HoldsBytes : CidParts → List ℕ → Held → Type 0
+HoldsBytes name b blocks = (block_at name blocks ≡ Some b) × (name.digest ≡ sha256 b)
 
 -- a block is held under the name, of another codec than DAG-CBOR
 abbrev pub HoldsUnread : CidParts → Held → Type 0
-HoldsUnread name blocks = ((b : List ℕ) × IsHeld name b blocks) × ¬ IsDagCbor name
+HoldsUnread name blocks = ((b : List ℕ) × HoldsBytes name b blocks) × ¬ IsDagCbor name
 
 -- a block of DAG-CBOR is held under the name
 abbrev pub HoldsRead : CidParts → List ℕ → Held → Type 0
-HoldsRead name b blocks = IsHeld name b blocks × IsDagCbor name
+HoldsRead name b blocks = HoldsBytes name b blocks × IsDagCbor name
 
 -- why a held block is not read: it is of another codec; or the type does not accept it; or want of
 -- memory, which reading the type may take
-abbrev pub GetRefused : {V : Type 0} → Shape Tree V → CidParts → Held → BlockError → Type 0
-GetRefused shape name blocks (Encode e) = ⊥
-GetRefused {V} shape name blocks (Decode e) = IsOfBytes e
+abbrev pub NotReadAs : {V : Type 0} → Shape Tree V → CidParts → Held → BlockError → Type 0
+NotReadAs shape name blocks (Encode e) = ⊥
+NotReadAs {V} shape name blocks (Decode e) = IsRefusalOfBytes e
     × ((b : List ℕ) × HoldsRead name b blocks × ((v : V) → ¬ IsWhole shape default_steps b v))
-GetRefused shape name blocks OtherCodec = HoldsUnread name blocks
-GetRefused shape name blocks Collision = ⊥
-GetRefused shape name blocks OutOfMemory = ((b : List ℕ) × HoldsRead name b blocks)
+NotReadAs shape name blocks OtherCodec = HoldsUnread name blocks
+NotReadAs shape name blocks Collision = ⊥
+NotReadAs shape name blocks OutOfMemory = ((b : List ℕ) × HoldsRead name b blocks)
     × (shape.memory true ≡ true)
 
 -- none where no block has the name, else what the held block shows to the type
-abbrev pub GetsSome : {T V : Type 0} → (T → V) → Shape Tree V → CidParts → Held → Option T → Type 0
-GetsSome show shape name blocks None = block_at name blocks ≡ None
-GetsSome show shape name blocks (Some v) = (b : List ℕ) × HoldsRead name b blocks
+abbrev pub GetsHeld : {T V : Type 0} → (T → V) → Shape Tree V → CidParts → Held → Option T → Type 0
+GetsHeld show shape name blocks None = block_at name blocks ≡ None
+GetsHeld show shape name blocks (Some v) = (b : List ℕ) × HoldsRead name b blocks
     × IsWhole shape default_steps b (show v)
 
 -- None is answered exactly where no block has the name, else what the tree shows whose spelling is
@@ -126,21 +126,21 @@ GetsSome show shape name blocks (Some v) = (b : List ℕ) × HoldsRead name b bl
 -- 256 steps.
 abbrev pub Gets : {T V : Type 0} → (T → V) → Shape Tree V → CidParts → Held
     → Result (Option T) BlockError → Type 0
-Gets show shape name blocks result = MatchResult result (GetsSome show shape name blocks) (GetRefused shape name blocks)
+Gets show shape name blocks result = MatchResult result (GetsHeld show shape name blocks) (NotReadAs shape name blocks)
 
 -- ---- links
 
 -- the binary form is that of a link in a held block of DAG-CBOR
-abbrev pub IsLinked : List ℕ → Held → Type 0
-IsLinked form blocks = (e : CidParts × List ℕ) × (t : Tree) × Among e blocks × IsDagCbor e.0
+abbrev pub IsHeldLink : List ℕ → Held → Type 0
+IsHeldLink form blocks = (e : CidParts × List ℕ) × (t : Tree) × Among e blocks × IsDagCbor e.0
     × IsSpelling e.1 t × Among form (links_of t)
 
 -- it names no held block
-abbrev pub NamesNone : List ℕ → Held → Type 0
-NamesNone form blocks = (e : CidParts × List ℕ) → Among e blocks → cid_bytes e.0 ≢ form
+abbrev pub NamesNoneHeld : List ℕ → Held → Type 0
+NamesNoneHeld form blocks = (e : CidParts × List ℕ) → Among e blocks → cid_bytes e.0 ≢ form
 
 -- The links in held blocks of DAG-CBOR that name no held block, of whatever codec, are listed, each once, in their order.
-abbrev pub ListsMissing : Held → Result (Vec CidParts Global) BlockError → Type 0
-ListsMissing blocks result = MatchResult result
-    (λ v. IsStrictlySortedBy cid_cmp v.items × ((form : List ℕ) → Among form (forms v.items) ↔ (IsLinked form blocks × NamesNone form blocks)))
+abbrev pub ListsUnheld : Held → Result (Vec CidParts Global) BlockError → Type 0
+ListsUnheld blocks result = MatchResult result
+    (λ v. IsStrictlySortedBy cid_cmp v.items × ((form : List ℕ) → Among form (forms v.items) ↔ (IsHeldLink form blocks × NamesNoneHeld form blocks)))
     (λ e. e ≡ OutOfMemory)

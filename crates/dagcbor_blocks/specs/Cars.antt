@@ -22,7 +22,7 @@ use Rattle.dagcbor_blocks.specs.declared.put_error.PutBlockError.{PutBlockError}
 
 -- the header of these roots and these sections stood first in a file, and were taken, and so much of it
 -- is left; the sections are sound, and what is held is what was held, and these
-pub record IsReadTo (roots : List (List ℕ)) (sections : List Section) (old : Reading)
+pub record IsKeptTo (roots : List (List ℕ)) (sections : List Section) (old : Reading)
     (before : Held) (extent : Option ℕ) (now : Reading) (after : Held) : Type 0 where
   pub known : (b : List ℕ) → old.left ≡ Some b → (rest : List ℕ) × (now.left ≡ Some rest)
       × IsFileFront b roots sections (wanting extent rest) (within extent rest)
@@ -47,27 +47,27 @@ pub record KeepsAll (roots : List (List ℕ)) (sections : List Section) (old : R
 
 -- why no section more is kept, behind so many: none stands there, though bytes do, or are wanting; or
 -- the next, which was taken, is refused
-abbrev pub StopsAt : {E : Type 0} → ℕ → Option ℕ → Reading → Held → ReadCarError E PutBlockError → Reading
+abbrev pub KeepsNoneNext : {E : Type 0} → ℕ → Option ℕ → Reading → Held → ReadCarError E PutBlockError → Reading
     → Type 0
-StopsAt count extent old held (stop.Header e) new = ⊥
-StopsAt count extent old held (stop.Section n e) new = (n ≡ count) × NoneNext extent old e new
-StopsAt count extent old held (stop.Block n name e) new = (s : Section) × (more : Option ℕ)
+KeepsNoneNext count extent old held (stop.Header e) new = ⊥
+KeepsNoneNext count extent old held (stop.Section n e) new = (n ≡ count) × NoneNext extent old e new
+KeepsNoneNext count extent old held (stop.Block n name e) new = (s : Section) × (more : Option ℕ)
     × (n ≡ count) × TakesSectionBytes extent old s more new × (name ≡ s.0) × PutBytesRefused s held e
 
 -- no file begins, for this cause; memory is wanted only for a header
-abbrev pub NotBegun : {E : Type 0} → Reading → ReadCarError E PutBlockError → Reading → Type 0
-NotBegun old (stop.Header e) new = CarRefuses RefusesStart old e new
+abbrev pub NoFileBegins : {E : Type 0} → Reading → ReadCarError E PutBlockError → Reading → Type 0
+NoFileBegins old (stop.Header e) new = CarRefuses RefusesStart old e new
     × LacksMemoryIf {T = Unit {0}} (FileLacks old) (Err e)
-NotBegun old _ new = ⊥
+NoFileBegins old _ new = ⊥
 
 -- why a file is not read, and what is held: no file begins; or else all sections up to a place were
 -- kept, and no more
-abbrev pub ReadRefused : {E : Type 0} → Reading → Held → ReadCarError E PutBlockError → Reading → Held
+abbrev pub FileUnread : {E : Type 0} → Reading → Held → ReadCarError E PutBlockError → Reading → Held
     → Type 0
-ReadRefused old before e new after = (NotBegun old e new × (after ≡ before))
+FileUnread old before e new after = (NoFileBegins old e new × (after ≡ before))
     ⊎ ((roots : List (List ℕ)) × (sections : List Section) × (extent : Option ℕ) × (mid : Reading)
-    × IsReadTo roots sections old before extent mid after
-    × (StopsAt (length sections) extent mid after e new ⊎ ((new ≡ mid) × AreTooMany sections e)))
+    × IsKeptTo roots sections old before extent mid after
+    × (KeepsNoneNext (length sections) extent mid after e new ⊎ ((new ≡ mid) × AreTooMany sections e)))
 
 -- A file of either version is read exactly where all of its sections are sound, faults, want of
 -- memory and collisions aside. What is held is what was held, and the sections taken.
@@ -75,4 +75,4 @@ abbrev pub ReadsCar : {E : Type 0} → Reading → Held
     → Result (Vec CidParts Global) (ReadCarError E PutBlockError) → Reading → Held → Type 0
 ReadsCar old before result new after = MatchResult result
     (λ v. (sections : List Section) × KeepsAll (forms v.items) sections old before new after)
-    (λ e. ReadRefused old before e new after)
+    (λ e. FileUnread old before e new after)

@@ -15,18 +15,18 @@ use Rattle.dagcbor_blocks.specs.declared.put_error.PutBlockError.{PutBlockError}
 use Rattle.dagcbor_blocks.specs.declared.put_error.PutBlockError.TheVariants as puts
 
 -- these roots were read, and under each name stands what stood there; or memory was wanting
-abbrev pub IsReadBack : List (List ℕ) → Held
+abbrev pub IsFilledBack : List (List ℕ) → Held
     → Result (Vec CidParts Global) (ReadCarError Infallible PutBlockError) → Held → Type 0
-IsReadBack roots blocks (Ok v) after = (forms v.items ≡ roots)
+IsFilledBack roots blocks (Ok v) after = (forms v.items ≡ roots)
     × ((name : CidParts) → block_at name after ≡ block_at name blocks)
-IsReadBack roots blocks (Err (stop.Header car.OutOfMemory)) after = ⊤
-IsReadBack roots blocks (Err (stop.Section n car.OutOfMemory)) after = ⊤
-IsReadBack roots blocks (Err (stop.Block n name puts.OutOfMemory)) after = ⊤
-IsReadBack roots blocks (Err _) after = ⊥
+IsFilledBack roots blocks (Err (stop.Header car.OutOfMemory)) after = ⊤
+IsFilledBack roots blocks (Err (stop.Section n car.OutOfMemory)) after = ⊤
+IsFilledBack roots blocks (Err (stop.Block n name puts.OutOfMemory)) after = ⊤
+IsFilledBack roots blocks (Err _) after = ⊥
 
 -- What a store that holds these blocks writes is read into an empty store as the same blocks.
-abbrev pub WrittenThenRead : Held → Type 0
-WrittenThenRead blocks = (b : List ℕ) (roots : List (List ℕ)) (old new : Reading) (after : Held)
+abbrev pub WrittenThenFilled : Held → Type 0
+WrittenThenFilled blocks = (b : List ℕ) (roots : List (List ℕ)) (old new : Reading) (after : Held)
     (result : Result (Vec CidParts Global) (ReadCarError Infallible PutBlockError))
     → IsCar b roots blocks → old.left ≡ Some b → ReadsCar old [] result new after
-    → IsReadBack roots blocks result after
+    → IsFilledBack roots blocks result after

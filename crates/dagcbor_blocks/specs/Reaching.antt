@@ -38,20 +38,20 @@ OfReachable blocks root Holds = MayLead blocks root
 -- why the file was not written as a whole: the root leads nowhere, and nothing was sent; the writer
 -- faulted, and a beginning was; or memory was wanting, before anything was sent where the writer
 -- takes none
-abbrev pub TreeRefused : {E : Type 0} → Held → CidParts → Bool → Written → WriteTreeError E
+abbrev pub TreeUnwritten : {E : Type 0} → Held → CidParts → Bool → Written → WriteTreeError E
     → Written → Type 0
-TreeRefused blocks root takes_memory old NotHeld new = IsNotHeld blocks root × (new ≡ old)
-TreeRefused blocks root takes_memory old (Write e) new = OfReachable blocks root
+TreeUnwritten blocks root takes_memory old NotHeld new = IsNotHeld blocks root × (new ≡ old)
+TreeUnwritten blocks root takes_memory old (Write e) new = OfReachable blocks root
     (λ names. Stops (Some (tree_bytes blocks root names)) old new (unwritten.Write e))
-TreeRefused {E} blocks root takes_memory old OutOfMemory new = (takes_memory ≡ false → new ≡ old)
+TreeUnwritten {E} blocks root takes_memory old OutOfMemory new = (takes_memory ≡ false → new ≡ old)
     × ((MayLead blocks root × (new ≡ old)) ⊎ OfReachable blocks root
     (λ names. Stops {E = E} (Some (tree_bytes blocks root names)) old new unwritten.OutOfMemory))
 
 -- The file of the root, and of the held blocks that links lead to from there, is appended.
-abbrev pub WritesTree : {T E : Type 0} → Held → CidParts → Bool → Written
+abbrev pub WritesHeldTree : {T E : Type 0} → Held → CidParts → Bool → Written
     → Result T (WriteTreeError E) → Written → Type 0
-WritesTree blocks root takes_memory old result new = MatchResult result
+WritesHeldTree blocks root takes_memory old result new = MatchResult result
     (λ _. OfReachable blocks root (λ names.
     IsCar (tree_bytes blocks root names) (cid_bytes root ∷ []) (sections_at (stored blocks) names)
     × WroteAll (Some (tree_bytes blocks root names)) old new))
-    (λ e. TreeRefused blocks root takes_memory old e new)
+    (λ e. TreeUnwritten blocks root takes_memory old e new)

@@ -1,7 +1,7 @@
 //! Keeping blocks, reading them, and finding links that lead nowhere.
 
 ghost use Rattle.std.specs.Prelude.{◌≡◌, ◌≢◌, [], true, IfOk, IfSome, OnErr};
-ghost use Rattle.dagcbor_blocks.specs.Blocks.{held_blocks, Puts, Gets, ListsMissing};
+ghost use Rattle.dagcbor_blocks.specs.Blocks.{held_blocks, Puts, Gets, ListsUnheld};
 ghost use Rattle.ipld_links.specs.Sound.{IsSound};
 ghost use Rattle.dagcbor_blocks.specs.Steps.{HasTree, ChecksDepth, StoresBlock};
 ghost use Rattle.dagcbor_blocks.specs.Steps.{AddsOne, AddsMissing};
@@ -92,7 +92,7 @@ impl Blocks {
     /// in blocks of another codec are not read. A link by the identity is listed as any other, and the
     /// block in its digest, which is not held, is not read.
     pub fn missing(&self) -> Result<Vec<Cid>, BlockError>
-        ensures lists { ListsMissing (held_blocks self.now) result }
+        ensures lists { ListsUnheld (held_blocks self.now) result }
         ensures memory { OnErr result (held_blocks self.now ≢ []) }
     {
         if self.blocks.is_empty() {
@@ -103,7 +103,7 @@ impl Blocks {
 
     /// What `missing` answers, of whatever is held.
     fn missing_of_some(&self) -> Result<Vec<Cid>, BlockError>
-        ensures { ListsMissing (held_blocks self.now) result }
+        ensures { ListsUnheld (held_blocks self.now) result }
     {
         laws::spelling_unique();
         laws::cid_equality();

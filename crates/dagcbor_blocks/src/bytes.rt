@@ -1,7 +1,7 @@
 //! Keeping blocks as bytes, and handing them out.
 
 ghost use Rattle.std.specs.Prelude.{◌≡◌, ◌≢◌, [], length, IfOk, OnErr, MatchOption, None};
-ghost use Rattle.dagcbor_blocks.specs.Blocks.{held_blocks, block_at, IsHeld};
+ghost use Rattle.dagcbor_blocks.specs.Blocks.{held_blocks, block_at, HoldsBytes};
 ghost use Rattle.dagcbor_blocks.specs.Bytes.{PutsBytes, is_held, HoldsOthers, AreHeldNames};
 
 use crate::error::BlockError;
@@ -36,7 +36,7 @@ impl Blocks {
     pub fn get_block(&self, name: &Cid) -> Option<&[u8]>
         ensures { MatchOption result
             (block_at name.now (held_blocks self.now) ≡ None)
-            (λ b. IsHeld name.now b.now (held_blocks self.now)) }
+            (λ b. HoldsBytes name.now b.now (held_blocks self.now)) }
     {
         match self.blocks.get(name) {
             Some(block) => Some(block.as_slice()),

@@ -1,7 +1,7 @@
 //! Laws of the definitions, each the contract of a function that does nothing.
 
 ghost use Rattle.dagcbor_blocks.specs.Blocks.{held_blocks, FindsMembers};
-ghost use Rattle.dagcbor_blocks.specs.Laws.{WrittenThenRead};
+ghost use Rattle.dagcbor_blocks.specs.Laws.{WrittenThenFilled};
 
 use crate::store::Blocks;
 use dagcbor_car::laws::files_are_unique;
@@ -17,7 +17,7 @@ pub fn lookup_finds_members(blocks: &Blocks)
 
 /// What `write_car` writes of one store, `read_car` reads into an empty one, as the same blocks.
 pub fn written_then_read(blocks: &Blocks)
-    ensures { WrittenThenRead (held_blocks blocks.now) }
+    ensures { WrittenThenFilled (held_blocks blocks.now) }
 {
     // No effect at run time. The proof reads from these calls that no name repeats, and that bytes
     // are one file.

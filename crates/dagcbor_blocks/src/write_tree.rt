@@ -1,7 +1,7 @@
 //! Writing the blocks that links lead to as a file.
 
 ghost use Rattle.dagcbor_blocks.specs.Blocks.{held_blocks};
-ghost use Rattle.dagcbor_blocks.specs.Reaching.{WritesTree};
+ghost use Rattle.dagcbor_blocks.specs.Reaching.{WritesHeldTree};
 
 use crate::store::Blocks;
 use crate::tree_error::WriteTreeError;
@@ -17,7 +17,7 @@ impl Blocks {
         root: &Cid,
         writer: &mut W,
     ) -> Result<(), WriteTreeError<W::Error>>
-        ensures { WritesTree (held_blocks self.now) root.now W.takes_memory
+        ensures { WritesHeldTree (held_blocks self.now) root.now W.takes_memory
             (W.written writer.old) result (W.written writer.new) }
     {
         if !self.may_lead(root) {

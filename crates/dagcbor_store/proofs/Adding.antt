@@ -12,7 +12,7 @@ use Rattle.ipld_links.specs.Sets.{Among}
 use Rattle.block_trees.specs.Ends.{Quiet, KeepsOthers, IsOfBlocks, IsOfRoots}
 use Rattle.block_trees.specs.Rows.{block_tree, name_tree, block_row, name_entry, IsStored, IsListed, IsTooLong}
 use Rattle.block_trees.specs.RootRows.{root_tree, AreRoots}
-use Rattle.dagcbor_store.specs.Stored.{IsAddedTo, IsAdded, IsSame, IsUndone, FailsByStore, IsUnfit, PutRefused, IsCommitted}
+use Rattle.dagcbor_store.specs.Stored.{IsAddedTo, IsAdded, IsSame, IsUndone, FailsByStore, IsTooLongFor, PutRefused, IsCommitted}
 use Rattle.dagcbor_store.specs.Roots.{GainsRoots, MayKeepRoots, AreRootsAdded}
 use Rattle.dagcbor_store.specs.Cars.{IsNameIn, IsSectionIn, HoldsSections, IsFilled, IsAddedAll, AddsSections, NotKept}
 use Rattle.dagcbor_store.specs.declared.error.StoreRefusal.{StoreRefusal}
@@ -163,17 +163,13 @@ module _ {S : Type 0} (g : Ghosts S) where
   -- a failure behind a call that kept what was committed
   pub fails_behind : (U V : Type 0) (old mid new : S) (told : StoreRefusal) → Quiet g old mid → (IsClean (g.view new) → IsClean (g.view mid))
       → (IsClean (g.view mid) → ((g.view mid).is_broken ≡ (g.view old).is_broken) × KeepsLast (g.view old) (g.view mid) × (U → V)) → FailsByStore g U mid new told → FailsByStore g V old new told
-  fails_behind U V old mid new told before was same f = (
-    f.0,
-    f.1,
-    f.2,
-    λ clean.
-        let k = f.3 clean in
-        let is = same (was clean) in (
-          cause_then (g.view old) (g.view mid) (g.faults old) (g.faults mid) (g.faults new) U V f.0 before.counts is.0 is.2 k.0,
-          undone_then (g.view old) (g.view mid) (g.view new) is.1 k.1,
-        ),
-  )
+  fails_behind U V old mid new told before was same f = record {
+    error = f.error;
+    tells = f.tells;
+    blamed = f.blamed;
+    caused = λ clean. let is = same (was clean) in cause_then (g.view old) (g.view mid) (g.faults old) (g.faults mid) (g.faults new) U V f.error before.counts is.0 is.2 (f.caused clean);
+    undone = λ clean. undone_then (g.view old) (g.view mid) (g.view new) (same (was clean)).1 (f.undone clean);
+  }
 
   -- behind roots and sections that were added
   pub fails_from : (U V : Type 0) (roots : List CidParts) (ss : List Section) (old mid new : S) (told : StoreRefusal) → AddsSections g roots ss old mid → (IsClean (g.view new) → IsClean (g.view mid)) → (IsClean (g.view mid) → U → V) → FailsByStore g U mid new told → FailsByStore g V old new told
@@ -182,40 +178,26 @@ module _ {S : Type 0} (g : Ghosts S) where
 
   -- a failure before a rollback
   pub fails_until : (U : Type 0) (old mid new : S) (told : StoreRefusal) → Quiet g mid new → g.blamed new ≡ g.blamed mid → (IsClean (g.view new) → IsUndone (g.view mid) (g.view new)) → FailsByStore g U old mid told → FailsByStore g U old new told
-  fails_until U old mid new told quiet blame undone f = (
-    f.0,
-    f.1,
-    subst (λ b. Tells b f.0) (sym blame) f.2,
-    λ clean.
-        let k = f.3 (omega (arith, quiet.clean)) in (
-          cause_until (g.view old) (g.faults old) (g.faults mid) (g.faults new) U f.0 quiet.counts k.0,
-          undone_then (g.view old) (g.view mid) (g.view new) (last_undone (g.view old) (g.view mid) k.1) (undone clean),
-        ),
-  )
+  fails_until U old mid new told quiet blame undone f = record {
+    error = f.error;
+    tells = f.tells;
+    blamed = subst (λ b. Tells b f.error) (sym blame) f.blamed;
+    caused = λ clean. cause_until (g.view old) (g.faults old) (g.faults mid) (g.faults new) U f.error quiet.counts (f.caused (omega (arith, quiet.clean)));
+    undone = λ clean. undone_then (g.view old) (g.view mid) (g.view new) (last_undone (g.view old) (g.view mid) (f.undone (omega (arith, quiet.clean)))) (undone clean);
+  }
 
   pub not_kept : (roots : List CidParts) (ss : List Section) (s : Section) (old mid refused new : S) (told : StoreRefusal) → AddsSections g roots ss old mid → Quiet g mid refused → Quiet g refused new → g.blamed new ≡ g.blamed refused
-      → (IsClean (g.view new) → IsUndone (g.view refused) (g.view new)) → PutRefused g s mid refused told → NotKept g ss s old new told
-  not_kept roots ss s old mid refused new refusal.NoNumber h quiet last blame undone p = inr (inl (
-    refl,
-    λ clean.
-        let behind : IsClean (g.view refused) = omega (arith, last.clean) in
-        let was : IsClean (g.view mid) = omega (arith, quiet.clean, last.clean) in
-        ((g.view mid).trees, (h.added was).trees, (p behind).0),
-  ))
-  not_kept roots ss s old mid refused new told h quiet last blame undone p = by p
-    where
-      long : IsClean (g.view mid) → IsTooLong (g.view mid).reals (cid_bytes s.0) s.1 → IsTooLong (g.view old).reals (cid_bytes s.0) s.1
-      long clean = subst (λ r. IsTooLong r (cid_bytes s.0) s.1) (h.added clean).reals
-
-      by : (IsUnfit s told × (refused ≡ mid)) ⊎ FailsByStore g (IsTooLong (g.view mid).reals (cid_bytes s.0) s.1) mid refused told → NotKept g ss s old new told
-      by (inl u) = inl u.0
-      by (inr f) = inr (inr (fails_until (IsTooLong (g.view old).reals (cid_bytes s.0) s.1) old refused new told last blame undone
-          (fails_from (IsTooLong (g.view mid).reals (cid_bytes s.0) s.1) (IsTooLong (g.view old).reals (cid_bytes s.0) s.1) roots ss old mid refused told h (λ clean. omega (arith, quiet.clean)) long f)))
+      → (IsClean (g.view new) → IsUndone (g.view refused) (g.view new)) → PutRefused g s mid refused told → NotKept g ss old new s told
+  not_kept roots ss s old mid refused new (refusal.Unsound e) h quiet last blame undone p = p.0
+  not_kept roots ss s old mid refused new refusal.NoNumber h quiet last blame undone p = λ clean.
+      let behind : IsClean (g.view refused) = omega (arith, last.clean) in
+      let was : IsClean (g.view mid) = omega (arith, quiet.clean, last.clean) in
+      record { mid = (g.view mid).trees; holds = (h.added was).trees; ends = (p behind).0 }
+  not_kept roots ss s old mid refused new told h quiet last blame undone p =
+      fails_until (IsTooLongFor (g.view old) s) old refused new told last blame undone
+      (fails_from (IsTooLongFor (g.view mid) s) (IsTooLongFor (g.view old) s) roots ss old mid refused told h (λ clean. omega (arith, quiet.clean)) (λ clean. subst (λ r. IsTooLong r (cid_bytes s.0) s.1) (h.added clean).reals) p)
 
   pub last_put : (s : Section) (old new : S) (told : StoreRefusal) → IsClean (g.view new) → PutRefused g s old new told → KeepsLast (g.view old) (g.view new)
+  last_put s old new (refusal.Unsound e) clean p = subst (λ x. KeepsLast (g.view old) (g.view x)) (sym p.1) (last_itself (g.view old))
   last_put s old new refusal.NoNumber clean p = last_same (g.view old) (g.view new) (p clean).1
-  last_put s old new told clean p = by p
-    where
-      by : (IsUnfit s told × (new ≡ old)) ⊎ FailsByStore g (IsTooLong (g.view old).reals (cid_bytes s.0) s.1) old new told → KeepsLast (g.view old) (g.view new)
-      by (inl u) = subst (λ x. KeepsLast (g.view old) (g.view x)) (sym u.1) (last_itself (g.view old))
-      by (inr f) = last_undone (g.view old) (g.view new) (f.3 clean).1
+  last_put s old new told clean p = last_undone (g.view old) (g.view new) (p.undone clean)

@@ -13,8 +13,9 @@ use Rattle.sqlite_trees.specs.declared.error.StoreError.TheVariants as stored
 use Rattle.ipld_tree.specs.Cid.{CidParts, cid_bytes, IsCid}
 use Rattle.dagcbor_car.specs.Car.{Section}
 use Rattle.ipld_links.specs.Sets.{Among}
-use Rattle.block_trees.specs.Rows.{block_tree, name_tree, block_row, name_entry, IsStored, IsListed, FreesId, LooksUp, WritesBlockRow, AddsBlockRow, TakesOutName, IsKeyed, IsTooLong}
-use Rattle.dagcbor_store.specs.Stored.{AreAllRoots, IsReady, IsSame, IsUndone, IsNamedBy, GetsSome, GetRefused, IsDamaged, AnswersVerified, FailsByStore, TellsOfStore, IsAdded, IsAddedTo, IsTaken, IsToldAdded, PutRefused}
+use Rattle.ipld_links.specs.declared.sound.Unsound.{Unsound}
+use Rattle.block_trees.specs.Rows.{block_tree, name_tree, block_row, name_entry, IsStored, IsListed, FreesId, LooksUp, WritesBlockRow, AddsBlockRow, TakesOutName, IsKeyed}
+use Rattle.dagcbor_store.specs.Stored.{AreAllRoots, IsReady, IsSame, IsUndone, IsNamedBy, GetsSome, GetRefused, IsDamaged, AnswersVerified, FailsByStore, IsTooLongFor, TellsOfStore, IsAdded, IsAddedTo, IsTaken, IsToldAdded, PutRefused}
 use Rattle.block_trees.specs.RootRows.{root_tree, IsRootShape}
 use Rattle.block_trees.specs.Ends.{WritesIn, KeepsOthers, IsOfBlocks}
 use Rattle.block_trees.specs.declared.entries.Found.{Found}
@@ -281,15 +282,34 @@ cause_until v a b c U stored.Unstorable up h = h
 pub fails_since : {S : Type 0} (g : Ghosts S) (U : Type 0) (old mid new : S) (e : StoreError) (told : StoreRefusal) → TellsOfStore e told → g.blamed new ≡ g.blamed mid → Tells (g.blamed mid) e → g.faults mid ≤ g.faults new
     → (IsClean (g.view new) → HasCause (g.view old) (MoreFaults (g.faults old) (g.faults mid)) U e × IsUndone (g.view old) (g.view new)) → FailsByStore g U old new told
 fails_since g U old mid new e told t blame tells up h =
-    (e, t, subst (λ b. Tells b e) (sym blame) tells, λ clean. (cause_until (g.view old) (g.faults old) (g.faults mid) (g.faults new) U e up (h clean).0, (h clean).1))
+    record {
+      error = e;
+      tells = t;
+      blamed = subst (λ b. Tells b e) (sym blame) tells;
+      caused = λ clean. cause_until (g.view old) (g.faults old) (g.faults mid) (g.faults new) U e up (h clean).0;
+      undone = λ clean. (h clean).1;
+    }
+
+-- a failure that comes only where a wrong answer of the disk was taken as true
+pub fails_never : {S : Type 0} (g : Ghosts S) (U : Type 0) (old new : S) (e : StoreError) (told : StoreRefusal) → TellsOfStore e told → Tells (g.blamed new) e → (IsClean (g.view new) → ⊥) → FailsByStore g U old new told
+fails_never g U old new e told t blamed never = record { error = e; tells = t; blamed = blamed; caused = λ clean. absurd (never clean); undone = λ clean. absurd (never clean) }
+
+-- memory was wanting, and what was not committed is undone
+pub fails_for_memory : {S : Type 0} (g : Ghosts S) (old new : S) → (IsClean (g.view new) → IsUndone (g.view old) (g.view new)) → FailsByStore g ⊥ old new refusal.OutOfMemory
+fails_for_memory g old new undone = record { error = stored.OutOfMemory; tells = refl; blamed = λ kind is fault. absurd (cc fault); caused = λ clean. tt; undone = undone }
 
 pub not_number : (e : StoreError) → TellsOfStore e refusal.NoNumber → ⊥
 not_number stored.OutOfMemory h = cc
 not_number _ h = cc
 
-pub put_failed : {S : Type 0} (g : Ghosts S) (s : Section) (old new : S) (told : StoreRefusal) → FailsByStore g (IsTooLong (g.view old).reals (cid_bytes s.0) s.1) old new told → PutRefused g s old new told
-put_failed g s old new refusal.NoNumber f = absurd (not_number f.0 f.1)
-put_failed g s old new _ f = inr f
+not_unsound : (e : StoreError) (cause : Unsound) → TellsOfStore e (refusal.Unsound cause) → ⊥
+not_unsound stored.OutOfMemory cause h = cc
+not_unsound _ cause h = cc
+
+pub put_failed : {S : Type 0} (g : Ghosts S) (s : Section) (old new : S) (told : StoreRefusal) → FailsByStore g (IsTooLongFor (g.view old) s) old new told → PutRefused g s old new told
+put_failed g s old new (refusal.Unsound cause) f = absurd (not_unsound f.error cause f.tells)
+put_failed g s old new refusal.NoNumber f = absurd (not_number f.error f.tells)
+put_failed g s old new _ f = f
 
 -- ---- committing
 

@@ -9,7 +9,7 @@ use Rattle.ipld_links.specs.Sets.{Among}
 use Rattle.ipld_links.proofs.Members.{push_among}
 use Rattle.block_trees.specs.RootRows.{root_tree, AreRoots, IsRootTooLong}
 use Rattle.block_trees.specs.Ends.{Quiet}
-use Rattle.dagcbor_store.specs.Roots.{JoinsRoots, AddsInTurn, KeepsRoots, MayKeepRoots, IsRootAdded, RootRefused, AreRootsAdded, StandsBehind, IsAnyTooLong, RootsRefused}
+use Rattle.dagcbor_store.specs.Roots.{JoinsRoots, AddsInTurn, KeepsRoots, MayKeepRoots, IsRootAdded, RootRefused, AreRootsAdded, ComesNext, IsRootTooLongFor, IsAnyTooLong, RootsRefused}
 use Rattle.dagcbor_store.specs.declared.error.StoreRefusal.{StoreRefusal}
 use Rattle.dagcbor_store.specs.declared.error.StoreRefusal.TheVariants as refusal
 use Rattle.dagcbor_store.proofs.Adding.{KeepsLast, fails_behind}
@@ -21,7 +21,7 @@ in_turn_push : (old names mid : List CidParts) (name : CidParts) (new : List Cid
 in_turn_push old [] mid name new h a = (new, subst (λ m. JoinsRoots m name new) h a, refl)
 in_turn_push old (n ∷ names) mid name new h a = (h.0, h.1, in_turn_push h.0 names mid name new h.2 a)
 
-stands_at : (names : List CidParts) (i : ℕ) (name : CidParts) → i < length names → name ≡ get_or names i name → StandsBehind (take i names) name names
+stands_at : (names : List CidParts) (i : ℕ) (name : CidParts) → i < length names → name ≡ get_or names i name → ComesNext (take i names) name names
 stands_at [] i name within is = absurd (omega (arith, within))
 stands_at (n ∷ names) zero name within is = (names, ap (λ x. x ∷ names) (sym is))
 stands_at (n ∷ names) (suc i) name within is = let k = stands_at names i name (omega (arith, within)) is in (k.0, ap (λ ns. n ∷ ns) k.1)
@@ -73,7 +73,7 @@ may_keep g names old new (inr keeps) = inr keeps
 
 module _ {S : Type 0} (g : Ghosts S) (names : List CidParts) (i : ℕ) (name : CidParts) (old mid new : S) (within : i < length names) (is : name ≡ get_or names i name) (added : IsClean (g.view mid) → AreRootsAdded (g.view old) (g.view mid) (take i names))
     (shape : (g.view mid).shape ≡ (g.view old).shape) (begun : IsBegun g (take i names) old mid) (before : Quiet g old mid) (quiet : Quiet g mid new) where
-  too_long : IsClean (g.view mid) → IsRootTooLong (g.view mid).reals (cid_bytes name) → IsAnyTooLong (g.view old).reals names
+  too_long : IsClean (g.view mid) → IsRootTooLongFor (g.view mid) name → IsAnyTooLong (g.view old) names
   too_long clean long = (name, item_among names i name within is, subst (λ r. IsRootTooLong r (cid_bytes name)) (added clean).reals long)
 
   earlier : IsBegun g (take i names) old mid → RootRefused g name mid new refusal.EarlierVersion → RootsRefused g names old new refusal.EarlierVersion
@@ -84,6 +84,6 @@ module _ {S : Type 0} (g : Ghosts S) (names : List CidParts) (i : ℕ) (name : C
   roots_refused refusal.EarlierVersion p = earlier begun p
   roots_refused refusal.NoNumber p = λ clean.
       let k = p clean in
-      (take i names, name, g.view mid, stands_at names i name within is, added (omega (arith, quiet.clean)), (k.0, k.2), k.1)
-  roots_refused told p = fails_behind g (IsRootTooLong (g.view mid).reals (cid_bytes name)) (IsAnyTooLong (g.view old).reals names) old mid new told before (λ clean. omega (arith, quiet.clean))
+      record { first = take i names; name = name; held = g.view mid; stands = stands_at names i name within is; added = added (omega (arith, quiet.clean)); lacks = k.0; same = k.1 }
+  roots_refused told p = fails_behind g (IsRootTooLongFor (g.view mid) name) (IsAnyTooLong (g.view old) names) old mid new told before (λ clean. omega (arith, quiet.clean))
       (λ clean. let a = added clean in (a.broken, last_rooted (g.view old) (g.view mid) (take i names) a, too_long clean)) p

@@ -310,23 +310,23 @@ all_all names i old new below end h =
 
 module _ {S : Type 0} (g : Ghosts S) where
   pub get_sound_refused : (name : CidParts) (old new : S) (told : StoreRefusal) → GetRefused g name old new told → SoundRefused g name old new told
-  get_sound_refused name old new (refusal.Damaged n) p = (p.0, λ clean. let k = p.1 clean in (k.1, damaged_unsound (g.view old) name k.0))
+  get_sound_refused name old new (refusal.Damaged n) p = (p.0, λ clean. let k = p.1 clean in (damaged_unsound (g.view old) name k.0, k.1))
   get_sound_refused name old new told p = p
 
   pub fails_sound : (name : CidParts) (old new : S) (told : StoreRefusal) → FailsByStore g ⊥ old new told → SoundRefused g name old new told
-  fails_sound name old new (refusal.Damaged n) f = absurd (not_damaged g f.0 n f.1)
+  fails_sound name old new (refusal.Damaged n) f = absurd (not_damaged g f.error n f.tells)
   fails_sound name old new told f = f
 
   pub fails_mark : (root : CidParts) (kept : BTreeSet CidParts) (old new : S) (told : StoreRefusal) → FailsByStore g ⊥ old new told → MarkRefused g root kept old new told
-  fails_mark root kept old new (refusal.Damaged n) f = absurd (not_damaged g f.0 n f.1)
+  fails_mark root kept old new (refusal.Damaged n) f = absurd (not_damaged g f.error n f.tells)
   fails_mark root kept old new told f = f
 
   pub fails_find : (root : CidParts) (kept : BTreeSet CidParts) (old new : S) (told : StoreRefusal) → FailsByStore g ⊥ old new told → FindRefused g root kept old new told
-  fails_find root kept old new (refusal.Damaged n) f = absurd (not_damaged g f.0 n f.1)
+  fails_find root kept old new (refusal.Damaged n) f = absurd (not_damaged g f.error n f.tells)
   fails_find root kept old new told f = f
 
   pub fails_collect : (roots : List CidParts) (old new : S) (told : StoreRefusal) → FailsByStore g ⊥ old new told → CollectRefused g roots old new told
-  fails_collect roots old new (refusal.Damaged n) f = absurd (not_damaged g f.0 n f.1)
+  fails_collect roots old new (refusal.Damaged n) f = absurd (not_damaged g f.error n f.tells)
   fails_collect roots old new told f = f
 
   pub visit_find : (root name : CidParts) (kept : BTreeSet CidParts) (old mid new : S) (told : StoreRefusal) → Quiet g old mid → (IsClean (g.view mid) → IsSame (g.view old) (g.view mid)) → (IsClean (g.view mid) → (stored : Stored) → Fits (g.view old) kept stored → LeadsFar stored root name)
@@ -335,14 +335,16 @@ module _ {S : Type 0} (g : Ghosts S) where
       let was : IsClean (g.view mid) = omega (arith, quiet.clean) in
       let s = same was in
       let k = p.1 clean in (
-        same_then (g.view old) (g.view mid) (g.view new) s k.0,
-        subst (HoldsNoneSound (g.view old)) (sym p.0) (unsound_same (g.view old) (g.view mid) name s k.1),
-        λ stored fits. subst (LeadsFar stored root) (sym p.0) (far was stored fits),
+        (
+          subst (HoldsNoneSound (g.view old)) (sym p.0) (unsound_same (g.view old) (g.view mid) name s k.0),
+          λ stored fits. subst (LeadsFar stored root) (sym p.0) (far was stored fits),
+        ),
+        same_then (g.view old) (g.view mid) (g.view new) s k.1,
       )
   visit_find root name kept old mid new told before same far quiet p = fails_same g old mid new told before same quiet p
 
   pub find_mark : (root : CidParts) (kept : BTreeSet CidParts) (old new : S) (told : StoreRefusal) → FindRefused g root kept old new told → MarkRefused g root kept old new told
-  find_mark root kept old new (refusal.Damaged n) p = λ clean. let k = p clean in (k.0, k.1, λ roots marks stored shows. leads_beside (g.view old) kept root n stored shows k.2)
+  find_mark root kept old new (refusal.Damaged n) p = λ clean. let k = p clean in ((k.0.0, λ roots marks stored shows. leads_beside (g.view old) kept root n stored shows k.0.1), k.1)
   find_mark root kept old new told p = p
 
   pub mark_collect : (roots done : List CidParts) (root : CidParts) (kept : BTreeSet CidParts) (old mid new : S) (told : StoreRefusal) → Among root roots → Quiet g old mid → (IsClean (g.view mid) → IsSame (g.view old) (g.view mid) × Marks (g.view old) done kept) → Quiet g mid new
@@ -350,8 +352,10 @@ module _ {S : Type 0} (g : Ghosts S) where
   mark_collect roots done root kept old mid new (refusal.Damaged n) among before same quiet p = λ clean.
       let w = same (omega (arith, quiet.clean)) in
       let k = p clean in (
-        same_then (g.view old) (g.view mid) (g.view new) w.0 k.0,
-        unsound_same (g.view old) (g.view mid) n w.0 k.1,
-        λ stored shows. (root, among, k.2 done (marks_same (g.view mid) (g.view old) done kept (sym w.0.trees) w.1) stored (shows_same (g.view old) (g.view mid) stored w.0 shows)),
+        (
+          unsound_same (g.view old) (g.view mid) n w.0 k.0.0,
+          λ stored shows. (root, among, k.0.1 done (marks_same (g.view mid) (g.view old) done kept (sym w.0.trees) w.1) stored (shows_same (g.view old) (g.view mid) stored w.0 shows)),
+        ),
+        same_then (g.view old) (g.view mid) (g.view new) w.0 k.1,
       )
   mark_collect roots done root kept old mid new told among before same quiet p = fails_same g old mid new told before (λ clean. (same clean).0) quiet p

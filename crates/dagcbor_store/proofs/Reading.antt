@@ -19,7 +19,7 @@ use Rattle.dagcbor_store.specs.Stored.{IsUndone, FailsByStore}
 use Rattle.dagcbor_store.specs.Roots.{GainsRoots, IsAnyTooLong, RootsRefused}
 use Rattle.dagcbor_store.specs.declared.error.StoreRefusal.{StoreRefusal}
 use Rattle.dagcbor_store.specs.declared.error.StoreRefusal.TheVariants as kind
-use Rattle.dagcbor_store.specs.Cars.{TellsOfFile, FileRefused, IsReadTo, IsRead, AddsSections, NextRefused, AddRefused, ReadRefused, StopsAt, RootsNotKept, HoldsSections, MayLeave, TellsOfRun, TakesBlock, of_block, of_refusal}
+use Rattle.dagcbor_store.specs.Cars.{TellsOfFile, FileRefused, IsReadTo, IsFileRead, AddsSections, NextRefused, AddRefused, ReadRefused, StopsAt, RootsNotKept, HoldsSections, MayLeave, TellsOfRun, TakesBlock, of_block, of_refusal}
 use Rattle.dagcbor_store.specs.declared.car_error.ReadCarError.{ReadCarError}
 use Rattle.dagcbor_store.specs.declared.car_error.ReadCarError.TheVariants as own
 use Rattle.block_trees.specs.Ends.{Quiet}
@@ -66,7 +66,7 @@ read_more roots ss s extent more old mid now h k named = record {
   blocks = sound_push ss s h.blocks named;
 }
 
-pub read_whole : (roots : List (List ℕ)) (ss : List Section) (extent more : Option ℕ) (old mid new : Reading) → IsReadAt roots ss old extent mid → EndsThere extent mid more new → IsRead roots ss old new
+pub read_whole : (roots : List (List ℕ)) (ss : List Section) (extent more : Option ℕ) (old mid new : Reading) → IsReadAt roots ss old extent mid → EndsThere extent mid more new → IsFileRead roots ss old new
 read_whole roots ss extent more old mid new h end = record {
   is_car = λ b l.
       let k = h.known b l in
@@ -78,53 +78,62 @@ read_whole roots ss extent more old mid new h end = record {
 -- ---- refusals
 
 pub file_refused : {E : Type 0} (T : Type 0) (variant : CarError E → ReadCarError E) (stands : CarError E → List ℕ → Type 0) (lacks : Type 0) (e : CarError E) (told : ReadCarError E) (old new : Reading) → TellsOfFile variant e told → CarRefuses stands old e new → LacksMemoryIf {T = T} lacks (Err e) → FileRefused variant stands lacks old told new
-file_refused T variant stands lacks e told old new tells refused memory = (e, tells, refused, lacks_alike T lacks e memory)
+file_refused T variant stands lacks e told old new tells refused memory = record { error = e; tells = tells; refused = refused; memory = lacks_alike T lacks e memory }
 
 module _ {S : Type 0} (g : Ghosts S) where
   stops_at : {E : Type 0} (roots : List CidParts) (ss : List Section) (extent : Option ℕ) (mid new : Reading) (before held after last : S) (e : ReadCarError E) → AddsSections g roots ss before held → Quiet g held after → Quiet g after last → g.blamed last ≡ g.blamed after
       → (IsClean (g.view last) → IsUndone (g.view after) (g.view last)) → NextRefused g (length ss) extent mid held e new after → StopsAt g ss extent mid before e new last
   stops_at roots ss extent mid new before held after last e h quiet behind blame undone (inl f) = inl f.0
   stops_at roots ss extent mid new before held after last e h quiet behind blame undone (inr p) =
-      inr (inl (p.0, p.1, p.2, p.3, p.4, not_kept g roots ss p.0 before held after last p.2 h quiet behind blame undone p.5))
+      inr (inl (record { section = p.section; more = p.more; told = p.told; taken = p.taken; says = p.says; why = not_kept g roots ss p.section before held after last p.told h quiet behind blame undone p.why }))
 
   pub roots_not_kept : (roots : List CidParts) (before after last : S) (told : StoreRefusal) → Quiet g after last → g.blamed last ≡ g.blamed after → (IsClean (g.view last) → IsUndone (g.view after) (g.view last))
       → RootsRefused g roots before after told → RootsNotKept g roots before last told
   roots_not_kept roots before after last kind.EarlierVersion behind blame undone p = (p.0, p.1)
   roots_not_kept roots before after last kind.NoNumber behind blame undone p = λ clean.
       let k = p (omega (arith, behind.clean)) in
-      (k.2.trees, k.0, k.1, k.3, k.4.roots, k.5)
-  roots_not_kept roots before after last told behind blame undone p = fails_until g (IsAnyTooLong (g.view before).reals roots) before after last told behind blame undone p
+      record { mid = k.held.trees; first = k.first; name = k.name; stands = k.stands; gains = k.added.roots; lacks = k.lacks }
+  roots_not_kept roots before after last told behind blame undone p = fails_until g (IsAnyTooLong (g.view before) roots) before after last told behind blame undone p
 
   -- nothing of the file is kept
   pub read_refused : {E : Type 0} (old new : Reading) (before after last : S) (e : ReadCarError E) → Quiet g after last → g.blamed last ≡ g.blamed after
       → (IsClean (g.view last) → IsUndone (g.view after) (g.view last)) → AddRefused g old before e new after → ReadRefused g old before e new last
   read_refused old new before after last e behind blame undone (inl f) = inl f.0
-  read_refused old new before after last e behind blame undone (inr (inl r)) = inr (inl (r.0, r.1, r.2, r.3, r.4, roots_not_kept r.0 before after last r.2 behind blame undone r.5))
-  read_refused old new before after last e behind blame undone (inr (inr r)) = inr (inr (
-    r.0,
-    r.1,
-    r.2,
-    r.3,
-    r.6.keeps,
-    r.5,
-    elim r.8 [
-      | inl n ↦ inl (stops_at r.0 r.1 r.2 r.3 new before r.4 after last e r.6 r.7 behind blame undone n)
-      | inr m ↦ inr (m.0, m.2)
-    ],
-  ))
+  read_refused old new before after last e behind blame undone (inr (inl r)) =
+      inr (inl (record { roots = r.roots; extent = r.extent; told = r.told; taken = r.taken; says = r.says; why = roots_not_kept r.roots before after last r.told behind blame undone r.why }))
+  read_refused old new before after last e behind blame undone (inr (inr r)) = inr (inr (record {
+    roots = r.roots;
+    sections = r.sections;
+    extent = r.extent;
+    mid = r.mid;
+    keeps = r.adds.keeps;
+    taken = r.taken;
+    stops = elim r.stops [
+      | inl n ↦ stops_at r.roots r.sections r.extent r.mid new before r.held after last e r.adds r.quiet behind blame undone n
+      | inr m ↦ inr (inr (inr m.1))
+    ];
+  }))
 
   -- the commit failed
   pub commit_refused : {E : Type 0} (roots : List CidParts) (ss : List Section) (extent more : Option ℕ) (old mid new : Reading) (before after last : S) (told : StoreRefusal) → IsReadTo (forms roots) ss old extent mid → EndsThere extent mid more new → AddsSections g roots ss before after
       → (IsClean (g.view last) → IsClean (g.view after)) → FailsByStore g ⊥ after last told → ReadRefused {E = E} g old before (of_refusal told) new last
   commit_refused roots ss extent more old mid new before after last told to end h was f =
-      inr (inr (roots, ss, extent, mid, h.keeps, to, inl (inr (inr (more, told, end, refl, fails_from g ⊥ ⊥ roots ss before after last told h was (λ clean none. none) f)))))
+      inr (inr (record {
+        roots = roots;
+        sections = ss;
+        extent = extent;
+        mid = mid;
+        keeps = h.keeps;
+        taken = to;
+        stops = inr (inr (inl (record { more = more; told = told; ends = end; says = refl; failed = fails_from g ⊥ ⊥ roots ss before after last told h was (λ clean none. none) f })));
+      }))
 
   -- what a crash behind the commit leaves
-  pub may_leave : (roots : List CidParts) (ss : List Section) (old new : Reading) (before after last : S) → IsRead (forms roots) ss old new → AddsSections g roots ss before after → (IsClean (g.view last) → IsClean (g.view after))
+  pub may_leave : (roots : List CidParts) (ss : List Section) (old new : Reading) (before after last : S) → IsFileRead (forms roots) ss old new → AddsSections g roots ss before after → (IsClean (g.view last) → IsClean (g.view after))
       → ((db : Trees) → g.recovers last db → (db ≡ (g.view after).trees) ⊎ g.recovers after db)
       → (db : Trees) → g.recovers last db → g.recovers before db ⊎ (IsClean (g.view last) → MayLeave old new (g.view before).trees db)
   may_leave roots ss old new before after last read h was crash db r = elim (crash db r) [
-    | inl e ↦ inr (λ clean. let a = h.added (was clean) in (roots, ss, read, subst (λ (t : Trees). HoldsSections (g.view before).trees t ss) (sym e) a.trees, subst (λ (t : Trees). GainsRoots (g.view before).trees t roots) (sym e) a.gains))
+    | inl e ↦ inr (λ clean. let a = h.added (was clean) in record { roots = roots; sections = ss; read = read; holds = subst (λ (t : Trees). HoldsSections (g.view before).trees t ss) (sym e) a.trees; gains = subst (λ (t : Trees). GainsRoots (g.view before).trees t roots) (sym e) a.gains })
     | inr earlier ↦ inl (h.quiet.outcomes db earlier)
   ]
 
@@ -151,9 +160,29 @@ module _ {S : Type 0} (g : Ghosts S) (roots : List CidParts) (start : Reading) (
   stopped : {E : Type 0} (ss : List Section) (extent more : Option ℕ) (mid behind : Reading) (it new : S) (e : run.ReadCarError E StoreRefusal) (told : ReadCarError E) → IsAddedTo ss extent mid it → StopsEach (TakesBlock g) (length ss) extent mid it e more behind new → TellsOfRun e told → AddRefused g start before told behind new
   stopped ss extent more mid behind it new (stop.Header e) told h k tells = absurd k
   stopped ss extent more mid behind it new (stop.Section n e) told h k tells =
-      inr (inr (roots, ss, extent, mid, it, read_to h.0, h.1, subst (Quiet g it) (sym k.2) (quiet_itself g it), inl (inl ((e, subst (λ n. TellsOfFile (own.Section n) e told) k.0 tells, k.1.0, k.1.1), k.2))))
+      inr (inr (record {
+        roots = roots;
+        sections = ss;
+        extent = extent;
+        mid = mid;
+        held = it;
+        taken = read_to h.0;
+        adds = h.1;
+        quiet = subst (Quiet g it) (sym k.2) (quiet_itself g it);
+        stops = inl (inl (record { error = e; tells = subst (λ n. TellsOfFile (own.Section n) e told) k.0 tells; refused = k.1.0; memory = k.1.1 }, k.2));
+      }))
   stopped {E} ss extent more mid behind it new (stop.Block n name refusal) told h k tells =
-      inr (inr (roots, ss, extent, mid, it, read_to h.0, h.1, k.4.0, inl (inr (k.0, more, refusal, k.2, tells ∙ ap (λ n. of_block {E = E} n name refusal) k.1 ∙ ap (λ c. of_block {E = E} (length ss) c refusal) k.3, k.4.1))))
+      inr (inr (record {
+        roots = roots;
+        sections = ss;
+        extent = extent;
+        mid = mid;
+        held = it;
+        taken = read_to h.0;
+        adds = h.1;
+        quiet = k.4.0;
+        stops = inl (inr (record { section = k.0; more = more; told = refusal; taken = k.2; says = tells ∙ ap (λ n. of_block {E = E} n name refusal) k.1 ∙ ap (λ c. of_block {E = E} (length ss) c refusal) k.3; why = k.4.1 }));
+      }))
 
   too_many : {E : Type 0} (n : ℕ) (e : run.ReadCarError E StoreRefusal) (told : ReadCarError E) → e ≡ stop.Section n OutOfMemory → TellsOfRun e told → told ≡ own.OutOfMemory
   too_many n e told is tells = subst (λ x. TellsOfRun x told) is tells
@@ -162,7 +191,17 @@ module _ {S : Type 0} (g : Ghosts S) (roots : List CidParts) (start : Reading) (
   run_refused extent more source behind held new e told h (ss, rest, mid, it, t, inl k) tells = stopped ss rest more mid behind it new e told (added_all ss extent rest source mid held it h t) k tells
   run_refused extent more source behind held new e told h (ss, rest, mid, it, t, inr k) tells =
       let at = added_all ss extent rest source mid held it h t in
-      inr (inr (roots, ss, rest, mid, it, read_to at.0, at.1, subst (Quiet g it) (sym k.1) (quiet_itself g it), inr (k.0, k.1, (too_many (length ss) e told k.2.0 tells, k.2.1))))
+      inr (inr (record {
+        roots = roots;
+        sections = ss;
+        extent = rest;
+        mid = mid;
+        held = it;
+        taken = read_to at.0;
+        adds = at.1;
+        quiet = subst (Quiet g it) (sym k.1) (quiet_itself g it);
+        stops = inr (k.1, record { same = k.0; says = too_many (length ss) e told k.2.0 tells; many = k.2.1 });
+      }))
 
 module _ {S : Type 0} (g : Ghosts S) where
   each_quiet : (extent rest : Option ℕ) (source mid : Reading) (old new : S) (ss : List Section) → TakesEach (TakesBlock g) extent source old ss rest mid new → Quiet g old new

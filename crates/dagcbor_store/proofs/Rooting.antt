@@ -11,13 +11,13 @@ use Rattle.ipld_tree.specs.Cid.{CidParts, AreCidParts, cid_bytes}
 use Rattle.ipld_tree.proofs.Cids.{cid_unique}
 use Rattle.ipld_links.specs.Sets.{Among}
 use Rattle.block_trees.specs.Rows.{name_tree, IsKeyed}
-use Rattle.block_trees.specs.RootRows.{root_tree, root_row, IsRowOfRoot, AreRoots, HasRoot, AddsRoot, LeavesOut, TakesRoot, IsRootTooLong}
+use Rattle.block_trees.specs.RootRows.{root_tree, root_row, IsRowOfRoot, AreRoots, HasRoot, AddsRoot, LeavesOut, TakesRoot}
 use Rattle.block_trees.specs.Ends.{WritesIn, KeepsOthers, IsOfRoots}
 use Rattle.block_trees.specs.declared.entries.Added.{Added}
 use Rattle.block_trees.specs.declared.entries.Added.TheVariants.{New, Stored, NoNumber}
 use Rattle.block_trees.proofs.Rooting.{are_more}
 use Rattle.dagcbor_store.specs.Stored.{AreAllRoots, IsReady, IsToldAdded, TellsOfStore, FailsByStore}
-use Rattle.dagcbor_store.specs.Roots.{JoinsRoots, IsRootAdded, RootRefused, IsRootTaken}
+use Rattle.dagcbor_store.specs.Roots.{JoinsRoots, IsRootAdded, IsRootTooLongFor, RootRefused, IsRootTaken}
 use Rattle.dagcbor_store.specs.declared.error.StoreRefusal.{StoreRefusal}
 use Rattle.dagcbor_store.specs.declared.error.StoreRefusal.TheVariants as refusal
 use Rattle.dagcbor_store.proofs.Calls.{ready_written, still_open, not_number}
@@ -121,9 +121,8 @@ module _ {S : Type 0} (g : Ghosts S) (name : CidParts) (old new : S) where
   none_added : AddsRoot ((g.view old).trees root_tree) ((g.view new).trees root_tree) (cid_bytes name) NoNumber → WritesIn IsOfRoots (g.view old) (g.view new) → IsClean (g.view new) → RootRefused g name old new refusal.NoNumber
   none_added (inl k) h clean = absurd (cc k.1)
   none_added (inr k) h clean = λ now. (
-    k.1.0,
+    (k.1.0, λ names are m. k.0 (among_has ((g.view old).trees root_tree) names name are m)),
     record { trees = same_trees (g.view old).trees (g.view new).trees h.others k.1.1; committed = ap (λ (v : View). v.committed) h.frame; is_open = ap (λ (v : View). v.is_open) h.frame; broken = ap (λ (v : View). v.is_broken) h.frame },
-    λ names are m. k.0 (among_has ((g.view old).trees root_tree) names name are m),
   )
 
   pub root_not_added : (added : Added) (r : Result (Unit {0}) StoreRefusal)
@@ -136,9 +135,9 @@ module _ {S : Type 0} (g : Ghosts S) (name : CidParts) (old new : S) where
   not_earlier stored.OutOfMemory h = cc
   not_earlier _ h = cc
 
-  pub root_failed : (told : StoreRefusal) → FailsByStore g (IsRootTooLong (g.view old).reals (cid_bytes name)) old new told → RootRefused g name old new told
-  root_failed refusal.NoNumber f = absurd (not_number f.0 f.1)
-  root_failed refusal.EarlierVersion f = absurd (not_earlier f.0 f.1)
+  pub root_failed : (told : StoreRefusal) → FailsByStore g (IsRootTooLongFor (g.view old) name) old new told → RootRefused g name old new told
+  root_failed refusal.NoNumber f = absurd (not_number f.error f.tells)
+  root_failed refusal.EarlierVersion f = absurd (not_earlier f.error f.tells)
   root_failed _ f = f
 
 -- ---- taking out

@@ -9,7 +9,7 @@ use Rattle.dagcbor_heads.specs.Written.{Written, WroteAll, Stops}
 use Rattle.dagcbor_heads.proofs.Writing.{WroteAll_then, Stops-then}
 use Rattle.ipld_tree.specs.Cid.{CidParts, cid_bytes}
 use Rattle.ipld_links.specs.Names.{IsInline}
-use Rattle.dagcbor_car.specs.Car.{Section, header_bytes, section_bytes, IsHeader, IsSection}
+use Rattle.dagcbor_car.specs.Car.{Section, header_bytes, section_bytes, car_bytes, IsHeader, IsSection}
 use Rattle.ipld_links.specs.Sets.{Among}
 use Rattle.ipld_links.specs.Reaching.{Stored, IsThere, IsLost, LeadsFar, ListsReachable, ListsLost, IsOver, WalksAt}
 use Rattle.dagcbor_car.specs.Reached.{sections_at}
@@ -19,9 +19,9 @@ use Rattle.ipld_links.proofs.Members.{push_among}
 use Rattle.ipld_links.proofs.Reaching.{none_found}
 use Rattle.dagcbor_car.proofs.Writing.{sections_left}
 use Rattle.block_trees.specs.Rows.{name_tree, IsStored, IsListed}
-use Rattle.dagcbor_store.specs.Stored.{IsNamedBy, HoldsOnly, GetsSome, ListsName, IsDamaged, IsSame, GetRefused}
+use Rattle.dagcbor_store.specs.Stored.{IsNamedBy, HoldsOnly, GetsSome, ListsName, IsDamaged, IsSame, FindsSo, GetRefused}
 use Rattle.dagcbor_store.specs.Walking.{AreAllNamed, HeaderUnwritten}
-use Rattle.dagcbor_store.specs.Trees.{ShowsStored, OfStored, Reaches, ReachRefused, tree_bytes, AreFirstReached, WritesTree, TreeRefused, AreFirstAt, NamedRefused, NamesRefused, NamedUnwritten, WritesNames, NamesUnwritten}
+use Rattle.dagcbor_store.specs.Trees.{ShowsStored, OfStored, Reaches, ReachRefused, AreFirstReached, WritesTree, TreeRefused, AreFirstAt, NamedRefused, NamesRefused, NamedUnwritten, WritesNames, NamesUnwritten}
 use Rattle.dagcbor_store.specs.declared.error.StoreRefusal.{StoreRefusal}
 use Rattle.dagcbor_store.specs.declared.error.StoreRefusal.TheVariants as refusal
 use Rattle.dagcbor_store.specs.declared.car_error.WriteCarError.{WriteCarError}
@@ -106,11 +106,11 @@ module _ {S : Type 0} (g : Ghosts S) where
       let k = p.1 clean in
       let was : IsClean (g.view mid) = omega (arith, quiet.clean) in
       let s = same was in (
-        same_then (g.view old) (g.view mid) (g.view new) s k.1,
         λ stored shows. (
           damaged_same (g.view old) (g.view mid) n s (subst (IsDamaged (g.view mid)) (sym p.0) k.0),
           subst (LeadsFar stored root) (sym p.0) (far was stored shows),
         ),
+        same_then (g.view old) (g.view mid) (g.view new) s k.1,
       )
   visit_refused root name old mid new told before same far quiet p = fails_same g old mid new told before same quiet p
 
@@ -121,7 +121,7 @@ module _ {S : Type 0} (g : Ghosts S) where
     pub header : IsHeader (cid_bytes root ∷ [])
     pub named : AreAllNamed sections
     pub sections_are : AllByRecursion IsSection sections
-    pub wrote : WroteAll (Some (tree_bytes root sections)) before now
+    pub wrote : WroteAll (Some (car_bytes (cid_bytes root ∷ []) sections)) before now
     pub walked : IsClean (g.view mid) → IsSame (g.view old) (g.view mid) × OfStored (g.view old) (λ stored. sections ++ sections_at stored (drop i names) ≡ sections_at stored names)
     pub quiet : Quiet g old mid
 
@@ -138,33 +138,33 @@ module _ {S : Type 0} (g : Ghosts S) where
 
     pub tree_unbegun : {E : Type 0} (after : Written) (e : WriteCarError E) → HeaderUnwritten (cid_bytes root ∷ []) before after e → NamesUnwritten g root names old before e after old
     tree_unbegun after (car.Store told) stops = absurd stops
-    tree_unbegun after (car.Write e) stops = (
-      [],
-      tt,
-      subst (λ b. Stops (Some b) before after e) (sym (append-nil (header_bytes (cid_bytes root ∷ [])))) stops,
-      λ clean. (same_itself (g.view old), (names, λ stored shows. refl)),
-    )
+    tree_unbegun after (car.Write e) stops = record {
+      sections = [];
+      named = tt;
+      stops = subst (λ b. Stops (Some b) before after e) (sym (append-nil (header_bytes (cid_bytes root ∷ [])))) stops;
+      are_so = λ clean. ((names, λ stored shows. refl), same_itself (g.view old));
+    }
 
     module _ (mid new : S) (now after : Written) (i : ℕ) (ss : List Section) (h : IsTreeWritten root names old before i ss now mid) (quiet : Quiet g mid new) where
       before_clean : IsClean (g.view new) → IsSame (g.view old) (g.view mid) × OfStored (g.view old) (λ stored. ss ++ sections_at stored (drop i names) ≡ sections_at stored names)
       before_clean clean = h.walked (omega (arith, quiet.clean))
 
-      more_clean : (name : CidParts) (b : List ℕ) → i < length names → name ≡ get_or names i name → (IsClean (g.view new) → IsSame (g.view mid) (g.view new) × HoldsOnly (g.view mid) name b)
+      more_clean : (name : CidParts) (b : List ℕ) → i < length names → name ≡ get_or names i name → FindsSo g mid new (λ v. HoldsOnly v name b)
           → IsClean (g.view new) → IsSame (g.view old) (g.view new) × OfStored (g.view old) (λ stored. (ss ++ (name, b) ∷ []) ++ sections_at stored (drop (i + 1) names) ≡ sections_at stored names)
       more_clean name b lt is next clean =
           let w = before_clean clean in
           let n = next clean in (
-            same_then (g.view old) (g.view mid) (g.view new) w.0 n.0,
-            push_at (g.view old) names ss i name b lt is (holds_same (g.view old) (g.view mid) name b w.0 n.1) w.1,
+            same_then (g.view old) (g.view mid) (g.view new) w.0 n.1,
+            push_at (g.view old) names ss i name b lt is (holds_same (g.view old) (g.view mid) name b w.0 n.0) w.1,
           )
 
       pub tree_more : (name : CidParts) (b : List ℕ) → i < length names → name ≡ get_or names i name → IsNamedBy name b → IsSection (name, b) → WroteAll (Some (section_bytes (name, b))) now after
-          → (IsClean (g.view new) → IsSame (g.view mid) (g.view new) × HoldsOnly (g.view mid) name b) → IsTreeWritten root names old before (i + 1) (ss ++ (name, b) ∷ []) after new
+          → FindsSo g mid new (λ v. HoldsOnly v name b) → IsTreeWritten root names old before (i + 1) (ss ++ (name, b) ∷ []) after new
       tree_more name b lt is named own wrote next = record {
         header = h.header;
         named = all_more (λ (s : Section). IsNamedBy s.0 s.1) ss (name, b) h.named named;
         sections_are = all_more IsSection ss (name, b) h.sections_are own;
-        wrote = subst (λ t. WroteAll (Some t) before after) (car_push g (cid_bytes root ∷ []) ss (name, b)) (WroteAll_then (Some (tree_bytes root ss)) (Some (section_bytes (name, b))) before now after h.wrote wrote);
+        wrote = subst (λ t. WroteAll (Some t) before after) (car_push g (cid_bytes root ∷ []) ss (name, b)) (WroteAll_then (Some (car_bytes (cid_bytes root ∷ []) ss)) (Some (section_bytes (name, b))) before now after h.wrote wrote);
         walked = more_clean name b lt is next;
         quiet = quiet_then g old mid new h.quiet quiet;
       }
@@ -175,45 +175,45 @@ module _ {S : Type 0} (g : Ghosts S) where
         λ clean.
             let s = (before_clean clean).0 in
             let k = p.1 clean in (
-              same_then (g.view old) (g.view mid) (g.view new) s k.0,
-              λ l. damaged_same (g.view old) (g.view mid) n s (k.1 (subst (λ (t : Trees). IsListed (t name_tree) (cid_bytes n)) (sym s.trees) l)),
+              λ l. damaged_same (g.view old) (g.view mid) n s (k.0 (subst (λ (t : Trees). IsListed (t name_tree) (cid_bytes n)) (sym s.trees) l)),
+              same_then (g.view old) (g.view mid) (g.view new) s k.1,
             ),
       )
       named_refused name told lt is p = fails_same g old mid new told h.quiet (λ clean. (h.walked clean).0) quiet p
 
       pub tree_stopped : {E : Type 0} (name : CidParts) (e : WriteCarError E) → i < length names → name ≡ get_or names i name → NamedUnwritten g name mid now e after new → NamesUnwritten g root names old before e after new
-      tree_stopped name (car.Write e) lt is n = (
-        ss ++ (name, n.0) ∷ [],
-        all_more (λ (s : Section). IsNamedBy s.0 s.1) ss (name, n.0) h.named n.1,
-        subst (λ t. Stops (Some t) before after e) (car_push g (cid_bytes root ∷ []) ss (name, n.0)) (Stops-then (Some (tree_bytes root ss)) (Some (section_bytes (name, n.0))) before now after e h.wrote n.2),
-        λ clean. let k = more_clean name n.0 lt is n.3 clean in (k.0, (drop (i + 1) names, k.1)),
-      )
+      tree_stopped name (car.Write e) lt is n = record {
+        sections = ss ++ (name, n.bytes) ∷ [];
+        named = all_more (λ (s : Section). IsNamedBy s.0 s.1) ss (name, n.bytes) h.named n.named;
+        stops = subst (λ t. Stops (Some t) before after e) (car_push g (cid_bytes root ∷ []) ss (name, n.bytes)) (Stops-then (Some (car_bytes (cid_bytes root ∷ []) ss)) (Some (section_bytes (name, n.bytes))) before now after e h.wrote n.stops);
+        are_so = λ clean. let k = more_clean name n.bytes lt is n.is_so clean in ((drop (i + 1) names, k.1), k.0);
+      }
       tree_stopped name (car.Store told) lt is n = (
+        record {
+          sections = ss;
+          named = h.named;
+          wrote = subst (λ w. WroteAll (Some (car_bytes (cid_bytes root ∷ []) ss)) before w) (sym n.0) h.wrote;
+          are_so = λ clean. (drop i names, (before_clean clean).1);
+        },
         named_refused name told lt is n.1,
-        (
-          ss,
-          h.named,
-          subst (λ w. WroteAll (Some (tree_bytes root ss)) before w) (sym n.0) h.wrote,
-          λ clean. (drop i names, (before_clean clean).1),
-        ),
       )
 
     pub tree_done : (mid : S) (now : Written) (i : ℕ) (ss : List Section) → length names ≤ i → IsTreeWritten root names old before i ss now mid → WritesNames g root names old before now mid
-    tree_done mid now i ss end h = (
-      ss,
-      h.named,
-      h.wrote,
-      record { header = h.header; all = h.sections_are; is = refl },
-      λ clean.
+    tree_done mid now i ss end h = record {
+      sections = ss;
+      named = h.named;
+      wrote = h.wrote;
+      is_car = record { header = h.header; all = h.sections_are; is = refl };
+      are_so = λ clean.
           let w = h.walked clean in
-          (w.0, λ stored shows. sym (append-nil ss) ∙ ap (λ ns. ss ++ sections_at stored ns) (sym (drop_all i names end)) ∙ w.1 stored shows),
-    )
+          (λ stored shows. sym (append-nil ss) ∙ ap (λ ns. ss ++ sections_at stored ns) (sym (drop_all i names end)) ∙ w.1 stored shows, w.0);
+    }
 
   -- ---- the call
 
   module _ (root : CidParts) (old mid : S) (r : Reached) (before : Quiet g old mid) (same : IsClean (g.view mid) → IsSame (g.view old) (g.view mid)) (reached : IsClean (g.view mid) → Reaches (g.view old) root r) where
     pub tree_lost : (E : Type 0) (sent : Written) → r.found.items ≡ [] → (IsInline root → ⊥) → TreeRefused {E = E} g root old sent tree.NotStored sent mid
-    tree_lost E sent none other = (refl, λ clean. (same clean, λ stored shows. lost_root stored root r.found.items (reached clean stored shows).0 none other))
+    tree_lost E sent none other = (refl, λ clean. (λ stored shows. lost_root stored root r.found.items (reached clean stored shows).0 none other, same clean))
 
     module _ (new : S) (sent after : Written) (quiet : Quiet g mid new) (either : r.found.items ≡ [] → IsInline root) where
       was : IsClean (g.view new) → IsClean (g.view mid)
@@ -225,44 +225,50 @@ module _ {S : Type 0} (g : Ghosts S) where
       leads : IsClean (g.view new) → OfStored (g.view old) (λ stored. IsLost stored root → ⊥)
       leads clean stored shows = not_lost stored root r.found.items (reached (was clean) stored shows).0 either
 
-      first_reached : (ss : List Section) → IsClean (g.view new) → AreFirstAt (g.view mid) r.found.items ss → OfStored (g.view old) (λ stored. (IsLost stored root → ⊥) × AreFirstReached stored root ss)
+      first_reached : (ss : List Section) → IsClean (g.view new) → AreFirstAt r.found.items (g.view mid) ss → OfStored (g.view old) (λ stored. (IsLost stored root → ⊥) × AreFirstReached stored root ss)
       first_reached ss clean f stored shows = (
         leads clean stored shows,
         (sections_at stored f.0, (r.found.items, (reached (was clean) stored shows).0, f.1 stored (shows_same (g.view old) (g.view mid) stored (same (was clean)) shows))),
       )
 
       pub tree_written : WritesNames g root r.found.items mid sent after new → WritesTree g root old sent r.lost.items after new
-      tree_written w = (
-        w.0,
-        w.1,
-        w.2,
-        w.3,
-        λ clean. (
-          same_then (g.view old) (g.view mid) (g.view new) (same (was clean)) (w.4 clean).0,
+      tree_written w = record {
+        sections = w.sections;
+        named = w.named;
+        wrote = w.wrote;
+        is_car = w.is_car;
+        are_so = λ clean. (
           λ stored shows. (
             leads clean stored shows,
             (reached (was clean) stored shows).1,
-            (r.found.items, (reached (was clean) stored shows).0, (w.4 clean).1 stored (shows_same (g.view old) (g.view mid) stored (same (was clean)) shows)),
+            (r.found.items, (reached (was clean) stored shows).0, (w.are_so clean).0 stored (shows_same (g.view old) (g.view mid) stored (same (was clean)) shows)),
           ),
-        ),
-      )
+          same_then (g.view old) (g.view mid) (g.view new) (same (was clean)) (w.are_so clean).1,
+        );
+      }
 
       names_refused : (told : StoreRefusal) → NamesRefused g r.found.items mid new told → ReachRefused g root old new told
       names_refused (refusal.Damaged n) p = λ clean.
           let s = same (was clean) in
           let k = p.1 clean in (
-            same_then (g.view old) (g.view mid) (g.view new) s k.0,
             λ stored shows.
                 let q = ((reached (was clean) stored shows).0.lists.all n).0 p.0 in
-                (damaged_same (g.view old) (g.view mid) n s (k.1 (listed_there (g.view mid) stored n (shows_same (g.view old) (g.view mid) stored s shows) q.0)), q.1),
+                (damaged_same (g.view old) (g.view mid) n s (k.0 (listed_there (g.view mid) stored n (shows_same (g.view old) (g.view mid) stored s shows) q.0)), q.1),
+            same_then (g.view old) (g.view mid) (g.view new) s k.1,
           )
       names_refused told p = fails_same g old mid new told before same quiet p
 
       pub tree_refused : {E : Type 0} (e : WriteCarError E) → NamesUnwritten g root r.found.items mid sent e after new → TreeRefused g root old sent (tree.Unwritten e) after new
-      tree_refused (car.Write e) n = (
-        n.0,
-        n.1,
-        n.2,
-        λ clean. (same_then (g.view old) (g.view mid) (g.view new) (same (was clean)) (n.3 clean).0, first_reached n.0 clean (n.3 clean).1),
+      tree_refused (car.Write e) n = record {
+        sections = n.sections;
+        named = n.named;
+        stops = n.stops;
+        are_so = λ clean. (
+          first_reached n.sections clean (n.are_so clean).0,
+          same_then (g.view old) (g.view mid) (g.view new) (same (was clean)) (n.are_so clean).1,
+        );
+      }
+      tree_refused (car.Store told) n = (
+        names_refused told n.1,
+        inr (record { sections = n.0.sections; named = n.0.named; wrote = n.0.wrote; are_so = λ clean. first_reached n.0.sections clean (n.0.are_so clean) }),
       )
-      tree_refused (car.Store told) n = (names_refused told n.0, inr (n.1.0, n.1.1, n.1.2, λ clean. first_reached n.1.0 clean (n.1.3 clean)))

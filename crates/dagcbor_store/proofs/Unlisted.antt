@@ -23,7 +23,7 @@ use Rattle.sqlite_trees.specs.Tree.{Trees}
 use Rattle.block_trees.specs.Rows.{name_tree, IsListed}
 use Rattle.dagcbor_store.specs.Stored.{ListsName, IsNext, GivesNextName, HoldsOnly, IsSame}
 use Rattle.dagcbor_store.specs.Walking.{AreBlocks}
-use Rattle.dagcbor_store.specs.Lost.{IsLinked, NamesNone, ListsLostLinks, AddsUnlisted, AddsNames, AddsLost, AddsOf, HoldsNoneSound, GrowsByLost, IsReachedIn}
+use Rattle.dagcbor_store.specs.Lost.{IsLinked, NamesNoneListed, ListsLostLinks, AddsUnlisted, AddsNames, AddsLost, AddsOf, HoldsNoneSound, GrowsByLost, IsReachedIn}
 use Rattle.dagcbor_store.proofs.Walking.{IsWalked, all_blocks}
 
 -- ---- one name
@@ -168,21 +168,21 @@ lists_lost v last ss s links walked none h listed = (listed.0, λ form. (there f
     blocks : AreBlocks v ss
     blocks = all_blocks v last ss walked none
 
-    there : (form : List ℕ) → Among form (forms links.items) → IsLinked form v × NamesNone form v
+    there : (form : List ℕ) → Among form (forms links.items) → IsLinked form v × NamesNoneListed form v
     there form m =
         let k = map_among cid_bytes form links.items m in
         let w = (h k.0).0 (subst (Among k.0) listed.1 k.1) in
         let t = w.0.3 in
-        subst (λ f. IsLinked f v × NamesNone f v) (sym k.2)
+        subst (λ f. IsLinked f v × NamesNoneListed f v) (sym k.2)
         ((w.0.0.0, w.0.0.1, t.0, walked.valid w.0.0 w.0.1, w.0.2, (walked.stored w.0.0 w.0.1).0, t.1, t.2.2), (not_inline (cid_bytes k.0) k.0 t.2.0 t.2.1 refl, w.1))
 
-    back : (form : List ℕ) → IsLinked form v × NamesNone form v → Among form (forms links.items)
+    back : (form : List ℕ) → IsLinked form v × NamesNoneListed form v → Among form (forms links.items)
     back form m =
         let l = m.0 in
         let c = reached_cid l.2 form l.6.0.well_formed l.7 in
         let at = (blocks.stored (cid_bytes l.0) l.1).1 l.5 in
         let name = cid_unique at.0.0 l.0 (walked.valid at.0 at.1) l.3 at.2 in
-        let is = subst (λ f. NamesNone f v) c.2 m.1 in
+        let is = subst (λ f. NamesNoneListed f v) c.2 m.1 in
         let found = (h c.0).1 ((at.0, at.1, subst IsDagCbor (sym name) l.4, (l.2, subst (λ b. IsBlock b l.2) (sym at.3) l.6, (c.1, λ i. is.0 (c.0, c.1, refl, i), subst (λ f. IsReached f (links_of l.2)) c.2 l.7))), is.1) in
         subst (λ f. Among f (forms links.items)) (sym c.2) (among_map cid_bytes c.0 links.items (subst (Among c.0) (sym listed.1) found))
 

@@ -13,11 +13,11 @@ use Rattle.ipld_links.specs.Sets.{Among}
 use Rattle.ipld_links.proofs.Members.{among_push}
 use Rattle.dagcbor_car.proofs.Places.{flat_push}
 use Rattle.block_trees.specs.Rows.{name_tree, name_cmp, IsStored, IsListed}
-use Rattle.dagcbor_store.specs.Stored.{IsNamedBy, IsBehind, IsNext, GivesNextName, HoldsOnly, IsDamaged, IsSame, FailsByStore, GetRefused, TellsOfStore}
+use Rattle.dagcbor_store.specs.Stored.{IsNamedBy, IsBehind, IsNext, GivesNextName, HoldsOnly, IsDamaged, IsSame, FindsSo, FailsByStore, GetRefused, TellsOfStore}
 use Rattle.sqlite_trees.specs.declared.error.StoreError.{StoreError}
 use Rattle.sqlite_trees.specs.declared.error.StoreError.TheVariants as stored
 use Rattle.dagcbor_store.specs.Cars.{IsNameIn, IsSectionIn}
-use Rattle.dagcbor_store.specs.Walking.{AreBefore, AreRising, AreFirstBlocks, AreBlocks, AreAllNamed, WalkRefused, IsOfNext, WriteRefused, HeaderUnwritten, NextUnwritten}
+use Rattle.dagcbor_store.specs.Walking.{AreBefore, AreRising, AreFirstBlocks, AreBlocks, AreAllNamed, WalkRefused, IsOfNext, WriteRefused, HeaderUnwritten, IsNextSection, NextUnwritten}
 use Rattle.dagcbor_store.specs.declared.error.StoreRefusal.{StoreRefusal}
 use Rattle.dagcbor_store.specs.declared.error.StoreRefusal.TheVariants as refusal
 use Rattle.dagcbor_store.specs.declared.car_error.WriteCarError.{WriteCarError}
@@ -124,7 +124,7 @@ module _ {S : Type 0} (g : Ghosts S) where
   not_damaged _ n h = cc
 
   pub fails_walk : (old new : S) (told : StoreRefusal) → FailsByStore g ⊥ old new told → WalkRefused g old new told
-  fails_walk old new (refusal.Damaged n) f = absurd (not_damaged f.0 n f.1)
+  fails_walk old new (refusal.Damaged n) f = absurd (not_damaged f.error n f.tells)
   fails_walk old new told f = f
 
   pub get_of_next : (name : CidParts) (last : Option CidParts) (old mid new : S) (told : StoreRefusal) → (IsClean (g.view new) → IsNext ((g.view old).trees name_tree) last name) → GetRefused g name mid new told → IsOfNext g last old new told
@@ -162,9 +162,9 @@ module _ {S : Type 0} (g : Ghosts S) where
   car_push roots ss s = append_assoc (header_bytes roots) (flat_map section_bytes ss) (section_bytes s) ∙ ap (λ more. header_bytes roots ++ more) (sym (flat_push ss s))
 
   pub written_more : (roots : List (List ℕ)) (old mid new : S) (before now after : Written) (last : Option CidParts) (ss : List Section) (c : CidParts) (b : List ℕ) → IsWritten roots old before last ss now mid → IsNamedBy c b → IsSection (c, b)
-      → (IsClean (g.view new) → IsSame (g.view mid) (g.view new)) → (IsClean (g.view new) → IsNext ((g.view mid).trees name_tree) last c × HoldsOnly (g.view mid) c b) → WroteAll (Some (section_bytes (c, b))) now after → Quiet g mid new
+      → FindsSo g mid new (λ v. IsNextSection v last (c, b)) → WroteAll (Some (section_bytes (c, b))) now after → Quiet g mid new
       → IsWritten roots old before (Some c) (ss ++ (c, b) ∷ []) after new
-  written_more roots old mid new before now after last ss c b h named own same next wrote quiet = record {
+  written_more roots old mid new before now after last ss c b h named own next wrote quiet = record {
     header = h.header;
     named = all_more (λ (s : Section). IsNamedBy s.0 s.1) ss (c, b) h.named named;
     sections_are = all_more IsSection ss (c, b) h.sections_are own;
@@ -172,39 +172,41 @@ module _ {S : Type 0} (g : Ghosts S) where
     walked = λ clean.
         let w = h.walked (omega (arith, quiet.clean)) in
         let n = next clean in (
-          same_then (g.view old) (g.view mid) (g.view new) w.0 (same clean),
-          walked_more (g.view old) last ss c b w.1 (next_same (g.view old) (g.view mid) last c w.0 n.0) (holds_same (g.view old) (g.view mid) c b w.0 n.1),
+          same_then (g.view old) (g.view mid) (g.view new) w.0 n.1,
+          walked_more (g.view old) last ss c b w.1 (next_same (g.view old) (g.view mid) last c w.0 n.0.0) (holds_same (g.view old) (g.view mid) c b w.0 n.0.1),
         );
     quiet = quiet_then g old mid new h.quiet quiet;
   }
 
   pub header_unwritten : {E : Type 0} (roots : List (List ℕ)) (old : S) (before after : Written) (e : WriteCarError E) → HeaderUnwritten roots before after e → WriteRefused g roots old before e after old
   header_unwritten roots old before after (car.Store told) stops = absurd stops
-  header_unwritten roots old before after (car.Write e) stops = (
-    [],
-    tt,
-    λ clean. (first_blocks (g.view old) None [] (walked_none (g.view old)), same_itself (g.view old)),
-    subst (λ b. Stops (Some b) before after e) (sym (append-nil (header_bytes roots))) stops,
-  )
+  header_unwritten roots old before after (car.Write e) stops = record {
+    sections = [];
+    named = tt;
+    stops = subst (λ b. Stops (Some b) before after e) (sym (append-nil (header_bytes roots))) stops;
+    are_so = λ clean. (first_blocks (g.view old) None [] (walked_none (g.view old)), same_itself (g.view old));
+  }
 
   pub next_unwritten : {E : Type 0} (roots : List (List ℕ)) (old mid new : S) (before now after : Written) (last : Option CidParts) (ss : List Section) (e : WriteCarError E) → IsWritten roots old before last ss now mid → Quiet g mid new
       → NextUnwritten g last mid now e after new → WriteRefused g roots old before e after new
-  next_unwritten roots old mid new before now after last ss (car.Write e) h quiet n = (
-    ss ++ n.0 ∷ [],
-    all_more (λ (s : Section). IsNamedBy s.0 s.1) ss n.0 h.named n.1,
-    λ clean.
+  next_unwritten roots old mid new before now after last ss (car.Write e) h quiet (c, n) = record {
+    sections = ss ++ (c, n.bytes) ∷ [];
+    named = all_more (λ (s : Section). IsNamedBy s.0 s.1) ss (c, n.bytes) h.named n.named;
+    stops = subst (λ t. Stops (Some t) before after e) (car_push roots ss (c, n.bytes)) (Stops-then (Some (car_bytes roots ss)) (Some (section_bytes (c, n.bytes))) before now after e h.wrote n.stops);
+    are_so = λ clean.
         let w = h.walked (omega (arith, quiet.clean)) in
-        let k = n.2 clean in (
-          first_blocks (g.view old) (Some n.0.0) (ss ++ n.0 ∷ []) (walked_more (g.view old) last ss n.0.0 n.0.1 w.1 (next_same (g.view old) (g.view mid) last n.0.0 w.0 k.0) (holds_same (g.view old) (g.view mid) n.0.0 n.0.1 w.0 k.1)),
-          same_then (g.view old) (g.view mid) (g.view new) w.0 k.2,
-        ),
-    subst (λ t. Stops (Some t) before after e) (car_push roots ss n.0) (Stops-then (Some (car_bytes roots ss)) (Some (section_bytes n.0)) before now after e h.wrote n.3),
-  )
+        let k = n.is_so clean in (
+          first_blocks (g.view old) (Some c) (ss ++ (c, n.bytes) ∷ []) (walked_more (g.view old) last ss c n.bytes w.1 (next_same (g.view old) (g.view mid) last c w.0 k.0.0) (holds_same (g.view old) (g.view mid) c n.bytes w.0 k.0.1)),
+          same_then (g.view old) (g.view mid) (g.view new) w.0 k.1,
+        );
+  }
   next_unwritten roots old mid new before now after last ss (car.Store told) h quiet n = (
-    ss,
-    h.named,
-    λ clean. first_blocks (g.view old) last ss (h.walked (omega (arith, quiet.clean))).1,
-    subst (λ w. WroteAll (Some (car_bytes roots ss)) before w) (sym n.0) h.wrote,
+    record {
+      sections = ss;
+      named = h.named;
+      wrote = subst (λ w. WroteAll (Some (car_bytes roots ss)) before w) (sym n.0) h.wrote;
+      are_so = λ clean. first_blocks (g.view old) last ss (h.walked (omega (arith, quiet.clean))).1;
+    },
     walk_refused old mid new told h.quiet (λ clean. (h.walked clean).0) quiet n.1,
   )
 

@@ -5,7 +5,6 @@ use Rattle.std.specs.declared.alloc.Global.{Global}
 use Rattle.sqlite_trees.specs.Tree.{Trees}
 use Rattle.sqlite_trees.specs.View.{View, IsClean}
 use Rattle.sqlite_trees.specs.declared.store.Store.{Ghosts}
-use Rattle.sqlite_trees.specs.declared.store.Shape.TheVariants as shape
 use Rattle.dagcbor_heads.specs.Reading.{Reading, Stays}
 use Rattle.ipld_tree.specs.Cid.{CidParts, cid_bytes}
 use Rattle.dagcbor_items.specs.Walks.{forms}
@@ -15,16 +14,15 @@ use Rattle.dagcbor_car.specs.Extents.{within, wanting, of_file, EndsThere}
 use Rattle.dagcbor_car.specs.Sources.{CarRefuses, RefusesStart, RefusesNext, TakesSectionBytes, LacksMemoryIf, FileLacks, SectionLacks}
 use Rattle.dagcbor_car.specs.Checks.{IsFileFront, StandBehind}
 use Rattle.ipld_links.specs.Sets.{Among}
-use Rattle.ipld_links.specs.Sound.{IsSound}
+use Rattle.ipld_links.specs.Sound.{IsSound, IsUnsound}
 use Rattle.dagcbor_car.specs.declared.error.CarError.{CarError}
 use Rattle.dagcbor_car.specs.declared.error.CarError.TheVariants as file
 use Rattle.dagcbor_car.specs.declared.each.ReadCarError as run
 use Rattle.dagcbor_car.specs.declared.each.ReadCarError.TheVariants as stop
-use Rattle.block_trees.specs.Rows.{block_tree, name_tree, IsStored, IsListed, FreesId, IsTooLong}
-use Rattle.block_trees.specs.RootRows.{root_tree}
+use Rattle.block_trees.specs.Rows.{block_tree, name_tree, IsStored, IsListed, FreesId}
 use Rattle.block_trees.specs.Ends.{Quiet, KeepsOthers, IsOfBlocks, IsOfRoots}
-use Rattle.dagcbor_store.specs.Stored.{IsUnfit, IsAdded, FailsByStore, PutRefused}
-use Rattle.dagcbor_store.specs.Roots.{GainsRoots, MayKeepRoots, StandsBehind, LacksNumber, IsAnyTooLong, RootsRefused}
+use Rattle.dagcbor_store.specs.Stored.{IsAdded, IsTooLongFor, FailsByStore, PutRefused}
+use Rattle.dagcbor_store.specs.Roots.{IsEarlier, GainsRoots, MayKeepRoots, ComesNext, LacksNumber, IsAnyTooLong, RootsRefused}
 use Rattle.dagcbor_store.specs.declared.error.StoreRefusal.{StoreRefusal}
 use Rattle.dagcbor_store.specs.declared.error.StoreRefusal.TheVariants as refusal
 use Rattle.dagcbor_store.specs.declared.car_error.ReadCarError.{ReadCarError}
@@ -44,8 +42,8 @@ IsSectionIn sections q b = (s : Section) × Among s sections × (cid_bytes s.0 �
 abbrev pub IsOfStore : ℕ → Type 0
 IsOfStore t = IsOfBlocks t ⊎ IsOfRoots t
 
--- Under the name of each section the bytes of a section of that name are stored, and no others; under each other name
--- what was stored there. Each tree that is none of the store is the same.
+-- Under the name of each section the bytes of a section of that name are stored, and no others;
+-- under each other name what was stored there. Each tree that is none of the store is the same.
 pub record HoldsSections (old new : Trees) (sections : List Section) : Type 0 where
   pub named : (q b : List ℕ) → IsNameIn sections q → IsStored new q b → IsSectionIn sections q b
   pub each : (q : List ℕ) → IsNameIn sections q → (b : List ℕ) × IsStored new q b
@@ -63,28 +61,34 @@ pub record IsFilled (old new : View) (sections : List Section) : Type 0 where
 -- ---- the file
 
 -- want of memory is never inside another refusal
-abbrev pub TellsOfFile : {E : Type 0} → (CarError E → ReadCarError E) → CarError E → ReadCarError E → Type 0
+abbrev pub TellsOfFile : {E : Type 0} → (CarError E → ReadCarError E)
+    → CarError E → ReadCarError E → Type 0
 TellsOfFile variant file.OutOfMemory told = told ≡ car.OutOfMemory
 TellsOfFile variant error told = told ≡ variant error
 
--- the refusal is that of the file, which `CarRefuses` says of this cause, told so; memory is wanted only where that
--- lacks it
-abbrev pub FileRefused : {E : Type 0} → (CarError E → ReadCarError E) → (CarError E → List ℕ → Type 0) → Type 0
-    → Reading → ReadCarError E → Reading → Type 0
-FileRefused variant stands lacks old told new = (e : CarError _) × TellsOfFile variant e told
-    × CarRefuses stands old e new × LacksMemoryIf {T = Unit {0}} lacks (Err e)
+-- The refusal is that of the file, of a cause that is so (`CarRefuses`), told as such. Memory is
+-- wanted only where that lacks it.
+pub record FileRefused {E : Type 0} (variant : CarError E → ReadCarError E)
+    (stands : CarError E → List ℕ → Type 0) (lacks : Type 0)
+    (old : Reading) (e : ReadCarError E) (new : Reading) : Type 0 where
+  pub error : CarError E
+  pub tells : TellsOfFile variant error e
+  pub refused : CarRefuses stands old error new
+  pub memory : LacksMemoryIf {T = Unit {0}} lacks (Err error)
 
--- the header of these roots and these sections stood first in a file, and were taken, and so much of it is left; the
--- sections are sound
-pub record IsReadTo (roots : List (List ℕ)) (sections : List Section) (old : Reading) (extent : Option ℕ) (now : Reading) : Type 0 where
+-- the header of these roots and these sections stood first in a file, and were taken, and so much
+-- of it is left; the sections are sound
+pub record IsReadTo (roots : List (List ℕ)) (sections : List Section)
+    (old : Reading) (extent : Option ℕ) (now : Reading) : Type 0 where
   pub known : (b : List ℕ) → old.left ≡ Some b → (rest : List ℕ) × (now.left ≡ Some rest)
       × IsFileFront b roots sections (wanting extent rest) (within extent rest)
   pub same : Stays old now
   pub blocks : AllByRecursion IsSound sections
 
--- the bytes left, where they are known, are the file of these roots and sections, and it is taken, and nothing behind
--- it; the sections are sound
-pub record IsRead (roots : List (List ℕ)) (sections : List Section) (old new : Reading) : Type 0 where
+-- the bytes left, where they are known, are the file of these roots and sections, and it is taken,
+-- and nothing behind it; the sections are sound
+pub record IsFileRead (roots : List (List ℕ)) (sections : List Section)
+    (old new : Reading) : Type 0 where
   pub is_car : (b : List ℕ) → old.left ≡ Some b
       → IsFile b roots sections × ((rest : List ℕ) × StandBehind b rest × (new.left ≡ Some rest))
   pub same : Stays old new
@@ -92,8 +96,8 @@ pub record IsRead (roots : List (List ℕ)) (sections : List Section) (old new :
 
 -- ---- refusals
 
--- how the refusal of the block of a section, behind so many, is told: one of the block with that number and its name,
--- and one of the store as such
+-- how the refusal of the block of a section, behind so many, is told: one of the block with that
+-- number and its name, and one of the store as such
 abbrev pub of_block : {E : Type 0} → ℕ → CidParts → StoreRefusal → ReadCarError E
 of_block count name (refusal.Unsound e) = car.Block count name (refusal.Unsound e)
 of_block count name refusal.TooLong = car.Block count name refusal.TooLong
@@ -111,62 +115,126 @@ TellsOfRun (stop.Header e) told = TellsOfFile car.Header e told
 TellsOfRun (stop.Section n e) told = TellsOfFile (car.Section n) e told
 TellsOfRun (stop.Block n name refusal) told = told ≡ of_block n name refusal
 
--- one of the names is no root, and no number is left for it, behind the roots that there were and the names before it
-abbrev pub RootNumbersEnd : Trees → List CidParts → Type 0
-RootNumbersEnd old names = (mid : Trees) × (first : List CidParts) × (name : CidParts)
-    × StandsBehind first name names × GainsRoots old mid first × LacksNumber mid name
+-- one of the names is no root, and no number is left for it, behind the roots that there were and
+-- the names before it
+pub record RootNumbersEnd (old : Trees) (names : List CidParts) : Type 0 where
+  pub mid : Trees
+  pub first : List CidParts
+  pub name : CidParts
+  pub stands : ComesNext first name names
+  pub gains : GainsRoots old mid first
+  pub lacks : LacksNumber mid name
 
--- Why the roots of a file are not kept: there are some, and the database is of the earlier version; no number is left; or
--- the store failed.
+-- Why the roots of a file are not kept: there are some, and the database is of the earlier version;
+-- no number is left; or the store failed.
 abbrev pub RootsNotKept : {S : Type 0} → Ghosts S → List CidParts → S → S → StoreRefusal → Type 0
-RootsNotKept g roots old new refusal.EarlierVersion = ((g.view old).shape root_tree ≡ shape.Absent) × (roots ≢ [])
-RootsNotKept g roots old new refusal.NoNumber = IsClean (g.view new) → RootNumbersEnd (g.view old).trees roots
-RootsNotKept g roots old new told = FailsByStore g (IsAnyTooLong (g.view old).reals roots) old new told
+RootsNotKept g roots old new refusal.EarlierVersion = IsEarlier (g.view old) × (roots ≢ [])
+RootsNotKept g roots old new refusal.NoNumber =
+    IsClean (g.view new) → RootNumbersEnd (g.view old).trees roots
+RootsNotKept g roots old new told = FailsByStore g (IsAnyTooLong (g.view old) roots) old new told
 
 -- a row has the greatest number, behind these sections
-abbrev pub NumbersEnd : Trees → List Section → Type 0
-NumbersEnd old sections = (mid : Trees) × HoldsSections old mid sections × FreesId (mid block_tree) None
+pub record NumbersEnd (old : Trees) (sections : List Section) : Type 0 where
+  pub mid : Trees
+  pub holds : HoldsSections old mid sections
+  pub ends : FreesId (mid block_tree) None
 
--- Why the block of a section, behind these, is not kept: it is not sound, or too long for a row; no number
--- is left; or the store failed.
-abbrev pub NotKept : {S : Type 0} → Ghosts S → List Section → Section → S → S → StoreRefusal → Type 0
-NotKept g sections s old new told = IsUnfit s told
-    ⊎ (((told ≡ refusal.NoNumber) × (IsClean (g.view new) → NumbersEnd (g.view old).trees sections))
-    ⊎ FailsByStore g (IsTooLong (g.view old).reals (cid_bytes s.0) s.1) old new told)
+-- Why the block of a section, behind these, is not kept: it is not sound; no number is left; or the
+-- store failed, as where it is too long for a row.
+abbrev pub NotKept : {S : Type 0} → Ghosts S → List Section
+    → S → S → Section → StoreRefusal → Type 0
+NotKept g sections old new s (refusal.Unsound e) = IsUnsound s e
+NotKept g sections old new s refusal.NoNumber =
+    IsClean (g.view new) → NumbersEnd (g.view old).trees sections
+NotKept g sections old new s told = FailsByStore g (IsTooLongFor (g.view old) s) old new told
 
--- why no section more is kept, behind these: none stands there, though bytes do, or are wanting; the next, which was
--- taken, is refused; or it is the end, and the commit failed
-abbrev pub StopsAt : {S E : Type 0} → Ghosts S → List Section → Option ℕ → Reading → S → ReadCarError E → Reading → S → Type 0
+-- no section was taken, behind so many: none stands there, though bytes do, or are wanting
+abbrev pub SectionRefused : {E : Type 0} → ℕ → Option ℕ
+    → Reading → ReadCarError E → Reading → Type 0
+SectionRefused count extent old e new = FileRefused (car.Section count)
+    (RefusesNext extent) (SectionLacks (of_file extent old)) old e new
+
+-- the next section, behind so many, was taken, and its block is refused, for such a cause
+pub record BlockRefused {E : Type 0} (IsWhy : Section → StoreRefusal → Type 0)
+    (count : ℕ) (extent : Option ℕ)
+    (old : Reading) (e : ReadCarError E) (new : Reading) : Type 0 where
+  pub section : Section
+  pub more : Option ℕ
+  pub told : StoreRefusal
+  pub taken : TakesSectionBytes extent old section more new
+  pub says : e ≡ of_block count section.0 told
+  pub why : IsWhy section told
+
+-- the header of these roots was taken, and they are refused, for such a cause
+pub record RootsOfFileRefused {E : Type 0} (IsWhy : List CidParts → StoreRefusal → Type 0)
+    (old : Reading) (e : ReadCarError E) (new : Reading) : Type 0 where
+  pub roots : List CidParts
+  pub extent : Option ℕ
+  pub told : StoreRefusal
+  pub taken : IsReadTo (forms roots) [] old extent new
+  pub says : e ≡ of_refusal told
+  pub why : IsWhy roots told
+
+-- it is the end of the file, and the commit failed
+pub record CommitFails {S E : Type 0} (g : Ghosts S) (extent : Option ℕ)
+    (old : Reading) (before : S) (e : ReadCarError E) (new : Reading) (after : S) : Type 0 where
+  pub more : Option ℕ
+  pub told : StoreRefusal
+  pub ends : EndsThere extent old more new
+  pub says : e ≡ of_refusal told
+  pub failed : FailsByStore g ⊥ before after told
+
+-- the call gives up behind so many sections, and takes no more
+pub record GivesUpBehind {E : Type 0} (sections : List Section)
+    (old : Reading) (e : ReadCarError E) (new : Reading) : Type 0 where
+  pub same : new ≡ old
+  pub says : e ≡ car.OutOfMemory
+  pub many : length sections ≡ 2 ^ 64 - 1
+
+-- Why no section more is kept, behind these: none was taken; the next was, and is refused; it is
+-- the end, and the commit failed; or these are too many.
+abbrev pub StopsAt : {S E : Type 0} → Ghosts S → List Section → Option ℕ
+    → Reading → S → ReadCarError E → Reading → S → Type 0
 StopsAt g sections extent old before e new after =
-    FileRefused (car.Section (length sections)) (RefusesNext extent) (SectionLacks (of_file extent old)) old e new
-    ⊎ (((s : Section) × (more : Option ℕ) × (told : StoreRefusal) × TakesSectionBytes extent old s more new
-    × (e ≡ of_block (length sections) s.0 told) × NotKept g sections s before after told)
-    ⊎ ((more : Option ℕ) × (told : StoreRefusal) × EndsThere extent old more new × (e ≡ of_refusal told)
-    × FailsByStore g ⊥ before after told))
+    SectionRefused (length sections) extent old e new
+    ⊎ (BlockRefused (NotKept g sections before after) (length sections) extent old e new
+    ⊎ (CommitFails g extent old before e new after
+    ⊎ GivesUpBehind sections old e new))
 
--- the call gives up behind so many sections
-abbrev pub AreTooMany : {E : Type 0} → List Section → ReadCarError E → Type 0
-AreTooMany sections e = (e ≡ car.OutOfMemory) × (length sections ≡ 2 ^ 64 - 1)
+-- the header of some roots, which may be kept, and some sections were taken, and no more is kept
+pub record KeepsNoMore {S E : Type 0} (g : Ghosts S)
+    (old : Reading) (before : S) (e : ReadCarError E) (new : Reading) (after : S) : Type 0 where
+  pub roots : List CidParts
+  pub sections : List Section
+  pub extent : Option ℕ
+  pub mid : Reading
+  pub keeps : MayKeepRoots (g.view before) roots
+  pub taken : IsReadTo (forms roots) sections old extent mid
+  pub stops : StopsAt g sections extent mid before e new after
 
--- why a file is not read: none begins; its header was taken, and its roots are not kept; or else behind some of its
--- sections there is a cause
-abbrev pub ReadRefused : {S E : Type 0} → Ghosts S → Reading → S → ReadCarError E → Reading → S → Type 0
-ReadRefused g old before e new after = FileRefused car.Header RefusesStart (FileLacks old) old e new
-    ⊎ (((roots : List CidParts) × (extent : Option ℕ) × (told : StoreRefusal)
-    × IsReadTo (forms roots) [] old extent new × (e ≡ of_refusal told) × RootsNotKept g roots before after told)
-    ⊎ ((roots : List CidParts) × (sections : List Section) × (extent : Option ℕ) × (mid : Reading)
-    × MayKeepRoots (g.view before) roots × IsReadTo (forms roots) sections old extent mid
-    × (StopsAt g sections extent mid before e new after ⊎ ((new ≡ mid) × AreTooMany sections e))))
+-- Why a file is not read: no header was taken; its roots are not kept; or no more than some of its
+-- sections is.
+abbrev pub ReadRefused : {S E : Type 0} → Ghosts S
+    → Reading → S → ReadCarError E → Reading → S → Type 0
+ReadRefused g old before e new after =
+    FileRefused car.Header RefusesStart (FileLacks old) old e new
+    ⊎ (RootsOfFileRefused (λ roots told. RootsNotKept g roots before after told) old e new
+    ⊎ KeepsNoMore g old before e new after)
 
--- A crash behind the call leaves what it could leave before; or that and a whole file, which was taken, and its roots.
-abbrev pub MayLeave : Reading → Reading → Trees → Trees → Type 0
-MayLeave old new before db = (roots : List CidParts) × (sections : List Section)
-    × IsRead (forms roots) sections old new × HoldsSections before db sections × GainsRoots before db roots
+-- A crash behind the call leaves what it could leave before; or that and a whole file, which was
+-- taken, and its roots.
+pub record MayLeave (old new : Reading) (before db : Trees) : Type 0 where
+  pub roots : List CidParts
+  pub sections : List Section
+  pub read : IsFileRead (forms roots) sections old new
+  pub holds : HoldsSections before db sections
+  pub gains : GainsRoots before db roots
 
 -- ---- steps
 
 -- these roots and sections were added, and what was committed stands
-pub record IsAddedAll (old new : View) (roots : List CidParts) (sections : List Section) : Type 0 where
+pub record IsAddedAll (old new : View)
+    (roots : List CidParts) (sections : List Section) : Type 0 where
   pub trees : HoldsSections old.trees new.trees sections
   pub gains : GainsRoots old.trees new.trees roots
   pub committed : new.committed ≡ old.committed
@@ -175,39 +243,66 @@ pub record IsAddedAll (old new : View) (roots : List CidParts) (sections : List 
   pub broken : new.is_broken ≡ old.is_broken
 
 -- these roots and sections were added, and no fault is forgotten
-pub record AddsSections {S : Type 0} (g : Ghosts S) (roots : List CidParts) (sections : List Section) (old new : S) : Type 0 where
+pub record AddsSections {S : Type 0} (g : Ghosts S)
+    (roots : List CidParts) (sections : List Section) (old new : S) : Type 0 where
   pub keeps : MayKeepRoots (g.view old) roots
   pub added : IsClean (g.view new) → IsAddedAll (g.view old) (g.view new) roots sections
   pub quiet : Quiet g old new
 
 -- The block of a section is added under its name, or refused.
-abbrev pub TakesBlock : {S : Type 0} → Ghosts S → Section → S → Result (Unit {0}) StoreRefusal → S → Type 0
+abbrev pub TakesBlock : {S : Type 0} → Ghosts S
+    → Section → S → Result (Unit {0}) StoreRefusal → S → Type 0
 TakesBlock g s before result after = Quiet g before after × MatchResult result
     (λ _. IsSound s × (IsClean (g.view after) → IsAdded (g.view before) (g.view after) s.0 s.1))
     (λ told. PutRefused g s before after told)
 
--- why the next section, behind so many, is not added
-abbrev pub NextRefused : {S E : Type 0} → Ghosts S → ℕ → Option ℕ → Reading → S → ReadCarError E → Reading → S → Type 0
+-- Why no section more is added, behind so many: none was taken, or the next was, and is refused.
+abbrev pub NextRefused : {S E : Type 0} → Ghosts S → ℕ → Option ℕ
+    → Reading → S → ReadCarError E → Reading → S → Type 0
 NextRefused g count extent old before e new after =
-    (FileRefused (car.Section count) (RefusesNext extent) (SectionLacks (of_file extent old)) old e new × (after ≡ before))
-    ⊎ ((s : Section) × (more : Option ℕ) × (told : StoreRefusal) × TakesSectionBytes extent old s more new
-    × (e ≡ of_block count s.0 told) × PutRefused g s before after told)
+    (SectionRefused count extent old e new × (after ≡ before))
+    ⊎ BlockRefused (λ s told. PutRefused g s before after told) count extent old e new
 
--- why not all of a file is added
-abbrev pub AddRefused : {S E : Type 0} → Ghosts S → Reading → S → ReadCarError E → Reading → S → Type 0
-AddRefused {S} g old before e new after = (FileRefused car.Header RefusesStart (FileLacks old) old e new × (after ≡ before))
-    ⊎ (((roots : List CidParts) × (extent : Option ℕ) × (told : StoreRefusal)
-    × IsReadTo (forms roots) [] old extent new × (e ≡ of_refusal told) × RootsRefused g roots before after told)
-    ⊎ ((roots : List CidParts) × (sections : List Section) × (extent : Option ℕ) × (mid : Reading) × (held : S)
-    × IsReadTo (forms roots) sections old extent mid × AddsSections g roots sections before held
-    × Quiet g held after
-    × (NextRefused g (length sections) extent mid held e new after ⊎ ((new ≡ mid) × (after ≡ held) × AreTooMany sections e))))
+-- the header of some roots and some sections were taken, and added, and no more is
+pub record AddsNoMore {S E : Type 0} (g : Ghosts S)
+    (old : Reading) (before : S) (e : ReadCarError E) (new : Reading) (after : S) : Type 0 where
+  pub roots : List CidParts
+  pub sections : List Section
+  pub extent : Option ℕ
+  pub mid : Reading
+  pub held : S
+  pub taken : IsReadTo (forms roots) sections old extent mid
+  pub adds : AddsSections g roots sections before held
+  pub quiet : Quiet g held after
+  pub stops : NextRefused g (length sections) extent mid held e new after
+      ⊎ ((after ≡ held) × GivesUpBehind sections mid e new)
 
--- The roots and the sections of a whole file are added, so many.
-abbrev pub AddsCar : {S E : Type 0} → Ghosts S → Reading → S → Result (Vec CidParts Global × ℕ) (ReadCarError E)
-    → Reading → S → Type 0
+-- Why not all of a file is added: no header was taken; its roots are refused; or no more than some
+-- of its sections is added.
+abbrev pub AddRefused : {S E : Type 0} → Ghosts S
+    → Reading → S → ReadCarError E → Reading → S → Type 0
+AddRefused g old before e new after =
+    (FileRefused car.Header RefusesStart (FileLacks old) old e new × (after ≡ before))
+    ⊎ (RootsOfFileRefused (λ roots told. RootsRefused g roots before after told) old e new
+    ⊎ AddsNoMore g old before e new after)
+
+-- these roots and the sections of a whole file are added, so many
+pub record AddsWhole {S : Type 0} (g : Ghosts S) (old : Reading) (before : S)
+    (roots : List CidParts) (count : ℕ) (new : Reading) (after : S) : Type 0 where
+  pub sections : List Section
+  pub extent : Option ℕ
+  pub more : Option ℕ
+  pub mid : Reading
+  pub counts : count ≡ length sections
+  pub taken : IsReadTo (forms roots) sections old extent mid
+  pub ends : EndsThere extent mid more new
+  pub read : IsFileRead (forms roots) sections old new
+  pub adds : AddsSections g roots sections before after
+
+-- All of a file is added, and its roots are answered, and how many sections it has; or it is
+-- refused.
+abbrev pub AddsCar : {S E : Type 0} → Ghosts S
+    → Reading → S → Result (Vec CidParts Global × ℕ) (ReadCarError E) → Reading → S → Type 0
 AddsCar g old before result new after = MatchResult result
-    (λ p. (sections : List Section) × (extent : Option ℕ) × (more : Option ℕ) × (mid : Reading) × (p.1 ≡ length sections)
-    × IsReadTo (forms p.0.items) sections old extent mid × EndsThere extent mid more new
-    × IsRead (forms p.0.items) sections old new × AddsSections g p.0.items sections before after)
+    (λ p. AddsWhole g old before p.0.items p.1 new after)
     (λ e. AddRefused g old before e new after)

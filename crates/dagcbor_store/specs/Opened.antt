@@ -21,13 +21,14 @@ pub record HasTrees (v : View) : Type 0 where
   pub names : v.shape name_tree ≡ shape.Index plain
   pub rooted : IsRootShape (v.shape root_tree)
 
--- The blocks, the roots and each other tree are the same; the version too, but where it was 0, as in a database that was
--- just made.
+-- The blocks, the roots and each other tree are the same; the version too, but where it was 0, as
+-- in a database that was just made.
 pub record OnlyMarks (old new : Trees) : Type 0 where
   pub others : KeepsOthers (λ t. t ≡ version_tree) old new
   pub version : (new version_tree ≡ old version_tree) ⊎ (old version_tree ≡ version_rows 0)
 
--- the database holds blocks and roots, and they are the same, as the transaction sees them and as they are committed
+-- the database holds blocks and roots, and they are the same, as the transaction sees them and as
+-- they are committed
 pub record IsChecked (old new : View) : Type 0 where
   pub blocks : new.shape block_tree ≡ shape.Table
   pub names : new.shape name_tree ≡ shape.Index plain

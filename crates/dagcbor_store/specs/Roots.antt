@@ -1,5 +1,5 @@
 -- The roots that a store keeps, in their order.
-use Rattle.std.specs.Prelude.{◌≡◌, ◌≢◌, ◌↔◌, ◌⊎◌, false, ℕ, List, [], ◌∷◌, ◌++◌, None, Bool, IsTrue}
+use Rattle.std.specs.Prelude.{◌≡◌, ◌≢◌, ◌↔◌, ◌⊎◌, false, List, [], ◌∷◌, ◌++◌, None, Bool, IsTrue}
 use Rattle.sqlite_trees.specs.Tree.{Trees}
 use Rattle.sqlite_trees.specs.View.{View, IsClean}
 use Rattle.sqlite_trees.specs.declared.store.Store.{Ghosts}
@@ -9,7 +9,7 @@ use Rattle.ipld_links.specs.Sets.{Among}
 use Rattle.block_trees.specs.Rows.{FreesId}
 use Rattle.block_trees.specs.RootRows.{root_tree, AreRoots, LeavesOut, IsRootTooLong}
 use Rattle.block_trees.specs.Ends.{KeepsOthers, IsOfRoots}
-use Rattle.dagcbor_store.specs.Stored.{IsSame, FailsByStore}
+use Rattle.dagcbor_store.specs.Stored.{IsSame, FindsSo, FailsByStore}
 use Rattle.dagcbor_store.specs.declared.error.StoreRefusal.{StoreRefusal}
 use Rattle.dagcbor_store.specs.declared.error.StoreRefusal.TheVariants as refusal
 
@@ -19,12 +19,14 @@ HasRoots v names = AreRoots (v.trees root_tree) names
 
 -- the name is the last of the roots; or it was one, and they are the same
 abbrev pub JoinsRoots : List CidParts → CidParts → List CidParts → Type 0
-JoinsRoots old name new = (Among name old × (new ≡ old)) ⊎ ((¬ Among name old) × (new ≡ old ++ name ∷ []))
+JoinsRoots old name new = (Among name old × (new ≡ old))
+    ⊎ ((¬ Among name old) × (new ≡ old ++ name ∷ []))
 
--- The name is a root, behind those that there were; where it was one, nothing is changed. Each other tree is the same,
--- and what was committed.
+-- The name is a root, behind those that there were; where it was one, nothing is changed. Each
+-- other tree is the same, and what was committed.
 pub record IsRootAdded (old new : View) (name : CidParts) : Type 0 where
-  pub roots : (names : List CidParts) → HasRoots old names → (now : List CidParts) × HasRoots new now × JoinsRoots names name now
+  pub roots : (names : List CidParts) → HasRoots old names
+      → (now : List CidParts) × HasRoots new now × JoinsRoots names name now
   pub same : (names : List CidParts) → HasRoots old names → Among name names → new.trees ≡ old.trees
   pub beside : KeepsOthers IsOfRoots old.trees new.trees
   pub committed : new.committed ≡ old.committed
@@ -33,19 +35,34 @@ pub record IsRootAdded (old new : View) (name : CidParts) : Type 0 where
   pub is_open : IsTrue new.is_open
   pub broken : new.is_broken ≡ old.is_broken
 
--- The file is of the earlier version; no number is left for a row of the name, which is no root; or the store failed.
+-- the file is of the earlier version
+abbrev pub IsEarlier : View → Type 0
+IsEarlier v = v.shape root_tree ≡ shape.Absent
+
+-- no number is left for a row of the name, which is no root
+abbrev pub LacksNumber : Trees → CidParts → Type 0
+LacksNumber t name = FreesId (t root_tree) None
+    × ((names : List CidParts) → AreRoots (t root_tree) names → ¬ Among name names)
+
+-- the row of the name as a root would be too long
+abbrev pub IsRootTooLongFor : View → CidParts → Type 0
+IsRootTooLongFor v name = IsRootTooLong v.reals (cid_bytes name)
+
+-- The file is of the earlier version, and nothing is changed; no number is left for a row of the
+-- name, which is no root; or the store failed.
 abbrev pub RootRefused : {S : Type 0} → Ghosts S → CidParts → S → S → StoreRefusal → Type 0
-RootRefused g name old new refusal.EarlierVersion = ((g.view old).shape root_tree ≡ shape.Absent) × (new ≡ old)
-RootRefused g name old new refusal.NoNumber = IsClean (g.view new) → FreesId ((g.view old).trees root_tree) None × IsSame (g.view old) (g.view new)
-    × ((names : List CidParts) → HasRoots (g.view old) names → ¬ Among name names)
-RootRefused g name old new told = FailsByStore g (IsRootTooLong (g.view old).reals (cid_bytes name)) old new told
+RootRefused g name old new refusal.EarlierVersion = IsEarlier (g.view old) × (new ≡ old)
+RootRefused g name old new refusal.NoNumber = FindsSo g old new (λ v. LacksNumber v.trees name)
+RootRefused g name old new told =
+    FailsByStore g (IsRootTooLongFor (g.view old) name) old new told
 
 -- ---- many
 
 -- each of these names is added, one behind the other
 abbrev pub AddsInTurn : List CidParts → List CidParts → List CidParts → Type 0
 AddsInTurn old [] new = new ≡ old
-AddsInTurn old (name ∷ more) new = (mid : List CidParts) × JoinsRoots old name mid × AddsInTurn mid more new
+AddsInTurn old (name ∷ more) new = (mid : List CidParts)
+    × JoinsRoots old name mid × AddsInTurn mid more new
 
 -- the roots are those that there were, and then each of these that was none
 abbrev pub GainsRoots : Trees → Trees → List CidParts → Type 0
@@ -54,16 +71,18 @@ GainsRoots old new added = (names : List CidParts) → AreRoots (old root_tree) 
 
 -- the file is not of the earlier version
 abbrev pub KeepsRoots : View → Type 0
-KeepsRoots v = v.shape root_tree ≢ shape.Absent
+KeepsRoots v = ¬ IsEarlier v
 
 -- the file is not of the earlier version, or there are no roots to keep
 abbrev pub MayKeepRoots : View → List CidParts → Type 0
 MayKeepRoots v names = (names ≡ []) ⊎ KeepsRoots v
 
--- The names are roots; where all of them were, nothing is changed. Each other tree is the same, and what was committed.
+-- The names are roots; where all of them were, nothing is changed. Each other tree is the same, and
+-- what was committed.
 pub record AreRootsAdded (old new : View) (added : List CidParts) : Type 0 where
   pub roots : GainsRoots old.trees new.trees added
-  pub same : (names : List CidParts) → HasRoots old names → ((c : CidParts) → Among c added → Among c names) → new.trees ≡ old.trees
+  pub same : (names : List CidParts) → HasRoots old names
+      → ((c : CidParts) → Among c added → Among c names) → new.trees ≡ old.trees
   pub beside : KeepsOthers IsOfRoots old.trees new.trees
   pub committed : new.committed ≡ old.committed
   pub reals : new.reals ≡ old.reals
@@ -71,29 +90,36 @@ pub record AreRootsAdded (old new : View) (added : List CidParts) : Type 0 where
   pub broken : new.is_broken ≡ old.is_broken
 
 -- the first of the names come before this one
-abbrev pub StandsBehind : List CidParts → CidParts → List CidParts → Type 0
-StandsBehind first name names = (rest : List CidParts) × (names ≡ first ++ name ∷ rest)
-
--- no number is left for a row of the name, which is no root
-abbrev pub LacksNumber : Trees → CidParts → Type 0
-LacksNumber t name = FreesId (t root_tree) None × ((names : List CidParts) → AreRoots (t root_tree) names → ¬ Among name names)
+abbrev pub ComesNext : List CidParts → CidParts → List CidParts → Type 0
+ComesNext first name names = (rest : List CidParts) × (names ≡ first ++ name ∷ rest)
 
 -- one of the names is too long for a row
-abbrev pub IsAnyTooLong : (ℕ → ℕ) → List CidParts → Type 0
-IsAnyTooLong reals names = (name : CidParts) × Among name names × IsRootTooLong reals (cid_bytes name)
+abbrev pub IsAnyTooLong : View → List CidParts → Type 0
+IsAnyTooLong v names = (name : CidParts) × Among name names × IsRootTooLongFor v name
 
--- The file is of the earlier version, there are names, and nothing is changed; the first are added, and no number is left
--- for a row of the next; or the store failed.
+-- the first of the names are added, and no number is left for a row of the next
+pub record RootsRunOut (old now : View) (names : List CidParts) : Type 0 where
+  pub first : List CidParts
+  pub name : CidParts
+  pub held : View
+  pub stands : ComesNext first name names
+  pub added : AreRootsAdded old held first
+  pub lacks : LacksNumber held.trees name
+  pub same : IsSame held now
+
+-- The file is of the earlier version, there are names, and nothing is changed; the first are added,
+-- and no number is left for a row of the next; or the store failed.
 abbrev pub RootsRefused : {S : Type 0} → Ghosts S → List CidParts → S → S → StoreRefusal → Type 0
-RootsRefused g names old new refusal.EarlierVersion = ((g.view old).shape root_tree ≡ shape.Absent) × (names ≢ []) × (new ≡ old)
-RootsRefused g names old new refusal.NoNumber = IsClean (g.view new) → (first : List CidParts) × (name : CidParts) × (held : View)
-    × StandsBehind first name names × AreRootsAdded (g.view old) held first × LacksNumber held.trees name × IsSame held (g.view new)
-RootsRefused g names old new told = FailsByStore g (IsAnyTooLong (g.view old).reals names) old new told
+RootsRefused g names old new refusal.EarlierVersion =
+    IsEarlier (g.view old) × (names ≢ []) × (new ≡ old)
+RootsRefused g names old new refusal.NoNumber =
+    IsClean (g.view new) → RootsRunOut (g.view old) (g.view new) names
+RootsRefused g names old new told = FailsByStore g (IsAnyTooLong (g.view old) names) old new told
 
 -- ---- taking out
 
--- The name is no root, whether it was one; the others are, in their order. Nothing is changed where it was none. Each other
--- tree is the same, and what was committed.
+-- The name is no root, whether it was one; the others are, in their order. Nothing is changed where
+-- it was none. Each other tree is the same, and what was committed.
 pub record IsRootTaken (old new : View) (name : CidParts) (taken : Bool) : Type 0 where
   pub roots : (names : List CidParts) → HasRoots old names → (IsTrue taken ↔ Among name names)
       × ((now : List CidParts) × HasRoots new now × LeavesOut (λ c. c ≡ name) names now)

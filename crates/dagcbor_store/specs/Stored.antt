@@ -31,8 +31,9 @@ use Rattle.dagcbor_store.specs.declared.error.StoreRefusal.TheVariants as refusa
 abbrev pub AreAllRoots : List Row → Type 0
 AreAllRoots rows = (names : List CidParts) × AreRoots rows names
 
--- The trees are there, that of the roots but in a file of the earlier version. No name is listed twice, and each row of the
--- roots is one, as the transaction sees them and as the last commit left them.
+-- The trees are there, that of the roots but in a file of the earlier version. No name is listed
+-- twice, and each row of the roots is one, as the transaction sees them and as the last commit left
+-- them.
 pub record IsReady (v : View) : Type 0 where
   pub blocks : v.shape block_tree ≡ shape.Table
   pub names : v.shape name_tree ≡ shape.Index plain
@@ -67,7 +68,8 @@ pub record IsNext (entries : List Row) (last : Option CidParts) (c : CidParts) :
   pub valid : AreCidParts c
   pub listed : IsListed entries (cid_bytes c)
   pub behind : IsBehind last (cid_bytes c)
-  pub first : (q : List ℕ) → IsListed entries q → IsBehind last q → (q ≡ cid_bytes c) ⊎ (name_cmp (cid_bytes c) q ≡ Less)
+  pub first : (q : List ℕ) → IsListed entries q → IsBehind last q
+      → (q ≡ cid_bytes c) ⊎ (name_cmp (cid_bytes c) q ≡ Less)
 
 -- the first name behind the last one is given, or none is listed there
 abbrev pub GivesNextName : View → Option CidParts → Option CidParts → Type 0
@@ -90,6 +92,11 @@ pub record IsSame (old new : View) : Type 0 where
 abbrev pub StaysSame : {S : Type 0} → Ghosts S → S → S → Type 0
 StaysSame g old new = IsClean (g.view new) → IsSame (g.view old) (g.view new)
 
+-- unless a wrong answer of the disk was taken as true, it is so in the store, and neither what the
+-- transaction sees has changed, nor what was committed
+abbrev pub FindsSo : {S : Type 0} → Ghosts S → S → S → (View → Type 0) → Type 0
+FindsSo g old new IsSo = IsClean (g.view new) → IsSo (g.view old) × IsSame (g.view old) (g.view new)
+
 -- what was not committed is undone, unless the store is shut
 pub record IsUndone (old new : View) : Type 0 where
   pub was_open : IsTrue new.is_open → IsTrue old.is_open
@@ -98,16 +105,22 @@ pub record IsUndone (old new : View) : Type 0 where
 
 -- ---- refusals
 
--- want of memory, and a row that is too long, are told as such, and each other failure as the store's
+-- want of memory, and a row that is too long, are told as such, and each other failure as the
+-- store's
 abbrev pub TellsOfStore : StoreError → StoreRefusal → Type 0
 TellsOfStore stored.OutOfMemory told = told ≡ refusal.OutOfMemory
 TellsOfStore stored.Unstorable told = told ≡ refusal.TooLong
 TellsOfStore e told = told ≡ refusal.Disk e
 
 -- The store failed, by the cause that it named, and what was not committed is undone.
-abbrev pub FailsByStore : {S : Type 0} → Ghosts S → Type 0 → S → S → StoreRefusal → Type 0
-FailsByStore g too_long old new told = (e : StoreError) × TellsOfStore e told × Tells (g.blamed new) e
-    × (IsClean (g.view new) → HasCause (g.view old) (MoreFaults (g.faults old) (g.faults new)) too_long e × IsUndone (g.view old) (g.view new))
+pub record FailsByStore {S : Type 0} (g : Ghosts S) (too_long : Type 0) (old new : S)
+    (told : StoreRefusal) : Type 0 where
+  pub error : StoreError
+  pub tells : TellsOfStore error told
+  pub blamed : Tells (g.blamed new) error
+  pub caused : IsClean (g.view new)
+      → HasCause (g.view old) (MoreFaults (g.faults old) (g.faults new)) too_long error
+  pub undone : IsClean (g.view new) → IsUndone (g.view old) (g.view new)
 
 -- ---- getting
 
@@ -124,15 +137,19 @@ GetsSome v name (Some b) = HoldsOnly v name b
 abbrev pub IsDamaged : View → CidParts → Type 0
 IsDamaged v name = ListsName v name × ((b : List ℕ) → Holds v name b → IsNamedBy name b → ⊥)
 
+-- what is stored under the name is damaged; or the store failed
 abbrev pub GetRefused : {S : Type 0} → Ghosts S → CidParts → S → S → StoreRefusal → Type 0
-GetRefused g name old new (refusal.Damaged n) = (n ≡ name) × (IsClean (g.view new) → IsDamaged (g.view old) name × IsSame (g.view old) (g.view new))
+GetRefused g name old new (refusal.Damaged n) =
+    (n ≡ name) × FindsSo g old new (λ v. IsDamaged v name)
 GetRefused g name old new told = FailsByStore g ⊥ old new told
 
 -- what was found is answered where it is what the name names
-abbrev pub AnswersVerified : CidParts → Found → Result (Option (Vec ℕ Global)) StoreRefusal → Type 0
+abbrev pub AnswersVerified : CidParts → Found → Result (Option (Vec ℕ Global)) StoreRefusal
+    → Type 0
 AnswersVerified name Nothing r = r ≡ Ok None
 AnswersVerified name NoRow r = r ≡ Err (refusal.Damaged name)
-AnswersVerified name (Block v) r = ((r ≡ Ok (Some v)) × IsNamedBy name v.items) ⊎ ((r ≡ Err (refusal.Damaged name)) × (IsNamedBy name v.items → ⊥))
+AnswersVerified name (Block v) r = ((r ≡ Ok (Some v)) × IsNamedBy name v.items)
+    ⊎ ((r ≡ Err (refusal.Damaged name)) × (IsNamedBy name v.items → ⊥))
 
 -- a block was refused only for want of a number
 abbrev pub IsToldAdded : Added → Result (Unit {0}) StoreRefusal → Type 0
@@ -154,25 +171,23 @@ pub record IsKeptBy {S : Type 0} (g : Ghosts S) (old new : S) : Type 0 where
   pub shield : g.is_shielded old → g.is_shielded new
   pub clean : doubt (g.view old).is_clean ≤ doubt (g.view new).is_clean
   pub counts : g.faults old ≤ g.faults new
-  pub closes : IsClean (g.view new) → IsTrue (g.view old).is_open → IsTrue (g.view new).is_open ⊎ MoreFaults (g.faults old) (g.faults new)
+  pub closes : IsClean (g.view new) → IsTrue (g.view old).is_open
+      → IsTrue (g.view new).is_open ⊎ MoreFaults (g.faults old) (g.faults new)
 
 -- ---- putting and taking out
 
--- why a block is not kept under the name
-abbrev pub IsUnfit : Section → StoreRefusal → Type 0
-IsUnfit s (refusal.Unsound e) = IsUnsound s e
-IsUnfit s _ = ⊥
-
--- The block is stored under its name, and nothing else; under each other name what was stored there. The table has the
--- row of the block, and the rows that it had, but that to which the name led. Where just the block was stored under it,
--- nothing is changed. Each other tree is the same.
+-- The block is stored under its name, and nothing else; under each other name what was stored
+-- there. The table has the row of the block, and the rows that it had, but that to which the name
+-- led. Where just the block was stored under it, nothing is changed. Each other tree is the same.
 pub record IsAddedTo (old new : Trees) (name : CidParts) (b : List ℕ) : Type 0 where
   pub stored : (d : List ℕ) → IsStored new (cid_bytes name) d ↔ (d ≡ b)
   pub others : (q d : List ℕ) → q ≢ cid_bytes name → IsStored new q d ↔ IsStored old q d
-  pub lists : (q : List ℕ) → IsListed (new name_tree) q ↔ ((q ≡ cid_bytes name) ⊎ IsListed (old name_tree) q)
+  pub lists : (q : List ℕ) → IsListed (new name_tree) q
+      ↔ ((q ≡ cid_bytes name) ⊎ IsListed (old name_tree) q)
   pub rows : (id : ℤ) (q d : List ℕ) → Among (block_row id q d) (new block_tree)
       ↔ (((q ≡ cid_bytes name) × (d ≡ b) × Among (name_entry q id) (new name_tree))
-      ⊎ (Among (block_row id q d) (old block_tree) × ¬ ((q ≡ cid_bytes name) × Among (name_entry q id) (old name_tree))))
+      ⊎ (Among (block_row id q d) (old block_tree)
+      × ¬ ((q ≡ cid_bytes name) × Among (name_entry q id) (old name_tree))))
   pub same : IsStored old (cid_bytes name) b → new ≡ old
   pub beside : KeepsOthers IsOfBlocks old new
 
@@ -192,24 +207,34 @@ pub record IsPut (old new : View) (name : CidParts) (b : List ℕ) : Type 0 wher
   pub committed : new.committed ≡ new.trees
   pub is_open : IsTrue new.is_open
 
--- what is stored is what was stored under the other names; nothing is changed where the name is not listed; the index
--- has the entries that it had of the others, and the table the rows that it had, but that to which the name led; each
--- other tree is the same
+-- what is stored is what was stored under the other names; nothing is changed where the name is not
+-- listed; the index has the entries that it had of the others, and the table the rows that it had,
+-- but that to which the name led; each other tree is the same
 pub record IsTaken (old new : View) (name : CidParts) (taken : Bool) : Type 0 where
   pub was : IsTrue taken ↔ ListsName old name
-  pub holds : (q d : List ℕ) → IsStored new.trees q d ↔ (IsStored old.trees q d × (q ≢ cid_bytes name))
-  pub lists : (q : List ℕ) → IsListed (new.trees name_tree) q ↔ (IsListed (old.trees name_tree) q × (q ≢ cid_bytes name))
+  pub holds : (q d : List ℕ) → IsStored new.trees q d
+      ↔ (IsStored old.trees q d × (q ≢ cid_bytes name))
+  pub lists : (q : List ℕ) → IsListed (new.trees name_tree) q
+      ↔ (IsListed (old.trees name_tree) q × (q ≢ cid_bytes name))
   pub entries : (id : ℤ) (q : List ℕ) → Among (name_entry q id) (new.trees name_tree)
       ↔ (Among (name_entry q id) (old.trees name_tree) × (q ≢ cid_bytes name))
   pub rows : (id : ℤ) (q d : List ℕ) → Among (block_row id q d) (new.trees block_tree)
-      ↔ (Among (block_row id q d) (old.trees block_tree) × ¬ ((q ≡ cid_bytes name) × Among (name_entry q id) (old.trees name_tree)))
+      ↔ (Among (block_row id q d) (old.trees block_tree)
+      × ¬ ((q ≡ cid_bytes name) × Among (name_entry q id) (old.trees name_tree)))
   pub beside : KeepsOthers IsOfBlocks old.trees new.trees
   pub committed : new.committed ≡ old.committed
   pub was_open : IsTrue old.is_open
   pub is_open : IsTrue new.is_open
   pub broken : new.is_broken ≡ old.is_broken
 
--- The bytes are no block under the name, and nothing is changed; a row has the greatest number; or the store failed.
+-- the row of the section would be too long
+abbrev pub IsTooLongFor : View → Section → Type 0
+IsTooLongFor v s = IsTooLong v.reals (cid_bytes s.0) s.1
+
+-- The bytes are no block under the name, and nothing is changed; a row has the greatest number; or
+-- the store failed.
 abbrev pub PutRefused : {S : Type 0} → Ghosts S → Section → S → S → StoreRefusal → Type 0
-PutRefused g s old new refusal.NoNumber = IsClean (g.view new) → FreesId ((g.view old).trees block_tree) None × IsSame (g.view old) (g.view new)
-PutRefused g s old new told = (IsUnfit s told × (new ≡ old)) ⊎ FailsByStore g (IsTooLong (g.view old).reals (cid_bytes s.0) s.1) old new told
+PutRefused g s old new (refusal.Unsound e) = IsUnsound s e × (new ≡ old)
+PutRefused g s old new refusal.NoNumber =
+    FindsSo g old new (λ v. FreesId (v.trees block_tree) None)
+PutRefused g s old new told = FailsByStore g (IsTooLongFor (g.view old) s) old new told

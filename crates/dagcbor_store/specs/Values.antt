@@ -1,9 +1,11 @@
 -- Values that are kept in a store and read again.
 use Rattle.std.specs.Prelude.{◌≡◌, ◌⊎◌, ℕ, false, List, ⊤, Option, None, Some, IsSomeAnd}
+use Rattle.std.specs.declared.convert.Infallible.{Infallible}
 use Rattle.sqlite_trees.specs.View.{View, IsClean}
 use Rattle.sqlite_trees.specs.declared.store.Store.{Ghosts}
 use Rattle.dagcbor_heads.specs.Reading.{default_steps}
 use Rattle.dagcbor_heads.specs.declared.error.EncodeError.TheVariants as unwritten
+use Rattle.dagcbor_heads.specs.declared.error.DecodeError.{DecodeError}
 use Rattle.dagcbor_heads.specs.declared.error.DecodeError.TheVariants as unread
 use Rattle.ipld_tree.specs.Cid.{CidParts}
 use Rattle.ipld_tree.specs.Tree.{Tree}
@@ -14,7 +16,7 @@ use Rattle.dagcbor_write.specs.Answers.{HasNoSpelling}
 use Rattle.dagcbor_read.specs.Whole.{IsWhole, HoldsNoValue, OfWhole, LacksMemoryIf}
 use Rattle.ipld_links.specs.Names.{block_name}
 use Rattle.ipld_links.specs.Verdicts.{IsDagCbor}
-use Rattle.dagcbor_store.specs.Stored.{ListsName, HoldsOnly, IsNamedBy, IsSame, IsPut, GetRefused, PutRefused}
+use Rattle.dagcbor_store.specs.Stored.{ListsName, HoldsOnly, IsNamedBy, FindsSo, IsPut, GetRefused, PutRefused}
 use Rattle.dagcbor_store.specs.declared.value.PutError.{PutError}
 use Rattle.dagcbor_store.specs.declared.value.PutError.TheVariants as put
 use Rattle.dagcbor_store.specs.declared.value.GetError.{GetError}
@@ -22,32 +24,47 @@ use Rattle.dagcbor_store.specs.declared.value.GetError.TheVariants as got
 
 -- the spelling of the value's tree is a block, which is stored under its name, and committed
 abbrev pub PutsValue : {S : Type 0} → Ghosts S → Option Tree → S → CidParts → S → Type 0
-PutsValue g tree old name new = IsSomeAnd tree (λ t. IsBlock (spelling t) t × (name ≡ block_name (spelling t))
+PutsValue g tree old name new = IsSomeAnd tree (λ t.
+    IsBlock (spelling t) t × (name ≡ block_name (spelling t))
     × (IsClean (g.view new) → IsPut (g.view old) (g.view new) name (spelling t)))
 
 -- the value has no spelling; or its spelling is no block, or not stored
 abbrev pub PutValueRefused : {S : Type 0} → Ghosts S → Option Tree → S → PutError → S → Type 0
-PutValueRefused g tree old (put.Encode e) new = (new ≡ old) × ((e ≡ unwritten.OutOfMemory) ⊎ HasNoSpelling tree)
-PutValueRefused g tree old (put.Store told) new = IsSomeAnd tree (λ t. PutRefused g (block_name (spelling t), spelling t) old new told)
+PutValueRefused g tree old (put.Encode e) new =
+    (new ≡ old) × ((e ≡ unwritten.OutOfMemory) ⊎ HasNoSpelling tree)
+PutValueRefused g tree old (put.Store told) new =
+    IsSomeAnd tree (λ t. PutRefused g (block_name (spelling t), spelling t) old new told)
 
 -- the name is of DAG-CBOR, and the value is the one that bytes of the name show to the type
 abbrev pub ShowsNamed : {T V : Type 0} → (T → V) → Shape Tree V → CidParts → Option T → Type 0
 ShowsNamed show shape name None = ⊤
-ShowsNamed show shape name (Some x) = IsDagCbor name × ((b : List ℕ) × IsNamedBy name b × IsWhole shape default_steps b (show x))
+ShowsNamed show shape name (Some x) = IsDagCbor name
+    × ((b : List ℕ) × IsNamedBy name b × IsWhole shape default_steps b (show x))
 
--- none where nothing is listed under the name, else what the bytes that are stored under it show to the type
+-- none where nothing is listed under the name, else what the bytes that are stored under it show to
+-- the type
 abbrev pub GetsValue : {T V : Type 0} → (T → V) → Shape Tree V → View → CidParts → Option T → Type 0
 GetsValue show shape v name None = ListsName v name → ⊥
-GetsValue show shape v name (Some x) = IsDagCbor name × ((b : List ℕ) × HoldsOnly v name b × IsWhole shape default_steps b (show x))
+GetsValue show shape v name (Some x) = IsDagCbor name
+    × ((b : List ℕ) × HoldsOnly v name b × IsWhole shape default_steps b (show x))
 
--- bytes of the name are stored under it, and nothing has changed
+-- bytes of the name are stored under it
 abbrev pub HoldsNamed : {S : Type 0} → Ghosts S → CidParts → List ℕ → S → S → Type 0
-HoldsNamed g name b old new = IsNamedBy name b × (IsClean (g.view new) → HoldsOnly (g.view old) name b × IsSame (g.view old) (g.view new))
+HoldsNamed g name b old new = IsNamedBy name b × FindsSo g old new (λ v. HoldsOnly v name b)
 
--- a block of another codec is stored under the name; or bytes of a name of DAG-CBOR show nothing to the type, or it takes
--- memory; or they were not got
-abbrev pub GetValueRefused : {S V : Type 0} → Ghosts S → Shape Tree V → CidParts → S → GetError → S → Type 0
-GetValueRefused g shape name old (got.Decode e) new = IsDagCbor name × OfWhole e × LacksMemoryIf (shape.memory false) e
-    × ((b : List ℕ) × HoldsNamed g name b old new × ((e ≡ unread.OutOfMemory) ⊎ HoldsNoValue shape default_steps b))
-GetValueRefused g shape name old got.OtherCodec new = (¬ IsDagCbor name) × ((b : List ℕ) × HoldsNamed g name b old new)
+-- the bytes show nothing to the type, or memory was wanting where it takes some
+pub record ShowsNothing {V : Type 0} (shape : Shape Tree V) (b : List ℕ)
+    (e : DecodeError Infallible) : Type 0 where
+  pub of_whole : OfWhole e
+  pub memory : LacksMemoryIf (shape.memory false) e
+  pub why : (e ≡ unread.OutOfMemory) ⊎ HoldsNoValue shape default_steps b
+
+-- a block of another codec is stored under the name; or bytes of a name of DAG-CBOR show nothing to
+-- the type; or they were not got
+abbrev pub GetValueRefused : {S V : Type 0} → Ghosts S → Shape Tree V → CidParts
+    → S → GetError → S → Type 0
+GetValueRefused g shape name old (got.Decode e) new = IsDagCbor name
+    × ((b : List ℕ) × HoldsNamed g name b old new × ShowsNothing shape b e)
+GetValueRefused g shape name old got.OtherCodec new = (¬ IsDagCbor name)
+    × ((b : List ℕ) × HoldsNamed g name b old new)
 GetValueRefused g shape name old (got.Store told) new = GetRefused g name old new told

@@ -116,7 +116,7 @@ fn opened<S: Alter + Drop>(alloc: Global, store: S) -> Result<BlockStore<S>, Sto
 }
 
 /// The table of blocks, the index of their names, and the table of roots.
-pub(crate) fn schema() -> [Object<'static>; 3] {
+fn schema() -> [Object<'static>; 3] {
     [
         Object {
             shape: Shape::Table,
@@ -166,7 +166,7 @@ fn page_size<D: Disk>(alloc: Global, files: &mut Files<D>) -> Result<(PageSize, 
 }
 
 /// The files, with this schema, of which nothing is known yet.
-pub(crate) fn over_files<D: Disk + Drop>(
+fn over_files<D: Disk + Drop>(
     alloc: Global,
     files: Files<D>,
     size: PageSize,

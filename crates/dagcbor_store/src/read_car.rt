@@ -7,7 +7,7 @@ ghost use Rattle.dagcbor_car.specs.Car.{Section as CarSection};
 ghost use Rattle.sqlite_trees.specs.View.{IsClean};
 ghost use Rattle.block_trees.specs.Ends.{Quiet};
 ghost use Rattle.dagcbor_store.specs.Stored.{IsUndone, IsKeptBy};
-ghost use Rattle.dagcbor_store.specs.Cars.{IsRead, IsFilled, ReadRefused, MayLeave, AddsCar, TakesBlock};
+ghost use Rattle.dagcbor_store.specs.Cars.{IsFileRead, IsFilled, ReadRefused, MayLeave, AddsCar, TakesBlock};
 ghost use Rattle.dagcbor_store.specs.Roots.{GainsRoots, MayKeepRoots};
 
 use crate::car_error::ReadCarError;
@@ -44,7 +44,7 @@ impl<S: Store> BlockStore<S> {
         input: &mut Input<'de, R>,
     ) -> Result<(Vec<Cid>, u64), ReadCarError<R::Error>>
         ensures ok { IfOk result (λ p. (sections : List CarSection) × (p.1 ≡ length sections)
-            × IsRead (forms p.0.items) sections (input_reading R.reading input.old) (input_reading R.reading input.new)
+            × IsFileRead (forms p.0.items) sections (input_reading R.reading input.old) (input_reading R.reading input.new)
             × (IsClean (S.Store.view self.new) → IsFilled (S.Store.view self.old) (S.Store.view self.new) sections)) }
         ensures roots { IfOk result (λ p. IsClean (S.Store.view self.new) → GainsRoots (S.Store.view self.old).trees (S.Store.view self.new).trees p.0.items) }
         ensures table { IfOk result (λ p. MayKeepRoots (S.Store.view self.old) p.0.items) }

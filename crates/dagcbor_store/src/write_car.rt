@@ -1,13 +1,9 @@
 //! Writing the blocks of a store as a file.
 
-ghost use Rattle.std.specs.Prelude.{◌≡◌, ◌∷◌, [], List, Some, IfOk, IfErr, OnOk, MatchResult, MatchOption};
-ghost use Rattle.dagcbor_heads.specs.Written.{WroteAll, Stops};
+ghost use Rattle.std.specs.Prelude.{IfErr, OnOk};
 ghost use Rattle.dagcbor_items.specs.Walks.{forms};
-ghost use Rattle.dagcbor_car.specs.Car.{Section as CarSection, car_bytes, section_bytes, IsCar, IsSection};
-ghost use Rattle.sqlite_trees.specs.View.{IsClean};
 ghost use Rattle.block_trees.specs.Ends.{Quiet};
-ghost use Rattle.dagcbor_store.specs.Stored.{StaysSame, IsNamedBy};
-ghost use Rattle.dagcbor_store.specs.Walking.{AreBlocks, AreAllNamed, WriteRefused, BeginsFile, WritesNext, UnsentWithoutMemory, WantsMemoryOnlyIf};
+ghost use Rattle.dagcbor_store.specs.Walking.{AreBlocks, WritesFile, WriteRefused, BeginsFile, WritesNext, FileUnsent, FileWantsMemoryOnlyIf};
 
 use crate::car_error::WriteCarError;
 use crate::store::BlockStore;
@@ -24,7 +20,7 @@ pub(crate) fn begin<W: Write>(
     roots: &[Cid],
 ) -> Result<(), WriteCarError<W::Error>>
     ensures begins { BeginsFile (forms roots.now) (W.written writer.old) result (W.written writer.new) }
-    ensures unsent { UnsentWithoutMemory W.takes_memory (W.written writer.old) result (W.written writer.new) }
+    ensures unsent { FileUnsent W.takes_memory (W.written writer.old) result (W.written writer.new) }
 {
     match push_header(alloc, writer, roots) {
         Ok(()) => Ok(()),
@@ -40,13 +36,9 @@ impl<S: Store> BlockStore<S> {
         roots: &[Cid],
         writer: &mut W,
     ) -> Result<(), WriteCarError<W::Error>>
-        ensures ok { OnOk result ((sections : List CarSection) × AreAllNamed sections
-            × WroteAll (Some (car_bytes (forms roots.now) sections)) (W.written writer.old) (W.written writer.new)
-            × IsCar (car_bytes (forms roots.now) sections) (forms roots.now) sections
-            × (IsClean (S.Store.view self.new) → AreBlocks (S.Store.view self.old) sections)) }
-        ensures same { OnOk result (StaysSame S.Store self.old self.new) }
+        ensures ok { OnOk result (WritesFile S.Store (forms roots.now) AreBlocks self.old (W.written writer.old) (W.written writer.new) self.new) }
         ensures refused { IfErr result (λ e. WriteRefused S.Store (forms roots.now) self.old (W.written writer.old) e (W.written writer.new) self.new) }
-        ensures unsent { UnsentWithoutMemory W.takes_memory (W.written writer.old) result (W.written writer.new) }
+        ensures unsent { FileUnsent W.takes_memory (W.written writer.old) result (W.written writer.new) }
         ensures quiet { Quiet S.Store self.old self.new }
     {
         begin(self.alloc, writer, roots)?;
@@ -67,7 +59,7 @@ impl<S: Store> BlockStore<S> {
         writer: &mut W,
     ) -> Result<Option<Cid>, WriteCarError<W::Error>>
         ensures next { WritesNext S.Store last self.old (W.written writer.old) result (W.written writer.new) self.new }
-        ensures memory { WantsMemoryOnlyIf W.takes_memory result }
+        ensures memory { FileWantsMemoryOnlyIf W.takes_memory result }
         ensures quiet { Quiet S.Store self.old self.new }
     {
         let (name, block) = match self.next_block(last) {

@@ -4,7 +4,7 @@ ghost use Rattle.std.specs.Prelude.{IfOk, IfErr, OnOk};
 ghost use Rattle.sqlite_trees.specs.View.{IsClean};
 ghost use Rattle.block_trees.specs.Ends.{Quiet};
 ghost use Rattle.dagcbor_store.specs.Trees.{WritesTree, TreeRefused, TreeUnsent, WritesNames, NamesUnwritten, WritesNamed};
-ghost use Rattle.dagcbor_store.specs.Walking.{UnsentWithoutMemory, WantsMemoryOnlyIf};
+ghost use Rattle.dagcbor_store.specs.Walking.{FileUnsent, FileWantsMemoryOnlyIf};
 
 use crate::car_error::{WriteCarError, WriteTreeError};
 use crate::error::StoreRefusal;
@@ -53,7 +53,7 @@ impl<S: Store> BlockStore<S> {
     ) -> Result<(), WriteCarError<W::Error>>
         ensures ok { OnOk result (WritesNames S.Store root.now names.now self.old (W.written writer.old) (W.written writer.new) self.new) }
         ensures refused { IfErr result (λ e. NamesUnwritten S.Store root.now names.now self.old (W.written writer.old) e (W.written writer.new) self.new) }
-        ensures unsent { UnsentWithoutMemory W.takes_memory (W.written writer.old) result (W.written writer.new) }
+        ensures unsent { FileUnsent W.takes_memory (W.written writer.old) result (W.written writer.new) }
         ensures quiet { Quiet S.Store self.old self.new }
     {
         begin(self.alloc, writer, &[*root])?;
@@ -70,7 +70,7 @@ impl<S: Store> BlockStore<S> {
         writer: &mut W,
     ) -> Result<(), WriteCarError<W::Error>>
         ensures named { WritesNamed S.Store name.now self.old (W.written writer.old) result (W.written writer.new) self.new }
-        ensures memory { WantsMemoryOnlyIf W.takes_memory result }
+        ensures memory { FileWantsMemoryOnlyIf W.takes_memory result }
         ensures quiet { Quiet S.Store self.old self.new }
     {
         let block = match self.get_block(name) {

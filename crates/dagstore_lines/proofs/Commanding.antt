@@ -8,7 +8,7 @@ use Rattle.std.proofs.Math.Nat.{pow-le-pow_right, lt_of_lt_of_le}
 use Rattle.ipld_tree.specs.Cid.{CidParts}
 use Rattle.cid_text.specs.Texts.{IsTextOf, IsTextFault, TextsTellCids, TextFaultsAreUnique}
 use Rattle.cid_text.specs.declared.error.CidTextError.{CidTextError}
-use Rattle.dagstore_lines.specs.Commands.{NamesCodec, AreTextsOf, IsFirstFault, WantsNames, command_name, IsCommand, IsCodec, IsAskedBy, AreKnown}
+use Rattle.dagstore_lines.specs.Commands.{NamesCodec, AreTextsOf, IsFirstFault, WantsNames, command_word, NamesCommand, IsCodec, IsAskedBy, AreKnown}
 use Rattle.dagstore_lines.specs.declared.command.Command.{Command}
 use Rattle.dagstore_lines.specs.declared.command.Command.TheVariants as commands
 use Rattle.dagstore_lines.specs.declared.command.Words.{Words}
@@ -59,7 +59,7 @@ apart n k (inl m) e other = other.0 (sym e ∙ m)
 apart n k (inr (inl m)) e other = other.1 (sym e ∙ m)
 apart n k (inr (inr m)) e other = other.2 (sym e ∙ m)
 
-no_command : (word : List ℕ) → IsOwn (mark word) → (c : Command) → word ≡ command_name c → ⊥
+no_command : (word : List ℕ) → IsOwn (mark word) → (c : Command) → word ≡ command_word c → ⊥
 no_command word m (commands.Export roots) e = apart (mark word) 341 m (ap mark e) ((λ d. omega (arith, d)), (λ d. omega (arith, d)), (λ d. omega (arith, d)))
 no_command word m (commands.Get name) e = apart (mark word) 305 m (ap mark e) ((λ d. omega (arith, d)), (λ d. omega (arith, d)), (λ d. omega (arith, d)))
 no_command word m (commands.Has name) e = apart (mark word) 298 m (ap mark e) ((λ d. omega (arith, d)), (λ d. omega (arith, d)), (λ d. omega (arith, d)))
@@ -114,11 +114,11 @@ no_at path rest none (words.NoCid e) (inr h) = none h.1.0 h.1.1 h.1.2
 no_at path rest none words.Unknown h = h
 
 -- CIDs behind a word that are no command
-pub no_done : TextsTellCids → TextFaultsAreUnique → (path word : List ℕ) (rest : List (List ℕ)) (names : List CidParts) → word ≢ codes "import" → word ≢ codes "put" → word ≢ codes "at" → AreTextsOf rest names → ((c : Command) → IsCommand word names c → ⊥)
+pub no_done : TextsTellCids → TextFaultsAreUnique → (path word : List ℕ) (rest : List (List ℕ)) (names : List CidParts) → word ≢ codes "import" → word ≢ codes "put" → word ≢ codes "at" → AreTextsOf rest names → ((c : Command) → NamesCommand word names c → ⊥)
     → (it : Words) → AreKnown (path ∷ (word ∷ rest)) it → ⊥
 no_done law faults path word rest names imports puts ats texts none (words.Import file source) h = imports h.1
 no_done law faults path word rest names imports puts ats texts none (words.Put file codec) h = puts h.1
-no_done law faults path word rest names imports puts ats texts none (words.Do file command) h = none command (subst (λ ns. IsCommand word ns command) (same_names law rest h.1.0 names h.1.1 texts) h.1.2)
+no_done law faults path word rest names imports puts ats texts none (words.Do file command) h = none command (subst (λ ns. NamesCommand word ns command) (same_names law rest h.1.0 names h.1.1 texts) h.1.2)
 no_done law faults path word rest names imports puts ats texts none words.Help h = h
 no_done law faults path word rest names imports puts ats texts none words.Version h = h
 no_done law faults path word rest names imports puts ats texts none (words.At file asking inner) h = ats h.1

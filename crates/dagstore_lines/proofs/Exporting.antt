@@ -1,23 +1,21 @@
 -- How files of a store go out.
 use Rattle.std.proofs.Common.{◌≡◌, inl, inr, ℕ, List, [], ◌∷◌, Bool, true, false, refl, sym, ap, ◌∙◌, subst, ◌↔◌, IsTrue, Option, None, Some, Result, Ok, Err, flat_map}
 use Rattle.std.specs.Io.KnownBytes.{Appends}
-use Rattle.sqlite_trees.specs.View.{IsClean}
 use Rattle.sqlite_trees.specs.declared.store.Store.{Ghosts}
-use Rattle.dagcbor_heads.specs.Written.{Written, WroteAll, AppendsFront}
+use Rattle.dagcbor_heads.specs.Written.{Written, AppendsFront}
 use Rattle.dagcbor_heads.specs.declared.error.EncodeError.TheVariants as unsent
 use Rattle.ipld_tree.specs.Cid.{CidParts}
-use Rattle.dagcbor_car.specs.Car.{Section, car_bytes, IsCar}
+use Rattle.dagcbor_car.specs.Car.{car_bytes}
 use Rattle.dagcbor_cli.specs.declared.fault.ToolError.TheVariants.{Input, Output, OutOfMemory}
 use Rattle.block_lines.specs.Lines.{missing_line}
-use Rattle.dagcbor_store.specs.Stored.{StaysSame}
-use Rattle.dagcbor_store.specs.Walking.{AreAllNamed, AreBlocks, WriteRefused}
+use Rattle.dagcbor_store.specs.Walking.{AreBlocks, WritesFile, WriteRefused}
 use Rattle.dagcbor_store.specs.Trees.{WritesTree, TreeRefused}
 use Rattle.dagcbor_store.specs.declared.car_error.WriteCarError.{WriteCarError}
 use Rattle.dagcbor_store.specs.declared.car_error.WriteCarError.TheVariants as car
 use Rattle.dagcbor_store.specs.declared.car_error.WriteTreeError.TheVariants as tree
 use Rattle.dagstore_lines.specs.Files.{fault_of, Exports}
 use Rattle.dagstore_lines.specs.Lines.{no_block_line}
-use Rattle.dagstore_lines.specs.Trees.{SendsTree, TreeFails, SaysTree, TellsText}
+use Rattle.dagstore_lines.specs.Trees.{SendsStoredTree, TreeFails, SaysTree, TellsText}
 use Rattle.dagstore_lines.specs.declared.fault.Fault.{Fault}
 
 no_text : (t : List ℕ) → Some t ≡ None → ⊥
@@ -37,14 +35,14 @@ module _ (w x : Written) (before after : Option (List ℕ)) (b : w.bytes ≡ bef
   front_as t h = (h.0, h.1, h.2, appends_as h.0 h.3)
 
   module _ {S : Type 0} (g : Ghosts S) (old new : S) where
-    pub exported : (roots : List (List ℕ)) → (sections : List Section) × AreAllNamed sections × WroteAll (Some (car_bytes roots sections)) w x × IsCar (car_bytes roots sections) roots sections × (IsClean (g.view new) → AreBlocks (g.view old) sections) → StaysSame g old new → Exports g roots old before (Ok true) new after
-    exported roots k same = (refl, (k.0, k.1, k.3, appends_as (car_bytes roots k.0) k.2.0, λ clean. (k.4 clean, same clean)))
+    pub exported : (roots : List (List ℕ)) → WritesFile g roots AreBlocks old w x new → Exports g roots old before (Ok true) new after
+    exported roots k = (refl, record { sections = k.sections; named = k.named; is_car = k.is_car; sent = appends_as (car_bytes roots k.sections) k.wrote.0; are_so = k.are_so })
 
     pub not_exported : {E : Type 0} (roots : List (List ℕ)) (e : WriteCarError E) → WriteRefused g roots old w e x new → Exports g roots old before (Err (fault_of e)) new after
-    not_exported roots (car.Write (unsent.Write f)) k = (k.0, k.1, k.2, front_as (car_bytes roots k.0) k.3.0, not_input)
-    not_exported roots (car.Write unsent.OutOfMemory) k = (k.0, k.1, k.2, front_as (car_bytes roots k.0) k.3.0, wants_not_input)
-    not_exported roots (car.Write (unsent.Msg m)) k = absurd (no_text (car_bytes roots k.0) k.3.0)
-    not_exported roots (car.Store told) k = (k.0, k.1, k.2, appends_as (car_bytes roots k.0) k.3.0, k.4)
+    not_exported roots (car.Write (unsent.Write f)) k = (not_input, record { sections = k.sections; named = k.named; sent = front_as (car_bytes roots k.sections) k.stops.0; are_so = k.are_so })
+    not_exported roots (car.Write unsent.OutOfMemory) k = (wants_not_input, record { sections = k.sections; named = k.named; sent = front_as (car_bytes roots k.sections) k.stops.0; are_so = k.are_so })
+    not_exported roots (car.Write (unsent.Msg m)) k = absurd (no_text (car_bytes roots k.sections) k.stops.0)
+    not_exported roots (car.Store told) k = (record { sections = k.0.sections; named = k.0.named; sent = appends_as (car_bytes roots k.0.sections) k.0.wrote.0; are_so = k.0.are_so }, k.1)
 
     none_of : (lost : List CidParts) → (well : Bool) × (IsTrue well ↔ (lost ≡ []))
     none_of [] = (true, ((λ h. refl), (λ h. refl)))
@@ -53,29 +51,29 @@ module _ (w x : Written) (before after : Option (List ℕ)) (b : w.bytes ≡ bef
     pub tree_said : (root : CidParts) (lost d : List CidParts) (heard said : Option (List ℕ)) (r : Result Bool Fault) → d ≡ lost → WritesTree g root old w lost x new → TellsText (flat_map missing_line d) (λ well. IsTrue well ↔ (d ≡ [])) heard r said → SaysTree g root old before heard r new after said
     tree_said root lost d heard said (Ok well) is k t = (flat_map missing_line d, inl (d, sends, refl, t.0), t.1)
       where
-        sends : SendsTree g root old before d new after
-        sends = subst (λ l. SendsTree g root old before l new after) (sym is) (k.0, k.1, k.3, appends_as _ k.2.0, k.4)
-    tree_said root lost d heard said (Err e) is k t = subst (λ f. TreeFails g root old before heard f new after said) (sym t.1) (t.2, inr (n.0, flat_map missing_line d, inl (d, sends, refl, n.1), t.3))
+        sends : SendsStoredTree g root old before d new after
+        sends = subst (λ l. SendsStoredTree g root old before l new after) (sym is) (record { sections = k.sections; named = k.named; is_car = k.is_car; sent = appends_as _ k.wrote.0; are_so = k.are_so })
+    tree_said root lost d heard said (Err e) is k t = subst (λ f. TreeFails g root old before heard f new after said) (sym t.1) (t.2, inr (record { well = n.0; told = flat_map missing_line d; tells = inl (d, sends, refl, n.1); front = t.3 }))
       where
-        sends : SendsTree g root old before d new after
-        sends = subst (λ l. SendsTree g root old before l new after) (sym is) (k.0, k.1, k.3, appends_as _ k.2.0, k.4)
+        sends : SendsStoredTree g root old before d new after
+        sends = subst (λ l. SendsStoredTree g root old before l new after) (sym is) (record { sections = k.sections; named = k.named; is_car = k.is_car; sent = appends_as _ k.wrote.0; are_so = k.are_so })
 
         n : (well : Bool) × (IsTrue well ↔ (d ≡ []))
         n = none_of d
 
     pub tree_nothing : (E : Type 0) (root : CidParts) (heard said : Option (List ℕ)) (r : Result Bool Fault) → TreeRefused {E = E} g root old w tree.NotStored x new → TellsText no_block_line (λ well. well ≡ false) heard r said → SaysTree g root old before heard r new after said
     tree_nothing E root heard said (Ok well) k t = (no_block_line, inr ((sym a ∙ ap (λ (y : Written). y.bytes) k.0 ∙ b, k.1), refl, t.0), t.1)
-    tree_nothing E root heard said (Err e) k t = subst (λ f. TreeFails g root old before heard f new after said) (sym t.1) (t.2, inr (false, no_block_line, inr ((sym a ∙ ap (λ (y : Written). y.bytes) k.0 ∙ b, k.1), refl, refl), t.3))
+    tree_nothing E root heard said (Err e) k t = subst (λ f. TreeFails g root old before heard f new after said) (sym t.1) (t.2, inr (record { well = false; told = no_block_line; tells = inr ((sym a ∙ ap (λ (y : Written). y.bytes) k.0 ∙ b, k.1), refl, refl); front = t.3 }))
 
     pub tree_unwritten : {E : Type 0} (root : CidParts) (heard : Option (List ℕ)) (e : WriteCarError E) → TreeRefused g root old w (tree.Unwritten e) x new → SaysTree g root old before heard (Err (fault_of e)) new after heard
-    tree_unwritten root heard (car.Write (unsent.Write f)) k = (not_input, inl (refl, (k.0, k.1, front_as _ k.2.0, k.3)))
-    tree_unwritten root heard (car.Write unsent.OutOfMemory) k = (wants_not_input, inl (refl, (k.0, k.1, front_as _ k.2.0, k.3)))
-    tree_unwritten root heard (car.Write (unsent.Msg m)) k = absurd (no_text _ k.2.0)
+    tree_unwritten root heard (car.Write (unsent.Write f)) k = (not_input, inl (refl, record { sections = k.sections; named = k.named; sent = front_as _ k.stops.0; are_so = k.are_so }))
+    tree_unwritten root heard (car.Write unsent.OutOfMemory) k = (wants_not_input, inl (refl, record { sections = k.sections; named = k.named; sent = front_as _ k.stops.0; are_so = k.are_so }))
+    tree_unwritten root heard (car.Write (unsent.Msg m)) k = absurd (no_text _ k.stops.0)
     tree_unwritten root heard (car.Store told) k = (
       refl,
       k.0,
       elim k.1 [
         | inl none ↦ inl (sym a ∙ ap (λ (y : Written). y.bytes) none ∙ b)
-        | inr some ↦ inr (some.0, some.1, appends_as _ some.2.0, some.3)
+        | inr some ↦ inr (record { sections = some.sections; named = some.named; sent = appends_as _ some.wrote.0; are_so = some.are_so })
       ],
     )

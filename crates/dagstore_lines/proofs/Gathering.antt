@@ -135,11 +135,13 @@ pub way_fails : {S : Type 0} (g : Ghosts S) (root name : CidParts) (path left : 
 way_fails g root name path left held old mid new (fault.Store (refusal.Damaged n)) before same quiet h w = λ clean.
     let was : IsClean (g.view mid) = omega (arith, quiet.clean) in
     let k = w.1 clean in (
-      subst (IsDamaged (g.view old)) (sym w.0) (damaged_same (g.view old) (g.view mid) name (same was) k.0),
+      (
+        subst (IsDamaged (g.view old)) (sym w.0) (damaged_same (g.view old) (g.view mid) name (same was) k.0),
+        λ stored shows.
+            let t = h was stored shows in
+            (t.count, left, subst (λ q. ComesTo t.count stored root path q left) (sym w.0) t.came),
+      ),
       same_then (g.view old) (g.view mid) (g.view new) (same was) k.1,
-      λ stored shows.
-          let t = h was stored shows in
-          (t.count, left, subst (λ q. ComesTo t.count stored root path q left) (sym w.0) t.came),
     )
 way_fails g root name path left held old mid new (fault.Store told) before same quiet h w = fails_same g old mid new told before same quiet w
 way_fails g root name path left held old mid new (fault.Tool e) before same quiet h w = λ clean. same_then (g.view old) (g.view mid) (g.view new) (same (omega (arith, quiet.clean))) (w clean)

@@ -4,7 +4,7 @@ use Rattle.sqlite_trees.specs.declared.store.Store.{Ghosts}
 use Rattle.dagcbor_heads.specs.Inputs.{not_lending}
 use Rattle.dagcbor_heads.specs.Reading.{Reading}
 use Rattle.dagcbor_car.specs.Car.{Section}
-use Rattle.dagcbor_store.specs.Cars.{IsRead, ReadRefused}
+use Rattle.dagcbor_store.specs.Cars.{IsFileRead, ReadRefused}
 use Rattle.dagcbor_store.specs.declared.car_error.ReadCarError.{ReadCarError}
 use Rattle.dagcbor_car.specs.declared.error.CarError.{CarError}
 use Rattle.dagcbor_car.specs.declared.error.CarError.TheVariants as file
@@ -31,8 +31,8 @@ no_file_status file.OtherHeader not = refl
 no_file_status file.InvalidOffset not = refl
 no_file_status file.OutOfMemory not = refl
 
-pub read_from : (roots : List (List ℕ)) (sections : List Section) (r source left : Reading) → r ≡ source → IsRead roots sections (not_lending r) left → IsRead roots sections (not_lending source) left
-read_from roots sections r source left same h = subst (λ x. IsRead roots sections (not_lending x) left) same h
+pub read_from : (roots : List (List ℕ)) (sections : List Section) (r source left : Reading) → r ≡ source → IsFileRead roots sections (not_lending r) left → IsFileRead roots sections (not_lending source) left
+read_from roots sections r source left same h = subst (λ x. IsFileRead roots sections (not_lending x) left) same h
 
 pub refused_from : {S E : Type 0} (g : Ghosts S) (r source left : Reading) (old : S) (error : ReadCarError E) (new : S) → r ≡ source → ReadRefused g (not_lending r) old error left new → ReadRefused g (not_lending source) old error left new
 refused_from g r source left old error new same h = subst (λ x. ReadRefused g (not_lending x) old error left new) same h

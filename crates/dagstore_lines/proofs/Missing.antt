@@ -26,11 +26,11 @@ use Rattle.ipld_links.proofs.Within.{reached_cid, not_inline}
 use Rattle.ipld_links.proofs.Members.{among_push, push_among, among_map, map_among}
 use Rattle.dagcbor_store.specs.Rows.{name_tree, IsListed, IsStored}
 use Rattle.dagcbor_store.specs.Stored.{IsNamedBy, IsBehind, IsNext, IsSame, HoldsOnly, IsDamaged, ListsName}
-use Rattle.dagcbor_store.specs.Lost.{NamesNone, AddsLost, HoldsNoneSound, IsReachedIn}
+use Rattle.dagcbor_store.specs.Lost.{NamesNoneListed, AddsLost, HoldsNoneSound, IsReachedIn}
 use Rattle.dagcbor_store.proofs.Walking.{holds_same}
 use Rattle.dagstore_lines.specs.Lines.{damaged_line}
 use Rattle.dagstore_lines.specs.Names.{AreAll}
-use Rattle.dagstore_lines.specs.Checks.{IsCheckedLine, IsLinked, ListsMissing, LinksTo, AddsUnlistedLinks, IsMissing}
+use Rattle.dagstore_lines.specs.Checks.{IsCheckedLine, IsSoundlyLinked, ListsSoundlyMissing, LinksTo, AddsUnlistedLinks, IsMissing}
 use Rattle.dagstore_lines.proofs.Telling.{StaysSaid}
 
 -- ---- one name
@@ -155,22 +155,22 @@ missing_all v names s all h q = (
       (h q).1 ((k.0.0, subst (λ x. Among x names) is at.1, k.0.2), k.1),
 )
 
-pub lists_missing : (v : View) (s : BTreeSet CidParts) → IsStrictlySortedBy cid_cmp s.keys → IsMissing v s → ListsMissing v s.keys
+pub lists_missing : (v : View) (s : BTreeSet CidParts) → IsStrictlySortedBy cid_cmp s.keys → IsMissing v s → ListsSoundlyMissing v s.keys
 lists_missing v s sorted h = (sorted, λ form. (there form, back form))
   where
-    there : (form : List ℕ) → Among form (forms s.keys) → IsLinked form v × NamesNone form v
+    there : (form : List ℕ) → Among form (forms s.keys) → IsSoundlyLinked form v × NamesNoneListed form v
     there form m =
         let k = map_among cid_bytes form s.keys m in
         let w = (h k.0).0 k.1 in
         let l = w.0.2.1 in
         let t = l.3 in
-        subst (λ f. IsLinked f v × NamesNone f v) (sym k.2)
+        subst (λ f. IsSoundlyLinked f v × NamesNoneListed f v) (sym k.2)
         ((w.0.0, l.0, t.0, w.0.1, w.0.2.0, l.1, l.2, t.1, t.2.2), (not_inline (cid_bytes k.0) k.0 t.2.0 t.2.1 refl, w.1))
 
-    back : (form : List ℕ) → IsLinked form v × NamesNone form v → Among form (forms s.keys)
+    back : (form : List ℕ) → IsSoundlyLinked form v × NamesNoneListed form v → Among form (forms s.keys)
     back form m =
         let l = m.0 in
         let c = reached_cid l.2 form l.7.0.well_formed l.8 in
-        let is = subst (λ f. NamesNone f v) c.2 m.1 in
+        let is = subst (λ f. NamesNoneListed f v) c.2 m.1 in
         let found = (h c.0).1 ((l.0, l.3, (l.4, (l.1, l.5, l.6, (l.2, l.7, (c.1, λ i. is.0 (c.0, c.1, refl, i), subst (λ f. IsReached f (links_of l.2)) c.2 l.8))))), is.1) in
         subst (λ f. Among f (forms s.keys)) (sym c.2) (among_map cid_bytes c.0 s.keys found)

@@ -80,21 +80,26 @@ module _ {S : Type 0} (g : Ghosts S) (old mid new : S) (before_quiet : Quiet g o
     pub exports_from : (roots : List (List ℕ)) (out after : Option (List ℕ)) (r : Result Bool Fault) → Exports g roots mid out r new after → Exports g roots old out r new after
     exports_from roots out after (Ok well) k = (
       k.0,
-      (k.1.0, k.1.1, k.1.2, k.1.3, λ clean. let w = k.1.4 clean in (blocks_from (g.view old) (g.view mid) k.1.0 (same (was clean)) w.0, same_then (g.view old) (g.view mid) (g.view new) (same (was clean)) w.1)),
+      record {
+        sections = k.1.sections;
+        named = k.1.named;
+        is_car = k.1.is_car;
+        sent = k.1.sent;
+        are_so = λ clean. let w = k.1.are_so clean in (blocks_from (g.view old) (g.view mid) k.1.sections (same (was clean)) w.0, same_then (g.view old) (g.view mid) (g.view new) (same (was clean)) w.1);
+      },
     )
     exports_from roots out after (Err (fault.Store told)) k = (
-      k.0,
-      k.1,
-      λ clean. first_from (g.view old) (g.view mid) k.0 (same (was clean)) (k.2 clean),
-      k.3,
-      walk_refused g old mid new told before_quiet same quiet k.4,
+      record { sections = k.0.sections; named = k.0.named; sent = k.0.sent; are_so = λ clean. first_from (g.view old) (g.view mid) k.0.sections (same (was clean)) (k.0.are_so clean) },
+      walk_refused g old mid new told before_quiet same quiet k.1,
     )
     exports_from roots out after (Err (fault.Tool e)) k = (
       k.0,
-      k.1,
-      λ clean. let w = k.2 clean in (first_from (g.view old) (g.view mid) k.0 (same (was clean)) w.0, same_then (g.view old) (g.view mid) (g.view new) (same (was clean)) w.1),
-      k.3,
-      k.4,
+      record {
+        sections = k.1.sections;
+        named = k.1.named;
+        sent = k.1.sent;
+        are_so = λ clean. let w = k.1.are_so clean in (first_from (g.view old) (g.view mid) k.1.sections (same (was clean)) w.0, same_then (g.view old) (g.view mid) (g.view new) (same (was clean)) w.1);
+      },
     )
 
   module _ (was : IsClean (g.view new) → IsClean (g.view mid)) where
@@ -102,9 +107,8 @@ module _ {S : Type 0} (g : Ghosts S) (old mid new : S) (before_quiet : Quiet g o
     swept_from roots (refusal.Damaged n) k = λ clean.
         let w = k clean in
         let s = same (was clean) in (
-          same_then (g.view old) (g.view mid) (g.view new) s w.0,
-          none_sound_from (g.view old) (g.view mid) n s w.1,
-          λ stored shows. w.2 stored (shows_same (g.view old) (g.view mid) stored s shows),
+          (none_sound_from (g.view old) (g.view mid) n s w.0.0, λ stored shows. w.0.1 stored (shows_same (g.view old) (g.view mid) stored s shows)),
+          same_then (g.view old) (g.view mid) (g.view new) s w.1,
         )
     swept_from roots told k =
         fails_behind g ⊥ ⊥ old mid new told before_quiet was (λ clean. let s = same clean in (s.broken, last_same (g.view old) (g.view mid) s, λ u. u)) k
@@ -153,8 +157,8 @@ module _ {S : Type 0} (g : Ghosts S) (names : List CidParts) where
   last_refused old new refusal.EarlierVersion clean k = subst (λ (s : S). KeepsLast (g.view old) (g.view s)) (sym k.2) (last_itself (g.view old))
   last_refused old new refusal.NoNumber clean p =
       let k = p clean in
-      last_then (g.view old) k.2 (g.view new) (last_rooted (g.view old) k.2 k.0 k.4) (last_same k.2 (g.view new) k.6)
-  last_refused old new told clean k = last_undone (g.view old) (g.view new) (k.3 clean).1
+      last_then (g.view old) k.held (g.view new) (last_rooted (g.view old) k.held k.first k.added) (last_same k.held (g.view new) k.same)
+  last_refused old new told clean k = last_undone (g.view old) (g.view new) (k.undone clean)
 
   -- a rollback behind names of which one was refused
   pub adding_undone : (old failed new : S) (told : StoreRefusal) → Quiet g failed new → g.blamed new ≡ g.blamed failed → (IsClean (g.view new) → IsUndone (g.view failed) (g.view new)) → RootsRefused g names old failed told
@@ -165,17 +169,17 @@ module _ {S : Type 0} (g : Ghosts S) (names : List CidParts) where
   )
 
   module _ (old mid new : S) (before : Quiet g old mid) (was : IsClean (g.view new) → IsClean (g.view mid)) (added : IsClean (g.view mid) → AreRootsAdded (g.view old) (g.view mid) names) where
-    failed_behind : (told : StoreRefusal) → FailsByStore g ⊥ mid new told → FailsByStore g (IsAnyTooLong (g.view old).reals names) old new told
-    failed_behind told f = fails_behind g ⊥ (IsAnyTooLong (g.view old).reals names) old mid new told before was (λ clean. let a = added clean in (a.broken, last_rooted (g.view old) (g.view mid) names a, λ u. absurd u)) f
+    failed_behind : (told : StoreRefusal) → FailsByStore g ⊥ mid new told → FailsByStore g (IsAnyTooLong (g.view old) names) old new told
+    failed_behind told f = fails_behind g ⊥ (IsAnyTooLong (g.view old) names) old mid new told before was (λ clean. let a = added clean in (a.broken, last_rooted (g.view old) (g.view mid) names a, λ u. absurd u)) f
 
     not_kept : (told : StoreRefusal) → FailsByStore g ⊥ mid new told → RootsNotKept g names old new told
-    not_kept refusal.EarlierVersion f = absurd (tells_no_version f.0 f.1)
-    not_kept refusal.NoNumber f = absurd (tells_no_number f.0 f.1)
+    not_kept refusal.EarlierVersion f = absurd (tells_no_version f.error f.tells)
+    not_kept refusal.NoNumber f = absurd (tells_no_number f.error f.tells)
     not_kept told f = failed_behind told f
 
     -- a commit that failed
     pub adding_failed : (told : StoreRefusal) → FailsByStore g ⊥ mid new told → RootsNotKept g names old new told × (IsClean (g.view new) → IsUndone (g.view old) (g.view new))
-    adding_failed told f = (not_kept told f, λ clean. ((failed_behind told f).3 clean).1)
+    adding_failed told f = (not_kept told f, λ clean. (failed_behind told f).undone clean)
 
 -- ---- taking out
 

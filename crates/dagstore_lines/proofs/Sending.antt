@@ -8,7 +8,7 @@ use Rattle.block_lines.specs.Lines.{BreaksLine}
 use Rattle.block_lines.proofs.Saying.{line_whole}
 use Rattle.dagcbor_cli.specs.Writing.{WritesFront}
 use Rattle.dagcbor_cli.specs.declared.fault.ToolError.{ToolError}
-use Rattle.dagstore_lines.specs.Refusals.{told_line}
+use Rattle.dagstore_lines.specs.Refusals.{dagstore_line}
 
 module _ {A : Type 0} where
   pub front_both : (before mid after : Option (List ℕ)) (x y : List ℕ) (first r : Result A ToolError) (a : A) → first ≡ Ok a → WritesFront before mid first x → WritesFront mid after r y → WritesFront before after r (x ++ y)
@@ -20,12 +20,12 @@ module _ {A : Type 0} where
   front_stopped before after x y first (Ok a) P is h = absurd is
   front_stopped before after x y first (Err e) P is h = (h.0, h.1 ++ y, ap (λ z. z ++ y) h.2 ∙ append_assoc h.0 h.1 y, h.3, tt)
 
-  pub told_both : (before after : Option (List ℕ)) (first second a b : List ℕ) (r : Result A ToolError) → a ≡ first → b ≡ second → WritesFront before after r ((codes "dagstore: " ++ a) ++ (b ++ 10 ∷ [])) → WritesFront before after r (told_line (first ++ second))
+  pub told_both : (before after : Option (List ℕ)) (first second a b : List ℕ) (r : Result A ToolError) → a ≡ first → b ≡ second → WritesFront before after r ((codes "dagstore: " ++ a) ++ (b ++ 10 ∷ [])) → WritesFront before after r (dagstore_line (first ++ second))
   told_both before after first second a b r is other h =
       subst (λ t. WritesFront before after r (codes "dagstore: " ++ t)) (ap (λ z. z ++ (b ++ 10 ∷ [])) is ∙ ap (λ z. first ++ (z ++ 10 ∷ [])) other ∙ sym (append_assoc first second (10 ∷ []))) h
 
   pub told_place : (before after : Option (List ℕ)) (first second a b d : List ℕ) (place : ℕ) (r : Result A ToolError) → a ≡ first → b ≡ second → d ≡ decimal place
-      → WritesFront before after r ((codes "dagstore: " ++ a) ++ ((b ++ codes " at byte ") ++ (d ++ 10 ∷ []))) → WritesFront before after r (told_line (first ++ (second ++ (codes " at byte " ++ decimal place))))
+      → WritesFront before after r ((codes "dagstore: " ++ a) ++ ((b ++ codes " at byte ") ++ (d ++ 10 ∷ []))) → WritesFront before after r (dagstore_line (first ++ (second ++ (codes " at byte " ++ decimal place))))
   told_place before after first second a b d place r is other number h = subst (λ t. WritesFront before after r (codes "dagstore: " ++ t)) whole h
     where
       told : List ℕ
@@ -43,7 +43,7 @@ line_is IsLine said before after e is (inl none) = inl none
 line_is IsLine said before after e is (inr k) = inr (k.0, k.1, subst IsLine (sym k.2) is, k.3, k.4)
 
 module _ {A : Type 0} where
-  pub name_told : (before after : Option (List ℕ)) (name : CidParts) (a : List ℕ) (r : Result A ToolError) → a ≡ cid_text name → WritesFront before after r ((codes "dagstore: of " ++ a) ++ 10 ∷ []) → WritesFront before after r (told_line (codes "of " ++ cid_text name))
+  pub name_told : (before after : Option (List ℕ)) (name : CidParts) (a : List ℕ) (r : Result A ToolError) → a ≡ cid_text name → WritesFront before after r ((codes "dagstore: of " ++ a) ++ 10 ∷ []) → WritesFront before after r (dagstore_line (codes "of " ++ cid_text name))
   name_told before after name a r is h = subst (λ t. WritesFront before after r ((codes "dagstore: of " ++ t) ++ 10 ∷ [])) is h
 
 -- nothing is a front of a text

@@ -6,7 +6,7 @@ use Rattle.sqlite_trees.specs.declared.store.Store.{Ghosts}
 use Rattle.ipld_tree.specs.Cid.{CidParts}
 use Rattle.dagcbor_store.specs.Rows.{name_tree}
 use Rattle.dagcbor_store.specs.Stored.{IsNamedBy, HoldsOnly, ListsName, GetRefused, StaysSame, FailsByStore}
-use Rattle.dagstore_lines.specs.Lines.{count_line, no_block_line}
+use Rattle.dagstore_lines.specs.Lines.{holds_line, no_block_line}
 use Rattle.dagstore_lines.specs.Said.{Breaks}
 use Rattle.dagstore_lines.specs.declared.fault.Fault.{Fault}
 use Rattle.dagstore_lines.specs.declared.fault.Fault.TheVariants as fault
@@ -16,20 +16,21 @@ use Rattle.dagstore_lines.specs.declared.fault.Fault.TheVariants as fault
 -- the line of how many names are listed
 abbrev pub IsCountLine : View → View → List ℕ → Type 0
 IsCountLine old new text = (count : ℕ) × (IsClean new → count ≡ length (old.trees name_tree))
-    × (text ≡ count_line count)
+    × (text ≡ holds_line count)
 
 -- it went out, or broke off
 abbrev pub SaysCount : View → Option (List ℕ) → Result Bool Fault → View → Option (List ℕ) → Type 0
 SaysCount old before result new after = MatchResult result
-    (λ well. (well ≡ true) × ((text : List ℕ) × IsCountLine old new text × Appends before after text))
+    (λ well. (well ≡ true)
+    × ((text : List ℕ) × IsCountLine old new text × Appends before after text))
     (Breaks (IsCountLine old new) before after)
 
 -- ---- get
 
--- what `get` gives: the bytes that are stored under the name, which it names; or nothing, and a line
--- that tells that nothing is listed under it
-abbrev pub IsGot : CidParts → View → View → Bool → List ℕ → List ℕ → Type 0
-IsGot name old new well out told = (IsNamedBy name out × (IsClean new → HoldsOnly old name out)
+-- what `get` gives: the bytes that are stored under the name, which it names; or nothing, and a
+-- line that tells that nothing is listed under it
+abbrev pub IsGotBlock : CidParts → View → View → Bool → List ℕ → List ℕ → Type 0
+IsGotBlock name old new well out told = (IsNamedBy name out × (IsClean new → HoldsOnly old name out)
     × (well ≡ true) × (told ≡ []))
     ⊎ ((IsClean new → ¬ ListsName old name) × (well ≡ false) × (out ≡ []) × (told ≡ no_block_line))
 
@@ -41,7 +42,8 @@ GetFails g name old new (fault.Tool e) = StaysSame g old new
 
 -- ---- has
 
--- Something is listed under the name, or nothing is, and the store is as it was; or the store failed.
+-- Something is listed under the name, or nothing is, and the store is as it was; or the store
+-- failed.
 abbrev pub Has : {S : Type 0} → Ghosts S → CidParts → S → Result Bool Fault → S → Type 0
 Has g name old (Ok found) new = StaysSame g old new
     × (IsClean (g.view new) → IsTrue found ↔ ListsName (g.view old) name)

@@ -16,50 +16,58 @@ use Rattle.ipld_links.specs.Within.{IsReached}
 use Rattle.ipld_links.specs.declared.verdict.Verdict.{Verdict}
 use Rattle.block_lines.specs.Lines.{told_line, missing_line, IsSaidOfEach}
 use Rattle.dagcbor_store.specs.Stored.{IsNamedBy, Holds, HoldsOnly, ListsName}
-use Rattle.dagcbor_store.specs.Lost.{NamesNone, HoldsNoneSound, IsReachedIn}
+use Rattle.dagcbor_store.specs.Lost.{NamesNoneListed, HoldsNoneSound, IsReachedIn}
 use Rattle.dagstore_lines.specs.Lines.{damaged_line}
 use Rattle.dagstore_lines.specs.Said.{Breaks}
 use Rattle.dagstore_lines.specs.Names.{Telling, AreAll, SaysNames}
 use Rattle.dagstore_lines.specs.declared.fault.Fault.{Fault}
 
--- the verdict on the bytes that are stored under the name, which are sound; or nothing sound is stored
--- under it
+-- the verdict on the bytes that are stored under the name, which are sound; or nothing sound is
+-- stored under it
 abbrev pub IsCheckedLine : Telling
 IsCheckedLine old new name true text = (b : List ℕ) × (verdict : Verdict) × IsSound (name, b)
     × IsVerdict (name, b) verdict × (IsClean new → HoldsOnly old name b)
     × (text ≡ told_line ((name, b), verdict))
-IsCheckedLine old new name false text = (IsClean new → HoldsNoneSound old name) × (text ≡ damaged_line name)
+IsCheckedLine old new name false text = (IsClean new → HoldsNoneSound old name)
+    × (text ≡ damaged_line name)
 
 -- the binary form is that of a link in a stored block of DAG-CBOR, whose bytes are those that its
 -- name names, or of one within such a link
-abbrev pub IsLinked : List ℕ → View → Type 0
-IsLinked form v = (c : CidParts) × (b : List ℕ) × (t : Tree) × AreCidParts c × IsDagCbor c × Holds v c b
-    × IsNamedBy c b × IsBlock b t × IsReached form (links_of t)
+abbrev pub IsSoundlyLinked : List ℕ → View → Type 0
+IsSoundlyLinked form v = (c : CidParts) × (b : List ℕ) × (t : Tree)
+    × AreCidParts c × IsDagCbor c × Holds v c b × IsNamedBy c b
+    × IsBlock b t × IsReached form (links_of t)
 
--- those of them that name nothing that is listed, nor hold a block themselves, each once, in their order
-abbrev pub ListsMissing : View → List CidParts → Type 0
-ListsMissing v links = IsStrictlySortedBy cid_cmp links
-    × ((form : List ℕ) → Among form (forms links) ↔ (IsLinked form v × NamesNone form v))
+-- those of them that name nothing that is listed, nor hold a block themselves, each once, in their
+-- order
+abbrev pub ListsSoundlyMissing : View → List CidParts → Type 0
+ListsSoundlyMissing v links = IsStrictlySortedBy cid_cmp links
+    × ((form : List ℕ) → Among form (forms links)
+    ↔ (IsSoundlyLinked form v × NamesNoneListed form v))
 
--- It is said of each name, and then of each missing link; nothing is wrong where nothing is in either.
-pub record IsStoreChecked (old new : View) (before : Option (List ℕ)) (well : Bool) (after : Option (List ℕ)) : Type 0 where
+-- It is said of each name, and then of each missing link; nothing is wrong where nothing is in
+-- either.
+pub record IsStoreChecked (old new : View)
+    (before : Option (List ℕ)) (well : Bool) (after : Option (List ℕ)) : Type 0 where
   pub names : List CidParts
   pub all_well : Bool
   pub said : List ℕ
   pub all : IsClean new → AreAll old None names
   pub each : IsSaidOfEach (IsCheckedLine old new) names all_well said
   pub links : List CidParts
-  pub missing : IsClean new → ListsMissing old links
+  pub missing : IsClean new → ListsSoundlyMissing old links
   pub none : Bool
   pub is_none : IsTrue none ↔ (links ≡ [])
   pub lines : Appends before after (said ++ flat_map missing_line links)
   pub wellness : well ≡ (all_well && none)
 
--- It broke off at a name, or behind all of them: of the lines of the missing links a front went out.
+-- It broke off at a name, or behind all of them: of the lines of the missing links a front went
+-- out.
 abbrev pub BreaksCheck : View → View → Option (List ℕ) → Fault → Option (List ℕ) → Type 0
 BreaksCheck old new before e after = SaysNames IsCheckedLine old before (Err e) new after
     ⊎ ((between : Option (List ℕ)) × (well : Bool) × (links : List CidParts)
-    × SaysNames IsCheckedLine old before (Ok well) new between × (IsClean new → ListsMissing old links)
+    × SaysNames IsCheckedLine old before (Ok well) new between
+    × (IsClean new → ListsSoundlyMissing old links)
     × Breaks (λ text. text ≡ flat_map missing_line links) between after e)
 
 abbrev pub SaysCheck : View → Option (List ℕ) → Result Bool Fault → View → Option (List ℕ) → Type 0
@@ -72,13 +80,15 @@ SaysCheck old before (Err e) new after = BreaksCheck old new before e after
 abbrev pub LinksTo : View → CidParts → CidParts → Type 0
 LinksTo v c q = IsDagCbor c × ((b : List ℕ) × Holds v c b × IsNamedBy c b × IsReachedIn b q)
 
--- those of the names that links in the block under this one lead to which are not listed are put into
--- the set
+-- those of the names that links in the block under this one lead to which are not listed are put
+-- into the set
 abbrev pub AddsUnlistedLinks : View → CidParts → BTreeSet CidParts → BTreeSet CidParts → Type 0
-AddsUnlistedLinks v c old new = (q : CidParts) → Among q new.keys ↔ (Among q old.keys ⊎ (LinksTo v c q × ¬ ListsName v q))
+AddsUnlistedLinks v c old new = (q : CidParts) → Among q new.keys
+    ↔ (Among q old.keys ⊎ (LinksTo v c q × ¬ ListsName v q))
 
 -- such names of the next block, if there is one, are put into the set
-abbrev pub AddsOfNext : View → Option (CidParts × Bool) → BTreeSet CidParts → BTreeSet CidParts → Type 0
+abbrev pub AddsOfNext : View → Option (CidParts × Bool)
+    → BTreeSet CidParts → BTreeSet CidParts → Type 0
 AddsOfNext v None old new = new ≡ old
 AddsOfNext v (Some p) old new = AddsUnlistedLinks v p.0 old new
 

@@ -46,19 +46,19 @@ WantsNames word = (word ≡ codes "export") ⊎ ((word ≡ codes "get") ⊎ ((wo
 -- ---- commands
 
 -- the word that names the command
-abbrev pub command_name : Command → List ℕ
-command_name (commands.Export roots) = codes "export"
-command_name (commands.Get name) = codes "get"
-command_name (commands.Has name) = codes "has"
-command_name (commands.Remove names) = codes "remove"
-command_name (commands.Collect roots) = codes "gc"
-command_name (commands.Tree root) = codes "tree"
-command_name (commands.AddRoots names) = codes "add-root"
-command_name (commands.DropRoots names) = codes "drop-root"
-command_name commands.Roots = codes "roots"
-command_name commands.Check = codes "check"
-command_name commands.List = codes "list"
-command_name commands.Count = codes "count"
+abbrev pub command_word : Command → List ℕ
+command_word (commands.Export roots) = codes "export"
+command_word (commands.Get name) = codes "get"
+command_word (commands.Has name) = codes "has"
+command_word (commands.Remove names) = codes "remove"
+command_word (commands.Collect roots) = codes "gc"
+command_word (commands.Tree root) = codes "tree"
+command_word (commands.AddRoots names) = codes "add-root"
+command_word (commands.DropRoots names) = codes "drop-root"
+command_word commands.Roots = codes "roots"
+command_word commands.Check = codes "check"
+command_word commands.List = codes "list"
+command_word commands.Count = codes "count"
 
 -- the CIDs behind it: any, one, at least one, or none
 abbrev pub AreNamesOf : Command → List CidParts → Type 0
@@ -73,8 +73,8 @@ AreNamesOf (commands.DropRoots dropped) names = (names ≡ dropped.items) × (na
 AreNamesOf _ names = names ≡ []
 
 -- the word and the CIDs behind it are the command
-abbrev pub IsCommand : List ℕ → List CidParts → Command → Type 0
-IsCommand word names command = (word ≡ command_name command) × AreNamesOf command names
+abbrev pub NamesCommand : List ℕ → List CidParts → Command → Type 0
+NamesCommand word names command = (word ≡ command_word command) × AreNamesOf command names
 
 -- the source of a file of blocks: a path; or - or nothing, which is standard input
 abbrev pub IsSource : List (List ℕ) → Option (Bor (List ℕ)) → Type 0
@@ -93,24 +93,28 @@ IsAskedBy rest true text = rest ≡ codes "--raw" ∷ text ∷ []
 
 -- ---- words
 
--- a path, a word and what stands behind it are this; and where a CID should stand and none does, they
--- are the cause of the first that is none
-abbrev pub IsSaidOf : List ℕ → List ℕ → List (List ℕ) → Words → Type 0
-IsSaidOf path word rest (words.Import file source) = (path ≡ file.now) × (word ≡ codes "import") × IsSource rest source
-IsSaidOf path word rest (words.Put file codec) = (path ≡ file.now) × (word ≡ codes "put") × IsCodec rest codec
-IsSaidOf path word rest (words.Do file command) = (path ≡ file.now)
-    × ((names : List CidParts) × AreTextsOf rest names × IsCommand word names command)
-IsSaidOf path word rest (words.At file asking inner) = (path ≡ file.now) × (word ≡ codes "at")
-    × ((text : List ℕ) × IsAskedBy rest asking.is_raw text × IsTextOf (name_part text) asking.root × (inner.now ≡ path_part text))
-IsSaidOf path word rest (words.NoCid e) = (WantsNames word × IsFirstFault rest e)
-    ⊎ ((word ≡ codes "at") × ((is_raw : Bool) × (text : List ℕ) × IsAskedBy rest is_raw text × IsTextFault e (name_part text)))
-IsSaidOf path word rest _ = ⊥
+-- a path, a word and what stands behind it are this; and where a CID should stand and none does,
+-- they are the cause of the first that is none
+abbrev pub AreWordsOf : List ℕ → List ℕ → List (List ℕ) → Words → Type 0
+AreWordsOf path word rest (words.Import file source) = (path ≡ file.now)
+    × (word ≡ codes "import") × IsSource rest source
+AreWordsOf path word rest (words.Put file codec) = (path ≡ file.now)
+    × (word ≡ codes "put") × IsCodec rest codec
+AreWordsOf path word rest (words.Do file command) = (path ≡ file.now)
+    × ((names : List CidParts) × AreTextsOf rest names × NamesCommand word names command)
+AreWordsOf path word rest (words.At file asking inner) = (path ≡ file.now) × (word ≡ codes "at")
+    × ((text : List ℕ) × IsAskedBy rest asking.is_raw text
+    × IsTextOf (name_part text) asking.root × (inner.now ≡ path_part text))
+AreWordsOf path word rest (words.NoCid e) = (WantsNames word × IsFirstFault rest e)
+    ⊎ ((word ≡ codes "at") × ((is_raw : Bool) × (text : List ℕ)
+    × IsAskedBy rest is_raw text × IsTextFault e (name_part text)))
+AreWordsOf path word rest _ = ⊥
 
 -- the words are this, and known
 abbrev pub AreKnown : List (List ℕ) → Words → Type 0
 AreKnown (word ∷ []) words.Help = word ≡ codes "--help"
 AreKnown (word ∷ []) words.Version = word ≡ codes "--version"
-AreKnown (path ∷ (word ∷ rest)) it = IsSaidOf path word rest it
+AreKnown (path ∷ (word ∷ rest)) it = AreWordsOf path word rest it
 AreKnown _ _ = ⊥
 
 -- The words are this; or they are unknown, which are no other.

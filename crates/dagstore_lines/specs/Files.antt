@@ -1,7 +1,7 @@
 -- What is written of a store as a file, and what is said of a file that is read into it.
 use Rattle.std.specs.Prelude.{◌≡◌, ◌≢◌, ◌⊎◌, ℕ, List, ◌++◌, length, Bool, true, Option, Result, MatchResult, codes, decimal, flat_map}
 use Rattle.std.specs.Io.KnownBytes.{Appends}
-use Rattle.sqlite_trees.specs.View.{IsClean}
+use Rattle.sqlite_trees.specs.View.{View, IsClean}
 use Rattle.sqlite_trees.specs.declared.store.Store.{Ghosts}
 use Rattle.dagcbor_heads.specs.Reading.{Reading}
 use Rattle.dagcbor_heads.specs.Written.{AppendsFront}
@@ -16,8 +16,8 @@ use Rattle.dagcbor_cli.specs.declared.fault.ToolError.{ToolError}
 use Rattle.dagcbor_cli.specs.declared.fault.ToolError.TheVariants.{Input, Output, OutOfMemory}
 use Rattle.block_lines.specs.Lines.{line, root_line, BreaksLine}
 use Rattle.block_lines.specs.Names.{fault_name}
-use Rattle.dagcbor_store.specs.Stored.{IsSame, IsUndone}
-use Rattle.dagcbor_store.specs.Cars.{IsRead, IsFilled, ReadRefused}
+use Rattle.dagcbor_store.specs.Stored.{FindsSo, IsUndone}
+use Rattle.dagcbor_store.specs.Cars.{IsFileRead, IsFilled, ReadRefused}
 use Rattle.dagcbor_store.specs.Roots.{GainsRoots, MayKeepRoots}
 use Rattle.dagcbor_store.specs.Walking.{AreAllNamed, AreBlocks, AreFirstBlocks, WalkRefused}
 use Rattle.dagcbor_store.specs.declared.car_error.ReadCarError.{ReadCarError}
@@ -25,7 +25,7 @@ use Rattle.dagcbor_store.specs.declared.car_error.ReadCarError.TheVariants as ca
 use Rattle.dagcbor_store.specs.declared.car_error.WriteCarError.{WriteCarError}
 use Rattle.dagcbor_store.specs.declared.car_error.WriteCarError.TheVariants as unwritten
 use Rattle.dagstore_lines.specs.Lines.{stored_line}
-use Rattle.dagstore_lines.specs.Refusals.{told_line, tool_text, refusal_text, refusal_status, status_of, TellsRunFault}
+use Rattle.dagstore_lines.specs.Refusals.{dagstore_line, tool_text, refusal_text, refusal_status, status_of, TellsRunFault}
 use Rattle.dagstore_lines.specs.declared.fault.Fault.{Fault}
 use Rattle.dagstore_lines.specs.declared.fault.Fault.TheVariants as fault
 
@@ -37,22 +37,49 @@ fault_of (unwritten.Write (unsent.Write e)) = fault.Tool Output
 fault_of (unwritten.Write e) = fault.Tool OutOfMemory
 fault_of (unwritten.Store told) = fault.Store told
 
--- the file of some first blocks went out, and the store refused; or of such a file a front did, and the
--- device failed, or memory was wanting
-abbrev pub ExportFails : {S : Type 0} → Ghosts S → List (List ℕ) → S → Option (List ℕ) → Fault → S → Option (List ℕ) → Type 0
-ExportFails g roots old before (fault.Store told) new after = (sections : List Section) × AreAllNamed sections
-    × (IsClean (g.view new) → AreFirstBlocks (g.view old) sections)
-    × Appends before after (car_bytes roots sections) × WalkRefused g old new told
-ExportFails g roots old before (fault.Tool e) new after = (sections : List Section) × AreAllNamed sections
-    × (IsClean (g.view new) → AreFirstBlocks (g.view old) sections × IsSame (g.view old) (g.view new))
-    × AppendsFront before after (car_bytes roots sections) × (e ≢ Input)
+-- The file of these roots and of sections that are so went out, and nothing has changed.
+pub record SendsFile {S : Type 0} (g : Ghosts S) (roots : List (List ℕ))
+    (AreSo : View → List Section → Type 0)
+    (old : S) (before : Option (List ℕ)) (new : S) (after : Option (List ℕ)) : Type 0 where
+  pub sections : List Section
+  pub named : AreAllNamed sections
+  pub is_car : IsCar (car_bytes roots sections) roots sections
+  pub sent : Appends before after (car_bytes roots sections)
+  pub are_so : FindsSo g old new (λ v. AreSo v sections)
+
+-- The file of these roots and of first sections that are so went out, and no more.
+pub record SendsFirst {S : Type 0} (g : Ghosts S) (roots : List (List ℕ))
+    (AreSo : View → List Section → Type 0)
+    (old : S) (before : Option (List ℕ)) (new : S) (after : Option (List ℕ)) : Type 0 where
+  pub sections : List Section
+  pub named : AreAllNamed sections
+  pub sent : Appends before after (car_bytes roots sections)
+  pub are_so : IsClean (g.view new) → AreSo (g.view old) sections
+
+-- Of the file of these roots and of first sections that are so a front went out, and nothing has
+-- changed.
+pub record SendsFront {S : Type 0} (g : Ghosts S) (roots : List (List ℕ))
+    (AreSo : View → List Section → Type 0)
+    (old : S) (before : Option (List ℕ)) (new : S) (after : Option (List ℕ)) : Type 0 where
+  pub sections : List Section
+  pub named : AreAllNamed sections
+  pub sent : AppendsFront before after (car_bytes roots sections)
+  pub are_so : FindsSo g old new (λ v. AreSo v sections)
+
+-- the file of some first blocks went out, and the store refused; or of such a file a front did, and
+-- the device failed, or memory was wanting
+abbrev pub ExportFails : {S : Type 0} → Ghosts S → List (List ℕ)
+    → S → Option (List ℕ) → Fault → S → Option (List ℕ) → Type 0
+ExportFails g roots old before (fault.Store told) new after =
+    SendsFirst g roots AreFirstBlocks old before new after × WalkRefused g old new told
+ExportFails g roots old before (fault.Tool e) new after =
+    (e ≢ Input) × SendsFront g roots AreFirstBlocks old before new after
 
 -- The file of these roots and of all blocks went out.
-abbrev pub Exports : {S : Type 0} → Ghosts S → List (List ℕ) → S → Option (List ℕ) → Result Bool Fault → S → Option (List ℕ) → Type 0
+abbrev pub Exports : {S : Type 0} → Ghosts S → List (List ℕ)
+    → S → Option (List ℕ) → Result Bool Fault → S → Option (List ℕ) → Type 0
 Exports g roots old before result new after = MatchResult result
-    (λ well. (well ≡ true) × ((sections : List Section) × AreAllNamed sections
-    × IsCar (car_bytes roots sections) roots sections × Appends before after (car_bytes roots sections)
-    × (IsClean (g.view new) → AreBlocks (g.view old) sections × IsSame (g.view old) (g.view new))))
+    (λ well. (well ≡ true) × SendsFile g roots AreBlocks old before new after)
     (λ e. ExportFails g roots old before e new after)
 
 -- ---- import
@@ -68,17 +95,18 @@ file_status (file.Read e) = 2
 file_status e = 1
 
 -- of how many sections stand before the place where a file stopped
-abbrev pub place_line : ℕ → List ℕ
-place_line count = line (codes "dagstore: behind " ++ (decimal count ++ codes " sections"))
+abbrev pub behind_line : ℕ → List ℕ
+behind_line count = line (codes "dagstore: behind " ++ (decimal count ++ codes " sections"))
 
 -- what is told of a file that is not kept
 abbrev pub unread_lines : {E : Type 0} → ReadCarError E → List ℕ
-unread_lines (car.Header e) = told_line (file_text e)
-unread_lines (car.Section count e) = place_line count ++ told_line (file_text e)
+unread_lines (car.Header e) = dagstore_line (file_text e)
+unread_lines (car.Section count e) = behind_line count ++ dagstore_line (file_text e)
 unread_lines (car.Block count name told) =
-    place_line count ++ (told_line (codes "of " ++ cid_text name) ++ told_line (refusal_text told))
-unread_lines (car.Store told) = told_line (refusal_text told)
-unread_lines car.OutOfMemory = told_line (tool_text OutOfMemory)
+    behind_line count ++ (dagstore_line (codes "of " ++ cid_text name)
+    ++ dagstore_line (refusal_text told))
+unread_lines (car.Store told) = dagstore_line (refusal_text told)
+unread_lines car.OutOfMemory = dagstore_line (tool_text OutOfMemory)
 
 -- 1 where the bytes, or the blocks in them, are the cause, else 2
 abbrev pub unread_status : {E : Type 0} → ReadCarError E → ℕ
@@ -93,17 +121,21 @@ abbrev pub stored_lines : List (List ℕ) → ℕ → List ℕ
 stored_lines roots count = flat_map root_line roots ++ stored_line count
 
 -- they went out; or broke off, since a device failed, or memory was wanting
-abbrev pub SaysStored : List (List ℕ) → ℕ → Option (List ℕ) → Result Bool Fault → Option (List ℕ) → Type 0
+abbrev pub SaysStored : List (List ℕ) → ℕ
+    → Option (List ℕ) → Result Bool Fault → Option (List ℕ) → Type 0
 SaysStored roots count before result after = MatchResult result
     (λ well. (well ≡ true) × Appends before after (stored_lines roots count))
     (λ e. (kind : ToolError) × (e ≡ fault.Tool kind)
     × BreaksLine (λ text. text ≡ stored_lines roots count) before after kind)
 
--- The file was read, and its blocks and roots are committed; and then its lines went out, or broke off.
-pub record IsImported {S : Type 0} (g : Ghosts S) (source left : Reading) (old : S) (before heard : Option (List ℕ)) (status : ℕ) (new : S) (after told : Option (List ℕ)) : Type 0 where
+-- The file was read, and its blocks and roots are committed; and then its lines went out, or broke
+-- off.
+pub record IsImported {S : Type 0} (g : Ghosts S) (source left : Reading)
+    (old : S) (before heard : Option (List ℕ)) (status : ℕ)
+    (new : S) (after told : Option (List ℕ)) : Type 0 where
   pub roots : List CidParts
   pub sections : List Section
-  pub read : IsRead (forms roots) sections source left
+  pub read : IsFileRead (forms roots) sections source left
   pub filled : IsClean (g.view new) → IsFilled (g.view old) (g.view new) sections
   pub gains : IsClean (g.view new) → GainsRoots (g.view old).trees (g.view new).trees roots
   pub keeps : MayKeepRoots (g.view old) roots
@@ -113,7 +145,9 @@ pub record IsImported {S : Type 0} (g : Ghosts S) (source left : Reading) (old :
   pub tells : TellsRunFault ended heard told
 
 -- The file was refused, and what was not committed is undone: nothing went out, and it is told why.
-pub record IsNotImported {S : Type 0} (E : Type 0) (g : Ghosts S) (source left : Reading) (old : S) (before heard : Option (List ℕ)) (status : ℕ) (new : S) (after told : Option (List ℕ)) : Type 0 where
+pub record IsNotImported {S : Type 0} (E : Type 0) (g : Ghosts S) (source left : Reading)
+    (old : S) (before heard : Option (List ℕ)) (status : ℕ)
+    (new : S) (after told : Option (List ℕ)) : Type 0 where
   pub error : ReadCarError E
   pub refused : ReadRefused g source old error left new
   pub undone : IsClean (g.view new) → IsUndone (g.view old) (g.view new)
@@ -122,8 +156,9 @@ pub record IsNotImported {S : Type 0} (E : Type 0) (g : Ghosts S) (source left :
   pub tells : AppendsFront heard told (unread_lines error)
 
 -- one of these came of the source
-abbrev pub Imports : {S : Type 0} → Type 0 → Ghosts S → Reading → S → Option (List ℕ) → Option (List ℕ) → ℕ → S
-    → Option (List ℕ) → Option (List ℕ) → Type 0
+abbrev pub Imports : {S : Type 0} → Type 0 → Ghosts S → Reading
+    → S → Option (List ℕ) → Option (List ℕ) → ℕ
+    → S → Option (List ℕ) → Option (List ℕ) → Type 0
 Imports E g source old before heard status new after told = (left : Reading)
     × (IsImported g source left old before heard status new after told
     ⊎ IsNotImported E g source left old before heard status new after told)

@@ -9,8 +9,8 @@ abbrev pub damaged_line : CidParts → List ℕ
 damaged_line name = line (cid_text name ++ codes " damaged")
 
 -- of how many names are listed
-abbrev pub count_line : ℕ → List ℕ
-count_line count = line (codes "holds " ++ decimal count)
+abbrev pub holds_line : ℕ → List ℕ
+holds_line count = line (codes "holds " ++ decimal count)
 
 -- where no block has the name
 abbrev pub no_block_line : List ℕ

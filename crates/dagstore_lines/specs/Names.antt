@@ -36,32 +36,35 @@ Telling = View → View → CidParts → Bool → List ℕ → Type 0
 
 -- the line of the next name behind the last one
 abbrev pub IsNextLine : Telling → View → Option CidParts → View → List ℕ → Type 0
-IsNextLine IsSaid old last new text = (name : CidParts) × (well : Bool) × IsSaid old new name well text
-    × (IsClean new → IsNext (old.trees name_tree) last name)
+IsNextLine IsSaid old last new text = (name : CidParts) × (well : Bool)
+    × IsSaid old new name well text × (IsClean new → IsNext (old.trees name_tree) last name)
 
--- It is said of each name, unless a wrong answer of the disk was taken as true; or of some first names,
--- and a front of the line of the next one went out.
-abbrev pub SaysNames : Telling → View → Option (List ℕ) → Result Bool Fault → View → Option (List ℕ) → Type 0
+-- It is said of each name, unless a wrong answer of the disk was taken as true; or of some first
+-- names, and a front of the line of the next one went out.
+abbrev pub SaysNames : Telling
+    → View → Option (List ℕ) → Result Bool Fault → View → Option (List ℕ) → Type 0
 SaysNames IsSaid old before result new after = MatchResult result
     (λ well. (names : List CidParts) × (said : List ℕ) × (IsClean new → AreAll old None names)
     × IsSaidOfEach (IsSaid old new) names well said × Appends before after said)
     (λ e. (names : List CidParts) × (well : Bool) × (said : List ℕ) × (between : Option (List ℕ))
     × (IsClean new → AreFirst old None names) × IsSaidOfEach (IsSaid old new) names well said
-    × Appends before between said × Breaks (IsNextLine IsSaid old (last_of None names) new) between after e)
+    × Appends before between said
+    × Breaks (IsNextLine IsSaid old (last_of None names) new) between after e)
 
 -- ---- list
 
 -- how many bytes are stored under the name, which are those that it names; or that they are damaged
 abbrev pub IsListedLine : Telling
-IsListedLine old new name true text = (b : List ℕ) × IsNamedBy name b × (IsClean new → HoldsOnly old name b)
-    × (text ≡ listed_line (name, b))
-IsListedLine old new name false text = (IsClean new → IsDamaged old name) × (text ≡ damaged_line name)
+IsListedLine old new name true text = (b : List ℕ) × IsNamedBy name b
+    × (IsClean new → HoldsOnly old name b) × (text ≡ listed_line (name, b))
+IsListedLine old new name false text = (IsClean new → IsDamaged old name)
+    × (text ≡ damaged_line name)
 
 -- ---- a step
 
 -- the line of the next name went out, or there is none; or it broke off
-abbrev pub SaysNext : Telling → View → Option CidParts → Option (List ℕ) → Result (Option (CidParts × Bool)) Fault
-    → View → Option (List ℕ) → Type 0
+abbrev pub SaysNext : Telling → View → Option CidParts → Option (List ℕ)
+    → Result (Option (CidParts × Bool)) Fault → View → Option (List ℕ) → Type 0
 SaysNext IsSaid old last before result new after = MatchResult result
     (λ next. MatchOption next
     ((after ≡ before) × (IsClean new → GivesNextName old last None))

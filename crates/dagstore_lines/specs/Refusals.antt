@@ -23,16 +23,19 @@ disk_text disk.Full = codes "database or disk is full"
 disk_text disk.Broken = codes "the transaction must be rolled back"
 disk_text disk.Unstorable = codes "a row cannot be stored"
 
--- of a block that is not kept under its name; of one that is no DAG-CBOR, with the byte by which it is none
+-- of a block that is not kept under its name; of one that is no DAG-CBOR, with the byte by which it
+-- is none
 abbrev pub unsound_text : Unsound → List ℕ
 unsound_text unsound.OtherHash = codes "the block is named by another hash function than SHA-256"
 unsound_text unsound.OtherBytes = codes "the block has other bytes than its name says"
-unsound_text (unsound.NoBlock e place) = codes "the block is no DAG-CBOR: " ++ (variant_name e ++ (codes " at byte " ++ decimal place))
+unsound_text (unsound.NoBlock e place) = codes "the block is no DAG-CBOR: "
+    ++ (variant_name e ++ (codes " at byte " ++ decimal place))
 
 -- of a refusal of the store
 abbrev pub refusal_text : StoreRefusal → List ℕ
 refusal_text (refusal.Unsound e) = unsound_text e
-refusal_text (refusal.Damaged name) = codes "what is stored under the name has other bytes than it says"
+refusal_text (refusal.Damaged name) =
+    codes "what is stored under the name has other bytes than it says"
 refusal_text refusal.NoNumber = codes "no number is left for a row"
 refusal_text refusal.TooLong = codes "the block is too long for a row"
 refusal_text refusal.NotAStore = codes "the file is no store of blocks"
@@ -62,13 +65,13 @@ tool_text tool.Output = codes "standard output takes no more"
 tool_text tool.OutOfMemory = codes "out of memory"
 
 -- under the program's name
-abbrev pub told_line : List ℕ → List ℕ
-told_line text = line (codes "dagstore: " ++ text)
+abbrev pub dagstore_line : List ℕ → List ℕ
+dagstore_line text = line (codes "dagstore: " ++ text)
 
 -- of what ended a run
 abbrev pub fault_line : Fault → List ℕ
-fault_line (fault.Store told) = told_line (refusal_text told)
-fault_line (fault.Tool e) = told_line (tool_text e)
+fault_line (fault.Store told) = dagstore_line (refusal_text told)
+fault_line (fault.Tool e) = dagstore_line (tool_text e)
 
 -- the status of a run that ended so: 0 where nothing is wrong, 1 where something is
 abbrev pub status_of : Result Bool Fault → ℕ

@@ -10,11 +10,11 @@ use Rattle.ipld_links.specs.Sets.{Among}
 use Rattle.dagcbor_store.specs.RootRows.{root_tree, AreRoots, LeavesOut}
 use Rattle.dagcbor_store.specs.Cars.{RootsNotKept}
 use Rattle.dagcbor_store.specs.Ends.{KeepsOthers, IsOfRoots}
-use Rattle.dagcbor_store.specs.Stored.{IsSame, IsUndone, IsCommitted, FailsByStore}
+use Rattle.dagcbor_store.specs.Stored.{FindsSo, IsUndone, IsCommitted, FailsByStore}
 use Rattle.dagcbor_store.specs.Roots.{HasRoots, AreRootsAdded, MayKeepRoots}
 use Rattle.dagcbor_store.specs.Collecting.{KeepsReachable}
 use Rattle.dagcbor_store.specs.declared.error.StoreRefusal.{StoreRefusal}
-use Rattle.dagstore_lines.specs.Changes.{name_line, SaysCollected, SaysTaken}
+use Rattle.dagstore_lines.specs.Changes.{cid_line, SaysCollected, SaysTaken}
 use Rattle.dagstore_lines.specs.Files.{Exports}
 use Rattle.dagstore_lines.specs.Lines.{no_root_line, no_roots_line}
 use Rattle.dagstore_lines.specs.Said.{Breaks}
@@ -27,17 +27,19 @@ use Rattle.dagstore_lines.specs.declared.fault.Fault.TheVariants as fault
 -- the lines of the roots, in their order
 abbrev pub AreRootLines : View → View → List ℕ → Type 0
 AreRootLines old new text = (names : List CidParts) × (IsClean new → HasRoots old names)
-    × (text ≡ flat_map name_line names)
+    × (text ≡ flat_map cid_line names)
 
 -- they went out, or broke off
 abbrev pub SaysRoots : View → Option (List ℕ) → Result Bool Fault → View → Option (List ℕ) → Type 0
 SaysRoots old before result new after = MatchResult result
-    (λ well. (well ≡ true) × ((text : List ℕ) × AreRootLines old new text × Appends before after text))
+    (λ well. (well ≡ true)
+    × ((text : List ℕ) × AreRootLines old new text × Appends before after text))
     (Breaks (AreRootLines old new) before after)
 
 -- ---- the roots of export and gc
 
--- the roots that are meant where these are given: these; or, where none is, those that the store keeps
+-- the roots that are meant where these are given: these; or, where none is, those that the store
+-- keeps
 abbrev pub AreMeant : View → View → List CidParts → List CidParts → Type 0
 AreMeant old new given roots = ((given ≡ []) × (IsClean new → HasRoots old roots))
     ⊎ ((given ≢ []) × (roots ≡ given))
@@ -46,26 +48,32 @@ AreMeant old new given roots = ((given ≡ []) × (IsClean new → HasRoots old 
 abbrev pub RootsUnread : {S : Type 0} → Ghosts S → List CidParts → S → S → StoreRefusal → Type 0
 RootsUnread g given old new told = (given ≡ []) × FailsByStore g ⊥ old new told
 
--- the file of the roots that are meant went out, or broke off; or they were not read, and nothing did
-abbrev pub ExportsMeant : {S : Type 0} → Ghosts S → List CidParts → S → Option (List ℕ) → Result Bool Fault → S → Option (List ℕ) → Type 0
-ExportsMeant g given old before ended new after = ((told : StoreRefusal) × (ended ≡ Err (fault.Store told))
-    × RootsUnread g given old new told × (after ≡ before))
+-- the file of the roots that are meant went out, or broke off; or they were not read, and nothing
+-- did
+abbrev pub ExportsMeant : {S : Type 0} → Ghosts S → List CidParts
+    → S → Option (List ℕ) → Result Bool Fault → S → Option (List ℕ) → Type 0
+ExportsMeant g given old before ended new after = ((told : StoreRefusal)
+    × (ended ≡ Err (fault.Store told)) × RootsUnread g given old new told × (after ≡ before))
     ⊎ ((roots : List CidParts) × AreMeant (g.view old) (g.view new) given roots
     × Exports g (forms roots) old before ended new after)
 
 -- none is given, the store keeps none, and nothing is changed: that is told
-abbrev pub TellsNoRoots : {S : Type 0} → Ghosts S → List CidParts → S → Option (List ℕ) → Option (List ℕ)
-    → Result Bool Fault → S → Option (List ℕ) → Option (List ℕ) → Type 0
+abbrev pub TellsNoRoots : {S : Type 0} → Ghosts S → List CidParts
+    → S → Option (List ℕ) → Option (List ℕ) → Result Bool Fault
+    → S → Option (List ℕ) → Option (List ℕ) → Type 0
 TellsNoRoots g given old before heard ended new after told = (given ≡ [])
-    × (IsClean (g.view new) → HasRoots (g.view old) [] × IsSame (g.view old) (g.view new))
+    × FindsSo g old new (λ v. HasRoots v [])
     × (after ≡ before) × TellsText no_roots_line (λ well. well ≡ false) heard ended told
 
--- What links lead to from the roots that are meant is kept, and it is said how much was taken out; or there is no such
--- root, and nothing is taken out; or those that the store keeps were not read, and nothing is said.
-abbrev pub CollectsMeant : {S : Type 0} → Ghosts S → List CidParts → S → Option (List ℕ) → Option (List ℕ)
-    → Result Bool Fault → S → Option (List ℕ) → Option (List ℕ) → Type 0
-CollectsMeant g given old before heard ended new after told = ((why : StoreRefusal) × (ended ≡ Err (fault.Store why))
-    × RootsUnread g given old new why × (after ≡ before) × (told ≡ heard))
+-- What links lead to from the roots that are meant is kept, and it is said how much was taken out;
+-- or there is no such root, and nothing is taken out; or those that the store keeps were not read,
+-- and nothing is said.
+abbrev pub CollectsMeant : {S : Type 0} → Ghosts S → List CidParts
+    → S → Option (List ℕ) → Option (List ℕ) → Result Bool Fault
+    → S → Option (List ℕ) → Option (List ℕ) → Type 0
+CollectsMeant g given old before heard ended new after told = ((why : StoreRefusal)
+    × (ended ≡ Err (fault.Store why)) × RootsUnread g given old new why
+    × (after ≡ before) × (told ≡ heard))
     ⊎ (TellsNoRoots g given old before heard ended new after told
     ⊎ ((roots : List CidParts) × (roots ≢ []) × AreMeant (g.view old) (g.view new) given roots
     × SaysCollected g roots old before heard ended new after told))
@@ -96,10 +104,13 @@ pub record Commits (Does : Trees → Trees → Type 0) (old new : View) : Type 0
 abbrev pub HasAddedRoots : View → List CidParts → Trees → Type 0
 HasAddedRoots old names db = (added : View) × AreRootsAdded old added names × (db ≡ added.trees)
 
--- each of the names is a root, which is committed; or the store refused, and what was not committed is undone
-abbrev pub AddsToRoots : {S : Type 0} → Ghosts S → List CidParts → S → Result Bool Fault → S → Type 0
+-- each of the names is a root, which is committed; or the store refused, and what was not committed
+-- is undone
+abbrev pub AddsToRoots : {S : Type 0} → Ghosts S → List CidParts
+    → S → Result Bool Fault → S → Type 0
 AddsToRoots g names old (Ok well) new = (well ≡ true) × MayKeepRoots (g.view old) names
-    × (IsClean (g.view new) → (added : View) × AreRootsAdded (g.view old) added names × IsCommitted added (g.view new))
+    × (IsClean (g.view new) → (added : View)
+    × AreRootsAdded (g.view old) added names × IsCommitted added (g.view new))
 AddsToRoots g names old (Err (fault.Store told)) new = RootsNotKept g names old new told
     × (IsClean (g.view new) → IsUndone (g.view old) (g.view new))
 AddsToRoots g names old (Err (fault.Tool e)) new = ⊥
@@ -119,11 +130,13 @@ pub record DropsRoots (names : List CidParts) (count : ℕ) (old new : Trees) : 
       → (now : List CidParts) × AreRoots (new root_tree) now × DropsNames before names now count
   pub beside : KeepsOthers IsOfRoots old new
 
--- The names are taken out of the roots, and it is said how many were roots; or the store failed, and nothing went out.
-abbrev pub SaysDropped : {S : Type 0} → Ghosts S → List CidParts → S → Option (List ℕ) → Option (List ℕ)
-    → Result Bool Fault → S → Option (List ℕ) → Option (List ℕ) → Type 0
-SaysDropped g names old before heard (Err (fault.Store why)) new after told = FailsByStore g ⊥ old new why
-    × (after ≡ before) × (told ≡ heard)
+-- The names are taken out of the roots, and it is said how many were roots; or the store failed,
+-- and nothing went out.
+abbrev pub SaysDropped : {S : Type 0} → Ghosts S → List CidParts
+    → S → Option (List ℕ) → Option (List ℕ) → Result Bool Fault
+    → S → Option (List ℕ) → Option (List ℕ) → Type 0
+SaysDropped g names old before heard (Err (fault.Store why)) new after told =
+    FailsByStore g ⊥ old new why × (after ≡ before) × (told ≡ heard)
 SaysDropped g names old before heard ended new after told = (count : ℕ)
     × (IsClean (g.view new) → Commits (DropsRoots names count) (g.view old) (g.view new))
     × SaysTaken no_root_line count (length names) before heard ended after told

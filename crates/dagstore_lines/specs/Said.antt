@@ -22,5 +22,7 @@ Breaks IsLine old new (fault.Tool e) = BreaksLine IsLine old new e
 abbrev pub SaysAll : (Bool → List ℕ → List ℕ → Type 0) → Option (List ℕ) → Option (List ℕ)
     → Result Bool Fault → Option (List ℕ) → Option (List ℕ) → Type 0
 SaysAll IsSaid old heard (Ok well) new after = SaysBoth IsSaid old heard (Ok well) new after
-SaysAll IsSaid old heard (Err (fault.Store told)) new after = Appends old new [] × Appends heard after []
-SaysAll IsSaid old heard (Err (fault.Tool e)) new after = SaysBoth IsSaid old heard (Err e) new after
+SaysAll IsSaid old heard (Err (fault.Store told)) new after =
+    Appends old new [] × Appends heard after []
+SaysAll IsSaid old heard (Err (fault.Tool e)) new after =
+    SaysBoth IsSaid old heard (Err e) new after

@@ -9,7 +9,7 @@ use Rattle.dagcbor_resolve.specs.Laws.{AgreeOn}
 use Rattle.dagcar_lines.specs.Paths.{IsAnswerOf}
 use Rattle.dagcar_lines.specs.declared.at.Asked.{Asked}
 use Rattle.dagcar_lines.specs.declared.at.Asked.TheVariants as asks
-use Rattle.dagcbor_store.specs.Stored.{StaysSame, IsSame, IsDamaged, FailsByStore}
+use Rattle.dagcbor_store.specs.Stored.{StaysSame, FindsSo, IsDamaged, FailsByStore}
 use Rattle.dagcbor_store.specs.Trees.{OfStored}
 use Rattle.dagcbor_store.specs.declared.error.StoreRefusal.TheVariants as refusal
 use Rattle.dagstore_lines.specs.declared.fault.Fault.{Fault}
@@ -26,19 +26,20 @@ HoldsNameToo v name old new = OfStored v (λ stored. IsPartOf old stored → IsP
 
 -- what is held is what is stored under the names on the path's way
 abbrev pub HoldsWay : View → CidParts → List (List ℕ) → Stored → Type 0
-HoldsWay v root path held = OfStored v (λ stored. (names : List CidParts) × AreOnTheWay stored root path names
-    × AgreeOn names stored held)
+HoldsWay v root path held = OfStored v (λ stored. (names : List CidParts)
+    × AreOnTheWay stored root path names × AgreeOn names stored held)
 
 -- what is asked of a path: the bytes of the item, or its data
 abbrev pub asked_of : Bool → Asked
 asked_of true = asks.Bytes
 asked_of false = asks.Data
 
--- what `dagcar at` says of what is stored; and of some blocks also where a wrong answer of the disk was taken
--- as true: each on the way is the one that its name says
-abbrev pub IsAnswerIn : Bool → CidParts → List (List ℕ) → View → View → Bool → List ℕ → List ℕ → Type 0
-IsAnswerIn is_raw root path old new well out told =
-    (IsClean new → OfStored old (λ stored. IsAnswerOf (asked_of is_raw) root path stored well out told))
+-- what `dagcar at` says of what is stored; and of some blocks also where a wrong answer of the disk
+-- was taken as true: each on the way is the one that its name says
+abbrev pub IsAnswerIn : Bool → CidParts → List (List ℕ)
+    → View → View → Bool → List ℕ → List ℕ → Type 0
+IsAnswerIn is_raw root path old new well out told = (IsClean new → OfStored old (λ stored.
+    IsAnswerOf (asked_of is_raw) root path stored well out told))
     × ((held : Stored) × IsAnswerOf (asked_of is_raw) root path held well out told)
 
 -- over so many links the path comes to this block, where these segments are left
@@ -47,11 +48,15 @@ ComesTo zero stored root path name left = (root ≡ name) × (path ≡ left)
 ComesTo (suc n) stored root path name left = (next : CidParts) × (more : List (List ℕ))
     × LeadsOn stored root path next more × ComesTo n stored next more name left
 
--- what is stored under a name to which the path comes is damaged, or the store failed; or it is as it was,
--- and memory was wanting
+-- the path comes to the name
+abbrev pub IsComeTo : View → CidParts → List (List ℕ) → CidParts → Type 0
+IsComeTo v root path name = OfStored v (λ stored.
+    (n : ℕ) × (left : List (List ℕ)) × ComesTo n stored root path name left)
+
+-- what is stored under a name to which the path comes is damaged, or the store failed; or it is as
+-- it was, and memory was wanting
 abbrev pub WayFails : {S : Type 0} → Ghosts S → CidParts → List (List ℕ) → S → S → Fault → Type 0
-WayFails g root path old new (fault.Store (refusal.Damaged name)) = IsClean (g.view new)
-    → IsDamaged (g.view old) name × IsSame (g.view old) (g.view new)
-    × OfStored (g.view old) (λ stored. (n : ℕ) × (left : List (List ℕ)) × ComesTo n stored root path name left)
+WayFails g root path old new (fault.Store (refusal.Damaged name)) =
+    FindsSo g old new (λ v. IsDamaged v name × IsComeTo v root path name)
 WayFails g root path old new (fault.Store told) = FailsByStore g ⊥ old new told
 WayFails g root path old new (fault.Tool e) = StaysSame g old new

@@ -5,7 +5,7 @@ ghost use Rattle.sqlite_trees.specs.View.{IsClean};
 ghost use Rattle.dagcbor_paths.specs.Paths.{segments};
 ghost use Rattle.dagcbor_store.specs.Ends.{Quiet};
 ghost use Rattle.dagcbor_store.specs.Stored.{IsAddedTo, IsKeptBy, StaysSame};
-ghost use Rattle.dagstore_lines.specs.Blocks.{SaysCount, IsGot, Has};
+ghost use Rattle.dagstore_lines.specs.Blocks.{SaysCount, IsGotBlock, Has};
 ghost use Rattle.dagstore_lines.specs.Changes.{name_as, SaysPut, ListsOthers, SaysRemoved};
 ghost use Rattle.dagstore_lines.specs.Checks.{SaysCheck};
 ghost use Rattle.dagstore_lines.specs.Names.{IsListedLine, SaysNames};
@@ -121,7 +121,7 @@ pub fn answer_get<S: Store, W: Write, V: Write>(
     errors: &mut V,
 ) -> u8
     ensures answers { (ended : Result Bool Fault) × (heard : Option (List ℕ))
-        × SaysAll (IsGot name.now (S.Store.view store.old) (S.Store.view store.new))
+        × SaysAll (IsGotBlock name.now (S.Store.view store.old) (S.Store.view store.new))
         (W.contents output.old) (V.contents errors.old) ended (W.contents output.new) heard
         × ExitsSo ended result heard (V.contents errors.new) }
     ensures quiet { Quiet S.Store store.old store.new }

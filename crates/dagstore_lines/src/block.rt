@@ -3,8 +3,8 @@
 ghost use Rattle.std.specs.Prelude.{◌≡◌, IfOk, OnOk, IfErr};
 ghost use Rattle.dagcbor_store.specs.Ends.{Quiet};
 ghost use Rattle.dagcbor_store.specs.Stored.{StaysSame};
-ghost use Rattle.dagstore_lines.specs.Blocks.{SaysCount, IsGot, GetFails, Has};
-ghost use Rattle.dagstore_lines.specs.Lines.{count_line};
+ghost use Rattle.dagstore_lines.specs.Blocks.{SaysCount, IsGotBlock, GetFails, Has};
+ghost use Rattle.dagstore_lines.specs.Lines.{holds_line};
 ghost use Rattle.dagstore_lines.specs.Said.{StoreFails, SaysAll};
 
 use crate::fault::Fault;
@@ -18,8 +18,8 @@ use std::io::Write;
 pub const NO_BLOCK: &[u8] = b"dagstore: no block has the name\n";
 
 /// The line of how many names are listed.
-fn count_line(alloc: Global, count: u64) -> Result<Vec<u8>, AllocError>
-    ensures { IfOk result (λ v. v.items ≡ count_line count) }
+fn holds_line(alloc: Global, count: u64) -> Result<Vec<u8>, AllocError>
+    ensures { IfOk result (λ v. v.items ≡ holds_line count) }
 {
     let count = format!(in alloc; "{count}")?;
     line_of(alloc, b"holds ", count.as_bytes(), b"")
@@ -38,7 +38,7 @@ pub fn count_blocks<S: Store, W: Write>(
     ensures quiet { Quiet S.Store store.old store.new }
 {
     let count = store.len()?;
-    let line = count_line(alloc, count)?;
+    let line = holds_line(alloc, count)?;
     let well = say((line, true), output)?;
     Ok(well)
 }
@@ -51,7 +51,7 @@ pub fn get_block<S: Store, W: Write, V: Write>(
     output: &mut W,
     errors: &mut V,
 ) -> Result<bool, Fault>
-    ensures says { SaysAll (IsGot name.now (S.Store.view store.old) (S.Store.view store.new))
+    ensures says { SaysAll (IsGotBlock name.now (S.Store.view store.old) (S.Store.view store.new))
         (W.contents output.old) (V.contents errors.old) result (W.contents output.new)
         (V.contents errors.new) }
     ensures same { OnOk result (StaysSame S.Store store.old store.new) }

@@ -5,9 +5,9 @@ ghost use Rattle.sqlite_trees.specs.View.{IsClean};
 ghost use Rattle.dagcbor_heads.specs.Written.{AppendsFront};
 ghost use Rattle.dagcbor_store.specs.Collecting.{KeepsReachable};
 ghost use Rattle.dagcbor_store.specs.Ends.{Quiet};
-ghost use Rattle.dagcbor_store.specs.Stored.{IsKeptBy, IsAddedTo, IsUnfit, FailsByStore};
+ghost use Rattle.dagcbor_store.specs.Stored.{IsKeptBy, IsAddedTo, FailsByStore};
 ghost use Rattle.ipld_links.specs.Sound.{IsSound};
-ghost use Rattle.dagstore_lines.specs.Changes.{SaysText, name_as, name_line, SaysPut, name_lines, SaysCollected, ListsOthers, RemovesNames, Removes, SaysTaken, SaysRemoved};
+ghost use Rattle.dagstore_lines.specs.Changes.{IsUnfit, SaysText, name_as, cid_line, SaysPut, name_lines, SaysCollected, ListsOthers, RemovesNames, Removes, SaysTaken, SaysRemoved};
 ghost use Rattle.dagstore_lines.specs.Lines.{removed_line};
 ghost use Rattle.dagstore_lines.specs.Roots.{CollectsMeant, KeepsMeant};
 
@@ -34,7 +34,7 @@ fn name_as(codec: u64, block: &[u8]) -> Cid
 
 /// Writes the line of a name.
 fn say_name<W: Write>(alloc: Global, name: &Cid, output: &mut W) -> Result<(), ToolError>
-    ensures { SaysText (name_line name.now) (W.contents output.old) result (W.contents output.new) }
+    ensures { SaysText (cid_line name.now) (W.contents output.old) result (W.contents output.new) }
 {
     let line = named_line(alloc, b"", name)?;
     write_all(output, &line)

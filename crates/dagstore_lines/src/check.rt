@@ -9,7 +9,7 @@ ghost use Rattle.dagstore_lines.specs.Names.{SaysNames, SaysNext};
 ghost use Rattle.dagstore_lines.specs.Checks.{IsCheckedLine, SaysCheck, AddsUnlistedLinks, AddsOfNext, IsMissing, SaysKeys};
 
 use crate::fault::Fault;
-use crate::line::{both, damaged_said};
+use crate::line::damaged_said;
 use crate::progress::Progress;
 use block_lines::{Said, missing_line, say, told_line};
 use dagcbor_cli::ToolError;
@@ -124,7 +124,7 @@ fn check_names<S: Store, W: Write, E: Write>(
         match check_next(alloc, store, last, missing, output)? {
             Some(next) => {
                 last = Some(next.0);
-                well = both(well, next.1);
+                well &= next.1;
                 progress.add(1);
             }
             None => return Ok(well),
@@ -164,5 +164,5 @@ pub fn check_blocks<S: Store, W: Write, E: Write>(
     let well = check_names(alloc, store, &mut missing, output, progress)?;
     let said = missing_said(alloc, missing)?;
     let none = say(said, output)?;
-    Ok(both(well, none))
+    Ok(well & none)
 }

@@ -3,7 +3,7 @@
 ghost use Rattle.std.specs.Prelude.{◌≡◌, ◌≢◌, ◌<◌, ◌≤◌, [], ◌∷◌, codes, length, map, string_bytes, IfOk, IfErr, MatchBool, MatchOption, MatchResult, List, ℕ};
 ghost use Rattle.std.specs.Str.Parse.{IsNumeral, digits_value};
 ghost use Rattle.ipld_tree.specs.Cid.{CidParts};
-ghost use Rattle.dagstore_lines.specs.Commands.{NamesCodec, AreTextsOf, IsFirstFault, WantsNames, IsCommand, IsSaidOf, IsAskedBy, AreWords};
+ghost use Rattle.dagstore_lines.specs.Commands.{NamesCodec, AreTextsOf, IsFirstFault, WantsNames, NamesCommand, AreWordsOf, IsAskedBy, AreWords};
 ghost use Rattle.dagstore_lines.specs.declared.command.Command.{Command};
 
 use cid_text::{CidTextError, cid_from_text, laws};
@@ -245,8 +245,8 @@ fn takes_names(word: &str) -> bool
 
 /// The command of the word and the CIDs behind it.
 fn command_of(word: &str, names: Vec<Cid>) -> Option<Command>
-    ensures { MatchOption result ((command : Command) → ¬ IsCommand word.now names.items command)
-        (IsCommand word.now names.items) }
+    ensures { MatchOption result ((command : Command) → ¬ NamesCommand word.now names.items command)
+        (NamesCommand word.now names.items) }
 {
     match word {
         "export" => Some(Command::Export(names)),

@@ -8,8 +8,8 @@ ghost use Rattle.dagcbor_heads.specs.Reading.{fresh_reading, default_steps};
 ghost use Rattle.dagcbor_heads.specs.Written.{AppendsFront};
 ghost use Rattle.dagcbor_items.specs.Walks.{forms};
 ghost use Rattle.dagcbor_store.specs.Stored.{IsKeptBy};
-ghost use Rattle.dagstore_lines.specs.Files.{file_text, file_status, place_line, unread_lines, unread_status, stored_lines, SaysStored, Imports};
-ghost use Rattle.dagstore_lines.specs.Refusals.{told_line, refusal_text};
+ghost use Rattle.dagstore_lines.specs.Files.{file_text, file_status, behind_line, unread_lines, unread_status, stored_lines, SaysStored, Imports};
+ghost use Rattle.dagstore_lines.specs.Refusals.{dagstore_line, refusal_text};
 ghost use Rattle.std.specs.declared.io.Error.{Error};
 
 use crate::fault::Fault;
@@ -50,7 +50,7 @@ fn file_status<E>(error: &CarError<E>) -> u8
 /// Tells that the file is none, or was not read, and answers the status.
 fn tell_file<E, V: Write>(error: &CarError<E>, errors: &mut V) -> u8
     ensures status { result ≡ file_status error.now }
-    ensures told { AppendsFront (V.contents errors.old) (V.contents errors.new) (told_line (file_text error.now)) }
+    ensures told { AppendsFront (V.contents errors.old) (V.contents errors.new) (dagstore_line (file_text error.now)) }
 {
     let (text, which) = file_words(error);
     let _ = write_told(errors, text, which);
@@ -64,15 +64,15 @@ fn write_block<V: Write>(
     refusal: &StoreRefusal,
 ) -> Result<(), ToolError>
     ensures { WritesFront (V.contents errors.old) (V.contents errors.new) result
-        (told_line (codes "of " ++ cid_text name.now) ++ told_line (refusal_text refusal.now)) }
+        (dagstore_line (codes "of " ++ cid_text name.now) ++ dagstore_line (refusal_text refusal.now)) }
 {
     write_name(errors, name)?;
     write_refusal(refusal, errors)
 }
 
 /// The line of how many sections stand before the place where a file stopped.
-fn place_line(alloc: Global, count: u64) -> Result<Vec<u8>, AllocError>
-    ensures { IfOk result (λ v. v.items ≡ place_line count) }
+fn behind_line(alloc: Global, count: u64) -> Result<Vec<u8>, AllocError>
+    ensures { IfOk result (λ v. v.items ≡ behind_line count) }
 {
     let count = format!(in alloc; "{count}")?;
     line_of(alloc, b"dagstore: behind ", count.as_bytes(), b" sections")
@@ -80,9 +80,9 @@ fn place_line(alloc: Global, count: u64) -> Result<Vec<u8>, AllocError>
 
 /// Writes how many sections stand before the place where a file stopped.
 fn write_place<V: Write>(alloc: Global, errors: &mut V, count: u64) -> Result<(), ToolError>
-    ensures { WritesFront (V.contents errors.old) (V.contents errors.new) result (place_line count) }
+    ensures { WritesFront (V.contents errors.old) (V.contents errors.new) result (behind_line count) }
 {
-    let line = place_line(alloc, count)?;
+    let line = behind_line(alloc, count)?;
     write_all(errors, &line)
 }
 
@@ -94,7 +94,7 @@ fn write_stopped<E, V: Write>(
     error: &CarError<E>,
 ) -> Result<(), ToolError>
     ensures { WritesFront (V.contents errors.old) (V.contents errors.new) result
-        (place_line count ++ told_line (file_text error.now)) }
+        (behind_line count ++ dagstore_line (file_text error.now)) }
 {
     write_place(alloc, errors, count)?;
     let (text, which) = file_words(error);
@@ -110,7 +110,7 @@ fn write_unkept<V: Write>(
     refusal: &StoreRefusal,
 ) -> Result<(), ToolError>
     ensures { WritesFront (V.contents errors.old) (V.contents errors.new) result
-        (place_line count ++ (told_line (codes "of " ++ cid_text name.now) ++ told_line (refusal_text refusal.now))) }
+        (behind_line count ++ (dagstore_line (codes "of " ++ cid_text name.now) ++ dagstore_line (refusal_text refusal.now))) }
 {
     write_place(alloc, errors, count)?;
     write_block(errors, name, refusal)

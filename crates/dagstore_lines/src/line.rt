@@ -1,6 +1,6 @@
 //! The lines that the program alone writes.
 
-ghost use Rattle.std.specs.Prelude.{◌≡◌, ◌&&◌, IfOk, false};
+ghost use Rattle.std.specs.Prelude.{◌≡◌, IfOk, false};
 ghost use Rattle.dagstore_lines.specs.Lines.{damaged_line};
 
 use block_lines::{Said, line_of};
@@ -15,11 +15,4 @@ pub fn damaged_said(alloc: Global, name: &Cid) -> Result<Said, AllocError>
 {
     let line = line_of(alloc, &cid_text(name), b" damaged", b"")?;
     Ok((line, false))
-}
-
-/// Whether both hold.
-pub fn both(one: bool, other: bool) -> bool
-    ensures { result ≡ (one && other) }
-{
-    one && other
 }

@@ -8,7 +8,7 @@ ghost use Rattle.dagstore_lines.specs.Said.{StoreFails};
 ghost use Rattle.dagstore_lines.specs.Names.{IsListedLine, SaysNames, SaysNext};
 
 use crate::fault::Fault;
-use crate::line::{both, damaged_said};
+use crate::line::damaged_said;
 use block_lines::{Said, listed_line, say};
 use dagcbor_cli::ToolError;
 use dagcbor_store::{BlockStore, Store, StoreRefusal};
@@ -79,7 +79,7 @@ pub fn list_blocks<S: Store, W: Write>(
         match list_next(alloc, store, last, output)? {
             Some(next) => {
                 last = Some(next.0);
-                well = both(well, next.1);
+                well &= next.1;
             }
             None => return Ok(well),
         }

@@ -4,7 +4,7 @@ ghost use Rattle.std.specs.Prelude.{◌≡◌, ◌++◌, codes, decimal, MatchOp
 ghost use Rattle.cid_text.specs.Texts.{cid_text};
 ghost use Rattle.dagcbor_cli.specs.Writing.{WritesFront};
 ghost use Rattle.dagcbor_heads.specs.Written.{AppendsFront};
-ghost use Rattle.dagstore_lines.specs.Refusals.{disk_text, unsound_text, refusal_text, refusal_status, tool_text, told_line, status_of, TellsRunFault};
+ghost use Rattle.dagstore_lines.specs.Refusals.{disk_text, unsound_text, refusal_text, refusal_status, tool_text, dagstore_line, status_of, TellsRunFault};
 
 use crate::fault::Fault;
 use cid_text::cid_text;
@@ -128,7 +128,7 @@ pub fn write_both<W: Write>(writer: &mut W, first: &[u8], second: &[u8]) -> Resu
 /// Writes a line under the program's name.
 pub fn write_told<W: Write>(errors: &mut W, first: &str, second: &str) -> Result<(), ToolError>
     ensures { WritesFront (W.contents errors.old) (W.contents errors.new) result
-        (told_line (first.now ++ second.now)) }
+        (dagstore_line (first.now ++ second.now)) }
 {
     write_both(errors, b"dagstore: ", first.as_bytes())?;
     write_both(errors, second.as_bytes(), b"\n")
@@ -142,7 +142,7 @@ fn write_told_at<W: Write>(
     place: usize,
 ) -> Result<(), ToolError>
     ensures { WritesFront (W.contents errors.old) (W.contents errors.new) result
-        (told_line (first.now ++ (second.now ++ (codes " at byte " ++ decimal place)))) }
+        (dagstore_line (first.now ++ (second.now ++ (codes " at byte " ++ decimal place)))) }
 {
     let mut digits = Buffer::new();
     write_both(errors, b"dagstore: ", first.as_bytes())?;
@@ -153,7 +153,7 @@ fn write_told_at<W: Write>(
 /// Writes the line of a refusal of the store.
 pub fn write_refusal<W: Write>(refusal: &StoreRefusal, errors: &mut W) -> Result<(), ToolError>
     ensures { WritesFront (W.contents errors.old) (W.contents errors.new) result
-        (told_line (refusal_text refusal.now)) }
+        (dagstore_line (refusal_text refusal.now)) }
 {
     let (text, which, place) = refusal_words(refusal);
     match place {
@@ -165,7 +165,7 @@ pub fn write_refusal<W: Write>(refusal: &StoreRefusal, errors: &mut W) -> Result
 /// Writes the line of the name of a block.
 pub fn write_name<V: Write>(errors: &mut V, name: &Cid) -> Result<(), ToolError>
     ensures { WritesFront (V.contents errors.old) (V.contents errors.new) result
-        (told_line (codes "of " ++ cid_text name.now)) }
+        (dagstore_line (codes "of " ++ cid_text name.now)) }
 {
     write_both(errors, b"dagstore: of ", &cid_text(name))?;
     write_all(errors, b"\n")
@@ -175,7 +175,7 @@ pub fn write_name<V: Write>(errors: &mut V, name: &Cid) -> Result<(), ToolError>
 pub fn tell_refusal<W: Write>(refusal: &StoreRefusal, errors: &mut W) -> u8
     ensures status { result ≡ refusal_status refusal.now }
     ensures told { AppendsFront (W.contents errors.old) (W.contents errors.new)
-        (told_line (refusal_text refusal.now)) }
+        (dagstore_line (refusal_text refusal.now)) }
 {
     let _ = write_refusal(refusal, errors);
     refusal_status(refusal)
@@ -185,7 +185,7 @@ pub fn tell_refusal<W: Write>(refusal: &StoreRefusal, errors: &mut W) -> u8
 pub fn tell_tool<W: Write>(error: &ToolError, errors: &mut W) -> u8
     ensures status { result ≡ 2 }
     ensures told { AppendsFront (W.contents errors.old) (W.contents errors.new)
-        (told_line (tool_text error.now)) }
+        (dagstore_line (tool_text error.now)) }
 {
     let _ = write_told(errors, tool_text(error), "");
     2

@@ -4,7 +4,7 @@ ghost use Rattle.std.specs.Prelude.{◌≡◌, ◌⊎◌, IfOk, OnOk, IfErr, fla
 ghost use Rattle.sqlite_trees.specs.View.{IsClean};
 ghost use Rattle.dagcbor_store.specs.Ends.{Quiet};
 ghost use Rattle.dagcbor_store.specs.Stored.{IsKeptBy, StaysSame, FailsByStore};
-ghost use Rattle.dagstore_lines.specs.Changes.{name_line};
+ghost use Rattle.dagstore_lines.specs.Changes.{cid_line};
 ghost use Rattle.dagstore_lines.specs.Roots.{SaysRoots, AreMeant, RootsUnread, Changes, Commits, HasAddedRoots, AddsToRoots, DropsRoots, DropsSome, SaysDropped};
 ghost use Rattle.dagstore_lines.specs.Said.{StoreFails};
 
@@ -24,7 +24,7 @@ pub const NO_ROOTS: &[u8] = b"dagstore: no roots are stored; name some, or add-r
 
 /// The lines of the names.
 fn lines_of(alloc: Global, names: &[Cid]) -> Result<Vec<u8>, AllocError>
-    ensures { IfOk result (λ v. v.items ≡ flat_map name_line names.now) }
+    ensures { IfOk result (λ v. v.items ≡ flat_map cid_line names.now) }
 {
     let mut lines = Vec::new(alloc);
     for name in names {

@@ -1,4 +1,4 @@
-use Rattle.std.proofs.Common.{◌≡◌, [], ◌↔◌, inl, inr, sym, subst, IsTrue, flat_map}
+use Rattle.std.proofs.Common.{◌≡◌, refl, [], ◌↔◌, inl, inr, sym, subst, IsTrue, flat_map}
 use Rattle.std.specs.Io.KnownBytes.{Appends}
 use Rattle.std.proofs.KnownBytes.{Appends-trans}
 use Rattle.std.proofs.lemmas.Result.{err_from_is_err_and}
@@ -44,5 +44,5 @@ returns-clause-says g c =
       none = c.in_ok-none.none;
       is_none = subst (λ b. IsTrue b ↔ (s.keys ≡ [])) (sym c.in_ok-none.ensures.0) c.in_ok-said.ensures.2;
       lines = Appends-trans _ _ _ k.1 _ k.4 (subst (λ t. Appends (g.W.Write.contents c.check_names.new.output) (g.W.Write.contents c.say.new.output) t) c.in_ok-said.ensures.1 c.in_ok-none.ensures.1);
-      wellness = c.both.ensures;
+      wellness = refl;
     }

@@ -37,8 +37,7 @@ loop-count-preserved g c =
     let was : IsClean new → IsClean mid = λ clean. omega (arith, c.check_next.ensures.quiet.clean) in
     let k = rw c.in-Some.is at c.in_ok-next.ensures.says in
     let m = rw c.in-Some.is at c.in_ok-next.ensures.missing in
-    let i = c.loop-count.invariant in
-    rw c.both-well.ensures (
+    let i = c.loop-count.invariant in (
       i.0 ++ c.in-Some.next.0 ∷ [],
       said_more g.S.Store IsCheckedLine c.args.store.now c.loop-count.store c.check_next.new.store _ _ _ c.loop-count.invariant.0 c.loop-count.last c.loop-count.well c.in-Some.next.1 c.in-Some.next.0 k.0 checked_stays i.1 k.1 k.2 k.3 c.in_ok-next.ensures.same c.check_next.ensures.quiet,
       λ clean. missing_more v i.0 c.in-Some.next.0 c.loop-count.missing c.check_next.new.missing (i.2 (was clean)) (adds_same v mid c.in-Some.next.0 c.loop-count.missing c.check_next.new.missing (i.1.first (was clean)).0 (m clean)),

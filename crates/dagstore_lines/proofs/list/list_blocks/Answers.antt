@@ -17,7 +17,7 @@ returns-in-None-clause-says g c =
 pub loop-count-preserved : goal.loop-count-preserved
 loop-count-preserved g c =
     let k = rw c.in-Some.is at c.in_ok-next.ensures.says in
-    (c.loop-count.invariant.0 ++ c.in-Some.next.0 ∷ [], rw c.both-well.ensures (said_more g.S.Store IsListedLine c.args.store.now c.loop-count.store c.list_next.new.store _ _ _ c.loop-count.invariant.0 c.loop-count.last c.loop-count.well c.in-Some.next.1 c.in-Some.next.0 k.0 listed_stays c.loop-count.invariant.1 k.1 k.2 k.3 c.in_ok-next.ensures.same c.list_next.ensures.quiet))
+    (c.loop-count.invariant.0 ++ c.in-Some.next.0 ∷ [], said_more g.S.Store IsListedLine c.args.store.now c.loop-count.store c.list_next.new.store _ _ _ c.loop-count.invariant.0 c.loop-count.last c.loop-count.well c.in-Some.next.1 c.in-Some.next.0 k.0 listed_stays c.loop-count.invariant.1 k.1 k.2 k.3 c.in_ok-next.ensures.same c.list_next.ensures.quiet)
 
 pub loop-count-init : goal.loop-count-init
 loop-count-init g c = ([], none_said g.S.Store IsListedLine c.args.store.now (g.W.Write.contents c.args.output.now))

@@ -16,7 +16,7 @@ returns-in-Err-clause-adds g c = inl (file_refused (Vec CidParts Global × Optio
 pub returns-in-Err-add_roots-clause-adds : goal.returns-in-Err-add_roots-clause-adds
 returns-in-Err-add_roots-clause-adds g c =
     let roots = c.in-Ok.begun.0.items in
-    inr (inl (roots, c.in-Ok.begun.1, c.in-Err-add_roots.refusal, read_to (read_begun (forms roots) _ _ _ c.in-Ok.ensures.taken), c.of_refusal.ensures, subst (λ ns. RootsRefused g.S.Store ns c.args.self.now c.add_roots.new.self c.in-Err-add_roots.refusal) c.deref.ensures.value c.in-Err-add_roots.ensures.refused))
+    inr (inl (record { roots = roots; extent = c.in-Ok.begun.1; told = c.in-Err-add_roots.refusal; taken = read_to (read_begun (forms roots) _ _ _ c.in-Ok.ensures.taken); says = c.of_refusal.ensures; why = subst (λ ns. RootsRefused g.S.Store ns c.args.self.now c.add_roots.new.self c.in-Err-add_roots.refusal) c.deref.ensures.value c.in-Err-add_roots.ensures.refused }))
 
 pub returns-in-Ok-each_section-clause-adds : goal.returns-in-Ok-each_section-clause-adds
 returns-in-Ok-each_section-clause-adds g c =
@@ -27,7 +27,7 @@ returns-in-Ok-each_section-clause-adds g c =
     let held = subst (λ ns. AddsSections g.S.Store ns [] c.args.self.now c.add_roots.new.self) c.deref.ensures.value
     (adds_none g.S.Store c.deref.result.now c.args.self.now c.add_roots.new.self c.in-Ok-add_roots.ensures.table c.in-Ok-add_roots.ensures.ok c.add_roots.ensures.quiet) in
     let at = added_all g.S.Store roots start c.args.self.now k.0 _ _ _ _ c.add_roots.new.self _ (begun, held) k.3 in
-    (k.0, k.1, c.each_section.new.left, k.2, k.4, read_to at.0, k.5, read_whole (forms roots) k.0 _ _ _ _ _ at.0 k.5, at.1)
+    record { sections = k.0; extent = k.1; more = c.each_section.new.left; mid = k.2; counts = k.4; taken = read_to at.0; ends = k.5; read = read_whole (forms roots) k.0 _ _ _ _ _ at.0 k.5; adds = at.1 }
 
 pub returns-in-Ok-each_section-clause-quiet : goal.returns-in-Ok-each_section-clause-quiet
 returns-in-Ok-each_section-clause-quiet g c =

@@ -18,14 +18,16 @@ pub returns-clause-refused : goal.returns-clause-refused
 returns-clause-refused g c =
     let e = c.in-Err-from_slice_owned.error in (
       rw c.if-not-is_dag_cbor.false at c.is_dag_cbor.ensures,
-      c.in-Err-from_slice_owned.ensures.never,
-      c.in-Err-from_slice_owned.ensures.memory,
       (
         c.in-Ok-Some.block.items,
         (
           rw c.in-Ok-Some.field-0-is at c.in-Ok-Some.ensures.verified,
           λ clean. (rw c.in-Ok-Some.field-0-is at (c.in-Ok-Some.ensures.found clean), c.in-Ok-Some.ensures.same clean),
         ),
-        subst (λ b. (e ≡ OutOfMemory) ⊎ HoldsNoValue g.T.Shown.shape default_steps b) c.deref.ensures.value c.in-Err-from_slice_owned.ensures.refused,
+        record {
+          of_whole = c.in-Err-from_slice_owned.ensures.never;
+          memory = c.in-Err-from_slice_owned.ensures.memory;
+          why = subst (λ b. (e ≡ OutOfMemory) ⊎ HoldsNoValue g.T.Shown.shape default_steps b) c.deref.ensures.value c.in-Err-from_slice_owned.ensures.refused;
+        },
       ),
     )

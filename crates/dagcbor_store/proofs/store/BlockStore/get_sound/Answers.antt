@@ -9,9 +9,9 @@ pub returns-then-not-is_block-clause-refused : goal.returns-then-not-is_block-cl
 returns-then-not-is_block-clause-refused g c = (
   refl,
   λ clean. (
-    c.in_ok-block.ensures.same clean,
     sound_none (g.S.Store.view c.args.self.now) c.args.name.now c.in-Some.block.items c.is_block.result ((rw c.in-Some.is at c.in_ok-block.ensures.found) clean) (rw c.if-is_dag_cbor.true at c.is_dag_cbor.ensures) c.if-not-is_block.true
         (subst (λ b. IsTrue c.is_block.result ↔ HasBlock b) c.deref.ensures.value c.is_block.ensures),
+    c.in_ok-block.ensures.same clean,
   ),
 )
 

@@ -2,6 +2,7 @@ use Rattle.std.proofs.Common.{rules, arith}
 use Rattle.sqlite_trees.specs.View.{IsClean}
 use Rattle.sqlite_trees.specs.declared.error.StoreError.TheVariants as stored
 use Rattle.dagcbor_store.proofs.Keeping.{ready_ended, ready_failed, keyed_ended}
+use Rattle.dagcbor_store.proofs.Calls.{fails_never}
 use Rattle.dagcbor_store.proofs.store.BlockStore.len.Goals as goal
 
 pub invariant_of-self : goal.invariant_of-self
@@ -11,11 +12,6 @@ pub invariant_of-self-in-Err : goal.invariant_of-self-in-Err
 invariant_of-self-in-Err g c = ready_failed g.S.Store c.self.inside.store c.undo-in-Err.new.store c.survey.new.store c.self.invariant c.in-Err.ensures.ends c.undo-in-Err.ensures.undone c.undo-in-Err.ensures.quiet
 
 pub returns-in-Ok-None-clause-refused : goal.returns-in-Ok-None-clause-refused
-returns-in-Ok-None-clause-refused g c = (
-  stored.Broken,
-  c.undo.ensures.told,
-  search rules,
-  λ clean.
-      let mid : IsClean (g.S.Store.view c.survey.new.store) = omega (arith, c.undo.ensures.quiet.clean) in
-      absurd ((rw c.in-Ok-None.field-0-is at (c.in-Ok-None.ensures.ok mid)) (keyed_ended g.S.Store c.self.inside.store c.survey.new.store (g.met.S.Store.broken_if_shut c.self.inside.store) c.self.invariant c.in-Ok-None.ensures.ends mid).1),
-)
+returns-in-Ok-None-clause-refused g c = fails_never g.S.Store ⊥ c.args.self.now c.undo.new.store stored.Broken c.undo.result c.undo.ensures.told (search rules) (λ clean.
+    let mid : IsClean (g.S.Store.view c.survey.new.store) = omega (arith, c.undo.ensures.quiet.clean) in
+    (rw c.in-Ok-None.field-0-is at (c.in-Ok-None.ensures.ok mid)) (keyed_ended g.S.Store c.self.inside.store c.survey.new.store (g.met.S.Store.broken_if_shut c.self.inside.store) c.self.invariant c.in-Ok-None.ensures.ends mid).1)

@@ -5,6 +5,7 @@ use Rattle.block_trees.specs.Rows.{name_tree, FindsFirst}
 use Rattle.dagcbor_store.specs.Stored.{GivesNextName, bound_behind}
 use Rattle.dagcbor_store.proofs.Behind.{next_none, next_some}
 use Rattle.dagcbor_store.proofs.Keeping.{ready_ended, ready_failed, keyed_ended}
+use Rattle.dagcbor_store.proofs.Calls.{fails_never}
 use Rattle.dagcbor_store.proofs.store.BlockStore.next_name.Goals as goal
 
 pub invariant_of-self : goal.invariant_of-self
@@ -32,11 +33,6 @@ returns-in-Ok-Some-Ok-clause-next g c clean =
     subst (λ s. GivesNextName (g.S.Store.view s) c.args.last (Some c.in-Ok-Some-Ok.name)) c.self.view_is (next_some (old.trees name_tree) c.args.last c.in-Ok-Some-Ok.name (found keyed.1.0))
 
 pub returns-in-Ok-Some-Err-clause-refused : goal.returns-in-Ok-Some-Err-clause-refused
-returns-in-Ok-Some-Err-clause-refused g c = (
-  stored.Broken,
-  c.undo.ensures.told,
-  search rules,
-  λ clean.
-      let mid : IsClean (g.S.Store.view c.first_from.new.store) = omega (arith, c.undo.ensures.quiet.clean) in
-      absurd ((rw (c.in-Ok-Some-Err.field-0-is, c.in-Ok-Some-Err.field-0-0-is) at (c.in-Ok-Some-Err.ensures.ok mid)) (keyed_ended g.S.Store c.self.inside.store c.first_from.new.store (g.met.S.Store.broken_if_shut c.self.inside.store) c.self.invariant c.in-Ok-Some-Err.ensures.ends mid).1.0),
-)
+returns-in-Ok-Some-Err-clause-refused g c = fails_never g.S.Store ⊥ c.args.self.now c.undo.new.store stored.Broken c.undo.result c.undo.ensures.told (search rules) (λ clean.
+    let mid : IsClean (g.S.Store.view c.first_from.new.store) = omega (arith, c.undo.ensures.quiet.clean) in
+    (rw (c.in-Ok-Some-Err.field-0-is, c.in-Ok-Some-Err.field-0-0-is) at (c.in-Ok-Some-Err.ensures.ok mid)) (keyed_ended g.S.Store c.self.inside.store c.first_from.new.store (g.met.S.Store.broken_if_shut c.self.inside.store) c.self.invariant c.in-Ok-Some-Err.ensures.ends mid).1.0)

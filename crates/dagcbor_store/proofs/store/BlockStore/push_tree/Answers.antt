@@ -22,9 +22,9 @@ pub loop-name-preserved : goal.loop-name-preserved
 loop-name-preserved g c =
     let i = c.loop-name.invariant in
     let n = c.in_ok-push_named.ensures.named in (
-      i.0 ++ (c.name-item.result, n.0) ∷ [],
+      i.0 ++ (c.name-item.result, n.bytes) ∷ [],
       tree_more g.S.Store c.args.root.now c.args.names.now c.args.self.now (g.W.Write.written c.args.writer.now) c.loop-name.self c.push_named.new.self (g.W.Write.written c.loop-name.writer) (g.W.Write.written c.push_named.new.writer)
-          c.loop-name.name-index i.0 i.1 c.push_named.ensures.quiet c.name-item.result n.0 c.loop-name-test.true c.name-item.is n.1 n.2 n.3 n.4,
+          c.loop-name.name-index i.0 i.1 c.push_named.ensures.quiet c.name-item.result n.bytes c.loop-name-test.true c.name-item.is n.named n.is_section n.wrote n.is_so,
     )
 
 pub returns-clause-ok : goal.returns-clause-ok

@@ -6,8 +6,8 @@ use Rattle.dagcbor_store.proofs.store.BlockStore.read_car.Goals as goal
 pub returns-in-Err-commit-clause-refused : goal.returns-in-Err-commit-clause-refused
 returns-in-Err-commit-clause-refused g c =
     let a = c.in-Ok.ensures.adds in
-    rw c.of_refusal.ensures (commit_refused g.S.Store c.in-Ok.read.0.items a.0 a.1 a.2 (input_reading g.R.Read.reading c.args.input.now) a.3 (input_reading g.R.Read.reading c.add_car.new.input)
-    c.args.self.now c.add_car.new.self c.commit.new.self c.in-Err-commit.refusal a.5 a.6 a.8 (λ clean. omega (arith, c.commit.ensures.kept.clean)) c.in-Err-commit.ensures.refused)
+    rw c.of_refusal.ensures (commit_refused g.S.Store c.in-Ok.read.0.items a.sections a.extent a.more (input_reading g.R.Read.reading c.args.input.now) a.mid (input_reading g.R.Read.reading c.add_car.new.input)
+    c.args.self.now c.add_car.new.self c.commit.new.self c.in-Err-commit.refusal a.taken a.ends a.adds (λ clean. omega (arith, c.commit.ensures.kept.clean)) c.in-Err-commit.ensures.refused)
 
 pub returns-in-Err-clause-refused : goal.returns-in-Err-clause-refused
 returns-in-Err-clause-refused g c =
@@ -17,11 +17,11 @@ returns-in-Err-clause-refused g c =
 pub returns-in-Ok-commit-clause-crash : goal.returns-in-Ok-commit-clause-crash
 returns-in-Ok-commit-clause-crash g c =
     let a = c.in-Ok.ensures.adds in
-    may_leave g.S.Store c.in-Ok.read.0.items a.0 (input_reading g.R.Read.reading c.args.input.now) (input_reading g.R.Read.reading c.add_car.new.input) c.args.self.now c.add_car.new.self c.commit.new.self a.7 a.8
+    may_leave g.S.Store c.in-Ok.read.0.items a.sections (input_reading g.R.Read.reading c.args.input.now) (input_reading g.R.Read.reading c.add_car.new.input) c.args.self.now c.add_car.new.self c.commit.new.self a.read a.adds
     (λ clean. omega (arith, c.commit.ensures.kept.clean)) c.commit.ensures.crash
 
 pub returns-in-Err-commit-clause-crash : goal.returns-in-Err-commit-clause-crash
 returns-in-Err-commit-clause-crash g c =
     let a = c.in-Ok.ensures.adds in
-    may_leave g.S.Store c.in-Ok.read.0.items a.0 (input_reading g.R.Read.reading c.args.input.now) (input_reading g.R.Read.reading c.add_car.new.input) c.args.self.now c.add_car.new.self c.commit.new.self a.7 a.8
+    may_leave g.S.Store c.in-Ok.read.0.items a.sections (input_reading g.R.Read.reading c.args.input.now) (input_reading g.R.Read.reading c.add_car.new.input) c.args.self.now c.add_car.new.self c.commit.new.self a.read a.adds
     (λ clean. omega (arith, c.commit.ensures.kept.clean)) c.commit.ensures.crash

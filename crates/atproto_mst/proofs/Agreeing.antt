@@ -3,7 +3,7 @@ use Rattle.std.proofs.Common.{◌≡◌, ◌⊎◌, inl, inr, ℕ, zero, suc, Li
 use Rattle.ipld_tree.specs.Cid.{CidParts}
 use Rattle.ipld_links.specs.Reaching.{Stored}
 use Rattle.atproto_mst.specs.Keys.{Entry}
-use Rattle.atproto_mst.specs.Nodes.{NodeRow, NodeParts, IsNodeAt, key_of}
+use Rattle.atproto_mst.specs.Nodes.{NodeRow, NodeParts, IsNodeAt, key_of_row}
 use Rattle.atproto_mst.specs.Walks.{WalksLink, WalksRows, WalksNode, WalksTree}
 use Rattle.atproto_mst.proofs.Nodes.{same_node_at}
 
@@ -24,8 +24,8 @@ rows_agree : (C : Type 0) (V W : CidParts → List Entry → Type 0) → Agree C
     → WalksRows V previous rows es → WalksRows W previous rows fs → (es ≡ fs) ⊎ C
 rows_agree C V W same [] previous es fs v w = inl (v ∙ sym w)
 rows_agree C V W same (r ∷ rs) previous es fs (vs, (vb, vm, vl, vr, ve)) (ws, (wb, wm, wl, wr, we)) =
-    both (links_agree C V W same r.after vb wb vl wl) (λ first. both (rows_agree C V W same rs (key_of previous r) vm wm vr wr) (λ more.
-    inl (ve ∙ ap₂ (λ below behind. (key_of previous r, r.value) ∷ (below ++ behind)) first more ∙ sym we)))
+    both (links_agree C V W same r.after vb wb vl wl) (λ first. both (rows_agree C V W same rs (key_of_row previous r) vm wm vr wr) (λ more.
+    inl (ve ∙ ap₂ (λ below behind. (key_of_row previous r, r.value) ∷ (below ++ behind)) first more ∙ sym we)))
 
 node_agrees : (C : Type 0) (V W : CidParts → List Entry → Type 0) → Agree C V W → (p : NodeParts) (es fs : List Entry)
     → WalksNode V p es → WalksNode W p fs → (es ≡ fs) ⊎ C

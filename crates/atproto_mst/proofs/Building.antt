@@ -10,7 +10,7 @@ use Rattle.ipld_tree.specs.Tree.{Tree}
 use Rattle.ipld_tree.specs.Spelling.{spelling}
 use Rattle.ipld_links.specs.Names.{block_name}
 use Rattle.dagcbor_car.specs.Car.{Section}
-use Rattle.atproto_mst.specs.Trees.{Leaf, lower_run, row_tree, entry_tree, entry_trees, map_of, node_section, subtree, node, subtree_nodes, nodes, nodes_between}
+use Rattle.atproto_mst.specs.Trees.{Leaf, lower_run, row_tree, entry_tree, entry_trees, node_map, node_section, subtree, node, subtree_nodes, nodes, nodes_between}
 use Rattle.atproto_mst.specs.Nodes.{tree_of_row, row_told}
 use Rattle.atproto_mst.specs.Placed.{told, all_told, upper_rest}
 use Rattle.atproto_mst.specs.Sinks.{HandsOver, HandsOverFirst, RefusesOne}
@@ -82,11 +82,11 @@ nodes_subtree n ps b h f e = nodes_below (n - 1) ps b f e ∙ ap (λ k. subtree_
 -- ---- a node
 
 pub node_made : (n : ℕ) (es lower rest : List Leaf) (left : Option CidParts) (rows : List Row) → lower ≡ lower_run n es → rest ≡ upper_rest n es
-    → left ≡ subtree n lower → map tree_of_row (map row_told rows) ≡ entry_trees (subtree n) n [] rest → map_of (map tree_of_row (map row_told rows)) left ≡ node n es
+    → left ≡ subtree n lower → map tree_of_row (map row_told rows) ≡ entry_trees (subtree n) n [] rest → node_map (map tree_of_row (map row_told rows)) left ≡ node n es
 unfolding node
 node_made n es lower rest left rows l r e k =
-    ap (λ ts. map_of ts left) (k ∙ ap (entry_trees (subtree n) n []) r ∙ entries_skip (subtree n) n [] es)
-    ∙ ap (λ x. map_of (entry_trees (subtree n) n [] es) x) (e ∙ ap (subtree n) l)
+    ap (λ ts. node_map ts left) (k ∙ ap (entry_trees (subtree n) n []) r ∙ entries_skip (subtree n) n [] es)
+    ∙ ap (λ x. node_map (entry_trees (subtree n) n [] es) x) (e ∙ ap (subtree n) l)
 
 nodes_are : (n : ℕ) (es lower rest : List Leaf) (t : Tree) → lower ≡ lower_run n es → rest ≡ upper_rest n es → t ≡ node n es
     → subtree_nodes n lower ++ (nodes_between (subtree_nodes n) n rest ++ (node_section t ∷ [])) ≡ nodes n es

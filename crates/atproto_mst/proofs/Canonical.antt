@@ -11,7 +11,7 @@ use Rattle.atproto_mst.specs.Keys.{Entry, HaveKeys, HaveCids}
 use Rattle.atproto_mst.specs.Trees.{Leaf, leaves, lower_run, node_section, nodes_between, subtree, node, subtree_nodes, nodes, top_layer, mst, nodes_of, root_of}
 use Rattle.atproto_mst.specs.Placed.{upper_rest}
 use Rattle.atproto_mst.specs.Entries.{AreStored, IsMst}
-use Rattle.atproto_mst.specs.Nodes.{NodeRow, key_of}
+use Rattle.atproto_mst.specs.Nodes.{NodeRow, key_of_row}
 use Rattle.atproto_mst.specs.Walks.{WalksLink, WalksRows, WalksTree, most_layers}
 use Rattle.atproto_mst.proofs.Parts.{row_at, rows_over, parts_over, shared_within_first, key_again, IsLeaf, node_is_node}
 use Rattle.atproto_mst.proofs.Layers.{top_within}
@@ -143,7 +143,7 @@ rows_more : (V W : CidParts → List Entry → Type 0) → ((name : CidParts) (e
     → WalksRows V previous rs es → WalksRows W previous rs es
 rows_more V W f previous [] es h = h
 rows_more V W f previous (r ∷ rs) es h =
-    (h.0, (h.1.0, h.1.1, link_more V W f r.after h.1.0 h.1.2, rows_more V W f (key_of previous r) rs h.1.1 h.1.3, h.1.4))
+    (h.0, (h.1.0, h.1.1, link_more V W f r.after h.1.0 h.1.2, rows_more V W f (key_of_row previous r) rs h.1.1 h.1.3, h.1.4))
 
 walks_more : (m : ℕ) (stored : Stored) (name : CidParts) (es : List Entry) → WalksTree m stored name es → WalksTree (suc m) stored name es
 walks_more zero stored name es h = absurd h

@@ -7,11 +7,11 @@ use Rattle.ipld_tree.specs.Cid.{CidParts}
 use Rattle.ipld_links.specs.Sets.{Among}
 use Rattle.ipld_links.specs.Reaching.{Stored}
 use Rattle.atproto_mst.specs.Keys.{Entry, ComesBefore, Rise}
-use Rattle.atproto_mst.specs.Nodes.{NodeRow, NodeParts, IsNodeAt, key_of}
+use Rattle.atproto_mst.specs.Nodes.{NodeRow, NodeParts, IsNodeAt, key_of_row}
 use Rattle.atproto_mst.specs.Walks.{WalksLink, WalksRows, WalksNode, WalksTree}
 use Rattle.atproto_mst.specs.Finding.{lookup}
 use Rattle.atproto_mst.specs.Changes.{Changed, IsChange, AreChanges}
-use Rattle.atproto_mst.specs.Levels.{LevelItem, an_entry, a_link, link_items, row_items, node_items, links_of, OpensItems, OpensIf, DropsShared, StepsDown}
+use Rattle.atproto_mst.specs.Levels.{LevelItem, an_entry, a_link, link_items, row_items, node_items, link_names, OpensItems, OpensIf, DropsShared, StepsDown}
 use Rattle.atproto_mst.proofs.Agreeing.{one_walk}
 use Rattle.atproto_mst.proofs.Changing.{before_trans}
 use Rattle.atproto_mst.proofs.Seeking.{Below, not_same, other_first}
@@ -43,10 +43,10 @@ module _ (V W : CidParts → List Entry → Type 0) (f : (name : CidParts) (es :
   rows_list : (rows : List NodeRow) (previous : List ℕ) (es : List Entry) → WalksRows V previous rows es → Lists W (row_items previous rows) es
   rows_list [] previous es h = h
   rows_list (r ∷ rs) previous es (shares, (below, more, link, rest, is)) = (
-    (key_of previous r, r.value) ∷ [],
+    (key_of_row previous r, r.value) ∷ [],
     below ++ more,
     refl,
-    lists_joined W (link_items r.after) (row_items (key_of previous r) rs) below more (link_lists r.after below link) (rows_list rs (key_of previous r) more rest),
+    lists_joined W (link_items r.after) (row_items (key_of_row previous r) rs) below more (link_lists r.after below link) (rows_list rs (key_of_row previous r) more rest),
     is,
   )
 
@@ -228,7 +228,7 @@ module _ (stored held : Stored) (agree : (name : CidParts) (p q : NodeParts) →
       node_lists (WalksTree m held) (Holds held) (λ n fs h. (m, h)) p es (subst (λ x. WalksNode (WalksTree m held) x es) (sym (agree name p q at there)) walk)
 
   abbrev Left : List CidParts → List LevelItem → List LevelItem → List Entry → Type 0
-  Left dropped xs ys es = (less : List Entry) × Lists (Holds held) ys less × Leaves (Holds held) dropped (links_of xs) es less
+  Left dropped xs ys es = (less : List Entry) × Lists (Holds held) ys less × Leaves (Holds held) dropped (link_names xs) es less
 
   opened : (dropped : List CidParts) (xs ys : List LevelItem) (es : List Entry) → Lists (Holds held) xs es → RiseAll es → OpensItems stored dropped xs ys → Left dropped xs ys es
   opened dropped [] ys es is r none =
@@ -239,16 +239,16 @@ module _ (stored held : Stored) (agree : (name : CidParts) (p q : NodeParts) →
         now ++ less,
         subst (λ l. Lists (Holds held) l (now ++ less)) (sym all)
             (lists_joined (Holds held) first others now less (subst (λ l. Lists (Holds held) l now) (sym this) (lists_one (Holds held) (an_entry e) now one)) lists),
-        subst (λ l. Leaves (Holds held) dropped (links_of xs) l (now ++ less)) (sym is)
-            (leaves_first (Holds held) dropped now more less r (links_of xs) (links_of xs) leaves (λ q m. m) (λ q d m. m)),
+        subst (λ l. Leaves (Holds held) dropped (link_names xs) l (now ++ less)) (sym is)
+            (leaves_first (Holds held) dropped now more less r (link_names xs) (link_names xs) leaves (λ q m. m) (λ q d m. m)),
       )
   opened dropped (a_link name ∷ xs) ys es (now, more, one, rest, is) r (first, others, inl (d, this), opens, all) =
       let r = subst RiseAll is r in
       let (less, lists, leaves) = opened dropped xs others more rest (rise_right now more r) opens in (
         less,
         subst (λ l. Lists (Holds held) l less) (sym (all ∙ ap (λ l. l ++ others) this)) lists,
-        subst (λ l. Leaves (Holds held) dropped (name ∷ links_of xs) l less) (sym is)
-            (leaves_rest (Holds held) dropped now more less r (links_of xs) [] leaves name d one (λ l h. one_holding held name l now h one)),
+        subst (λ l. Leaves (Holds held) dropped (name ∷ link_names xs) l less) (sym is)
+            (leaves_rest (Holds held) dropped now more less r (link_names xs) [] leaves name d one (λ l h. one_holding held name l now h one)),
       )
   opened dropped (a_link name ∷ xs) ys es (now, more, one, rest, is) r (first, others, inr (not, (p, at, this)), opens, all) =
       let r = subst RiseAll is r in
@@ -256,8 +256,8 @@ module _ (stored held : Stored) (agree : (name : CidParts) (p q : NodeParts) →
         now ++ less,
         subst (λ l. Lists (Holds held) l (now ++ less)) (sym all)
             (lists_joined (Holds held) first others now less (subst (λ l. Lists (Holds held) l now) (sym this) (link_opened name p now at one)) lists),
-        subst (λ l. Leaves (Holds held) dropped (name ∷ links_of xs) l (now ++ less)) (sym is)
-            (leaves_first (Holds held) dropped now more less r (links_of xs) (name ∷ links_of xs) leaves (λ q m. inr m) (λ q d m. elim m [
+        subst (λ l. Leaves (Holds held) dropped (name ∷ link_names xs) l (now ++ less)) (sym is)
+            (leaves_first (Holds held) dropped now more less r (link_names xs) (name ∷ link_names xs) leaves (λ q m. inr m) (λ q d m. elim m [
               | inl e ↦ absurd (not (subst (λ x. Among x dropped) e d))
               | inr m ↦ m
             ])),
@@ -329,10 +329,10 @@ pub record Tells (held : Stored) (es fs : List Entry) (xs ys : List LevelItem) :
 -- a step as each level takes it
 abbrev pub Steps : Stored → List LevelItem → List LevelItem → List LevelItem → List LevelItem → Type 0
 Steps stored xs ys below beside = (dropped : List CidParts)
-    × ((q : CidParts) → Among q dropped → Among q (links_of xs) × Among q (links_of ys))
+    × ((q : CidParts) → Among q dropped → Among q (link_names xs) × Among q (link_names ys))
     × (OpensItems stored dropped xs below ⊎ ((dropped ≡ []) × (below ≡ xs))) × (OpensItems stored dropped ys beside ⊎ ((dropped ≡ []) × (beside ≡ ys)))
 
-steps_by : (stored : Stored) (a b : Bool) (xs ys below beside : List LevelItem) (dropped : List CidParts) → DropsShared (a && b) (links_of xs) (links_of ys) dropped
+steps_by : (stored : Stored) (a b : Bool) (xs ys below beside : List LevelItem) (dropped : List CidParts) → DropsShared (a && b) (link_names xs) (link_names ys) dropped
     → OpensIf stored dropped a xs below → OpensIf stored dropped b ys beside → Steps stored xs ys below beside
 steps_by stored true true xs ys below beside dropped common one two = (dropped, λ q m. (common q).0 m, inl one, inl two)
 steps_by stored true false xs ys below beside dropped none one two = (dropped, λ q m. absurd (subst (Among q) none m), inl one, inr (none, two))
@@ -355,7 +355,7 @@ tells_below stored held agree es fs xs ys below beside (dropped, common, one, tw
       old_rise = leaves.rise;
       new_rise = leave.rise;
       all = λ cs h. t.all cs (changes_of_all t.less t.others less others
-          (same_changes (Holds held) dropped (links_of xs) (links_of ys) common t.less t.others less others leaves leave) cs h);
+          (same_changes (Holds held) dropped (link_names xs) (link_names ys) common t.less t.others less others leaves leave) cs h);
     }
 
 only_entries : (W : CidParts → List Entry → Type 0) (es fs : List Entry) → Lists W (map an_entry es) fs → fs ≡ es

@@ -7,9 +7,9 @@ use Rattle.ipld_tree.specs.Cid.{CidParts}
 use Rattle.ipld_links.specs.Reaching.{Stored}
 use Rattle.atproto_mst.specs.Keys.{Entry}
 use Rattle.atproto_mst.specs.Entries.{entry_of, entries}
-use Rattle.atproto_mst.specs.Nodes.{NodeRow, NodeParts, IsNodeAt, key_of, row_told}
+use Rattle.atproto_mst.specs.Nodes.{NodeRow, NodeParts, IsNodeAt, key_of_row, row_told}
 use Rattle.atproto_mst.specs.Walks.{WalksLink, WalksRows, WalksNode, WalksTree}
-use Rattle.atproto_mst.specs.Stops.{IsStoredNamed, NodeFault, RowFault, ComeBehind, last_key, StopsBehind, StopsInRows, StopsInNode, StopsWalk}
+use Rattle.atproto_mst.specs.Stops.{IsStoredNamed, NodeFault, RowFault, ComeBehind, last_entry_key, StopsBehind, StopsInRows, StopsInNode, StopsWalk}
 use Rattle.atproto_mst.specs.Gathering.{GathersEntries, AddsRow, key_behind}
 use Rattle.atproto_mst.specs.InLayers.{IsLayerRow, IfLinked, AreRowsOf, IsOfLayer, IsEmpty, IsRightBelow}
 use Rattle.atproto_mst.specs.declared.entries.MstEntry.{MstEntry}
@@ -28,11 +28,11 @@ or_more f (inr b) = inr (f b)
 
 -- ---- a row
 
-last_of_row : (r : NodeRow) (previous : List ℕ) (old new : Found) → AddsRow r previous old new → last_key [] (entries new.items) ≡ key_of previous r
-last_of_row r previous old new a = ap (last_key []) a.all ∙ last_joined [] (entries old.items) ((key_of previous r, r.value) ∷ [])
+last_of_row : (r : NodeRow) (previous : List ℕ) (old new : Found) → AddsRow r previous old new → last_entry_key [] (entries new.items) ≡ key_of_row previous r
+last_of_row r previous old new a = ap (last_entry_key []) a.all ∙ last_joined [] (entries old.items) ((key_of_row previous r, r.value) ∷ [])
 
-last_of_gathered : (W : List Entry → Type 0) (old new : Found) (g : GathersEntries W old new) → last_key [] (entries new.items) ≡ last_key (last_key [] (entries old.items)) g.found
-last_of_gathered W old new g = ap (last_key []) g.all ∙ last_joined [] (entries old.items) g.found
+last_of_gathered : (W : List Entry → Type 0) (old new : Found) (g : GathersEntries W old new) → last_entry_key [] (entries new.items) ≡ last_entry_key (last_entry_key [] (entries old.items)) g.found
+last_of_gathered W old new g = ap (last_entry_key []) g.all ∙ last_joined [] (entries old.items) g.found
 
 -- ---- rows
 
@@ -46,16 +46,16 @@ in_row : (a : List Entry) (e : Entry) (b c : List Entry) → ((a ++ (e ∷ [])) 
 in_row a e b c = simp append_assoc
 
 gathers_row : (W : CidParts → List Entry → Type 0) (r : NodeRow) (rs : List NodeRow) (previous : List ℕ) (old mid late new : Found)
-    → AddsRow r previous old mid → GathersEntries (WalksLink W r.after) mid late → GathersEntries (WalksRows W (key_of previous r) rs) late new → GathersEntries (WalksRows W previous (r ∷ rs)) old new
+    → AddsRow r previous old mid → GathersEntries (WalksLink W r.after) mid late → GathersEntries (WalksRows W (key_of_row previous r) rs) late new → GathersEntries (WalksRows W previous (r ∷ rs)) old new
 gathers_row W r rs previous old mid late new a g h = record {
-  found = (key_of previous r, r.value) ∷ (g.found ++ h.found);
+  found = (key_of_row previous r, r.value) ∷ (g.found ++ h.found);
   walked = (a.row.shares, (g.found, h.found, g.walked, h.walked, refl));
   behind =
       let row = last_of_row r previous old mid a in
-      let below = last_of_gathered (WalksLink W r.after) mid late g ∙ ap (λ k. last_key k g.found) row in
-      first_behind (last_key [] (entries old.items)) (key_of previous r, r.value) (g.found ++ h.found) a.row.is_key a.row.behind
-      (joined_behind (key_of previous r) g.found h.found (subst (λ k. ComeBehind k g.found) row g.behind) (subst (λ k. ComeBehind k h.found) below h.behind));
-  all = h.all ∙ ap (λ x. x ++ h.found) (g.all ∙ ap (λ x. x ++ g.found) a.all) ∙ in_row (entries old.items) (key_of previous r, r.value) g.found h.found;
+      let below = last_of_gathered (WalksLink W r.after) mid late g ∙ ap (λ k. last_entry_key k g.found) row in
+      first_behind (last_entry_key [] (entries old.items)) (key_of_row previous r, r.value) (g.found ++ h.found) a.row.is_key a.row.behind
+      (joined_behind (key_of_row previous r) g.found h.found (subst (λ k. ComeBehind k g.found) row g.behind) (subst (λ k. ComeBehind k h.found) below h.behind));
+  all = h.all ∙ ap (λ x. x ++ h.found) (g.all ∙ ap (λ x. x ++ g.found) a.all) ∙ in_row (entries old.items) (key_of_row previous r, r.value) g.found h.found;
 }
 
 entries_taken : (n : ℕ) (es : List MstEntry) → entries (take n es) ≡ take n (entries es)
@@ -64,10 +64,10 @@ entries_taken (suc n) [] = refl
 entries_taken (suc n) (e ∷ es) = ap (λ xs. entry_of e ∷ xs) (entries_taken n es)
 
 -- a row's key stays where it stands
-pub key_kept : (W : List Entry → Type 0) (r : NodeRow) (previous : List ℕ) (old mid late : Found) → AddsRow r previous old mid → GathersEntries W mid late → key_behind (length mid.items) late.items ≡ key_of previous r
+pub key_kept : (W : List Entry → Type 0) (r : NodeRow) (previous : List ℕ) (old mid late : Found) → AddsRow r previous old mid → GathersEntries W mid late → key_behind (length mid.items) late.items ≡ key_of_row previous r
 key_kept W r previous old mid late a g =
     let here : length (entries mid.items) ≡ length mid.items = length-map mid.items entry_of in
-    ap (last_key []) (entries_taken (length mid.items) late.items
+    ap (last_entry_key []) (entries_taken (length mid.items) late.items
     ∙ ap (take (length mid.items)) g.all
     ∙ take-append-le (length mid.items) (entries mid.items) g.found (omega (arith, here))
     ∙ take_all (length mid.items) (entries mid.items) (omega (arith, here)))
@@ -80,26 +80,26 @@ still_there W mid late g = omega (arith, length-map mid.items entry_of, length-m
 pub record GoesOn (W : CidParts → List Entry → Type 0) (S : List ℕ → CidParts → MstError → Type 0) (first : Found) (all : List NodeRow)
     (found : Found) (key : List ℕ) (rest : List NodeRow) : Type 0 where
   pub walks : (new : Found) → GathersEntries (WalksRows W key rest) found new → GathersEntries (WalksRows W [] all) first new
-  pub stops : (e : MstError) → StopsInRows W S (last_key [] (entries found.items)) key rest e → StopsInRows W S (last_key [] (entries first.items)) [] all e
+  pub stops : (e : MstError) → StopsInRows W S (last_entry_key [] (entries found.items)) key rest e → StopsInRows W S (last_entry_key [] (entries first.items)) [] all e
 
 module _ (W : CidParts → List Entry → Type 0) (S : List ℕ → CidParts → MstError → Type 0) (first : Found) (all : List NodeRow) where
   pub goes_from_start : GoesOn W S first all first [] all
   goes_from_start = record { walks = λ new h. h; stops = λ e h. h }
 
   module _ (old : Found) (previous : List ℕ) (r : NodeRow) (rs : List NodeRow) (go : GoesOn W S first all old previous (r ∷ rs)) where
-    pub stops_at_row : (e : MstError) → RowFault previous (last_key [] (entries old.items)) r e → StopsInRows W S (last_key [] (entries first.items)) [] all e
+    pub stops_at_row : (e : MstError) → RowFault previous (last_entry_key [] (entries old.items)) r e → StopsInRows W S (last_entry_key [] (entries first.items)) [] all e
     stops_at_row e h = go.stops e (inl h)
 
     module _ (mid : Found) (a : AddsRow r previous old mid) where
-      pub stops_behind_row : (e : MstError) → StopsBehind S (last_key [] (entries mid.items)) r.after e → StopsInRows W S (last_key [] (entries first.items)) [] all e
+      pub stops_behind_row : (e : MstError) → StopsBehind S (last_entry_key [] (entries mid.items)) r.after e → StopsInRows W S (last_entry_key [] (entries first.items)) [] all e
       stops_behind_row e h = go.stops e (inr (a.row, inl (subst (λ k. StopsBehind S k r.after e) (last_of_row r previous old mid a) h)))
 
-      stops_later : (late : Found) → GathersEntries (WalksLink W r.after) mid late → (e : MstError) → StopsInRows W S (last_key [] (entries late.items)) (key_of previous r) rs e
-          → StopsInRows W S (last_key [] (entries old.items)) previous (r ∷ rs) e
+      stops_later : (late : Found) → GathersEntries (WalksLink W r.after) mid late → (e : MstError) → StopsInRows W S (last_entry_key [] (entries late.items)) (key_of_row previous r) rs e
+          → StopsInRows W S (last_entry_key [] (entries old.items)) previous (r ∷ rs) e
       stops_later late g e h =
           let row = last_of_row r previous old mid a in
-          let behind = last_of_gathered (WalksLink W r.after) mid late g ∙ ap (λ k. last_key k g.found) row in
-          inr (a.row, inr (g.found, g.walked, subst (λ k. ComeBehind k g.found) row g.behind, subst (λ k. StopsInRows W S k (key_of previous r) rs e) behind h))
+          let behind = last_of_gathered (WalksLink W r.after) mid late g ∙ ap (λ k. last_entry_key k g.found) row in
+          inr (a.row, inr (g.found, g.walked, subst (λ k. ComeBehind k g.found) row g.behind, subst (λ k. StopsInRows W S k (key_of_row previous r) rs e) behind h))
 
       pub goes_behind_row : (late : Found) → GathersEntries (WalksLink W r.after) mid late → GoesOn W S first all late (key_behind (length mid.items) late.items) rs
       goes_behind_row late g = subst (λ k. GoesOn W S first all late k rs) (sym (key_kept (WalksLink W r.after) r previous old mid late a g)) (record {
@@ -135,7 +135,7 @@ pub settled_at_start : (F : CidParts → Type 0) (n : ℕ) (all : List NodeRow) 
 settled_at_start F n all = record { on = λ h. (refl, h); back = λ e h. h }
 
 pub settled_behind_row : (F : CidParts → Type 0) (n : ℕ) (all : List NodeRow) (fits row below next : Bool) (key : List ℕ) (r : NodeRow) (rs : List NodeRow) → SettledBy F n all fits key (r ∷ rs)
-    → Decides row (IsLayerRow n key r) → Decides below (IfLinked F r.after) → Decides next ((fits ≡ true) × (row ≡ true) × (below ≡ true)) → SettledBy F n all next (key_of key r) rs
+    → Decides row (IsLayerRow n key r) → Decides below (IfLinked F r.after) → Decides next ((fits ≡ true) × (row ≡ true) × (below ≡ true)) → SettledBy F n all next (key_of_row key r) rs
 settled_behind_row F n all fits row below next key r rs s is link step = record {
   on = λ h. (let k = s.on h in (step.1 (k.0, is.1 k.1.0, link.1 k.1.1), k.1.2));
   back = λ e h. (let k = step.0 e in s.back k.0 (is.0 k.1, link.0 k.2, h));
@@ -151,13 +151,13 @@ module _ (stored : Stored) (m : ℕ) (p : NodeParts) (old mid : Found) (g : Gath
   gathers_node new h = record {
     found = g.found ++ h.found;
     walked = (g.found, h.found, g.walked, h.walked, refl);
-    behind = joined_behind (last_key [] (entries old.items)) g.found h.found g.behind
+    behind = joined_behind (last_entry_key [] (entries old.items)) g.found h.found g.behind
         (subst (λ k. ComeBehind k h.found) (last_of_gathered (WalksLink (WalksTree m stored) p.left) old mid g) h.behind);
     all = h.all ∙ ap (λ x. x ++ h.found) g.all ∙ append_assoc (entries old.items) g.found h.found;
   }
 
-  pub stops_in_node : (e : MstError) → StopsInRows (WalksTree m stored) (StopsWalk m stored) (last_key [] (entries mid.items)) [] p.rows e
-      → StopsInNode (WalksTree m stored) (StopsWalk m stored) (last_key [] (entries old.items)) p e
+  pub stops_in_node : (e : MstError) → StopsInRows (WalksTree m stored) (StopsWalk m stored) (last_entry_key [] (entries mid.items)) [] p.rows e
+      → StopsInNode (WalksTree m stored) (StopsWalk m stored) (last_entry_key [] (entries old.items)) p e
   stops_in_node e h = inr (g.found, g.walked, g.behind, subst (λ k. StopsInRows (WalksTree m stored) (StopsWalk m stored) k [] p.rows e) (last_of_gathered (WalksLink (WalksTree m stored) p.left) old mid g) h)
 
 -- ---- a node under its name

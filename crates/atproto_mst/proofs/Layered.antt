@@ -8,11 +8,11 @@ use Rattle.dagcbor_car.specs.Car.{Section}
 use Rattle.ipld_links.specs.Names.{block_name}
 use Rattle.ipld_links.specs.Reaching.{Stored}
 use Rattle.atproto_mst.specs.Keys.{Entry, key_layer}
-use Rattle.atproto_mst.specs.Trees.{Leaf, leaf_of, leaves, lower_run, shared, row_tree, entry_tree, entry_trees, map_of, node_section, nodes_between, subtree, node, subtree_nodes, nodes, top_layer, nodes_of, root_of}
+use Rattle.atproto_mst.specs.Trees.{Leaf, leaf_of, leaves, lower_run, shared, row_tree, entry_tree, entry_trees, node_map, node_section, nodes_between, subtree, node, subtree_nodes, nodes, top_layer, nodes_of, root_of}
 use Rattle.atproto_mst.specs.Entries.{AreStored}
-use Rattle.atproto_mst.specs.Nodes.{NodeRow, NodeParts, tree_of_row, tree_of_node, IsNodeAt, key_of}
+use Rattle.atproto_mst.specs.Nodes.{NodeRow, NodeParts, tree_of_row, tree_of_node, IsNodeAt, key_of_row}
 use Rattle.atproto_mst.specs.Walks.{WalksLink, WalksRows, WalksNode, WalksTree}
-use Rattle.atproto_mst.specs.InLayers.{IsLayerRow, IfLinked, AreRowsOf, IsOfLayer, IsEmpty, IsRightBelow, first_layer, IsRoot}
+use Rattle.atproto_mst.specs.InLayers.{IsLayerRow, IfLinked, AreRowsOf, IsOfLayer, IsEmpty, IsRightBelow, first_layer}
 use Rattle.atproto_mst.proofs.Nodes.{same_node_at}
 use Rattle.atproto_mst.proofs.Runs.{lower_first, top_first}
 use Rattle.atproto_mst.proofs.Canonical.{AreBelow}
@@ -54,11 +54,11 @@ rest_again zero previous rest h = refl
 rest_again (suc s) [] rest h = absurd (omega (arith, h))
 rest_again (suc s) (b ∷ bs) rest h = rest_again s bs rest (omega (arith, h))
 
-tree_again : (previous : List ℕ) (r : NodeRow) → r.shared ≤ length previous → r.shared ≡ shared previous (key_of previous r)
-    → tree_of_row r ≡ entry_tree previous (leaf_of (key_of previous r, r.value)) r.after
+tree_again : (previous : List ℕ) (r : NodeRow) → r.shared ≤ length previous → r.shared ≡ shared previous (key_of_row previous r)
+    → tree_of_row r ≡ entry_tree previous (leaf_of (key_of_row previous r, r.value)) r.after
 tree_again previous r within e =
     ap (λ k. row_tree r.shared k r.value r.after) (sym (rest_again r.shared previous r.rest within))
-    ∙ ap (λ s. row_tree s (drop s (key_of previous r)) r.value r.after) e
+    ∙ ap (λ s. row_tree s (drop s (key_of_row previous r)) r.value r.after) e
 
 -- ---- what stands in layers, over the entries that are walked
 
@@ -92,10 +92,10 @@ module _ (stored : Stored) (n : ℕ) (F : CidParts → Type 0) (W : CidParts →
   link_over (Some name) es f w = over name es f w
 
   row_over : (previous : List ℕ) (r : NodeRow) (rs : List NodeRow) (below more : List Entry) → IsLayerRow n previous r → r.shared ≤ length previous → IsOver stored n r.after below
-      → AreOver stored n (key_of previous r) rs more → AreOver stored n previous (r ∷ rs) ((key_of previous r, r.value) ∷ (below ++ more))
+      → AreOver stored n (key_of_row previous r) rs more → AreOver stored n previous (r ∷ rs) ((key_of_row previous r, r.value) ∷ (below ++ more))
   row_over previous r rs below more is shares b m =
-      let top : n ≤ key_layer (key_of previous r) = omega (arith, is.0) in
-      let e = leaf_of (key_of previous r, r.value) in
+      let top : n ≤ key_layer (key_of_row previous r) = omega (arith, is.0) in
+      let e = leaf_of (key_of_row previous r, r.value) in
       let ls = leaves (below ++ more) in
       let parts : ls ≡ leaves below ++ leaves more = map-append leaf_of below more in
       let run : lower_run n ls ≡ leaves below = ap (lower_run n) parts ∙ lower_joined n (leaves below) (leaves more) b.below m.tops in
@@ -103,7 +103,7 @@ module _ (stored : Stored) (n : ℕ) (F : CidParts → Type 0) (W : CidParts →
         tops = top_first n e ls top;
         trees =
             ap₂ (λ t ts. t ∷ ts) (tree_again previous r shares is.1 ∙ ap (entry_tree previous e) (b.link ∙ ap (subtree n) (sym run)))
-            (m.trees ∙ sym (ap (entry_trees (subtree n) n (key_of previous r)) parts ∙ entries_joined (subtree n) n (key_of previous r) (leaves below) (leaves more) b.below))
+            (m.trees ∙ sym (ap (entry_trees (subtree n) n (key_of_row previous r)) parts ∙ entries_joined (subtree n) n (key_of_row previous r) (leaves below) (leaves more) b.below))
             ∙ ap (λ x. if x then entry_trees (subtree n) n previous ls else entry_tree previous e (subtree n (lower_run n ls)) ∷ entry_trees (subtree n) n e.key ls) (sym (le-ltb e.layer n top));
         held =
             subst (AreStored stored) (ap (λ x. if x then nodes_between (subtree_nodes n) n ls else subtree_nodes n (lower_run n ls) ++ nodes_between (subtree_nodes n) n ls) (sym (le-ltb e.layer n top)))
@@ -117,7 +117,7 @@ module _ (stored : Stored) (n : ℕ) (F : CidParts → Type 0) (W : CidParts →
   rows_over [] previous es f w = subst (AreOver stored n previous []) (sym w) (record { tops = refl; trees = refl; held = tt; within = tt })
   rows_over (r ∷ rs) previous es (is, link, rows) (shares, (below, more, walked, behind, all)) =
       subst (AreOver stored n previous (r ∷ rs)) (sym all)
-      (row_over previous r rs below more is shares (link_over r.after below link walked) (rows_over rs (key_of previous r) more rows behind))
+      (row_over previous r rs below more is shares (link_over r.after below link walked) (rows_over rs (key_of_row previous r) more rows behind))
 
   node_by : (name : CidParts) (p : NodeParts) (below more : List Entry) → IsNodeAt stored name p → IsOver stored n p.left below → AreOver stored n [] p.rows more → IsWhole stored n name (below ++ more)
   unfolding node nodes
@@ -126,7 +126,7 @@ module _ (stored : Stored) (n : ℕ) (F : CidParts → Type 0) (W : CidParts →
       let parts : ls ≡ leaves below ++ leaves more = map-append leaf_of below more in
       let run : lower_run n ls ≡ leaves below = ap (lower_run n) parts ∙ lower_joined n (leaves below) (leaves more) b.below m.tops in
       let tree : tree_of_node p ≡ node n ls =
-      ap₂ (λ ts l. map_of ts l) (m.trees ∙ sym (ap (entry_trees (subtree n) n []) parts ∙ entries_joined (subtree n) n [] (leaves below) (leaves more) b.below)) (b.link ∙ ap (subtree n) (sym run)) in
+      ap₂ (λ ts l. node_map ts l) (m.trees ∙ sym (ap (entry_trees (subtree n) n []) parts ∙ entries_joined (subtree n) n [] (leaves below) (leaves more) b.below)) (b.link ∙ ap (subtree n) (sym run)) in
       let block : at.block ≡ spelling (node n ls) = at.node.spelled.is ∙ ap spelling tree in
       let named : name ≡ block_name (spelling (node n ls)) = at.named ∙ ap block_name block in
       record {
@@ -202,7 +202,7 @@ front_none : (s : ℕ) (rest : List ℕ) → take s [] ++ rest ≡ rest
 front_none zero rest = refl
 front_none (suc s) rest = refl
 
-pub first_key : (r : NodeRow) → key_of [] r ≡ r.rest
+pub first_key : (r : NodeRow) → key_of_row [] r ≡ r.rest
 first_key r = front_none r.shared r.rest
 
 -- the first layer is the top
@@ -211,8 +211,12 @@ root_top : (stored : Stored) (W : CidParts → List Entry → Type 0) (l : Optio
 root_top stored W None [] below more es f link rows all b = ap (λ x. top_layer (leaves x)) (sym (all ∙ ap₂ (λ x y. x ++ y) link rows))
 root_top stored W (Some name) [] below more es f link rows all b = absurd f
 root_top stored W l (r ∷ rs) below more es f link (shares, (under, behind, walked, next, is)) all b =
-    top_by (key_layer r.rest) (leaves es) (leaves below) (leaves (under ++ behind)) (leaf_of (key_of [] r, r.value)) b
-    (ap leaves (all ∙ ap (λ x. below ++ x) is) ∙ map-append leaf_of below ((key_of [] r, r.value) ∷ (under ++ behind))) (ap key_layer (first_key r))
+    top_by (key_layer r.rest) (leaves es) (leaves below) (leaves (under ++ behind)) (leaf_of (key_of_row [] r, r.value)) b
+    (ap leaves (all ∙ ap (λ x. below ++ x) is) ∙ map-append leaf_of below ((key_of_row [] r, r.value) ∷ (under ++ behind))) (ap key_layer (first_key r))
+
+-- a root, and the nodes below it, stand in their layers
+abbrev pub IsRoot : Stored → NodeParts → Type 0
+IsRoot stored p = IsOfLayer (IsRightBelow stored (first_layer p.rows)) (first_layer p.rows) p
 
 -- a root whose nodes stand in their layers is that of its entries, whose nodes are stored
 pub root_over : (stored : Stored) (m : ℕ) (name : CidParts) (p : NodeParts) (es : List Entry) → IsNodeAt stored name p → IsRoot stored p → WalksNode (WalksTree m stored) p es

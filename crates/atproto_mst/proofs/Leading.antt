@@ -10,10 +10,10 @@ use Rattle.ipld_links.proofs.Members.{among_append}
 use Rattle.atproto_mst.specs.Keys.{Entry}
 use Rattle.atproto_mst.specs.Trees.{nodes_of}
 use Rattle.atproto_mst.specs.Entries.{AreStored, IsMst}
-use Rattle.atproto_mst.specs.Nodes.{NodeRow, NodeParts, IsNode, IsNodeAt, key_of}
+use Rattle.atproto_mst.specs.Nodes.{NodeRow, NodeParts, IsNode, IsNodeAt, key_of_row}
 use Rattle.atproto_mst.specs.Walks.{WalksLink, WalksRows, WalksNode, WalksTree, most_layers}
 use Rattle.atproto_mst.specs.Stops.{NodeFault}
-use Rattle.atproto_mst.specs.Levels.{LevelItem, an_entry, a_link, link_items, row_items, node_items, links_of, OpensItems, IsOfShape, LevelLinksRefused}
+use Rattle.atproto_mst.specs.Levels.{LevelItem, an_entry, a_link, link_items, row_items, node_items, link_names, OpensItems, IsOfShape, LevelLinksRefused}
 use Rattle.atproto_mst.specs.Differing.{IsRootOfEntries, NamesBind, HasLink, IsLedTo, LacksNode}
 use Rattle.atproto_mst.specs.declared.error.MstError.{MstError}
 use Rattle.atproto_mst.specs.declared.error.MstError.TheVariants as error
@@ -35,21 +35,21 @@ pub led_within : (k m n : ℕ) (stored : Stored) (root name : CidParts) → n �
 led_within zero m n stored root name e h = let same : m ≡ n = omega (arith, e) in subst (λ x. IsLedTo x stored root name) same h
 led_within (suc k) m n stored root name e h = led_within k (suc m) n stored root name (omega (arith, e)) (led_more m stored root name h)
 
-link_named : (q : CidParts) (l : Option CidParts) → Among q (links_of (link_items l)) → Some q ≡ l
+link_named : (q : CidParts) (l : Option CidParts) → Among q (link_names (link_items l)) → Some q ≡ l
 link_named q None h = absurd h
 link_named q (Some name) (inl e) = ap (λ x. Some x) e
 link_named q (Some name) (inr h) = absurd h
 
-row_named : (q : CidParts) (rows : List NodeRow) (previous : List ℕ) → Among q (links_of (row_items previous rows)) → Among (Some q) (map (λ r. r.after) rows)
+row_named : (q : CidParts) (rows : List NodeRow) (previous : List ℕ) → Among q (link_names (row_items previous rows)) → Among (Some q) (map (λ r. r.after) rows)
 row_named q [] previous h = absurd h
 row_named q (r ∷ rs) previous h =
-    elim (among_append q (links_of (link_items r.after)) (links_of (row_items (key_of previous r) rs)) (subst (Among q) (links_joined (link_items r.after) (row_items (key_of previous r) rs)) h)) [
+    elim (among_append q (link_names (link_items r.after)) (link_names (row_items (key_of_row previous r) rs)) (subst (Among q) (links_joined (link_items r.after) (row_items (key_of_row previous r) rs)) h)) [
       | inl here ↦ inl (link_named q r.after here)
-      | inr there ↦ inr (row_named q rs (key_of previous r) there)
+      | inr there ↦ inr (row_named q rs (key_of_row previous r) there)
     ]
 
-node_named : (q : CidParts) (p : NodeParts) → Among q (links_of (node_items p)) → HasLink p q
-node_named q p h = elim (among_append q (links_of (link_items p.left)) (links_of (row_items [] p.rows)) (subst (Among q) (links_joined (link_items p.left) (row_items [] p.rows)) h)) [
+node_named : (q : CidParts) (p : NodeParts) → Among q (link_names (node_items p)) → HasLink p q
+node_named q p h = elim (among_append q (link_names (link_items p.left)) (link_names (row_items [] p.rows)) (subst (Among q) (links_joined (link_items p.left) (row_items [] p.rows)) h)) [
   | inl here ↦ inl (link_named q p.left here)
   | inr there ↦ inr (row_named q p.rows [] there)
 ]
@@ -58,27 +58,27 @@ abbrev pub AreLed : ℕ → Stored → CidParts → List CidParts → Type 0
 AreLed m stored root names = (q : CidParts) → Among q names → IsLedTo m stored root q
 
 -- what a level opens to is led to by one node more
-led_below : (m : ℕ) (stored : Stored) (root : CidParts) (dropped : List CidParts) (xs ys : List LevelItem) → OpensItems stored dropped xs ys → AreLed m stored root (links_of xs) → AreLed (suc m) stored root (links_of ys)
-led_below m stored root dropped [] ys none led q h = absurd (subst (λ l. Among q (links_of l)) none h)
+led_below : (m : ℕ) (stored : Stored) (root : CidParts) (dropped : List CidParts) (xs ys : List LevelItem) → OpensItems stored dropped xs ys → AreLed m stored root (link_names xs) → AreLed (suc m) stored root (link_names ys)
+led_below m stored root dropped [] ys none led q h = absurd (subst (λ l. Among q (link_names l)) none h)
 led_below m stored root dropped (an_entry e ∷ xs) ys (first, more, this, opens, is) led q h =
-    led_below m stored root dropped xs more opens led q (subst (λ l. Among q (links_of l)) (is ∙ ap (λ l. l ++ more) this) h)
+    led_below m stored root dropped xs more opens led q (subst (λ l. Among q (link_names l)) (is ∙ ap (λ l. l ++ more) this) h)
 led_below m stored root dropped (a_link name ∷ xs) ys (first, more, inl (d, this), opens, is) led q h =
-    led_below m stored root dropped xs more opens (λ n a. led n (inr a)) q (subst (λ l. Among q (links_of l)) (is ∙ ap (λ l. l ++ more) this) h)
+    led_below m stored root dropped xs more opens (λ n a. led n (inr a)) q (subst (λ l. Among q (link_names l)) (is ∙ ap (λ l. l ++ more) this) h)
 led_below m stored root dropped (a_link name ∷ xs) ys (first, more, inr (not, (p, at, this)), opens, is) led q h =
-    elim (among_append q (links_of (node_items p)) (links_of more) (subst (Among q) (ap links_of (is ∙ ap (λ l. l ++ more) this) ∙ links_joined (node_items p) more) h)) [
+    elim (among_append q (link_names (node_items p)) (link_names more) (subst (Among q) (ap link_names (is ∙ ap (λ l. l ++ more) this) ∙ links_joined (node_items p) more) h)) [
       | inl here ↦ inr (name, led name (inl refl), (p, at, node_named q p here))
       | inr there ↦ led_below m stored root dropped xs more opens (λ n a. led n (inr a)) q there
     ]
 
 led_or_stays : (m : ℕ) (stored : Stored) (root : CidParts) (dropped : List CidParts) (xs ys : List LevelItem) → OpensItems stored dropped xs ys ⊎ ((dropped ≡ []) × (ys ≡ xs))
-    → AreLed m stored root (links_of xs) → AreLed (suc m) stored root (links_of ys)
+    → AreLed m stored root (link_names xs) → AreLed (suc m) stored root (link_names ys)
 led_or_stays m stored root dropped xs ys (inl o) led = led_below m stored root dropped xs ys o led
-led_or_stays m stored root dropped xs ys (inr (none, is)) led = λ q h. led_more m stored root q (led q (subst (λ l. Among q (links_of l)) is h))
+led_or_stays m stored root dropped xs ys (inr (none, is)) led = λ q h. led_more m stored root q (led q (subst (λ l. Among q (link_names l)) is h))
 
 -- both levels are of names that their roots lead to
 pub record BothLed (m : ℕ) (stored : Stored) (old new : CidParts) (xs ys : List LevelItem) : Type 0 where
-  pub before : AreLed m stored old (links_of xs)
-  pub after : AreLed m stored new (links_of ys)
+  pub before : AreLed m stored old (link_names xs)
+  pub after : AreLed m stored new (link_names ys)
 
 root_led : (stored : Stored) (root : CidParts) → AreLed 1 stored root (root ∷ [])
 root_led stored root q (inl e) = inl e
@@ -97,7 +97,7 @@ abbrev pub DiffStops : Stored → CidParts → CidParts → MstError → Type 0
 DiffStops stored old new e = (e ≡ error.OutOfMemory) ⊎ (IsOfShape e ⊎ (LacksNode stored old e ⊎ LacksNode stored new e))
 
 pub both_stop : (k m : ℕ) (stored : Stored) (old new : CidParts) (xs ys : List LevelItem) → most_layers ≡ k + m → BothLed m stored old new xs ys → (e : MstError)
-    → LevelLinksRefused stored (links_of xs) e ⊎ LevelLinksRefused stored (links_of ys) e → DiffStops stored old new e
+    → LevelLinksRefused stored (link_names xs) e ⊎ LevelLinksRefused stored (link_names ys) e → DiffStops stored old new e
 both_stop k m stored old new xs ys within led e (inl (inl memory)) = inl memory
 both_stop k m stored old new xs ys within led e (inl (inr (inl shape))) = inr (inl shape)
 both_stop k m stored old new xs ys within led e (inl (inr (inr (name, a, fault)))) = inr (inr (inl (name, led_within k m most_layers stored old name within (led.before name a), fault)))
@@ -115,7 +115,7 @@ walked_rows : (W : CidParts → List Entry → Type 0) (name : CidParts) (rows :
     → (fs : List Entry) × W name fs
 walked_rows W name [] previous es w h = absurd h
 walked_rows W name (r ∷ rs) previous es (shares, (below, more, link, rest, is)) (inl e) = (below, subst (λ l. WalksLink W l below) (sym e) link)
-walked_rows W name (r ∷ rs) previous es (shares, (below, more, link, rest, is)) (inr h) = walked_rows W name rs (key_of previous r) more rest h
+walked_rows W name (r ∷ rs) previous es (shares, (below, more, link, rest, is)) (inr h) = walked_rows W name rs (key_of_row previous r) more rest h
 
 walked_node : (W : CidParts → List Entry → Type 0) (name : CidParts) (p : NodeParts) (es : List Entry) → WalksNode W p es → HasLink p name → (fs : List Entry) × W name fs
 walked_node W name p es (below, more, link, rest, is) (inl e) = (below, subst (λ l. WalksLink W l below) (sym e) link)

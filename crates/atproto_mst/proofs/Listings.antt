@@ -5,19 +5,19 @@ use Rattle.std.specs.Prelude.{Decides}
 use Rattle.std.specs.List.{AllByRecursion}
 use Rattle.ipld_tree.specs.Cid.{CidParts, AreCidParts}
 use Rattle.ipld_links.specs.Reaching.{Stored}
-use Rattle.atproto_mst.specs.Keys.{Entry, HaveCids, AreEntries}
+use Rattle.atproto_mst.specs.Keys.{Entry, HaveCids, AreMstEntries}
 use Rattle.atproto_mst.specs.Entries.{entry_of, entries, IsMst}
-use Rattle.atproto_mst.specs.Nodes.{NodeRow, NodeParts, IsCidIfAny, IsNodeAt, key_of}
+use Rattle.atproto_mst.specs.Nodes.{NodeRow, NodeParts, IsCidIfAny, IsNodeAt, key_of_row}
 use Rattle.atproto_mst.specs.Walks.{WalksLink, WalksRows, WalksNode, WalksTree, most_layers}
-use Rattle.atproto_mst.specs.Stops.{ComeBehind, StopsBehind, StopsInRows, StopsInNode, StopsWalk, MstRefused, OneReason, last_key}
-use Rattle.atproto_mst.specs.InLayers.{IsOfLayer, IsRightBelow, first_layer, IsRoot}
+use Rattle.atproto_mst.specs.Stops.{ComeBehind, StopsBehind, StopsInRows, StopsInNode, StopsWalk, MstRefused, OneReason, last_entry_key}
+use Rattle.atproto_mst.specs.InLayers.{IsOfLayer, IsRightBelow, first_layer}
 use Rattle.atproto_mst.specs.Gathering.{GathersEntries}
 use Rattle.atproto_mst.specs.declared.error.MstError.{MstError}
 use Rattle.atproto_mst.specs.declared.error.MstError.TheVariants as error
 use Rattle.atproto_mst.proofs.Agreeing.{one_walk}
 use Rattle.atproto_mst.proofs.Canonical.{mst_walked}
 use Rattle.atproto_mst.proofs.Gathering.{Found, stops_named}
-use Rattle.atproto_mst.proofs.Layered.{root_over}
+use Rattle.atproto_mst.proofs.Layered.{root_over, IsRoot}
 use Rattle.atproto_mst.proofs.Rising.{all_behind}
 use Rattle.atproto_mst.proofs.Standing.{root_stands}
 use Rattle.atproto_mst.proofs.Stopping.{stops_never_walks, one_fault}
@@ -39,7 +39,7 @@ cids_of_rows : (W : CidParts → List Entry → Type 0) → GivesCids W → (row
     → (previous : List ℕ) (es : List Entry) → WalksRows W previous rows es → HaveCids es
 cids_of_rows W give [] k previous es w = subst HaveCids (sym w) tt
 cids_of_rows W give (r ∷ rs) k previous es (shares, (below, more, link, rows, is)) =
-    subst HaveCids (sym is) (k.0.0, cids_joined below more (cids_behind W give r.after below link) (cids_of_rows W give rs k.1 (key_of previous r) more rows))
+    subst HaveCids (sym is) (k.0.0, cids_joined below more (cids_behind W give r.after below link) (cids_of_rows W give rs k.1 (key_of_row previous r) more rows))
 
 pub walk_cids : (stored : Stored) (m : ℕ) → GivesCids (WalksTree m stored)
 walk_cids stored zero name es w = absurd w
@@ -60,16 +60,16 @@ no_other_in_rows : (W : CidParts → List Entry → Type 0) (S : List ℕ → Ci
     → (rows : List NodeRow) (before previous : List ℕ) → StopsInRows W S before previous rows error.OtherTree → ⊥
 no_other_in_rows W S never [] before previous h = absurd h
 no_other_in_rows W S never (r ∷ rs) before previous (inl fault) = absurd fault
-no_other_in_rows W S never (r ∷ rs) before previous (inr (row, inl stop)) = no_other_behind S never (key_of previous r) r.after stop
+no_other_in_rows W S never (r ∷ rs) before previous (inr (row, inl stop)) = no_other_behind S never (key_of_row previous r) r.after stop
 no_other_in_rows W S never (r ∷ rs) before previous (inr (row, inr (below, link, behind, stop))) =
-    no_other_in_rows W S never rs (last_key (key_of previous r) below) (key_of previous r) stop
+    no_other_in_rows W S never rs (last_entry_key (key_of_row previous r) below) (key_of_row previous r) stop
 
 no_other : (stored : Stored) (m : ℕ) → NoOther (StopsWalk m stored)
 no_other stored zero before name h = absurd (cc h)
 no_other stored (suc m) before name (inl fault) = absurd fault
 no_other stored (suc m) before name (inr (p, at, inl stop)) = no_other_behind (StopsWalk m stored) (no_other stored m) before p.left stop
 no_other stored (suc m) before name (inr (p, at, inr (below, link, behind, stop))) =
-    no_other_in_rows (WalksTree m stored) (StopsWalk m stored) (no_other stored m) p.rows (last_key before below) [] stop
+    no_other_in_rows (WalksTree m stored) (StopsWalk m stored) (no_other stored m) p.rows (last_entry_key before below) [] stop
 
 refused_by_stop : (stored : Stored) (root : CidParts) (e : MstError) → StopsWalk most_layers stored [] root e → MstRefused stored root e
 refused_by_stop stored root error.OutOfMemory h = tt
@@ -88,9 +88,9 @@ stops_for_memory stored root e (inr s) es h = absurd (stops_never_walks stored m
 
 module _ (stored : Stored) (root : CidParts) (p : NodeParts) (at : IsNodeAt stored root p) (first : Found) (empty : first.items ≡ []) where
   -- the walk from the root stops
-  pub stops_at_root : (e : MstError) → (e ≡ error.OutOfMemory) ⊎ StopsInNode (WalksTree 128 stored) (StopsWalk 128 stored) (last_key [] (entries first.items)) p e → (e ≡ error.OutOfMemory) ⊎ StopsWalk most_layers stored [] root e
+  pub stops_at_root : (e : MstError) → (e ≡ error.OutOfMemory) ⊎ StopsInNode (WalksTree 128 stored) (StopsWalk 128 stored) (last_entry_key [] (entries first.items)) p e → (e ≡ error.OutOfMemory) ⊎ StopsWalk most_layers stored [] root e
   stops_at_root e (inl m) = inl m
-  stops_at_root e (inr s) = inr (stops_named stored root 128 most_layers p at refl [] e (subst (λ es. StopsInNode (WalksTree 128 stored) (StopsWalk 128 stored) (last_key [] (entries es)) p e) empty s))
+  stops_at_root e (inr s) = inr (stops_named stored root 128 most_layers p at refl [] e (subst (λ es. StopsInNode (WalksTree 128 stored) (StopsWalk 128 stored) (last_entry_key [] (entries es)) p e) empty s))
 
   module _ (found : Found) (gathered : GathersEntries (WalksNode (WalksTree 128 stored) p) first found) where
     found_is : entries found.items ≡ gathered.found
@@ -102,9 +102,9 @@ module _ (stored : Stored) (root : CidParts) (p : NodeParts) (at : IsNodeAt stor
     walks_found : WalksTree most_layers stored root (entries found.items)
     walks_found = (p, at, walked)
 
-    are_entries : AreEntries (entries found.items)
+    are_entries : AreMstEntries (entries found.items)
     are_entries =
-        let order = subst (ComeBehind []) (sym found_is) (subst (λ es. ComeBehind (last_key [] (entries es)) gathered.found) empty gathered.behind) in record {
+        let order = subst (ComeBehind []) (sym found_is) (subst (λ es. ComeBehind (last_entry_key [] (entries es)) gathered.found) empty gathered.behind) in record {
           keys = order.keys;
           rise = order.rise;
           values = walk_cids stored most_layers root (entries found.items) walks_found;

@@ -14,7 +14,7 @@ use Rattle.atproto_mst.specs.Keys.{Entry, ComesBefore, Rise}
 use Rattle.atproto_mst.specs.Entries.{entries}
 use Rattle.atproto_mst.specs.Finding.{lookup, by_order}
 use Rattle.atproto_mst.specs.Changes.{Changed, ComesBeforeChanges, HasChange, IsChange, AreChanges}
-use Rattle.atproto_mst.specs.Merging.{removed, added, same_record, noted}
+use Rattle.atproto_mst.specs.Merging.{removed, added, same_record, changes_of_key}
 use Rattle.atproto_mst.specs.declared.entries.MstEntry.{MstEntry}
 use Rattle.atproto_mst.proofs.Changing.{before_trans}
 use Rattle.atproto_mst.proofs.Comparing.{equal_name, other_name}
@@ -83,7 +83,7 @@ module _ (k : List ℕ) (x y : Option CidParts) (es fs more others : List Entry)
       this_or_other q true e g = inl ((bytes_eq-Decides k q).0 e)
       this_or_other q false e g = inr (g (λ is. let yes = (bytes_eq-Decides k q).1 (sym is) in absurd (cc (e, yes))))
 
-  step : (cs : List Changed) → ComesBefore k es → Rise es → ComesBefore k fs → Rise fs → AreChanges es fs cs → AreChanges more others (noted k x y ++ cs)
+  step : (cs : List Changed) → ComesBefore k es → Rise es → ComesBefore k fs → Rise fs → AreChanges es fs cs → AreChanges more others (changes_of_key k x y ++ cs)
   step cs be re bf rf h = step_by cs (above k es fs be re bf rf cs h.each) h (same_record x y) refl
 
 -- ---- all keys
@@ -102,7 +102,7 @@ only_removed (e ∷ es) r =
 
 abbrev diff_with : Entry → List Entry → (List Entry → List Changed) → List Entry → List Changed
 diff_with e es rest [] = removed (e ∷ es)
-diff_with e es rest (f ∷ fs) = by_order (slice_cmp nat_cmp e.0 f.0) ((e.0, (Some e.1, None)) ∷ rest (f ∷ fs)) (noted e.0 (Some e.1) (Some f.1) ++ rest fs)
+diff_with e es rest (f ∷ fs) = by_order (slice_cmp nat_cmp e.0 f.0) ((e.0, (Some e.1, None)) ∷ rest (f ∷ fs)) (changes_of_key e.0 (Some e.1) (Some f.1) ++ rest fs)
     ((f.0, (None, Some f.1)) ∷ diff_with e es rest fs)
 
 -- what a walk over both finds
@@ -112,7 +112,7 @@ diff_of (e ∷ es) fs = diff_with e es (diff_of es) fs
 
 by_first : (e : Entry) (es : List Entry) (f : Entry) (fs : List Entry) (l i g : List Changed) → Rise (e ∷ es) → Rise (f ∷ fs) → (o : Ordering) → slice_cmp nat_cmp e.0 f.0 ≡ o
     → AreChanges es (f ∷ fs) l → AreChanges es fs i → AreChanges (e ∷ es) fs g
-    → AreChanges (e ∷ es) (f ∷ fs) (by_order o ((e.0, (Some e.1, None)) ∷ l) (noted e.0 (Some e.1) (Some f.1) ++ i) ((f.0, (None, Some f.1)) ∷ g))
+    → AreChanges (e ∷ es) (f ∷ fs) (by_order o ((e.0, (Some e.1, None)) ∷ l) (changes_of_key e.0 (Some e.1) (Some f.1) ++ i) ((f.0, (None, Some f.1)) ∷ g))
 by_first e es f fs l i g re rf Less o hl hi hg =
     step e.0 (Some e.1) None es (f ∷ fs) (e ∷ es) (f ∷ fs) (sym (this_first e.0 e.0 e.1 es refl)) (sym (no_record_before e.0 (f ∷ fs) o rf))
     (λ q not. other_first q e.0 e.1 es (λ is. not (sym is))) (λ q not. refl) l re.0 re.1 o rf hl
@@ -185,18 +185,18 @@ module _ (all found new : List Changed) (es fs : List MstEntry) (at next : ℕ) 
 
   at_order : (o : Ordering) → slice_cmp nat_cmp e.key.items f.key.items ≡ o
       → all ≡ found ++ by_order o (taken_away e ∷ diff_of (entries es_behind) (entries (f ∷ fs_behind)))
-      (noted e.key.items (Some e.value) (Some f.value) ++ diff_of (entries es_behind) (entries fs_behind))
+      (changes_of_key e.key.items (Some e.value) (Some f.value) ++ diff_of (entries es_behind) (entries fs_behind))
       (put_there f ∷ diff_of (entries (e ∷ es_behind)) (entries fs_behind))
   at_order o is = merged_first ∙ ap (λ x. found ++ by_order x (taken_away e ∷ diff_of (entries es_behind) (entries (f ∷ fs_behind)))
-      (noted e.key.items (Some e.value) (Some f.value) ++ diff_of (entries es_behind) (entries fs_behind))
+      (changes_of_key e.key.items (Some e.value) (Some f.value) ++ diff_of (entries es_behind) (entries fs_behind))
       (put_there f ∷ diff_of (entries (e ∷ es_behind)) (entries fs_behind))) is
 
   pub merged_less : slice_cmp nat_cmp e.key.items f.key.items ≡ Less → new ≡ found ++ (e.key.items, (Some e.value, None)) ∷ [] → Merged all new (drop (at + 1) es) (drop next fs)
   merged_less o n = goes_on all found (taken_away e ∷ []) new (diff_of (entries es_behind) (entries (drop next fs))) n
       (at_order Less o ∙ ap (λ l. found ++ (taken_away e ∷ diff_of (entries es_behind) (entries l))) (sym first_of_fs))
 
-  pub merged_equal : slice_cmp nat_cmp e.key.items f.key.items ≡ Equal → new ≡ found ++ noted e.key.items (Some e.value) (Some f.value) → Merged all new (drop (at + 1) es) (drop (next + 1) fs)
-  merged_equal o n = goes_on all found (noted e.key.items (Some e.value) (Some f.value)) new (diff_of (entries es_behind) (entries fs_behind)) n (at_order Equal o)
+  pub merged_equal : slice_cmp nat_cmp e.key.items f.key.items ≡ Equal → new ≡ found ++ changes_of_key e.key.items (Some e.value) (Some f.value) → Merged all new (drop (at + 1) es) (drop (next + 1) fs)
+  merged_equal o n = goes_on all found (changes_of_key e.key.items (Some e.value) (Some f.value)) new (diff_of (entries es_behind) (entries fs_behind)) n (at_order Equal o)
 
   pub merged_greater : slice_cmp nat_cmp e.key.items f.key.items ≡ Greater → new ≡ found ++ (f.key.items, (None, Some f.value)) ∷ [] → Merged all new (drop at es) (drop (next + 1) fs)
   merged_greater o n = goes_on all found (put_there f ∷ []) new (diff_of (entries (drop at es)) (entries fs_behind)) n

@@ -9,9 +9,9 @@ use Rattle.ipld_links.specs.Sets.{Among, members, AddsCid}
 use Rattle.ipld_links.specs.Reaching.{Stored}
 use Rattle.ipld_links.specs.declared.cid_set.CidSet.{CidSet}
 use Rattle.atproto_mst.specs.Entries.{entry_of, entries}
-use Rattle.atproto_mst.specs.Nodes.{NodeRow, NodeParts, IsNodeAt, key_of, node_told}
+use Rattle.atproto_mst.specs.Nodes.{NodeRow, NodeParts, IsNodeAt, key_of_row, node_told}
 use Rattle.atproto_mst.specs.Stops.{IsStoredNamed, NodeFault}
-use Rattle.atproto_mst.specs.Levels.{LevelItem, an_entry, a_link, link_items, row_items, node_items, held_items, links_of, OpensItems, DropsShared, IsOfShape, LevelLinksRefused}
+use Rattle.atproto_mst.specs.Levels.{LevelItem, an_entry, a_link, link_items, row_items, node_items, held_items, link_names, OpensItems, DropsShared, IsOfShape, LevelLinksRefused}
 use Rattle.atproto_mst.specs.declared.entries.MstEntry.{MstEntry}
 use Rattle.atproto_mst.specs.declared.error.MstError.{MstError}
 use Rattle.atproto_mst.specs.declared.error.MstError.TheVariants as error
@@ -20,7 +20,7 @@ use Rattle.repository_types.specs.declared.repository.Node.{Node}
 
 -- ---- items, joined
 
-pub links_joined : (xs ys : List LevelItem) → links_of (xs ++ ys) ≡ links_of xs ++ links_of ys
+pub links_joined : (xs ys : List LevelItem) → link_names (xs ++ ys) ≡ link_names xs ++ link_names ys
 links_joined [] ys = refl
 links_joined (an_entry e ∷ xs) ys = links_joined xs ys
 links_joined (a_link name ∷ xs) ys = ap (λ l. name ∷ l) (links_joined xs ys)
@@ -59,21 +59,21 @@ opens_entry stored dropped h p old mid new o is_mid is_new = (
 -- ---- one entry at a time
 
 pub links_next : (hs : List LevelEntry) (i : ℕ) (h : LevelEntry) (names new all : List CidParts) → i < length hs → h ≡ get_or hs i h
-    → names ++ links_of (held_items (drop i hs)) ≡ all → new ≡ names ++ links_of (link_items h.after)
-    → new ++ links_of (held_items (drop (i + 1) hs)) ≡ all
+    → names ++ link_names (held_items (drop i hs)) ≡ all → new ≡ names ++ link_names (link_items h.after)
+    → new ++ link_names (held_items (drop (i + 1) hs)) ≡ all
 links_next hs i h names new all lt is inv pushed =
     let first : drop i hs ≡ h ∷ drop (i + 1) hs = drop-cons hs i h lt ∙ ap (λ x. x ∷ drop (suc i) hs) (sym is) ∙ ap (λ k. h ∷ drop k hs) (sym (add-one i)) in
     let rest = held_items (drop (i + 1) hs) in
-    ap (λ l. l ++ links_of rest) pushed ∙ append_assoc names (links_of (link_items h.after)) (links_of rest)
-    ∙ ap (λ l. names ++ l) (sym (links_joined (link_items h.after) rest)) ∙ ap (λ l. names ++ links_of (held_items l)) (sym first) ∙ inv
+    ap (λ l. l ++ link_names rest) pushed ∙ append_assoc names (link_names (link_items h.after)) (link_names rest)
+    ∙ ap (λ l. names ++ l) (sym (links_joined (link_items h.after) rest)) ∙ ap (λ l. names ++ link_names (held_items l)) (sym first) ∙ inv
 
-pub links_ended : (hs : List LevelEntry) (i : ℕ) (names all : List CidParts) → length hs ≤ i → names ++ links_of (held_items (drop i hs)) ≡ all → names ≡ all
-links_ended hs i names all le inv = sym (append-nil names) ∙ ap (λ l. names ++ links_of (held_items l)) (sym (drop_all i hs le)) ∙ inv
+pub links_ended : (hs : List LevelEntry) (i : ℕ) (names all : List CidParts) → length hs ≤ i → names ++ link_names (held_items (drop i hs)) ≡ all → names ≡ all
+links_ended hs i names all le inv = sym (append-nil names) ∙ ap (λ l. names ++ link_names (held_items l)) (sym (drop_all i hs le)) ∙ inv
 
 pub rows_next : (rows : List NodeRow) (r : NodeRow) (rs : List NodeRow) (key : List ℕ) (before after all : List LevelItem) → rows ≡ r ∷ rs → before ++ row_items key rows ≡ all
-    → after ≡ before ++ (an_entry (key_of key r, r.value) ∷ link_items r.after) → after ++ row_items (key_of key r) rs ≡ all
+    → after ≡ before ++ (an_entry (key_of_row key r, r.value) ∷ link_items r.after) → after ++ row_items (key_of_row key r) rs ≡ all
 rows_next rows r rs key before after all is inv pushed =
-    ap (λ l. l ++ row_items (key_of key r) rs) pushed ∙ append_assoc before (an_entry (key_of key r, r.value) ∷ link_items r.after) (row_items (key_of key r) rs)
+    ap (λ l. l ++ row_items (key_of_row key r) rs) pushed ∙ append_assoc before (an_entry (key_of_row key r, r.value) ∷ link_items r.after) (row_items (key_of_row key r) rs)
     ∙ ap (λ l. before ++ row_items key l) (sym is) ∙ inv
 
 pub rows_ended : (rows : List NodeRow) (key : List ℕ) (before all : List LevelItem) → rows ≡ [] → before ++ row_items key rows ≡ all → before ≡ all
@@ -166,8 +166,8 @@ more_refused stored names more e f (inr (inl s)) = inr (inl s)
 more_refused stored names more e f (inr (inr (name, among, fault))) = inr (inr (name, f name among, fault))
 
 -- the links of an entry alone are those of its link
-pub entry_refused : (stored : Stored) (h : LevelEntry) (e : MstError) → LevelLinksRefused stored (links_of (link_items h.after)) e → LevelLinksRefused stored (links_of (held_items (h ∷ []))) e
-entry_refused stored h e r = subst (λ l. LevelLinksRefused stored (links_of l) e) (sym (append-nil (link_items h.after))) r
+pub entry_refused : (stored : Stored) (h : LevelEntry) (e : MstError) → LevelLinksRefused stored (link_names (link_items h.after)) e → LevelLinksRefused stored (link_names (held_items (h ∷ []))) e
+entry_refused stored h e r = subst (λ l. LevelLinksRefused stored (link_names l) e) (sym (append-nil (link_items h.after))) r
 
 pub matched : {T E P P' : Type 0} (Q Q' : E → Type 0) (r : Result T E) → (P → P') → ((e : E) → Q e → Q' e) → OnOk r P → IfErr r Q → MatchResult r (λ _. P') Q'
 matched Q Q' (Ok x) f g p q = f p
@@ -199,9 +199,9 @@ node_read stored dropped name not (Err e) h = fault_refused stored name e h
 -- the node of a link that is not dropped
 pub node_opened : (stored : Stored) (dropped : List CidParts) (link : Option CidParts) (name : CidParts) → link ≡ Some name → ¬ Among name dropped → (r : Result Node MstError)
     → MatchResult r (λ n. IsNodeAt stored name (node_told n)) (λ e. ((e ≡ error.OutOfMemory) × IsStoredNamed stored name) ⊎ NodeFault stored name e)
-    → MatchResult r (λ n. OpensItems stored dropped (link_items link) (node_items (node_told n))) (LevelLinksRefused stored (links_of (link_items link)))
+    → MatchResult r (λ n. OpensItems stored dropped (link_items link) (node_items (node_told n))) (LevelLinksRefused stored (link_names (link_items link)))
 node_opened stored dropped link name is not r h =
-    subst (λ l. MatchResult r (λ n. OpensItems stored dropped (link_items l) (node_items (node_told n))) (LevelLinksRefused stored (links_of (link_items l)))) (sym is) (node_read stored dropped name not r h)
+    subst (λ l. MatchResult r (λ n. OpensItems stored dropped (link_items l) (node_items (node_told n))) (LevelLinksRefused stored (link_names (link_items l)))) (sym is) (node_read stored dropped name not r h)
 
 -- ---- a level
 
@@ -225,13 +225,13 @@ level_ended stored dropped left p hs all first (more, opened, is) =
 
 -- the links of one of the entries are links of the level
 pub links_within : (left : Option CidParts) (all before rest : List LevelEntry) (h : LevelEntry) → all ≡ before ++ h ∷ rest
-    → (q : CidParts) → Among q (links_of (held_items (h ∷ []))) → Among q (links_of (link_items left ++ held_items all))
+    → (q : CidParts) → Among q (link_names (held_items (h ∷ []))) → Among q (link_names (link_items left ++ held_items all))
 links_within left all before rest h is q m =
-    let one = subst (Among q) (ap links_of (append-nil (link_items h.after))) m in
-    let behind = subst (Among q) (sym (links_joined (link_items h.after) (held_items rest))) (among_left q (links_of (link_items h.after)) (links_of (held_items rest)) one) in
-    let there = subst (Among q) (sym (links_joined (held_items before) (held_items (h ∷ rest)))) (among_right q (links_of (held_items before)) (links_of (held_items (h ∷ rest))) behind) in
-    let all_there = subst (Among q) (ap links_of (sym (held_joined before (h ∷ rest)) ∙ ap held_items (sym is))) there in
-    subst (Among q) (sym (links_joined (link_items left) (held_items all))) (among_right q (links_of (link_items left)) (links_of (held_items all)) all_there)
+    let one = subst (Among q) (ap link_names (append-nil (link_items h.after))) m in
+    let behind = subst (Among q) (sym (links_joined (link_items h.after) (held_items rest))) (among_left q (link_names (link_items h.after)) (link_names (held_items rest)) one) in
+    let there = subst (Among q) (sym (links_joined (held_items before) (held_items (h ∷ rest)))) (among_right q (link_names (held_items before)) (link_names (held_items (h ∷ rest))) behind) in
+    let all_there = subst (Among q) (ap link_names (sym (held_joined before (h ∷ rest)) ∙ ap held_items (sym is))) there in
+    subst (Among q) (sym (links_joined (link_items left) (held_items all))) (among_right q (link_names (link_items left)) (link_names (held_items all)) all_there)
 
-pub left_within : (left : Option CidParts) (rest : List LevelItem) (q : CidParts) → Among q (links_of (link_items left)) → Among q (links_of (link_items left ++ rest))
-left_within left rest q m = subst (Among q) (sym (links_joined (link_items left) rest)) (among_left q (links_of (link_items left)) (links_of rest) m)
+pub left_within : (left : Option CidParts) (rest : List LevelItem) (q : CidParts) → Among q (link_names (link_items left)) → Among q (link_names (link_items left ++ rest))
+left_within left rest q m = subst (Among q) (sym (links_joined (link_items left) rest)) (among_left q (link_names (link_items left)) (link_names rest) m)

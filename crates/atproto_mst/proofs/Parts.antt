@@ -12,7 +12,7 @@ use Rattle.ipld_tree.specs.Spelling.{spelling, IsSpellable, AreSpellableItems, i
 use Rattle.ipld_tree.proofs.Cids.{cid_length}
 use Rattle.ipld_links.specs.Names.{block_name}
 use Rattle.atproto_mst.specs.Keys.{IsKey, key_layer}
-use Rattle.atproto_mst.specs.Trees.{Leaf, lower_run, shared, link_tree, entry_tree, entry_trees, map_of, node_over, subtree, node}
+use Rattle.atproto_mst.specs.Trees.{Leaf, lower_run, shared, link_tree, entry_tree, entry_trees, node_map, node_over, subtree, node}
 use Rattle.atproto_mst.specs.Nodes.{NodeRow, NodeParts, tree_of_row, tree_of_node, IsCidIfAny, IsNode}
 
 -- the row of a leaf behind this key
@@ -43,7 +43,7 @@ trees_of_rows sub n previous [] = refl
 trees_of_rows sub n previous (e ∷ es) = trees_by sub n previous e es (sub (lower_run n es)) (nat_lt e.layer n) (trees_of_rows sub n previous es) (trees_of_rows sub n e.key es)
 
 pub tree_of_parts : (sub : List Leaf → Option CidParts) (n : ℕ) (es : List Leaf) → tree_of_node (parts_over sub n es) ≡ node_over sub n es
-tree_of_parts sub n es = ap (λ ts. map_of ts (sub (lower_run n es))) (trees_of_rows sub n [] es)
+tree_of_parts sub n es = ap (λ ts. node_map ts (sub (lower_run n es))) (trees_of_rows sub n [] es)
 
 -- ---- the keys
 

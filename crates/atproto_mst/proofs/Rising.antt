@@ -5,7 +5,7 @@ use Rattle.std.specs.Ordering.{nat_cmp}
 use Rattle.std.specs.Cmp.Lexicographic.{slice_cmp}
 use Rattle.atproto_mst.specs.Keys.{Entry, IsKey, HaveKeys, ComesBefore, Rise}
 use Rattle.atproto_mst.specs.Entries.{entries}
-use Rattle.atproto_mst.specs.Stops.{last_key, ComeBehind}
+use Rattle.atproto_mst.specs.Stops.{last_entry_key, ComeBehind}
 use Rattle.atproto_mst.specs.declared.entries.MstEntry.{MstEntry}
 
 pub keys_left : (es fs : List Entry) → HaveKeys (es ++ fs) → HaveKeys es
@@ -28,7 +28,7 @@ pub rise_right : (es fs : List Entry) → Rise (es ++ fs) → Rise fs
 rise_right [] fs h = h
 rise_right (e ∷ es) fs h = rise_right es fs h.1
 
-pub before_right : (key : List ℕ) (es fs : List Entry) → ComesBefore key (es ++ fs) → Rise (es ++ fs) → ComesBefore (last_key key es) fs
+pub before_right : (key : List ℕ) (es fs : List Entry) → ComesBefore key (es ++ fs) → Rise (es ++ fs) → ComesBefore (last_entry_key key es) fs
 before_right key [] fs h r = h
 before_right key (e ∷ es) fs h r = before_right e.0 es fs r.0 r.1
 
@@ -39,7 +39,7 @@ behind_left before es fs h = record {
   behind = before_left before es fs h.behind;
 }
 
-pub behind_right : (before : List ℕ) (es fs : List Entry) → ComeBehind before (es ++ fs) → ComeBehind (last_key before es) fs
+pub behind_right : (before : List ℕ) (es fs : List Entry) → ComeBehind before (es ++ fs) → ComeBehind (last_entry_key before es) fs
 behind_right before es fs h = record {
   keys = keys_right es fs h.keys;
   rise = rise_right es fs h.rise;
@@ -52,7 +52,7 @@ behind_first before e es h = record { keys = h.keys.1; rise = h.rise.1; behind =
 pub first_behind : (before : List ℕ) (e : Entry) (es : List Entry) → IsKey e.0 → slice_cmp nat_cmp before e.0 ≡ Less → ComeBehind e.0 es → ComeBehind before (e ∷ es)
 first_behind before e es k b h = record { keys = (k, h.keys); rise = (h.behind, h.rise); behind = b }
 
-pub joined_behind : (before : List ℕ) (es fs : List Entry) → ComeBehind before es → ComeBehind (last_key before es) fs → ComeBehind before (es ++ fs)
+pub joined_behind : (before : List ℕ) (es fs : List Entry) → ComeBehind before es → ComeBehind (last_entry_key before es) fs → ComeBehind before (es ++ fs)
 joined_behind before [] fs h k = k
 joined_behind before (e ∷ es) fs h k = first_behind before e (es ++ fs) h.keys.0 h.behind (joined_behind e.0 es fs (behind_first before e es h) k)
 
@@ -65,12 +65,12 @@ none_before ((b ∷ key, value) ∷ es) h = refl
 pub all_behind : (es : List Entry) → HaveKeys es → Rise es → ComeBehind [] es
 all_behind es k r = record { keys = k; rise = r; behind = none_before es k }
 
-pub last_joined : (key : List ℕ) (es fs : List Entry) → last_key key (es ++ fs) ≡ last_key (last_key key es) fs
+pub last_joined : (key : List ℕ) (es fs : List Entry) → last_entry_key key (es ++ fs) ≡ last_entry_key (last_entry_key key es) fs
 last_joined key [] fs = refl
 last_joined key (e ∷ es) fs = last_joined e.0 es fs
 
 -- the last of entries as they are held
-pub last_of : (key : List ℕ) (es : List MstEntry) (d : MstEntry) → 0 < length es → last_key key (entries es) ≡ (get_or es (length es - 1) d).key.items
+pub last_of : (key : List ℕ) (es : List MstEntry) (d : MstEntry) → 0 < length es → last_entry_key key (entries es) ≡ (get_or es (length es - 1) d).key.items
 last_of key [] d h = absurd (omega arith)
 last_of key (e ∷ []) d h = refl
 last_of key (e ∷ (f ∷ es)) d h =

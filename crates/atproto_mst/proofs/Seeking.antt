@@ -12,7 +12,7 @@ use Rattle.std.specs.Cmp.Lexicographic.{slice_cmp}
 use Rattle.ipld_tree.specs.Cid.{CidParts}
 use Rattle.ipld_links.specs.Reaching.{Stored}
 use Rattle.atproto_mst.specs.Keys.{Entry, ComesBefore, Rise}
-use Rattle.atproto_mst.specs.Nodes.{NodeRow, key_of}
+use Rattle.atproto_mst.specs.Nodes.{NodeRow, key_of_row}
 use Rattle.atproto_mst.specs.Walks.{WalksLink, WalksRows, WalksTree}
 use Rattle.atproto_mst.specs.Finding.{lookup, by_order, seek, seek_in, FindsBelow, FindsRecord}
 use Rattle.atproto_mst.specs.declared.find.Sought.{Sought}
@@ -108,10 +108,10 @@ seek_decides : (W : CidParts → List Entry → Type 0) (key previous : List ℕ
 seek_decides W key previous before [] below more l w r =
     (below, l, rise_left below more r, record_in_front key below more (subst (λ es. ComesBefore key es) (sym w) tt) r)
 seek_decides W key previous before (row ∷ rows) below more l w r =
-    subst (λ s. Decides W key s (below ++ more)) (ap (λ b. if b then sought.KeyFront else by_order (slice_cmp nat_cmp key (key_of previous row)) (sought.Below before) (sought.Record row.value) (seek key (key_of previous row) row.after rows)) (sym (le-ltb (length previous) row.shared w.0)))
-    (subst (λ es. Decides W key (by_order (slice_cmp nat_cmp key (key_of previous row)) (sought.Below before) (sought.Record row.value) (seek key (key_of previous row) row.after rows)) (below ++ es)) (sym w.1.4)
-    (row_decides W key (key_of previous row) row.value before (seek key (key_of previous row) row.after rows) below (w.1.0 ++ w.1.1) (slice_cmp nat_cmp key (key_of previous row)) refl l (subst (λ es. Rise (below ++ es)) w.1.4 r)
-    (λ rise. seek_decides W key (key_of previous row) row.after rows w.1.0 w.1.1 w.1.2 w.1.3 rise)))
+    subst (λ s. Decides W key s (below ++ more)) (ap (λ b. if b then sought.KeyFront else by_order (slice_cmp nat_cmp key (key_of_row previous row)) (sought.Below before) (sought.Record row.value) (seek key (key_of_row previous row) row.after rows)) (sym (le-ltb (length previous) row.shared w.0)))
+    (subst (λ es. Decides W key (by_order (slice_cmp nat_cmp key (key_of_row previous row)) (sought.Below before) (sought.Record row.value) (seek key (key_of_row previous row) row.after rows)) (below ++ es)) (sym w.1.4)
+    (row_decides W key (key_of_row previous row) row.value before (seek key (key_of_row previous row) row.after rows) below (w.1.0 ++ w.1.1) (slice_cmp nat_cmp key (key_of_row previous row)) refl l (subst (λ es. Rise (below ++ es)) w.1.4 r)
+    (λ rise. seek_decides W key (key_of_row previous row) row.after rows w.1.0 w.1.1 w.1.2 w.1.3 rise)))
 
 -- ---- in a tree
 

@@ -9,11 +9,11 @@ use Rattle.atproto_mst.specs.Keys.{Entry, key_layer}
 use Rattle.atproto_mst.specs.Trees.{Leaf, leaves, lower_run, shared, node_section, nodes_between, subtree, node, subtree_nodes, nodes, top_layer, mst, nodes_of}
 use Rattle.atproto_mst.specs.Entries.{AreStored, IsMst}
 use Rattle.atproto_mst.specs.Nodes.{NodeRow, NodeParts, IsNodeAt}
-use Rattle.atproto_mst.specs.InLayers.{IsLayerRow, IfLinked, AreRowsOf, IsOfLayer, IsEmpty, IsRightBelow, first_layer, IsRoot}
+use Rattle.atproto_mst.specs.InLayers.{IsLayerRow, IfLinked, AreRowsOf, IsOfLayer, IsEmpty, IsRightBelow, first_layer}
 use Rattle.atproto_mst.proofs.Nodes.{same_node_at}
 use Rattle.atproto_mst.proofs.Parts.{row_at, rows_over, parts_over, key_again, IsLeaf, node_is_node}
 use Rattle.atproto_mst.proofs.Canonical.{AreBelow, AreLeaves, lower_are_leaves, lower_below, next_leaves, stored_apart, each_leaf, leaves_counted}
-use Rattle.atproto_mst.proofs.Layered.{first_key}
+use Rattle.atproto_mst.proofs.Layered.{first_key, IsRoot}
 
 -- the trees over leaves below layer n stand in their layers, where they are stored
 abbrev StandBelow : Stored → ℕ → (CidParts → Type 0) → Type 0

@@ -4,9 +4,9 @@ use Rattle.ipld_tree.specs.Cid.{CidParts}
 use Rattle.ipld_links.specs.Names.{block_name}
 use Rattle.ipld_links.specs.Reaching.{Stored}
 use Rattle.atproto_mst.specs.Keys.{Entry}
-use Rattle.atproto_mst.specs.Nodes.{NodeRow, NodeParts, IsNode, IsNodeAt, key_of}
+use Rattle.atproto_mst.specs.Nodes.{NodeRow, NodeParts, IsNode, IsNodeAt, key_of_row}
 use Rattle.atproto_mst.specs.Walks.{WalksLink, WalksRows, WalksNode, WalksTree}
-use Rattle.atproto_mst.specs.Stops.{NodeFault, RowFault, IsRow, ComeBehind, last_key, StopsBehind, StopsInRows, StopsInNode, StopsWalk}
+use Rattle.atproto_mst.specs.Stops.{NodeFault, RowFault, IsRow, ComeBehind, last_entry_key, StopsBehind, StopsInRows, StopsInNode, StopsWalk}
 use Rattle.atproto_mst.specs.declared.error.MstError.{MstError}
 use Rattle.atproto_mst.specs.declared.error.MstError.TheVariants as error
 use Rattle.atproto_mst.proofs.Nodes.{same_node_at}
@@ -26,7 +26,7 @@ no_fault stored name (error.NoNode other) p (o, (b, is, named, not)) k =
 no_fault stored name _ p h k = absurd h
 
 no_row_fault : (previous before : List ℕ) (r : NodeRow) (es : List Entry) (e : MstError) → RowFault previous before r e → r.shared ≤ length previous
-    → ComeBehind before ((key_of previous r, r.value) ∷ es) → ⊥
+    → ComeBehind before ((key_of_row previous r, r.value) ∷ es) → ⊥
 no_row_fault previous before r es error.KeyFront h k f = omega arith
 no_row_fault previous before r es error.KeyLength h k f = h.1 f.keys.0
 no_row_fault previous before r es error.KeyOrder h k f = h.2 f.behind
@@ -55,20 +55,20 @@ never_in_rows W S one never [] before previous e es s w f = absurd s
 never_in_rows W S one never (r ∷ rs) before previous e es (inl fault) (shares, (below, more, link, rows, is)) f =
     no_row_fault previous before r (below ++ more) e fault shares (subst (ComeBehind before) is f)
 never_in_rows W S one never (r ∷ rs) before previous e es (inr (s, inl stop)) (shares, (below, more, link, rows, is)) f =
-    never_behind W S never (key_of previous r) r.after e below stop link
-    (behind_left (key_of previous r) below more (behind_first before (key_of previous r, r.value) (below ++ more) (subst (ComeBehind before) is f)))
+    never_behind W S never (key_of_row previous r) r.after e below stop link
+    (behind_left (key_of_row previous r) below more (behind_first before (key_of_row previous r, r.value) (below ++ more) (subst (ComeBehind before) is f)))
 never_in_rows W S one never (r ∷ rs) before previous e es (inr (s, inr (other, to, behind, stop))) (shares, (below, more, link, rows, is)) f =
-    never_in_rows W S one never rs (last_key (key_of previous r) below) (key_of previous r) e more
-    (subst (λ x. StopsInRows W S (last_key (key_of previous r) x) (key_of previous r) rs e) (one_behind W one r.after other below to link) stop) rows
-    (behind_right (key_of previous r) below more (behind_first before (key_of previous r, r.value) (below ++ more) (subst (ComeBehind before) is f)))
+    never_in_rows W S one never rs (last_entry_key (key_of_row previous r) below) (key_of_row previous r) e more
+    (subst (λ x. StopsInRows W S (last_entry_key (key_of_row previous r) x) (key_of_row previous r) rs e) (one_behind W one r.after other below to link) stop) rows
+    (behind_right (key_of_row previous r) below more (behind_first before (key_of_row previous r, r.value) (below ++ more) (subst (ComeBehind before) is f)))
 
 never_in_node : (W : CidParts → List Entry → Type 0) (S : List ℕ → CidParts → MstError → Type 0) → OneListing W → NeverWalks W S
     → (p : NodeParts) (before : List ℕ) (e : MstError) (es : List Entry) → StopsInNode W S before p e → WalksNode W p es → ComeBehind before es → ⊥
 never_in_node W S one never p before e es (inl stop) (below, more, link, rows, is) f =
     never_behind W S never before p.left e below stop link (behind_left before below more (subst (ComeBehind before) is f))
 never_in_node W S one never p before e es (inr (other, to, behind, stop)) (below, more, link, rows, is) f =
-    never_in_rows W S one never p.rows (last_key before below) [] e more
-    (subst (λ x. StopsInRows W S (last_key before x) [] p.rows e) (one_behind W one p.left other below to link) stop) rows
+    never_in_rows W S one never p.rows (last_entry_key before below) [] e more
+    (subst (λ x. StopsInRows W S (last_entry_key before x) [] p.rows e) (one_behind W one p.left other below to link) stop) rows
     (behind_right before below more (subst (ComeBehind before) is f))
 
 never : (stored : Stored) (m : ℕ) → NeverWalks (WalksTree m stored) (StopsWalk m stored)
@@ -137,22 +137,22 @@ module _ (W : CidParts → List Entry → Type 0) (S : List ℕ → CidParts →
   one_fault_in_rows (r ∷ rs) before previous e f (inl a) (inl b) = one_row_fault previous before r e f a b
   one_fault_in_rows (r ∷ rs) before previous e f (inl a) (inr (row, t)) = absurd (row_or_fault previous before r e a row)
   one_fault_in_rows (r ∷ rs) before previous e f (inr (row, s)) (inl b) = absurd (row_or_fault previous before r f b row)
-  one_fault_in_rows (r ∷ rs) before previous e f (inr (row, inl a)) (inr (k, inl b)) = one_fault_behind (key_of previous r) r.after e f a b
+  one_fault_in_rows (r ∷ rs) before previous e f (inr (row, inl a)) (inr (k, inl b)) = one_fault_behind (key_of_row previous r) r.after e f a b
   one_fault_in_rows (r ∷ rs) before previous e f (inr (row, inl a)) (inr (k, inr (below, link, behind, t))) =
-      absurd (never_behind W S never_walks (key_of previous r) r.after e below a link behind)
+      absurd (never_behind W S never_walks (key_of_row previous r) r.after e below a link behind)
   one_fault_in_rows (r ∷ rs) before previous e f (inr (row, inr (below, link, behind, s))) (inr (k, inl b)) =
-      absurd (never_behind W S never_walks (key_of previous r) r.after f below b link behind)
+      absurd (never_behind W S never_walks (key_of_row previous r) r.after f below b link behind)
   one_fault_in_rows (r ∷ rs) before previous e f (inr (row, inr (below, link, behind, s))) (inr (k, inr (other, to, h, t))) =
-      one_fault_in_rows rs (last_key (key_of previous r) below) (key_of previous r) e f s
-      (subst (λ x. StopsInRows W S (last_key (key_of previous r) x) (key_of previous r) rs f) (one_behind W listing r.after other below to link) t)
+      one_fault_in_rows rs (last_entry_key (key_of_row previous r) below) (key_of_row previous r) e f s
+      (subst (λ x. StopsInRows W S (last_entry_key (key_of_row previous r) x) (key_of_row previous r) rs f) (one_behind W listing r.after other below to link) t)
 
   one_fault_in_node : (p : NodeParts) (before : List ℕ) (e f : MstError) → StopsInNode W S before p e → StopsInNode W S before p f → e ≡ f
   one_fault_in_node p before e f (inl a) (inl b) = one_fault_behind before p.left e f a b
   one_fault_in_node p before e f (inl a) (inr (below, link, behind, t)) = absurd (never_behind W S never_walks before p.left e below a link behind)
   one_fault_in_node p before e f (inr (below, link, behind, s)) (inl b) = absurd (never_behind W S never_walks before p.left f below b link behind)
   one_fault_in_node p before e f (inr (below, link, behind, s)) (inr (other, to, h, t)) =
-      one_fault_in_rows p.rows (last_key before below) [] e f s
-      (subst (λ x. StopsInRows W S (last_key before x) [] p.rows f) (one_behind W listing p.left other below to link) t)
+      one_fault_in_rows p.rows (last_entry_key before below) [] e f s
+      (subst (λ x. StopsInRows W S (last_entry_key before x) [] p.rows f) (one_behind W listing p.left other below to link) t)
 
 pub one_fault : (stored : Stored) (m : ℕ) → OneFault (StopsWalk m stored)
 one_fault stored zero before name e f s t = s ∙ sym t

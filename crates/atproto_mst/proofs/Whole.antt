@@ -4,7 +4,7 @@ use Rattle.std.specs.Prelude.{⊤}
 use Rattle.ipld_tree.specs.Cid.{CidParts}
 use Rattle.dagcbor_car.specs.Car.{Section}
 use Rattle.ipld_links.specs.Sets.{Among}
-use Rattle.atproto_mst.specs.Keys.{Entry, AreEntries}
+use Rattle.atproto_mst.specs.Keys.{Entry, AreMstEntries}
 use Rattle.atproto_mst.specs.Trees.{Leaf, node, nodes, top_layer, leaves, mst, nodes_of}
 use Rattle.atproto_mst.specs.Entries.{EntriesRefused}
 use Rattle.atproto_mst.specs.declared.error.MstError.{MstError}
@@ -18,14 +18,14 @@ pub nodes_is : (es : List Entry) (ls : List Leaf) (n : ℕ) → ls ≡ leaves es
 unfolding nodes_of
 nodes_is es ls n l k = ap (λ m. nodes m ls) k ∙ ap (nodes (top_layer (leaves es))) l
 
-only_memory : (e : MstError) (es : List Entry) (all : List Section) → AreEntries es → ((world : Unit {0}) (before : List Section) → ⊤ → (e ≡ OutOfMemory) ⊎ ((s : Section) × Among s all × ⊥)) → EntriesRefused e es
+only_memory : (e : MstError) (es : List Entry) (all : List Section) → AreMstEntries es → ((world : Unit {0}) (before : List Section) → ⊤ → (e ≡ OutOfMemory) ⊎ ((s : Section) × Among s all × ⊥)) → EntriesRefused e es
 only_memory e es all good r = elim (r tt [] tt) [
   | inl m ↦ subst (λ x. EntriesRefused x es) (sym m) good
   | inr x ↦ absurd x.2
 ]
 
 pub err_only_memory : (A : Type 0) (r : Result CidParts MstError) (es : List Entry) (all : List Section)
-    → IfErr r (λ e. (EntriesRefused e es × A) ⊎ (AreEntries es × ((world : Unit {0}) (before : List Section) → ⊤ → (e ≡ OutOfMemory) ⊎ ((s : Section) × Among s all × ⊥))))
+    → IfErr r (λ e. (EntriesRefused e es × A) ⊎ (AreMstEntries es × ((world : Unit {0}) (before : List Section) → ⊤ → (e ≡ OutOfMemory) ⊎ ((s : Section) × Among s all × ⊥))))
     → IfErr r (λ e. EntriesRefused e es)
 err_only_memory A (Ok x) es all h = tt
 err_only_memory A (Err e) es all h = elim h [

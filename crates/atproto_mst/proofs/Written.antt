@@ -5,7 +5,7 @@ use Rattle.ipld_tree.specs.Tree.{Tree, integer, bytes, list, link, items_of, all
 use Rattle.ipld_tree.specs.Spelling.{IsSpelling}
 use Rattle.dagcbor_write.specs.Trees.{field, option_tree}
 use Rattle.dagcbor_write.specs.Answers.{AreSpellingOf}
-use Rattle.atproto_mst.specs.Trees.{row_tree, map_of}
+use Rattle.atproto_mst.specs.Trees.{row_tree, node_map}
 use Rattle.atproto_mst.specs.Nodes.{tree_of_row, tree_of_node, row_told, node_told}
 use Rattle.repository_types.specs.declared.repository.Entry.{Entry}
 use Rattle.repository_types.specs.declared.repository.Node.{Node}
@@ -33,7 +33,7 @@ rows_are (r ∷ rs) =
 abbrev pub node_written : List Entry → Option CidParts → Option Tree
 node_written rs l = entries_tree (field (codes "e") (list_tree (map row_written rs)) ∷ field (codes "l") (link_written l) ∷ [])
 
-map_written : (es : List Tree) (l : Option CidParts) → entries_tree (field (codes "e") (Some (list (items_of es))) ∷ field (codes "l") (link_written l) ∷ []) ≡ Some (map_of es l)
+map_written : (es : List Tree) (l : Option CidParts) → entries_tree (field (codes "e") (Some (list (items_of es))) ∷ field (codes "l") (link_written l) ∷ []) ≡ Some (node_map es l)
 map_written es None = refl
 map_written es (Some c) = refl
 

@@ -5,7 +5,7 @@ use Rattle.dagcbor_car.specs.Car.{Section}
 use Rattle.ipld_links.specs.Names.{block_name}
 use Rattle.ipld_links.specs.Sets.{Among}
 use Rattle.ipld_links.specs.Reaching.{Stored}
-use Rattle.atproto_mst.specs.Keys.{Entry, AreEntries}
+use Rattle.atproto_mst.specs.Keys.{Entry, AreMstEntries}
 use Rattle.atproto_mst.specs.Trees.{root_of, nodes_of}
 use Rattle.atproto_mst.specs.Entries.{IsMst}
 use Rattle.atproto_mst.specs.Nodes.{NodeParts, IsNodeAt}
@@ -16,7 +16,7 @@ use Rattle.atproto_mst.specs.declared.error.MstError.{MstError}
 
 -- the root is that of the tree of these entries
 abbrev pub IsRootOfEntries : CidParts → List Entry → Type 0
-IsRootOfEntries root es = AreEntries es × (root ≡ root_of es)
+IsRootOfEntries root es = AreMstEntries es × (root ≡ root_of es)
 
 -- Nodes of one name have one block; and bytes that are stored under the name of a node, and have
 -- that name, are its block.

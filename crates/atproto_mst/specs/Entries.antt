@@ -4,7 +4,7 @@ use Rattle.std.specs.List.{AllByRecursion}
 use Rattle.ipld_tree.specs.Cid.{CidParts}
 use Rattle.dagcbor_car.specs.Car.{Section}
 use Rattle.ipld_links.specs.Reaching.{Stored}
-use Rattle.atproto_mst.specs.Keys.{Entry, HaveKeys, Rise, AreEntries}
+use Rattle.atproto_mst.specs.Keys.{Entry, HaveKeys, Rise, AreMstEntries}
 use Rattle.atproto_mst.specs.Trees.{root_of, nodes_of}
 use Rattle.atproto_mst.specs.declared.entries.MstEntry.{MstEntry}
 use Rattle.atproto_mst.specs.declared.error.MstError.{MstError}
@@ -19,7 +19,7 @@ entries es = map entry_of es
 
 -- why entries are refused; memory is wanted of good ones alone
 abbrev pub EntriesRefused : MstError → List Entry → Type 0
-EntriesRefused OutOfMemory es = AreEntries es
+EntriesRefused OutOfMemory es = AreMstEntries es
 EntriesRefused KeyLength es = ¬ HaveKeys es
 EntriesRefused KeyOrder es = ¬ Rise es
 EntriesRefused _ es = ⊥
@@ -30,6 +30,6 @@ AreStored stored nodes = AllByRecursion (λ s. stored s.0 ≡ Some s.1) nodes
 
 -- the tree of these entries is stored, and this is the name of its root
 pub record IsMst (stored : Stored) (root : CidParts) (es : List Entry) : Type 0 where
-  pub valid : AreEntries es
+  pub valid : AreMstEntries es
   pub root_is : root ≡ root_of es
   pub all : AreStored stored (nodes_of es)

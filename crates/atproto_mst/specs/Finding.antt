@@ -7,7 +7,7 @@ use Rattle.std.specs.Cmp.Lexicographic.{slice_cmp}
 use Rattle.ipld_tree.specs.Cid.{CidParts}
 use Rattle.ipld_links.specs.Reaching.{Stored}
 use Rattle.atproto_mst.specs.Keys.{Entry}
-use Rattle.atproto_mst.specs.Nodes.{NodeRow, NodeParts, IsNodeAt, key_of}
+use Rattle.atproto_mst.specs.Nodes.{NodeRow, NodeParts, IsNodeAt, key_of_row}
 use Rattle.atproto_mst.specs.Stops.{NodeFault}
 use Rattle.atproto_mst.specs.declared.error.MstError.{MstError}
 use Rattle.atproto_mst.specs.declared.error.MstError.TheVariants as error
@@ -33,8 +33,8 @@ abbrev pub seek : List ℕ → List ℕ → Option CidParts → List NodeRow →
 seek key previous before [] = sought.Below before
 seek key previous before (r ∷ rs) =
     if nat_lt (length previous) r.shared then sought.KeyFront
-    else by_order (slice_cmp nat_cmp key (key_of previous r)) (sought.Below before) (sought.Record r.value)
-    (seek key (key_of previous r) r.after rs)
+    else by_order (slice_cmp nat_cmp key (key_of_row previous r)) (sought.Below before) (sought.Record r.value)
+    (seek key (key_of_row previous r) r.after rs)
 
 -- what a node says of the key
 abbrev pub seek_in : List ℕ → NodeParts → Sought

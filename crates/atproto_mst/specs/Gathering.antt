@@ -3,22 +3,22 @@ use Rattle.std.specs.Prelude.{◌≡◌, ℕ, List, [], ◌∷◌, ◌++◌, tak
 use Rattle.std.specs.declared.alloc.Global.{Global}
 use Rattle.atproto_mst.specs.Keys.{Entry}
 use Rattle.atproto_mst.specs.Entries.{entries}
-use Rattle.atproto_mst.specs.Nodes.{NodeRow, key_of}
-use Rattle.atproto_mst.specs.Stops.{last_key, ComeBehind, IsRow}
+use Rattle.atproto_mst.specs.Nodes.{NodeRow, key_of_row}
+use Rattle.atproto_mst.specs.Stops.{last_entry_key, ComeBehind, IsRow}
 use Rattle.atproto_mst.specs.declared.entries.MstEntry.{MstEntry}
 
 -- entries that are so stand behind those that there were, and their keys come behind the last key
 pub record GathersEntries (W : List Entry → Type 0) (old new : Vec MstEntry Global) : Type 0 where
   pub found : List Entry
   pub walked : W found
-  pub behind : ComeBehind (last_key [] (entries old.items)) found
+  pub behind : ComeBehind (last_entry_key [] (entries old.items)) found
   pub all : entries new.items ≡ entries old.items ++ found
 
 -- the key of the last of so many entries
 abbrev pub key_behind : ℕ → List MstEntry → List ℕ
-key_behind n es = last_key [] (entries (take n es))
+key_behind n es = last_entry_key [] (entries (take n es))
 
 -- the row's entry stands behind those that there were
 pub record AddsRow (r : NodeRow) (previous : List ℕ) (old new : Vec MstEntry Global) : Type 0 where
-  pub row : IsRow previous (last_key [] (entries old.items)) r
-  pub all : entries new.items ≡ entries old.items ++ (key_of previous r, r.value) ∷ []
+  pub row : IsRow previous (last_entry_key [] (entries old.items)) r
+  pub all : entries new.items ≡ entries old.items ++ (key_of_row previous r, r.value) ∷ []

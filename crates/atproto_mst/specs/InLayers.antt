@@ -5,13 +5,13 @@ use Rattle.ipld_tree.specs.Cid.{CidParts}
 use Rattle.ipld_links.specs.Reaching.{Stored}
 use Rattle.atproto_mst.specs.Keys.{key_layer}
 use Rattle.atproto_mst.specs.Trees.{shared}
-use Rattle.atproto_mst.specs.Nodes.{NodeRow, NodeParts, IsNodeAt, key_of}
+use Rattle.atproto_mst.specs.Nodes.{NodeRow, NodeParts, IsNodeAt, key_of_row}
 
 -- the key is of layer n, and the row leaves out all that it shares with the key before it in its
 -- node
 abbrev pub IsLayerRow : ℕ → List ℕ → NodeRow → Type 0
-IsLayerRow n previous r = (key_layer (key_of previous r) ≡ n)
-    × (r.shared ≡ shared previous (key_of previous r))
+IsLayerRow n previous r = (key_layer (key_of_row previous r) ≡ n)
+    × (r.shared ≡ shared previous (key_of_row previous r))
 
 -- the node behind the link, if there is one, is so
 abbrev pub IfLinked : (CidParts → Type 0) → Option CidParts → Type 0
@@ -22,7 +22,7 @@ IfLinked F (Some name) = F name
 abbrev pub AreRowsOf : (CidParts → Type 0) → ℕ → List ℕ → List NodeRow → Type 0
 AreRowsOf F n previous [] = ⊤
 AreRowsOf F n previous (r ∷ rs) = IsLayerRow n previous r × IfLinked F r.after
-    × AreRowsOf F n (key_of previous r) rs
+    × AreRowsOf F n (key_of_row previous r) rs
 
 -- a node of layer n
 abbrev pub IsOfLayer : (CidParts → Type 0) → ℕ → NodeParts → Type 0
@@ -43,7 +43,3 @@ IsRightBelow stored (suc n) name = (p : NodeParts) × IsNodeAt stored name p × 
 abbrev pub first_layer : List NodeRow → ℕ
 first_layer [] = 0
 first_layer (r ∷ rs) = key_layer r.rest
-
--- a root, and the nodes below it
-abbrev pub IsRoot : Stored → NodeParts → Type 0
-IsRoot stored p = IsOfLayer (IsRightBelow stored (first_layer p.rows)) (first_layer p.rows) p

@@ -49,7 +49,7 @@ abbrev pub HaveRisingKeys : List Entry → Type 0
 HaveRisingKeys es = HaveKeys es × Rise es
 
 -- the entries of a repository: keys of 1 to 1024 bytes, which rise, and CIDs; fewer than 2 ^ 64 of them
-pub record AreEntries (es : List Entry) : Type 0 where
+pub record AreMstEntries (es : List Entry) : Type 0 where
   pub keys : HaveKeys es
   pub rise : Rise es
   pub values : HaveCids es

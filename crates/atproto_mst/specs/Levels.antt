@@ -5,7 +5,7 @@ use Rattle.ipld_links.specs.Sets.{Among}
 use Rattle.ipld_links.specs.Reaching.{Stored}
 use Rattle.atproto_mst.specs.Keys.{Entry}
 use Rattle.atproto_mst.specs.Entries.{entry_of}
-use Rattle.atproto_mst.specs.Nodes.{NodeRow, NodeParts, IsNodeAt, key_of}
+use Rattle.atproto_mst.specs.Nodes.{NodeRow, NodeParts, IsNodeAt, key_of_row}
 use Rattle.atproto_mst.specs.Stops.{NodeFault}
 use Rattle.atproto_mst.specs.declared.error.MstError.{MstError}
 use Rattle.atproto_mst.specs.declared.error.MstError.TheVariants as error
@@ -24,8 +24,8 @@ link_items (Some name) = a_link name ∷ []
 -- of rows behind a key
 abbrev pub row_items : List ℕ → List NodeRow → List LevelItem
 row_items previous [] = []
-row_items previous (r ∷ rs) = an_entry (key_of previous r, r.value)
-    ∷ (link_items r.after ++ row_items (key_of previous r) rs)
+row_items previous (r ∷ rs) = an_entry (key_of_row previous r, r.value)
+    ∷ (link_items r.after ++ row_items (key_of_row previous r) rs)
 
 abbrev pub node_items : NodeParts → List LevelItem
 node_items p = link_items p.left ++ row_items [] p.rows
@@ -38,10 +38,10 @@ abbrev pub level_items : Level → List LevelItem
 level_items l = link_items l.left ++ held_items l.entries.items
 
 -- the names of the links
-abbrev pub links_of : List LevelItem → List CidParts
-links_of [] = []
-links_of (an_entry e ∷ xs) = links_of xs
-links_of (a_link name ∷ xs) = name ∷ links_of xs
+abbrev pub link_names : List LevelItem → List CidParts
+link_names [] = []
+link_names (an_entry e ∷ xs) = link_names xs
+link_names (a_link name ∷ xs) = name ∷ link_names xs
 
 -- ---- a level down
 
@@ -72,7 +72,7 @@ DropsShared false names others dropped = dropped ≡ []
 pub record StepsDown (stored : Stored) (asked : Bool × Bool)
     (before after below others : List LevelItem) : Type 0 where
   pub dropped : List CidParts
-  pub drops : DropsShared (asked.0 && asked.1) (links_of before) (links_of after) dropped
+  pub drops : DropsShared (asked.0 && asked.1) (link_names before) (link_names after) dropped
   pub one : OpensIf stored dropped asked.0 before below
   pub other : OpensIf stored dropped asked.1 after others
 

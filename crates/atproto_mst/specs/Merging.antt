@@ -19,5 +19,5 @@ same_record (Some x) (Some y) = eq_by_cmp cid_cmp x y
 same_record _ _ = false
 
 -- of a key with these records, if they differ
-abbrev pub noted : List ℕ → Option CidParts → Option CidParts → List Changed
-noted key x y = if same_record x y then [] else (key, (x, y)) ∷ []
+abbrev pub changes_of_key : List ℕ → Option CidParts → Option CidParts → List Changed
+changes_of_key key x y = if same_record x y then [] else (key, (x, y)) ∷ []

@@ -6,7 +6,7 @@ use Rattle.ipld_tree.specs.Tree.{Tree}
 use Rattle.ipld_tree.specs.Spelling.{IsSpelling}
 use Rattle.ipld_links.specs.Names.{block_name}
 use Rattle.ipld_links.specs.Reaching.{Stored}
-use Rattle.atproto_mst.specs.Trees.{row_tree, map_of}
+use Rattle.atproto_mst.specs.Trees.{row_tree, node_map}
 use Rattle.repository_types.specs.declared.repository.Entry.{Entry}
 use Rattle.repository_types.specs.declared.repository.Node.{Node}
 
@@ -27,7 +27,7 @@ abbrev pub tree_of_row : NodeRow → Tree
 tree_of_row r = row_tree r.shared r.rest r.value r.after
 
 abbrev pub tree_of_node : NodeParts → Tree
-tree_of_node p = map_of (map tree_of_row p.rows) p.left
+tree_of_node p = node_map (map tree_of_row p.rows) p.left
 
 -- where there is a link, it is a CID
 abbrev pub IsCidIfAny : Option CidParts → Type 0
@@ -48,8 +48,8 @@ pub record IsNodeAt (stored : Stored) (name : CidParts) (p : NodeParts) : Type 0
   pub node : IsNode block p
 
 -- the key of an entry behind this key
-abbrev pub key_of : List ℕ → NodeRow → List ℕ
-key_of previous r = take r.shared previous ++ r.rest
+abbrev pub key_of_row : List ℕ → NodeRow → List ℕ
+key_of_row previous r = take r.shared previous ++ r.rest
 
 -- ---- as they are held
 

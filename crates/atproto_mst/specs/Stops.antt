@@ -6,9 +6,9 @@ use Rattle.std.specs.Cmp.Lexicographic.{slice_cmp}
 use Rattle.ipld_tree.specs.Cid.{CidParts}
 use Rattle.ipld_links.specs.Names.{block_name}
 use Rattle.ipld_links.specs.Reaching.{Stored}
-use Rattle.atproto_mst.specs.Keys.{Entry, IsKey, HaveKeys, ComesBefore, Rise, AreEntries}
+use Rattle.atproto_mst.specs.Keys.{Entry, IsKey, HaveKeys, ComesBefore, Rise, AreMstEntries}
 use Rattle.atproto_mst.specs.Entries.{IsMst}
-use Rattle.atproto_mst.specs.Nodes.{NodeRow, NodeParts, IsNode, IsNodeAt, key_of}
+use Rattle.atproto_mst.specs.Nodes.{NodeRow, NodeParts, IsNode, IsNodeAt, key_of_row}
 use Rattle.atproto_mst.specs.Walks.{WalksLink, WalksTree, most_layers}
 use Rattle.atproto_mst.specs.declared.error.MstError.{MstError}
 use Rattle.atproto_mst.specs.declared.error.MstError.TheVariants as error
@@ -29,16 +29,17 @@ NodeFault stored name _ = ⊥
 -- what is wrong with a row behind this key of its node, where this key comes before it in the tree
 abbrev pub RowFault : List ℕ → List ℕ → NodeRow → MstError → Type 0
 RowFault previous before r error.KeyFront = length previous < r.shared
-RowFault previous before r error.KeyLength = (r.shared ≤ length previous) × ¬ IsKey (key_of previous r)
-RowFault previous before r error.KeyOrder = (r.shared ≤ length previous) × IsKey (key_of previous r)
-    × (slice_cmp nat_cmp before (key_of previous r) ≢ Less)
+RowFault previous before r error.KeyLength = (r.shared ≤ length previous)
+    × ¬ IsKey (key_of_row previous r)
+RowFault previous before r error.KeyOrder = (r.shared ≤ length previous)
+    × IsKey (key_of_row previous r) × (slice_cmp nat_cmp before (key_of_row previous r) ≢ Less)
 RowFault previous before r _ = ⊥
 
 -- nothing is
 pub record IsRow (previous before : List ℕ) (r : NodeRow) : Type 0 where
   pub shares : r.shared ≤ length previous
-  pub is_key : IsKey (key_of previous r)
-  pub behind : slice_cmp nat_cmp before (key_of previous r) ≡ Less
+  pub is_key : IsKey (key_of_row previous r)
+  pub behind : slice_cmp nat_cmp before (key_of_row previous r) ≡ Less
 
 -- the entries have keys, which rise, and come behind this key
 pub record ComeBehind (before : List ℕ) (es : List Entry) : Type 0 where
@@ -47,9 +48,9 @@ pub record ComeBehind (before : List ℕ) (es : List Entry) : Type 0 where
   pub behind : ComesBefore before es
 
 -- the last key of the entries, or this one, where there are none
-abbrev pub last_key : List ℕ → List Entry → List ℕ
-last_key before [] = before
-last_key before (e ∷ es) = last_key e.0 es
+abbrev pub last_entry_key : List ℕ → List Entry → List ℕ
+last_entry_key before [] = before
+last_entry_key before (e ∷ es) = last_entry_key e.0 es
 
 -- ---- the walk
 
@@ -63,16 +64,16 @@ abbrev pub StopsInRows : (CidParts → List Entry → Type 0) → (List ℕ → 
     → List ℕ → List ℕ → List NodeRow → MstError → Type 0
 StopsInRows W S before previous [] e = ⊥
 StopsInRows W S before previous (r ∷ rs) e = RowFault previous before r e
-    ⊎ (IsRow previous before r × (StopsBehind S (key_of previous r) r.after e
-    ⊎ ((below : List Entry) × WalksLink W r.after below × ComeBehind (key_of previous r) below
-    × StopsInRows W S (last_key (key_of previous r) below) (key_of previous r) rs e)))
+    ⊎ (IsRow previous before r × (StopsBehind S (key_of_row previous r) r.after e
+    ⊎ ((below : List Entry) × WalksLink W r.after below × ComeBehind (key_of_row previous r) below
+    × StopsInRows W S (last_entry_key (key_of_row previous r) below) (key_of_row previous r) rs e)))
 
 -- In the tree before the first key; else behind it.
 abbrev pub StopsInNode : (CidParts → List Entry → Type 0) → (List ℕ → CidParts → MstError → Type 0)
     → List ℕ → NodeParts → MstError → Type 0
 StopsInNode W S before p e = StopsBehind S before p.left e
     ⊎ ((below : List Entry) × WalksLink W p.left below × ComeBehind before below
-    × StopsInRows W S (last_key before below) [] p.rows e)
+    × StopsInRows W S (last_entry_key before below) [] p.rows e)
 
 -- From the root of this name, behind this key, where at most so many nodes stand below each other.
 abbrev pub StopsWalk : ℕ → Stored → List ℕ → CidParts → MstError → Type 0
@@ -87,7 +88,7 @@ StopsWalk (suc m) stored before name e = NodeFault stored name e
 abbrev pub MstRefused : Stored → CidParts → MstError → Type 0
 MstRefused stored root error.OutOfMemory = ⊤
 MstRefused stored root error.OtherTree = (es : List Entry) × WalksTree most_layers stored root es
-    × AreEntries es × ¬ IsMst stored root es
+    × AreMstEntries es × ¬ IsMst stored root es
 MstRefused stored root e = StopsWalk most_layers stored [] root e
 
 -- of a tree that is refused there is one reason, beside memory

@@ -51,12 +51,12 @@ entry_trees sub n previous (e ∷ es) =
     else entry_tree previous e (sub (lower_run n es)) ∷ entry_trees sub n e.key es
 
 -- a map of the entries, and of the node before the first key
-abbrev pub map_of : List Tree → Option CidParts → Tree
-map_of e l = mapping (entry (codes "e") (list (items_of e)) (entry (codes "l") (link_tree l) no_entries))
+abbrev pub node_map : List Tree → Option CidParts → Tree
+node_map e l = mapping (entry (codes "e") (list (items_of e)) (entry (codes "l") (link_tree l) no_entries))
 
 -- the node of layer n over leaves of that layer and of lower ones
 abbrev pub node_over : (List Leaf → Option CidParts) → ℕ → List Leaf → Tree
-node_over sub n es = map_of (entry_trees sub n [] es) (sub (lower_run n es))
+node_over sub n es = node_map (entry_trees sub n [] es) (sub (lower_run n es))
 
 -- The name of the node over leaves that are all below layer n: a node of the layer right below. No
 -- leaves have none.

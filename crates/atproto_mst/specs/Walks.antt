@@ -4,7 +4,7 @@ use Rattle.std.specs.Prelude.{◌≡◌, ℕ, zero, suc, ◌≤◌, List, [], �
 use Rattle.ipld_tree.specs.Cid.{CidParts}
 use Rattle.ipld_links.specs.Reaching.{Stored}
 use Rattle.atproto_mst.specs.Keys.{Entry}
-use Rattle.atproto_mst.specs.Nodes.{NodeRow, NodeParts, IsNodeAt, key_of}
+use Rattle.atproto_mst.specs.Nodes.{NodeRow, NodeParts, IsNodeAt, key_of_row}
 
 -- the entries of the tree behind a link; no link has none
 abbrev pub WalksLink : (CidParts → List Entry → Type 0) → Option CidParts → List Entry → Type 0
@@ -15,8 +15,8 @@ WalksLink W (Some name) es = W name es
 abbrev pub WalksRows : (CidParts → List Entry → Type 0) → List ℕ → List NodeRow → List Entry → Type 0
 WalksRows W previous [] es = es ≡ []
 WalksRows W previous (r ∷ rs) es = (r.shared ≤ length previous)
-    × ((below more : List Entry) × WalksLink W r.after below × WalksRows W (key_of previous r) rs more
-    × (es ≡ (key_of previous r, r.value) ∷ (below ++ more)))
+    × ((below more : List Entry) × WalksLink W r.after below × WalksRows W (key_of_row previous r) rs more
+    × (es ≡ (key_of_row previous r, r.value) ∷ (below ++ more)))
 
 -- the entries of the tree before the first key, and of the rows
 abbrev pub WalksNode : (CidParts → List Entry → Type 0) → NodeParts → List Entry → Type 0

@@ -6,7 +6,7 @@ ghost use Rattle.atproto_mst.specs.Keys.{Entry, Rise};
 ghost use Rattle.atproto_mst.specs.Entries.{entries, IsMst};
 ghost use Rattle.atproto_mst.specs.Stops.{MstRefused};
 ghost use Rattle.atproto_mst.specs.Changes.{changes, AreChanges};
-ghost use Rattle.atproto_mst.specs.Merging.{removed, added, noted};
+ghost use Rattle.atproto_mst.specs.Merging.{removed, added, changes_of_key};
 ghost use Rattle.atproto_mst.specs.declared.error.MstError.TheVariants.{OutOfMemory};
 
 use crate::entries::MstEntry;
@@ -111,7 +111,7 @@ fn add_if_changed(
     found: &mut Vec<Change>,
 ) -> Result<(), AllocError>
     ensures { OnOk result (changes found.new.items ≡ changes found.old.items
-        ++ noted one.now.key.items (Some one.now.value) (Some other.now.value)) }
+        ++ changes_of_key one.now.key.items (Some one.now.value) (Some other.now.value)) }
 {
     if one.value == other.value {
         return Ok(());

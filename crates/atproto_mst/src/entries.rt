@@ -1,7 +1,7 @@
 //! Entries, and the layers of their keys.
 
 ghost use Rattle.std.specs.Prelude.{◌≡◌, MatchResult, IfOk, ◌≤◌};
-ghost use Rattle.atproto_mst.specs.Keys.{HaveKeys, HaveCids, Rise, AreEntries};
+ghost use Rattle.atproto_mst.specs.Keys.{HaveKeys, HaveCids, Rise, AreMstEntries};
 ghost use Rattle.atproto_mst.specs.Trees.{leaves, top_layer};
 ghost use Rattle.atproto_mst.specs.Placed.{all_told};
 ghost use Rattle.atproto_mst.specs.Entries.{entries, EntriesRefused};
@@ -27,7 +27,7 @@ pub struct MstEntry {
 
 /// Whether the keys are 1 to 1024 bytes, and rise.
 pub(crate) fn check_entries(all: &[MstEntry]) -> Result<(), MstError>
-    ensures { MatchResult result (λ _. AreEntries (entries all.now))
+    ensures { MatchResult result (λ _. AreMstEntries (entries all.now))
         (λ e. EntriesRefused e (entries all.now)) }
 {
     // What is counted is fewer than 2^64 entries.

@@ -6,9 +6,9 @@ ghost use Rattle.ipld_tree.specs.Cid.{CidParts};
 ghost use Rattle.ipld_links.specs.Reaching.{stored_in};
 ghost use Rattle.ipld_links.specs.Sets.{Among, members};
 ghost use Rattle.atproto_mst.specs.Entries.{entry_of, entries};
-ghost use Rattle.atproto_mst.specs.Nodes.{node_told, row_told, key_of};
+ghost use Rattle.atproto_mst.specs.Nodes.{node_told, row_told, key_of_row};
 ghost use Rattle.atproto_mst.specs.Levels.{LevelItem, an_entry, a_link, link_items, row_items};
-ghost use Rattle.atproto_mst.specs.Levels.{node_items, held_items, level_items, links_of};
+ghost use Rattle.atproto_mst.specs.Levels.{node_items, held_items, level_items, link_names};
 ghost use Rattle.atproto_mst.specs.Levels.{OpensItems, OpensIf, IsOfShape, LevelLinksRefused};
 ghost use Rattle.atproto_mst.specs.declared.error.MstError.TheVariants.{OutOfMemory};
 
@@ -61,7 +61,7 @@ pub(crate) fn whole_level(alloc: Global, root: &Cid) -> Level
 
 /// The names of the links of a level, in their order.
 pub(crate) fn link_names(alloc: Global, level: &Level) -> Result<Vec<Cid>, AllocError>
-    ensures { IfOk result (λ v. v.items ≡ links_of (level_items level.now)) }
+    ensures { IfOk result (λ v. v.items ≡ link_names (level_items level.now)) }
 {
     let mut names = Vec::new(alloc);
     push_link(&level.left, &mut names)?;
@@ -73,7 +73,7 @@ pub(crate) fn link_names(alloc: Global, level: &Level) -> Result<Vec<Cid>, Alloc
 
 /// Appends the name, if there is a link.
 fn push_link(link: &Option<Cid>, names: &mut Vec<Cid>) -> Result<(), AllocError>
-    ensures { OnOk result (names.new.items ≡ names.old.items ++ links_of (link_items link.now)) }
+    ensures { OnOk result (names.new.items ≡ names.old.items ++ link_names (link_items link.now)) }
 {
     if let Some(name) = link {
         names.reserve(1)?;
@@ -124,7 +124,7 @@ pub(crate) fn open_if(
     ensures { MatchResult result
         (λ below. OpensIf (stored_in blocks.now) (members dropped.now) asked (level_items level)
         (level_items below))
-        (LevelLinksRefused (stored_in blocks.now) (links_of (level_items level))) }
+        (LevelLinksRefused (stored_in blocks.now) (link_names (level_items level))) }
 {
     if asked {
         open_level(alloc, blocks, dropped, level)
@@ -143,7 +143,7 @@ fn open_level(
     ensures { MatchResult result
         (λ below. OpensItems (stored_in blocks.now) (members dropped.now) (level_items level)
         (level_items below))
-        (LevelLinksRefused (stored_in blocks.now) (links_of (level_items level))) }
+        (LevelLinksRefused (stored_in blocks.now) (link_names (level_items level))) }
 {
     let Level { left, entries } = level;
     let node = node_below(alloc, blocks, dropped, &left)?;
@@ -170,7 +170,7 @@ fn open_entry(
         (λ _. (more : List LevelItem) × OpensItems (stored_in blocks.now) (members dropped.now)
         (held_items (held ∷ [])) more
         × (held_items opened.new.items ≡ held_items opened.old.items ++ more))
-        (LevelLinksRefused (stored_in blocks.now) (links_of (held_items (held ∷ [])))) }
+        (LevelLinksRefused (stored_in blocks.now) (link_names (held_items (held ∷ [])))) }
 {
     let LevelEntry { entry, after } = held;
     let node = node_below(alloc, blocks, dropped, &after)?;
@@ -188,7 +188,7 @@ fn node_below(
     ensures { MatchResult result
         (λ node. OpensItems (stored_in blocks.now) (members dropped.now) (link_items link.now)
         (node_items (node_told node)))
-        (LevelLinksRefused (stored_in blocks.now) (links_of (link_items link.now))) }
+        (LevelLinksRefused (stored_in blocks.now) (link_names (link_items link.now))) }
 {
     let Some(name) = link else {
         return Ok(no_node(alloc));
@@ -229,7 +229,7 @@ fn push_row(
     key: &mut Vec<u8>,
     opened: &mut Vec<LevelEntry>,
 ) -> Result<(), MstError>
-    ensures key { OnOk result (key.new.items ≡ key_of key.old.items (row_told row.now)) }
+    ensures key { OnOk result (key.new.items ≡ key_of_row key.old.items (row_told row.now)) }
     ensures pushed { OnOk result (held_items opened.new.items ≡ held_items opened.old.items
         ++ (an_entry (key.new.items, row.now.v) ∷ link_items row.now.t)) }
     ensures refused { IfErr result (λ e. (e ≡ OutOfMemory) ⊎ IsOfShape e) }

@@ -5,10 +5,10 @@ ghost use Rattle.std.specs.Prelude.{Decides, MatchResult, IfOk, OnOk, IfErr};
 ghost use Rattle.ipld_links.specs.Reaching.{stored_in};
 ghost use Rattle.atproto_mst.specs.Keys.{Entry, IsKey};
 ghost use Rattle.atproto_mst.specs.Entries.{entries, IsMst};
-ghost use Rattle.atproto_mst.specs.Nodes.{row_told, node_told, key_of};
+ghost use Rattle.atproto_mst.specs.Nodes.{row_told, node_told, key_of_row};
 ghost use Rattle.atproto_mst.specs.Walks.{WalksTree, WalksLink, WalksRows, WalksNode};
 ghost use Rattle.atproto_mst.specs.Stops.{RowFault, StopsWalk, StopsBehind, StopsInRows, StopsInNode};
-ghost use Rattle.atproto_mst.specs.Stops.{MstRefused, last_key};
+ghost use Rattle.atproto_mst.specs.Stops.{MstRefused, last_entry_key};
 ghost use Rattle.atproto_mst.specs.InLayers.{first_layer, IsLayerRow, IfLinked, AreRowsOf, IsOfLayer};
 ghost use Rattle.atproto_mst.specs.InLayers.{IsEmpty, IsRightBelow};
 ghost use Rattle.atproto_mst.specs.Gathering.{GathersEntries, AddsRow, key_behind};
@@ -74,7 +74,7 @@ fn gather(
     ensures walked { OnOk result
         (GathersEntries (WalksTree layers (stored_in blocks.now) name.now) found.old found.new) }
     ensures stopped { IfErr result (λ e. (e ≡ OutOfMemory) ⊎ StopsWalk layers (stored_in blocks.now)
-        (last_key [] (entries found.old.items)) name.now e) }
+        (last_entry_key [] (entries found.old.items)) name.now e) }
     ensures fits { IfOk result
         (λ fits. Decides fits (IsRightBelow (stored_in blocks.now) above name.now)) }
 {
@@ -113,7 +113,7 @@ fn gather_node(
         found.new) }
     ensures stopped { IfErr result (λ e. (e ≡ OutOfMemory)
         ⊎ StopsInNode (WalksTree layers (stored_in blocks.now)) (StopsWalk layers (stored_in blocks.now))
-        (last_key [] (entries found.old.items)) (node_told node.now) e) }
+        (last_entry_key [] (entries found.old.items)) (node_told node.now) e) }
     ensures fits { IfOk result (λ fits. Decides fits
         (IsOfLayer (IsRightBelow (stored_in blocks.now) layer) layer (node_told node.now))) }
 {
@@ -137,7 +137,7 @@ fn gather_below(
         (GathersEntries (WalksLink (WalksTree layers (stored_in blocks.now)) link.now) found.old found.new) }
     ensures stopped { IfErr result (λ e. (e ≡ OutOfMemory)
         ⊎ StopsBehind (StopsWalk layers (stored_in blocks.now))
-        (last_key [] (entries found.old.items)) link.now e) }
+        (last_entry_key [] (entries found.old.items)) link.now e) }
     ensures fits { IfOk result
         (λ fits. Decides fits (IfLinked (IsRightBelow (stored_in blocks.now) above) link.now)) }
 {
@@ -163,7 +163,7 @@ fn gather_rows(
         found.old found.new) }
     ensures stopped { IfErr result (λ e. (e ≡ OutOfMemory)
         ⊎ StopsInRows (WalksTree layers (stored_in blocks.now)) (StopsWalk layers (stored_in blocks.now))
-        (last_key [] (entries found.old.items)) [] (map row_told rows.now) e) }
+        (last_entry_key [] (entries found.old.items)) [] (map row_told rows.now) e) }
     ensures fits { IfOk result (λ fits. Decides fits
         (AreRowsOf (IsRightBelow (stored_in blocks.now) layer) layer [] (map row_told rows.now))) }
 {
@@ -192,7 +192,8 @@ fn add_row(
     ensures added { OnOk result
         (AddsRow (row_told row.now) (key_behind previous found.old.items) found.old found.new) }
     ensures stopped { IfErr result (λ e. (e ≡ OutOfMemory)
-        ⊎ RowFault (key_behind previous found.old.items) (last_key [] (entries found.old.items))
+        ⊎ RowFault (key_behind previous found.old.items)
+        (last_entry_key [] (entries found.old.items))
         (row_told row.now) e) }
     ensures fits { IfOk result
         (λ fits. Decides fits
@@ -214,7 +215,7 @@ fn add_row(
 /// The key of the row behind this key of its node.
 fn make_key(alloc: Global, previous: &[u8], row: &Row) -> Result<Vec<u8>, MstError>
     ensures made { IfOk result (λ key. (row.now.p ≤ length previous.now)
-        × (key.items ≡ key_of previous.now (row_told row.now)) × IsKey key.items) }
+        × (key.items ≡ key_of_row previous.now (row_told row.now)) × IsKey key.items) }
     ensures stopped { (before : List ℕ) → IfErr result (λ e. (e ≡ OutOfMemory)
         ⊎ RowFault previous.now before (row_told row.now) e) }
 {
@@ -234,7 +235,7 @@ fn make_key(alloc: Global, previous: &[u8], row: &Row) -> Result<Vec<u8>, MstErr
 
 /// The key of the last entry, and no byte without one.
 fn key_of_last(found: &[MstEntry]) -> &[u8]
-    ensures { result.now ≡ last_key [] (entries found.now) }
+    ensures { result.now ≡ last_entry_key [] (entries found.now) }
 {
     match found.last() {
         Some(last) => &last.key,

@@ -7,7 +7,7 @@ ghost use Rattle.atproto_mst.specs.Keys.{Entry};
 ghost use Rattle.atproto_mst.specs.Entries.{entries, IsMst};
 ghost use Rattle.atproto_mst.specs.Stops.{MstRefused, NodeFault};
 ghost use Rattle.atproto_mst.specs.Changes.{changes, AreChanges};
-ghost use Rattle.atproto_mst.specs.Levels.{level_items, links_of, DropsShared, StepsDown};
+ghost use Rattle.atproto_mst.specs.Levels.{level_items, link_names, DropsShared, StepsDown};
 ghost use Rattle.atproto_mst.specs.Levels.{IsOfShape, LevelLinksRefused};
 ghost use Rattle.atproto_mst.specs.Differing.{AreChangesOf, LacksNode, DiffRefused};
 ghost use Rattle.atproto_mst.specs.declared.error.MstError.TheVariants.{OutOfMemory};
@@ -106,8 +106,8 @@ fn step_down(
     ensures { MatchResult result
         (λ r. StepsDown (stored_in blocks.now) asked (level_items before) (level_items after)
         (level_items r.0) (level_items r.1))
-        (λ e. LevelLinksRefused (stored_in blocks.now) (links_of (level_items before)) e
-        ⊎ LevelLinksRefused (stored_in blocks.now) (links_of (level_items after)) e) }
+        (λ e. LevelLinksRefused (stored_in blocks.now) (link_names (level_items before)) e
+        ⊎ LevelLinksRefused (stored_in blocks.now) (link_names (level_items after)) e) }
 {
     let both = asked.0 && asked.1;
     let dropped = dropped_of(alloc, both, &before, &after)?;
@@ -123,8 +123,8 @@ fn dropped_of(
     before: &Level,
     after: &Level,
 ) -> Result<CidSet, AllocError>
-    ensures { IfOk result (λ s. DropsShared both (links_of (level_items before.now))
-        (links_of (level_items after.now)) (members s)) }
+    ensures { IfOk result (λ s. DropsShared both (link_names (level_items before.now))
+        (link_names (level_items after.now)) (members s)) }
 {
     if !both {
         return Ok(CidSet::new(alloc));

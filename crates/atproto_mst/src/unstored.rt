@@ -3,7 +3,7 @@
 ghost use Rattle.std.specs.Prelude.{◌≡◌, ◌⊎◌, List, ◌++◌, None, IfOk, OnOk, IfErr};
 ghost use Rattle.dagcbor_car.specs.Car.{Section};
 ghost use Rattle.ipld_links.specs.Reaching.{stored_in, Stored};
-ghost use Rattle.atproto_mst.specs.Keys.{AreEntries};
+ghost use Rattle.atproto_mst.specs.Keys.{AreMstEntries};
 ghost use Rattle.atproto_mst.specs.Trees.{root_of, nodes_of};
 ghost use Rattle.atproto_mst.specs.Entries.{entries, EntriesRefused};
 ghost use Rattle.atproto_mst.specs.Sinks.{HandsOver, HandsOverFirst, RefusesOne, not_stored};
@@ -50,12 +50,12 @@ pub fn write_changes<S: NodeSink>(
 ) -> (S, Result<Cid, MstError>)
     ensures root { IfOk result.1
         (λ root. root ≡ root_of (entries all.now)) }
-    ensures valid { OnOk result.1 (AreEntries (entries all.now)) }
+    ensures valid { OnOk result.1 (AreMstEntries (entries all.now)) }
     ensures taken { OnOk result.1 (HandsOver S.holds sink
         (not_stored (stored_in blocks.now) (nodes_of (entries all.now))) result.0) }
     ensures refused { IfErr result.1
         (λ e. (EntriesRefused e (entries all.now) × (result.0 ≡ sink))
-        ⊎ (AreEntries (entries all.now) × RefusesOne S.holds S.refuses sink
+        ⊎ (AreMstEntries (entries all.now) × RefusesOne S.holds S.refuses sink
         (not_stored (stored_in blocks.now) (nodes_of (entries all.now))) e)) }
     ensures begun { IfErr result.1 (λ _. HandsOverFirst S.holds sink
         (not_stored (stored_in blocks.now) (nodes_of (entries all.now))) result.0) }

@@ -1,7 +1,7 @@
 //! The tree of entries.
 
 ghost use Rattle.std.specs.Prelude.{◌≡◌, ◌⊎◌, ⊤, MatchResult, IfOk, OnOk, IfErr};
-ghost use Rattle.atproto_mst.specs.Keys.{AreEntries};
+ghost use Rattle.atproto_mst.specs.Keys.{AreMstEntries};
 ghost use Rattle.atproto_mst.specs.Trees.{root_of, nodes_of};
 ghost use Rattle.atproto_mst.specs.Entries.{entries, EntriesRefused};
 ghost use Rattle.atproto_mst.specs.Sinks.{HandsOver, HandsOverFirst, RefusesOne};
@@ -23,12 +23,12 @@ pub fn write_mst<S: NodeSink>(
 ) -> Result<Cid, MstError>
     ensures root { IfOk result
         (λ root. root ≡ root_of (entries all.now)) }
-    ensures valid { OnOk result (AreEntries (entries all.now)) }
+    ensures valid { OnOk result (AreMstEntries (entries all.now)) }
     ensures taken { OnOk result (HandsOver S.holds sink.old
         (nodes_of (entries all.now)) sink.new) }
     ensures refused { IfErr result
         (λ e. (EntriesRefused e (entries all.now) × (sink.new ≡ sink.old))
-        ⊎ (AreEntries (entries all.now) × RefusesOne S.holds S.refuses sink.old
+        ⊎ (AreMstEntries (entries all.now) × RefusesOne S.holds S.refuses sink.old
         (nodes_of (entries all.now)) e)) }
     ensures begun { IfErr result (λ _. HandsOverFirst S.holds sink.old
         (nodes_of (entries all.now)) sink.new) }
@@ -58,7 +58,7 @@ impl NodeSink for Forgotten {
 pub fn mst_root(alloc: Global, all: &[MstEntry]) -> Result<Cid, MstError>
     ensures root { IfOk result
         (λ root. root ≡ root_of (entries all.now)) }
-    ensures valid { OnOk result (AreEntries (entries all.now)) }
+    ensures valid { OnOk result (AreMstEntries (entries all.now)) }
     ensures refused { IfErr result (λ e. EntriesRefused e (entries all.now)) }
 {
     write_mst(alloc, all, &mut Forgotten)

@@ -1,9 +1,10 @@
 -- How a line goes out.
-use Rattle.std.proofs.Common.{◌≡◌, inl, inr, ℕ, List, [], ◌∷◌, ◌++◌, Bool, true, ◌&&◌, refl, sym, ap, ◌∙◌, subst, append_assoc, append-nil, Option, Result, Ok, Err, OnOk, IsErrAnd}
+use Rattle.std.proofs.Common.{◌≡◌, ◌↔◌, inl, inr, ℕ, ◌==◌, List, [], ◌∷◌, ◌++◌, length, Bool, true, IsTrue, ◌&&◌, eqb-true, refl, sym, ap, ◌∙◌, subst, append_assoc, append-nil, Option, Result, Ok, Err, OnOk, IsErrAnd}
 use Rattle.std.proofs.Math.Bool.{and-true, and_assoc}
+use Rattle.std.proofs.lemmas.List.{nil_from_length}
 use Rattle.std.specs.Io.KnownBytes.{Appends}
 use Rattle.std.proofs.KnownBytes.{Appends-nil}
-use Rattle.block_lines.specs.Lines.{IsSaidOfEach, Says, SaysBoth, SaysLines}
+use Rattle.block_lines.specs.Lines.{IsSaidOfEach, SaysToDevice, SaysBoth, SaysLines}
 use Rattle.dagcbor_cli.specs.declared.fault.ToolError.{ToolError}
 use Rattle.dagcbor_cli.specs.declared.fault.ToolError.TheVariants.{Output}
 
@@ -11,7 +12,7 @@ pub line_whole : (before after : Option (List ℕ)) (bytes text : List ℕ) → 
 line_whole before after bytes text k e = subst (Appends before after) (sym (k.2 ∙ ap (λ x. k.0 ++ x) k.4 ∙ append-nil k.0) ∙ e) k.3
 
 -- lines that are what is to be said
-pub lines_said : (IsSaid : Bool → List ℕ → Type 0) (said : List ℕ) (well : Bool) (before after : Option (List ℕ)) (r : Result Bool ToolError) → IsSaid well said → SaysLines said well before r after → Says IsSaid before r after
+pub lines_said : (IsSaid : Bool → List ℕ → Type 0) (said : List ℕ) (well : Bool) (before after : Option (List ℕ)) (r : Result Bool ToolError) → IsSaid well said → SaysLines said well before r after → SaysToDevice IsSaid before r after
 lines_said IsSaid said well before after (Ok answer) is k = (said, subst (λ w. IsSaid w said) (sym k.0) is, k.1)
 lines_said IsSaid said well before after (Err e) is (inl none) = inl none
 lines_said IsSaid said well before after (Err e) is (inr k) = inr (k.0, k.1, (well, subst (IsSaid well) (sym k.2) is), k.3, k.4)
@@ -39,6 +40,10 @@ pub first_broken : (lines text bytes : List ℕ) (well : Bool) (old heard : Opti
 first_broken lines text bytes well old heard (Ok w) new x same is fault k = absurd is
 first_broken lines text bytes well old heard (Err e) new x same is fault k =
     inr (well, k.0, k.1, [], text, (refl, sym k.2 ∙ same, refl), is ∙ fault, k.3, Appends-nil heard)
+
+-- a list is told to be empty exactly where it is
+pub told_empty : {X : Type 0} (xs : List X) (b : Bool) → b ≡ (length xs == 0) → IsTrue b ↔ (xs ≡ [])
+told_empty xs b is = (λ h. nil_from_length xs (eqb-true (length xs) 0 (sym is ∙ h)), λ none. is ∙ ap (λ l. length l == 0) none)
 
 pub known_anyway : {A E X : Type 0} (r : Result A E) → X → OnOk r X
 known_anyway (Ok v) x = x

@@ -34,8 +34,8 @@ is_well verdicts.NotRead = true
 is_well _ = false
 
 -- of a section: its name as text, and the verdict
-abbrev pub told_line : Told → List ℕ
-told_line p = line (cid_text p.0.0 ++ (32 ∷ verdict_text p.1))
+abbrev pub verdict_line : Told → List ℕ
+verdict_line p = line (cid_text p.0.0 ++ (32 ∷ verdict_text p.1))
 
 -- of a section: its name as text, and how many bytes its block has, in decimal
 abbrev pub listed_line : Section → List ℕ
@@ -75,9 +75,9 @@ BreaksLine IsLine old new e = Appends old new []
 
 -- what is said went out, and whether it tells of nothing wrong is answered; or nothing more of it
 -- went out, or the device failed, and a front did
-abbrev pub Says : (Bool → List ℕ → Type 0) → Option (List ℕ) → Result Bool ToolError
+abbrev pub SaysToDevice : (Bool → List ℕ → Type 0) → Option (List ℕ) → Result Bool ToolError
     → Option (List ℕ) → Type 0
-Says IsSaid old result new = MatchResult result
+SaysToDevice IsSaid old result new = MatchResult result
     (λ well. (out : List ℕ) × IsSaid well out × Appends old new out)
     (λ e. BreaksLine (λ out. (well : Bool) × IsSaid well out) old new e)
 

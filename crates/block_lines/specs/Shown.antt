@@ -11,8 +11,9 @@ use Rattle.dagcbor_items.specs.PrintedNames.{variant_name}
 use Rattle.block_lines.specs.Lines.{line}
 
 -- of bytes that are no block, and by which byte
-abbrev pub place_line : {E : Type 0} → DecodeError E → ℕ → List ℕ
-place_line e place = line (codes "refused " ++ (variant_name e ++ (codes " at byte " ++ decimal place)))
+abbrev pub fault_place_line : {E : Type 0} → DecodeError E → ℕ → List ℕ
+fault_place_line e place =
+    line (codes "refused " ++ (variant_name e ++ (codes " at byte " ++ decimal place)))
 
 -- of data with a map that has the key `/`
 abbrev pub reserved_line : List ℕ
@@ -22,7 +23,7 @@ reserved_line = line (codes "dagcar: a map with the key / looks like a link or l
 abbrev pub IsSaidOfNoBlock : List ℕ → Bool → List ℕ → List ℕ → Type 0
 IsSaidOfNoBlock b well out told = (e : DecodeError Infallible) × (place : ℕ) × SliceRefused e b
     × (e ≢ unread.OutOfMemory) × StandsAt e b place × (well ≡ false)
-    × (out ≡ line (codes "refused " ++ variant_name e)) × (told ≡ place_line e place)
+    × (out ≡ line (codes "refused " ++ variant_name e)) × (told ≡ fault_place_line e place)
 
 -- what `show` says of bytes: the data of the block as DAG-JSON, or why they are none; and what it
 -- tells: a line where a map in the data has the key `/`

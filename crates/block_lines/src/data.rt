@@ -5,7 +5,7 @@ ghost use Rattle.dagcbor_items.specs.PrintedNames.{variant_name};
 ghost use Rattle.ipld_tree.specs.Ipld.{tree_of};
 ghost use Rattle.dag_json.specs.DagJson.{dag_json, has_reserved_key};
 ghost use Rattle.block_lines.specs.Lines.{line, SaysBoth};
-ghost use Rattle.block_lines.specs.Shown.{place_line, reserved_line, IsShown};
+ghost use Rattle.block_lines.specs.Shown.{fault_place_line, reserved_line, IsShown};
 
 use crate::line::{Said, line_of, say_both};
 use dag_json::{dag_json, has_reserved_key};
@@ -19,8 +19,8 @@ use std::io::Write;
 pub type Answer = (Said, Vec<u8>);
 
 /// The line of bytes that are no block, with the byte by which they are none.
-pub fn place_line(alloc: Global, refused: &Refused) -> Result<Vec<u8>, AllocError>
-    ensures { IfOk result (λ v. v.items ≡ place_line refused.now.cause refused.now.place) }
+pub fn fault_place_line(alloc: Global, refused: &Refused) -> Result<Vec<u8>, AllocError>
+    ensures { IfOk result (λ v. v.items ≡ fault_place_line refused.now.cause refused.now.place) }
 {
     let place = format!(in alloc; " at byte {}", refused.place)?;
     let name = variant_name(&refused.cause);
@@ -31,11 +31,11 @@ pub fn place_line(alloc: Global, refused: &Refused) -> Result<Vec<u8>, AllocErro
 pub fn no_block_answer(alloc: Global, refused: &Refused) -> Result<Answer, AllocError>
     ensures { IfOk result (λ p. (p.0.1 ≡ false)
         × (p.0.0.items ≡ line (codes "refused " ++ variant_name refused.now.cause))
-        × (p.1.items ≡ place_line refused.now.cause refused.now.place)) }
+        × (p.1.items ≡ fault_place_line refused.now.cause refused.now.place)) }
 {
     let name = variant_name(&refused.cause);
     let line = line_of(alloc, b"refused ", name.as_bytes(), b"")?;
-    let told = place_line(alloc, refused)?;
+    let told = fault_place_line(alloc, refused)?;
     Ok(((line, false), told))
 }
 
@@ -96,8 +96,6 @@ pub fn say_shown<W: Write, V: Write>(
     ensures { SaysBoth (IsShown block.now) (W.contents output.old) (V.contents errors.old) result
         (W.contents output.new) (V.contents errors.new) }
 {
-    match shown(alloc, block) {
-        Ok((said, told)) => say_both(said, &told, output, errors),
-        Err(_) => Err(ToolError::OutOfMemory),
-    }
+    let (said, told) = shown(alloc, block)?;
+    say_both(said, &told, output, errors)
 }

@@ -8,10 +8,10 @@ mod names;
 mod verdict;
 
 pub use codec::codec_name;
-pub use data::{Answer, no_block_answer, place_line, say_shown, shown};
+pub use data::{Answer, fault_place_line, no_block_answer, say_shown, shown};
 pub use line::{
     Said, line_of, listed_line, missing_line, missing_lines, named_line, refused_line, root_lines,
     say, say_both,
 };
 pub use names::{fault_name, no_cid_line};
-pub use verdict::{is_none, is_well, told_line, verdict_words};
+pub use verdict::{is_well, verdict_line, verdict_words};

@@ -1,7 +1,7 @@
 //! The line of a verdict on a block.
 
-ghost use Rattle.std.specs.Prelude.{◌≡◌, ◌↔◌, ◌++◌, ◌∷◌, [], List, ℕ, IsTrue, IfOk};
-ghost use Rattle.block_lines.specs.Lines.{verdict_text, is_well, told_line};
+ghost use Rattle.std.specs.Prelude.{◌≡◌, ◌++◌, ◌∷◌, List, ℕ, IfOk};
+ghost use Rattle.block_lines.specs.Lines.{verdict_text, is_well, verdict_line};
 
 use crate::line::{Said, line_of};
 use cid_text::cid_text;
@@ -37,22 +37,12 @@ pub fn is_well(verdict: &Verdict) -> bool
 }
 
 /// The line of a section under this name, with this verdict.
-pub fn told_line(alloc: Global, cid: &Cid, verdict: &Verdict) -> Result<Said, AllocError>
+pub fn verdict_line(alloc: Global, cid: &Cid, verdict: &Verdict) -> Result<Said, AllocError>
     ensures line { (block : List ℕ)
-        → IfOk result (λ p. p.0.items ≡ told_line ((cid.now, block), verdict.now)) }
+        → IfOk result (λ p. p.0.items ≡ verdict_line ((cid.now, block), verdict.now)) }
     ensures well { IfOk result (λ p. p.1 ≡ is_well verdict.now) }
 {
     let (found, which) = verdict_words(verdict);
     let line = line_of(alloc, &cid_text(cid), found.as_bytes(), which.as_bytes())?;
     Ok((line, is_well(verdict)))
-}
-
-/// Whether there is none.
-pub fn is_none(names: &[Cid]) -> bool
-    ensures { IsTrue result ↔ (names.now ≡ []) }
-{
-    match names {
-        [] => true,
-        _ => false,
-    }
 }

@@ -12,7 +12,7 @@ use Rattle.ipld_tree.specs.Tree.{Tree, ordered_entries, has_key, insert}
 use Rattle.ipld_tree.specs.Ipld.{tree_of, trees_of, pairs_of}
 use Rattle.ipld_tree.specs.declared.ipld.Ipld.{Ipld}
 use Rattle.ipld_tree.proofs.Trees.{IpldEntry, pairs_of_insert_entry}
-use Rattle.dag_json.specs.Reading.{Read, read_map, ReadsBytes, ReadsSlashed, ReadsReserved, ReadsData, ReadsItems, ReadsMembers}
+use Rattle.dag_json.specs.Reading.{Read, read_map, ReadsBytes, ReadsSlashed, ReadsReserved, ReadsData, ReadsElements, ReadsMembers}
 use Rattle.dag_json.specs.declared.error.DagJsonError.{DagJsonError}
 use Rattle.dag_json.specs.declared.error.DagJsonError.TheVariants.{RepeatedKey, ReservedKey}
 use Rattle.dag_json.proofs.Slots.{KeyAndTree, ordered_insert, has_key_insert}
@@ -59,28 +59,28 @@ data_object v m xs r is same h = subst (λ j. ReadsData j r) (sym (ap value_view
 
 -- what is read of the values from a place on gives what is read of all, behind those before it
 abbrev pub ItemsFrom : List JsonValue → ℕ → List Ipld → Type 0
-ItemsFrom values i items = (more : Read (List Tree)) → ReadsItems (items_view (drop i values)) more → ReadsItems (items_view values) (read_map (λ ts. trees_of items ++ ts) more)
+ItemsFrom values i items = (more : Read (List Tree)) → ReadsElements (items_view (drop i values)) more → ReadsElements (items_view values) (read_map (λ ts. trees_of items ++ ts) more)
 
 first_value : (values : List JsonValue) (i : ℕ) (v : JsonValue) → i < length values → v ≡ get_or values i v → drop i values ≡ v ∷ drop (i + 1) values
 first_value values i v within is = drop_more values i v within ∙ ap (λ x. x ∷ drop (i + 1) values) (sym is)
 
-pub items_refused : (values : List JsonValue) (i : ℕ) (v : JsonValue) (items : List Ipld) (e : DagJsonError) → i < length values → v ≡ get_or values i v → ItemsFrom values i items → ReadsData (value_view v) (Err e) → ReadsItems (items_view values) (Err e)
+pub items_refused : (values : List JsonValue) (i : ℕ) (v : JsonValue) (items : List Ipld) (e : DagJsonError) → i < length values → v ≡ get_or values i v → ItemsFrom values i items → ReadsData (value_view v) (Err e) → ReadsElements (items_view values) (Err e)
 items_refused values i v items e within is from h =
-    from (Err e) (subst (λ xs. ReadsItems (items_view xs) (Err e)) (sym (first_value values i v within is)) (Err e, h, refl))
+    from (Err e) (subst (λ xs. ReadsElements (items_view xs) (Err e)) (sym (first_value values i v within is)) (Err e, h, refl))
 
 pub items_next : (values : List JsonValue) (i : ℕ) (v : JsonValue) (items new : List Ipld) (j : Ipld) → i < length values → v ≡ get_or values i v → ItemsFrom values i items → ReadsData (value_view v) (Ok (tree_of j)) → new ≡ items ++ j ∷ [] → ItemsFrom values (i + 1) new
 items_next values i v items new j within is from h e more g =
-    subst (ReadsItems (items_view values)) (longer more)
-    (from (read_map (λ ts. tree_of j ∷ ts) more) (subst (λ xs. ReadsItems (items_view xs) (read_map (λ ts. tree_of j ∷ ts) more)) (sym (first_value values i v within is)) (Ok (tree_of j), h, (more, g, refl))))
+    subst (ReadsElements (items_view values)) (longer more)
+    (from (read_map (λ ts. tree_of j ∷ ts) more) (subst (λ xs. ReadsElements (items_view xs) (read_map (λ ts. tree_of j ∷ ts) more)) (sym (first_value values i v within is)) (Ok (tree_of j), h, (more, g, refl))))
   where
     longer : (more : Read (List Tree)) → read_map (λ ts. trees_of items ++ ts) (read_map (λ ts. tree_of j ∷ ts) more) ≡ read_map (λ ts. trees_of new ++ ts) more
     longer (Ok ts) = ap Ok (sym (ap (λ xs. trees_of xs ++ ts) e ∙ ap (λ us. us ++ ts) (map-append tree_of items (j ∷ [])) ∙ append_assoc (trees_of items) (tree_of j ∷ []) ts))
     longer (Err x) = refl
 
-pub items_done : (values : List JsonValue) (i : ℕ) (items : List Ipld) → length values ≤ i → ItemsFrom values i items → ReadsItems (items_view values) (Ok (trees_of items))
+pub items_done : (values : List JsonValue) (i : ℕ) (items : List Ipld) → length values ≤ i → ItemsFrom values i items → ReadsElements (items_view values) (Ok (trees_of items))
 items_done values i items past from =
-    subst (λ ts. ReadsItems (items_view values) (Ok ts)) (append-nil (trees_of items))
-    (from (Ok []) (subst (λ xs. ReadsItems (items_view xs) (Ok [])) (sym (drop_all i values past)) refl))
+    subst (λ ts. ReadsElements (items_view values) (Ok ts)) (append-nil (trees_of items))
+    (from (Ok []) (subst (λ xs. ReadsElements (items_view xs) (Ok [])) (sym (drop_all i values past)) refl))
 
 -- ---- entries
 

@@ -24,7 +24,7 @@ use Rattle.cid_text.specs.Alphabets.{AreBytes}
 use Rattle.cid_text.specs.Texts.{text_of_form, IsTextOf}
 use Rattle.cid_text.proofs.Texting.{written_0, written_1, text_0, text_1}
 use Rattle.dag_json.specs.DagJson.{joined, json_text, member_text, dag_json, item_texts, has_reserved_key, items_reserved, entries_reserved}
-use Rattle.dag_json.specs.Reading.{has_slash, decoded_data, document_of, alone, most_levels, within_steps, ReadsData, ReadsItems, ReadsMembers, ReadsWhole, ReadsTokens, ReadsJson, HasBytes, ItemsHaveBytes, EntriesHaveBytes, IsTellable}
+use Rattle.dag_json.specs.Reading.{has_slash, decoded_data, document_of, alone, most_levels, within_steps, ReadsData, ReadsElements, ReadsMembers, ReadsWhole, ReadsTokens, ReadsJson, HasBytes, ItemsHaveBytes, EntriesHaveBytes, IsTellable}
 use Rattle.dag_json.specs.declared.error.DagJsonError.TheVariants.{TooDeep}
 use Rattle.dag_json.proofs.Integers.{number_read, number_written, number_utf8}
 use Rattle.dag_json.proofs.Plain.{same_text, plain_utf8, plain_cid, plain_base64}
@@ -125,7 +125,7 @@ record GoodItems (ts : Items) : Type 0 where
   pub utf8 : AllByRecursion IsUtf8 (item_texts ts)
   pub numbers : ItemsHaveNumbers (item_jsons ts)
   pub deep : 2 * items_depth (item_jsons ts) ≤ items_need ts + 3
-  pub reads : ReadsItems (item_jsons ts) (Ok (trees_in ts))
+  pub reads : ReadsElements (item_jsons ts) (Ok (trees_in ts))
 
 good_no_items : GoodItems no_items
 unfolding json_of dag_json

@@ -8,7 +8,7 @@ use Rattle.ipld_tree.specs.Cid.{CidParts, cid_bytes}
 use Rattle.ipld_tree.specs.Tree.{Tree, items_of, list, mapping, link, has_key, ordered_entries}
 use Rattle.cid_text.proofs.Texting.{one_cid}
 use Rattle.cid_text.proofs.TextFaults.{one_of_text}
-use Rattle.dag_json.specs.Reading.{Read, read_map, has_slash, document_of, within_steps, ReadsLinkText, ReadsBytes, ReadsReservedKey, ReadsSlashed, ReadsReserved, ReadsData, ReadsItems, ReadsMembers, ReadsTokens, ReadsJson}
+use Rattle.dag_json.specs.Reading.{Read, read_map, has_slash, document_of, within_steps, ReadsLinkText, ReadsBytes, ReadsReservedKey, ReadsSlashed, ReadsReserved, ReadsData, ReadsElements, ReadsMembers, ReadsTokens, ReadsJson}
 use Rattle.dag_json.specs.declared.error.DagJsonError.TheVariants.{NoCid}
 use Rattle.dag_json.proofs.Slots.{KeyAndTree}
 
@@ -58,10 +58,10 @@ mutual
   data_once (json.object ms) r q h g = either (has_slash ms) h g (reserved_once ms r q)
       (λ x y. x.2 ∙ ap (read_map (λ found. mapping (ordered_entries found))) (members_once [] ms x.0 y.0 x.1 y.1) ∙ sym y.2)
 
-  items_once : (js : json.Items) (r q : Read (List Tree)) → ReadsItems js r → ReadsItems js q → r ≡ q
+  items_once : (js : json.Items) (r q : Read (List Tree)) → ReadsElements js r → ReadsElements js q → r ≡ q
   items_once json.no_items r q h g = h ∙ sym g
   items_once (json.item j js) r q h g =
-      outcome h.0 h.2 (subst (λ first. MatchResult first (λ t. (more : Read (List Tree)) × ReadsItems js more × (q ≡ read_map (λ ts. t ∷ ts) more)) (λ e. q ≡ Err e)) (sym (data_once j h.0 g.0 h.1 g.1)) g.2)
+      outcome h.0 h.2 (subst (λ first. MatchResult first (λ t. (more : Read (List Tree)) × ReadsElements js more × (q ≡ read_map (λ ts. t ∷ ts) more)) (λ e. q ≡ Err e)) (sym (data_once j h.0 g.0 h.1 g.1)) g.2)
       (λ t x y. x.2 ∙ ap (read_map (λ ts. t ∷ ts)) (items_once js x.0 y.0 x.1 y.1) ∙ sym y.2)
       (λ e x y. x ∙ sym y)
 

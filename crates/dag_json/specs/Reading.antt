@@ -102,16 +102,16 @@ abbrev mutual
   ReadsData (json.boolean b) r = r ≡ Ok (boolean b)
   ReadsData (json.number s) r = r ≡ number_data s
   ReadsData (json.string s) r = r ≡ Ok (text s)
-  ReadsData (json.array js) r = (ts : Read (List Tree)) × ReadsItems js ts
+  ReadsData (json.array js) r = (ts : Read (List Tree)) × ReadsElements js ts
       × (r ≡ read_map (λ found. list (items_of found)) ts)
   ReadsData (json.object ms) r = MatchBool (has_slash ms) (ReadsReserved ms r)
       ((ps : Read (List (List ℕ × Tree))) × ReadsMembers [] ms ps
       × (r ≡ read_map (λ found. mapping (ordered_entries found)) ps))
 
-  pub ReadsItems : json.Items → Read (List Tree) → Type 0
-  ReadsItems json.no_items r = r ≡ Ok []
-  ReadsItems (json.item j js) r = (first : Read Tree) × ReadsData j first × MatchResult first
-      (λ t. (more : Read (List Tree)) × ReadsItems js more × (r ≡ read_map (λ ts. t ∷ ts) more))
+  pub ReadsElements : json.Items → Read (List Tree) → Type 0
+  ReadsElements json.no_items r = r ≡ Ok []
+  ReadsElements (json.item j js) r = (first : Read Tree) × ReadsData j first × MatchResult first
+      (λ t. (more : Read (List Tree)) × ReadsElements js more × (r ≡ read_map (λ ts. t ∷ ts) more))
       (λ e. r ≡ Err e)
 
   pub ReadsMembers : List (List ℕ × Tree) → Members → Read (List (List ℕ × Tree)) → Type 0

@@ -11,7 +11,7 @@ ghost use Rattle.ipld_tree.specs.Tree.{Tree, ordered_entries};
 ghost use Rattle.ipld_tree.specs.Ipld.{tree_of, trees_of, pairs_of};
 ghost use Rattle.dag_json.specs.Reading.{read_map, has_slash, bytes_data, ReadsLinkText, ReadsBytes};
 ghost use Rattle.dag_json.specs.Reading.{ReadsReservedKey, ReadsSlashed};
-ghost use Rattle.dag_json.specs.Reading.{ReadsReserved, ReadsData, ReadsItems, ReadsMembers};
+ghost use Rattle.dag_json.specs.Reading.{ReadsReserved, ReadsData, ReadsElements, ReadsMembers};
 
 use crate::error::DagJsonError;
 use crate::number::integer_of;
@@ -33,10 +33,7 @@ fn owned_text(alloc: Global, text: &str) -> Result<String, DagJsonError>
     ensures text { IfOk result (λ s. string_bytes s ≡ text.now) }
     ensures memory { IfErr result (λ e. e ≡ DagJsonError.OutOfMemory) }
 {
-    match String::from_str(alloc, text) {
-        Ok(owned) => Ok(owned),
-        Err(_) => Err(DagJsonError::OutOfMemory),
-    }
+    String::from_str(alloc, text).map_err(|_| DagJsonError::OutOfMemory)
 }
 
 /// Adds an item at the end.
@@ -44,10 +41,7 @@ fn push_item(items: &mut Vec<Ipld>, item: Ipld) -> Result<(), DagJsonError>
     ensures ok { OnOk result (items.new.items ≡ items.old.items ++ item ∷ []) }
     ensures memory { IfErr result (λ e. e ≡ DagJsonError.OutOfMemory) }
 {
-    match items.push(item) {
-        Ok(()) => Ok(()),
-        Err(_) => Err(DagJsonError::OutOfMemory),
-    }
+    items.push(item).map_err(|_| DagJsonError::OutOfMemory)
 }
 
 /// Adds an entry at its place.
@@ -225,9 +219,9 @@ fn items_of(
     place: &mut usize,
 ) -> Result<Vec<Ipld>, DagJsonError>
     ensures data { IfOk result
-        (λ v. ReadsItems (items_view values.now) (Ok (trees_of v.items))) }
+        (λ v. ReadsElements (items_view values.now) (Ok (trees_of v.items))) }
     ensures refused { IfErr result (λ e. e ≢ DagJsonError.OutOfMemory
-        → ReadsItems (items_view values.now) (Err e)) }
+        → ReadsElements (items_view values.now) (Err e)) }
 {
     pass(place, 1);
     let mut items = Vec::new(alloc);

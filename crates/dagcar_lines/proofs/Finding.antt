@@ -7,7 +7,7 @@ use Rattle.ipld_tree.specs.Cid.{CidParts}
 use Rattle.dagcbor_items.specs.Walks.{forms}
 use Rattle.dagcbor_car.specs.Car.{Section}
 use Rattle.ipld_links.specs.Verdicts.{IsVerified, IsVerdict}
-use Rattle.dagcbor_car.specs.Checks.{IsHeld, IsFileFront}
+use Rattle.dagcbor_car.specs.Checks.{IsHeldInFile, IsFileFront}
 use Rattle.ipld_links.specs.declared.verdict.Verdict.{Verdict}
 use Rattle.ipld_links.specs.declared.verdict.Verdict.TheVariants as verdicts
 use Rattle.dagcbor_heads.specs.Written.{Written, Stops}
@@ -41,7 +41,7 @@ verified_of s verdicts.Unverified h other none = absurd (none refl)
 
 -- ---- one block
 
-pub still_none : (name : CidParts) (sections : List Section) (s : Section) → (IsHeld name sections → ⊥) → (((s.0 ≡ name) × IsVerified s) → ⊥) → IsHeld name (sections ++ s ∷ []) → ⊥
+pub still_none : (name : CidParts) (sections : List Section) (s : Section) → (IsHeldInFile name sections → ⊥) → (((s.0 ≡ name) × IsVerified s) → ⊥) → IsHeldInFile name (sections ++ s ∷ []) → ⊥
 still_none name sections s none other h = elim (among_push (name, h.0) sections s h.1) [
   | inl m ↦ none (h.0, m, h.2)
   | inr e ↦ other (sym (ap (λ (p : Section). p.0) e), subst IsVerified e h.2)
@@ -49,7 +49,7 @@ still_none name sections s none other h = elim (among_push (name, h.0) sections 
 
 -- a search that found none is as it was
 abbrev pub FoundNone : Search → Search → List Section → Type 0
-FoundNone first now sections = (now ≡ first) × ¬ IsHeld first.name sections
+FoundNone first now sections = (now ≡ first) × ¬ IsHeldInFile first.name sections
 
 none_more : (first : Search) (s : Section) (old new : Search) (done : List Section) → FoundNone first old done → Seeks s old (Ok tt) new → FoundNone first new (done ++ s ∷ [])
 none_more first s old new done h k = (k.0 ∙ h.0, still_none first.name done s h.1 (λ m. k.1 (m.0 ∙ ap (λ (x : Search). x.name) (sym h.0), m.1)))
@@ -63,18 +63,18 @@ got_whole name b told is = is ∙ append-nil (missing_line name)
 -- how far a file goes, and what was found in it
 abbrev pub GotOf : CidParts → List ℕ → Ended Stop → Search → Type 0
 GotOf name b ended.Whole new = (roots : List (List ℕ)) × (sections : List Section) × IsFile b roots sections
-    × ¬ IsHeld name sections
+    × ¬ IsHeldInFile name sections
 GotOf name b (ended.Stopped stops.Enough) new = (roots : List (List ℕ)) × (sections : List Section) × (n : ℕ)
     × (rest : List ℕ) × IsFileFront b roots (sections ++ (name, new.block.items) ∷ []) n rest
-    × ¬ IsHeld name sections × IsVerified (name, new.block.items)
+    × ¬ IsHeldInFile name sections × IsVerified (name, new.block.items)
 GotOf name b (ended.Stopped stops.OutOfMemory) new = ⊤
-GotOf name b (ended.Fault line) new = TellsFault (λ ss. ¬ IsHeld name ss) b line.items
+GotOf name b (ended.Fault line) new = TellsFault (λ ss. ¬ IsHeldInFile name ss) b line.items
 
 pub got_of : (b : List ℕ) (old new : Search) (roots : Vec CidParts Global) (e : Ended Stop) → TakesAll Seeks b old (roots, e) new → GotOf old.name b e new
-got_of b old new roots (ended.Fault line) (inl h) = start_told (λ ss. IsHeld old.name ss → ⊥) b Stop line h.0
+got_of b old new roots (ended.Fault line) (inl h) = start_told (λ ss. IsHeldInFile old.name ss → ⊥) b Stop line h.0
 got_of b old new roots ended.Whole (inl h) = absurd h.0
 got_of b old new roots (ended.Stopped stop) (inl h) = absurd h.0
-got_of b old new roots (ended.Fault line) (inr h) = fault_told Seeks (λ ss. IsHeld old.name ss → ⊥) b line.items (forms roots.items) old new h.0 h.1 (none_found h.1.first.sections old new h.1.first.took).1 h.2
+got_of b old new roots (ended.Fault line) (inr h) = fault_told Seeks (λ ss. IsHeldInFile old.name ss → ⊥) b line.items (forms roots.items) old new h.0 h.1 (none_found h.1.first.sections old new h.1.first.took).1 h.2
 got_of b old new roots ended.Whole (inr h) = (forms roots.items, h.sections, h.file, (none_found h.sections old new h.took).1)
 got_of b old new roots (ended.Stopped stops.OutOfMemory) (inr h) = tt
 got_of b old new roots (ended.Stopped stops.Enough) (inr h) =

@@ -16,7 +16,7 @@ use Rattle.path_lines.specs.Raw.{IsRawOf}
 use Rattle.path_lines.specs.Proof.{IsProofFile, IsProofOf}
 use Rattle.held_lines.specs.Holding.{Stores}
 use Rattle.held_lines.specs.declared.holding.Kept.TheVariants as which
-use Rattle.dagcar_lines.specs.Paths.{IsAtOf, IsAnswerOf, IsAnswer, ProofsDecide}
+use Rattle.dagcar_lines.specs.Paths.{IsAtOf, IsAnswerOf, IsAnswerOfFile, ProofsDecide}
 use Rattle.dagcar_lines.specs.declared.at.Asked.{Asked}
 use Rattle.dagcar_lines.specs.declared.at.Asked.TheVariants as asks
 
@@ -102,7 +102,7 @@ decided asked passes root path b proof told (inl k) well out heard h = by h
     is_file : IsFile proof (cid_bytes root ∷ []) (sections_at k.3.0 file.once)
     is_file = file_of_car proof (cid_bytes root ∷ []) (sections_at k.3.0 file.once) file.file
 
-    by : IsAnswer asked root path proof well out heard → IsAnswer asked root path b well out heard
+    by : IsAnswerOfFile asked root path proof well out heard → IsAnswerOfFile asked root path b well out heard
     by (inr none) = absurd (none.2.1.0 (cid_bytes root ∷ []) (sections_at k.3.0 file.once) is_file)
     by (inl l) =
         let same = (file_unique proof l.0 (cid_bytes root ∷ []) l.1 (sections_at k.3.0 file.once) l.2 is_file).1 in

@@ -7,20 +7,20 @@ use Rattle.dagcbor_heads.specs.Reading.{Reading}
 use Rattle.ipld_tree.specs.Cid.{CidParts}
 use Rattle.dagcbor_car.specs.Car.{Section, car_bytes}
 use Rattle.dagcbor_car.specs.Versions.{IsFile}
-use Rattle.dagcbor_car.specs.Each.{Takes}
-use Rattle.dagcbor_car.specs.Extents.{within, wanting}
+use Rattle.dagcbor_car.specs.Each.{SinkTakes}
+use Rattle.dagcbor_car.specs.Extents.{bytes_within, wanting}
 use Rattle.dagcbor_car.specs.Sources.{CarRefuses, RefusesStart, TakesStart}
-use Rattle.dagcbor_car.specs.Checks.{IsAfter, ListsMissing, IsFileFront}
+use Rattle.dagcbor_car.specs.Checks.{IsAfter, ListsMissingInFile, IsFileFront}
 use Rattle.dagcbor_car.specs.declared.check.CarCheck.{CarCheck}
 use Rattle.dagcbor_car.specs.declared.error.CarError.{CarError}
 use Rattle.dagcbor_car.proofs.Places.{no_file, place_front}
-use Rattle.block_lines.specs.Lines.{missing_line, refused_line, BreaksLine, Says, SaysLines}
+use Rattle.block_lines.specs.Lines.{missing_line, refused_line, BreaksLine, SaysToDevice, SaysLines}
 use Rattle.block_lines.proofs.Saying.{each_push}
 use Rattle.dagcbor_cli.specs.Writing.{WritesFront}
 use Rattle.dagcar_lines.specs.Answers.{check_speech}
-use Rattle.dagcar_lines.specs.Speeches.{Speech, beside, IsSaidSoFar, IsSaidOf, AreFirstLines, AreLines, BreaksOff, SaysBytes, SaysFile}
-use Rattle.dagcar_lines.specs.Steps.{Knowing, TellsEnd, Work, SaysSection, SaysRest}
-use Rattle.held_lines.specs.Taking.{IsOfBytes, TookEach, TakesFront, TakesWhole, FaultBehind, EndsAt}
+use Rattle.dagcar_lines.specs.Speeches.{Speech, beside, IsSaidSoFar, IsSaidOfBytes, AreFirstLines, AreLines, BreaksSpeech, SaysBytes, SaysFile}
+use Rattle.dagcar_lines.specs.Steps.{Knowing, SaysAtEnd, Work, SaysSection, SaysRest}
+use Rattle.held_lines.specs.Taking.{IsOfBytes, TookEach, TakesFileFront, TakesWhole, FaultBehind, EndsAt}
 use Rattle.held_lines.proofs.Taking.{took_knows, left_begun, alone, alone_line, header_alone}
 use Rattle.held_lines.specs.declared.take.Ended.{Ended}
 use Rattle.held_lines.specs.declared.take.Ended.TheVariants as ended
@@ -43,12 +43,12 @@ whole_front {b} {roots} {ss} h = (h.0, h.1, record { header = h.2.header; all = 
 
 -- the run broke off in, or before, what is said next
 broken : (speech : Speech) (b whole : List ℕ) (before between after : Option (List ℕ)) (IsLine : List ℕ → Type 0) (e : ToolError) → AreFirstLines speech b whole → Appends before between whole → ((text : List ℕ) → IsLine text → AreLines speech b (whole ++ text)) → BreaksLine IsLine between after e
-    → BreaksOff speech b before after e
+    → BreaksSpeech speech b before after e
 broken speech b whole before between after IsLine e first out next (inl none) = record { whole = whole; front = []; first = first; out = Appends-trans before between after whole [] out none; next = inl refl }
 broken speech b whole before between after IsLine e first out next (inr k) = record { whole = whole; front = k.0; first = first; out = Appends-trans before between after whole k.0 out k.4; next = inr (k.3, (k.1, next (k.0 ++ k.1) k.2)) }
 
 -- lines that are the last
-last_said : (IsLast : Bool → List ℕ → Type 0) (speech : Speech) (b whole : List ℕ) (before between after : Option (List ℕ)) (r : Result Bool ToolError) → AreFirstLines speech b whole → Appends before between whole → ((well : Bool) (text : List ℕ) → IsLast well text → IsSaidOf speech b well (whole ++ text)) → Says IsLast between r after
+last_said : (IsLast : Bool → List ℕ → Type 0) (speech : Speech) (b whole : List ℕ) (before between after : Option (List ℕ)) (r : Result Bool ToolError) → AreFirstLines speech b whole → Appends before between whole → ((well : Bool) (text : List ℕ) → IsLast well text → IsSaidOfBytes speech b well (whole ++ text)) → SaysToDevice IsLast between r after
     → SaysBytes speech b before r after
 last_said IsLast speech b whole before between after (Ok well) first out next k = (whole ++ k.0, next well k.0 k.1, Appends-trans before between after whole k.0 out k.2)
 last_said IsLast speech b whole before between after (Err e) first out next k =
@@ -68,7 +68,7 @@ rest_silent speech TellsOf knows teller well (Ok (ended.Fault line)) before hear
 rest_silent speech TellsOf knows teller well (Err e) before heard r after says = (says.0, refl)
 
 -- what a teller does to its work
-abbrev pub Tells : {S T : Type 0} → Speech → Knowing T → (S → Work T) → Takes S ToolError
+abbrev pub Tells : {S T : Type 0} → Speech → Knowing T → (S → Work T) → SinkTakes S ToolError
 Tells speech knows work s old result new = SaysSection speech knows s (work old) result (work new)
 
 module _ {S T : Type 0} (speech : Speech) (knows : Knowing T) (work : S → Work T) (roots : List (List ℕ)) (b : List ℕ) (before : Option (List ℕ)) where
@@ -94,7 +94,7 @@ module _ {S T : Type 0} (speech : Speech) (knows : Knowing T) (work : S → Work
   first_lines it ss n rest h front = inr (roots, ss, n, rest, (work it).well, front, h.far)
 
   -- the run broke off between two lines
-  nothing_more : (it : S) (ss : List Section) (n : ℕ) (rest : List ℕ) (e : ToolError) → SoFar it ss → IsFileFront b roots ss n rest → BreaksOff speech b before (work it).written e
+  nothing_more : (it : S) (ss : List Section) (n : ℕ) (rest : List ℕ) (e : ToolError) → SoFar it ss → IsFileFront b roots ss n rest → BreaksSpeech speech b before (work it).written e
   nothing_more it ss n rest e h front = record {
     whole = h.said;
     front = [];
@@ -104,13 +104,13 @@ module _ {S T : Type 0} (speech : Speech) (knows : Knowing T) (work : S → Work
   }
 
   -- the lines of a section broke off
-  section_broken : (it new : S) (ss : List Section) (s : Section) (n m : ℕ) (rest behind : List ℕ) (e : ToolError) → SoFar it ss → IsFileFront b roots ss n rest → IsFileFront b roots (ss ++ s ∷ []) m behind → SaysSection speech knows s (work it) (Err e) (work new) → BreaksOff speech b before (work new).written e
+  section_broken : (it new : S) (ss : List Section) (s : Section) (n m : ℕ) (rest behind : List ℕ) (e : ToolError) → SoFar it ss → IsFileFront b roots ss n rest → IsFileFront b roots (ss ++ s ∷ []) m behind → SaysSection speech knows s (work it) (Err e) (work new) → BreaksSpeech speech b before (work new).written e
   section_broken it new ss s n m rest behind e h front next k =
       broken speech b h.said before (work it).written (work new).written (λ text. (well : Bool) × speech.of_section s well text) e (first_lines it ss n rest h front) h.out
       (λ text is. inl (inr (roots, ss ++ s ∷ [], m, behind, (work it).well && is.0, next, so_far_push speech roots ss s (work it).well is.0 h.said text h.far is.1))) k.1
 
   -- a line that tells why no section stands there
-  none_said : (it : S) (e : CarError Infallible) (text : List ℕ) (old : S) (h : FaultBehind (Tells speech knows work) roots b old e it) → (far : SoFar it h.first.sections) → text ≡ speech.of_fault (refused_line e) → IsSaidOf speech b false (far.said ++ text)
+  none_said : (it : S) (e : CarError Infallible) (text : List ℕ) (old : S) (h : FaultBehind (Tells speech knows work) roots b old e it) → (far : SoFar it h.first.sections) → text ≡ speech.of_fault (refused_line e) → IsSaidOfBytes speech b false (far.said ++ text)
   none_said it e text old h far is = inr (
     refl,
     record {
@@ -122,7 +122,7 @@ module _ {S T : Type 0} (speech : Speech) (knows : Knowing T) (work : S → Work
     },
   )
 
-  file_said : (it : S) (old : S) (h : TakesWhole (Tells speech knows work) roots b old it) (far : SoFar it h.sections) (end_well : Bool) (text : List ℕ) → speech.of_end roots h.sections end_well text → IsSaidOf speech b (end_well && (work it).well) (far.said ++ text)
+  file_said : (it : S) (old : S) (h : TakesWhole (Tells speech knows work) roots b old it) (far : SoFar it h.sections) (end_well : Bool) (text : List ℕ) → speech.of_end roots h.sections end_well text → IsSaidOfBytes speech b (end_well && (work it).well) (far.said ++ text)
   file_said it old h far end_well text ending = inl (record {
     roots = roots;
     sections = h.sections;
@@ -137,23 +137,23 @@ module _ {S T : Type 0} (speech : Speech) (knows : Knowing T) (work : S → Work
     wellness = refl;
   })
 
-  pub rest_said : (old new : S) (w : Result (Ended ToolError) ToolError) (r : Result Bool ToolError) (after : Option (List ℕ)) → SoFar old [] → MatchResult w (λ e. EndsAt (Tells speech knows work) roots b old e new) (λ _. TakesFront (Tells speech knows work) roots b old new) → SaysRest speech knows (work new).teller (work new).well w (work new).written r after
+  pub rest_said : (old new : S) (w : Result (Ended ToolError) ToolError) (r : Result Bool ToolError) (after : Option (List ℕ)) → SoFar old [] → MatchResult w (λ e. EndsAt (Tells speech knows work) roots b old e new) (λ _. TakesFileFront (Tells speech knows work) roots b old new) → SaysRest speech knows (work new).teller (work new).well w (work new).written r after
       → SaysBytes speech b before r after
   rest_said old new (Ok ended.Whole) r after h k says =
       let far = all_said k.sections old new h k.took in
       last_said (λ answer text. (end_well : Bool) × speech.of_end roots k.sections end_well text × (answer ≡ (end_well && (work new).well))) speech b far.said before (work new).written after r (inr (roots, k.sections, 0, [], (work new).well, whole_front k.file, far.far)) far.out
-      (λ answer text is. subst (λ x. IsSaidOf speech b x (far.said ++ text)) (sym is.2) (file_said new old k far is.0 text is.1)) (says roots k.sections far.after)
+      (λ answer text is. subst (λ x. IsSaidOfBytes speech b x (far.said ++ text)) (sym is.2) (file_said new old k far is.0 text is.1)) (says roots k.sections far.after)
   rest_said old new (Ok (ended.Stopped e)) r after h k says =
       let far = all_said k.first.sections old k.it h k.first.took in
-      subst (λ x. SaysBytes speech b before x after) (sym says.0) (subst (λ a. BreaksOff speech b before a e) (sym says.1)
+      subst (λ x. SaysBytes speech b before x after) (sym says.0) (subst (λ a. BreaksSpeech speech b before a e) (sym says.1)
       (section_broken k.it new k.first.sections k.section k.first.wanting k.wanting k.first.rest k.rest e far k.first.front k.front k.refused))
   rest_said old new (Ok (ended.Fault line)) r after h k says =
       let far = all_said k.1.first.sections old new h k.1.first.took in
       last_said (λ answer text. (answer ≡ false) × (text ≡ speech.of_fault line.items)) speech b far.said before (work new).written after r (first_lines new k.1.first.sections k.1.first.wanting k.1.first.rest far k.1.first.front) far.out
-      (λ answer text is. subst (λ x. IsSaidOf speech b x (far.said ++ text)) (sym is.0) (none_said new k.0 text old k.1 far (is.1 ∙ ap speech.of_fault k.2))) says
+      (λ answer text is. subst (λ x. IsSaidOfBytes speech b x (far.said ++ text)) (sym is.0) (none_said new k.0 text old k.1 far (is.1 ∙ ap speech.of_fault k.2))) says
   rest_said old new (Err e) r after h k says =
       let far = all_said k.sections old new h k.took in
-      subst (λ x. SaysBytes speech b before x after) (sym says.0) (subst (λ a. BreaksOff speech b before a e) (sym says.1) (nothing_more new k.sections k.wanting k.rest e far k.front))
+      subst (λ x. SaysBytes speech b before x after) (sym says.0) (subst (λ a. BreaksSpeech speech b before a e) (sym says.1) (nothing_more new k.sections k.wanting k.rest e far k.front))
 
   pub none_told : (it : S) → (work it).well ≡ true → knows (work it).teller roots [] → Appends before (work it).written (speech.of_roots roots) → SoFar it []
   none_told it well k out = record {
@@ -171,7 +171,7 @@ pub roots_broken : (speech : Speech) (start now : Reading) (extent : Option ℕ)
 roots_broken speech start now extent roots text before after (Ok v) e w h is same out k b l = absurd same
 roots_broken speech start now extent roots text before after (Err x) e w h is same out k b l =
     let t = left_begun roots extent start now b h l in
-    broken speech b [] before before after (λ y. y ≡ text) x (inl refl) (Appends-nil before) (λ y same. inl (inr (roots, [], wanting extent t.0, within extent t.0, true, place_front b t.0 roots [] extent t.2, none_yet speech roots y (same ∙ is)))) (inr (k.0, k.1, sym k.2, same ∙ out, k.3))
+    broken speech b [] before before after (λ y. y ≡ text) x (inl refl) (Appends-nil before) (λ y same. inl (inr (roots, [], wanting extent t.0, bytes_within extent t.0, true, place_front b t.0 roots [] extent t.2, none_yet speech roots y (same ∙ is)))) (inr (k.0, k.1, sym k.2, same ∙ out, k.3))
 
 -- ---- no file begins
 
@@ -181,7 +181,7 @@ header_said speech old now before after e line r h is same says b l =
     last_said (λ answer text. (answer ≡ false) × (text ≡ line)) speech b [] before before after r (inl refl) (Appends-nil before)
     (λ answer text k. inr (k.0, record { error = alone e; said = []; none = no_file (alone e) b refused; stands = inl (refused, refl); lines = k.1 ∙ same ∙ ap speech.of_fault (alone_line e is) })) (as_last r says)
   where
-    as_last : (r : Result Bool ToolError) → SaysLines line false before r after → Says (λ answer text. (answer ≡ false) × (text ≡ line)) before r after
+    as_last : (r : Result Bool ToolError) → SaysLines line false before r after → SaysToDevice (λ answer text. (answer ≡ false) × (text ≡ line)) before r after
     as_last (Ok answer) k = (line, (k.0, refl), k.1)
     as_last (Err x) (inl none) = inl none
     as_last (Err x) (inr k) = inr (k.0, k.1, (false, (refl, k.2)), k.3, k.4)
@@ -205,8 +205,8 @@ broke speech old before e (Err x) is b l = not_begun speech old before x b l
 
 -- ---- what `check` says
 
-pub missing_is_said : {E : Type 0} (check : CarCheck) (v : Vec CidParts Global) (items : List CidParts) (r : Result (Vec ℕ Global × Bool) E) → items ≡ v.items → ((roots : List (List ℕ)) (sections : List Section) → IsAfter check roots sections → ListsMissing roots sections v)
-    → IfOk r (λ p. p.0.items ≡ flat_map missing_line items) → IfOk r (λ p. IsTrue p.1 ↔ (items ≡ [])) → TellsEnd check_speech IsAfter check r
+pub missing_is_said : {E : Type 0} (check : CarCheck) (v : Vec CidParts Global) (items : List CidParts) (r : Result (Vec ℕ Global × Bool) E) → items ≡ v.items → ((roots : List (List ℕ)) (sections : List Section) → IsAfter check roots sections → ListsMissingInFile roots sections v)
+    → IfOk r (λ p. p.0.items ≡ flat_map missing_line items) → IfOk r (λ p. IsTrue p.1 ↔ (items ≡ [])) → SaysAtEnd check_speech IsAfter check r
 missing_is_said check v items (Ok p) is lists lines well roots sections k = record {
   missing = v;
   lists = lists roots sections k;

@@ -3,14 +3,14 @@ use Rattle.std.proofs.Common.{◌≡◌, ℕ, ◌+◌, List, [], ◌∷◌, ◌+
 use Rattle.std.specs.Prelude.{IfOk}
 use Rattle.ipld_tree.specs.Cid.{CidParts}
 use Rattle.dagcbor_car.specs.Car.{Section}
-use Rattle.dagcbor_car.specs.Checks.{IsAfter, TakesSection, ListsMissing}
+use Rattle.dagcbor_car.specs.Checks.{IsAfter, TakesSection, ListsMissingInFile}
 use Rattle.ipld_links.specs.Verdicts.{IsVerdict}
 use Rattle.dagcbor_car.specs.Told.{Told}
 use Rattle.dagcbor_car.proofs.Files.{sections_push, told_push}
 use Rattle.ipld_links.specs.declared.verdict.Verdict.{Verdict}
 use Rattle.block_lines.specs.Lines.{missing_line}
 use Rattle.dagcar_lines.specs.Answers.{summary_speech}
-use Rattle.dagcar_lines.specs.Steps.{KnowsMore, TellsEnd}
+use Rattle.dagcar_lines.specs.Steps.{KnowsMore, SaysAtEnd}
 use Rattle.dagcar_lines.specs.Summary.{is_ok, is_not_read, is_refused, is_other_bytes, is_unverified, one_if, how_many, summary_lines, counts_lines, AreCounts, CountsOne, KnowsCounts}
 use Rattle.dagcar_lines.specs.declared.summary.Counts.{Counts}
 use Rattle.dagcar_lines.specs.declared.summary.Summing.{Summing}
@@ -52,8 +52,8 @@ on_ok (Err e) f p = tt
 lines_of : (counts : Counts) (told : List Told) (missing : ℕ) → AreCounts counts told → counts_lines counts missing ≡ summary_lines told missing
 lines_of counts told missing h = λ i. counts_lines (record { sections = h.sections i; ok = h.ok i; not_read = h.not_read i; refused = h.refused i; other_bytes = h.other_bytes i; unverified = h.unverified i }) missing
 
-pub summary_is_said : {E : Type 0} (it : Summing) (v : Vec CidParts Global) (items : List CidParts) (r : Result (Vec ℕ Global × Bool) E) → items ≡ v.items → ((roots : List (List ℕ)) (sections : List Section) → IsAfter it.check roots sections → ListsMissing roots sections v)
-    → IfOk r (λ p. p.0.items ≡ flat_map missing_line items ++ counts_lines it.counts (length items)) → IfOk r (λ p. IsTrue p.1 ↔ (items ≡ [])) → TellsEnd summary_speech KnowsCounts it r
+pub summary_is_said : {E : Type 0} (it : Summing) (v : Vec CidParts Global) (items : List CidParts) (r : Result (Vec ℕ Global × Bool) E) → items ≡ v.items → ((roots : List (List ℕ)) (sections : List Section) → IsAfter it.check roots sections → ListsMissingInFile roots sections v)
+    → IfOk r (λ p. p.0.items ≡ flat_map missing_line items ++ counts_lines it.counts (length items)) → IfOk r (λ p. IsTrue p.1 ↔ (items ≡ [])) → SaysAtEnd summary_speech KnowsCounts it r
 summary_is_said it v items (Ok p) is lists lines well roots sections k = record {
   missing = v;
   lists = lists roots sections k.0;

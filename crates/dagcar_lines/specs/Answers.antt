@@ -16,19 +16,19 @@ use Rattle.dagcbor_car.specs.Car.{Section}
 use Rattle.ipld_links.specs.Names.{block_name}
 use Rattle.ipld_links.specs.Blocks.{HasBlock}
 use Rattle.ipld_links.specs.Verdicts.{IsVerdict}
-use Rattle.dagcbor_car.specs.Checks.{ListsMissing}
+use Rattle.dagcbor_car.specs.Checks.{ListsMissingInFile}
 use Rattle.ipld_links.specs.declared.verdict.Verdict.{Verdict}
 use Rattle.ipld_links.specs.declared.verdict.Verdict.TheVariants.{Refused}
 use Rattle.dagcbor_items.specs.PrintedNames.{kind_name}
-use Rattle.block_lines.specs.Lines.{line, told_line, listed_line, missing_line, root_line, is_well, Says, SaysBoth}
+use Rattle.block_lines.specs.Lines.{line, verdict_line, listed_line, missing_line, root_line, is_well, SaysToDevice, SaysBoth}
 use Rattle.block_lines.specs.Shown.{IsSaidOfNoBlock, IsShown}
 use Rattle.dagcar_lines.specs.Lines.{cause_line, section_place_line}
 use Rattle.dagcar_lines.specs.Speeches.{Speech, beside, SaysBytes}
 use Rattle.dagcar_lines.specs.Summary.{IsSummary}
 use Rattle.dagcar_lines.specs.Help.{help_text, version_text}
 use Rattle.dagcbor_paths.specs.Paths.{segments}
-use Rattle.dagcar_lines.specs.Finding.{IsGot, IsTree}
-use Rattle.dagcar_lines.specs.Paths.{IsAnswer}
+use Rattle.dagcar_lines.specs.Finding.{IsGot, IsTreeOfFile}
+use Rattle.dagcar_lines.specs.Paths.{IsAnswerOfFile}
 use Rattle.dagcar_lines.specs.Commands.{path_part}
 use Rattle.record_lines.specs.Records.{IsRecords, IsRecord}
 use Rattle.dagcar_lines.specs.declared.at.Asked.TheVariants as asks
@@ -41,7 +41,7 @@ use Rattle.dagcbor_cli.specs.declared.fault.ToolError.{ToolError}
 -- the line of a section with the verdict on it
 abbrev pub IsVerdictLine : Section → Bool → List ℕ → Type 0
 IsVerdictLine s well text = (v : Verdict) × IsVerdict s v × (well ≡ is_well v)
-    × (text ≡ told_line (s, v))
+    × (text ≡ verdict_line (s, v))
 
 -- what is told of a section: of one whose block is refused, by which byte
 abbrev pub TellsPlace : Section → List ℕ → Type 0
@@ -52,7 +52,7 @@ TellsPlace s told = ((e : DecodeError Infallible) × (place : ℕ) × IsVerdict 
 -- the lines of the roots and the links that lead nowhere; nothing is wrong where there is none
 pub record AreMissingLines (roots : List (List ℕ)) (sections : List Section) (well : Bool) (text : List ℕ) : Type 0 where
   pub missing : Vec CidParts Global
-  pub lists : ListsMissing roots sections missing
+  pub lists : ListsMissingInFile roots sections missing
   pub lines : text ≡ flat_map missing_line missing.items
   pub wellness : IsTrue well ↔ (missing.items ≡ [])
 
@@ -110,8 +110,8 @@ IsMade b well out told = ((t : Tree) × ReadsJson b (Ok t) × IsSpelling out t �
 
 -- what `name` says of bytes: the CID of the block, of DAG-CBOR and by SHA-256 (multicodec table), or
 -- why they are none
-abbrev pub IsNamed : List ℕ → Bool → List ℕ → List ℕ → Type 0
-IsNamed b well out told = (HasBlock b × (well ≡ true) × (out ≡ line (cid_text (block_name b)))
+abbrev pub IsNameSaid : List ℕ → Bool → List ℕ → List ℕ → Type 0
+IsNameSaid b well out told = (HasBlock b × (well ≡ true) × (out ≡ line (cid_text (block_name b)))
     × (told ≡ [])) ⊎ IsSaidOfNoBlock b well out told
 
 -- ---- a run
@@ -135,18 +135,18 @@ abbrev pub RunsCommand : Command → List ℕ → List ℕ → Option (List ℕ)
 RunsCommand commands.Check text b old heard ended new after = SaysWithPlaces check_speech b old heard ended new after
 RunsCommand commands.Verify text b old heard ended new after = SaysWithPlaces verify_speech b old heard ended new after
 RunsCommand commands.Summary text b old heard ended new after = SaysWithPlaces summary_speech b old heard ended new after
-RunsCommand commands.Help text b old heard ended new after = Says (λ well out. (well ≡ true) × (out ≡ help_text)) old ended new
-RunsCommand commands.Version text b old heard ended new after = Says (λ well out. (well ≡ true) × (out ≡ version_text)) old ended new
+RunsCommand commands.Help text b old heard ended new after = SaysToDevice (λ well out. (well ≡ true) × (out ≡ help_text)) old ended new
+RunsCommand commands.Version text b old heard ended new after = SaysToDevice (λ well out. (well ≡ true) × (out ≡ version_text)) old ended new
 RunsCommand commands.List text b old heard ended new after = SaysBytes list_speech b old ended new
-RunsCommand commands.Name text b old heard ended new after = SaysBoth (IsNamed b) old heard ended new after
+RunsCommand commands.Name text b old heard ended new after = SaysBoth (IsNameSaid b) old heard ended new after
 RunsCommand commands.One text b old heard ended new after = SaysBoth (IsJudged b) old heard ended new after
 RunsCommand commands.Show text b old heard ended new after = SaysBoth (IsShown b) old heard ended new after
 RunsCommand commands.Make text b old heard ended new after = SaysBoth (IsMade b) old heard ended new after
 RunsCommand (commands.Get name) text b old heard ended new after = SaysBoth (IsGot name b) old heard ended new after
-RunsCommand (commands.Tree root) text b old heard ended new after = SaysBoth (IsTree root b) old heard ended new after
-RunsCommand (commands.At root) text b old heard ended new after = SaysBoth (IsAnswer asks.Data root (segments (path_part text)) b) old heard ended new after
-RunsCommand (commands.Raw root) text b old heard ended new after = SaysBoth (IsAnswer asks.Bytes root (segments (path_part text)) b) old heard ended new after
-RunsCommand (commands.Prove root) text b old heard ended new after = SaysBoth (IsAnswer asks.Proof root (segments (path_part text)) b) old heard ended new after
+RunsCommand (commands.Tree root) text b old heard ended new after = SaysBoth (IsTreeOfFile root b) old heard ended new after
+RunsCommand (commands.At root) text b old heard ended new after = SaysBoth (IsAnswerOfFile asks.Data root (segments (path_part text)) b) old heard ended new after
+RunsCommand (commands.Raw root) text b old heard ended new after = SaysBoth (IsAnswerOfFile asks.Bytes root (segments (path_part text)) b) old heard ended new after
+RunsCommand (commands.Prove root) text b old heard ended new after = SaysBoth (IsAnswerOfFile asks.Proof root (segments (path_part text)) b) old heard ended new after
 RunsCommand commands.Records text b old heard ended new after = SaysBoth (IsRecords b) old heard ended new after
 RunsCommand commands.Record text b old heard ended new after = SaysBoth (IsRecord text b) old heard ended new after
 

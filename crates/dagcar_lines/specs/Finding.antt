@@ -5,7 +5,7 @@ use Rattle.ipld_tree.specs.Cid.{CidParts, cid_bytes}
 use Rattle.dagcbor_car.specs.Car.{Section, car_bytes}
 use Rattle.dagcbor_car.specs.Versions.{IsFile}
 use Rattle.ipld_links.specs.Verdicts.{IsVerified}
-use Rattle.dagcbor_car.specs.Checks.{IsFileFront, IsHeld}
+use Rattle.dagcbor_car.specs.Checks.{IsFileFront, IsHeldInFile}
 use Rattle.ipld_links.specs.Reaching.{Stored, IsLost, ListsReachable, ListsLost}
 use Rattle.dagcbor_car.specs.Reached.{sections_at}
 use Rattle.block_lines.specs.Lines.{missing_line, BreaksLine}
@@ -24,10 +24,10 @@ use Rattle.dagcar_lines.specs.declared.get.Stop.TheVariants as stops
 abbrev pub IsGot : CidParts → List ℕ → Bool → List ℕ → List ℕ → Type 0
 IsGot name b well out told = ((roots : List (List ℕ)) × (sections : List Section) × (n : ℕ)
     × (rest : List ℕ) × IsFileFront b roots (sections ++ (name, out) ∷ []) n rest
-    × ¬ IsHeld name sections × IsVerified (name, out) × (well ≡ true) × (told ≡ []))
+    × ¬ IsHeldInFile name sections × IsVerified (name, out) × (well ≡ true) × (told ≡ []))
     ⊎ ((well ≡ false) × (out ≡ []) × (((roots : List (List ℕ)) × (sections : List Section)
-    × IsFile b roots sections × ¬ IsHeld name sections × (told ≡ missing_line name))
-    ⊎ TellsFault (λ sections. ¬ IsHeld name sections) b told))
+    × IsFile b roots sections × ¬ IsHeldInFile name sections × (told ≡ missing_line name))
+    ⊎ TellsFault (λ sections. ¬ IsHeldInFile name sections) b told))
 
 -- a section is passed over, which is not of the name with its bytes; or it is, and its block is kept,
 -- where there is memory for it
@@ -56,8 +56,8 @@ pub record IsTreeOf (stored : Stored) (root : CidParts) (well : Bool) (out told 
 
 -- what `tree` gives: that of the sound sections of a file; or nothing, and a line that tells why the
 -- bytes are no file
-abbrev pub IsTree : CidParts → List ℕ → Bool → List ℕ → List ℕ → Type 0
-IsTree root b well out told = ((roots : List (List ℕ)) × (sections : List Section)
+abbrev pub IsTreeOfFile : CidParts → List ℕ → Bool → List ℕ → List ℕ → Type 0
+IsTreeOfFile root b well out told = ((roots : List (List ℕ)) × (sections : List Section)
     × IsFile b roots sections × ((stored : Stored) × Stores which.Sound sections stored
     × IsTreeOf stored root well out told))
     ⊎ ((well ≡ false) × (out ≡ []) × TellsFault (λ sections. ⊤) b told)

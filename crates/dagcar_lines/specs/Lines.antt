@@ -3,7 +3,7 @@ use Rattle.std.specs.Prelude.{ℕ, List, ◌∷◌, ◌++◌, codes, decimal}
 use Rattle.ipld_tree.specs.Cid.{CidParts}
 use Rattle.cid_text.specs.Texts.{cid_text}
 use Rattle.block_lines.specs.Lines.{line}
-use Rattle.block_lines.specs.Shown.{place_line}
+use Rattle.block_lines.specs.Shown.{fault_place_line}
 use Rattle.dagcar_lines.specs.Names.{cause_name}
 use Rattle.dag_json.specs.declared.error.DagJsonError.{DagJsonError}
 use Rattle.dagcbor_heads.specs.declared.error.DecodeError.{DecodeError}
@@ -14,4 +14,4 @@ cause_line e offset = line (codes "refused " ++ (cause_name e ++ (32 ∷ decimal
 
 -- of a section whose block is refused, and by which byte of it
 abbrev pub section_place_line : {E : Type 0} → CidParts → DecodeError E → ℕ → List ℕ
-section_place_line name e place = cid_text name ++ (58 ∷ (32 ∷ place_line e place))
+section_place_line name e place = cid_text name ++ (58 ∷ (32 ∷ fault_place_line e place))

@@ -37,9 +37,10 @@ IsAnswerOf asks.Proof root path stored well out told = IsProofOf stored root pat
 
 -- what is said of a file: that of its sections; or nothing, and a line that tells why the bytes are no
 -- file
-abbrev pub IsAnswer : Asked → CidParts → List (List ℕ) → List ℕ → Bool → List ℕ → List ℕ → Type 0
-IsAnswer asked root path b well out told = ((roots : List (List ℕ)) × (sections : List Section)
-    × IsFile b roots sections × ((stored : Stored) × Stores which.All sections stored
+abbrev pub IsAnswerOfFile : Asked → CidParts → List (List ℕ) → List ℕ → Bool → List ℕ → List ℕ
+    → Type 0
+IsAnswerOfFile asked root path b well out told = ((roots : List (List ℕ))
+    × (sections : List Section) × IsFile b roots sections × ((stored : Stored) × Stores which.All sections stored
     × IsAnswerOf asked root path stored well out told))
     ⊎ ((well ≡ false) × (out ≡ []) × TellsFault (λ sections. ⊤) b told)
 
@@ -47,5 +48,6 @@ IsAnswer asked root path b well out told = ((roots : List (List ℕ)) × (sectio
 -- what `at --raw` says.
 abbrev pub ProofsDecide : Asked → Type 0
 ProofsDecide asked = (root : CidParts) (path : List (List ℕ)) (b proof told : List ℕ)
-    → IsAnswer asks.Proof root path b true proof told → (well : Bool) (out heard : List ℕ)
-    → IsAnswer asked root path proof well out heard → IsAnswer asked root path b well out heard
+    → IsAnswerOfFile asks.Proof root path b true proof told → (well : Bool) (out heard : List ℕ)
+    → IsAnswerOfFile asked root path proof well out heard
+    → IsAnswerOfFile asked root path b well out heard

@@ -53,8 +53,8 @@ pub record IsSaidOfFile (speech : Speech) (b : List ℕ) (well : Bool) (out : Li
 
 -- no file begins, and nothing was said; or the roots and all sections up to a place were told where
 -- no section stands, though bytes do, or are wanting
-abbrev pub StandsBehind : Speech → CarError Infallible → List ℕ → List ℕ → Type 0
-StandsBehind speech e b said = (RefusesStart e b × (said ≡ []))
+abbrev pub IsSaidBeforeFault : Speech → CarError Infallible → List ℕ → List ℕ → Type 0
+IsSaidBeforeFault speech e b said = (RefusesStart e b × (said ≡ []))
     ⊎ ((roots : List (List ℕ)) × (sections : List Section) × (n : ℕ) × (rest : List ℕ)
     × (well : Bool) × IsFileFront b roots sections n rest
     × IsSaidSoFar speech roots sections well said × RefusesSection n e rest)
@@ -64,12 +64,12 @@ pub record IsSaidOfNone (speech : Speech) (b : List ℕ) (out : List ℕ) : Type
   pub error : CarError Infallible
   pub said : List ℕ
   pub none : IsNoFile b
-  pub stands : StandsBehind speech error b said
+  pub stands : IsSaidBeforeFault speech error b said
   pub lines : out ≡ said ++ speech.of_fault (refused_line error)
 
 -- What is said of bytes, and whether nothing is wrong.
-abbrev pub IsSaidOf : Speech → List ℕ → Bool → List ℕ → Type 0
-IsSaidOf speech b well out = IsSaidOfFile speech b well out
+abbrev pub IsSaidOfBytes : Speech → List ℕ → Bool → List ℕ → Type 0
+IsSaidOfBytes speech b well out = IsSaidOfFile speech b well out
     ⊎ ((well ≡ false) × IsSaidOfNone speech b out)
 
 -- what is said of the roots and of the first sections of a file, or nothing
@@ -81,11 +81,12 @@ AreFirstLines speech b out = (out ≡ [])
 
 -- these lines are the first, or all that is said
 abbrev pub AreLines : Speech → List ℕ → List ℕ → Type 0
-AreLines speech b out = AreFirstLines speech b out ⊎ ((well : Bool) × IsSaidOf speech b well out)
+AreLines speech b out = AreFirstLines speech b out
+    ⊎ ((well : Bool) × IsSaidOfBytes speech b well out)
 
 -- What went out where a run broke off: the first lines; and then a front of what is said next,
 -- which is empty but where the device failed.
-pub record BreaksOff (speech : Speech) (b : List ℕ) (old new : Option (List ℕ)) (e : ToolError) : Type 0 where
+pub record BreaksSpeech (speech : Speech) (b : List ℕ) (old new : Option (List ℕ)) (e : ToolError) : Type 0 where
   pub whole : List ℕ
   pub front : List ℕ
   pub first : AreFirstLines speech b whole
@@ -97,8 +98,8 @@ pub record BreaksOff (speech : Speech) (b : List ℕ) (old new : Option (List �
 abbrev pub SaysBytes : Speech → List ℕ → Option (List ℕ) → Result Bool ToolError
     → Option (List ℕ) → Type 0
 SaysBytes speech b old result new = MatchResult result
-    (λ well. (out : List ℕ) × IsSaidOf speech b well out × Appends old new out)
-    (λ e. BreaksOff speech b old new e)
+    (λ well. (out : List ℕ) × IsSaidOfBytes speech b well out × Appends old new out)
+    (λ e. BreaksSpeech speech b old new e)
 
 -- where the source tells the bytes that are left, all is said of these, or the run broke off
 abbrev pub SaysFile : Speech → Reading → Option (List ℕ) → Result Bool ToolError

@@ -5,7 +5,7 @@ use Rattle.std.specs.declared.alloc.Global.{Global}
 use Rattle.dagcbor_heads.specs.Reading.{Reading}
 use Rattle.dagcbor_car.specs.Car.{Section}
 use Rattle.dagcbor_car.specs.Sources.{TakesStart}
-use Rattle.block_lines.specs.Lines.{BreaksLine, Says}
+use Rattle.block_lines.specs.Lines.{BreaksLine, SaysToDevice}
 use Rattle.dagcar_lines.specs.Speeches.{Speech, SaysFile}
 use Rattle.held_lines.specs.declared.take.Ended.{Ended}
 use Rattle.held_lines.specs.declared.take.Ended.TheVariants as ended
@@ -24,9 +24,9 @@ KnowsMore knows s old new = (roots : List (List ℕ)) (sections : List Section)
     → knows old roots sections → knows new roots (sections ++ s ∷ [])
 
 -- what is said at the end of each file behind whose sections this is known
-abbrev pub TellsEnd : {T E : Type 0} → Speech → Knowing T → T → Result (Vec ℕ Global × Bool) E
+abbrev pub SaysAtEnd : {T E : Type 0} → Speech → Knowing T → T → Result (Vec ℕ Global × Bool) E
     → Type 0
-TellsEnd speech knows teller result = (roots : List (List ℕ)) (sections : List Section)
+SaysAtEnd speech knows teller result = (roots : List (List ℕ)) (sections : List Section)
     → knows teller roots sections → IfOk result (λ p. speech.of_end roots sections p.1 p.0.items)
 
 -- ---- a teller at work
@@ -77,12 +77,13 @@ abbrev pub SaysRest : {T : Type 0} → Speech → Knowing T → T → Bool → R
     → Option (List ℕ) → Result Bool ToolError → Option (List ℕ) → Type 0
 SaysRest speech knows teller well (Ok ended.Whole) before result after =
     (roots : List (List ℕ)) (sections : List Section) → knows teller roots sections
-    → Says (λ answer text. (end_well : Bool) × speech.of_end roots sections end_well text
+    → SaysToDevice (λ answer text. (end_well : Bool) × speech.of_end roots sections end_well text
     × (answer ≡ (end_well && well))) before result after
 SaysRest speech knows teller well (Ok (ended.Stopped e)) before result after =
     (result ≡ Err e) × (after ≡ before)
 SaysRest speech knows teller well (Ok (ended.Fault line)) before result after =
-    Says (λ answer text. (answer ≡ false) × (text ≡ speech.of_fault line.items)) before result after
+    SaysToDevice (λ answer text. (answer ≡ false) × (text ≡ speech.of_fault line.items))
+    before result after
 SaysRest speech knows teller well (Err e) before result after = (result ≡ Err e) × (after ≡ before)
 
 -- ---- the whole

@@ -3,7 +3,7 @@ use Rattle.std.specs.Prelude.{◌≡◌, ◌↔◌, ℕ, ◌+◌, List, [], ◌�
 use Rattle.std.specs.declared.alloc.Global.{Global}
 use Rattle.ipld_tree.specs.Cid.{CidParts}
 use Rattle.dagcbor_car.specs.Car.{Section}
-use Rattle.dagcbor_car.specs.Checks.{IsAfter, ListsMissing}
+use Rattle.dagcbor_car.specs.Checks.{IsAfter, ListsMissingInFile}
 use Rattle.ipld_links.specs.Verdicts.{IsVerdict}
 use Rattle.dagcbor_car.specs.Told.{Told, sections_of, AreTold}
 use Rattle.ipld_links.specs.declared.verdict.Verdict.{Verdict}
@@ -47,23 +47,23 @@ how_many is_so (p ∷ told) = one_if (is_so p.1) + how_many is_so told
 -- ---- the lines
 
 -- a number behind a word
-abbrev pub count_line : List ℕ → ℕ → List ℕ
-count_line word count = line (word ++ (32 ∷ decimal count))
+abbrev pub number_line : List ℕ → ℕ → List ℕ
+number_line word count = line (word ++ (32 ∷ decimal count))
 
 -- how many sections there are, of how many the verdict is which, and how many links lead nowhere
 abbrev pub summary_lines : List Told → ℕ → List ℕ
-summary_lines told missing = count_line (codes "sections") (length told)
-    ++ (count_line (codes "ok") (how_many is_ok told)
-    ++ (count_line (codes "not read") (how_many is_not_read told)
-    ++ (count_line (codes "refused") (how_many is_refused told)
-    ++ (count_line (codes "other bytes") (how_many is_other_bytes told)
-    ++ (count_line (codes "not verified") (how_many is_unverified told)
-    ++ count_line (codes "missing") missing)))))
+summary_lines told missing = number_line (codes "sections") (length told)
+    ++ (number_line (codes "ok") (how_many is_ok told)
+    ++ (number_line (codes "not read") (how_many is_not_read told)
+    ++ (number_line (codes "refused") (how_many is_refused told)
+    ++ (number_line (codes "other bytes") (how_many is_other_bytes told)
+    ++ (number_line (codes "not verified") (how_many is_unverified told)
+    ++ number_line (codes "missing") missing)))))
 
 -- What `check --summary` says at the end: what `check` says, and how many sections had which verdict.
 pub record IsSummary (roots : List (List ℕ)) (sections : List Section) (well : Bool) (text : List ℕ) : Type 0 where
   pub missing : Vec CidParts Global
-  pub lists : ListsMissing roots sections missing
+  pub lists : ListsMissingInFile roots sections missing
   pub told : List Told
   pub of_sections : sections_of told ≡ sections
   pub right : AreTold told
@@ -101,10 +101,10 @@ KnowsCounts it roots sections = IsAfter it.check roots sections × ((told : List
 
 -- the lines of these numbers
 abbrev pub counts_lines : Counts → ℕ → List ℕ
-counts_lines counts missing = count_line (codes "sections") counts.sections
-    ++ (count_line (codes "ok") counts.ok
-    ++ (count_line (codes "not read") counts.not_read
-    ++ (count_line (codes "refused") counts.refused
-    ++ (count_line (codes "other bytes") counts.other_bytes
-    ++ (count_line (codes "not verified") counts.unverified
-    ++ count_line (codes "missing") missing)))))
+counts_lines counts missing = number_line (codes "sections") counts.sections
+    ++ (number_line (codes "ok") counts.ok
+    ++ (number_line (codes "not read") counts.not_read
+    ++ (number_line (codes "refused") counts.refused
+    ++ (number_line (codes "other bytes") counts.other_bytes
+    ++ (number_line (codes "not verified") counts.unverified
+    ++ number_line (codes "missing") missing)))))

@@ -40,11 +40,7 @@ pub fn say_answer<A: Answering, R: BufRead, W: Write, V: Write>(
         SaysBoth (A.is_said b) (W.contents output.old) (V.contents errors.old) result
         (W.contents output.new) (V.contents errors.new)) }
 {
-    match read_all(alloc, input) {
-        Ok(bytes) => match A::answer(alloc, &bytes) {
-            Ok((said, told)) => say_both(said, &told, output, errors),
-            Err(fault) => Err(fault),
-        },
-        Err(fault) => Err(fault),
-    }
+    let bytes = read_all(alloc, input)?;
+    let (said, told) = A::answer(alloc, &bytes)?;
+    say_both(said, &told, output, errors)
 }

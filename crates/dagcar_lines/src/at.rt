@@ -4,7 +4,7 @@ ghost use Rattle.std.specs.Prelude.{IfSome};
 ghost use Rattle.dagcbor_paths.specs.Paths.{segments};
 ghost use Rattle.ipld_links.specs.Reaching.{stored_in};
 ghost use Rattle.block_lines.specs.Lines.{SaysBoth};
-ghost use Rattle.dagcar_lines.specs.Paths.{IsAtOf, IsAnswerOf, IsAnswer};
+ghost use Rattle.dagcar_lines.specs.Paths.{IsAtOf, IsAnswerOf, IsAnswerOfFile};
 
 use block_lines::{say_both, say_shown};
 use dagcbor_cli::ToolError;
@@ -81,7 +81,7 @@ pub fn write_asked<R: BufRead, W: Write, V: Write>(
     errors: &mut V,
 ) -> Result<bool, ToolError>
     ensures { IfSome (R.remaining input.old) (λ b.
-        SaysBoth (IsAnswer asked root.now (segments path.now) b) (W.contents output.old)
+        SaysBoth (IsAnswerOfFile asked root.now (segments path.now) b) (W.contents output.old)
         (V.contents errors.old) result (W.contents output.new) (V.contents errors.new)) }
 {
     match held_of(alloc, Kept::All, input) {

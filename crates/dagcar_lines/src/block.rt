@@ -4,7 +4,7 @@ ghost use Rattle.std.specs.Prelude.{◌≡◌, IfOk};
 ghost use Rattle.cid_text.specs.Texts.{cid_text};
 ghost use Rattle.block_lines.specs.Lines.{line};
 ghost use Rattle.block_lines.specs.Shown.{IsShown};
-ghost use Rattle.dagcar_lines.specs.Answers.{IsJudged, IsNamed};
+ghost use Rattle.dagcar_lines.specs.Answers.{IsJudged, IsNameSaid};
 
 use crate::answer::Answering;
 use block_lines::{Answer, line_of, no_block_answer, shown};
@@ -27,7 +27,7 @@ fn name_line(alloc: Global, cid: &Cid) -> Result<Vec<u8>, AllocError>
 pub struct Naming;
 
 impl Answering for Naming {
-    ghost is_said = { IsNamed };
+    ghost is_said = { IsNameSaid };
 
     fn answer(alloc: Global, bytes: &[u8]) -> Result<Answer, ToolError> {
         match judge_slice(bytes) {

@@ -7,10 +7,10 @@ ghost use Rattle.block_lines.specs.Lines.{missing_line};
 ghost use Rattle.ipld_links.specs.Verdicts.{IsVerdict};
 ghost use Rattle.dagcar_lines.specs.Answers.{IsVerdictLine, TellsPlace, check_speech};
 ghost use Rattle.dagcar_lines.specs.Lines.{section_place_line};
-ghost use Rattle.dagcar_lines.specs.Steps.{TellsEnd};
+ghost use Rattle.dagcar_lines.specs.Steps.{SaysAtEnd};
 
 use crate::walk::Teller;
-use block_lines::{Answer, Said, is_none, missing_lines, place_line, told_line};
+use block_lines::{Answer, Said, fault_place_line, missing_lines, verdict_line};
 use cid_text::cid_text;
 use dagcbor_car::{CarCheck, Section};
 use dagcbor_items::{Refused, judge_slice};
@@ -30,7 +30,7 @@ fn section_place_line(
     let mut line = Vec::new(alloc);
     line.extend_from_slice(&cid_text(&section.cid))?;
     line.extend_from_slice(b": ")?;
-    line.extend_from_slice(&place_line(alloc, refused)?)?;
+    line.extend_from_slice(&fault_place_line(alloc, refused)?)?;
     Ok(line)
 }
 
@@ -63,7 +63,7 @@ pub fn section_answer(
     ensures told { IsVerdict (section.now.cid, section.now.block.now) verdict.now → IfOk result
         (λ p. TellsPlace (section.now.cid, section.now.block.now) p.1.items) }
 {
-    let said = told_line(alloc, &section.cid, verdict)?;
+    let said = verdict_line(alloc, &section.cid, verdict)?;
     let told = section_told(alloc, section, verdict)?;
     Ok((said, told))
 }
@@ -88,22 +88,21 @@ fn verdict_said(
 }
 
 /// The lines of these names. Nothing is wrong where there is none.
+#[tactic(auto, using(block_lines::proofs::Saying::told_empty))]
 fn names_said(alloc: Global, names: &[Cid]) -> Result<Said, AllocError>
     ensures lines { IfOk result (λ p. p.0.items ≡ flat_map missing_line names.now) }
     ensures well { IfOk result (λ p. IsTrue p.1 ↔ (names.now ≡ [])) }
 {
     let lines = missing_lines(alloc, names)?;
-    Ok((lines, is_none(names)))
+    Ok((lines, names.is_empty()))
 }
 
 /// The lines of the roots and the links that lead nowhere.
 fn missing_said(alloc: Global, check: CarCheck) -> Result<Said, AllocError>
-    ensures { TellsEnd check_speech IsAfter check result }
+    ensures { SaysAtEnd check_speech IsAfter check result }
 {
-    match check.missing(alloc) {
-        Ok(missing) => names_said(alloc, &missing),
-        Err(error) => Err(error),
-    }
+    let missing = check.missing(alloc)?;
+    names_said(alloc, &missing)
 }
 
 impl Teller for CarCheck {

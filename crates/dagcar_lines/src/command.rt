@@ -3,11 +3,11 @@
 ghost use Rattle.std.specs.Prelude.{◌≡◌, ◌≢◌, [], ◌∷◌, ◌++◌, codes, true, map, string_bytes, IfSome, MatchOption, Result, Bool, Option, None, Some, List, ℕ};
 ghost use Rattle.dagcar_lines.specs.Answers.{RunsCommand, EndsSo, IsQuiet};
 ghost use Rattle.dagcar_lines.specs.Speeches.{beside, SaysBytes};
-ghost use Rattle.block_lines.specs.Lines.{no_cid_line, Says, SaysBoth};
+ghost use Rattle.block_lines.specs.Lines.{no_cid_line, SaysToDevice, SaysBoth};
 ghost use Rattle.dagcbor_cli.specs.declared.fault.ToolError.{ToolError};
 ghost use Rattle.dagcar_lines.specs.Commands.{IsCommand, IsCommandOn, IsMistyped};
 ghost use Rattle.dagcar_lines.specs.Commands.{name_part, path_part, text_of};
-ghost use Rattle.dagcar_lines.specs.Paths.{IsAnswer};
+ghost use Rattle.dagcar_lines.specs.Paths.{IsAnswerOfFile};
 ghost use Rattle.dagcbor_paths.specs.Paths.{segments};
 ghost use Rattle.dagcar_lines.specs.declared.command.Command.TheVariants.{Summary};
 ghost use Rattle.ipld_tree.specs.Cid.{CidParts};
@@ -329,8 +329,8 @@ fn say_input<T: Teller, R: BufRead, W: Write, V: Write>(
 
 /// Says this, which is well.
 fn say_text<W: Write>(text: &str, output: &mut W) -> Result<bool, ToolError>
-    ensures { Says (λ well out. (well ≡ true) × (out ≡ text.now)) (W.contents output.old) result
-        (W.contents output.new) }
+    ensures { SaysToDevice (λ well out. (well ≡ true) × (out ≡ text.now))
+        (W.contents output.old) result (W.contents output.new) }
 {
     write_all(output, text.as_bytes())?;
     Ok(true)
@@ -347,7 +347,7 @@ fn say_path<R: BufRead, W: Write, V: Write>(
     errors: &mut V,
 ) -> Result<bool, ToolError>
     ensures { IfSome (R.remaining input.old) (λ b.
-        SaysBoth (IsAnswer asked root.now (segments (path_part text.now)) b)
+        SaysBoth (IsAnswerOfFile asked root.now (segments (path_part text.now)) b)
         (W.contents output.old) (V.contents errors.old) result (W.contents output.new)
         (V.contents errors.new)) }
 {

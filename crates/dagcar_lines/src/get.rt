@@ -75,19 +75,17 @@ fn got<R: BufRead>(alloc: Global, name: &Cid, input: &mut R) -> Result<Answer, T
         name: *name,
         block: Vec::new(alloc),
     };
-    match take_input(alloc, &mut search, input) {
-        Ok((_roots, ended)) => match ended {
-            Ended::Stopped(stop) => match stop {
-                Stop::Enough => Ok(((search.block, true), Vec::new(alloc))),
-                Stop::OutOfMemory => Err(ToolError::OutOfMemory),
-            },
-            Ended::Whole => {
-                let line = missing_lines(alloc, &[*name])?;
-                Ok(((Vec::new(alloc), false), line))
-            }
-            Ended::Fault(line) => Ok(((Vec::new(alloc), false), line)),
+    let (_roots, ended) = take_input(alloc, &mut search, input)?;
+    match ended {
+        Ended::Stopped(stop) => match stop {
+            Stop::Enough => Ok(((search.block, true), Vec::new(alloc))),
+            Stop::OutOfMemory => Err(ToolError::OutOfMemory),
         },
-        Err(fault) => Err(fault),
+        Ended::Whole => {
+            let line = missing_lines(alloc, &[*name])?;
+            Ok(((Vec::new(alloc), false), line))
+        }
+        Ended::Fault(line) => Ok(((Vec::new(alloc), false), line)),
     }
 }
 
@@ -104,8 +102,6 @@ pub fn get_block<R: BufRead, W: Write, V: Write>(
         SaysBoth (IsGot name.now b) (W.contents output.old) (V.contents errors.old) result
         (W.contents output.new) (V.contents errors.new)) }
 {
-    match got(alloc, name, input) {
-        Ok((said, told)) => say_both(said, &told, output, errors),
-        Err(fault) => Err(fault),
-    }
+    let (said, told) = got(alloc, name, input)?;
+    say_both(said, &told, output, errors)
 }

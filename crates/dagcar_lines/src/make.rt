@@ -18,10 +18,7 @@ use std::alloc::Global;
 fn block_of(alloc: Global, value: &Ipld) -> Result<Vec<u8>, ToolError>
     ensures { IfOk result (λ v. IsSpelling v.items (tree_of value.now)) }
 {
-    match to_vec(alloc, value) {
-        Ok(block) => Ok(block),
-        Err(_) => Err(ToolError::OutOfMemory),
-    }
+    to_vec(alloc, value).map_err(|_| ToolError::OutOfMemory)
 }
 
 /// The block of the data that the text is, or what is told of one that is none.

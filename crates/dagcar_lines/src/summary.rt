@@ -6,11 +6,11 @@ ghost use Rattle.ipld_links.specs.Verdicts.{IsVerdict};
 ghost use Rattle.block_lines.specs.Lines.{missing_line};
 ghost use Rattle.dagcar_lines.specs.Answers.{IsVerdictLine, TellsPlace, summary_speech};
 ghost use Rattle.dagcar_lines.specs.Summary.{CountsOne, CountsSection, AreCounts, KnowsCounts};
-ghost use Rattle.dagcar_lines.specs.Summary.{count_line, counts_lines};
+ghost use Rattle.dagcar_lines.specs.Summary.{number_line, counts_lines};
 
 use crate::check::section_answer;
 use crate::walk::Teller;
-use block_lines::{Answer, Said, is_none, missing_lines};
+use block_lines::{Answer, Said, missing_lines};
 use dagcbor_car::{CarCheck, Section};
 use ipld_links::Verdict;
 use ipld_tree::Cid;
@@ -31,10 +31,7 @@ pub struct Counts {
 fn one_more(count: u64) -> Result<u64, AllocError>
     ensures { IfOk result (λ n. n ≡ count + 1) }
 {
-    match count.checked_add(1) {
-        Some(more) => Ok(more),
-        None => Err(AllocError),
-    }
+    count.checked_add(1).ok_or(AllocError)
 }
 
 impl Counts {
@@ -77,7 +74,7 @@ pub struct Summing {
 
 /// Puts the line of a number behind a word.
 fn push_count(alloc: Global, out: &mut Vec<u8>, word: &str, count: u64) -> Result<(), AllocError>
-    ensures { OnOk result (out.new.items ≡ out.old.items ++ count_line word.now count) }
+    ensures { OnOk result (out.new.items ≡ out.old.items ++ number_line word.now count) }
 {
     let line = format!(in alloc; "{word} {count}\n")?;
     out.extend_from_slice(line.as_bytes())?;
@@ -103,6 +100,7 @@ fn push_counts(
 }
 
 /// The lines of these names, and of the numbers. Nothing is wrong where there is no name.
+#[tactic(auto, using(block_lines::proofs::Saying::told_empty))]
 fn summary_said(alloc: Global, missing: &[Cid], counts: &Counts) -> Result<Said, AllocError>
     ensures lines { IfOk result (λ p. p.0.items
         ≡ flat_map missing_line missing.now ++ counts_lines counts.now (length missing.now)) }
@@ -110,7 +108,7 @@ fn summary_said(alloc: Global, missing: &[Cid], counts: &Counts) -> Result<Said,
 {
     let mut lines = missing_lines(alloc, missing)?;
     push_counts(alloc, &mut lines, counts, missing.len() as u64)?;
-    Ok((lines, is_none(missing)))
+    Ok((lines, missing.is_empty()))
 }
 
 /// Counts the section with this verdict, and answers its line, and what is told beside that.

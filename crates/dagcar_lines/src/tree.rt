@@ -5,10 +5,10 @@ ghost use Rattle.ipld_tree.specs.Cid.{cid_bytes};
 ghost use Rattle.dagcbor_car.specs.Car.{car_bytes};
 ghost use Rattle.ipld_links.specs.Reaching.{stored_in, IsLost};
 ghost use Rattle.dagcbor_car.specs.Reached.{sections_at};
-ghost use Rattle.dagcar_lines.specs.Finding.{IsTreeOf, IsTree, Sends, SendsTree};
+ghost use Rattle.dagcar_lines.specs.Finding.{IsTreeOf, IsTreeOfFile, Sends, SendsTree};
 ghost use Rattle.block_lines.specs.Lines.{SaysBoth};
 
-use block_lines::{is_none, missing_lines, say_both};
+use block_lines::{missing_lines, say_both};
 use dagcbor_car::push_tree;
 use dagcbor_cli::{ToolError, write_all};
 use dagcbor_heads::{EncodeError, IoRefWriter};
@@ -87,7 +87,7 @@ fn say_tree<W: Write, V: Write>(
 {
     let Reached { found, lost } = reach_from(alloc, blocks, root)?;
     let told = missing_lines(alloc, &lost)?;
-    let whole = is_none(&lost);
+    let whole = lost.is_empty();
     send_tree(alloc, root, blocks, &found, output)?;
     write_all(errors, &told)?;
     Ok(whole)
@@ -104,7 +104,7 @@ pub fn write_tree<R: BufRead, W: Write, V: Write>(
     errors: &mut V,
 ) -> Result<bool, ToolError>
     ensures { IfSome (R.remaining input.old) (λ b.
-        SaysBoth (IsTree root.now b) (W.contents output.old) (V.contents errors.old) result
+        SaysBoth (IsTreeOfFile root.now b) (W.contents output.old) (V.contents errors.old) result
         (W.contents output.new) (V.contents errors.new)) }
 {
     match held_of(alloc, Kept::Sound, input) {

@@ -6,7 +6,7 @@ ghost use Rattle.dagcbor_heads.specs.Inputs.{input_reading};
 ghost use Rattle.dagcbor_items.specs.Walks.{forms};
 ghost use Rattle.dagcbor_car.specs.Car.{Section as CarSection};
 ghost use Rattle.dagcar_lines.specs.Speeches.{Speech, beside, SaysFile};
-ghost use Rattle.dagcar_lines.specs.Steps.{KnowsMore, TellsEnd, work_of, beside_of, SaysSection, SaysRest};
+ghost use Rattle.dagcar_lines.specs.Steps.{KnowsMore, SaysAtEnd, work_of, beside_of, SaysSection, SaysRest};
 ghost use Rattle.dagcar_lines.specs.Steps.{behind, run, SaysSections, SaysHeader};
 
 use block_lines::{Answer, Said, say, say_both};
@@ -45,7 +45,7 @@ pub trait Teller: Sized + Drop {
 
     /// What is said at the end.
     fn end(self, alloc: Global) -> Result<Said, AllocError>
-        ensures { TellsEnd Self.speech Self.knows self result };
+        ensures { SaysAtEnd Self.speech Self.knows self result };
 
     /// The line of a fault is said.
     ghost says_faults: { (line : List ℕ) → Self.speech.of_fault line ≡ line };
@@ -96,16 +96,10 @@ impl<T: Teller, W: Write, V: Write> SectionSink for Telling<'_, '_, T, W, V> {
         (beside_of V.contents old) result (beside_of V.contents new) };
 
     fn take(&mut self, section: &Section<'_>) -> Result<(), ToolError> {
-        match self.teller.tell(self.alloc, section) {
-            Ok((said, told)) => match say_both(said, &told, self.output, self.errors) {
-                Ok(well) => {
-                    self.well = self.well && well;
-                    Ok(())
-                }
-                Err(fault) => Err(fault),
-            },
-            Err(_) => Err(ToolError::OutOfMemory),
-        }
+        let (said, told) = self.teller.tell(self.alloc, section)?;
+        let well = say_both(said, &told, self.output, self.errors)?;
+        self.well = self.well && well;
+        Ok(())
     }
 }
 
@@ -139,11 +133,10 @@ fn say_rest<T: Teller, W: Write>(
     ensures { SaysRest T.speech T.knows teller well ended (W.contents output.old) result
         (W.contents output.new) }
 {
-    match ended {
-        Ok(Ended::Whole) => say_end(alloc, teller, well, output),
-        Ok(Ended::Stopped(fault)) => Err(fault),
-        Ok(Ended::Fault(line)) => say((line, false), output),
-        Err(fault) => Err(fault),
+    match ended? {
+        Ended::Whole => say_end(alloc, teller, well, output),
+        Ended::Stopped(fault) => Err(fault),
+        Ended::Fault(line) => say((line, false), output),
     }
 }
 
@@ -212,15 +205,13 @@ pub fn say_file<'de, T: Teller, R: Read, W: Write, V: Write>(
         (V.contents errors.old) result (V.contents errors.new) }
 {
     match pull_header(alloc, input) {
-        Ok((roots, extent)) => match T::begin(alloc, &roots) {
-            Ok((teller, of_roots)) => {
-                say_header(alloc, teller, &of_roots, input, extent, output, errors)
-            }
-            Err(_) => Err(ToolError::OutOfMemory),
-        },
-        Err(error) => match fault_line(alloc, error) {
-            Ok(line) => say((line, false), output),
-            Err(fault) => Err(fault),
-        },
+        Ok((roots, extent)) => {
+            let (teller, of_roots) = T::begin(alloc, &roots)?;
+            say_header(alloc, teller, &of_roots, input, extent, output, errors)
+        }
+        Err(error) => {
+            let line = fault_line(alloc, error)?;
+            say((line, false), output)
+        }
     }
 }

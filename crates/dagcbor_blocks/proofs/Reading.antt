@@ -8,7 +8,7 @@ use Rattle.dagcbor_car.specs.Extents.{EndsThere}
 use Rattle.ipld_links.specs.Sets.{Among}
 use Rattle.ipld_links.specs.Sound.{IsSound}
 use Rattle.dagcbor_car.specs.Sources.{CarRefuses, RefusesStart, LacksMemoryIf, FileLacks, TakesStart, TakesSectionBytes}
-use Rattle.dagcbor_car.specs.Each.{Takes, TakesEach, StopsEach, RunsEach}
+use Rattle.dagcbor_car.specs.Each.{SinkTakes, TakesEach, StopsEach, RunsEach}
 use Rattle.dagcbor_car.specs.declared.error.CarError.{CarError}
 use Rattle.dagcbor_car.specs.declared.each.ReadCarError.{ReadCarError}
 use Rattle.dagcbor_car.specs.declared.each.ReadCarError.TheVariants as stop
@@ -99,7 +99,7 @@ read_whole roots ss extent more old mid new before held after h end same = recor
 -- ---- the sections, one by one
 
 -- what taking a section does to a store
-abbrev Keeps : Takes Blocks PutBlockError
+abbrev Keeps : SinkTakes Blocks PutBlockError
 Keeps s old result new = PutsBytes s (held_blocks old) result (held_blocks new)
 
 pub read_along : (roots : List (List ℕ)) (ss : List Section) (extent rest : Option ℕ) (start source mid : Reading) (before : Held) (old new : Blocks) → IsReadAt roots [] start before extent source (held_blocks old) → TakesEach Keeps extent source old ss rest mid new

@@ -10,7 +10,7 @@ use Rattle.serde_ipld_dagcbor.specs.Reading.{Reading}
 use Rattle.serde_ipld_dagcbor.specs.Cid.{CidParts, cid_cmp}
 use Rattle.serde_ipld_dagcbor.specs.Walks.{forms}
 use Rattle.dagcbor_car.specs.Car.{Section, header_bytes, section_bytes, IsSection, IsCar}
-use Rattle.dagcbor_car.specs.Extents.{within, wanting}
+use Rattle.dagcbor_car.specs.Extents.{bytes_within, wanting}
 use Rattle.dagcbor_car.specs.Laws.{FilesAreUnique}
 use Rattle.ipld_links.specs.Sets.{Among}
 use Rattle.dagcbor_car.specs.Sources.{CarRefuses, RefusesStart, RefusesNext}
@@ -102,7 +102,7 @@ goes_on_for_memory extent mid new rest roots blocks after n l never car.OutOfMem
 goes_on_for_memory extent mid new rest roots blocks after n l never c r = absurd (never c (r.1 rest l))
 
 -- where sections are left, one stands first
-never_no_section : (rest : List ℕ) (extent : Option ℕ) (more : List Section) → AllByRecursion IsSection more → wanting extent rest ≡ 0 → within extent rest ≡ flat_map section_bytes more → (c : CarError Infallible) → RefusesNext extent c rest → ⊥
+never_no_section : (rest : List ℕ) (extent : Option ℕ) (more : List Section) → AllByRecursion IsSection more → wanting extent rest ≡ 0 → bytes_within extent rest ≡ flat_map section_bytes more → (c : CarError Infallible) → RefusesNext extent c rest → ⊥
 never_no_section rest extent [] all none is c r = omega (arith, r.0, none, ap length is)
 never_no_section rest extent (s ∷ more) all none is c r = r.1 s (flat_map section_bytes more) (all.0, is)
 
@@ -114,14 +114,14 @@ next_among rest behind ss (t ∷ more) blocks s all is whole own first =
     subst (Among s) (sym whole) (subst (λ x. Among s (ss ++ x ∷ more)) same.0 (among_mid ss s more))
 
 module _ (es : List BlockEntry) (finds : FindsMembers (shown es)) (sound : ∥ AllByRecursion IsSoundEntry es ∥₁) (b : List ℕ) (roots : List (List ℕ)) (old new : Reading) (after : Held) (file : IsCar b roots (shown es)) (l : old.left ≡ Some b) where
-  stops_for_memory : (others : List (List ℕ)) (ss more : List Section) (extent : Option ℕ) (mid : Reading) (rest : List ℕ) (e : ReadCarError Infallible PutBlockError) → HoldsAlso [] ss after → AllByRecursion IsSection more → wanting extent rest ≡ 0 → within extent rest ≡ flat_map section_bytes more → shown es ≡ ss ++ more → mid.left ≡ Some rest
+  stops_for_memory : (others : List (List ℕ)) (ss more : List Section) (extent : Option ℕ) (mid : Reading) (rest : List ℕ) (e : ReadCarError Infallible PutBlockError) → HoldsAlso [] ss after → AllByRecursion IsSection more → wanting extent rest ≡ 0 → bytes_within extent rest ≡ flat_map section_bytes more → shown es ≡ ss ++ more → mid.left ≡ Some rest
       → KeepsNoneNext (length ss) extent mid after e new → IsFilledBack roots (shown es) (Err e) after
   stops_for_memory others ss more extent mid rest (stop.Header c) holds all none is whole left f = absurd f
   stops_for_memory others ss more extent mid rest (stop.Section n c) holds all none is whole left f = goes_on_for_memory extent mid new rest roots (shown es) after n left (never_no_section rest extent more all none is) c f.1.0
   stops_for_memory others ss more extent mid rest (stop.Block n name e) holds all none is whole left t =
       let w = t.3.1.takes.taken rest left in
-      let first = ap (within extent) w.1 ∙ within_behind extent t.1 (section_bytes t.0) w.0 t.3.1.spends in
-      let m = next_among (within extent rest) (within t.1 w.0) ss more (shown es) t.0 all is whole t.3.0 first in
+      let first = ap (bytes_within extent) w.1 ∙ within_behind extent t.1 (section_bytes t.0) w.0 t.3.1.spends in
+      let m = next_among (bytes_within extent rest) (bytes_within t.1 w.0) ss more (shown es) t.0 all is whole t.3.0 first in
       for_memory roots (shown es) ss after t.0 finds m (λ x n. subst (Among x) (sym whole) (among_left x ss more n)) holds (∥∥₁_map sound (λ k. held_named es t.0 k m)) n name e t.5
 
   begun_for_memory : (e : ReadCarError Infallible PutBlockError) → NoFileBegins old e new → IsFilledBack roots (shown es) (Err e) after
@@ -135,9 +135,9 @@ module _ (es : List BlockEntry) (finds : FindsMembers (shown es)) (sound : ∥ A
       let k = to.known b l in
       let one = holds_one b k.2.0 b (wanting extent k.0) 0 k.2.1 (car_holds b roots (shown es) file) in
       let front = k.2.2 in
-      let bytes = sym (append_assoc (header_bytes others) (flat_map section_bytes ss) (within extent k.0)) ∙ sym front.is ∙ one.0 ∙ file.is in
-      let same = header_unique others roots (flat_map section_bytes ss ++ within extent k.0) (flat_map section_bytes (shown es)) front.header file.header bytes in
-      let o = others_behind ss (shown es) (within extent k.0) front.all file.all same.1 in
+      let bytes = sym (append_assoc (header_bytes others) (flat_map section_bytes ss) (bytes_within extent k.0)) ∙ sym front.is ∙ one.0 ∙ file.is in
+      let same = header_unique others roots (flat_map section_bytes ss ++ bytes_within extent k.0) (flat_map section_bytes (shown es)) front.header file.header bytes in
+      let o = others_behind ss (shown es) (bytes_within extent k.0) front.all file.all same.1 in
       stops_for_memory others ss o.0 extent mid k.0 e to.holds o.1 one.1 o.2 o.3 k.1 stops
 
 pub reads_back : FilesAreUnique → (es : List BlockEntry) → IsStrictlySortedBy cid_cmp (keys_of es) → ∥ AllByRecursion IsSoundEntry es ∥₁ → WrittenThenFilled (shown es)

@@ -8,7 +8,7 @@ use Rattle.serde_ipld_dagcbor.specs.Walks.{forms}
 use Rattle.ipld_links.specs.Sound.{IsSound}
 use Rattle.dagcbor_car.specs.Car.{Section}
 use Rattle.dagcbor_car.specs.Versions.{IsFile}
-use Rattle.dagcbor_car.specs.Extents.{within, wanting}
+use Rattle.dagcbor_car.specs.Extents.{bytes_within, wanting}
 use Rattle.dagcbor_car.specs.Sources.{CarRefuses, RefusesStart, TakesSectionBytes, LacksMemoryIf, FileLacks}
 use Rattle.dagcbor_car.specs.Checks.{IsFileFront, StandBehind}
 use Rattle.dagcbor_car.specs.Each.{NoneNext, AreTooMany}
@@ -25,7 +25,7 @@ use Rattle.dagcbor_blocks.specs.declared.put_error.PutBlockError.{PutBlockError}
 pub record IsKeptTo (roots : List (List ℕ)) (sections : List Section) (old : Reading)
     (before : Held) (extent : Option ℕ) (now : Reading) (after : Held) : Type 0 where
   pub known : (b : List ℕ) → old.left ≡ Some b → (rest : List ℕ) × (now.left ≡ Some rest)
-      × IsFileFront b roots sections (wanting extent rest) (within extent rest)
+      × IsFileFront b roots sections (wanting extent rest) (bytes_within extent rest)
   pub same : Stays old now
   pub blocks : AllByRecursion IsSound sections
   pub holds : HoldsAlso before sections after

@@ -15,9 +15,9 @@ use Rattle.dagcbor_car.specs.Car.{Section}
 use Rattle.ipld_links.specs.Verdicts.{IsVerified, IsDagCbor, IsVerdict}
 use Rattle.ipld_links.specs.Sets.{Among, members, RemovesCid, AreCids}
 use Rattle.ipld_links.specs.Held.{IsHeldName, HoldsNone, AddsName, AreNames}
-use Rattle.ipld_links.specs.Within.{IsLinkWithin, IsReached, IsReachedName, HoldsReached, AddsReached, AddsAll, AddsLinks}
-use Rattle.ipld_links.proofs.Within.{reached_only, reached_of_cids, reached_cid, not_inline}
-use Rattle.dagcbor_car.specs.Checks.{IsHeld, IsLinkedFrom, NamesNone, ListsMissing, IsAfter, TakesSection, HoldsName, FollowsLinks}
+use Rattle.ipld_links.specs.Within.{IsLinkWithin, IsReached, IsReachedName, AddsReached, AddsAll, AddsLinks}
+use Rattle.ipld_links.proofs.Within.{HoldsReached, reached_only, reached_of_cids, reached_cid, not_inline}
+use Rattle.dagcbor_car.specs.Checks.{IsHeldInFile, IsLinkedFrom, NamesNoneInFile, ListsMissingInFile, IsAfter, TakesSection, HoldsName, FollowsLinks}
 use Rattle.ipld_links.specs.declared.verdict.Verdict.{Verdict}
 use Rattle.ipld_links.specs.declared.verdict.Verdict.TheVariants.{Block, Refused, OtherBytes, NotRead, Unverified}
 use Rattle.ipld_links.specs.declared.cid_set.CidSet.{CidSet}
@@ -40,7 +40,7 @@ after_header roots held start missing none empty h = record {
     whole : HoldsReached missing (forms roots)
     whole = reached_only held start missing (forms roots) none empty h.1
 
-    there : (form : List ℕ) → Among form (forms (members missing)) → IsLinkedFrom form (forms roots) [] × NamesNone form []
+    there : (form : List ℕ) → Among form (forms (members missing)) → IsLinkedFrom form (forms roots) [] × NamesNoneInFile form []
     there form m =
         let q = map_among cid_bytes form (members missing) m in
         let w = (whole q.0).0 q.1 in (
@@ -48,7 +48,7 @@ after_header roots held start missing none empty h = record {
           (not_inline form q.0 w.0 w.1 q.2, λ s k. absurd k),
         )
 
-    back : (form : List ℕ) → IsLinkedFrom form (forms roots) [] → NamesNone form [] → Among form (forms (members missing))
+    back : (form : List ℕ) → IsLinkedFrom form (forms roots) [] → NamesNoneInFile form [] → Among form (forms (members missing))
     back form (link, n, inl m, w) free =
         let c = reached_of_cids roots form h.0 (link, n, m, w) in
         among_forms form c.0 (members missing) ((whole c.0).1 (c.1, (λ i. free.0 (c.0, c.1, c.2, i)), (link, n, m, subst (IsLinkWithin n link) c.2 w))) c.2
@@ -62,16 +62,16 @@ linked_still form roots sections s (link, n, inl m, w) = (link, n, inl m, w)
 linked_still form roots sections s (link, n, inr l, w) = (link, n, inr (l.0, l.1, push_among l.0 sections s (inl l.2), l.3, l.4, l.5, l.6), w)
 
 -- a name joined those of the verified blocks
-held_more : (s : Section) (sections : List Section) (old new : HeldNames) → IsVerified s → AddsName s.0 old new → ((c : CidParts) → IsHeldName c old ↔ IsHeld c sections) → (c : CidParts) → IsHeldName c new ↔ IsHeld c (sections ++ s ∷ [])
+held_more : (s : Section) (sections : List Section) (old new : HeldNames) → IsVerified s → AddsName s.0 old new → ((c : CidParts) → IsHeldName c old ↔ IsHeldInFile c sections) → (c : CidParts) → IsHeldName c new ↔ IsHeldInFile c (sections ++ s ∷ [])
 held_more s sections old new v a h c = (there, back)
   where
-    there : IsHeldName c new → IsHeld c (sections ++ s ∷ [])
+    there : IsHeldName c new → IsHeldInFile c (sections ++ s ∷ [])
     there m = elim ((a.1 c).0 m) [
       | inl o ↦ let k = (h c).0 o in (k.0, push_among (c, k.0) sections s (inl k.1), k.2)
       | inr e ↦ (s.1, push_among (c, s.1) sections s (inr (λ i. (e i, s.1))), subst (λ d. IsVerified (d, s.1)) (sym e) v)
     ]
 
-    back : IsHeld c (sections ++ s ∷ []) → IsHeldName c new
+    back : IsHeldInFile c (sections ++ s ∷ []) → IsHeldName c new
     back k = elim (among_push (c, k.0) sections s k.1) [
       | inl m ↦ (a.1 c).1 (inl ((h c).1 (k.0, m, k.2)))
       | inr e ↦ (a.1 c).1 (inr (ap (λ (p : Section). p.0) e))
@@ -93,11 +93,11 @@ linked_by form roots sections s (link, n, inr l, w) = elim (among_push l.0 secti
 ]
 
 -- what names none of the blocks named none of the first
-none_before : (form : List ℕ) (sections : List Section) (s : Section) → NamesNone form (sections ++ s ∷ []) → NamesNone form sections
+none_before : (form : List ℕ) (sections : List Section) (s : Section) → NamesNoneInFile form (sections ++ s ∷ []) → NamesNoneInFile form sections
 none_before form sections s none = (none.0, λ k m. none.1 k (push_among k sections s (inl m)))
 
 -- what names none of the first blocks, nor this one, names none
-none_more : (form : List ℕ) (sections : List Section) (s : Section) → NamesNone form sections → (IsVerified s → cid_bytes s.0 ≡ form → ⊥) → NamesNone form (sections ++ s ∷ [])
+none_more : (form : List ℕ) (sections : List Section) (s : Section) → NamesNoneInFile form sections → (IsVerified s → cid_bytes s.0 ≡ form → ⊥) → NamesNoneInFile form (sections ++ s ∷ [])
 none_more form sections s none other = (
   none.0,
   λ k m v e. elim (among_push k sections s m) [
@@ -108,18 +108,18 @@ none_more form sections s none other = (
 
 -- the name of a verified block is missing no more
 name_out : (s : Section) (roots : List (List ℕ)) (sections : List Section) (old new : CidSet) → IsVerified s → AreCidParts s.0 → AreCids old → RemovesCid s.0 old new
-    → ((form : List ℕ) → Among form (forms (members old)) ↔ (IsLinkedFrom form roots sections × NamesNone form sections))
-    → (form : List ℕ) → Among form (forms (members new)) ↔ (IsLinkedFrom form roots sections × NamesNone form (sections ++ s ∷ []))
+    → ((form : List ℕ) → Among form (forms (members old)) ↔ (IsLinkedFrom form roots sections × NamesNoneInFile form sections))
+    → (form : List ℕ) → Among form (forms (members new)) ↔ (IsLinkedFrom form roots sections × NamesNoneInFile form (sections ++ s ∷ []))
 name_out s roots sections old new v valid cids cut h form = (there, back)
   where
-    there : Among form (forms (members new)) → IsLinkedFrom form roots sections × NamesNone form (sections ++ s ∷ [])
+    there : Among form (forms (members new)) → IsLinkedFrom form roots sections × NamesNoneInFile form (sections ++ s ∷ [])
     there m =
         let q = map_among cid_bytes form (members new) m in
         let w = (cut q.0).0 q.1 in
         let o = (h form).0 (among_forms form q.0 (members old) w.0 q.2) in
         (o.0, none_more form sections s o.1 (λ _ e. w.1 (sym (cid_unique s.0 q.0 valid (cids q.0 w.0) (e ∙ q.2)))))
 
-    back : IsLinkedFrom form roots sections × NamesNone form (sections ++ s ∷ []) → Among form (forms (members new))
+    back : IsLinkedFrom form roots sections × NamesNoneInFile form (sections ++ s ∷ []) → Among form (forms (members new))
     back m =
         let q = map_among cid_bytes form (members old) ((h form).1 (m.0, none_before form sections s m.1)) in
         among_forms form q.0 (members new) ((cut q.0).1 (q.1, λ e. m.1.1 s (push_among s sections s (inr refl)) v (ap cid_bytes (sym e) ∙ sym q.2))) q.2
@@ -129,15 +129,15 @@ fewer_cids c old new cut h q m = h q ((cut q).0 m).0
 
 -- the links that are not held are missing too
 links_in : (s : Section) (t : Tree) (roots : List (List ℕ)) (sections : List Section) (held : HeldNames) (old new : CidSet) → IsVerified s → IsDagCbor s.0 → IsBlock s.1 t → AddsReached (links_of t) held old new
-    → AreNames held → ((c : CidParts) → IsHeldName c held ↔ IsHeld c (sections ++ s ∷ []))
-    → ((form : List ℕ) → Among form (forms (members old)) ↔ (IsLinkedFrom form roots sections × NamesNone form (sections ++ s ∷ [])))
-    → (form : List ℕ) → Among form (forms (members new)) ↔ (IsLinkedFrom form roots (sections ++ s ∷ []) × NamesNone form (sections ++ s ∷ []))
+    → AreNames held → ((c : CidParts) → IsHeldName c held ↔ IsHeldInFile c (sections ++ s ∷ []))
+    → ((form : List ℕ) → Among form (forms (members old)) ↔ (IsLinkedFrom form roots sections × NamesNoneInFile form (sections ++ s ∷ [])))
+    → (form : List ℕ) → Among form (forms (members new)) ↔ (IsLinkedFrom form roots (sections ++ s ∷ []) × NamesNoneInFile form (sections ++ s ∷ []))
 links_in s t roots sections held old new v d block joins names has h form = (there, back)
   where
     more : List Section
     more = sections ++ s ∷ []
 
-    there : Among form (forms (members new)) → IsLinkedFrom form roots more × NamesNone form more
+    there : Among form (forms (members new)) → IsLinkedFrom form roots more × NamesNoneInFile form more
     there m =
         let q = map_among cid_bytes form (members new) m in
         elim ((joins q.0).0 q.1) [
@@ -157,7 +157,7 @@ links_in s t roots sections held old new v d block joins names has h form = (the
     same_tree : (u : Tree) → IsBlock s.1 u → u ≡ t
     same_tree u b = (front_unique s.1 [] [] u t (whole_front b.0) (whole_front block.0)).0
 
-    joined : IsReached form (links_of t) → NamesNone form more → Among form (forms (members new))
+    joined : IsReached form (links_of t) → NamesNoneInFile form more → Among form (forms (members new))
     joined r none =
         let q = reached_cid t form block.0.well_formed r in
         let name : IsReachedName q.0 (links_of t) = (q.1, (λ i. none.0 (q.0, q.1, q.2, i)), (r.0, r.1, r.2, subst (IsLinkWithin r.1 r.0) q.2 r.3)) in
@@ -166,7 +166,7 @@ links_in s t roots sections held old new v d block joins names has h form = (the
     stays : Among form (forms (members old)) → Among form (forms (members new))
     stays m = let q = map_among cid_bytes form (members old) m in among_forms form q.0 (members new) ((joins q.0).1 (inl q.1)) q.2
 
-    back : IsLinkedFrom form roots more × NamesNone form more → Among form (forms (members new))
+    back : IsLinkedFrom form roots more × NamesNoneInFile form more → Among form (forms (members new))
     back m = elim (linked_by form roots sections s m.0) [
       | inl o ↦ stays ((h form).1 (o, m.1))
       | inr k ↦ joined (subst (λ u. IsReached form (links_of u)) (same_tree k.0 k.3) k.4) m.1
@@ -183,13 +183,13 @@ links_followed b old after (Err e) found = tt
 -- a verified block of DAG-CBOR
 block_taken : (s : Section) (old mid new : CarCheck) → IsVerified s → IsDagCbor s.0 → HoldsName s.0 old mid → FollowsLinks s.1 mid new → TakesSection s old new
 block_taken s old mid new v d (a, cut) (same, (t, block, joins)) roots sections h = record {
-  held = subst (λ k. (c : CidParts) → IsHeldName c k ↔ IsHeld c (sections ++ s ∷ [])) (sym same) held;
+  held = subst (λ k. (c : CidParts) → IsHeldName c k ↔ IsHeldInFile c (sections ++ s ∷ [])) (sym same) held;
   names = subst AreNames (sym same) names;
   missing = links_in s t roots sections mid.held mid.missing new.missing v d block joins names held (name_out s roots sections old.missing mid.missing v a.0 h.cids cut h.missing);
   cids = more_cids (links_of t) mid.held mid.missing new.missing joins (fewer_cids s.0 old.missing mid.missing cut h.cids);
 }
   where
-    held : (c : CidParts) → IsHeldName c mid.held ↔ IsHeld c (sections ++ s ∷ [])
+    held : (c : CidParts) → IsHeldName c mid.held ↔ IsHeldInFile c (sections ++ s ∷ [])
     held = held_more s sections old.held mid.held v a h.held
 
     names : AreNames mid.held
@@ -197,8 +197,8 @@ block_taken s old mid new v d (a, cut) (same, (t, block, joins)) roots sections 
 
 -- where no link comes from the section, the links stay
 links_stay : (s : Section) (roots : List (List ℕ)) (sections : List Section) (missing : CidSet) → ((t : Tree) → IsVerified s → IsDagCbor s.0 → IsBlock s.1 t → ⊥)
-    → ((form : List ℕ) → Among form (forms (members missing)) ↔ (IsLinkedFrom form roots sections × NamesNone form (sections ++ s ∷ [])))
-    → (form : List ℕ) → Among form (forms (members missing)) ↔ (IsLinkedFrom form roots (sections ++ s ∷ []) × NamesNone form (sections ++ s ∷ []))
+    → ((form : List ℕ) → Among form (forms (members missing)) ↔ (IsLinkedFrom form roots sections × NamesNoneInFile form (sections ++ s ∷ [])))
+    → (form : List ℕ) → Among form (forms (members missing)) ↔ (IsLinkedFrom form roots (sections ++ s ∷ []) × NamesNoneInFile form (sections ++ s ∷ []))
 links_stay s roots sections missing none h form = (
   λ m. let w = (h form).0 m in (linked_still form roots sections s w.0, w.1),
   λ m. elim (linked_by form roots sections s m.0) [
@@ -237,9 +237,9 @@ unnamed_taken s k none roots sections h = record {
 -- what is known is of the two sets alone
 known_same : (k j : CarCheck) (roots : List (List ℕ)) (sections : List Section) → j.held ≡ k.held → j.missing ≡ k.missing → IsAfter k roots sections → IsAfter j roots sections
 known_same k j roots sections held missing h = record {
-  held = subst (λ x. (c : CidParts) → IsHeldName c x ↔ IsHeld c sections) (sym held) h.held;
+  held = subst (λ x. (c : CidParts) → IsHeldName c x ↔ IsHeldInFile c sections) (sym held) h.held;
   names = subst AreNames (sym held) h.names;
-  missing = subst (λ x. (form : List ℕ) → Among form (forms (members x)) ↔ (IsLinkedFrom form roots sections × NamesNone form sections)) (sym missing) h.missing;
+  missing = subst (λ x. (form : List ℕ) → Among form (forms (members x)) ↔ (IsLinkedFrom form roots sections × NamesNoneInFile form sections)) (sym missing) h.missing;
   cids = subst AreCids (sym missing) h.cids;
 }
 
@@ -279,6 +279,6 @@ unverified_noted s v k is verdict =
 -- ---- what leads nowhere
 
 pub missing_told : {E : Type 0} (r : Result (Vec CidParts Global) E) (k : CarCheck) (roots : List (List ℕ)) (sections : List Section) → IfOk r (λ v. IsStrictlySortedBy cid_cmp v.items) → IfOk r (λ v. v.items ≡ members k.missing)
-    → IsAfter k roots sections → IfOk r (ListsMissing roots sections)
-missing_told (Ok v) k roots sections sorted all h = (sorted, subst (λ qs. (form : List ℕ) → Among form (forms qs) ↔ (IsLinkedFrom form roots sections × NamesNone form sections)) (sym all) h.missing)
+    → IsAfter k roots sections → IfOk r (ListsMissingInFile roots sections)
+missing_told (Ok v) k roots sections sorted all h = (sorted, subst (λ qs. (form : List ℕ) → Among form (forms qs) ↔ (IsLinkedFrom form roots sections × NamesNoneInFile form sections)) (sym all) h.missing)
 missing_told (Err e) k roots sections sorted all h = tt

@@ -8,12 +8,12 @@ use Rattle.ipld_tree.specs.Cid.{CidParts}
 use Rattle.ipld_tree.specs.Spelling.{spelling, IsSpelling}
 use Rattle.dagcbor_car.specs.Car.{header_tree, header_bytes, Section, section_bytes, IsSection}
 use Rattle.dagcbor_car.specs.Versions.{HoldsCar}
-use Rattle.dagcbor_car.specs.Extents.{within, wanting, Spends, EndsThere}
+use Rattle.dagcbor_car.specs.Extents.{bytes_within, wanting, Spends, EndsThere}
 use Rattle.dagcbor_car.specs.Sources.{CarRefuses, LacksMemoryIf, FileLacks, RefusesStart, RefusesNext, TakesStart, TakesSectionBytes}
 use Rattle.ipld_links.specs.Verdicts.{IsVerdict}
 use Rattle.dagcbor_car.specs.Told.{Told, sections_of, AreTold, TellsAll, Tells}
-use Rattle.dagcbor_car.specs.Checks.{IsAfter, ListsMissing, TakesSection, TellsVerdict, HandsOnVerdict, of_run, IsNoFile, CarFault, TellsFront, CarRefused, ChecksInput}
-use Rattle.dagcbor_car.specs.Each.{Takes, TakesEach, StopsEach, AreTooMany, RunsEach}
+use Rattle.dagcbor_car.specs.Checks.{IsAfter, ListsMissingInFile, TakesSection, TellsVerdict, HandsOnVerdict, of_run, IsNoFile, CarFault, TellsFront, CarRefused, ChecksInput}
+use Rattle.dagcbor_car.specs.Each.{SinkTakes, TakesEach, StopsEach, AreTooMany, RunsEach}
 use Rattle.dagcbor_car.specs.declared.each.ReadCarError.{ReadCarError}
 use Rattle.dagcbor_car.specs.declared.each.ReadCarError.TheVariants as stop
 use Rattle.dagcbor_car.specs.declared.error.CarError.{CarError}
@@ -54,7 +54,7 @@ behind_lacks : (roots : List (List ℕ)) (extent : Option ℕ) (old now : Readin
 behind_lacks roots extent old now h lends b l =
     let w = h.takes.taken b l in
     let s : IsSpelling (spelling (header_tree roots)) (header_tree roots) = record { well_formed = h.header.well_formed; spellable = h.header.spellable; is = refl } in
-    (header_bytes roots ++ within extent w.0, wanting extent w.0, subst (λ x. HoldsCar x (header_bytes roots ++ within extent w.0) (wanting extent w.0)) (sym w.1) (start_holds h.front w.0 roots extent h.header h.start), (spelling (header_tree roots), within extent w.0, (h.header.fits, refl), (header_tree roots, header_block (spelling (header_tree roots)) roots s)))
+    (header_bytes roots ++ bytes_within extent w.0, wanting extent w.0, subst (λ x. HoldsCar x (header_bytes roots ++ bytes_within extent w.0) (wanting extent w.0)) (sym w.1) (start_holds h.front w.0 roots extent h.header h.start), (spelling (header_tree roots), bytes_within extent w.0, (h.header.fits, refl), (header_tree roots, header_block (spelling (header_tree roots)) roots s)))
 
 lacks_if : {T E : Type 0} (P : Type 0) (r : Result T (CarError E)) → P → LacksMemoryIf P r
 lacks_if P (Ok v) p = tt
@@ -130,7 +130,7 @@ start_refused holds old now e b before r l = start_fault holds e b before (r.1 b
 
 -- ---- refusals of what is behind the header
 
-told_so_far : {S : Type 0} (holds : S → List Told → Type 0) (b rest : List ℕ) (extent : Option ℕ) (check : CarCheck) (old new : S) → IsAt holds b rest extent check old new → TellsFront holds b (wanting extent rest) (within extent rest) old new
+told_so_far : {S : Type 0} (holds : S → List Told → Type 0) (b rest : List ℕ) (extent : Option ℕ) (check : CarCheck) (old new : S) → IsAt holds b rest extent check old new → TellsFront holds b (wanting extent rest) (bytes_within extent rest) old new
 told_so_far holds b rest extent check old new h = record {
   roots = h.roots;
   told = h.told;
@@ -140,7 +140,7 @@ told_so_far holds b rest extent check old new h = record {
 }
 
 -- the sink refused one more
-told_further : {S : Type 0} (holds : S → List Told → Type 0) (b rest : List ℕ) (extent : Option ℕ) (check : CarCheck) (old mid new : S) → IsAt holds b rest extent check old mid → TellsAll holds mid [] new → TellsFront holds b (wanting extent rest) (within extent rest) old new
+told_further : {S : Type 0} (holds : S → List Told → Type 0) (b rest : List ℕ) (extent : Option ℕ) (check : CarCheck) (old mid new : S) → IsAt holds b rest extent check old mid → TellsAll holds mid [] new → TellsFront holds b (wanting extent rest) (bytes_within extent rest) old new
 told_further holds b rest extent check old mid new h none = record {
   roots = h.roots;
   told = h.told;
@@ -152,12 +152,12 @@ told_further holds b rest extent check old mid new h none = record {
 section_fault : {S E : Type 0} (holds : S → List Told → Type 0) (e : CarError E) (b rest : List ℕ) (extent : Option ℕ) (check : CarCheck) (old new : S) → IsAt holds b rest extent check old new → RefusesNext extent e rest → IsNoFile b × CarFault holds e b old new
 section_fault holds e b rest extent check old new h f = (
   place_none e b rest h.roots (sections_of h.told) extent h.place f,
-  inr (wanting extent rest, within extent rest, f, told_so_far holds b rest extent check old new h),
+  inr (wanting extent rest, bytes_within extent rest, f, told_so_far holds b rest extent check old new h),
 )
 
 section_refused : {S E : Type 0} (holds : S → List Told → Type 0) (extent : Option ℕ) (mid now : Reading) (e : CarError E) (b rest : List ℕ) (check : CarCheck) (before after : S) → IsAt holds b rest extent check before after → mid.left ≡ Some rest → CarRefuses (RefusesNext extent) mid e now → CarRefused holds e b before after
-section_refused holds extent mid now (Read f) b rest check before after h l r = inr (wanting extent rest, within extent rest, told_so_far holds b rest extent check before after h)
-section_refused holds extent mid now OutOfMemory b rest check before after h l r = inr (wanting extent rest, within extent rest, told_so_far holds b rest extent check before after h)
+section_refused holds extent mid now (Read f) b rest check before after h l r = inr (wanting extent rest, bytes_within extent rest, told_so_far holds b rest extent check before after h)
+section_refused holds extent mid now OutOfMemory b rest check before after h l r = inr (wanting extent rest, bytes_within extent rest, told_so_far holds b rest extent check before after h)
 section_refused holds extent mid now e b rest check before after h l r = section_fault holds e b rest extent check before after h (r.1 rest l)
 
 -- ---- what is answered of a whole file
@@ -200,14 +200,14 @@ no_check E holds roots extent old now before h = record { known = λ b l. inl re
 -- want of memory behind some sections, of which the sink was told
 no_memory : {S : Type 0} (E : Type 0) (holds : S → List Told → Type 0) (old mid now : Reading) (extent : Option ℕ) (check : CarCheck) (before between after : S) → SoFarOf holds old mid extent check before between → TellsAll holds between [] after → now.faults ≡ mid.faults → ChecksInput {E = E} holds old before (refused OutOfMemory) now after
 no_memory E holds old mid now extent check before between after h none same = record {
-  known = λ b l. let far = h.known b l in inr (wanting extent far.0, within extent far.0, told_further holds b far.0 extent check before between after far.2 none);
+  known = λ b l. let far = h.known b l in inr (wanting extent far.0, bytes_within extent far.0, told_further holds b far.0 extent check before between after far.2 none);
   all = tt;
   faults = same ∙ h.same.faults;
   memory = h.lacks;
 }
 
 whole_input : {S : Type 0} (E : Type 0) (holds : S → List Told → Type 0) (old mid now : Reading) (extent more : Option ℕ) (check : CarCheck) (before after : S) (v : Vec CidParts Global) → SoFarOf holds old mid extent check before after → EndsThere extent mid more now
-    → ((roots : List (List ℕ)) (sections : List Section) → IsAfter check roots sections → ListsMissing roots sections v) → ChecksInput {E = E} holds old before (Ok v) now after
+    → ((roots : List (List ℕ)) (sections : List Section) → IsAfter check roots sections → ListsMissingInFile roots sections v) → ChecksInput {E = E} holds old before (Ok v) now after
 whole_input E holds old mid now extent more check before after v h end lists = record {
   known = λ b l.
       let k = h.known b l in
@@ -221,7 +221,7 @@ whole_input E holds old mid now extent more check before after v h end lists = r
 -- the check's answer at the end of the file
 input_ended : {S E : Type 0} (holds : S → List Told → Type 0) (old mid now : Reading) (extent more : Option ℕ) (check : CarCheck) (before after : S) (r : Result (Vec CidParts Global) (CarError E)) → SoFarOf holds old mid extent check before after
     → EndsThere extent mid more now
-    → MatchResult r (λ v. (roots : List (List ℕ)) (sections : List Section) → IsAfter check roots sections → ListsMissing roots sections v) (λ e. e ≡ OutOfMemory) → ChecksInput holds old before r now after
+    → MatchResult r (λ v. (roots : List (List ℕ)) (sections : List Section) → IsAfter check roots sections → ListsMissingInFile roots sections v) (λ e. e ≡ OutOfMemory) → ChecksInput holds old before r now after
 input_ended {S} {E} holds old mid now extent more check before after (Ok v) h end lists = whole_input E holds old mid now extent more check before after v h end lists
 input_ended {S} {E} holds old mid now extent more check before after (Err e) h end is = subst (λ x. ChecksInput {E = E} holds old before (refused x) now after) (sym is) (no_memory E holds old mid now extent check before after after h (tells_none holds after) (ends_same extent more mid now end).faults)
 
@@ -229,7 +229,7 @@ input_ended {S} {E} holds old mid now extent more check before after (Err e) h e
 
 module _ {S : Type 0} (holds : S → List Told → Type 0) (old : Reading) (before : S) (name : ℕ) where
   -- what taking a section does
-  abbrev Hands : Takes (Checking S) AllocError
+  abbrev Hands : SinkTakes (Checking S) AllocError
   Hands s from result to = HandsOnVerdict holds s from result to
 
   -- some sections were handed on to the sink, through this reference
@@ -267,7 +267,7 @@ module _ {S : Type 0} (holds : S → List Told → Type 0) (old : Reading) (befo
       (too_many ss rest far it e (along ss extent rest mid far from it h t) k.2))
 
   pub run_ended : {E : Type 0} (extent more : Option ℕ) (mid now : Reading) (from to : Checking S) (count : ℕ) (r : Result (Vec CidParts Global) (CarError E)) → IsHandedOn [] extent mid from → RunsEach {E = E} Hands extent mid from (Ok count) more now to
-      → MatchResult r (λ v. (roots : List (List ℕ)) (sections : List Section) → IsAfter to.check roots sections → ListsMissing roots sections v) (λ e. e ≡ OutOfMemory) → IsAnswered r now to
+      → MatchResult r (λ v. (roots : List (List ℕ)) (sections : List Section) → IsAfter to.check roots sections → ListsMissingInFile roots sections v) (λ e. e ≡ OutOfMemory) → IsAnswered r now to
   run_ended extent more mid now from to count r h k lists =
       let here = along k.0 extent k.1 mid k.2 from to h k.3 in
       (input_ended holds old k.2 now k.1 more to.check before to.verdicts.now r here.0 k.5 lists, here.1)

@@ -7,7 +7,7 @@ use Rattle.dagcbor_heads.proofs.Taking.{stays}
 use Rattle.dagcbor_car.specs.Car.{header_bytes, Section, section_bytes, car_bytes, IsHeader, IsSection, IsCar}
 use Rattle.dagcbor_car.specs.Splits.{SplitsSection, BeginsNoSection}
 use Rattle.dagcbor_car.specs.Versions.{IsVersion2, begin_of, length_of, HasSpan, HoldsCar, IsFile}
-use Rattle.dagcbor_car.specs.Extents.{within, wanting, Spends, EndsThere}
+use Rattle.dagcbor_car.specs.Extents.{bytes_within, wanting, Spends, EndsThere}
 use Rattle.dagcbor_car.specs.Sources.{IsStartOfFile, RefusesStart, RefusesNext}
 use Rattle.dagcbor_car.specs.Checks.{IsCarFront, IsFileFront, IsNoFile, StandBehind}
 use Rattle.dagcbor_car.specs.declared.error.CarError.{CarError}
@@ -77,15 +77,15 @@ no_file e b (inr w) roots ss file =
 pub record IsPlace (b : List ℕ) (roots : List (List ℕ)) (ss : List Section) (extent : Option ℕ) (rest : List ℕ) : Type 0 where
   pub car : List ℕ
   pub inside : HoldsCar b car (wanting extent rest)
-  pub front : IsCarFront car roots ss (within extent rest)
+  pub front : IsCarFront car roots ss (bytes_within extent rest)
   pub behind : (n : ℕ) → extent ≡ Some n → HasSpan b × (drop (begin_of b + length_of b) b ≡ drop n rest)
   pub all : extent ≡ None → IsVersion2 b → ⊥
 
 pub place_begun : (front rest : List ℕ) (roots : List (List ℕ)) (extent : Option ℕ) → IsHeader roots → IsStartOfFile front roots extent → IsPlace (front ++ rest) roots [] extent rest
 place_begun front rest roots extent header start = record {
-  car = header_bytes roots ++ within extent rest;
+  car = header_bytes roots ++ bytes_within extent rest;
   inside = start_holds front rest roots extent header start;
-  front = front_begun (within extent rest) roots header;
+  front = front_begun (bytes_within extent rest) roots header;
   behind = start_behind front rest roots extent start;
   all = start_all front rest roots extent header start;
 }
@@ -99,7 +99,7 @@ pub place_more : (b rest : List ℕ) (roots : List (List ℕ)) (ss : List Sectio
 place_more b rest roots ss extent more s h is e = record {
   car = h.car;
   inside = subst (λ n. HoldsCar b h.car n) (sym (wanting_behind extent more (section_bytes s) rest e)) h.inside;
-  front = front_more h.car (within extent (section_bytes s ++ rest)) (within more rest) roots ss s h.front (is, within_behind extent more (section_bytes s) rest e);
+  front = front_more h.car (bytes_within extent (section_bytes s ++ rest)) (bytes_within more rest) roots ss s h.front (is, within_behind extent more (section_bytes s) rest e);
   behind = λ m l. let k = h.behind (m + length (section_bytes s)) (e ∙ ap (option_map (λ j. j + length (section_bytes s))) l) in (k.0, k.1 ∙ drop_spent m (section_bytes s) rest);
   all = λ l. h.all (e ∙ ap (option_map (λ j. j + length (section_bytes s))) l);
 }
@@ -107,14 +107,14 @@ place_more b rest roots ss extent more s h is e = record {
 pub place_none : {E : Type 0} (e : CarError E) (b rest : List ℕ) (roots : List (List ℕ)) (ss : List Section) (extent : Option ℕ) → IsPlace b roots ss extent rest → RefusesNext extent e rest → IsNoFile b
 place_none e b rest roots ss extent h r others ts file =
     let same = holds_one b file.0 h.car 0 (wanting extent rest) file.1 h.inside in
-    no_car_behind h.car (within extent rest) roots ss h.front (omega (arith, r.0, same.1)) r.1 others ts (subst (λ c. IsCar c others ts) same.0 file.2)
+    no_car_behind h.car (bytes_within extent rest) roots ss h.front (omega (arith, r.0, same.1)) r.1 others ts (subst (λ c. IsCar c others ts) same.0 file.2)
 
 -- the front of the file, without what stands behind it
-pub place_front : (b rest : List ℕ) (roots : List (List ℕ)) (ss : List Section) (extent : Option ℕ) → IsPlace b roots ss extent rest → IsFileFront b roots ss (wanting extent rest) (within extent rest)
+pub place_front : (b rest : List ℕ) (roots : List (List ℕ)) (ss : List Section) (extent : Option ℕ) → IsPlace b roots ss extent rest → IsFileFront b roots ss (wanting extent rest) (bytes_within extent rest)
 place_front b rest roots ss extent h = (h.car, h.inside, h.front)
 
 -- at the end of a file nothing of it is left, nor wanting
-pub ended : (extent more : Option ℕ) (mid now : Reading) (rest : List ℕ) → EndsThere extent mid more now → mid.left ≡ Some rest → (within extent rest ≡ []) × (wanting extent rest ≡ 0) × (now.left ≡ Some rest)
+pub ended : (extent more : Option ℕ) (mid now : Reading) (rest : List ℕ) → EndsThere extent mid more now → mid.left ≡ Some rest → (bytes_within extent rest ≡ []) × (wanting extent rest ≡ 0) × (now.left ≡ Some rest)
 ended None more mid now rest h l = (h.0.none_left rest l, refl, h.0.kept rest l)
 ended (Some n) more mid now rest h l = (ap (λ k. take k rest) h.0, omega (arith, h.0), ap (λ r. r.left) h.1 ∙ l)
 
@@ -125,7 +125,7 @@ ends_same (Some n) more mid now h = subst (Stays mid) (sym h.1) (stays mid)
 pub place_whole : (b rest : List ℕ) (roots : List (List ℕ)) (ss : List Section) (extent more : Option ℕ) (mid now : Reading) → IsPlace b roots ss extent rest → EndsThere extent mid more now → mid.left ≡ Some rest → IsFile b roots ss
 place_whole b rest roots ss extent more mid now h end l =
     let e = ended extent more mid now rest end l in
-    (h.car, subst (λ n. HoldsCar b h.car n) e.1 h.inside, whole_car h.car (within extent rest) roots ss e.0 h.front)
+    (h.car, subst (λ n. HoldsCar b h.car n) e.1 h.inside, whole_car h.car (bytes_within extent rest) roots ss e.0 h.front)
 
 -- what stands behind the file
 pub place_end : (b rest : List ℕ) (roots : List (List ℕ)) (ss : List Section) (extent more : Option ℕ) (mid now : Reading) → IsPlace b roots ss extent rest → EndsThere extent mid more now → mid.left ≡ Some rest → StandBehind b rest

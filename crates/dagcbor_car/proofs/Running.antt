@@ -8,7 +8,7 @@ use Rattle.dagcbor_heads.proofs.Writing.{WroteAll_then, Appends_nothing}
 use Rattle.dagcbor_items.specs.Walks.{forms}
 use Rattle.dagcbor_car.specs.Car.{Section, section_bytes, IsSection, header_bytes}
 use Rattle.dagcbor_car.specs.Versions.{HoldsCar, IsFile}
-use Rattle.dagcbor_car.specs.Extents.{within, wanting, EndsThere}
+use Rattle.dagcbor_car.specs.Extents.{bytes_within, wanting, EndsThere}
 use Rattle.dagcbor_car.specs.Sources.{RefusesSection, SectionStream, section_stream, GivesNextSection, NotBegun}
 use Rattle.dagcbor_car.specs.Writers.{WriterState, WritesSection}
 use Rattle.dagcbor_car.specs.Runs.{Item, GivesItems, AreNone, GivesUpOnFile, AreItemsOf, RunsAreExact, AreSections, DoesNotBegin, CarsReadBack, WritesSections, CarsAreWritten}
@@ -36,13 +36,13 @@ nothing_more s (item ∷ items) d h =
     (k.0, nothing_more h.0 items (ap (λ t. t.done) k.1 ∙ d) h.2)
 
 -- why no section came
-why : {E : Type 0} (e : CarError E) (extent rest : Option ℕ) (old new : Reading) (b : List ℕ) → old.left ≡ Some b → GivesNextSection extent old (Err e) rest new → GivesUpOnFile old.lends (within extent b) e ⊎ RefusesSection (wanting extent b) e (within extent b)
+why : {E : Type 0} (e : CarError E) (extent rest : Option ℕ) (old new : Reading) (b : List ℕ) → old.left ≡ Some b → GivesNextSection extent old (Err e) rest new → GivesUpOnFile old.lends (bytes_within extent b) e ⊎ RefusesSection (wanting extent b) e (bytes_within extent b)
 why (Read f) extent rest old new b l n = inl tt
-why OutOfMemory extent rest old new b l n = inl (n.memory.0, λ none. n.memory.1 (ap (option_map (within extent)) l ∙ ap Some none))
+why OutOfMemory extent rest old new b l n = inl (n.memory.0, λ none. n.memory.1 (ap (option_map (bytes_within extent)) l ∙ ap Some none))
 why e extent rest old new b l n = inr (n.taken.1 b l)
 
 -- what is left of a file that ends
-none_left : (extent rest : Option ℕ) (old new : Reading) (b : List ℕ) → EndsThere extent old rest new → old.left ≡ Some b → (within extent b ≡ []) × (wanting extent b ≡ 0)
+none_left : (extent rest : Option ℕ) (old new : Reading) (b : List ℕ) → EndsThere extent old rest new → old.left ≡ Some b → (bytes_within extent b ≡ []) × (wanting extent b ≡ 0)
 none_left None rest old new b h l = (h.0.none_left b l, refl)
 none_left (Some n) rest old new b h l = (ap (λ k. take k b) h.0, omega (arith, h.0))
 
@@ -55,9 +55,9 @@ exact E s b (Some (Ok t) ∷ items) d l h =
     let more = exact E h.0 w.0 items k.0 w.2 h.2 in
     let lends : h.0.source.lends ≡ s.source.lends = t.1.takes.same.lends in
     let wants : wanting h.0.extent w.0 ≡ wanting s.extent b = wanting_behind s.extent h.0.extent _ w.0 t.1.spends ∙ ap (wanting s.extent) (sym w.1) in (
-      within h.0.extent w.0,
-      (t.0, ap (within s.extent) w.1 ∙ within_behind s.extent h.0.extent _ w.0 t.1.spends),
-      subst (λ n. AreItemsOf {E = E} s.source.lends n (within h.0.extent w.0) items) wants (subst (λ x. AreItemsOf {E = E} x (wanting h.0.extent w.0) (within h.0.extent w.0) items) lends more),
+      bytes_within h.0.extent w.0,
+      (t.0, ap (bytes_within s.extent) w.1 ∙ within_behind s.extent h.0.extent _ w.0 t.1.spends),
+      subst (λ n. AreItemsOf {E = E} s.source.lends n (bytes_within h.0.extent w.0) items) wants (subst (λ x. AreItemsOf {E = E} x (wanting h.0.extent w.0) (bytes_within h.0.extent w.0) items) lends more),
     )
 exact E s b (Some (Err e) ∷ items) d l h =
     let k = MatchBool-at_false _ _ d h.1 in
@@ -102,10 +102,10 @@ read_back {R} E reading b roots sections old (Err e) file l h = gives_up e old b
 read_back {R} E reading b roots sections old (Ok p) file l h =
     let from = section_stream reading p.1 in
     let w = h.0.takes.taken b l in
-    let car = header_bytes (forms p.0.items) ++ within from.extent w.0 in
+    let car = header_bytes (forms p.0.items) ++ bytes_within from.extent w.0 in
     let holds : HoldsCar b car (wanting from.extent w.0) = subst (λ x. HoldsCar x car (wanting from.extent w.0)) (sym w.1) (start_holds h.0.front w.0 (forms p.0.items) from.extent h.0.header h.0.start) in
     let one = holds_one b car file.0 (wanting from.extent w.0) 0 holds file.1 in
-    let same = header_unique (forms p.0.items) roots (within from.extent w.0) (bytes_of sections) h.0.header file.2.header (one.0 ∙ file.2.is) in
+    let same = header_unique (forms p.0.items) roots (bytes_within from.extent w.0) (bytes_of sections) h.0.header file.2.header (one.0 ∙ file.2.is) in
     (same.0, λ items g. subst (λ x. AreSections {E = E} x items sections) h.0.takes.same.lends (sections_given from.source.lends items sections file.2.all (subst (λ n. AreItemsOf {E = E} from.source.lends n (bytes_of sections) items) one.1 (subst (λ c. AreItemsOf {E = E} from.source.lends (wanting from.extent w.0) c items) same.1 (exact E from w.0 items h.1 w.2 g)))))
 
 -- ---- runs of `write`

@@ -5,7 +5,7 @@ use Rattle.dagcbor_heads.specs.Reading.{Reading}
 use Rattle.dagcbor_heads.specs.Fronts.{Takes}
 use Rattle.dagcbor_heads.specs.Looking.{LooksAtMost, LooksAtTaken, LooksAtSome, LooksAtLeft, Looks, LooksSome}
 use Rattle.dagcbor_heads.proofs.Taking.{nothing_taken, takes_both}
-use Rattle.dagcbor_car.specs.Extents.{within, wanting, of_file, Spends, TakesOff}
+use Rattle.dagcbor_car.specs.Extents.{bytes_within, wanting, of_file, Spends, TakesOff}
 use Rattle.dagcbor_car.specs.Sources.{CarRefuses, IsShort}
 use Rattle.dagcbor_car.specs.Steps.{ExceedsExtent}
 use Rattle.dagcbor_car.specs.declared.error.CarError.{CarError}
@@ -14,12 +14,12 @@ use Rattle.dagcbor_car.specs.declared.error.CarError.TheVariants.{Read, Truncate
 -- ---- what is left of the file
 
 -- known bytes of the file are those of known bytes
-pub known : (x : Option ℕ) (o : Option (List ℕ)) (c : List ℕ) → option_map (within x) o ≡ Some c → (b : List ℕ) × (o ≡ Some b) × (c ≡ within x b)
+pub known : (x : Option ℕ) (o : Option (List ℕ)) (c : List ℕ) → option_map (bytes_within x) o ≡ Some c → (b : List ℕ) × (o ≡ Some b) × (c ≡ bytes_within x b)
 known x None c e = absurd (cc e)
-known x (Some b) c e = let same : within x b ≡ c = cc e in (b, refl, sym same)
+known x (Some b) c e = let same : bytes_within x b ≡ c = cc e in (b, refl, sym same)
 
 -- behind the front the rest of the file is left
-pub within_behind : (x y : Option ℕ) (front rest : List ℕ) → Spends x (length front) y → within x (front ++ rest) ≡ front ++ within y rest
+pub within_behind : (x y : Option ℕ) (front rest : List ℕ) → Spends x (length front) y → bytes_within x (front ++ rest) ≡ front ++ bytes_within y rest
 within_behind None None front rest e = refl
 within_behind None (Some m) front rest e = absurd (cc e)
 within_behind (Some n) None front rest e = absurd (cc e)
@@ -57,13 +57,13 @@ off_within {x} {y} {old} {new} {front} h = record {
   taken = λ c l.
       let k = known x old.left c l in
       let w = h.takes.taken k.0 k.1 in
-      (within y w.0, k.2 ∙ ap (within x) w.1 ∙ within_behind x y front w.0 h.spends, ap (option_map (within y)) w.2);
+      (bytes_within y w.0, k.2 ∙ ap (bytes_within x) w.1 ∙ within_behind x y front w.0 h.spends, ap (option_map (bytes_within y)) w.2);
   same = record { steps = h.takes.same.steps; budget = h.takes.same.budget; lends = h.takes.same.lends; faults = h.takes.same.faults; through = h.takes.same.through };
 }
 
 -- ---- what was looked at
 
-within_few : (x y : Option ℕ) (n : ℕ) (b : List ℕ) → Spends x n y → min n (length b) ≤ length (within x b)
+within_few : (x y : Option ℕ) (n : ℕ) (b : List ℕ) → Spends x n y → min n (length b) ≤ length (bytes_within x b)
 within_few None y n b e = omega arith
 within_few (Some m) None n b e = absurd (cc e)
 within_few (Some m) (Some k) n b e =
@@ -99,7 +99,7 @@ left_within x y n {old} {new} now e most k same = record {
 
 -- ---- what is refused
 
-pub within_le : (x : Option ℕ) (b : List ℕ) → length (within x b) ≤ length b
+pub within_le : (x : Option ℕ) (b : List ℕ) → length (bytes_within x b) ≤ length b
 within_le None b = omega arith
 within_le (Some n) b = omega (arith, length-take n b)
 
@@ -113,8 +113,8 @@ short_within x n old new e r = (r.0, λ c l. let w = known x old.left c l in let
 pub over_short : {E : Type 0} (x : Option ℕ) (n : ℕ) (old : Reading) (e : CarError E) → e ≡ Truncated → ExceedsExtent x n → CarRefuses (IsShort n) (of_file x old) e old
 over_short {E} x n old e is h = subst (λ y. CarRefuses {E = E} (IsShort n) (of_file x old) y old) (sym is) (refl, λ c l. let w = known x old.left c l in (refl, few w.0 c w.2))
   where
-    few : (b c : List ℕ) → c ≡ within x b → length c < n
-    few b c same = omega (arith, h.2, length-take h.0 b, ap length (same ∙ ap (λ y. within y b) h.1))
+    few : (b c : List ℕ) → c ≡ bytes_within x b → length c < n
+    few b c same = omega (arith, h.2, length-take h.0 b, ap length (same ∙ ap (λ y. bytes_within y b) h.1))
 
 pub looked_not : (x : Option ℕ) (old : Reading) → LooksAtLeft 2 0 (of_file x old) old
 looked_not x old = record { grows = omega arith; most = λ c l. omega arith }

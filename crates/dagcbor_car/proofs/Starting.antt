@@ -16,7 +16,7 @@ use Rattle.dagcbor_car.specs.Car.{counted, header_tree, header_bytes, IsHeader, 
 use Rattle.dagcbor_car.specs.Splits.{CountFault, SplitsCounted, IsNoHeader}
 use Rattle.ipld_links.specs.Blocks.{HasBlock}
 use Rattle.dagcbor_car.specs.Versions.{pragma, IsVersion2, number_behind, begin_of, length_of, HasSpan, HoldsCar, IsFile, SpanFault, MayBeVersion2}
-use Rattle.dagcbor_car.specs.Extents.{within, wanting, of_file, Spends, TakesOff}
+use Rattle.dagcbor_car.specs.Extents.{bytes_within, wanting, of_file, Spends, TakesOff}
 use Rattle.dagcbor_car.specs.Sources.{CarRefuses, LacksMemoryIf, FileLacks, SectionLacks, IsShort, RefusesHeader, RefusesStart, IsStartOfFile, TakesStart, PullsStart, LooksTwice}
 use Rattle.dagcbor_car.specs.Steps.{TakesSpan, TakesEnclosed, EnclosedLacks}
 use Rattle.dagcbor_car.specs.declared.error.CarError.{CarError}
@@ -129,9 +129,9 @@ header_version roots rest h v =
     other_heads 0xa2 0xa1 _ _ (omega arith) (sym (header_spelled roots) ∙ same)
 
 -- behind the start of a file the rest of it is left
-pub start_holds : (front rest : List ℕ) (roots : List (List ℕ)) (x : Option ℕ) → IsHeader roots → IsStartOfFile front roots x → HoldsCar (front ++ rest) (header_bytes roots ++ within x rest) (wanting x rest)
+pub start_holds : (front rest : List ℕ) (roots : List (List ℕ)) (x : Option ℕ) → IsHeader roots → IsStartOfFile front roots x → HoldsCar (front ++ rest) (header_bytes roots ++ bytes_within x rest) (wanting x rest)
 start_holds front rest roots x header (inl h) =
-    let none = subst (λ y. within y rest ≡ rest) (sym h.1) refl in
+    let none = subst (λ y. bytes_within y rest ≡ rest) (sym h.1) refl in
     (inl (
       λ v. header_version roots rest header (subst (λ f. IsVersion2 (f ++ rest)) h.0 v),
       ap (λ r. header_bytes roots ++ r) none ∙ ap (λ f. f ++ rest) (sym h.0),
@@ -154,14 +154,14 @@ start_holds front rest roots x header (inr h) = inr (span_on front rest h.0, is,
     behind : drop (begin_of (front ++ rest)) (front ++ rest) ≡ header_bytes roots ++ rest
     behind = ap (λ n. drop n (front ++ rest)) begin ∙ ap (drop (length before)) whole ∙ drop-append_seam before (header_bytes roots ++ rest)
 
-    is : header_bytes roots ++ within x rest ≡ take (length_of (front ++ rest)) (drop (begin_of (front ++ rest)) (front ++ rest))
+    is : header_bytes roots ++ bytes_within x rest ≡ take (length_of (front ++ rest)) (drop (begin_of (front ++ rest)) (front ++ rest))
     is = sym (within_behind (Some (length_of front)) x (header_bytes roots) rest h.1.3) ∙ ap (λ n. take n (header_bytes roots ++ rest)) (sym long) ∙ ap (take (length_of (front ++ rest))) (sym behind)
 
     fewer : (n : ℕ) (b c : List ℕ) → c ≡ take n b → n - length b ≡ n - length c
     fewer n b c e = omega (arith, ap length e, length-take n b)
 
-    lacks : wanting x rest ≡ length_of (front ++ rest) - length (header_bytes roots ++ within x rest)
-    lacks = wanting_behind (Some (length_of front)) x (header_bytes roots) rest h.1.3 ∙ fewer (length_of front) (header_bytes roots ++ rest) (header_bytes roots ++ within x rest) (sym (within_behind (Some (length_of front)) x (header_bytes roots) rest h.1.3)) ∙ ap (λ n. n - length (header_bytes roots ++ within x rest)) (sym long)
+    lacks : wanting x rest ≡ length_of (front ++ rest) - length (header_bytes roots ++ bytes_within x rest)
+    lacks = wanting_behind (Some (length_of front)) x (header_bytes roots) rest h.1.3 ∙ fewer (length_of front) (header_bytes roots ++ rest) (header_bytes roots ++ bytes_within x rest) (sym (within_behind (Some (length_of front)) x (header_bytes roots) rest h.1.3)) ∙ ap (λ n. n - length (header_bytes roots ++ bytes_within x rest)) (sym long)
 
 -- and behind the file of version 1 of version 2 stands what is behind that
 pub start_behind : (front rest : List ℕ) (roots : List (List ℕ)) (x : Option ℕ) → IsStartOfFile front roots x → (n : ℕ) → x ≡ Some n → HasSpan (front ++ rest) × (drop (begin_of (front ++ rest) + length_of (front ++ rest)) (front ++ rest) ≡ drop n rest)
@@ -344,7 +344,7 @@ is_other b P test other p = let clash = sym (test.1 p) ∙ other in absurd (cc c
 pub start_uncounted : {E : Type 0} (e : CarError E) (old new : Reading) → CarRefuses CountFault (of_file None old) e new → CarRefuses RefusesStart old e new
 start_uncounted (Read f) old new r = r
 start_uncounted OutOfMemory old new r = r
-start_uncounted {E} e old new r = (r.0, λ b l. let f = r.1 b (ap (option_map (within None)) l) in inr (b, 0, inl (uncounted_version {E = E} e b f, refl, refl), not_counted {E = E} e b f))
+start_uncounted {E} e old new r = (r.0, λ b l. let f = r.1 b (ap (option_map (bytes_within None)) l) in inr (b, 0, inl (uncounted_version {E = E} e b f, refl, refl), not_counted {E = E} e b f))
 
 pub start_unread : {E : Type 0} (e : CarError E) (inner : List ℕ) {old new : Reading} → length inner < 2 ^ 64 → Takes old (counted inner) new → (0x0a ∷ inner ≡ pragma → ⊥) → IsNoHeader e inner → CarRefuses RefusesStart old e new
 start_unread (Read f) inner {old} {new} fits t other r = absurd r
@@ -392,7 +392,7 @@ enclosed_lacks inner (Err e) {old} {mid} is t l = tt
 -- ---- what was looked at
 
 pub left_wider : (x y : Option ℕ) (old now : Reading) → LooksAtLeft 2 0 (of_file x old) (of_file y now) → LooksAtLeft 2 0 old now
-left_wider x y old now h = record { grows = h.grows; most = λ b l. omega (arith, h.most (within x b) (ap (option_map (within x)) l), within_le x b) }
+left_wider x y old now h = record { grows = h.grows; most = λ b l. omega (arith, h.most (bytes_within x b) (ap (option_map (bytes_within x)) l), within_le x b) }
 
 pub left_behind : {front : List ℕ} {old mid : Reading} (now : Reading) → Takes old front mid → LooksAtMost (2 * length front) old mid → old.looked ≤ mid.looked → LooksAtLeft 2 0 mid now → LooksAtLeft 2 0 old now
 left_behind {front} {old} {mid} now t most grows h = record {

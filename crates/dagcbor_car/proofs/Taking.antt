@@ -5,12 +5,12 @@ use Rattle.dagcbor_car.specs.Car.{Section}
 use Rattle.dagcbor_car.specs.Sources.{TakesSectionBytes, LacksMemoryIf}
 use Rattle.dagcbor_car.specs.declared.error.CarError.{CarError}
 use Rattle.dagcbor_car.specs.declared.error.CarError.TheVariants.{OutOfMemory}
-use Rattle.dagcbor_car.specs.Each.{Takes, TakesEach}
+use Rattle.dagcbor_car.specs.Each.{SinkTakes, TakesEach}
 
-pub each_begun : {S Stop : Type 0} (takes : Takes S Stop) (extent : Option ℕ) (source : Reading) (old : S) → TakesEach takes extent source old [] extent source old
+pub each_begun : {S Stop : Type 0} (takes : SinkTakes S Stop) (extent : Option ℕ) (source : Reading) (old : S) → TakesEach takes extent source old [] extent source old
 each_begun takes extent source old = (refl, refl, refl)
 
-pub each_more : {S Stop : Type 0} (takes : Takes S Stop) (ss : List Section) (s : Section) (extent rest more : Option ℕ) (source mid behind : Reading) (old it new : S) → TakesEach takes extent source old ss rest mid it → TakesSectionBytes rest mid s more behind → takes s it (Ok tt) new
+pub each_more : {S Stop : Type 0} (takes : SinkTakes S Stop) (ss : List Section) (s : Section) (extent rest more : Option ℕ) (source mid behind : Reading) (old it new : S) → TakesEach takes extent source old ss rest mid it → TakesSectionBytes rest mid s more behind → takes s it (Ok tt) new
     → TakesEach takes extent source old (ss ++ s ∷ []) more behind new
 each_more takes [] s extent rest more source mid behind old it new h t k =
     (more, behind, new, subst (λ e. TakesSectionBytes e source s more behind) h.0 (subst (λ r. TakesSectionBytes rest r s more behind) h.1 t), subst (λ o. takes s o (Ok tt) new) h.2 k, (refl, refl, refl))
@@ -18,7 +18,7 @@ each_more takes (x ∷ ss) s extent rest more source mid behind old it new h t k
     (h.0, h.1, h.2, h.3, h.4, each_more takes ss s h.0 rest more h.1 mid behind h.2 it new h.5 t k)
 
 -- What holds before the first section, and goes on over each, holds behind the last.
-pub each_along : {S Stop : Type 0} (takes : Takes S Stop) (Holds : List Section → Option ℕ → Reading → S → Type 0)
+pub each_along : {S Stop : Type 0} (takes : SinkTakes S Stop) (Holds : List Section → Option ℕ → Reading → S → Type 0)
     → ((ss : List Section) (s : Section) (extent more : Option ℕ) (source behind : Reading) (old new : S) → Holds ss extent source old → TakesSectionBytes extent source s more behind → takes s old (Ok tt) new → Holds (ss ++ s ∷ []) more behind new)
     → (before ss : List Section) (extent rest : Option ℕ) (source mid : Reading) (old new : S) → Holds before extent source old → TakesEach takes extent source old ss rest mid new → Holds (before ++ ss) rest mid new
 each_along takes Holds step before [] extent rest source mid old new h t =

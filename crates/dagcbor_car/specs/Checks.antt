@@ -27,8 +27,8 @@ use Rattle.dagcbor_car.specs.declared.check.Checking.{Checking}
 -- ---- what leads nowhere
 
 -- the name is that of a verified block
-abbrev pub IsHeld : CidParts → List Section → Type 0
-IsHeld c sections = (b : List ℕ) × Among (c, b) sections × IsVerified (c, b)
+abbrev pub IsHeldInFile : CidParts → List Section → Type 0
+IsHeldInFile c sections = (b : List ℕ) × Among (c, b) sections × IsVerified (c, b)
 
 -- the binary form is that of a link in a verified block of DAG-CBOR
 abbrev pub IsLinkIn : List ℕ → List Section → Type 0
@@ -45,22 +45,24 @@ IsLinkedFrom form roots sections = (link : List ℕ) × (n : ℕ) × IsPlainlyLi
     × IsLinkWithin n link form
 
 -- it names no verified block, nor holds one itself
-abbrev pub NamesNone : List ℕ → List Section → Type 0
-NamesNone form sections = ¬ IsInlineForm form
+abbrev pub NamesNoneInFile : List ℕ → List Section → Type 0
+NamesNoneInFile form sections = ¬ IsInlineForm form
     × ((s : Section) → Among s sections → IsVerified s → cid_bytes s.0 ≢ form)
 
 -- The roots and the links that name no verified block are listed, each once, in their order.
-abbrev pub ListsMissing : List (List ℕ) → List Section → Vec CidParts Global → Type 0
-ListsMissing roots sections v = IsStrictlySortedBy cid_cmp v.items
-    × ((form : List ℕ) → Among form (forms v.items) ↔ (IsLinkedFrom form roots sections × NamesNone form sections))
+abbrev pub ListsMissingInFile : List (List ℕ) → List Section → Vec CidParts Global → Type 0
+ListsMissingInFile roots sections v = IsStrictlySortedBy cid_cmp v.items
+    × ((form : List ℕ) → Among form (forms v.items)
+    ↔ (IsLinkedFrom form roots sections × NamesNoneInFile form sections))
 
 -- ---- section by section
 
 -- what is known behind these sections of a file of these roots
 pub record IsAfter (check : CarCheck) (roots : List (List ℕ)) (sections : List Section) : Type 0 where
-  pub held : (c : CidParts) → IsHeldName c check.held ↔ IsHeld c sections
+  pub held : (c : CidParts) → IsHeldName c check.held ↔ IsHeldInFile c sections
   pub names : AreNames check.held
-  pub missing : (form : List ℕ) → Among form (forms (members check.missing)) ↔ (IsLinkedFrom form roots sections × NamesNone form sections)
+  pub missing : (form : List ℕ) → Among form (forms (members check.missing))
+      ↔ (IsLinkedFrom form roots sections × NamesNoneInFile form sections)
   pub cids : AreCids check.missing
 
 -- the name of a verified block joined those that are held, and is not missing
@@ -148,7 +150,7 @@ CarRefused holds e b old new = IsNoFile b × CarFault holds e b old new
 abbrev pub ChecksCar : {S E : Type 0} → (S → List Told → Type 0) → List ℕ → S
     → Result (Vec CidParts Global) (CarError E) → S → Type 0
 ChecksCar holds b old result new = MatchResult result
-    (λ v. (roots : List (List ℕ)) × (told : List Told) × IsFile b roots (sections_of told) × AreTold told × TellsAll holds old told new × ListsMissing roots (sections_of told) v)
+    (λ v. (roots : List (List ℕ)) × (told : List Told) × IsFile b roots (sections_of told) × AreTold told × TellsAll holds old told new × ListsMissingInFile roots (sections_of told) v)
     (λ e. CarRefused holds e b old new)
 
 -- these bytes of the whole stand behind the file: none, or of version 2 all that do

@@ -10,11 +10,11 @@ use Rattle.dagcbor_car.specs.declared.each.ReadCarError.{ReadCarError}
 use Rattle.dagcbor_car.specs.declared.each.ReadCarError.TheVariants as stop
 
 -- what taking a section does to a sink, and answers
-abbrev pub Takes : Type 0 → Type 0 → Type 1
-Takes S Stop = Section → S → Result (Unit {0}) Stop → S → Type 0
+abbrev pub SinkTakes : Type 0 → Type 0 → Type 1
+SinkTakes S Stop = Section → S → Result (Unit {0}) Stop → S → Type 0
 
 -- the sections stood one behind the other, and the sink took each
-abbrev pub TakesEach : {S Stop : Type 0} → Takes S Stop → Option ℕ → Reading → S → List Section
+abbrev pub TakesEach : {S Stop : Type 0} → SinkTakes S Stop → Option ℕ → Reading → S → List Section
     → Option ℕ → Reading → S → Type 0
 TakesEach takes extent source old [] more behind new =
     (more ≡ extent) × (behind ≡ source) × (new ≡ old)
@@ -29,7 +29,7 @@ NoneNext extent source e behind = CarRefuses (RefusesNext extent) source e behin
 
 -- why no section more is taken, behind so many: none stands next; or it stands there, and the sink
 -- refused it
-abbrev pub StopsEach : {S Stop E : Type 0} → Takes S Stop → ℕ → Option ℕ → Reading → S
+abbrev pub StopsEach : {S Stop E : Type 0} → SinkTakes S Stop → ℕ → Option ℕ → Reading → S
     → ReadCarError E Stop → Option ℕ → Reading → S → Type 0
 StopsEach takes count extent source old (stop.Header e) more behind new = ⊥
 StopsEach takes count extent source old (stop.Section n e) more behind new =
@@ -38,7 +38,7 @@ StopsEach takes count extent source old (stop.Block n name why) more behind new 
     × (n ≡ count) × TakesSectionBytes extent source s more behind × (name ≡ s.0) × takes s old (Err why) new
 
 -- the next section is taken; or it is the end; or none is taken
-abbrev pub TakesNext : {S Stop E : Type 0} → Takes S Stop → ℕ → Option ℕ → Reading → S
+abbrev pub TakesNext : {S Stop E : Type 0} → SinkTakes S Stop → ℕ → Option ℕ → Reading → S
     → Result Bool (ReadCarError E Stop) → Option ℕ → Reading → S → Type 0
 TakesNext takes count extent source old result more behind new = MatchResult result
     (λ goes. MatchBool goes
@@ -52,7 +52,7 @@ AreTooMany sections e = (e ≡ stop.Section (length sections) OutOfMemory) × (l
 
 -- All sections up to the end are taken, so many; or some, behind which there is a cause, which tells
 -- how many.
-abbrev pub RunsEach : {S Stop E : Type 0} → Takes S Stop → Option ℕ → Reading → S
+abbrev pub RunsEach : {S Stop E : Type 0} → SinkTakes S Stop → Option ℕ → Reading → S
     → Result ℕ (ReadCarError E Stop) → Option ℕ → Reading → S → Type 0
 RunsEach {S} takes extent source old result more behind new = MatchResult result
     (λ count. (ss : List Section) × (rest : Option ℕ) × (mid : Reading)

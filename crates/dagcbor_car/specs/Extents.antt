@@ -4,9 +4,9 @@ use Rattle.dagcbor_heads.specs.Reading.{Reading}
 use Rattle.dagcbor_heads.specs.Fronts.{FindsEnd, Takes}
 
 -- those of the bytes left that are of the file
-abbrev pub within : Option ℕ → List ℕ → List ℕ
-within None b = b
-within (Some n) b = take n b
+abbrev pub bytes_within : Option ℕ → List ℕ → List ℕ
+bytes_within None b = b
+bytes_within (Some n) b = take n b
 
 -- how many bytes of the file are not there
 abbrev pub wanting : Option ℕ → List ℕ → ℕ
@@ -15,7 +15,7 @@ wanting (Some n) b = n - length b
 
 -- the reader, of whose bytes those of the file are left
 abbrev pub of_file : Option ℕ → Reading → Reading
-of_file extent r = record r { left = option_map (within extent) r.left }
+of_file extent r = record r { left = option_map (bytes_within extent) r.left }
 
 -- of so many bytes that were left so many were taken
 abbrev pub Spends : Option ℕ → ℕ → Option ℕ → Type 0

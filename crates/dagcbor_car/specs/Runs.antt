@@ -9,7 +9,7 @@ use Rattle.dagcbor_items.specs.Walks.{forms}
 use Rattle.dagcbor_car.specs.Car.{Section, section_bytes, car_bytes, IsCar}
 use Rattle.dagcbor_car.specs.Splits.{SplitsSection}
 use Rattle.dagcbor_car.specs.Versions.{IsFile}
-use Rattle.dagcbor_car.specs.Extents.{within, wanting}
+use Rattle.dagcbor_car.specs.Extents.{bytes_within, wanting}
 use Rattle.dagcbor_car.specs.Sources.{RefusesSection, SectionStream, section_stream, GivesSection, Begins}
 use Rattle.dagcbor_car.specs.Writers.{WriterState, BeginsCar, WritesSection}
 use Rattle.dagcbor_car.specs.declared.error.CarError.{CarError}
@@ -54,7 +54,7 @@ AreItemsOf lends n b (None ∷ items) = (b ≡ []) × (n ≡ 0) × AreNone items
 abbrev pub RunsAreExact : Type 0 → Type 0
 RunsAreExact E = (s : SectionStream) (b : List ℕ) (items : List (Item E)) → s.done ≡ false
     → s.source.left ≡ Some b → GivesItems s items
-    → AreItemsOf s.source.lends (wanting s.extent b) (within s.extent b) items
+    → AreItemsOf s.source.lends (wanting s.extent b) (bytes_within s.extent b) items
 
 -- ---- what is read of a file
 

@@ -12,7 +12,7 @@ use Rattle.dagcbor_items.specs.Walks.{forms}
 use Rattle.dagcbor_car.specs.Car.{Section, section_bytes, IsSection, header_bytes, IsHeader}
 use Rattle.dagcbor_car.specs.Splits.{BeginsNoSection, SectionFault, BeginsNoHeader, HeaderFault, CountsBlock}
 use Rattle.dagcbor_car.specs.Versions.{begin_of, length_of, HasSpan, HoldsCar, SpanFault}
-use Rattle.dagcbor_car.specs.Extents.{within, wanting, of_file, Spends, TakesOff, EndsThere}
+use Rattle.dagcbor_car.specs.Extents.{bytes_within, wanting, of_file, Spends, TakesOff, EndsThere}
 use Rattle.dagcbor_car.specs.declared.error.CarError.{CarError}
 use Rattle.dagcbor_car.specs.declared.error.CarError.TheVariants.{Read, Truncated, OutOfMemory}
 use Rattle.dagcbor_car.specs.declared.reader.CarReader.{CarReader}
@@ -34,11 +34,8 @@ LacksMemoryIf lacks (Err OutOfMemory) = lacks
 LacksMemoryIf lacks (Err e) = ⊤
 LacksMemoryIf lacks (Ok v) = ⊤
 
--- where memory may be wanting for a header: over a slice only behind a block, which stands whole
-abbrev pub HeaderLacks : Reading → Type 0
-HeaderLacks old = old.lends ≡ true → (b : List ℕ) → old.left ≡ Some b → CountsBlock b
-
--- where memory may be wanting for the header of a file of either version
+-- where memory may be wanting for the header of a file of either version: over a slice only behind
+-- a block, which stands whole
 abbrev pub FileLacks : Reading → Type 0
 FileLacks old = old.lends ≡ true → (b : List ℕ) → old.left ≡ Some b
     → (car : List ℕ) × (n : ℕ) × HoldsCar b car n × CountsBlock car
@@ -74,7 +71,7 @@ RefusesSection n e b = (0 < length b + n) × BeginsNoSection b × SectionFault e
 -- of what is left of a file some bytes are there, or are wanting, and no section stands first, for
 -- this cause
 abbrev pub RefusesNext : {E : Type 0} → Option ℕ → CarError E → List ℕ → Type 0
-RefusesNext extent e b = RefusesSection (wanting extent b) e (within extent b)
+RefusesNext extent e b = RefusesSection (wanting extent b) e (bytes_within extent b)
 
 -- ---- what is taken
 

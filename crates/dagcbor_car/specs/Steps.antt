@@ -6,7 +6,7 @@ use Rattle.dagcbor_heads.specs.Looking.{LooksAtMost}
 use Rattle.dagcbor_car.specs.Car.{IsHeader}
 use Rattle.dagcbor_car.specs.Splits.{CountsBlock}
 use Rattle.dagcbor_car.specs.Versions.{pragma, begin_of, length_of, HasSpan, HoldsCar}
-use Rattle.dagcbor_car.specs.Extents.{within, wanting}
+use Rattle.dagcbor_car.specs.Extents.{bytes_within, wanting}
 use Rattle.dagcbor_car.specs.Sources.{IsStartOfFile}
 
 -- fewer than so many bytes are left of the file
@@ -15,7 +15,7 @@ ExceedsExtent extent count = (n : ℕ) × (extent ≡ Some n) × (n < count)
 
 -- something of the file is to come, and the reader stays
 pub record IsDue (extent : Option ℕ) (old new : Reading) : Type 0 where
-  pub some : (b : List ℕ) → old.left ≡ Some b → 0 < length (within extent b) + wanting extent b
+  pub some : (b : List ℕ) → old.left ≡ Some b → 0 < length (bytes_within extent b) + wanting extent b
   pub ends_none : extent ≡ None → (b : List ℕ) → old.left ≡ Some b → b ≢ []
   pub kept : Keeps old new
   pub same : Stays old new

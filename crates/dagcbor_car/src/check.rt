@@ -12,7 +12,7 @@ ghost use Rattle.dagcbor_car.specs.Splits.{CountsBlock};
 ghost use Rattle.dagcbor_car.specs.Versions.{HoldsCar};
 ghost use Rattle.dagcbor_car.specs.Sources.{LacksMemoryIf};
 ghost use Rattle.dagcbor_car.specs.Checks.{HoldsName, FollowsLinks};
-ghost use Rattle.dagcbor_car.specs.Checks.{IsAfter, TakesSection, ListsMissing, TellsVerdict};
+ghost use Rattle.dagcbor_car.specs.Checks.{IsAfter, TakesSection, ListsMissingInFile, TellsVerdict};
 ghost use Rattle.dagcbor_car.specs.Checks.{HandsOnVerdict, of_run, ChecksCar, ChecksInput};
 ghost use Rattle.dagcbor_car.specs.declared.error.CarError.TheVariants.{OutOfMemory};
 
@@ -117,7 +117,7 @@ impl CarCheck {
     /// The roots and the links that lead to no verified block, each once, in their order.
     pub fn missing(self, alloc: Global) -> Result<Vec<Cid>, AllocError>
         ensures lists { (roots : List (List ℕ)) (sections : List CarSection)
-            → IsAfter self roots sections → IfOk result (ListsMissing roots sections) }
+            → IsAfter self roots sections → IfOk result (ListsMissingInFile roots sections) }
         ensures stopped { self.failed ≡ true → is_err result ≡ true }
     {
         if self.failed {
@@ -181,7 +181,7 @@ fn of_run<E: Drop>(error: ReadCarError<E, AllocError>) -> CarError<E>
 fn missing_of<E: Drop>(alloc: Global, check: CarCheck) -> Result<Vec<Cid>, CarError<E>>
     ensures { MatchResult result
         (λ v. (roots : List (List ℕ)) (sections : List CarSection)
-        → IsAfter check roots sections → ListsMissing roots sections v)
+        → IsAfter check roots sections → ListsMissingInFile roots sections v)
         (λ e. e ≡ OutOfMemory) }
 {
     match check.missing(alloc) {

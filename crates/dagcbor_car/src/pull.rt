@@ -64,10 +64,7 @@ fn pull_byte<R: Read>(reader: &mut R) -> Result<u8, CarError<R::Error>>
     ensures looked { Looks 2 (R.reading reader.old) result (R.reading reader.new) }
     ensures at_most { LooksAtMost 2 (R.reading reader.old) (R.reading reader.new) }
 {
-    match pull_one(NAME, reader) {
-        Ok(byte) => Ok(byte),
-        Err(error) => Err(of_reader(error)),
-    }
+    pull_one(NAME, reader).map_err(of_reader)
 }
 
 /// Takes so many off the bytes that are left of the file.
@@ -150,10 +147,7 @@ fn pull_bytes<'de, R: Read>(
     ensures at_most { LooksAtMost (2 * n) (input_reading R.reading input.old)
         (input_reading R.reading input.new) }
 {
-    match pull_payload(alloc, NAME, input, n) {
-        Ok(bytes) => Ok(bytes),
-        Err(error) => Err(of_reader(error)),
-    }
+    pull_payload(alloc, NAME, input, n).map_err(of_reader)
 }
 
 /// The next n bytes of the file, which are taken.
@@ -217,10 +211,7 @@ fn pull_short<R: Read, const CAP: usize>(
     ensures looked { LooksSome 2 (R.reading reader.old) result (R.reading reader.new) }
     ensures at_most { LooksAtMost (2 * n) (R.reading reader.old) (R.reading reader.new) }
 {
-    match pull_short_payload(NAME, reader, n) {
-        Ok(bytes) => Ok(bytes),
-        Err(error) => Err(of_reader(error)),
-    }
+    pull_short_payload(NAME, reader, n).map_err(of_reader)
 }
 
 /// Takes so many bytes, in pieces.
@@ -379,10 +370,7 @@ pub fn pull_section<'de, R: Read>(
 {
     match is_done(input, *left) {
         Ok(true) => Ok(None),
-        Ok(false) => match pull_first_section(alloc, input, left) {
-            Ok(section) => Ok(Some(section)),
-            Err(error) => Err(error),
-        },
+        Ok(false) => Ok(Some(pull_first_section(alloc, input, left)?)),
         Err(fault) => Err(CarError::Read(fault)),
     }
 }

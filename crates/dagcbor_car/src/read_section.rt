@@ -39,10 +39,8 @@ impl<'de> ReadSection<'de> {
             (λ s. BeginsWithCid (cow_slice_items body.entry) s.0 s.1)
             (λ e. BeginsNoCid e (cow_slice_items body.entry)) }
     {
-        match measure_cid(&body) {
-            Ok((cid, start)) => Ok(ReadSection { cid, body, start }),
-            Err(fault) => Err(fault),
-        }
+        let (cid, start) = measure_cid(&body)?;
+        Ok(ReadSection { cid, body, start })
     }
 
     /// The name, which need not be the block's own.

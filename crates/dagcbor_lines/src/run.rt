@@ -168,7 +168,7 @@ pub fn run_lines<R: BufRead, W: Write>(
             return answer_last(alloc, command, writer, &mut buffers);
         }
     }
-    Err(ToolError::Input)
+    Err(ToolError::OutOfMemory)
 }
 
 /// For each line, whether it is the spelling of a value, and of which kind.

@@ -11,7 +11,7 @@ use Rattle.ipld_tree.specs.Cid.{CidParts, cid_bytes}
 use Rattle.ipld_links.specs.Names.{IsInline}
 use Rattle.dagcbor_car.specs.Car.{Section, header_bytes, section_bytes, car_bytes, IsHeader, IsSection}
 use Rattle.ipld_links.specs.Sets.{Among}
-use Rattle.ipld_links.specs.Reaching.{Stored, IsThere, IsLost, LeadsFar, ListsReachable, ListsLost, IsOver, WalksAt}
+use Rattle.ipld_links.specs.Reaching.{Stored, IsThere, IsLost, LeadsFar, ListsReachable, ListsLost, IsWalkOver, WalksAt}
 use Rattle.dagcbor_car.specs.Reached.{sections_at}
 use Rattle.ipld_links.specs.declared.reach.Reached.{Reached}
 use Rattle.ipld_links.specs.declared.reach.Walk.{Walk}
@@ -47,7 +47,7 @@ got_stored v stored name None shows none = nothing (stored name) refl
 
 -- ---- the walk
 
-pub reaches_over : (v : View) (root : CidParts) (walk : Walk) (r : Reached) → r.found ≡ walk.found → r.lost ≡ walk.lost → OfStored v (λ stored. IsOver stored root walk) → Reaches v root r
+pub reaches_over : (v : View) (root : CidParts) (walk : Walk) (r : Reached) → r.found ≡ walk.found → r.lost ≡ walk.lost → OfStored v (λ stored. IsWalkOver stored root walk) → Reaches v root r
 reaches_over v root walk r found lost over stored shows =
     let o = over stored shows in
     (subst (λ f. ListsReachable stored root f.items) (sym found) o.0, subst (λ l. ListsLost stored root l.items) (sym lost) o.1)

@@ -10,7 +10,7 @@ use Rattle.ipld_tree.specs.Cid.{CidParts, cid_bytes}
 use Rattle.dagcbor_items.specs.Walks.{forms}
 use Rattle.dagcbor_car.specs.Car.{Section}
 use Rattle.dagcbor_car.specs.Versions.{IsFile}
-use Rattle.dagcbor_car.specs.Extents.{within, wanting, of_file, EndsThere}
+use Rattle.dagcbor_car.specs.Extents.{bytes_within, wanting, of_file, EndsThere}
 use Rattle.dagcbor_car.specs.Sources.{CarRefuses, RefusesStart, RefusesNext, TakesSectionBytes, LacksMemoryIf, FileLacks, SectionLacks}
 use Rattle.dagcbor_car.specs.Checks.{IsFileFront, StandBehind}
 use Rattle.ipld_links.specs.Sets.{Among}
@@ -81,7 +81,7 @@ pub record FileRefused {E : Type 0} (variant : CarError E → ReadCarError E)
 pub record IsReadTo (roots : List (List ℕ)) (sections : List Section)
     (old : Reading) (extent : Option ℕ) (now : Reading) : Type 0 where
   pub known : (b : List ℕ) → old.left ≡ Some b → (rest : List ℕ) × (now.left ≡ Some rest)
-      × IsFileFront b roots sections (wanting extent rest) (within extent rest)
+      × IsFileFront b roots sections (wanting extent rest) (bytes_within extent rest)
   pub same : Stays old now
   pub blocks : AllByRecursion IsSound sections
 

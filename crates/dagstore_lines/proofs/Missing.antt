@@ -19,7 +19,7 @@ use Rattle.ipld_links.specs.Sound.{IsSound}
 use Rattle.ipld_links.specs.Verdicts.{IsDagCbor, IsVerdict}
 use Rattle.ipld_links.specs.declared.verdict.Verdict.{Verdict}
 use Rattle.ipld_links.specs.declared.verdict.Verdict.TheVariants as verdicts
-use Rattle.block_lines.specs.Lines.{told_line}
+use Rattle.block_lines.specs.Lines.{verdict_line}
 use Rattle.ipld_links.specs.Within.{IsReached}
 use Rattle.ipld_links.proofs.Sounding.{no_block}
 use Rattle.ipld_links.proofs.Within.{reached_cid, not_inline}
@@ -78,14 +78,14 @@ lists_there old mid c same h = subst (λ (t : Trees). IsListed (t name_tree) (ci
 holds_there : (old mid : View) (c : CidParts) (b : List ℕ) → IsSame old mid → HoldsOnly old c b → HoldsOnly mid c b
 holds_there old mid c b same h = subst (λ (t : Trees). IsStored t (cid_bytes c) b × ((d : List ℕ) → IsStored t (cid_bytes c) d → d ≡ b)) (sym same.trees) h
 
-checked_line : (old new : View) (c : CidParts) (b text : List ℕ) (verdict : Verdict) (well : Bool) → well ≡ true → text ≡ told_line ((c, b), verdict) → IsSound (c, b) → IsVerdict (c, b) verdict → (IsClean new → HoldsOnly old c b) → IsCheckedLine old new c well text
+checked_line : (old new : View) (c : CidParts) (b text : List ℕ) (verdict : Verdict) (well : Bool) → well ≡ true → text ≡ verdict_line ((c, b), verdict) → IsSound (c, b) → IsVerdict (c, b) verdict → (IsClean new → HoldsOnly old c b) → IsCheckedLine old new c well text
 checked_line old new c b text verdict well is said sound told holds = subst (λ w. IsCheckedLine old new c w text) (sym is) (b, verdict, sound, told, holds, said)
 
-pub unread_checked : (old new : View) (c : CidParts) (b text : List ℕ) (well : Bool) → well ≡ true → text ≡ told_line ((c, b), verdicts.NotRead) → IsNamedBy c b → (IsDagCbor c → ⊥) → (IsClean new → HoldsOnly old c b) → IsCheckedLine old new c well text
+pub unread_checked : (old new : View) (c : CidParts) (b text : List ℕ) (well : Bool) → well ≡ true → text ≡ verdict_line ((c, b), verdicts.NotRead) → IsNamedBy c b → (IsDagCbor c → ⊥) → (IsClean new → HoldsOnly old c b) → IsCheckedLine old new c well text
 unread_checked old new c b text well is said named other holds =
     checked_line old new c b text verdicts.NotRead well is said (record { by_sha256 = named.0; digest = named.1; read = λ dag. absurd (other dag) }) (inl named, other) holds
 
-pub block_checked : (old new : View) (c : CidParts) (b text : List ℕ) (kind : Kind) (well : Bool) → well ≡ true → text ≡ told_line ((c, b), verdicts.Block kind) → IsNamedBy c b → IsDagCbor c → (t : Tree) × IsBlock b t × (kind ≡ kind_of t) → (IsClean new → HoldsOnly old c b) → IsCheckedLine old new c well text
+pub block_checked : (old new : View) (c : CidParts) (b text : List ℕ) (kind : Kind) (well : Bool) → well ≡ true → text ≡ verdict_line ((c, b), verdicts.Block kind) → IsNamedBy c b → IsDagCbor c → (t : Tree) × IsBlock b t × (kind ≡ kind_of t) → (IsClean new → HoldsOnly old c b) → IsCheckedLine old new c well text
 block_checked old new c b text kind well is said named dag k holds =
     checked_line old new c b text (verdicts.Block kind) well is said (record { by_sha256 = named.0; digest = named.1; read = λ d. (k.0, k.1) }) (inl named, dag, k) holds
 

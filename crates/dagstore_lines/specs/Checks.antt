@@ -14,7 +14,7 @@ use Rattle.ipld_links.specs.Sound.{IsSound}
 use Rattle.ipld_links.specs.Verdicts.{IsDagCbor, IsVerdict}
 use Rattle.ipld_links.specs.Within.{IsReached}
 use Rattle.ipld_links.specs.declared.verdict.Verdict.{Verdict}
-use Rattle.block_lines.specs.Lines.{told_line, missing_line, IsSaidOfEach}
+use Rattle.block_lines.specs.Lines.{verdict_line, missing_line, IsSaidOfEach}
 use Rattle.dagcbor_store.specs.Stored.{IsNamedBy, Holds, HoldsOnly, ListsName}
 use Rattle.dagcbor_store.specs.Lost.{NamesNoneListed, HoldsNoneSound, IsReachedIn}
 use Rattle.dagstore_lines.specs.Lines.{damaged_line}
@@ -27,7 +27,7 @@ use Rattle.dagstore_lines.specs.declared.fault.Fault.{Fault}
 abbrev pub IsCheckedLine : Telling
 IsCheckedLine old new name true text = (b : List ℕ) × (verdict : Verdict) × IsSound (name, b)
     × IsVerdict (name, b) verdict × (IsClean new → HoldsOnly old name b)
-    × (text ≡ told_line ((name, b), verdict))
+    × (text ≡ verdict_line ((name, b), verdict))
 IsCheckedLine old new name false text = (IsClean new → HoldsNoneSound old name)
     × (text ≡ damaged_line name)
 

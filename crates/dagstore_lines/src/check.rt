@@ -11,7 +11,7 @@ ghost use Rattle.dagstore_lines.specs.Checks.{IsCheckedLine, SaysCheck, AddsUnli
 use crate::fault::Fault;
 use crate::line::damaged_said;
 use crate::progress::Progress;
-use block_lines::{Said, missing_line, say, told_line};
+use block_lines::{Said, missing_line, say, verdict_line};
 use dagcbor_cli::ToolError;
 use dagcbor_items::check_slice;
 use dagcbor_store::{BlockStore, Store, StoreRefusal};
@@ -41,12 +41,12 @@ fn judged_said<S: Store>(
     ensures quiet { Quiet S.Store store.old store.new }
 {
     if !is_dag_cbor(name) {
-        return Ok(told_line(alloc, name, &Verdict::NotRead)?);
+        return Ok(verdict_line(alloc, name, &Verdict::NotRead)?);
     }
     match check_slice(block) {
         Ok(kind) => {
             store.add_lost(block, missing)?;
-            Ok(told_line(alloc, name, &Verdict::Block(kind))?)
+            Ok(verdict_line(alloc, name, &Verdict::Block(kind))?)
         }
         Err(_) => Ok(damaged_said(alloc, name)?),
     }

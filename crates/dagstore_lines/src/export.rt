@@ -11,7 +11,7 @@ ghost use Rattle.block_lines.specs.Lines.{missing_line};
 use crate::block::NO_BLOCK;
 use crate::fault::Fault;
 use crate::roots::meant_roots;
-use block_lines::{is_none, missing_lines};
+use block_lines::missing_lines;
 use dagcbor_cli::{ToolError, write_all};
 use dagcbor_heads::{EncodeError, IoRefWriter};
 use dagcbor_store::{BlockStore, Store, WriteCarError, WriteTreeError};
@@ -96,13 +96,14 @@ pub fn write_tree<S: Store, W: Write, V: Write>(
 }
 
 /// Tells which links lead to no block. Whether none does.
+#[tactic(auto, using(block_lines::proofs::Saying::told_empty))]
 fn tell_lost<V: Write>(alloc: Global, lost: &[Cid], errors: &mut V) -> Result<bool, Fault>
     ensures { TellsText (flat_map missing_line lost.now) (λ well. IsTrue well ↔ (lost.now ≡ []))
         (V.contents errors.old) result (V.contents errors.new) }
 {
     let told = missing_lines(alloc, lost)?;
     write_all(errors, &told)?;
-    Ok(is_none(lost))
+    Ok(lost.is_empty())
 }
 
 /// Tells the line of what is wrong.

@@ -8,7 +8,7 @@ use Rattle.std.specs.declared.alloc.AllocError.{AllocError}
 use Rattle.ipld_tree.specs.Cid.{CidParts, cid_cmp}
 use Rattle.dagcbor_items.specs.Walks.{forms}
 use Rattle.dagcbor_car.specs.Car.{Section}
-use Rattle.dagcbor_car.specs.Each.{Takes}
+use Rattle.dagcbor_car.specs.Each.{SinkTakes}
 use Rattle.dagcbor_car.specs.Versions.{IsFile}
 use Rattle.dagcbor_car.specs.declared.error.CarError.{CarError}
 use Rattle.ipld_links.specs.Sets.{Among}
@@ -28,7 +28,7 @@ use Rattle.held_lines.specs.declared.take.Ended.TheVariants as ended
 
 -- ---- faults
 
-pub fault_told : {S Stop : Type 0} (takes : Takes S Stop) (IsSo : List Section → Type 0) (b told : List ℕ) (roots : List (List ℕ)) (old new : S) (e : CarError Infallible) (h : FaultBehind takes roots b old e new) → IsSo h.first.sections → told ≡ refused_line e → TellsFault IsSo b told
+pub fault_told : {S Stop : Type 0} (takes : SinkTakes S Stop) (IsSo : List Section → Type 0) (b told : List ℕ) (roots : List (List ℕ)) (old new : S) (e : CarError Infallible) (h : FaultBehind takes roots b old e new) → IsSo h.first.sections → told ≡ refused_line e → TellsFault IsSo b told
 fault_told takes IsSo b told roots old new e h is tells = (e, (h.none, inr (roots, h.first.sections, h.first.wanting, h.first.rest, h.first.front, is, h.refuses)), tells)
 
 pub start_told : (IsSo : List Section → Type 0) (b : List ℕ) (Stop : Type 0) (v : Vec ℕ Global) → TellsNotBegun {Stop = Stop} b (ended.Fault v) → TellsFault IsSo b v.items

@@ -4,8 +4,8 @@ use Rattle.dagcbor_heads.specs.Reading.{Reading}
 use Rattle.ipld_tree.specs.Cid.{CidParts}
 use Rattle.dagcbor_items.specs.Walks.{forms}
 use Rattle.dagcbor_car.specs.Car.{Section}
-use Rattle.dagcbor_car.specs.Each.{Takes, TakesEach, StopsEach, RunsEach}
-use Rattle.dagcbor_car.specs.Extents.{within, wanting, EndsThere}
+use Rattle.dagcbor_car.specs.Each.{SinkTakes, TakesEach, StopsEach, RunsEach}
+use Rattle.dagcbor_car.specs.Extents.{bytes_within, wanting, EndsThere}
 use Rattle.dagcbor_car.specs.Sources.{CarRefuses, RefusesStart, RefusesNext, TakesStart, TakesSectionBytes}
 use Rattle.dagcbor_car.specs.declared.error.CarError.{CarError}
 use Rattle.dagcbor_car.specs.declared.error.CarError.TheVariants as faults
@@ -15,7 +15,7 @@ use Rattle.dagcbor_car.proofs.Places.{IsPlace, no_file, place_begun, place_more,
 use Rattle.std.specs.declared.convert.Infallible.{Infallible}
 use Rattle.dagcbor_cli.specs.declared.fault.ToolError.{ToolError}
 use Rattle.block_lines.specs.Lines.{refused_line}
-use Rattle.held_lines.specs.Taking.{IsOfBytes, TookEach, TakesFront, TakesWhole, StopsAtSection, EndsAt, EndsBy, EndsByFault, TakesBehind, TakesAll, TakesFile}
+use Rattle.held_lines.specs.Taking.{IsOfBytes, TookEach, TakesFileFront, TakesWhole, StopsAtSection, EndsAt, EndsBy, EndsByFault, TakesBehind, TakesAll, TakesFile}
 use Rattle.held_lines.specs.declared.take.Ended.{Ended}
 use Rattle.held_lines.specs.declared.take.Ended.TheVariants as ended
 
@@ -49,17 +49,17 @@ header_alone old now _ is r = r.1
 -- ---- one section behind the other
 
 -- what is known behind each section is known behind all
-pub took_knows : {S Stop : Type 0} (takes : Takes S Stop) (knows : S → List Section → Type 0) → ((s : Section) (old new : S) (done : List Section) → knows old done → takes s old (Ok tt) new → knows new (done ++ s ∷ []))
+pub took_knows : {S Stop : Type 0} (takes : SinkTakes S Stop) (knows : S → List Section → Type 0) → ((s : Section) (old new : S) (done : List Section) → knows old done → takes s old (Ok tt) new → knows new (done ++ s ∷ []))
     → (done more : List Section) (old new : S) → knows old done → TookEach takes old more new → knows new (done ++ more)
 took_knows takes knows step done [] old new h t = subst (knows new) (sym (append-nil done)) (subst (λ x. knows x done) (sym t) h)
 took_knows takes knows step done (s ∷ more) old new h t = subst (knows new) (append_assoc done (s ∷ []) more) (took_knows takes knows step (done ++ s ∷ []) more t.0 new (step s old t.0 done h t.1) t.2)
 
 -- what takes sections so takes them so too
-took_as : {S Stop : Type 0} (P Q : Takes S Stop) → ((s : Section) (old : S) (r : Result (Unit {0}) Stop) (new : S) → P s old r new → Q s old r new) → (ss : List Section) (old new : S) → TookEach P old ss new → TookEach Q old ss new
+took_as : {S Stop : Type 0} (P Q : SinkTakes S Stop) → ((s : Section) (old : S) (r : Result (Unit {0}) Stop) (new : S) → P s old r new → Q s old r new) → (ss : List Section) (old new : S) → TookEach P old ss new → TookEach Q old ss new
 took_as P Q f [] old new t = t
 took_as P Q f (s ∷ ss) old new t = (t.0, f s old (Ok tt) t.0 t.1, took_as P Q f ss t.0 new t.2)
 
-abbrev front_as : {S Stop : Type 0} (P Q : Takes S Stop) → ((s : Section) (old : S) (r : Result (Unit {0}) Stop) (new : S) → P s old r new → Q s old r new) → (roots : List (List ℕ)) (b : List ℕ) (old new : S) → TakesFront P roots b old new → TakesFront Q roots b old new
+abbrev front_as : {S Stop : Type 0} (P Q : SinkTakes S Stop) → ((s : Section) (old : S) (r : Result (Unit {0}) Stop) (new : S) → P s old r new → Q s old r new) → (roots : List (List ℕ)) (b : List ℕ) (old new : S) → TakesFileFront P roots b old new → TakesFileFront Q roots b old new
 front_as P Q f roots b old new h = record {
   sections = h.sections;
   wanting = h.wanting;
@@ -68,8 +68,8 @@ front_as P Q f roots b old new h = record {
   took = took_as P Q f h.sections old new h.took;
 }
 
-pub ends_as : {S Stop : Type 0} (P Q : Takes S Stop) → ((s : Section) (old : S) (r : Result (Unit {0}) Stop) (new : S) → P s old r new → Q s old r new) → (roots : List (List ℕ)) (b : List ℕ) (old new : S) (w : Result (Ended Stop) ToolError) → MatchResult w (λ e. EndsAt P roots b old e new) (λ _. TakesFront P roots b old new)
-    → MatchResult w (λ e. EndsAt Q roots b old e new) (λ _. TakesFront Q roots b old new)
+pub ends_as : {S Stop : Type 0} (P Q : SinkTakes S Stop) → ((s : Section) (old : S) (r : Result (Unit {0}) Stop) (new : S) → P s old r new → Q s old r new) → (roots : List (List ℕ)) (b : List ℕ) (old new : S) (w : Result (Ended Stop) ToolError) → MatchResult w (λ e. EndsAt P roots b old e new) (λ _. TakesFileFront P roots b old new)
+    → MatchResult w (λ e. EndsAt Q roots b old e new) (λ _. TakesFileFront Q roots b old new)
 ends_as P Q f roots b old new (Ok ended.Whole) h = record { sections = h.sections; file = h.file; took = took_as P Q f h.sections old new h.took }
 ends_as P Q f roots b old new (Ok (ended.Stopped stop)) h = record {
   it = h.it;
@@ -84,12 +84,12 @@ ends_as P Q f roots b old new (Ok (ended.Fault line)) h = (h.0, record { first =
 ends_as P Q f roots b old new (Err e) h = front_as P Q f roots b old new h
 
 -- what no section changes
-took_same : {S Stop X : Type 0} (takes : Takes S Stop) (f : S → X) → ((s : Section) (old : S) (r : Result (Unit {0}) Stop) (new : S) → takes s old r new → f new ≡ f old) → (ss : List Section) (old new : S) → TookEach takes old ss new → f new ≡ f old
+took_same : {S Stop X : Type 0} (takes : SinkTakes S Stop) (f : S → X) → ((s : Section) (old : S) (r : Result (Unit {0}) Stop) (new : S) → takes s old r new → f new ≡ f old) → (ss : List Section) (old new : S) → TookEach takes old ss new → f new ≡ f old
 took_same takes f stays [] old new t = ap f t
 took_same takes f stays (s ∷ ss) old new t = took_same takes f stays ss t.0 new t.2 ∙ stays s old (Ok tt) t.0 t.1
 
-pub ends_same : {S Stop X : Type 0} (takes : Takes S Stop) (f : S → X) → ((s : Section) (old : S) (r : Result (Unit {0}) Stop) (new : S) → takes s old r new → f new ≡ f old) → (roots : List (List ℕ)) (b : List ℕ) (old new : S) (w : Result (Ended Stop) ToolError)
-    → MatchResult w (λ e. EndsAt takes roots b old e new) (λ _. TakesFront takes roots b old new) → f new ≡ f old
+pub ends_same : {S Stop X : Type 0} (takes : SinkTakes S Stop) (f : S → X) → ((s : Section) (old : S) (r : Result (Unit {0}) Stop) (new : S) → takes s old r new → f new ≡ f old) → (roots : List (List ℕ)) (b : List ℕ) (old new : S) (w : Result (Ended Stop) ToolError)
+    → MatchResult w (λ e. EndsAt takes roots b old e new) (λ _. TakesFileFront takes roots b old new) → f new ≡ f old
 ends_same takes f stays roots b old new (Ok ended.Whole) h = took_same takes f stays h.sections old new h.took
 ends_same takes f stays roots b old new (Ok (ended.Stopped stop)) h = stays h.section h.it (Err stop) new h.refused ∙ took_same takes f stays h.first.sections old h.it h.first.took
 ends_same takes f stays roots b old new (Ok (ended.Fault line)) h = took_same takes f stays h.1.first.sections old new h.1.first.took
@@ -109,7 +109,7 @@ left_more b roots ss s extent more source behind h t =
     let w = t.1.takes.taken h.0 h.1 in
     (w.0, w.2, place_more b w.0 roots ss extent more s (subst (λ x. IsPlace b roots ss extent x) w.1 h.2) t.0 t.1.spends)
 
-left_each : {S Stop : Type 0} (takes : Takes S Stop) (b : List ℕ) (roots : List (List ℕ)) (ss more : List Section) (extent rest : Option ℕ) (source mid : Reading) (old new : S) → IsLeft b roots ss extent source → TakesEach takes extent source old more rest mid new → IsLeft b roots (ss ++ more) rest mid × TookEach takes old more new
+left_each : {S Stop : Type 0} (takes : SinkTakes S Stop) (b : List ℕ) (roots : List (List ℕ)) (ss more : List Section) (extent rest : Option ℕ) (source mid : Reading) (old new : S) → IsLeft b roots ss extent source → TakesEach takes extent source old more rest mid new → IsLeft b roots (ss ++ more) rest mid × TookEach takes old more new
 left_each takes b roots ss [] extent rest source mid old new h t = (
   subst (λ e. IsLeft b roots (ss ++ []) e mid) (sym t.0) (subst (IsLeft b roots (ss ++ []) extent) (sym t.1) (subst (λ l. IsLeft b roots l extent source) (sym (append-nil ss)) h)),
   t.2,
@@ -118,12 +118,12 @@ left_each takes b roots ss (s ∷ more) extent rest source mid old new h t =
     let w = left_each takes b roots (ss ++ s ∷ []) more t.0 rest t.1 mid t.2 new (left_more b roots ss s extent t.0 source t.1 h t.3) t.5 in
     (subst (λ l. IsLeft b roots l rest mid) (append_assoc ss (s ∷ []) more) w.0, (t.2, t.4, w.1))
 
-module _ {S Stop : Type 0} (takes : Takes S Stop) (roots : List (List ℕ)) (b : List ℕ) where
-  abbrev taken_front : (ss : List Section) (extent : Option ℕ) (source : Reading) (old new : S) → IsLeft b roots ss extent source → TookEach takes old ss new → TakesFront takes roots b old new
+module _ {S Stop : Type 0} (takes : SinkTakes S Stop) (roots : List (List ℕ)) (b : List ℕ) where
+  abbrev taken_front : (ss : List Section) (extent : Option ℕ) (source : Reading) (old new : S) → IsLeft b roots ss extent source → TookEach takes old ss new → TakesFileFront takes roots b old new
   taken_front ss extent source old new h t = record {
     sections = ss;
     wanting = wanting extent h.0;
-    rest = within extent h.0;
+    rest = bytes_within extent h.0;
     front = place_front b h.0 roots ss extent h.2;
     took = t;
   }
@@ -136,7 +136,7 @@ module _ {S Stop : Type 0} (takes : Takes S Stop) (roots : List (List ℕ)) (b :
 
   -- some were taken, and none of a fault of the bytes
   fault_behind : {E : Type 0} (count : ℕ) (ss : List Section) (extent more : Option ℕ) (mid behind : Reading) (old it new : S) (e : CarError E) (r : Result (Ended Stop) ToolError) → IsLeft b roots ss extent mid → TookEach takes old ss it → StopsEach takes (length ss) extent mid it (stop.Section count e) more behind new → EndsByFault {Stop = Stop} e r
-      → MatchResult r (λ w. EndsAt takes roots b old w new) (λ _. TakesFront takes roots b old new)
+      → MatchResult r (λ w. EndsAt takes roots b old w new) (λ _. TakesFileFront takes roots b old new)
   fault_behind count ss extent more mid behind old it new e (Err x) h t k told = taken_front ss extent mid old new h (subst (TookEach takes old ss) (sym k.2) t)
   fault_behind count ss extent more mid behind old it new e (Ok (ended.Fault line)) h t k told = (
     alone e,
@@ -151,7 +151,7 @@ module _ {S Stop : Type 0} (takes : Takes S Stop) (roots : List (List ℕ)) (b :
   fault_behind count ss extent more mid behind old it new e (Ok (ended.Stopped stop)) h t k told = absurd told.0
 
   stopped : {E : Type 0} (ss : List Section) (extent more : Option ℕ) (mid behind : Reading) (old it new : S) (e : ReadCarError E Stop) (r : Result (Ended Stop) ToolError) → IsLeft b roots ss extent mid → TookEach takes old ss it → StopsEach takes (length ss) extent mid it e more behind new → EndsBy e r
-      → MatchResult r (λ w. EndsAt takes roots b old w new) (λ _. TakesFront takes roots b old new)
+      → MatchResult r (λ w. EndsAt takes roots b old w new) (λ _. TakesFileFront takes roots b old new)
   stopped ss extent more mid behind old it new (stop.Header e) r h t k told = absurd k
   stopped ss extent more mid behind old it new (stop.Section count e) r h t k told = fault_behind count ss extent more mid behind old it new e r h t k told
   stopped ss extent more mid behind old it new (stop.Block count name why) r h t k told =
@@ -161,11 +161,11 @@ module _ {S Stop : Type 0} (takes : Takes S Stop) (roots : List (List ℕ)) (b :
         first = taken_front ss extent mid old it h t;
         section = k.0;
         wanting = wanting more next.0;
-        rest = within more next.0;
+        rest = bytes_within more next.0;
         front = place_front b next.0 roots (ss ++ k.0 ∷ []) more next.2;
         refused = k.4;
       } in
-      subst (λ x. MatchResult x (λ w. EndsAt takes roots b old w new) (λ _. TakesFront takes roots b old new)) (sym told) at
+      subst (λ x. MatchResult x (λ w. EndsAt takes roots b old w new) (λ _. TakesFileFront takes roots b old new)) (sym told) at
 
   too_many : {E : Type 0} (count : ℕ) (e : ReadCarError E Stop) (r : Result (Ended Stop) ToolError) (X : Ended Stop → Type 0) (Y : Type 0) → e ≡ stop.Section count faults.OutOfMemory → EndsBy e r → Y → MatchResult r X (λ _. Y)
   too_many count e (Err x) X Y is told y = y
@@ -176,21 +176,21 @@ module _ {S Stop : Type 0} (takes : Takes S Stop) (roots : List (List ℕ)) (b :
 
   -- some were taken
   pub some_taken : {E : Type 0} (extent more : Option ℕ) (source behind : Reading) (old new : S) (e : ReadCarError E Stop) (r : Result (Ended Stop) ToolError) → IsLeft b roots [] extent source → RunsEach takes extent source old (Err e) more behind new → EndsBy e r
-      → MatchResult r (λ w. EndsAt takes roots b old w new) (λ _. TakesFront takes roots b old new)
+      → MatchResult r (λ w. EndsAt takes roots b old w new) (λ _. TakesFileFront takes roots b old new)
   some_taken extent more source behind old new e r h (ss, rest, mid, it, t, inl k) told =
       let w = left_each takes b roots [] ss extent rest source mid old it h t in
       stopped ss rest more mid behind old it new e r w.0 w.1 k told
   some_taken extent more source behind old new e r h (ss, rest, mid, it, t, inr k) told =
       let w = left_each takes b roots [] ss extent rest source mid old it h t in
-      too_many (length ss) e r (λ w. EndsAt takes roots b old w new) (TakesFront takes roots b old new) k.2.0 told (taken_front ss rest mid old new w.0 (subst (TookEach takes old ss) (sym k.1) w.1))
+      too_many (length ss) e r (λ w. EndsAt takes roots b old w new) (TakesFileFront takes roots b old new) k.2.0 told (taken_front ss rest mid old new w.0 (subst (TookEach takes old ss) (sym k.1) w.1))
 
 -- ---- the whole
 
 -- all behind a header, where a header was taken
-pub behind_header : {S Stop : Type 0} (takes : Takes S Stop) (extent : Option ℕ) (start source : Reading) (roots : Vec CidParts Global) (old new : S) (w : Ended Stop) → TakesStart start (forms roots.items) extent source → TakesBehind takes extent source old (Ok w) new → TakesFile takes start old (Ok (roots, w)) new
+pub behind_header : {S Stop : Type 0} (takes : SinkTakes S Stop) (extent : Option ℕ) (start source : Reading) (roots : Vec CidParts Global) (old new : S) (w : Ended Stop) → TakesStart start (forms roots.items) extent source → TakesBehind takes extent source old (Ok w) new → TakesFile takes start old (Ok (roots, w)) new
 behind_header takes extent start source roots old new w h k = λ b l. inr (k start (forms roots.items) h b l)
 
-pub not_begun : {S Stop E : Type 0} (takes : Takes S Stop) (start source : Reading) (it : S) (error : CarError E) (v : Vec ℕ Global) (none : Vec CidParts Global) → CarRefuses RefusesStart start error source → IsOfBytes error → v.items ≡ refused_line error → none.items ≡ [] → (b : List ℕ) → start.left ≡ Some b → TakesAll takes b it (none, ended.Fault v) it
+pub not_begun : {S Stop E : Type 0} (takes : SinkTakes S Stop) (start source : Reading) (it : S) (error : CarError E) (v : Vec ℕ Global) (none : Vec CidParts Global) → CarRefuses RefusesStart start error source → IsOfBytes error → v.items ≡ refused_line error → none.items ≡ [] → (b : List ℕ) → start.left ≡ Some b → TakesAll takes b it (none, ended.Fault v) it
 not_begun takes start source it error v none h is told free b l =
     let refused = header_alone start source error is h b l in
     inl ((alone error, no_file (alone error) b refused, refused, told ∙ alone_line error is), free, refl)

@@ -7,7 +7,7 @@ use Rattle.std.specs.declared.convert.Infallible.{Infallible}
 use Rattle.ipld_tree.specs.Cid.{CidParts, cid_cmp}
 use Rattle.dagcbor_items.specs.Walks.{forms}
 use Rattle.dagcbor_car.specs.Car.{Section}
-use Rattle.dagcbor_car.specs.Each.{Takes}
+use Rattle.dagcbor_car.specs.Each.{SinkTakes}
 use Rattle.ipld_links.specs.Verdicts.{IsVerified}
 use Rattle.ipld_links.specs.Sound.{IsSound}
 use Rattle.dagcbor_car.specs.Sources.{RefusesStart, RefusesSection}
@@ -88,6 +88,6 @@ KeepsSection kept s old result new = OnOk result ((sections : List Section) → 
     → Stores kept (sections ++ s ∷ []) new)
 
 -- what is held has one section more of those of which some are kept, and which are kept stays
-abbrev pub KeepsNext : Takes Holding AllocError
+abbrev pub KeepsNext : SinkTakes Holding AllocError
 KeepsNext s old result new = (new.kept ≡ old.kept)
     × KeepsSection old.kept s (stored_in old.blocks) result (stored_in new.blocks)

@@ -6,7 +6,7 @@ use Rattle.dagcbor_heads.specs.Reading.{Reading}
 use Rattle.ipld_tree.specs.Cid.{CidParts}
 use Rattle.dagcbor_items.specs.Walks.{forms}
 use Rattle.dagcbor_car.specs.Car.{Section}
-use Rattle.dagcbor_car.specs.Each.{Takes}
+use Rattle.dagcbor_car.specs.Each.{SinkTakes}
 use Rattle.dagcbor_car.specs.Sources.{RefusesStart, RefusesSection, TakesStart}
 use Rattle.dagcbor_car.specs.Checks.{IsFileFront, IsNoFile}
 use Rattle.dagcbor_car.specs.Versions.{IsFile}
@@ -26,12 +26,12 @@ IsOfBytes faults.OutOfMemory = ⊥
 IsOfBytes _ = ⊤
 
 -- each of the sections was taken, one behind the other
-abbrev pub TookEach : {S Stop : Type 0} → Takes S Stop → S → List Section → S → Type 0
+abbrev pub TookEach : {S Stop : Type 0} → SinkTakes S Stop → S → List Section → S → Type 0
 TookEach takes old [] new = new ≡ old
 TookEach {S} takes old (s ∷ ss) new = (it : S) × takes s old (Ok tt) it × TookEach takes it ss new
 
 -- the bytes begin with a file of these roots, and its first sections were taken, which are these
-pub record TakesFront {S Stop : Type 0} (takes : Takes S Stop) (roots : List (List ℕ)) (b : List ℕ) (old new : S) : Type 0 where
+pub record TakesFileFront {S Stop : Type 0} (takes : SinkTakes S Stop) (roots : List (List ℕ)) (b : List ℕ) (old new : S) : Type 0 where
   pub sections : List Section
   pub wanting : ℕ
   pub rest : List ℕ
@@ -39,15 +39,15 @@ pub record TakesFront {S Stop : Type 0} (takes : Takes S Stop) (roots : List (Li
   pub took : TookEach takes old sections new
 
 -- they are that file, and all of its sections were taken
-pub record TakesWhole {S Stop : Type 0} (takes : Takes S Stop) (roots : List (List ℕ)) (b : List ℕ) (old new : S) : Type 0 where
+pub record TakesWhole {S Stop : Type 0} (takes : SinkTakes S Stop) (roots : List (List ℕ)) (b : List ℕ) (old new : S) : Type 0 where
   pub sections : List Section
   pub file : IsFile b roots sections
   pub took : TookEach takes old sections new
 
 -- behind such sections stands one that was refused
-pub record StopsAtSection {S Stop : Type 0} (takes : Takes S Stop) (roots : List (List ℕ)) (b : List ℕ) (old : S) (stop : Stop) (new : S) : Type 0 where
+pub record StopsAtSection {S Stop : Type 0} (takes : SinkTakes S Stop) (roots : List (List ℕ)) (b : List ℕ) (old : S) (stop : Stop) (new : S) : Type 0 where
   pub it : S
-  pub first : TakesFront takes roots b old it
+  pub first : TakesFileFront takes roots b old it
   pub section : Section
   pub wanting : ℕ
   pub rest : List ℕ
@@ -55,13 +55,13 @@ pub record StopsAtSection {S Stop : Type 0} (takes : Takes S Stop) (roots : List
   pub refused : takes section it (Err stop) new
 
 -- behind such sections stands none, though bytes do, or are wanting, for this cause
-pub record FaultBehind {S Stop : Type 0} (takes : Takes S Stop) (roots : List (List ℕ)) (b : List ℕ) (old : S) (e : CarError Infallible) (new : S) : Type 0 where
-  pub first : TakesFront takes roots b old new
+pub record FaultBehind {S Stop : Type 0} (takes : SinkTakes S Stop) (roots : List (List ℕ)) (b : List ℕ) (old : S) (e : CarError Infallible) (new : S) : Type 0 where
+  pub first : TakesFileFront takes roots b old new
   pub none : IsNoFile b
   pub refuses : RefusesSection first.wanting e first.rest
 
 -- how far a file was taken behind its header of these roots
-abbrev pub EndsAt : {S Stop : Type 0} → Takes S Stop → List (List ℕ) → List ℕ → S → Ended Stop → S
+abbrev pub EndsAt : {S Stop : Type 0} → SinkTakes S Stop → List (List ℕ) → List ℕ → S → Ended Stop → S
     → Type 0
 EndsAt takes roots b old ended.Whole new = TakesWhole takes roots b old new
 EndsAt takes roots b old (ended.Stopped stop) new = StopsAtSection takes roots b old stop new
@@ -69,11 +69,11 @@ EndsAt takes roots b old (ended.Fault line) new = (e : CarError Infallible)
     × FaultBehind takes roots b old e new × (line.items ≡ refused_line e)
 
 -- All sections behind the header were taken, or some of the first.
-abbrev pub TakesBehind : {S Stop : Type 0} → Takes S Stop → Option ℕ → Reading → S
+abbrev pub TakesBehind : {S Stop : Type 0} → SinkTakes S Stop → Option ℕ → Reading → S
     → Result (Ended Stop) ToolError → S → Type 0
 TakesBehind takes extent source old result new = (start : Reading) (roots : List (List ℕ))
     → TakesStart start roots extent source → (b : List ℕ) → start.left ≡ Some b → MatchResult result
-    (λ ended. EndsAt takes roots b old ended new) (λ _. TakesFront takes roots b old new)
+    (λ ended. EndsAt takes roots b old ended new) (λ _. TakesFileFront takes roots b old new)
 
 -- ---- refusals
 
@@ -102,13 +102,13 @@ TellsNotBegun b _ = ⊥
 
 -- How far the bytes were taken as a file, and of which roots: not at all, and of none; or so far behind
 -- a header.
-abbrev pub TakesAll : {S Stop : Type 0} → Takes S Stop → List ℕ → S → Vec CidParts Global × Ended Stop
+abbrev pub TakesAll : {S Stop : Type 0} → SinkTakes S Stop → List ℕ → S → Vec CidParts Global × Ended Stop
     → S → Type 0
 TakesAll takes b old p new = (TellsNotBegun b p.1 × (p.0.items ≡ []) × (new ≡ old))
     ⊎ EndsAt takes (forms p.0.items) b old p.1 new
 
 -- how far the bytes that are left, where the source tells them, were taken as a file
-abbrev pub TakesFile : {S Stop : Type 0} → Takes S Stop → Reading → S
+abbrev pub TakesFile : {S Stop : Type 0} → SinkTakes S Stop → Reading → S
     → Result (Vec CidParts Global × Ended Stop) ToolError → S → Type 0
 TakesFile takes source old result new = IfOk result (λ p. (b : List ℕ)
     → source.left ≡ Some b → TakesAll takes b old p new)

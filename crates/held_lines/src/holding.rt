@@ -149,15 +149,13 @@ pub fn held_of<R: BufRead>(
         kept,
         blocks: BTreeMap::new(alloc),
     };
-    match take_input(alloc, &mut holding, input) {
-        Ok((roots, ended)) => match ended {
-            Ended::Whole => Ok(Ok(Held {
-                roots,
-                blocks: holding.blocks,
-            })),
-            Ended::Stopped(_) => Err(ToolError::OutOfMemory),
-            Ended::Fault(line) => Ok(Err(line)),
-        },
-        Err(fault) => Err(fault),
+    let (roots, ended) = take_input(alloc, &mut holding, input)?;
+    match ended {
+        Ended::Whole => Ok(Ok(Held {
+            roots,
+            blocks: holding.blocks,
+        })),
+        Ended::Stopped(_) => Err(ToolError::OutOfMemory),
+        Ended::Fault(line) => Ok(Err(line)),
     }
 }

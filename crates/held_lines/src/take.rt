@@ -34,10 +34,7 @@ pub fn fault_line<E: Drop>(alloc: Global, error: CarError<E>) -> Result<Vec<u8>,
     match error {
         CarError::Read(_) => Err(ToolError::Input),
         CarError::OutOfMemory => Err(ToolError::OutOfMemory),
-        of_bytes => {
-            let line = refused_line(alloc, &of_bytes)?;
-            Ok(line)
-        }
+        of_bytes => Ok(refused_line(alloc, &of_bytes)?),
     }
 }
 
@@ -45,10 +42,7 @@ pub fn fault_line<E: Drop>(alloc: Global, error: CarError<E>) -> Result<Vec<u8>,
 fn fault_of<E: Drop, T: Drop>(alloc: Global, error: CarError<E>) -> Result<Ended<T>, ToolError>
     ensures { EndsByFault error result }
 {
-    match fault_line(alloc, error) {
-        Ok(line) => Ok(Ended::Fault(line)),
-        Err(fault) => Err(fault),
-    }
+    Ok(Ended::Fault(fault_line(alloc, error)?))
 }
 
 /// How a run ended that did not take all sections.
@@ -91,14 +85,14 @@ fn take_file<'de, S: SectionSink, R: Read>(
     ensures { TakesFile S.takes (input_reading R.reading input.old) sink.old result sink.new }
 {
     match pull_header(alloc, input) {
-        Ok((roots, extent)) => match take_sections(alloc, sink, input, extent) {
-            Ok(ended) => Ok((roots, ended)),
-            Err(fault) => Err(fault),
-        },
-        Err(error) => match fault_line(alloc, error) {
-            Ok(line) => Ok((Vec::new(alloc), Ended::Fault(line))),
-            Err(fault) => Err(fault),
-        },
+        Ok((roots, extent)) => {
+            let ended = take_sections(alloc, sink, input, extent)?;
+            Ok((roots, ended))
+        }
+        Err(error) => {
+            let line = fault_line(alloc, error)?;
+            Ok((Vec::new(alloc), Ended::Fault(line)))
+        }
     }
 }
 

@@ -15,7 +15,7 @@ use Rattle.ipld_links.specs.Verdicts.{IsDagCbor}
 use Rattle.ipld_links.specs.Blocks.{HasBlock}
 use Rattle.ipld_links.specs.Sets.{Among, members}
 use Rattle.ipld_links.specs.Held.{IsHeldName, HoldsNone}
-use Rattle.ipld_links.specs.Within.{IsInlineForm, IsLinkWithin, IsReached, IsReachedName, HoldsReached, AddsUnheld, AddsReached, AddsAll, AreFirstNames, AddsLinks}
+use Rattle.ipld_links.specs.Within.{IsInlineForm, IsLinkWithin, IsReached, IsReachedName, AddsUnheld, AddsReached, AddsAll, AreFirstNames, AddsLinks}
 use Rattle.ipld_links.specs.declared.cid_set.CidSet.{CidSet}
 use Rattle.ipld_links.specs.declared.held.HeldNames.{HeldNames}
 use Rattle.ipld_links.specs.Rows.{HoldsLinks}
@@ -199,6 +199,10 @@ digest_inside b rest behind c fits shorter = omega (arith, digest_le, fits, shor
         by : (v : Bool) → length c.digest ≤ length (if v then 0x12 ∷ 0x20 ∷ c.digest else 0x01 ∷ (varint c.codec ++ (varint c.hash_code ++ (varint (length c.digest) ++ c.digest))))
         by true = omega arith
         by false = omega (arith, length-append (varint c.codec) (varint c.hash_code ++ (varint (length c.digest) ++ c.digest)), length-append (varint c.hash_code) (varint (length c.digest) ++ c.digest), length-append (varint (length c.digest)) c.digest)
+
+-- the members are the names that are reached from the links
+abbrev pub HoldsReached : CidSet → List (List ℕ) → Type 0
+HoldsReached s links = (q : CidParts) → Among q (members s) ↔ IsReachedName q links
 
 pub reached_only : (held : HeldNames) (s new : CidSet) (links : List (List ℕ)) → HoldsNone held → members s ≡ [] → AddsReached links held s new → HoldsReached new links
 reached_only held s new links free none h q = (λ m. elim ((h q).0 m) [ inl o ↦ absurd (subst (Among q) none o) | inr r ↦ r.0 ], λ r. (h q).1 (inr (r, free q)))

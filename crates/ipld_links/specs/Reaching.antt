@@ -108,14 +108,14 @@ WalksAt stored root name walk = ¬ Among name walk.seen.keys
     walk.lost.items
 
 -- the walk is over: it found the names of the stored blocks that links lead to, and lost the others
-abbrev pub IsOver : Stored → CidParts → Walk → Type 0
-IsOver stored root walk = ListsReachable stored root walk.found.items
+abbrev pub IsWalkOver : Stored → CidParts → Walk → Type 0
+IsWalkOver stored root walk = ListsReachable stored root walk.found.items
     × ListsLost stored root walk.lost.items
 
 -- the next name is to be visited, or the walk is over
 abbrev pub GoesOn : Walk → Option CidParts → Walk → Type 0
 GoesOn old result new = (stored : Stored) (root : CidParts) → Walks stored root old
-    → MatchOption result (IsOver stored root new) (λ name. WalksAt stored root name new)
+    → MatchOption result (IsWalkOver stored root new) (λ name. WalksAt stored root name new)
 
 -- the name is visited, with the bytes that are stored under it
 abbrev pub Visits : CidParts → Option (List ℕ) → Walk → Walk → Type 0

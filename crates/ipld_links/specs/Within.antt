@@ -40,10 +40,6 @@ IsReached form links = (link : List ℕ) × (n : ℕ) × Among link links × IsL
 abbrev pub IsReachedName : CidParts → List (List ℕ) → Type 0
 IsReachedName q links = AreCidParts q × ¬ IsInline q × IsReached (cid_bytes q) links
 
--- the members are the names that are reached from the links
-abbrev pub HoldsReached : CidSet → List (List ℕ) → Type 0
-HoldsReached s links = (q : CidParts) → Among q (members s) ↔ IsReachedName q links
-
 -- the members are the old ones, and this CID, if it is not held
 abbrev pub AddsUnheld : CidParts → HeldNames → CidSet → CidSet → Type 0
 AddsUnheld c held old new = AreCidParts c

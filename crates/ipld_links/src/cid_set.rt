@@ -37,10 +37,8 @@ impl CidSet {
     {
         // What is known of a CID comes with its version.
         let _version = cid.version();
-        match self.cids.insert(cid) {
-            Ok(_added) => Ok(()),
-            Err(_) => Err(AllocError),
-        }
+        self.cids.insert(cid)?;
+        Ok(())
     }
 
     /// Whether it has the CID.

@@ -142,10 +142,8 @@ impl Walk {
     {
         // What is known of a CID comes with its version.
         let _version = name.version();
-        match self.seen.insert(name) {
-            Ok(_added) => Ok(()),
-            Err(_) => Err(AllocError),
-        }
+        self.seen.insert(name)?;
+        Ok(())
     }
 
     /// The name is found, or lost.

@@ -4,7 +4,7 @@ ghost use Rattle.std.specs.Prelude.{◌≡◌, [], false, IfOk};
 ghost use Rattle.block_lines.specs.Lines.{SaysBoth};
 ghost use Rattle.path_lines.specs.Ends.{end_line};
 
-use block_lines::{line_of, missing_line, say_both, told_line};
+use block_lines::{line_of, missing_line, say_both, verdict_line};
 use cid_text::cid_text;
 use dagcbor_cli::ToolError;
 use dagcbor_resolve::{End, Resolved};
@@ -28,7 +28,7 @@ pub fn end_told(alloc: Global, block: &Cid, end: &End<'_>) -> Result<Vec<u8>, Al
         }
         End::NotHeld => missing_line(alloc, block),
         End::NoBlock(verdict) => {
-            let (line, _well) = told_line(alloc, block, verdict)?;
+            let (line, _well) = verdict_line(alloc, block, verdict)?;
             Ok(line)
         }
         End::Endless => line_of(alloc, &cid_text(block), b" leads on", b""),

@@ -14,7 +14,7 @@ use Rattle.repository_types.specs.declared.repository.Commit.{Commit}
 use Rattle.atproto_mst.specs.declared.entries.MstEntry.{MstEntry}
 use Rattle.atproto_mst.specs.declared.error.MstError.{MstError}
 use Rattle.atproto_mst.specs.declared.repo_error.RepoError.{RepoError}
-use Rattle.block_lines.specs.Lines.{line, missing_line, told_line}
+use Rattle.block_lines.specs.Lines.{line, missing_line, verdict_line}
 use Rattle.block_lines.specs.Shown.{IsShown}
 use Rattle.held_lines.specs.Holding.{TellsFault}
 use Rattle.record_lines.specs.Keys.{key_text}
@@ -45,7 +45,7 @@ IsRecords b well out told = ((c : Commit) × (records : List MstEntry) × IsRepo
 abbrev pub AreBytesSaid : CidParts → List ℕ → Bool → List ℕ → List ℕ → Type 0
 AreBytesSaid name b well out told = (IsVerified (name, b) × IsShown b well out told)
     ⊎ ((¬ IsVerified (name, b)) × ((v : Verdict) × IsVerdict (name, b) v
-    × IsToldAlone (told_line ((name, b), v)) well out told))
+    × IsToldAlone (verdict_line ((name, b), v)) well out told))
 
 -- of a record's name: what is said of the bytes under it, or that there are none
 abbrev pub IsBlockSaid : Stored → CidParts → Bool → List ℕ → List ℕ → Type 0

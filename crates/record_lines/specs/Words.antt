@@ -19,9 +19,9 @@ IsOfRepo error.OutOfMemory = ⊥
 IsOfRepo (error.Tree e) = IsOfTree e
 IsOfRepo _ = ⊤
 
--- a name, and what is told of it
-abbrev pub name_line : CidParts → List ℕ → List ℕ
-name_line name words = line (cid_text name ++ words)
+-- a name, and what is wrong with it
+abbrev pub name_fault_line : CidParts → List ℕ → List ℕ
+name_fault_line name words = line (cid_text name ++ words)
 
 -- of a tree
 abbrev pub tree_line : MstError → List ℕ
@@ -30,18 +30,19 @@ tree_line unread.KeyLength = line (codes "a key has no byte, or more than 1024")
 tree_line unread.KeyOrder = line (codes "the keys do not rise")
 tree_line unread.KeyFront = line (codes "an entry shares more bytes with the key before it than that has")
 tree_line (unread.MissingNode name) = missing_line name
-tree_line (unread.OtherBytes name) = name_line name (codes " other bytes")
-tree_line (unread.NoNode name) = name_line name (codes " is no node")
-tree_line (unread.TooDeep name) = name_line name (codes " stands below 129 nodes")
+tree_line (unread.OtherBytes name) = name_fault_line name (codes " other bytes")
+tree_line (unread.NoNode name) = name_fault_line name (codes " is no node")
+tree_line (unread.TooDeep name) = name_fault_line name (codes " stands below 129 nodes")
 tree_line unread.OtherTree = line (codes "the nodes are not those of the tree of their entries")
 
 -- of a repository whose commit has this name
 abbrev pub repo_line : CidParts → RepoError → List ℕ
 repo_line name error.OutOfMemory = []
 repo_line name error.Missing = missing_line name
-repo_line name error.OtherBytes = name_line name (codes " other bytes")
-repo_line name (error.NoCommit e) = name_line name (codes " is no commit: " ++ variant_name e)
-repo_line name (error.OtherVersion n) = name_line name (codes " is a commit of version " ++ decimal n)
+repo_line name error.OtherBytes = name_fault_line name (codes " other bytes")
+repo_line name (error.NoCommit e) = name_fault_line name (codes " is no commit: " ++ variant_name e)
+repo_line name (error.OtherVersion n) =
+    name_fault_line name (codes " is a commit of version " ++ decimal n)
 repo_line name (error.Tree e) = tree_line e
 
 -- of a file of so many roots, which are not one

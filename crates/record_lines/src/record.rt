@@ -2,14 +2,14 @@
 
 ghost use Rattle.std.specs.Prelude.{List, ℕ, IfOk, IfSome};
 ghost use Rattle.ipld_links.specs.Reaching.{stored_in};
-ghost use Rattle.block_lines.specs.Lines.{told_line, SaysBoth};
+ghost use Rattle.block_lines.specs.Lines.{verdict_line, SaysBoth};
 ghost use Rattle.record_lines.specs.Records.{IsToldAlone, AreBytesSaid, IsBlockSaid};
 ghost use Rattle.record_lines.specs.Records.{IsSaidOfKey, IsRecordAt, IsRecordOf, IsRecord};
 
 use crate::repository::one_root;
 use crate::words::{repo_line, told_alone, tree_line};
 use atproto_mst::{find_record, stored_commit};
-use block_lines::{Answer, line_of, missing_line, say_both, shown, told_line};
+use block_lines::{Answer, line_of, missing_line, say_both, shown, verdict_line};
 use dagcbor_cli::ToolError;
 use held_lines::{Kept, held_of};
 use ipld_links::{Verdict, stored_bytes, verify};
@@ -21,9 +21,9 @@ use std::io::{BufRead, Write};
 /// What is told of a record's name, under which there are other bytes than it says.
 fn verdict_told(alloc: Global, name: &Cid, verdict: &Verdict) -> Result<Answer, AllocError>
     ensures { (bytes : List ℕ) → IfOk result (λ p.
-        IsToldAlone (told_line ((name.now, bytes), verdict.now)) p.0.1 p.0.0.items p.1.items) }
+        IsToldAlone (verdict_line ((name.now, bytes), verdict.now)) p.0.1 p.0.0.items p.1.items) }
 {
-    let (line, _well) = told_line(alloc, name, verdict)?;
+    let (line, _well) = verdict_line(alloc, name, verdict)?;
     Ok(told_alone(alloc, line))
 }
 

@@ -1,7 +1,7 @@
 //! Why a repository is not read, in a line.
 
 ghost use Rattle.std.specs.Prelude.{◌≡◌, ◌++◌, codes, decimal, IfOk};
-ghost use Rattle.record_lines.specs.Words.{IsOfTree, IsOfRepo, name_line, tree_line, repo_line, roots_line};
+ghost use Rattle.record_lines.specs.Words.{IsOfTree, IsOfRepo, name_fault_line, tree_line, repo_line, roots_line};
 ghost use Rattle.record_lines.specs.Records.{IsToldAlone};
 
 use atproto_mst::{MstError, RepoError};
@@ -18,9 +18,9 @@ pub fn told_alone(alloc: Global, line: Vec<u8>) -> Answer
     ((Vec::new(alloc), false), line)
 }
 
-/// A name, and what is told of it.
-fn name_line(alloc: Global, name: &Cid, words: &[u8]) -> Result<Vec<u8>, AllocError>
-    ensures { IfOk result (λ v. v.items ≡ name_line name.now words.now) }
+/// A name, and what is wrong with it.
+fn name_fault_line(alloc: Global, name: &Cid, words: &[u8]) -> Result<Vec<u8>, AllocError>
+    ensures { IfOk result (λ v. v.items ≡ name_fault_line name.now words.now) }
 {
     line_of(alloc, &cid_text(name), words, b"")
 }
@@ -38,9 +38,9 @@ pub fn tree_line(alloc: Global, error: &MstError) -> Result<Vec<u8>, AllocError>
             line_of(alloc, words, b"", b"")
         }
         MstError::MissingNode(name) => missing_line(alloc, name),
-        MstError::OtherBytes(name) => name_line(alloc, name, b" other bytes"),
-        MstError::NoNode(name) => name_line(alloc, name, b" is no node"),
-        MstError::TooDeep(name) => name_line(alloc, name, b" stands below 129 nodes"),
+        MstError::OtherBytes(name) => name_fault_line(alloc, name, b" other bytes"),
+        MstError::NoNode(name) => name_fault_line(alloc, name, b" is no node"),
+        MstError::TooDeep(name) => name_fault_line(alloc, name, b" stands below 129 nodes"),
         MstError::OtherTree => {
             let words = b"the nodes are not those of the tree of their entries";
             line_of(alloc, words, b"", b"")
@@ -51,10 +51,11 @@ pub fn tree_line(alloc: Global, error: &MstError) -> Result<Vec<u8>, AllocError>
 /// A name, and of which version the commit is.
 fn version_line(alloc: Global, name: &Cid, version: u8) -> Result<Vec<u8>, AllocError>
     ensures { IfOk result
-        (λ v. v.items ≡ name_line name.now (codes " is a commit of version " ++ decimal version)) }
+        (λ v. v.items
+        ≡ name_fault_line name.now (codes " is a commit of version " ++ decimal version)) }
 {
     let words = format!(in alloc; " is a commit of version {version}")?;
-    name_line(alloc, name, words.as_bytes())
+    name_fault_line(alloc, name, words.as_bytes())
 }
 
 /// Why the repository is not read whose commit has this name. Want of memory is none of the causes.
@@ -64,7 +65,7 @@ pub fn repo_line(alloc: Global, name: &Cid, error: &RepoError) -> Result<Vec<u8>
     match error {
         RepoError::OutOfMemory => Err(AllocError),
         RepoError::Missing => missing_line(alloc, name),
-        RepoError::OtherBytes => name_line(alloc, name, b" other bytes"),
+        RepoError::OtherBytes => name_fault_line(alloc, name, b" other bytes"),
         RepoError::NoCommit(cause) => {
             let cause = variant_name(cause);
             line_of(alloc, &cid_text(name), b" is no commit: ", cause.as_bytes())

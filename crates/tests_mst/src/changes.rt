@@ -100,7 +100,7 @@ const OLD: &[(u32, u32)] = &[
     (39, 39),
 ];
 
-/// The same of other entries.
+/// Each key and its record, of entries that differ from `OLD` in some.
 const NEW: &[(u32, u32)] = &[
     (3, 103),
     (4, 4),

@@ -3,7 +3,7 @@ use Rattle.std.proofs.Common.{◌≡◌, ◌+◌, [], ◌∷◌, ◌++◌, map, 
 use Rattle.std.proofs.lemmas.Result.{err_from_is_err_and, IfErr-weaker}
 use Rattle.ipld_tree.specs.Spelling.{spelling}
 use Rattle.ipld_links.specs.Names.{block_name}
-use Rattle.atproto_mst.specs.Trees.{lower_run, entry_trees, subtree, subtree_nodes, nodes, nodes_between, node_section, map_of}
+use Rattle.atproto_mst.specs.Trees.{lower_run, entry_trees, subtree, subtree_nodes, nodes, nodes_between, node_section, node_map}
 use Rattle.atproto_mst.specs.Nodes.{tree_of_row, row_told}
 use Rattle.atproto_mst.specs.Placed.{all_told}
 use Rattle.atproto_mst.specs.Sinks.{HandsOver, HandsOverFirst, RefusesOne}
@@ -31,10 +31,10 @@ name_node-returns-in_err-rows-clause-begun g t c =
 pub name_node-returns-clause-begun : goal.name_node-returns-clause-begun
 name_node-returns-clause-begun g t c =
     IfErr-weaker c.hand_over.result
-    (λ _. HandsOverFirst g.S.NodeSink.holds c.name_rows.new.sink (node_section (map_of (map tree_of_row (map row_told c.in_ok-rows.rows.items)) c.in_ok-left.left) ∷ []) c.hand_over.new.sink)
+    (λ _. HandsOverFirst g.S.NodeSink.holds c.name_rows.new.sink (node_section (node_map (map tree_of_row (map row_told c.in_ok-rows.rows.items)) c.in_ok-left.left) ∷ []) c.hand_over.new.sink)
     (λ _. HandsOverFirst g.S.NodeSink.holds c.args.sink.now (nodes c.args.layer (all_told c.args.leaves.now)) c.hand_over.new.sink)
     (λ e h. last_begun g.S.NodeSink.holds c.args.sink.now c.name_subtree.new.sink c.name_rows.new.sink c.hand_over.new.sink c.args.layer (all_told c.args.leaves.now) (all_told c.split_lower.result.0.now) (all_told c.split_lower.result.1.now)
-    (map_of (map tree_of_row (map row_told c.in_ok-rows.rows.items)) c.in_ok-left.left) c.split_lower.ensures.lower c.split_lower.ensures.rest
+    (node_map (map tree_of_row (map row_told c.in_ok-rows.rows.items)) c.in_ok-left.left) c.split_lower.ensures.lower c.split_lower.ensures.rest
     (node_made c.args.layer (all_told c.args.leaves.now) (all_told c.split_lower.result.0.now) (all_told c.split_lower.result.1.now) c.in_ok-left.left c.in_ok-rows.rows.items c.split_lower.ensures.lower c.split_lower.ensures.rest c.in_ok-left.ensures.name c.in_ok-rows.ensures.rows)
     c.in_ok-left.ensures.taken c.in_ok-rows.ensures.taken h)
     c.hand_over.ensures.begun
@@ -93,7 +93,7 @@ pub name_node-returns-clause-taken : goal.name_node-returns-clause-taken
 name_node-returns-clause-taken g t c =
     on_ok_more c.hand_over.result
     (node_taken g.S.NodeSink.holds c.args.sink.now c.name_subtree.new.sink c.name_rows.new.sink c.hand_over.new.sink c.args.layer (all_told c.args.leaves.now) (all_told c.split_lower.result.0.now) (all_told c.split_lower.result.1.now)
-    (map_of (map tree_of_row (map row_told c.in_ok-rows.rows.items)) c.in_ok-left.left) c.split_lower.ensures.lower c.split_lower.ensures.rest
+    (node_map (map tree_of_row (map row_told c.in_ok-rows.rows.items)) c.in_ok-left.left) c.split_lower.ensures.lower c.split_lower.ensures.rest
     (node_made c.args.layer (all_told c.args.leaves.now) (all_told c.split_lower.result.0.now) (all_told c.split_lower.result.1.now) c.in_ok-left.left c.in_ok-rows.rows.items c.split_lower.ensures.lower c.split_lower.ensures.rest c.in_ok-left.ensures.name c.in_ok-rows.ensures.rows)
     c.in_ok-left.ensures.taken c.in_ok-rows.ensures.taken)
     c.hand_over.ensures.taken
@@ -101,10 +101,10 @@ name_node-returns-clause-taken g t c =
 pub name_node-returns-clause-refused : goal.name_node-returns-clause-refused
 name_node-returns-clause-refused g t c =
     IfErr-weaker c.hand_over.result
-    (RefusesOne g.S.NodeSink.holds g.S.NodeSink.refuses c.name_rows.new.sink (node_section (map_of (map tree_of_row (map row_told c.in_ok-rows.rows.items)) c.in_ok-left.left) ∷ []))
+    (RefusesOne g.S.NodeSink.holds g.S.NodeSink.refuses c.name_rows.new.sink (node_section (node_map (map tree_of_row (map row_told c.in_ok-rows.rows.items)) c.in_ok-left.left) ∷ []))
     (RefusesOne g.S.NodeSink.holds g.S.NodeSink.refuses c.args.sink.now (nodes c.args.layer (all_told c.args.leaves.now)))
     (λ e h. last_refused g.S.NodeSink.holds g.S.NodeSink.refuses c.args.sink.now c.name_subtree.new.sink c.name_rows.new.sink c.args.layer (all_told c.args.leaves.now) (all_told c.split_lower.result.0.now) (all_told c.split_lower.result.1.now)
-    (map_of (map tree_of_row (map row_told c.in_ok-rows.rows.items)) c.in_ok-left.left) e c.split_lower.ensures.lower c.split_lower.ensures.rest
+    (node_map (map tree_of_row (map row_told c.in_ok-rows.rows.items)) c.in_ok-left.left) e c.split_lower.ensures.lower c.split_lower.ensures.rest
     (node_made c.args.layer (all_told c.args.leaves.now) (all_told c.split_lower.result.0.now) (all_told c.split_lower.result.1.now) c.in_ok-left.left c.in_ok-rows.rows.items c.split_lower.ensures.lower c.split_lower.ensures.rest c.in_ok-left.ensures.name c.in_ok-rows.ensures.rows)
     c.in_ok-left.ensures.taken c.in_ok-rows.ensures.taken h)
     c.hand_over.ensures.refused

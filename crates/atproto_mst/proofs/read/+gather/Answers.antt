@@ -4,7 +4,7 @@ use Rattle.ipld_links.specs.Reaching.{stored_in}
 use Rattle.atproto_mst.specs.Entries.{entries}
 use Rattle.atproto_mst.specs.Nodes.{row_told, node_told}
 use Rattle.atproto_mst.specs.Walks.{WalksTree, WalksLink, WalksRows}
-use Rattle.atproto_mst.specs.Stops.{StopsWalk, StopsInRows, last_key}
+use Rattle.atproto_mst.specs.Stops.{StopsWalk, StopsInRows, last_entry_key}
 use Rattle.atproto_mst.specs.Gathering.{GathersEntries, key_behind}
 use Rattle.atproto_mst.specs.InLayers.{IsRightBelow}
 use Rattle.atproto_mst.proofs.Gathering.{GoesOn, SettledBy, or_more, both, all_three, gathers_no_link, gathers_node, stops_in_node, gathers_named, stops_named, no_node, below_decided, row_next, no_row_left, stops_at_row, stops_behind_row, goes_behind_row, goes_to_end, key_kept, still_there, settled_behind_row}
@@ -14,14 +14,14 @@ pub gather-returns-in_err-node-clause-stopped : goal.gather-returns-in_err-node-
 gather-returns-in_err-node-clause-stopped t c =
     let p = err_from_is_err_and c.from_residual.result c.from_residual.ensures.1 in
     let layers : suc c.in-Some.lower ≡ c.args.layers = omega (arith, c.in-Some.ensures) in
-    rw (p.1, p.2) (no_node (stored_in c.args.blocks.now) c.args.name.now c.in-Some.lower c.args.layers layers (last_key [] (entries c.args.found.now.items)) c.in_err-node.field-0.0 c.in_err-node.ensures)
+    rw (p.1, p.2) (no_node (stored_in c.args.blocks.now) c.args.name.now c.in-Some.lower c.args.layers layers (last_entry_key [] (entries c.args.found.now.items)) c.in_err-node.field-0.0 c.in_err-node.ensures)
 
 pub gather-returns-in_err-fits-clause-stopped : goal.gather-returns-in_err-fits-clause-stopped
 gather-returns-in_err-fits-clause-stopped t c =
     let p = err_from_is_err_and c.from_residual-in_err-fits.result c.from_residual-in_err-fits.ensures.1 in
     let layers : suc c.in-Some.lower ≡ c.args.layers = omega (arith, c.in-Some.ensures) in
     rw (p.1, p.2) (or_more (stops_named (stored_in c.args.blocks.now) c.args.name.now c.in-Some.lower c.args.layers (node_told c.in_ok-node.node) c.in_ok-node.ensures layers
-    (last_key [] (entries c.args.found.now.items)) c.in_err-fits.field-0.0) c.in_err-fits.ensures.stopped)
+    (last_entry_key [] (entries c.args.found.now.items)) c.in_err-fits.field-0.0) c.in_err-fits.ensures.stopped)
 
 pub gather-returns-clause-walked : goal.gather-returns-clause-walked
 gather-returns-clause-walked t c =
@@ -43,7 +43,7 @@ gather_node-returns-in_err-rows-clause-stopped t c =
     let W = WalksTree c.args.layers (stored_in c.args.blocks.now) in
     let S = StopsWalk c.args.layers (stored_in c.args.blocks.now) in
     rw (p.1, p.2) (or_more (λ h. stops_in_node (stored_in c.args.blocks.now) c.args.layers (node_told c.args.node.now) c.args.found.now c.gather_below.new.found c.in_ok-left.ensures.walked c.in_err-rows.field-0.0
-    (subst (λ rows. StopsInRows W S (last_key [] (entries c.gather_below.new.found.items)) [] (map row_told rows) c.in_err-rows.field-0.0) c.deref.ensures.value h)) c.in_err-rows.ensures.stopped)
+    (subst (λ rows. StopsInRows W S (last_entry_key [] (entries c.gather_below.new.found.items)) [] (map row_told rows) c.in_err-rows.field-0.0) c.deref.ensures.value h)) c.in_err-rows.ensures.stopped)
 
 pub gather_node-returns-clause-walked : goal.gather_node-returns-clause-walked
 gather_node-returns-clause-walked t c =

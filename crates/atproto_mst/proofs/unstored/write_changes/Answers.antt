@@ -3,7 +3,7 @@ use Rattle.std.proofs.lemmas.Result.{IfErr-weaker}
 use Rattle.ipld_links.specs.Reaching.{stored_in}
 use Rattle.atproto_mst.specs.Trees.{nodes_of}
 use Rattle.atproto_mst.specs.Entries.{entries, EntriesRefused}
-use Rattle.atproto_mst.specs.Keys.{AreEntries}
+use Rattle.atproto_mst.specs.Keys.{AreMstEntries}
 use Rattle.atproto_mst.specs.Sinks.{HandsOverFirst, RefusesOne, not_stored}
 use Rattle.atproto_mst.proofs.Building.{on_ok_more}
 use Rattle.atproto_mst.proofs.Keeping.{among_kept, kept_of_both}
@@ -17,7 +17,7 @@ returns-clause-taken g c = on_ok_more c.write_mst-root.result
 pub returns-clause-refused : goal.returns-clause-refused
 returns-clause-refused g c = IfErr-weaker c.write_mst-root.result _
     (λ e. (EntriesRefused e (entries c.args.all.now) × (c.write_mst-root.new.sink.sink ≡ c.args.sink))
-    ⊎ (AreEntries (entries c.args.all.now) × RefusesOne g.S.NodeSink.holds g.S.NodeSink.refuses c.args.sink (not_stored (stored_in c.args.blocks.now) (nodes_of (entries c.args.all.now))) e))
+    ⊎ (AreMstEntries (entries c.args.all.now) × RefusesOne g.S.NodeSink.holds g.S.NodeSink.refuses c.args.sink (not_stored (stored_in c.args.blocks.now) (nodes_of (entries c.args.all.now))) e))
     (λ e h. elim h [
       | inl r ↦ inl (r.0, ap (λ s. s.sink) r.1)
       | inr k ↦ inr (

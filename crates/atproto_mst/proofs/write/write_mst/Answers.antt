@@ -2,7 +2,7 @@ use Rattle.std.proofs.Common.{◌≡◌, ap, ◌∙◌, subst, IfOk, OnOk, IfErr
 use Rattle.std.proofs.lemmas.Result.{IfErr-weaker}
 use Rattle.ipld_tree.specs.Spelling.{spelling}
 use Rattle.ipld_links.specs.Names.{block_name}
-use Rattle.atproto_mst.specs.Keys.{AreEntries}
+use Rattle.atproto_mst.specs.Keys.{AreMstEntries}
 use Rattle.atproto_mst.specs.Trees.{nodes, top_layer, nodes_of}
 use Rattle.atproto_mst.specs.Placed.{all_told}
 use Rattle.atproto_mst.specs.Entries.{entries, EntriesRefused}
@@ -23,7 +23,7 @@ returns-clause-taken g c = subst (λ xs. OnOk c.name_node.result (HandsOver g.S.
 pub returns-clause-refused : goal.returns-clause-refused
 returns-clause-refused g c = IfErr-weaker c.name_node.result
     (RefusesOne g.S.NodeSink.holds g.S.NodeSink.refuses c.args.sink.now (nodes c.top_of.result (all_told c.deref.result.now)))
-    (λ e. (EntriesRefused e (entries c.args.all.now) × (c.name_node.new.sink ≡ c.args.sink.now)) ⊎ (AreEntries (entries c.args.all.now) × RefusesOne g.S.NodeSink.holds g.S.NodeSink.refuses c.args.sink.now (nodes_of (entries c.args.all.now)) e))
+    (λ e. (EntriesRefused e (entries c.args.all.now) × (c.name_node.new.sink ≡ c.args.sink.now)) ⊎ (AreMstEntries (entries c.args.all.now) × RefusesOne g.S.NodeSink.holds g.S.NodeSink.refuses c.args.sink.now (nodes_of (entries c.args.all.now)) e))
     (λ e h. inr (
       c.in_ok-check_entries.ensures,
       subst (λ xs. RefusesOne g.S.NodeSink.holds g.S.NodeSink.refuses c.args.sink.now xs e)

@@ -2,9 +2,9 @@ use Rattle.std.proofs.Common.{subst}
 use Rattle.dagcbor_paths.specs.Paths.{segments}
 use Rattle.block_lines.specs.Lines.{SaysBoth}
 use Rattle.held_lines.proofs.Known.{if_some}
-use Rattle.dagcar_lines.specs.Paths.{IsAnswer}
+use Rattle.dagcar_lines.specs.Paths.{IsAnswerOfFile}
 use Rattle.dagcar_lines.proofs.command.say_path.Goals as goal
 
 pub returns : goal.returns
 returns g c = if_some (g.R.Read.remaining c.args.input.now) c.write_asked.ensures (λ b h.
-    subst (λ path. SaysBoth (IsAnswer c.args.asked c.args.root.now (segments path) b) (g.W.Write.contents c.args.output.now) (g.V.Write.contents c.args.errors.now) c.write_asked.result (g.W.Write.contents c.write_asked.new.output) (g.V.Write.contents c.write_asked.new.errors)) c.split_path.ensures.path h)
+    subst (λ path. SaysBoth (IsAnswerOfFile c.args.asked c.args.root.now (segments path) b) (g.W.Write.contents c.args.output.now) (g.V.Write.contents c.args.errors.now) c.write_asked.result (g.W.Write.contents c.write_asked.new.output) (g.V.Write.contents c.write_asked.new.errors)) c.split_path.ensures.path h)

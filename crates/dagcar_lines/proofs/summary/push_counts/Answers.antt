@@ -1,17 +1,17 @@
 use Rattle.std.proofs.Common.{◌++◌, codes}
-use Rattle.dagcar_lines.specs.Summary.{count_line}
+use Rattle.dagcar_lines.specs.Summary.{number_line}
 use Rattle.dagcar_lines.proofs.Summing.{join, on_ok}
 use Rattle.dagcar_lines.proofs.summary.push_counts.Goals as goal
 
 pub returns : goal.returns
 returns c = on_ok c.push_count-7.result (λ last.
-    let l1 = count_line (codes "sections") c.args.counts.now.sections in
-    let l2 = count_line (codes "ok") c.args.counts.now.ok in
-    let l3 = count_line (codes "not read") c.args.counts.now.not_read in
-    let l4 = count_line (codes "refused") c.args.counts.now.refused in
-    let l5 = count_line (codes "other bytes") c.args.counts.now.other_bytes in
-    let l6 = count_line (codes "not verified") c.args.counts.now.unverified in
-    let l7 = count_line (codes "missing") c.args.missing in
+    let l1 = number_line (codes "sections") c.args.counts.now.sections in
+    let l2 = number_line (codes "ok") c.args.counts.now.ok in
+    let l3 = number_line (codes "not read") c.args.counts.now.not_read in
+    let l4 = number_line (codes "refused") c.args.counts.now.refused in
+    let l5 = number_line (codes "other bytes") c.args.counts.now.other_bytes in
+    let l6 = number_line (codes "not verified") c.args.counts.now.unverified in
+    let l7 = number_line (codes "missing") c.args.missing in
     let k6 = join c.push_count-5.new.out.items c.push_count-6.new.out.items c.push_count-7.new.out.items l6 l7 c.in_ok-push_count-6.ensures last in
     let k5 = join c.push_count-4.new.out.items c.push_count-5.new.out.items c.push_count-7.new.out.items l5 (l6 ++ l7) c.in_ok-push_count-5.ensures k6 in
     let k4 = join c.push_count-3.new.out.items c.push_count-4.new.out.items c.push_count-7.new.out.items l4 (l5 ++ (l6 ++ l7)) c.in_ok-push_count-4.ensures k5 in

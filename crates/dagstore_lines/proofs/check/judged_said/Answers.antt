@@ -3,16 +3,16 @@ use Rattle.dagstore_lines.proofs.check.judged_said.Goals as goal
 
 pub returns-then-not-is_dag_cbor-clause-said : goal.returns-then-not-is_dag_cbor-clause-said
 returns-then-not-is_dag_cbor-clause-said g c = λ named given.
-    unread_checked (g.S.Store.view c.args.store.now) (g.S.Store.view c.args.store.now) c.args.name.now c.args.block.now c.in_ok-told_line.field-0.0.items c.in_ok-told_line.field-0.1 c.in_ok-told_line.ensures.well (c.in_ok-told_line.ensures.line c.args.block.now) named
+    unread_checked (g.S.Store.view c.args.store.now) (g.S.Store.view c.args.store.now) c.args.name.now c.args.block.now c.in_ok-verdict_line.field-0.0.items c.in_ok-verdict_line.field-0.1 c.in_ok-verdict_line.ensures.well (c.in_ok-verdict_line.ensures.line c.args.block.now) named
     (rw c.if-not-is_dag_cbor.true at c.is_dag_cbor.ensures) (λ clean. (given clean).0)
 
-pub returns-in_ok-told_line-in-Ok-clause-said : goal.returns-in_ok-told_line-in-Ok-clause-said
-returns-in_ok-told_line-in-Ok-clause-said g c = λ named given.
-    block_checked (g.S.Store.view c.args.store.now) (g.S.Store.view c.add_lost.new.self) c.args.name.now c.args.block.now c.in_ok-told_line-in-Ok.field-0.0.items c.in-Ok.kind c.in_ok-told_line-in-Ok.field-0.1 c.in_ok-told_line-in-Ok.ensures.well
-    (c.in_ok-told_line-in-Ok.ensures.line c.args.block.now) named (rw c.if-not-is_dag_cbor.false at c.is_dag_cbor.ensures) c.in-Ok.ensures.kind (λ clean. (given clean).0)
+pub returns-in_ok-verdict_line-in-Ok-clause-said : goal.returns-in_ok-verdict_line-in-Ok-clause-said
+returns-in_ok-verdict_line-in-Ok-clause-said g c = λ named given.
+    block_checked (g.S.Store.view c.args.store.now) (g.S.Store.view c.add_lost.new.self) c.args.name.now c.args.block.now c.in_ok-verdict_line-in-Ok.field-0.0.items c.in-Ok.kind c.in_ok-verdict_line-in-Ok.field-0.1 c.in_ok-verdict_line-in-Ok.ensures.well
+    (c.in_ok-verdict_line-in-Ok.ensures.line c.args.block.now) named (rw c.if-not-is_dag_cbor.false at c.is_dag_cbor.ensures) c.in-Ok.ensures.kind (λ clean. (given clean).0)
 
-pub returns-in_ok-told_line-in-Ok-clause-missing : goal.returns-in_ok-told_line-in-Ok-clause-missing
-returns-in_ok-told_line-in-Ok-clause-missing g c = λ named clean only.
+pub returns-in_ok-verdict_line-in-Ok-clause-missing : goal.returns-in_ok-verdict_line-in-Ok-clause-missing
+returns-in_ok-verdict_line-in-Ok-clause-missing g c = λ named clean only.
     adds_block (g.S.Store.view c.args.store.now) c.args.name.now c.args.block.now c.args.missing.now c.add_lost.new.lost (rw c.if-not-is_dag_cbor.false at c.is_dag_cbor.ensures) only named (c.in_ok-add_lost-in-Ok.ensures.ok clean)
 
 pub returns-in_ok-damaged_said-in-Err-clause-said : goal.returns-in_ok-damaged_said-in-Err-clause-said

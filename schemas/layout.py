@@ -141,3 +141,30 @@ def split(head, words, close):
             some = []
         some.append(word)
     return made + [f"{head}{{{', '.join(some)}}}{close}"]
+
+
+def ghost(name, rows):
+    if len(rows) == 1:
+        return [f"    ghost {name} = {{ {rows[0]} }};"]
+    return [f"    ghost {name} = {{ {rows[0]}", *rows[1:-1], f"{rows[-1]} }};"]
+
+
+def pairs_of(rows, end="tt"):
+    """What the parts of a row mean, in pairs, before what stands at the end."""
+    flat = "".join(f"({row}, " for row in rows) + end + ")" * len(rows)
+    if len(flat) <= 74:
+        return [f"λ v. {flat}"]
+    made, indent = ["λ v. ("], 6
+    for place, row in enumerate(rows):
+        margin = " " * indent
+        rest = "".join(f"({other}, " for other in rows[place + 1 :]) + end + ")" * len(rows[place + 1 :])
+        made.append(f"{margin}{row},")
+        if place == len(rows) - 1 or len(margin + rest) + 1 <= 100:
+            made.append(f"{margin}{rest},")
+            break
+        made.append(f"{margin}(")
+        indent += 2
+    while indent > 6:
+        indent -= 2
+        made.append(" " * indent + "),")
+    return [*made, "    )"]

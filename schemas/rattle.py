@@ -2,9 +2,10 @@
 
 import re
 
-from schemas.law import RESERVED, field_name, held_by, parts, path_name, snake
-from schemas.layout import INSIDE_STRUCT, SHORT_IF, WIDTH, Group, arm, block_arm, filled, lines, split, typed
+from schemas.law import MOST_FIELDS, RESERVED, field_name, held_by, parts, path_name, snake
+from schemas.layout import INSIDE_STRUCT, SHORT_IF, WIDTH, Group, arm, block_arm, filled, ghost, lines, pairs_of, split, typed
 from schemas.parsing import Alias, Enum, Int, Leaf, Link, ListOf, MapOf, Member, Named, Nullable, Struct, Union, Unit
+from schemas.rests import Rest, rest_name
 
 LEAVES = {
     # its type, what it is read as, its shape, its tree and its meaning
@@ -520,7 +521,7 @@ class Module:
         schema = [word for word in SCHEMA_WORDS if word in words]
         if schema:
             made += filled("use dagcbor_schema::", schema, ";")
-        library = """Accessor Bytes Cid Closed DecodeError Deserialize DeserializeOwned Deserializer EnumAccessor Field Ipld Omissible
+        library = """Accessor Bytes Cid Closed DecodeError Deserialize DeserializeOwned Deserializer EnumAccessor Field Fields Ipld Omissible
             Optional Read ReadResult Required Serialize Serializer Shown Variants Write WriteResult read_enum read_struct read_tuple
             write_struct""".split()
         made += filled("use serde_ipld_dagcbor::", [word for word in library if word in words], ";")
@@ -590,12 +591,17 @@ class Module:
         for field, kind in kinds:
             if field.implicit is not None:
                 write += self.unless_implied(field, kind)
-        write.append("        let row = ();")
-        for field, _ in reversed(sorted_kinds):
+        row = []
+        for field, _ in sorted_kinds:
             form = "Optional" if may_lack(field) else "Field"
             held = field_name(field.name) if field.implicit is not None else f"self.{field_name(field.name)}"
-            part = Group(f"{form}(", [f'"{field.key}"', f"&{held}"], ")")
-            write += lines(Group("let row = (", [part, "row"], ")"), 8, ";")
+            row.append(Group(f"{form}(", [f'"{field.key}"', f"&{held}"], ")"))
+        if len(row) > MOST_FIELDS:
+            write += lines(Group("let row = (", halves(row), ")"), 8, ";")
+        else:
+            write.append("        let row = ();")
+            for part in reversed(row):
+                write += lines(Group("let row = (", [part, "row"], ")"), 8, ";")
         write.append("        write_struct(alloc, row, ser)")
         names = Group("let names = &[", [f'"{field.key}"' for field, _ in kinds], "]")
         end = "()" if struct.open else "Closed"
@@ -607,7 +613,13 @@ class Module:
             read += lines(Group("read_struct(", call, ")"), 8)
             return made + self.implied_impls(struct, kinds, end, read)
         read += lines(Group("let row = read_struct(", call, ")?"), 8, ";")
-        read += self.row_apart(kinds, end)
+        in_parts = self.schema.row_parts(struct)
+        if len(in_parts) > 1:
+            rest = Rest(self, struct, 1, in_parts)
+            made += rest.items()
+            read += self.row_apart(kinds[: len(in_parts[0])], rest_name(struct)) + rest.apart()
+        else:
+            read += self.row_apart(kinds, end)
         read += lines(self.literal(struct), 8)
         return made + self.deserialize_impl(struct, read)
 
@@ -1485,12 +1497,6 @@ def case_word(union, case):
     return f"{snake(union.name)}_is_{snake(case.name)}"
 
 
-def ghost(name, rows):
-    if len(rows) == 1:
-        return [f"    ghost {name} = {{ {rows[0]} }};"]
-    return [f"    ghost {name} = {{ {rows[0]}", *rows[1:-1], f"{rows[-1]} }};"]
-
-
 def ghost_rows(head, rows, end):
     """A row of parts, of which some open a parenthesis that is closed at the end."""
     if not rows:
@@ -1508,25 +1514,10 @@ def matched(word, arms):
     return [*head, *(f"{margin}    {arm}" for arm in arms), f"{margin}}};"]
 
 
-def pairs_of(rows):
-    """What the parts of a row mean, in pairs."""
-    flat = "".join(f"({row}, " for row in rows) + "tt" + ")" * len(rows)
-    if len(flat) <= 74:
-        return [f"λ v. {flat}"]
-    made, indent = ["λ v. ("], 6
-    for place, row in enumerate(rows):
-        margin = " " * indent
-        rest = "".join(f"({other}, " for other in rows[place + 1 :]) + "tt" + ")" * len(rows[place + 1 :])
-        made.append(f"{margin}{row},")
-        if place == len(rows) - 1 or len(margin + rest) + 1 <= 100:
-            made.append(f"{margin}{rest},")
-            break
-        made.append(f"{margin}(")
-        indent += 2
-    while indent > 6:
-        indent -= 2
-        made.append(" " * indent + "),")
-    return [*made, "    )"]
+def halves(fields):
+    """The two halves of a row that is written, and those of each."""
+    middle = len(fields) // 2
+    return [part[0] if len(part) == 1 else Group("(", halves(part), ")") for part in (fields[:middle], fields[middle:])]
 
 
 def cases_of(rows):

@@ -87,6 +87,41 @@ LEDGER = {
     "extra": -(2**64),
     "rest": {"any": [None, True]},
 }
+# The fields of an observation that must be there, and the others.
+HOUR = {
+    "station": "10513",
+    "site": [50864, 7157],
+    "operator": None,
+    "country": "DE",
+    "elevation": -92,
+    "started": 2**64 - 1,
+    "previous": None,
+    "corrected": False,
+    "temperature": -2**15,
+    "soilTemperatures": [-3, 0, 24],
+    "dewPoint": None,
+    "humidity": 255,
+    "pressure": 101325,
+    "windSpeed": 23,
+    "sky": "Hidden",
+    "cloudLayers": ["low", ""],
+    "rainMinutes": [0, 23, 24, 255],
+    "gases": {"o3": 61, "co2": 2**32 - 1},
+    "faults": {},
+    "signature": b"\x00\xff",
+}
+HOUR_MORE = {
+    "name": "Bonn",
+    "zone": None,
+    "temperatureLow": -5,
+    "groundTemperature": None,
+    "gust": 0,
+    "weatherPast": [],
+    "snowNew": 255,
+    "particles": {"": 0},
+    "photograph": CID,
+    "remarks": "none",
+}
 
 BLOCKS = {
     "album": {
@@ -201,6 +236,21 @@ BLOCKS = {
         "LEDGER_LONG_POINT": {**LEDGER, "figures": {**FIGURES, "route": [[1, 2, 3]]}},
         "LEDGER_SHORT_POINT": {**LEDGER, "figures": {**FIGURES, "route": [[1]]}},
         "LEDGER_MAP_POINT": {**LEDGER, "figures": {**FIGURES, "route": [{"x": 1, "y": 2}]}},
+    },
+    "wide": {
+        "HOUR": HOUR,
+        "HOUR_FULL": {**HOUR, **HOUR_MORE},
+        "HOUR_HALF": {**HOUR, **dict(list(HOUR_MORE.items())[::2])},
+        "HOUR_NO_STATION": {key: value for key, value in HOUR.items() if key != "station"},
+        "HOUR_NO_PRESSURE": {key: value for key, value in HOUR.items() if key != "pressure"},
+        "HOUR_UNSIGNED": {key: value for key, value in HOUR.items() if key != "signature"},
+        "HOUR_OTHER": {**HOUR, "wind": 1},
+        "HOUR_BEHIND": {**HOUR, "temperatureOfTheGround": 1},
+        "HOUR_NULL_NAME": {**HOUR, "name": None},
+        "HOUR_NULL_REMARKS": {**HOUR, "remarks": None},
+        "HOUR_COLD": {**HOUR, "temperature": -(2**15) - 1},
+        "HOUR_SIGNED_TEXT": {**HOUR, "signature": "ab"},
+        "HOUR_LIST": [HOUR],
     },
 }
 

@@ -34,7 +34,7 @@ WORDS = {
     "Rattle.dagcbor_schema.specs.declared.by_kind.ByKind": "ByKind",
     "Rattle.dagcbor_schema.specs.Envelopes": "envelope_of",
     "Rattle.dagcbor_schema.specs.Implied": "implied unless_implied",
-    "Rattle.dagcbor_schema.specs.Pairs": "pair_of named",
+    "Rattle.dagcbor_schema.specs.Pairs": "text_and_value named",
     "Rattle.dagcbor_schema.specs.Parts": "optional_part",
     "Rattle.dagcbor_schema.specs.Members": "there absent",
 }
@@ -220,7 +220,7 @@ class Module:
             end, whole = "no_more", "list_of ("
             said = "a list of " + listed([field.name for field, _ in kinds])
         elif struct.representation == "listpairs":
-            rows = [f"first_then (pair_of {wrapped(self.shape(kind))}) (" for _, kind in kinds]
+            rows = [f"first_then (text_and_value {wrapped(self.shape(kind))}) (" for _, kind in kinds]
             end, whole = "no_more", "list_of ("
             said = "a list of pairs, of " + listed([field.name for field, _ in kinds])
         else:

@@ -20,7 +20,7 @@ use Rattle.std.specs.declared.borrow.CowStr.{CowStr}
 use Rattle.dagcbor_read.specs.declared.access.enum_accessor.EnumAccessor.{EnumAccessor}
 use Rattle.dagcbor_read.specs.Enums.{EnumState, enum_state, SpendsEnum, ReadsName, BeginsHeld}
 use Rattle.dagcbor_read.specs.Collections.{FieldShape, TakesRow}
-use Rattle.dagcbor_read.specs.Parts.{HandsWholeOn, IsStart, IsNoEnd, IsFurther, RefusesFurther, RefusesAsOr, RefusesEntry, RefusesFieldsAs, IfRefused, FillsAs, IsMissingField, Says, RefusesRest, RefusesListAs, RefusesEnumAs, RefusesHeldFields}
+use Rattle.dagcbor_read.specs.Parts.{HandsWholeOn, IsStart, IsNoEnd, IsFurther, RefusesFurther, RefusesAsOr, RefusesEntry, RefusesFieldsAs, IfRefused, FillsAs, IsMissingField, HasMessage, RefusesRest, RefusesListAs, RefusesEnumAs, RefusesHeldFields}
 use Rattle.dagcbor_read.proofs.Answered.{KeyRead}
 use Rattle.dagcbor_read.proofs.EntryRows.{FieldsSoFar, no_more_fields}
 use Rattle.dagcbor_read.proofs.ItemRows.{ReadSoFar, no_more_items}
@@ -80,8 +80,8 @@ further_both {a} {b} {c} h k = record {
 pub no_further : {old now : DeState} → now.failed ≡ false → now.input ≡ old.input → IsFurther old now
 no_further {old} {now} sound same = record { sound = sound; passed = λ b l. ([], b, refl, ap (λ (r : Reading). r.left) same ∙ l) }
 
-pub says : {E : Type 0} {e : DecodeError E} {message : List ℕ} → (kept : Name) × (e ≡ Msg kept) × Names kept message → Says message e
-says {E} {e} {message} h = subst (λ (x : DecodeError E). Says message x) (sym h.1) h.2
+pub says : {E : Type 0} {e : DecodeError E} {message : List ℕ} → (kept : Name) × (e ≡ Msg kept) × Names kept message → HasMessage message e
+says {E} {e} {message} h = subst (λ (x : DecodeError E). HasMessage message x) (sym h.1) h.2
 
 pub front_further : {V : Type 0} {shape : Shape Tree V} {old now : DeState} {v : V} → now.failed ≡ false → TakesFront shape old.input v now.input → IsFurther old now
 front_further sound h = record { sound = sound; passed = λ b l. let q = h.taken b l in (spelling q.0, q.1, q.2.is, q.5) }

@@ -13,7 +13,7 @@ use Rattle.std.specs.Ordering.{match_ordering}
 use Rattle.std.specs.String.{string_eq_equiv}
 use Rattle.ipld_tree.specs.Key.{key_cmp}
 use Rattle.ipld_tree.proofs.Ordered.{key_cmp_total, same_place, same_place_flips}
-use Rattle.dagcbor_read.specs.Collections.{in_key_order, text_pairs}
+use Rattle.dagcbor_read.specs.Collections.{in_key_order, held_pairs}
 use Rattle.ipld_tree.proofs.KeyOrder.{same_key}
 use Rattle.dagcbor_read.proofs.KeyPlaces.{put_again, put_apart}
 
@@ -72,46 +72,46 @@ apart k l e = by (same_place (string_bytes k) (string_bytes l)) refl
         sym tied ∙ e
 
 module _ {A V : Type 0} (meaning : A → V) where
-  apart_all : (k : String Global) (es : List (String Global × A)) → AllByRecursion (λ l. string_eq k l ≡ false) (keys_of es) → AllByRecursion (λ l. same_place (string_bytes k) l ≡ false) (keys_of (text_pairs meaning es))
+  apart_all : (k : String Global) (es : List (String Global × A)) → AllByRecursion (λ l. string_eq k l ≡ false) (keys_of es) → AllByRecursion (λ l. same_place (string_bytes k) l ≡ false) (keys_of (held_pairs meaning es))
   apart_all k [] h = tt
   apart_all k (e ∷ es) h = (apart k e.0 h.0, apart_all k es h.1)
 
-  texts_distinct : (es : List (String Global × A)) → IsDistinct string_eq (keys_of es) → IsDistinct same_place (keys_of (text_pairs meaning es))
+  texts_distinct : (es : List (String Global × A)) → IsDistinct string_eq (keys_of es) → IsDistinct same_place (keys_of (held_pairs meaning es))
   unfolding IsDistinct
   texts_distinct [] d = tt
   texts_distinct (e ∷ es) d = (apart_all e.0 es d.0, texts_distinct es d.1)
 
   -- a new key of a hashed map
   pub put_new : (es new : List (String Global × A)) (k : String Global) (v : A) → IsDistinct string_eq (keys_of new) → IsPermutation ((k, v) ∷ es) new
-      → in_key_order (text_pairs meaning new) ≡ insert_entry key_cmp (in_key_order (text_pairs meaning es)) (string_bytes k) (meaning v)
+      → in_key_order (held_pairs meaning new) ≡ insert_entry key_cmp (in_key_order (held_pairs meaning es)) (string_bytes k) (meaning v)
   put_new es new k v d m =
       let f : String Global × A → List ℕ × V = λ e. (string_bytes e.0, meaning e.1) in
       let back = IsPermutation-map f new ((k, v) ∷ es) (IsPermutation-sym ((k, v) ∷ es) new m) in
       let distinct = texts_distinct new d in
-      let keys = IsPermutation-map (λ (p : List ℕ × V). p.0) (text_pairs meaning new) (text_pairs meaning ((k, v) ∷ es)) back in
-      order_moved (text_pairs meaning new) (text_pairs meaning ((k, v) ∷ es)) distinct
-      (IsDistinct-IsPermutation same_place same_place_flips (keys_of (text_pairs meaning new)) (keys_of (text_pairs meaning ((k, v) ∷ es))) keys distinct) back
+      let keys = IsPermutation-map (λ (p : List ℕ × V). p.0) (held_pairs meaning new) (held_pairs meaning ((k, v) ∷ es)) back in
+      order_moved (held_pairs meaning new) (held_pairs meaning ((k, v) ∷ es)) distinct
+      (IsDistinct-IsPermutation same_place same_place_flips (keys_of (held_pairs meaning new)) (keys_of (held_pairs meaning ((k, v) ∷ es))) keys distinct) back
 
   -- a key that a hashed map has
   pub put_known : (es : List (String Global × A)) (k : String Global) (v w : A) → lookup (string_eq k) es ≡ Some w
-      → in_key_order (text_pairs meaning (set_value (string_eq k) es v)) ≡ insert_entry key_cmp (in_key_order (text_pairs meaning es)) (string_bytes k) (meaning v)
+      → in_key_order (held_pairs meaning (set_value (string_eq k) es v)) ≡ insert_entry key_cmp (in_key_order (held_pairs meaning es)) (string_bytes k) (meaning v)
   put_known [] k v w e = absurd (cc e)
   put_known (e ∷ es) k v w found = by (λ g. put_known es k v w g) (string_eq k e.0) refl found
     where
-      by : (lookup (string_eq k) es ≡ Some w → in_key_order (text_pairs meaning (set_value (string_eq k) es v)) ≡ insert_entry key_cmp (in_key_order (text_pairs meaning es)) (string_bytes k) (meaning v))
+      by : (lookup (string_eq k) es ≡ Some w → in_key_order (held_pairs meaning (set_value (string_eq k) es v)) ≡ insert_entry key_cmp (in_key_order (held_pairs meaning es)) (string_bytes k) (meaning v))
           → (b : Bool) → string_eq k e.0 ≡ b → cond b (Some e.1) (lookup (string_eq k) es) ≡ Some w
-          → in_key_order (text_pairs meaning (cond b ((e.0, v) ∷ es) (e ∷ set_value (string_eq k) es v))) ≡ insert_entry key_cmp (insert_entry key_cmp (in_key_order (text_pairs meaning es)) (string_bytes e.0) (meaning e.1)) (string_bytes k) (meaning v)
+          → in_key_order (held_pairs meaning (cond b ((e.0, v) ∷ es) (e ∷ set_value (string_eq k) es v))) ≡ insert_entry key_cmp (insert_entry key_cmp (in_key_order (held_pairs meaning es)) (string_bytes e.0) (meaning e.1)) (string_bytes k) (meaning v)
       by more true h f =
           let is : string_bytes k ≡ string_bytes e.0 = (bytes_decides (string_bytes k) (string_bytes e.0)).0 h in
-          sym (put_again (string_bytes e.0) (meaning v) (meaning e.1) (in_key_order (text_pairs meaning es)))
-          ∙ ap (λ x. insert_entry key_cmp (insert_entry key_cmp (in_key_order (text_pairs meaning es)) (string_bytes e.0) (meaning e.1)) x (meaning v)) (sym is)
+          sym (put_again (string_bytes e.0) (meaning v) (meaning e.1) (in_key_order (held_pairs meaning es)))
+          ∙ ap (λ x. insert_entry key_cmp (insert_entry key_cmp (in_key_order (held_pairs meaning es)) (string_bytes e.0) (meaning e.1)) x (meaning v)) (sym is)
       by more false h f =
           ap (λ qs. insert_entry key_cmp qs (string_bytes e.0) (meaning e.1)) (more f)
-          ∙ sym (put_apart (string_bytes k) (string_bytes e.0) (meaning v) (meaning e.1) (in_key_order (text_pairs meaning es))
+          ∙ sym (put_apart (string_bytes k) (string_bytes e.0) (meaning v) (meaning e.1) (in_key_order (held_pairs meaning es))
           (λ is. let both : true ≡ false = sym (sym (ap (pointwise nat_eq (string_bytes k)) is) ∙ string_eq_equiv.refl k) ∙ h in absurd (cc both)))
 
   -- a value that goes to its key in a hashed map
   pub put_hashed : (es new : List (String Global × A)) (k : String Global) (v : A) (o : Option A) → o ≡ lookup (string_eq k) es → MatchOption o (IsPermutation ((k, v) ∷ es) new) (λ _. new ≡ set_value (string_eq k) es v) → IsDistinct string_eq (keys_of new)
-      → in_key_order (text_pairs meaning new) ≡ insert_entry key_cmp (in_key_order (text_pairs meaning es)) (string_bytes k) (meaning v)
+      → in_key_order (held_pairs meaning new) ≡ insert_entry key_cmp (in_key_order (held_pairs meaning es)) (string_bytes k) (meaning v)
   put_hashed es new k v None e h d = put_new es new k v d h
-  put_hashed es new k v (Some w) e h d = ap (λ fs. in_key_order (text_pairs meaning fs)) h ∙ put_known es k v w (sym e)
+  put_hashed es new k v (Some w) e h d = ap (λ fs. in_key_order (held_pairs meaning fs)) h ∙ put_known es k v w (sym e)

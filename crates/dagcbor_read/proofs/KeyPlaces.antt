@@ -10,7 +10,7 @@ use Rattle.ipld_tree.proofs.Ordered.{key_cmp_total, key_cmp_same}
 use Rattle.dagcbor_heads.specs.Reading.{Reading}
 use Rattle.ipld_tree.specs.Tree.{Tree}
 use Rattle.dagcbor_items.specs.TypedReads.{TakesFront}
-use Rattle.dagcbor_read.specs.Collections.{in_key_order, text_pairs, value_of, values_of}
+use Rattle.dagcbor_read.specs.Collections.{in_key_order, held_pairs, value_of, values_of}
 use Rattle.dagcbor_items.specs.Shapes.{Shape}
 
 bytes_same : (k : List ℕ) → bytes_cmp k k ≡ Equal
@@ -75,22 +75,22 @@ module _ {V : Type 0} where
 
 -- a value that goes to its key in a sorted map
 pub put_sorted : {A V : Type 0} (meaning : A → V) (es : List (String Global × A)) (k : String Global) (v : A)
-    → in_key_order (text_pairs meaning (insert_entry string_cmp es k v)) ≡ insert_entry key_cmp (in_key_order (text_pairs meaning es)) (string_bytes k) (meaning v)
+    → in_key_order (held_pairs meaning (insert_entry string_cmp es k v)) ≡ insert_entry key_cmp (in_key_order (held_pairs meaning es)) (string_bytes k) (meaning v)
 put_sorted meaning [] k v = refl
 put_sorted {A} meaning (e ∷ es) k v = by (put_sorted meaning es k v) (string_cmp k e.0) refl
   where
-    by : in_key_order (text_pairs meaning (insert_entry string_cmp es k v)) ≡ insert_entry key_cmp (in_key_order (text_pairs meaning es)) (string_bytes k) (meaning v) → (o : Ordering) → string_cmp k e.0 ≡ o
-        → in_key_order (text_pairs meaning (match_ordering o ((k, v) ∷ e ∷ es) ((e.0, v) ∷ es) (e ∷ insert_entry string_cmp es k v)))
-        ≡ insert_entry key_cmp (insert_entry key_cmp (in_key_order (text_pairs meaning es)) (string_bytes e.0) (meaning e.1)) (string_bytes k) (meaning v)
+    by : in_key_order (held_pairs meaning (insert_entry string_cmp es k v)) ≡ insert_entry key_cmp (in_key_order (held_pairs meaning es)) (string_bytes k) (meaning v) → (o : Ordering) → string_cmp k e.0 ≡ o
+        → in_key_order (held_pairs meaning (match_ordering o ((k, v) ∷ e ∷ es) ((e.0, v) ∷ es) (e ∷ insert_entry string_cmp es k v)))
+        ≡ insert_entry key_cmp (insert_entry key_cmp (in_key_order (held_pairs meaning es)) (string_bytes e.0) (meaning e.1)) (string_bytes k) (meaning v)
     by more Less h = refl
     by more Equal h =
         let is : string_bytes k ≡ string_bytes e.0 = exact_bytes (string_bytes k) (string_bytes e.0) h in
-        sym (put_again (string_bytes e.0) (meaning v) (meaning e.1) (in_key_order (text_pairs meaning es)))
-        ∙ ap (λ x. insert_entry key_cmp (insert_entry key_cmp (in_key_order (text_pairs meaning es)) (string_bytes e.0) (meaning e.1)) x (meaning v)) (sym is)
+        sym (put_again (string_bytes e.0) (meaning v) (meaning e.1) (in_key_order (held_pairs meaning es)))
+        ∙ ap (λ x. insert_entry key_cmp (insert_entry key_cmp (in_key_order (held_pairs meaning es)) (string_bytes e.0) (meaning e.1)) x (meaning v)) (sym is)
     by more Greater h =
         let apart : string_bytes k ≡ string_bytes e.0 → ⊥ = λ is. (let tied : string_cmp k e.0 ≡ Equal = ap (bytes_cmp (string_bytes k)) (sym is) ∙ bytes_same (string_bytes k) in let both : Greater ≡ Equal = sym h ∙ tied in absurd (cc both)) in
         ap (λ qs. insert_entry key_cmp qs (string_bytes e.0) (meaning e.1)) more
-        ∙ sym (put_apart (string_bytes k) (string_bytes e.0) (meaning v) (meaning e.1) (in_key_order (text_pairs meaning es)) apart)
+        ∙ sym (put_apart (string_bytes k) (string_bytes e.0) (meaning v) (meaning e.1) (in_key_order (held_pairs meaning es)) apart)
 
 -- a value that was read goes to its key
 pub value_put : {V : Type 0} {old new : Reading} (shape : Shape Tree V) (pairs s : List (List ℕ × V)) (key : List ℕ) (v : V) → s ≡ insert_entry key_cmp pairs key v

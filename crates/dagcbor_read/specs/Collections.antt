@@ -245,8 +245,8 @@ abbrev pub struct_of : {S V : Type 0} → FieldShape S → S → (S → Option V
 struct_of shape start finish = finishing finish (fields_of shape start)
 
 -- the keys as bytes, and what the values hold
-abbrev pub text_pairs : {A V : Type 0} → (A → V) → List (String Global × A) → List (List ℕ × V)
-text_pairs meaning es = map (λ e. (string_bytes e.0, meaning e.1)) es
+abbrev pub held_pairs : {A V : Type 0} → (A → V) → List (String Global × A) → List (List ℕ × V)
+held_pairs meaning es = map (λ e. (string_bytes e.0, meaning e.1)) es
 
 -- the pairs, put one by one into the order of their keys
 abbrev pub in_key_order : {V : Type 0} → List (List ℕ × V) → List (List ℕ × V)

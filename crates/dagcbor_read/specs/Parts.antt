@@ -104,14 +104,14 @@ HandsHeldOn answers e old result new = old.failed ≡ false → e.in_map ≡ tru
     (λ r. IsPartsRefusal answers old r new)
 
 -- a fault
-abbrev pub IsFault : {E : Type 0} → DecodeError E → Type 0
-IsFault (Read e) = ⊤
-IsFault _ = ⊥
+abbrev pub IsReaderFault : {E : Type 0} → DecodeError E → Type 0
+IsReaderFault (Read e) = ⊤
+IsReaderFault _ = ⊥
 
 -- bytes behind the value, or a fault
 abbrev pub IsNoEnd : {E : Type 0} → DecodeError E → Type 0
 IsNoEnd TrailingData = ⊤
-IsNoEnd e = IsFault e
+IsNoEnd e = IsReaderFault e
 
 -- nothing was read so far
 pub record IsStart (bytes : Option (List ℕ)) (budget : ℕ) (are_lent : Bool) (start : DeState) : Type 0 where
@@ -176,17 +176,17 @@ RefusesFieldsAs refuses name old e new = ((new.failed ≡ true) × BeginsItems 5
     ⊎ RefusesFurther (RefusesEntry refuses) old e new
 
 -- the refusal is this message
-abbrev pub Says : {E : Type 0} → List ℕ → DecodeError E → Type 0
-Says text (Msg message) = Names message text
-Says text _ = ⊥
+abbrev pub HasMessage : {E : Type 0} → List ℕ → DecodeError E → Type 0
+HasMessage text (Msg message) = Names message text
+HasMessage text _ = ⊥
 
 -- a field is missing, once all that is there was read
 abbrev pub IsMissingField : {E : Type 0} → DecodeError E → DeState → Type 0
-IsMissingField e new = Says (codes "missing field") e × (new.failed ≡ false)
+IsMissingField e new = HasMessage (codes "missing field") e × (new.failed ≡ false)
 
 -- a key that no field has
 abbrev pub IsUnknownField : {E : Type 0} → DeState → DecodeError E → DeState → Type 0
-IsUnknownField old e new = Says (codes "unknown field") e × (new ≡ old)
+IsUnknownField old e new = HasMessage (codes "unknown field") e × (new ≡ old)
 
 -- what is said of a refusal alone, of what had not failed
 abbrev pub IfRefused : {T E : Type 0} → (DeState → DecodeError E → DeState → Type 0) → DeState
@@ -202,10 +202,10 @@ RefusesItems answers = RefusesFurther (λ old e new. IsPartsRefusal answers old 
     ⊎ ((e ≡ OutOfMemory) × (new ≡ old)))
 
 -- The first part was refused, or no item is left for it; or the others were.
-abbrev pub RefusesFirst : {T E : Type 0} → (DeState → Result T (DecodeError E) → DeState → Type 0)
+abbrev pub RefusesFirstPart : {T E : Type 0} → (DeState → Result T (DecodeError E) → DeState → Type 0)
     → (DeState → DecodeError E → DeState → Type 0) → DeState → DecodeError E → DeState → Type 0
-RefusesFirst answers others old e new = IsPartsRefusal answers old e new
-    ⊎ ((Says (codes "Too few elements") e × (new.failed ≡ false) × (new.input ≡ old.input)) ⊎ RefusesFurther others old e new)
+RefusesFirstPart answers others old e new = IsPartsRefusal answers old e new
+    ⊎ ((HasMessage (codes "Too few elements") e × (new.failed ≡ false) × (new.input ≡ old.input)) ⊎ RefusesFurther others old e new)
 
 -- The part that may be absent was refused, or those behind it.
 abbrev pub RefusesOptional : {T E : Type 0}

@@ -5,8 +5,8 @@ use Rattle.serde_ipld_dagcbor.specs.Shapes.{Shape, owned_leaf, view_text}
 use Rattle.serde_ipld_dagcbor.specs.Collections.{list_of, first_then, no_more}
 
 -- a list of a text and of a value
-abbrev pub pair_of : {V : Type 0} → Shape Tree V → Shape Tree (List ℕ × (V × Unit {0}))
-pair_of shape = list_of (first_then (owned_leaf view_text) (first_then shape no_more))
+abbrev pub text_and_value : {V : Type 0} → Shape Tree V → Shape Tree (List ℕ × (V × Unit {0}))
+text_and_value shape = list_of (first_then (owned_leaf view_text) (first_then shape no_more))
 
 -- what is made of the value of a pair, whose text is this name
 abbrev pub named : {A B : Type 0} → List ℕ → List ℕ × (A × Unit {0}) → (A → Option B) → Option B

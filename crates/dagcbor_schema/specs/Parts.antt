@@ -1,6 +1,6 @@
 -- The parts of a tuple that is written, of which some at the end may be absent.
 use Rattle.std.specs.Prelude.{◌≡◌, ◌⊎◌, ℕ, Bool, true, false, codes, List, [], ◌∷◌, Option, None, Some}
-use Rattle.serde_ipld_dagcbor.specs.Answers.{RefusesPart}
+use Rattle.serde_ipld_dagcbor.specs.Answers.{IsPartMessage}
 use Rattle.serde_ipld_dagcbor.specs.Tree.{Tree}
 
 -- A part that may be absent, where nothing stands behind it. An absent part before another has no
@@ -14,7 +14,7 @@ optional_part tree None (other ∷ others) = None ∷ other ∷ others
 -- the message of a row that begins with a part: that of the part, or of those behind it
 abbrev pub part_message : {A : Type 0} → (A → Option Tree) → (A → List ℕ → Type 0)
     → (List ℕ → Type 0) → A → List ℕ → Type 0
-part_message tree message others x m = RefusesPart tree message x m ⊎ others m
+part_message tree message others x m = IsPartMessage tree message x m ⊎ others m
 
 -- whether a part is absent before others
 abbrev pub is_gap : {A : Type 0} → Option A → List (Option Tree) → Bool

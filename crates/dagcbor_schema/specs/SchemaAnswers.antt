@@ -13,7 +13,7 @@ use Rattle.dagcbor_items.specs.declared.kind.Kind.TheVariants as kinds
 use Rattle.dagcbor_read.specs.Accessors.{BeginsItems, ReadsNextKey}
 use Rattle.dagcbor_read.specs.Deserializers.{DeState, Call}
 use Rattle.dagcbor_read.specs.Kinds.{PeeksKind, OfPeek}
-use Rattle.dagcbor_read.specs.Parts.{ReadsOnce, IsPartsRefusal, RefusesFurther, RefusesUnread, Says}
+use Rattle.dagcbor_read.specs.Parts.{ReadsOnce, IsPartsRefusal, RefusesFurther, RefusesUnread, HasMessage}
 use Rattle.dagcbor_schema.specs.declared.by_kind.ByKind.{ByKind}
 use Rattle.dagcbor_schema.specs.declared.by_kind.ByKind.TheVariants as told
 
@@ -27,7 +27,7 @@ abbrev pub Makes : {A T V E : Type 0} → (T → V) → (A → Option V) → Lis
 Makes {A} meaning made message answers old result new = MatchResult result
     (λ v. (a : A) × (made a ≡ Some (meaning v)) × answers old (Ok a) new)
     (λ e. answers old (Err e) new
-    ⊎ (Says message e × ((a : A) × (made a ≡ None) × answers old (Ok a) new)))
+    ⊎ (HasMessage message e × ((a : A) × (made a ≡ None) × answers old (Ok a) new)))
 
 -- What another type answers, of whose value this is made.
 abbrev pub ReadsFrom : {A T E : Type 0} → (A → T)
@@ -45,7 +45,7 @@ PeeksOnce = ReadsOnce PeeksKind (λ old result new. LooksOnce old new) OfPeek
 
 -- null tells nothing
 abbrev pub TellsNothing : {T E : Type 0} → DeState → Result T (DecodeError E) → DeState → Type 0
-TellsNothing old result new = IsErrAnd result (Says (codes "unknown kind")) × (new ≡ old)
+TellsNothing old result new = IsErrAnd result (HasMessage (codes "unknown kind")) × (new ≡ old)
 
 module _ {E B I T Y L M K : Type 0} (of_bool : DeState → Result B (DecodeError E) → DeState → Type 0) (of_integer : DeState → Result I (DecodeError E) → DeState → Type 0) (of_text : DeState → Result T (DecodeError E) → DeState → Type 0)
     (of_bytes : DeState → Result Y (DecodeError E) → DeState → Type 0) (of_list : DeState → Result L (DecodeError E) → DeState → Type 0) (of_map : DeState → Result M (DecodeError E) → DeState → Type 0) (of_link : DeState → Result K (DecodeError E) → DeState → Type 0)
@@ -76,8 +76,8 @@ ReadsKeyOnce last left old result new = Call (ReadsNextKey last left) old result
 
 -- no key is left, or it is another
 abbrev pub IsOtherKey : {E : Type 0} → List ℕ → Option (CowStr Global) → DecodeError E → Type 0
-IsOtherKey name None e = Says (codes "missing field") e
-IsOtherKey name (Some key) e = Says (codes "unknown field") e × (cow_str_bytes key ≢ name)
+IsOtherKey name None e = HasMessage (codes "missing field") e
+IsOtherKey name (Some key) e = HasMessage (codes "unknown field") e × (cow_str_bytes key ≢ name)
 
 -- The key behind the last one was refused, where so many are left; or it was read, and is another.
 abbrev pub RefusesNamedKey : {E : Type 0} → List ℕ → Option (List ℕ) → ℕ → DeState → DecodeError E

@@ -15,7 +15,7 @@ use Rattle.ipld_tree.proofs.Spelled.{spelled_is}
 use Rattle.ipld_tree.proofs.WellFormed.{entry_count_ordered}
 use Rattle.dagcbor_write.specs.Trees.{Pair}
 use Rattle.dagcbor_write.specs.Gathering.{Refused, Collects}
-use Rattle.dagcbor_write.specs.Maps.{Texts, spelled_key, IsSpellingOf, AreSpellingsOf, Joins, JoinsEntry, RefusesKey, RefusesEntry, RefusesValue, entries_text, map_rest, JoinsPairs, StopsAtPair, LacksValue, RefusesAnyValue, ShowsPairs}
+use Rattle.dagcbor_write.specs.Maps.{Texts, spelled_key, IsSpellingOf, AreSpellingsOf, Joins, JoinsEntry, IsKeyMessage, IsEntryMessage, IsValueMessage, entries_text, map_rest, JoinsPairs, StopsAtPair, LacksValue, RefusesAnyValue, ShowsPairs}
 use Rattle.dagcbor_write.specs.Pairwise.{Pairwise}
 use Rattle.dagcbor_write.proofs.Keys.{key_none}
 use Rattle.dagcbor_write.proofs.Mapping.{pairwise_push}
@@ -155,7 +155,7 @@ all_given {X} {R} {whole} {held} w = let P : List Pair → Type 0 = λ ps. Pairw
 no_key : (key : Option Tree) → option_and_then key_of key ≡ None → spelled_key key ≡ None
 no_key key e = ap (option_and_then (λ k. spelled (text k))) e
 
-key_cause : (p : Pair) (m : List ℕ) → RefusesKey p.0 m → CannotBeWritten p
+key_cause : (p : Pair) (m : List ℕ) → IsKeyMessage p.0 m → CannotBeWritten p
 key_cause p m (inl h) = inl (key_none p.0 h.1)
 key_cause p m (inr h) = inl (no_key p.0 h.1)
 
@@ -165,7 +165,7 @@ refusal_stops whole s t Cause (Write e) f p same = absurd p
 refusal_stops {E} whole s t Cause OutOfMemory f p same = let P : Written → Type 0 = λ u. Stops {E = E} whole s u OutOfMemory in subst P same (wrote_nothing whole s, refl, refl)
 
 -- a text is refused as a key for want of memory alone
-pub only_value : {T E : Type 0} (Taken : T → Type 0) (name : List ℕ) (value : Option Tree) (r : Result T (EncodeError E)) → length name < 2 ^ 64 → Collects Taken (RefusesEntry (Some (text name)) value) r → Collects Taken (RefusesValue value) r
+pub only_value : {T E : Type 0} (Taken : T → Type 0) (name : List ℕ) (value : Option Tree) (r : Result T (EncodeError E)) → length name < 2 ^ 64 → Collects Taken (IsEntryMessage (Some (text name)) value) r → Collects Taken (IsValueMessage value) r
 only_value Taken name value (Ok x) h t = t
 only_value Taken name value (Err (Msg m)) h (inl (inl n)) = let differ : Some (text_spelling name) ≡ None = sym ((spelled_is (text name) (text_spelling name)).1 (h, refl)) ∙ n.1 in cc
 only_value Taken name value (Err (Msg m)) h (inl (inr n)) = absurd (cc n.1)
@@ -180,9 +180,9 @@ exit_unsent {T} {E} whole s t Cause (Err d) e f p is same = let P : EncodeError 
 
 -- the exit of a `?` at a key
 pub exit_key : {T E X : Type 0} {R : Pair → X → Type 0} {whole left : List Pair} {p : Pair} {old : List X} → Given-but R whole (p ∷ left) old → (s t : Written) (r : Result T (EncodeError E)) (e : EncodeError E)
-    → Refused (RefusesKey p.0) e → IsErrAnd r (λ d. d ≡ e) → s ≡ t → Writes (spelled_tree (entries_tree whole)) s t r
+    → Refused (IsKeyMessage p.0) e → IsErrAnd r (λ d. d ≡ e) → s ≡ t → Writes (spelled_tree (entries_tree whole)) s t r
 exit_key {T} {E} {X} {R} {whole} {left} {p} {old} w s t r e refused is same =
-    exit_unsent (map_rest false whole) s t (RefusesKey p.0) r e (λ m h. ap (map_rest false) w.split ∙ no_text false w.done left p (key_cause p m h)) refused is same
+    exit_unsent (map_rest false whole) s t (IsKeyMessage p.0) r e (λ m h. ap (map_rest false) w.split ∙ no_text false w.done left p (key_cause p m h)) refused is same
 
 -- ---- the end of a map
 
@@ -219,9 +219,9 @@ nth_split : (whole : List Pair) (k : ℕ) (d : Pair) → k < length whole → wh
 nth_split whole k d h = sym (take-append-drop k whole) ∙ ap (λ x. take k whole ++ x) (drop-cons whole k d h)
 
 pub exit_field : {T E : Type 0} {W h : Option (List ℕ)} {start s : Written} (whole : List Pair) → Written-but W (h ∷ map_rest true whole ∷ []) start start → WroteAll h start s → (k : ℕ) (d : Pair) → k < length whole → (t : Written) (r : Result T (EncodeError E)) (e : EncodeError E)
-    → Refused (RefusesValue (get_or whole k d).1) e → IsErrAnd r (λ d. d ≡ e) → s ≡ t → Writes W start t r
+    → Refused (IsValueMessage (get_or whole k d).1) e → IsErrAnd r (λ d. d ≡ e) → s ≡ t → Writes W start t r
 exit_field {T} {E} {W} {h} {start} {s} whole begun out k d below t r e refused is same =
-    last_part (next_part begun s out) t r (exit_unsent (map_rest true whole) s t (RefusesValue (get_or whole k d).1) r e (λ m c. ap (map_rest true) (nth_split whole k d below) ∙ no_text true (take k whole) (drop (suc k) whole) (get_or whole k d) (inr c.1)) refused is same)
+    last_part (next_part begun s out) t r (exit_unsent (map_rest true whole) s t (IsValueMessage (get_or whole k d).1) r e (λ m c. ap (map_rest true) (nth_split whole k d below) ∙ no_text true (take k whole) (drop (suc k) whole) (get_or whole k d) (inr c.1)) refused is same)
 
 -- ---- a row of pairs
 
@@ -244,7 +244,7 @@ joins_first p ps old middle new j h =
     (e.0 ∷ h.0, (e.1, h.1), h.2 ∙ ap (λ xs. xs ++ h.0) e.2 ∙ append_assoc old (e.0 ∷ []) h.0)
 
 -- the one pair was taken, or refused
-pub one_given : {T E : Type 0} (p : Pair) (old new : List Texts) (r : Result T (EncodeError E)) → Collects (λ u. JoinsEntry p.0 p.1 old new) (RefusesValue p.1) r
+pub one_given : {T E : Type 0} (p : Pair) (old new : List Texts) (r : Result T (EncodeError E)) → Collects (λ u. JoinsEntry p.0 p.1 old new) (IsValueMessage p.1) r
     → OnErr r (new ≡ old) → MatchResult r (λ _. JoinsPairs (p ∷ []) old new) (StopsAtPair (p ∷ []) old new)
 one_given p old new (Ok x) j same = joins_first p [] old new new j ([], tt, sym (append-nil new))
 one_given p old new (Err e) j same = record { taken = []; refused = p; left = []; split = refl; joined = ([], tt, same ∙ sym (append-nil old)); cause = j }
@@ -253,7 +253,7 @@ one_given p old new (Err e) j same = record { taken = []; refused = p; left = []
 pub row_cause : {E : Type 0} (ps : List Pair) (old new : List Texts) (e : EncodeError E) → StopsAtPair ps old new e → Refused (RefusesAnyValue ps) e
 row_cause {E} ps old new e h = by e h.cause
   where
-    by : (e : EncodeError E) → Refused (RefusesValue h.refused.1) e → Refused (RefusesAnyValue ps) e
+    by : (e : EncodeError E) → Refused (IsValueMessage h.refused.1) e → Refused (RefusesAnyValue ps) e
     by (Msg m) c = let P : List Pair → Type 0 = λ qs. LacksValue qs in (c.0, subst P (sym h.split) (some_lacks h.taken h.left h.refused c.1))
     by (Write x) c = c
     by OutOfMemory c = tt

@@ -11,7 +11,7 @@ use Rattle.ipld_tree.specs.declared.ipld.Ipld.{Ipld, the_lemmas, Integer as Inte
 use Rattle.ipld_tree.proofs.Ordered.{test_from_distinct}
 use Rattle.ipld_tree.proofs.Trees.{tree_of_List, tree_of_Map}
 use Rattle.ipld_tree.proofs.WellFormed.{distinct_entries}
-use Rattle.dagcbor_write.specs.Answers.{OnMessage, IsMessage, RefusesAnyPart}
+use Rattle.dagcbor_write.specs.Answers.{OnMessage, IsMessage, IsMessageOfAny}
 use Rattle.dagcbor_write.specs.TreeMessages.{tree_message, items_message, is_integer}
 use Rattle.dagcbor_write.proofs.Messages.{message_tells}
 
@@ -53,16 +53,16 @@ integer_told {T} {E} {Writer} j n s t r is h =
     let P : Tree → Type 0 = λ x. IfErr r (OnMessage (tree_message x)) in
     subst P (sym (ap tree_of is ∙ tree_of_Integer n)) (message_tells (λ m. (m ≡ codes "Integer must be within [-u64::MAX-1, u64::MAX] range") × (t ≡ s)) (tree_message (integer n)) r (λ m k. k.0) h)
 
-items_told : (xs : List Ipld) (m : List ℕ) → RefusesAnyPart (λ x. Some (tree_of x)) (λ x. tree_message (tree_of x)) xs m → items_message (items_of (map tree_of xs)) m
+items_told : (xs : List Ipld) (m : List ℕ) → IsMessageOfAny (λ x. Some (tree_of x)) (λ x. tree_message (tree_of x)) xs m → items_message (items_of (map tree_of xs)) m
 items_told [] m h = absurd (omega (arith, h.2))
 items_told (x ∷ xs) m (zero, y, inside, at, h) = let P : Ipld → Type 0 = λ z. (spelled (tree_of z) ≡ None) × tree_message (tree_of z) m in inl (subst P (sym at) h)
 items_told (x ∷ xs) m (suc k, y, inside, at, h) = inr (items_told xs m (k, y, omega (arith, inside), at, h))
 
 -- a list's is that of an item
-pub list_told : {T E : Type 0} (j : Ipld) (v : Vec Ipld Global) (r : Result T (EncodeError E)) → j ≡ List' v → IfErr r (OnMessage (RefusesAnyPart (λ x. Some (tree_of x)) (λ x. tree_message (tree_of x)) v.items)) → IfErr r (OnMessage (tree_message (tree_of j)))
+pub list_told : {T E : Type 0} (j : Ipld) (v : Vec Ipld Global) (r : Result T (EncodeError E)) → j ≡ List' v → IfErr r (OnMessage (IsMessageOfAny (λ x. Some (tree_of x)) (λ x. tree_message (tree_of x)) v.items)) → IfErr r (OnMessage (tree_message (tree_of j)))
 list_told {T} {E} j v r is h =
     let P : Tree → Type 0 = λ x. IfErr r (OnMessage (tree_message x)) in
-    subst P (sym (ap tree_of is ∙ tree_of_List v)) (message_tells (RefusesAnyPart (λ x. Some (tree_of x)) (λ x. tree_message (tree_of x)) v.items) (items_message (items_of (map tree_of v.items))) r (items_told v.items) h)
+    subst P (sym (ap tree_of is ∙ tree_of_List v)) (message_tells (IsMessageOfAny (λ x. Some (tree_of x)) (λ x. tree_message (tree_of x)) v.items) (items_message (items_of (map tree_of v.items))) r (items_told v.items) h)
 
 -- a map's is that of a value
 pub map_told : {T E : Type 0} (j : Ipld) (es : BTreeMap (String Global) Ipld) (r : Result T (EncodeError E)) → j ≡ Map' es → IfErr r (IsMessage (codes "Struct value cannot be serialized.")) → IfErr r (OnMessage (tree_message (tree_of j)))

@@ -15,7 +15,7 @@ use Rattle.ipld_tree.proofs.Ordered.{AreDistinct, same_place, same_place_flips}
 use Rattle.dagcbor_write.specs.Answers.{OnMessage, IsMessage}
 use Rattle.dagcbor_write.specs.Gathering.{Refused}
 use Rattle.dagcbor_write.specs.Keyed.{PutsKeysInOrder, lacks_value, RefusesKeyedValue}
-use Rattle.dagcbor_write.specs.Maps.{spelled_key, RefusesKey, RefusesAnyKey, RepeatsKey, LacksValue, RefusesMap, RefusesEntries, keys_alone}
+use Rattle.dagcbor_write.specs.Maps.{spelled_key, IsKeyMessage, RefusesAnyKey, RepeatsKey, LacksValue, RefusesMap, RefusesEntries, keys_alone}
 use Rattle.dagcbor_write.specs.Pairwise.{Pairwise}
 use Rattle.dagcbor_write.specs.Trees.{Pair}
 use Rattle.dagcbor_write.proofs.Fields.{Given-but}
@@ -32,11 +32,11 @@ any_in P (q ∷ done) left p h = let l = any_in P done left p h in (suc l.0, l.1
 
 -- the exit of a `?` at a key
 pub key_message : {T E X Writer : Type 0} {R : Pair → X → Type 0} {whole left : List Pair} {p : Pair} {held : List X} {s t : Writer} → Given-but R whole (p ∷ left) held → (r : Result T (EncodeError E)) (e : EncodeError E)
-    → Refused (RefusesKey p.0) e → IsErrAnd r (λ d. d ≡ e) → t ≡ s → IfErr r (OnMessage (RefusesMap s t whole))
+    → Refused (IsKeyMessage p.0) e → IsErrAnd r (λ d. d ≡ e) → t ≡ s → IfErr r (OnMessage (RefusesMap s t whole))
 key_message {T} {E} {X} {Writer} {R} {whole} {left} {p} {held} {s} {t} w r e h is same = exit_message (RefusesMap s t whole) r e is (by e h)
   where
-    by : (e : EncodeError E) → Refused (RefusesKey p.0) e → OnMessage (RefusesMap s t whole) e
-    by (Msg m) h = let P : List Pair → Type 0 = λ ps. RefusesAnyKey ps (message_bytes m) in inl (inl (subst P (sym w.split) (any_in (λ q. RefusesKey q.0 (message_bytes m)) w.done left p h)), same)
+    by : (e : EncodeError E) → Refused (IsKeyMessage p.0) e → OnMessage (RefusesMap s t whole) e
+    by (Msg m) h = let P : List Pair → Type 0 = λ ps. RefusesAnyKey ps (message_bytes m) in inl (inl (subst P (sym w.split) (any_in (λ q. IsKeyMessage q.0 (message_bytes m)) w.done left p h)), same)
     by _ h = tt
 
 -- what it is, wherever the writer stands

@@ -8,7 +8,7 @@ use Rattle.ipld_tree.specs.Tree.{Tree, text}
 use Rattle.ipld_tree.specs.Spelling.{text_spelling}
 use Rattle.ipld_tree.specs.Spelled.{spelled_head, spelled_tree}
 use Rattle.ipld_tree.proofs.Spelled.{spelled_is}
-use Rattle.dagcbor_write.specs.Answers.{OnMessage, LacksBefore, RefusesPart, RefusesAnyPart}
+use Rattle.dagcbor_write.specs.Answers.{OnMessage, LacksBefore, IsPartMessage, IsMessageOfAny}
 use Rattle.dagcbor_write.specs.Bounded.{WritesItem}
 use Rattle.dagcbor_write.specs.Gathering.{Refused}
 use Rattle.dagcbor_write.specs.Lending.{bounded_lent}
@@ -58,16 +58,16 @@ module _ {T E : Type 0} where
   still_unsent s mid t r same h = message_tells (λ m. t ≡ mid) (λ m. t ≡ s) r (λ m k. k ∙ same) h
 
   -- a part that is refused with a message has no spelling
-  pub part_told : {A : Type 0} (tree : A → Option Tree) (message : A → List ℕ → Type 0) (x : A) (s t : Written) (r : Result T (EncodeError E)) → Writes (spelled_tree (tree x)) s t r → IfErr r (OnMessage (message x)) → IfErr r (OnMessage (RefusesPart tree message x))
+  pub part_told : {A : Type 0} (tree : A → Option Tree) (message : A → List ℕ → Type 0) (x : A) (s t : Written) (r : Result T (EncodeError E)) → Writes (spelled_tree (tree x)) s t r → IfErr r (OnMessage (message x)) → IfErr r (OnMessage (IsPartMessage tree message x))
   part_told tree message x s t (Err (Msg m)) w h = (w.0, h)
   part_told tree message x s t _ w h = tt
 
   -- the exit of a `?` at an item
   pub exit_item : {A W : Type 0} {written : W → Written} {may : Bool} {old new : BoundedCollect W} (tree : A → Option Tree) (message : A → List ℕ → Type 0) (xs : List A) (i : ℕ) (x : A) → i < length xs → x ≡ get_or xs i x → (r : Result T (EncodeError E)) (e : EncodeError E) → IsErrAnd r (λ d. d ≡ e)
-      → WritesItem written may (tree x) (message x) old new (Err e) → IfErr r (OnMessage (RefusesAnyPart tree message xs))
-  exit_item {A} {W} {written} {may} {old} {new} tree message xs i x inside at r e is w = exit_message (RefusesAnyPart tree message xs) r e is (by e w.item w.told)
+      → WritesItem written may (tree x) (message x) old new (Err e) → IfErr r (OnMessage (IsMessageOfAny tree message xs))
+  exit_item {A} {W} {written} {may} {old} {new} tree message xs i x inside at r e is w = exit_message (IsMessageOfAny tree message xs) r e is (by e w.item w.told)
     where
-      by : (e : EncodeError E) → Stops (spelled_tree (tree x)) (written (bounded_lent old).now) (written (bounded_lent new).now) e → OnMessage (message x) e → OnMessage (RefusesAnyPart tree message xs) e
+      by : (e : EncodeError E) → Stops (spelled_tree (tree x)) (written (bounded_lent old).now) (written (bounded_lent new).now) e → OnMessage (message x) e → OnMessage (IsMessageOfAny tree message xs) e
       by (Msg m) w h = (i, x, inside, sym at, (w.0, h))
       by _ w h = tt
 

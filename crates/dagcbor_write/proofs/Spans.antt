@@ -14,7 +14,7 @@ use Rattle.dagcbor_write.specs.Keyed.{key_goes_before}
 use Rattle.dagcbor_write.specs.Gathering.{AppendsTo, Grows}
 use Rattle.dagcbor_write.specs.Maps.{Texts, Joins, JoinsValue}
 use Rattle.dagcbor_write.specs.Order.{goes_before}
-use Rattle.dagcbor_write.specs.Spans.{entry_at, IsWithin, keyed_at, IsInside}
+use Rattle.dagcbor_write.specs.Spans.{entry_at, IsWithin, keyed_at, EndsWithin}
 
 -- keys that a test of their bytes finds equal are
 pub same_bytes : (xs ys : List ℕ) → bytes_eq xs ys ≡ true → xs ≡ ys
@@ -107,14 +107,14 @@ key_within key start n w is = let P : Option ℕ → Type 0 = λ x. IfSome x (λ
 -- ---- keys with their values
 
 module _ {V : Type 0} where
-  keyed_stays : (bs more : List ℕ) (s : KeySpan V) → IsInside (length bs) s → keyed_at (bs ++ more) s ≡ keyed_at bs s
+  keyed_stays : (bs more : List ℕ) (s : KeySpan V) → EndsWithin (length bs) s → keyed_at (bs ++ more) s ≡ keyed_at bs s
   keyed_stays bs more s w = ap (λ k. (k, s.value.now)) (range_stays bs more s.start s.end w.0 w.1)
 
   -- keys that are appended leave the entries as they are, and a place in them joins these
-  pub keyed_joins : (o : Option (List ℕ)) (old new : List ℕ) (ss : List (KeySpan V)) (s : KeySpan V) → AppendsTo old new o → All (IsInside (length old)) ss → map (keyed_at new) (ss ++ s ∷ []) ≡ map (keyed_at old) ss ++ keyed_at new s ∷ []
+  pub keyed_joins : (o : Option (List ℕ)) (old new : List ℕ) (ss : List (KeySpan V)) (s : KeySpan V) → AppendsTo old new o → All (EndsWithin (length old)) ss → map (keyed_at new) (ss ++ s ∷ []) ≡ map (keyed_at old) ss ++ keyed_at new s ∷ []
   keyed_joins None old new ss s h w = absurd h
   keyed_joins (Some t) old new ss s h w =
-      let stay = ap (λ bs. map (keyed_at bs) ss) h ∙ all_stay keyed_at IsInside old t (keyed_stays old t) ss (recursion_from_All (IsInside (length old)) ss w) in
+      let stay = ap (λ bs. map (keyed_at bs) ss) h ∙ all_stay keyed_at EndsWithin old t (keyed_stays old t) ss (recursion_from_All (EndsWithin (length old)) ss w) in
       map_push (keyed_at new) ss s ∙ ap (λ es. es ++ keyed_at new s ∷ []) stay
 
   -- places in the order of their bytes are entries in the order of their keys

@@ -63,14 +63,14 @@ abbrev pub NoMessage : List ℕ → Type 0
 NoMessage m = ⊥
 
 -- the part has no spelling, and this is its message
-abbrev pub RefusesPart : {A : Type 0} → (A → Option Tree) → (A → List ℕ → Type 0) → A → List ℕ
+abbrev pub IsPartMessage : {A : Type 0} → (A → Option Tree) → (A → List ℕ → Type 0) → A → List ℕ
     → Type 0
-RefusesPart tree message x m = (spelled_tree (tree x) ≡ None) × message x m
+IsPartMessage tree message x m = (spelled_tree (tree x) ≡ None) × message x m
 
 -- so it is with one of the parts
-abbrev pub RefusesAnyPart : {A : Type 0} → (A → Option Tree) → (A → List ℕ → Type 0) → List A
+abbrev pub IsMessageOfAny : {A : Type 0} → (A → Option Tree) → (A → List ℕ → Type 0) → List A
     → List ℕ → Type 0
-RefusesAnyPart tree message xs m = Any (λ x. RefusesPart tree message x m) xs
+IsMessageOfAny tree message xs m = Any (λ x. IsPartMessage tree message x m) xs
 
 -- one of four is so
 abbrev pub OneOf : (P Q R S : List ℕ → Type 0) → List ℕ → Type 0

@@ -44,17 +44,17 @@ abbrev pub spelled_key : Option Tree → Option (List ℕ)
 spelled_key key = option_and_then (λ k. spelled (text k)) (option_and_then key_of key)
 
 -- the causes of a key's message: it has no spelling, or is no text
-abbrev pub RefusesKey : Option Tree → List ℕ → Type 0
-RefusesKey key m = RefusedFor (codes "Map key cannot be serialized.") key m
+abbrev pub IsKeyMessage : Option Tree → List ℕ → Type 0
+IsKeyMessage key m = RefusedFor (codes "Map key cannot be serialized.") key m
     ⊎ ((m ≡ codes "Map keys must be strings") × (option_and_then key_of key ≡ None))
 
 -- the cause of a value's message: it has no spelling
-abbrev pub RefusesValue : Option Tree → List ℕ → Type 0
-RefusesValue value m = RefusedFor (codes "Struct value cannot be serialized.") value m
+abbrev pub IsValueMessage : Option Tree → List ℕ → Type 0
+IsValueMessage value m = RefusedFor (codes "Struct value cannot be serialized.") value m
 
 -- the message is the key's or the value's
-abbrev pub RefusesEntry : Option Tree → Option Tree → List ℕ → Type 0
-RefusesEntry key value m = RefusesKey key m ⊎ RefusesValue value m
+abbrev pub IsEntryMessage : Option Tree → Option Tree → List ℕ → Type 0
+IsEntryMessage key value m = IsKeyMessage key m ⊎ IsValueMessage value m
 
 -- the spelling of a well-formed key waits for its value
 abbrev pub HoldsKey : Option Tree → Option (List ℕ) → Type 0
@@ -116,7 +116,7 @@ pub record StopsAtPair {E : Type 0} (ps : List Pair) (old new : List Texts) (e :
   pub left : List Pair
   pub split : ps ≡ taken ++ refused ∷ left
   pub joined : JoinsPairs taken old new
-  pub cause : Refused (RefusesValue refused.1) e
+  pub cause : Refused (IsValueMessage refused.1) e
 
 -- one of the values has no spelling
 abbrev pub LacksValue : List Pair → Type 0
@@ -152,7 +152,7 @@ keys_alone = map (λ p. (p.0, Some null))
 
 -- the cause of a message of one of the keys
 abbrev pub RefusesAnyKey : List Pair → List ℕ → Type 0
-RefusesAnyKey ps m = Any (λ p. RefusesKey p.0 m) ps
+RefusesAnyKey ps m = Any (λ p. IsKeyMessage p.0 m) ps
 
 -- the causes of a map's message: one of its keys, or a key that is there twice; or a value
 abbrev pub RefusesEntries : List Pair → List ℕ → Type 0

@@ -21,5 +21,5 @@ abbrev pub keyed_at : {V : Type 0} → List ℕ → KeySpan V → List ℕ × V
 keyed_at bytes s = (slice_range bytes s.start s.end, s.value.now)
 
 -- the place begins before it ends, within n bytes
-abbrev pub IsInside : {V : Type 0} → ℕ → KeySpan V → Type 0
-IsInside n s = (s.start ≤ s.end) × (s.end ≤ n)
+abbrev pub EndsWithin : {V : Type 0} → ℕ → KeySpan V → Type 0
+EndsWithin n s = (s.start ≤ s.end) × (s.end ≤ n)

@@ -5,7 +5,7 @@ ghost use Rattle.std.specs.Prelude.{codes, Option, option_map, IfSome};
 ghost use Rattle.ipld_tree.specs.Tree.{Items};
 ghost use Rattle.dagcbor_heads.specs.declared.error.DecodeError.{DecodeError};
 ghost use Rattle.dagcbor_read.specs.Deserializers.{DeState, de_state, StaysFailed, Over};
-ghost use Rattle.dagcbor_read.specs.Parts.{RefusesItems, RefusesFirst, RefusesRest, RefusesListAs};
+ghost use Rattle.dagcbor_read.specs.Parts.{RefusesItems, RefusesFirstPart, RefusesRest, RefusesListAs};
 ghost use Rattle.dagcbor_read.specs.Parts.{RefusesOptional, IfRefused};
 ghost use Rattle.dagcbor_read.specs.Values.{ReadsValue};
 ghost use Rattle.dagcbor_read.specs.Accessors.{accessor_state};
@@ -108,7 +108,7 @@ impl<'de, T: Deserialize<'de>, L: Row<'de>> Row<'de> for (T, L) {
 
     ghost lies = { λ lends p. T.lies lends p.0 × L.lies lends p.1 };
 
-    ghost refuses = { RefusesFirst T.answers L.refuses };
+    ghost refuses = { RefusesFirstPart T.answers L.refuses };
 
     fn read_row<R: Read>(
         alloc: Global,

@@ -2,7 +2,7 @@
 
 ghost use Rattle.std.specs.Prelude.{ℕ, List, [], Some, codes};
 ghost use Rattle.dagcbor_read.specs.Parts.{IfRefused, RefusesFieldsAs, RefusesToKeep};
-ghost use Rattle.dagcbor_read.specs.Collections.{map_of, values_of, in_key_order, text_pairs};
+ghost use Rattle.dagcbor_read.specs.Collections.{map_of, values_of, in_key_order, held_pairs};
 
 use crate::access::accessor::Accessor;
 use crate::access::fields::{Fields, read_fields};
@@ -16,7 +16,7 @@ use std::collections::{BTreeMap, HashMap};
 impl<V: Shown> Shown for BTreeMap<String, V> {
     ghost View = { List (List ℕ × V.View) };
 
-    ghost meaning = { λ m. in_key_order (text_pairs V.meaning m.entries) };
+    ghost meaning = { λ m. in_key_order (held_pairs V.meaning m.entries) };
 
     ghost shape = { map_of V.shape };
 }
@@ -27,7 +27,7 @@ impl<'de, V: Deserialize<'de>> Fields<'de> for BTreeMap<String, V> {
 
     ghost State = { List (List ℕ × V.View) };
 
-    ghost state = { λ m. in_key_order (text_pairs V.meaning m.entries) };
+    ghost state = { λ m. in_key_order (held_pairs V.meaning m.entries) };
 
     ghost unread = { [] };
 
@@ -35,7 +35,7 @@ impl<'de, V: Deserialize<'de>> Fields<'de> for BTreeMap<String, V> {
 
     ghost View = { List (List ℕ × V.View) };
 
-    ghost meaning = { λ m. in_key_order (text_pairs V.meaning m.entries) };
+    ghost meaning = { λ m. in_key_order (held_pairs V.meaning m.entries) };
 
     ghost finish = { Some };
 
@@ -93,7 +93,7 @@ impl<'de, V: DeserializeOwned<'de>> DeserializeOwned<'de> for BTreeMap<String, V
 impl<V: Shown> Shown for HashMap<String, V> {
     ghost View = { List (List ℕ × V.View) };
 
-    ghost meaning = { λ m. in_key_order (text_pairs V.meaning m.entries) };
+    ghost meaning = { λ m. in_key_order (held_pairs V.meaning m.entries) };
 
     ghost shape = { map_of V.shape };
 }
@@ -104,7 +104,7 @@ impl<'de, V: Deserialize<'de>> Fields<'de> for HashMap<String, V> {
 
     ghost State = { List (List ℕ × V.View) };
 
-    ghost state = { λ m. in_key_order (text_pairs V.meaning m.entries) };
+    ghost state = { λ m. in_key_order (held_pairs V.meaning m.entries) };
 
     ghost unread = { [] };
 
@@ -112,7 +112,7 @@ impl<'de, V: Deserialize<'de>> Fields<'de> for HashMap<String, V> {
 
     ghost View = { List (List ℕ × V.View) };
 
-    ghost meaning = { λ m. in_key_order (text_pairs V.meaning m.entries) };
+    ghost meaning = { λ m. in_key_order (held_pairs V.meaning m.entries) };
 
     ghost finish = { Some };
 

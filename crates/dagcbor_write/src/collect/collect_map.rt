@@ -11,7 +11,7 @@ ghost use Rattle.dagcbor_write.specs.Answers.{OnMessage};
 ghost use Rattle.dagcbor_write.specs.Gathering.{Collects};
 ghost use Rattle.dagcbor_write.specs.Trees.{Pair, variant_head};
 ghost use Rattle.dagcbor_write.specs.Maps.{no_entry_yet, is_complete, HoldsKey, JoinsValue};
-ghost use Rattle.dagcbor_write.specs.Maps.{TakesEntry, RefusesKey, RefusesValue, RefusesEntry};
+ghost use Rattle.dagcbor_write.specs.Maps.{TakesEntry, IsKeyMessage, IsValueMessage, IsEntryMessage};
 ghost use Rattle.dagcbor_write.specs.Maps.{AreSpellingsOf, RefusesKeys, map_rest};
 ghost use Rattle.dagcbor_write.specs.Order.{head_rest, entries_bytes};
 ghost use Rattle.dagcbor_write.specs.Lending.{map_lent, map_state, SameLoan, WritesNothing};
@@ -177,7 +177,7 @@ impl<W: Write> CollectMap<'_, W> {
         ensures nothing_written { WritesNothing self.old self.new }
         ensures entries { (map_state self.new).entries ≡ (map_state self.old).entries }
         ensures key { Collects (λ u. HoldsKey (K.tree key.now) (map_state self.new).key)
-            (RefusesKey (K.tree key.now)) result }
+            (IsKeyMessage (K.tree key.now)) result }
         ensures no_key { OnErr result ((map_state self.new).key ≡ None) }
     {
         self.state.take_key(self.alloc, key)
@@ -192,7 +192,7 @@ impl<W: Write> CollectMap<'_, W> {
         ensures entry { Collects
             (λ u. JoinsValue (map_state self.old).key (V.tree value.now)
             (map_state self.old).entries (map_state self.new).entries)
-            (RefusesValue (V.tree value.now)) result }
+            (IsValueMessage (V.tree value.now)) result }
         ensures kept { OnErr result ((map_state self.new).entries ≡ (map_state self.old).entries) }
     {
         self.state.take_value(self.alloc, value)
@@ -207,7 +207,7 @@ impl<W: Write> CollectMap<'_, W> {
         requires { (map_state self.old).key ≡ None }
         ensures nothing_written { WritesNothing self.old self.new }
         ensures entry { TakesEntry (K.tree key.now) (V.tree value.now)
-            (RefusesEntry (K.tree key.now) (V.tree value.now))
+            (IsEntryMessage (K.tree key.now) (V.tree value.now))
             (map_state self.old) (map_state self.new) result }
     {
         self.serialize_key(key)?;
@@ -223,7 +223,7 @@ impl<W: Write> CollectMap<'_, W> {
         requires { (map_state self.old).key ≡ None }
         ensures nothing_written { WritesNothing self.old self.new }
         ensures entry { TakesEntry (Some (text name.now)) (V.tree value.now)
-            (RefusesValue (V.tree value.now)) (map_state self.old) (map_state self.new) result }
+            (IsValueMessage (V.tree value.now)) (map_state self.old) (map_state self.new) result }
     {
         self.serialize_entry(&name, value)
     }

@@ -5,7 +5,7 @@ ghost use Rattle.std.specs.Prelude.{OnErr, length, map, option_map, drop, slice_
 ghost use Rattle.std.specs.List.{All, slice_range};
 ghost use Rattle.dagcbor_write.specs.Gathering.{Collects};
 ghost use Rattle.dagcbor_write.specs.Maps.{MapState, Texts, no_entry_yet, is_complete, begins_text};
-ghost use Rattle.dagcbor_write.specs.Maps.{HoldsKey, JoinsValue, RefusesKey, RefusesValue};
+ghost use Rattle.dagcbor_write.specs.Maps.{HoldsKey, JoinsValue, IsKeyMessage, IsValueMessage};
 ghost use Rattle.dagcbor_write.specs.Order.{KeysDiffer, PutsInOrder};
 ghost use Rattle.dagcbor_write.specs.Spans.{entry_at, whole_at, IsWithin};
 
@@ -122,7 +122,7 @@ impl Gathered {
         ensures entries { self.new.entries ≡ self.old.entries }
         ensures announced { self.new.announced ≡ self.old.announced }
         ensures key { Collects (λ u. HoldsKey (K.tree key.now) self.new.key)
-            (RefusesKey (K.tree key.now)) result }
+            (IsKeyMessage (K.tree key.now)) result }
         ensures no_key { OnErr result (self.new.key ≡ None) }
     {
         let start = self.bytes.len();
@@ -147,7 +147,7 @@ impl Gathered {
         ensures announced { self.new.announced ≡ self.old.announced }
         ensures entry { Collects
             (λ u. JoinsValue self.old.key (V.tree value.now) self.old.entries self.new.entries)
-            (RefusesValue (V.tree value.now)) result }
+            (IsValueMessage (V.tree value.now)) result }
         ensures kept { OnErr result (self.new.entries ≡ self.old.entries) }
     {
         let Some(start) = self.key.take() else {

@@ -12,7 +12,7 @@ ghost use Rattle.dagcbor_write.specs.Each.{AreTrees};
 ghost use Rattle.dagcbor_write.specs.Gathering.{Grows, Refused, RefusedFor, Collects};
 ghost use Rattle.dagcbor_write.specs.Keyed.{JoinsKeyed, PutsKeysInOrder, spelled_keyed, value_trees};
 ghost use Rattle.dagcbor_write.specs.Keyed.{RefusesKeyedValue};
-ghost use Rattle.dagcbor_write.specs.Maps.{RefusesKey};
+ghost use Rattle.dagcbor_write.specs.Maps.{IsKeyMessage};
 ghost use Rattle.dagcbor_write.specs.Order.{KeysDiffer};
 
 use crate::collect::buffer::FIRST_ROOM;
@@ -42,13 +42,13 @@ pub(crate) struct Keyed<'a, V> {
 impl<'a, V> Model for Keyed<'a, V> {
     ghost use Rattle.std.specs.Prelude.{ℕ, List, length, map};
     ghost use Rattle.std.specs.List.{All};
-    ghost use Rattle.dagcbor_write.specs.Spans.{keyed_at, IsInside};
+    ghost use Rattle.dagcbor_write.specs.Spans.{keyed_at, EndsWithin};
 
     ghost Value = { List (List ℕ × V) };
 
     ghost view = { λ k. map (keyed_at k.keys) k.spans.items };
 
-    ghost invariant = { λ k. All (IsInside (length k.keys)) k.spans.items };
+    ghost invariant = { λ k. All (EndsWithin (length k.keys)) k.spans.items };
 }
 
 impl<'a, V> Keyed<'a, V> {
@@ -99,7 +99,7 @@ impl<'a, V> Keyed<'a, V> {
         value: &'a V,
     ) -> Result<(), EncodeError<E>>
         ensures { Collects (λ u. JoinsKeyed (K.tree key.now) value.now self.old self.new)
-            (RefusesKey (K.tree key.now)) result }
+            (IsKeyMessage (K.tree key.now)) result }
     {
         let start = self.keys.writer().buffer().len();
         spell_key(alloc, &mut self.keys, key)?;

@@ -5,7 +5,7 @@ ghost use Rattle.dagcbor_heads.specs.Written.{Writes, WantsMemoryOnlyIf};
 ghost use Rattle.ipld_tree.specs.Spelled.{spelled_tree};
 ghost use Rattle.ipld_tree.specs.Tree.{IsTree, list_tree};
 ghost use Rattle.dagcbor_write.specs.Trees.{option_tree};
-ghost use Rattle.dagcbor_write.specs.Answers.{OnMessage, RefusesAnyPart};
+ghost use Rattle.dagcbor_write.specs.Answers.{OnMessage, IsMessageOfAny};
 ghost use Rattle.dagcbor_write.specs.Answers.{option_message, option_unsent};
 
 use crate::serialize::Serialize;
@@ -63,7 +63,7 @@ impl<T: Serialize> Serialize for Vec<T> {
 
     ghost takes_memory = { T.takes_memory };
 
-    ghost message = { λ v. RefusesAnyPart T.tree T.message v.items };
+    ghost message = { λ v. IsMessageOfAny T.tree T.message v.items };
 
     fn serialize<W: Write>(&self, alloc: Global, ser: &mut Serializer<W>) -> WriteResult<(), W> {
         serialize_items(alloc, self.as_slice(), ser)
@@ -75,7 +75,7 @@ impl<T: Serialize> Serialize for &[T] {
 
     ghost takes_memory = { T.takes_memory };
 
-    ghost message = { λ v. RefusesAnyPart T.tree T.message v.now };
+    ghost message = { λ v. IsMessageOfAny T.tree T.message v.now };
 
     fn serialize<W: Write>(&self, alloc: Global, ser: &mut Serializer<W>) -> WriteResult<(), W> {
         serialize_items(alloc, *self, ser)
@@ -93,7 +93,7 @@ fn serialize_items<T: Serialize, W: Write>(
         (W.written ser.old) (W.written ser.new) result }
     ensures well_formed { OnOk result (IfSome (list_tree (map T.tree items.now)) IsTree) }
     ensures memory { WantsMemoryOnlyIf (T.takes_memory || W.takes_memory) result }
-    ensures told { IfErr result (OnMessage (RefusesAnyPart T.tree T.message items.now)) }
+    ensures told { IfErr result (OnMessage (IsMessageOfAny T.tree T.message items.now)) }
 {
     let mut list = ser.serialize_tuple(alloc, items.len())?;
     for item in items {

@@ -5,7 +5,7 @@ ghost use Rattle.std.specs.Prelude.{Bool, false, ◌||◌};
 ghost use Rattle.dagcbor_heads.specs.Written.{Writes, WantsMemoryOnlyIf};
 ghost use Rattle.ipld_tree.specs.Spelled.{spelled_tree};
 ghost use Rattle.ipld_tree.specs.Tree.{Tree, IsTree, list_tree};
-ghost use Rattle.dagcbor_write.specs.Answers.{OnMessage, NoMessage, OneOf, RefusesPart};
+ghost use Rattle.dagcbor_write.specs.Answers.{OnMessage, NoMessage, OneOf, IsPartMessage};
 ghost use Rattle.dagcbor_write.specs.Each.{spelled_each, AreTrees, in_turn};
 
 use crate::serialize::Serialize;
@@ -52,7 +52,7 @@ impl<T: Serialize> Part for &T {
 
     ghost takes_memory = { T.takes_memory };
 
-    ghost message = { λ part. RefusesPart T.tree T.message part.now };
+    ghost message = { λ part. IsPartMessage T.tree T.message part.now };
 
     #[tactic(auto, using(crate::proofs::Messages::part_told))]
     fn serialize_part<W: Write>(
@@ -96,7 +96,7 @@ impl<A: Serialize> Serialize for (A,) {
 
     ghost takes_memory = { A.takes_memory };
 
-    ghost message = { λ p. OneOf (RefusesPart A.tree A.message p.0)
+    ghost message = { λ p. OneOf (IsPartMessage A.tree A.message p.0)
         NoMessage
         NoMessage
         NoMessage };
@@ -111,8 +111,8 @@ impl<A: Serialize, B: Serialize> Serialize for (A, B) {
 
     ghost takes_memory = { A.takes_memory || B.takes_memory };
 
-    ghost message = { λ p. OneOf (RefusesPart A.tree A.message p.0)
-        (RefusesPart B.tree B.message p.1)
+    ghost message = { λ p. OneOf (IsPartMessage A.tree A.message p.0)
+        (IsPartMessage B.tree B.message p.1)
         NoMessage
         NoMessage };
 
@@ -126,9 +126,9 @@ impl<A: Serialize, B: Serialize, C: Serialize> Serialize for (A, B, C) {
 
     ghost takes_memory = { A.takes_memory || (B.takes_memory || C.takes_memory) };
 
-    ghost message = { λ p. OneOf (RefusesPart A.tree A.message p.0)
-        (RefusesPart B.tree B.message p.1)
-        (RefusesPart C.tree C.message p.2)
+    ghost message = { λ p. OneOf (IsPartMessage A.tree A.message p.0)
+        (IsPartMessage B.tree B.message p.1)
+        (IsPartMessage C.tree C.message p.2)
         NoMessage };
 
     fn serialize<W: Write>(&self, alloc: Global, ser: &mut Serializer<W>) -> WriteResult<(), W> {
@@ -141,10 +141,10 @@ impl<A: Serialize, B: Serialize, C: Serialize, D: Serialize> Serialize for (A, B
 
     ghost takes_memory = { A.takes_memory || (B.takes_memory || (C.takes_memory || D.takes_memory)) };
 
-    ghost message = { λ p. OneOf (RefusesPart A.tree A.message p.0)
-        (RefusesPart B.tree B.message p.1)
-        (RefusesPart C.tree C.message p.2)
-        (RefusesPart D.tree D.message p.3) };
+    ghost message = { λ p. OneOf (IsPartMessage A.tree A.message p.0)
+        (IsPartMessage B.tree B.message p.1)
+        (IsPartMessage C.tree C.message p.2)
+        (IsPartMessage D.tree D.message p.3) };
 
     fn serialize<W: Write>(&self, alloc: Global, ser: &mut Serializer<W>) -> WriteResult<(), W> {
         serialize_parts(alloc, ser, 4, (&self.0, &self.1, &self.2, &self.3))

@@ -2,7 +2,7 @@ use Rattle.std.proofs.Common.{rules, length, refl}
 use Rattle.dagcbor_heads.proofs.Writing.{next_part, exit_part, all_written, Writes_at, Writes_ok}
 use Rattle.dagcbor_write.proofs.Lists.{begin_items, at_item, at-end, AreTrees_next}
 use Rattle.dagcbor_write.proofs.Messages.{exit_tells, exit_item}
-use Rattle.dagcbor_write.specs.Answers.{NoMessage, RefusesAnyPart}
+use Rattle.dagcbor_write.specs.Answers.{NoMessage, IsMessageOfAny}
 use Rattle.dagcbor_write.proofs.types.holders.serialize_items.Goals as goal
 
 pub returns-in_err-list-clause-written : goal.returns-in_err-list-clause-written
@@ -31,7 +31,7 @@ returns-clause-written g c =
     Writes_at _ _ _ _ _ (search rules) (Writes_ok _ _ _ _ c.end.ensures.ok (all_written w))
 
 pub returns-in_err-list-clause-told : goal.returns-in_err-list-clause-told
-returns-in_err-list-clause-told g c = exit_tells NoMessage (RefusesAnyPart g.T.Serialize.tree g.T.Serialize.message c.args.items.now) _ _ c.from_residual.ensures.1 (λ m k. absurd k) c.in_err-list.ensures.begins.silent
+returns-in_err-list-clause-told g c = exit_tells NoMessage (IsMessageOfAny g.T.Serialize.tree g.T.Serialize.message c.args.items.now) _ _ c.from_residual.ensures.1 (λ m k. absurd k) c.in_err-list.ensures.begins.silent
 
 pub returns-in_err-serialize_element-clause-told : goal.returns-in_err-serialize_element-clause-told
 returns-in_err-serialize_element-clause-told g c =

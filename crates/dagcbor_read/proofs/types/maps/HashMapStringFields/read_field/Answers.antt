@@ -1,7 +1,7 @@
 use Rattle.std.proofs.Common.{◌∙◌, ap}
 use Rattle.std.specs.BTreeMap.{insert_entry}
 use Rattle.ipld_tree.specs.Key.{key_cmp}
-use Rattle.dagcbor_read.specs.Collections.{in_key_order, text_pairs}
+use Rattle.dagcbor_read.specs.Collections.{in_key_order, held_pairs}
 use Rattle.dagcbor_read.proofs.HashedPlaces.{put_hashed}
 use Rattle.dagcbor_read.proofs.KeyPlaces.{value_put}
 use Rattle.dagcbor_read.proofs.types.maps.HashMapStringFields.read_field.Goals as goal
@@ -9,7 +9,7 @@ use Rattle.dagcbor_read.proofs.types.maps.HashMapStringFields.read_field.Goals a
 pub returns-in-Ok-insert-clause-value : goal.returns-in-Ok-insert-clause-value
 returns-in-Ok-insert-clause-value g c = λ f.
     let k = c.in_ok-value.ensures.value f in
-    let pairs = in_key_order (text_pairs g.V.Shown.meaning c.args.places.now.entries) in
+    let pairs = in_key_order (held_pairs g.V.Shown.meaning c.args.places.now.entries) in
     let put = c.in-Ok-insert.ensures in
     let placed = put_hashed g.V.Shown.meaning c.args.places.now.entries c.insert.new.self.entries c.in-Ok.name c.in_ok-value.value c.in-Ok-insert.field-0 put.old put.entries put.unique
     ∙ ap (λ x. insert_entry key_cmp pairs x (g.V.Shown.meaning c.in_ok-value.value)) c.in-Ok.ensures.ok in

@@ -3,12 +3,12 @@ use Rattle.std.proofs.lemmas.Cmp.{nat_list_cmp_total}
 use Rattle.std.proofs.lemmas.Fn.{always_returns_same}
 use Rattle.std.proofs.lemmas.List.Sorted.{All-permutation, IsPermutation-map, ranks_by}
 use Rattle.dagcbor_write.specs.declared.collect.keyed.KeySpan.{KeySpan}
-use Rattle.dagcbor_write.specs.Spans.{IsInside, keyed_at}
+use Rattle.dagcbor_write.specs.Spans.{EndsWithin, keyed_at}
 use Rattle.dagcbor_write.proofs.Spans.{keyed_sorted}
 use Rattle.dagcbor_write.proofs.collect.keyed.Keyed.put_in_order.Goals as goal
 
 pub invariant_of-self : goal.invariant_of-self
-invariant_of-self g c = All-permutation (IsInside (length c.self.inside.keys)) _ _ c.sort_unstable_by.ensures.permutation c.self.invariant
+invariant_of-self g c = All-permutation (EndsWithin (length c.self.inside.keys)) _ _ c.sort_unstable_by.ensures.permutation c.self.invariant
 
 pub returns : goal.returns
 returns g c =

@@ -89,7 +89,7 @@ fn verdict_said(
 
 /// The lines of these names. Nothing is wrong where there is none.
 #[tactic(auto, using(block_lines::proofs::Saying::told_empty))]
-fn names_said(alloc: Global, names: &[Cid]) -> Result<Said, AllocError>
+pub(crate) fn names_said(alloc: Global, names: &[Cid]) -> Result<Said, AllocError>
     ensures lines { IfOk result (λ p. p.0.items ≡ flat_map missing_line names.now) }
     ensures well { IfOk result (λ p. IsTrue p.1 ↔ (names.now ≡ [])) }
 {

@@ -8,7 +8,8 @@ ghost use Rattle.dagcbor_car.specs.Reached.{sections_at};
 ghost use Rattle.dagcar_lines.specs.Finding.{IsTreeOf, IsTreeOfFile, Sends, SendsTree};
 ghost use Rattle.block_lines.specs.Lines.{SaysBoth};
 
-use block_lines::{missing_lines, say_both};
+use crate::check::names_said;
+use block_lines::say_both;
 use dagcbor_car::push_tree;
 use dagcbor_cli::{ToolError, write_all};
 use dagcbor_heads::{EncodeError, IoRefWriter};
@@ -86,8 +87,7 @@ fn say_tree<W: Write, V: Write>(
         (V.contents errors.old) result (W.contents output.new) (V.contents errors.new) }
 {
     let Reached { found, lost } = reach_from(alloc, blocks, root)?;
-    let told = missing_lines(alloc, &lost)?;
-    let whole = lost.is_empty();
+    let (told, whole) = names_said(alloc, &lost)?;
     send_tree(alloc, root, blocks, &found, output)?;
     write_all(errors, &told)?;
     Ok(whole)

@@ -205,13 +205,15 @@ pub fn say_file<'de, T: Teller, R: Read, W: Write, V: Write>(
         (V.contents errors.old) result (V.contents errors.new) }
 {
     match pull_header(alloc, input) {
-        Ok((roots, extent)) => {
-            let (teller, of_roots) = T::begin(alloc, &roots)?;
-            say_header(alloc, teller, &of_roots, input, extent, output, errors)
-        }
-        Err(error) => {
-            let line = fault_line(alloc, error)?;
-            say((line, false), output)
-        }
+        Ok((roots, extent)) => match T::begin(alloc, &roots) {
+            Ok((teller, of_roots)) => {
+                say_header(alloc, teller, &of_roots, input, extent, output, errors)
+            }
+            Err(_) => Err(ToolError::OutOfMemory),
+        },
+        Err(error) => match fault_line(alloc, error) {
+            Ok(line) => say((line, false), output),
+            Err(fault) => Err(fault),
+        },
     }
 }

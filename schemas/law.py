@@ -24,8 +24,7 @@ from schemas.parsing import (
 MOST_FIELDS = 14  # of a row that is read or written as one
 MOST_PAIRS = 3  # of the fields of a struct that is a list of pairs
 MOST_STEPS = 16  # of such a row: one for a field, and one for each list, map, nullable and optional of its type
-MOST_IN_PART = 4  # fields of each part, where a row is more than the prover takes at once
-MOST_IN_PARTS = 30  # fields of all parts: a place lies in the one before, and types nest at most 64 deep
+MOST_IN_GROUP = 4  # fields of a group, or groups of one, where a row is more than the prover takes at once
 KINDS = ("bool", "int", "string", "bytes", "list", "map", "link")  # of the members of a kinded union
 
 # What a link may lead to, beside the types of the schema.
@@ -35,8 +34,8 @@ DATA_MODEL = ("Any", "Bool", "Bytes", "Float", "Int", "Link", "List", "Map", "St
 TAKEN = set(
     """Any Bool Bytes Float Int Link List Map Null String Unit
     Box Clone Copy Debug Default Drop Eq Err From Hash Into Iterator Model Never None Ok Option Ord PartialEq PartialOrd Result Self
-    Send Some Sync Vec BTreeMap Cid Ipld Global Closed DecodeError Deserialize DeserializeOwned Deserializer EnumAccessor Field Fields
-    Accessor ByKind Enveloped NoKind Numbered Omissible Optional Read ReadResult Required Serialize Serializer Shown Variants Write WriteResult
+    Send Some Sync Vec BTreeMap Cid Ipld Global Closed DecodeError Deserialize DeserializeOwned Deserializer EnumAccessor Field FieldGroup Fields
+    Accessor ByKind Enveloped NoKind Numbered Omissible OmissibleItem Optional Read ReadResult Required Serialize Serializer Shown Variants Write WriteResult
     EnumShape Lib Made Numbered OptionalPart Part Parts PartRow Prim R Shape Syntax TheOwn TheVariants Tree Type W""".split()
 )
 TAKEN_VARIANTS = {"Below", "Self", "Denot"}
@@ -90,8 +89,8 @@ class Schema:
             if name in (other.name + "View",) or other.name == name + "View":
                 raise SchemaError(place, f"`{name}` and `{other.name}`: what the one is read as has the other's name")
             for one, part in ((name, other.name), (other.name, name)):
-                if re.fullmatch(one + "(Rest|Row|Places)[0-9]+", part):
-                    raise SchemaError(place, f"`{name}` and `{other.name}`: a part of the one may have the other's name")
+                if re.fullmatch(one + "(Group|Row|Own)[0-9]+", part):
+                    raise SchemaError(place, f"`{name}` and `{other.name}`: a group of the one may have the other's name")
         self.by_name[name] = definition
 
     def resolve(self, kind):
@@ -206,17 +205,16 @@ class Schema:
         raise SchemaError(place, f"a field that means a value where it is left out is a Bool, an Int or of an enum here: `{field.name}`")
 
     def check_size(self, struct):
-        """The prover takes so much for one statement: what is not read in parts may pass it, or one field alone."""
-        most = MOST_IN_PARTS if in_parts(struct) else MOST_FIELDS
-        if len(struct.fields) > most:
+        """The prover takes so much for one statement: what is not read in groups may pass it, or one field alone."""
+        if not in_groups(struct) and len(struct.fields) > MOST_FIELDS:
             raise SchemaError(
-                struct.fields[most].place,
-                f"a struct has at most {MOST_IN_PARTS} fields here, and {MOST_FIELDS} where it is a tuple or a field means a value where it is left out,"
-                f" which the prover can take: move some of `{struct.name}` into a struct of their own",
+                struct.fields[MOST_FIELDS].place,
+                f"a struct that is a tuple, or of which a field means a value where it is left out, has at most {MOST_FIELDS} fields here, which the"
+                f" prover can take: move some of `{struct.name}` into a struct of their own",
             )
-        for part in self.row_parts(struct):
+        for group in self.row_groups(struct):
             steps = 0
-            for field in part:
+            for field in group:
                 steps += self.steps(field)
                 if steps > MOST_STEPS:
                     raise SchemaError(
@@ -228,14 +226,14 @@ class Schema:
     def steps(self, field):
         return depth(self.resolve(field.type)) + field.optional
 
-    def row_parts(self, struct):
-        """The fields in the parts that the prover takes at once: one part, where it takes them all."""
+    def row_groups(self, struct):
+        """The fields in the groups that the prover takes at once: one, where it takes them all."""
         steps = [self.steps(field) for field in struct.fields]
-        if not in_parts(struct) or (len(steps) <= MOST_FIELDS and sum(steps) <= MOST_STEPS):
+        if not in_groups(struct) or (len(steps) <= MOST_FIELDS and sum(steps) <= MOST_STEPS):
             return [struct.fields]
         made, left = [[]], MOST_STEPS
         for field, wanted in zip(struct.fields, steps):
-            if made[-1] and (len(made[-1]) == MOST_IN_PART or wanted > left):
+            if made[-1] and (len(made[-1]) == MOST_IN_GROUP or wanted > left):
                 made.append([])
                 left = MOST_STEPS
             made[-1].append(field)
@@ -390,7 +388,7 @@ def bounds(width):
     return (0, 2**bits - 1) if width[0] == "u" else (-(2 ** (bits - 1)), 2 ** (bits - 1) - 1)
 
 
-def in_parts(struct):
+def in_groups(struct):
     """Whether a struct of many fields is read in parts."""
     return struct.representation == "map" and all(field.implicit is None for field in struct.fields)
 

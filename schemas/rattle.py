@@ -5,7 +5,7 @@ import re
 from schemas.law import MOST_FIELDS, RESERVED, field_name, held_by, parts, path_name, snake
 from schemas.layout import INSIDE_STRUCT, SHORT_IF, WIDTH, Group, arm, block_arm, filled, ghost, lines, pairs_of, split, typed
 from schemas.parsing import Alias, Enum, Int, Leaf, Link, ListOf, MapOf, Member, Named, Nullable, Struct, Union, Unit
-from schemas.rests import Rest, rest_name
+from schemas.groups import form, groups_of
 
 LEAVES = {
     # its type, what it is read as, its shape, its tree and its meaning
@@ -521,8 +521,8 @@ class Module:
         schema = [word for word in SCHEMA_WORDS if word in words]
         if schema:
             made += filled("use dagcbor_schema::", schema, ";")
-        library = """Accessor Bytes Cid Closed DecodeError Deserialize DeserializeOwned Deserializer EnumAccessor Field Fields Ipld Omissible
-            Optional Read ReadResult Required Serialize Serializer Shown Variants Write WriteResult read_enum read_struct read_tuple
+        library = """Accessor Bytes Cid Closed DecodeError Deserialize DeserializeOwned Deserializer EnumAccessor Field FieldGroup Ipld Omissible
+            OmissibleItem Optional Read ReadResult Required Serialize Serializer Shown Variants Write WriteResult read_enum read_struct read_tuple
             write_struct""".split()
         made += filled("use serde_ipld_dagcbor::", [word for word in library if word in words], ";")
         made.append("use std::alloc::Global;")
@@ -613,11 +613,15 @@ class Module:
             read += lines(Group("read_struct(", call, ")"), 8)
             return made + self.implied_impls(struct, kinds, end, read)
         read += lines(Group("let row = read_struct(", call, ")?"), 8, ";")
-        in_parts = self.schema.row_parts(struct)
-        if len(in_parts) > 1:
-            rest = Rest(self, struct, 1, in_parts)
-            made += rest.items()
-            read += self.row_apart(kinds[: len(in_parts[0])], rest_name(struct)) + rest.apart()
+        few = self.schema.row_groups(struct)
+        if len(few) > 1:
+            groups, row = groups_of(self, struct, few)
+            *before, last = row
+            read += [f"        let ({group.word}, row) = row;" for group in before] + [f"        let ({last.word}, {end}) = row;"]
+            for group in reversed(groups):
+                read += group.apart()
+            for group in groups:
+                made += group.items()
         else:
             read += self.row_apart(kinds, end)
         read += lines(self.literal(struct), 8)
@@ -642,10 +646,10 @@ class Module:
         parts, seen = "Closed" if end == "Closed" else "()", []
         for field, kind in reversed(kinds):
             part = f"{self.code(kind)}"
-            parts = f"Omissible<{part}, {parts}>" if may_lack(field) else f"(Required<{part}>, {parts})"
+            parts = f"({form(field)}<{part}>, {parts})"
         for place, (field, kind) in enumerate(kinds):
-            value = self.row_place(kinds, place)
-            seen.append(self.meaning(Nullable(kind, kind.place), value) if may_lack(field) else self.meaning(kind, value + ".0"))
+            value = self.row_place(kinds, place) + ".0"
+            seen.append(self.meaning(Nullable(kind, kind.place) if may_lack(field) else kind, value))
         meaning = self.row_meaning(kinds)
         return [
             *self.made_impl(struct, parts, [f"{name}_row", pairs_of(seen), f"{name}_row_shape"], meaning, f"{name}_of_row", read, of),
@@ -684,7 +688,7 @@ class Module:
             write += lines(Group("let row = (", [part, "row"], ")"), 8, ";")
         write.append(f"        write_parts(alloc, {len(kinds)}, row, ser)")
         read = [f"        let row = read_tuple(alloc, {len(kinds)}, de)?;"]
-        read += self.row_apart(kinds, "()", "{}")
+        read += self.list_apart(kinds)
         read += lines(self.literal(struct), 8)
         return [
             *self.serialize_impl(struct, ghost_rows("λ v. list_tree (", tree, "[]"), write),
@@ -694,7 +698,7 @@ class Module:
 
     def pairs_impls(self, struct):
         kinds = [(field, self.schema.resolve(field.type)) for field in struct.fields]
-        tree, write, of, seen, parts = [], [], self.row_apart(kinds, "()", "{}"), [], "()"
+        tree, write, of, seen, parts = [], [], self.list_apart(kinds), [], "()"
         for place, (field, kind) in enumerate(kinds):
             word = field_name(field.name)
             tree.append(f'list_tree (Some (text (codes "{field.key}")) ∷ {self.tree(kind, f"v.{word}")} ∷ []) ∷')
@@ -724,14 +728,22 @@ class Module:
         ]
 
     @staticmethod
-    def row_apart(kinds, end, there="Required({})"):
-        """The lines that take a row apart into its fields, where one that must be there stands so."""
+    def row_apart(kinds, end):
+        """The lines that take a row apart into its fields."""
         made = []
         for place, (field, _) in enumerate(kinds):
-            name = field_name(field.name)
             rest = "row" if place < len(kinds) - 1 else end
-            made.append(f"        let {f'Omissible({name}, {rest})' if may_lack(field) else f'({there.format(name)}, {rest})'} = row;")
+            made.append(f"        let ({form(field)}({field_name(field.name)}), {rest}) = row;")
         return made or [f"        let {end} = row;"]
+
+    @staticmethod
+    def list_apart(kinds):
+        """The lines that take a list's row apart into its items."""
+        made = []
+        for place, (field, _) in enumerate(kinds):
+            name, rest = field_name(field.name), "row" if place < len(kinds) - 1 else "()"
+            made.append(f"        let {f'OmissibleItem({name}, {rest})' if field.optional else f'({name}, {rest})'} = row;")
+        return made or ["        let () = row;"]
 
     # -- enums
 
@@ -815,7 +827,7 @@ class Module:
         end = "()" if is_open else "Closed"
         tree, meaning, write, of = [], [], ["        match self {"], ["        let (Required(tag), row) = parts;"]
         for place, (_, _, local, _) in enumerate(row):
-            of.append(f"        let Omissible({local}, {'row' if place < len(row) - 1 else end}) = row;")
+            of.append(f"        let (Omissible({local}), {'row' if place < len(row) - 1 else end}) = row;")
         if not row:
             of[0] = f"        let (Required(tag), {end}) = parts;"
         of.append("        match tag.as_str() {")
@@ -831,7 +843,7 @@ class Module:
         read = lines(names, 8, ";") + lines(Group("read_struct(", ["alloc", f'"{name}"', "names", "de"], ")"), 8)
         kind = "Closed" if not is_open else "()"
         for _, held, _, _ in reversed(row):
-            kind = f"Omissible<{self.code(held)}, {kind}>"
+            kind = f"(Omissible<{self.code(held)}>, {kind})"
         shown = pairs_of(["string_bytes v.0.0", *(self.inline_shown(row, place) for place in range(len(row)))])
         return [
             *self.serialize_impl(union, cases_of(tree), write),
@@ -844,7 +856,7 @@ class Module:
     def inline_shown(self, row, place):
         """What the field at this place of a row that was read means."""
         kind = row[place][1]
-        return self.meaning(Nullable(kind, kind.place), "v.1" + ".1" * place + ".0")
+        return self.meaning(Nullable(kind, kind.place), "v.1" + ".1" * place + ".0.0")
 
     def inline_tree(self, union, case, struct):
         rows = []

@@ -142,7 +142,7 @@ impl<'de> Deserialize<'de> for Track {
     fn deserialize<R: Read>(alloc: Global, de: &mut Deserializer<'de, R>) -> ReadResult<Self, R> {
         let names = &["note", "title", "seconds"];
         let row = read_struct(alloc, "Track", names, de)?;
-        let Omissible(note, row) = row;
+        let (Omissible(note), row) = row;
         let (Required(title), row) = row;
         let (Required(seconds), Closed) = row;
         Ok(Track {
@@ -191,7 +191,7 @@ impl<'de> Deserialize<'de> for Album {
     fn deserialize<R: Read>(alloc: Global, de: &mut Deserializer<'de, R>) -> ReadResult<Self, R> {
         let names = &["year", "title", "format", "tracks"];
         let row = read_struct(alloc, "Album", names, de)?;
-        let Omissible(year, row) = row;
+        let (Omissible(year), row) = row;
         let (Required(title), row) = row;
         let (Required(format), row) = row;
         let (Required(tracks), Closed) = row;

@@ -20,7 +20,7 @@ use Rattle.std.specs.declared.borrow.CowStr.{CowStr}
 use Rattle.dagcbor_read.specs.declared.access.enum_accessor.EnumAccessor.{EnumAccessor}
 use Rattle.dagcbor_read.specs.Enums.{EnumState, enum_state, SpendsEnum, ReadsName, BeginsHeld}
 use Rattle.dagcbor_read.specs.Collections.{FieldShape, TakesRow}
-use Rattle.dagcbor_read.specs.Parts.{HandsWholeOn, IsStart, IsNoEnd, IsFurther, RefusesFurther, RefusesAsOr, RefusesEntry, RefusesFieldsAs, IfRefused, FillsAs, IsMissingField, HasMessage, RefusesRest, RefusesListAs, RefusesEnumAs, RefusesHeldFields}
+use Rattle.dagcbor_read.specs.Parts.{HandsWholeOn, IsStart, IsNoEnd, IsFurther, RefusesFurther, RefusesEntry, RefusesFieldsAs, IfRefused, FillsAs, IsMissingField, HasMessage, RefusesRest, RefusesListAs, RefusesEnumAs, RefusesHeldFields}
 use Rattle.dagcbor_read.proofs.Answered.{KeyRead}
 use Rattle.dagcbor_read.proofs.EntryRows.{FieldsSoFar, no_more_fields}
 use Rattle.dagcbor_read.proofs.ItemRows.{ReadSoFar, no_more_items}
@@ -98,24 +98,6 @@ module _ {S : Type 0} (shape : FieldShape S) where
     sound = i.sound;
     passed = λ b l. let q = (i.takes 0 s now.input (no_more_fields shape s now_left.last now.input)).taken b l in (entries_spelling q.0, q.1, q.4.is, q.7);
   }
-
-module _ {T E : Type 0} (answers : DeState → Result T (DecodeError E) → DeState → Type 0) (others : DeState → DecodeError E → DeState → Type 0) where
-  -- what fills a place is refused as its type says, and what goes to another place as that says
-  pub own_refused : (place : Option T) (old new : DeState) (r : Result (Unit {0}) (DecodeError E)) → FillsAs answers place old r new → IfErr r (λ e. RefusesAsOr answers others old e new)
-  own_refused place old new (Ok u) h = tt
-  own_refused place old new (Err e) h = inl h
-
-  pub others_refuse : (old new : DeState) (r : Result (Unit {0}) (DecodeError E)) → IfErr r (λ e. others old e new) → IfErr r (λ e. RefusesAsOr answers others old e new)
-  others_refuse old new (Ok u) h = tt
-  others_refuse old new (Err e) h = inr h
-
-  pub own_refused_further : (old mid new : DeState) (o : Option (DecodeError E)) → IsFurther old mid → IfSome o (λ e. answers mid (Err e) new) → IfSome o (λ e. RefusesFurther (RefusesAsOr answers others) old e new)
-  own_refused_further old mid new None i h = tt
-  own_refused_further old mid new (Some e) i h = (mid, i, inl h)
-
-  pub others_refuse_further : (old mid new : DeState) (o : Option (DecodeError E)) → mid ≡ old → IfSome o (λ e. RefusesFurther others mid e new) → IfSome o (λ e. RefusesFurther (RefusesAsOr answers others) old e new)
-  others_refuse_further old mid new None is h = tt
-  others_refuse_further old mid new (Some e) is h = (h.0, subst (λ x. IsFurther x h.0) is h.1, inr h.2)
 
 module _ {E : Type 0} (refuses : DeState → DecodeError E → DeState → Type 0) where
   pub from_further : (old mid new : DeState) (e : DecodeError E) → IsFurther old mid → RefusesFurther refuses mid e new → RefusesFurther refuses old e new

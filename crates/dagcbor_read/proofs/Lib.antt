@@ -17,4 +17,5 @@ pub mod FieldPlaces
 pub mod Finishing
 pub mod EntryLoops
 pub mod NamedRows
+pub mod Joins
 pub mod FirstKinds

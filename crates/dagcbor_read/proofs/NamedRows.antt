@@ -19,80 +19,11 @@ use Rattle.dagcbor_read.proofs.FieldPlaces.{other_name, takes_as, front_as}
 use Rattle.dagcbor_heads.proofs.Refusing.{refusal_carried}
 use Rattle.dagcbor_read.proofs.Passing.{or_left, or_right, lacks_before}
 
-name_taken : {last : Option (List ℕ)} {name : List ℕ} {old mid : DeState} → TakesName last name old mid → TakesKnown (λ k. HasName last k old.input) last old name mid
+pub name_taken : {last : Option (List ℕ)} {name : List ℕ} {old mid : DeState} → TakesName last name old mid → TakesKnown (λ k. HasName last k old.input) last old name mid
 name_taken h = record { is = h.0; follows = h.0.follows; read = h.1; takes = text_taken _ h.2 }
 
 key_known : {known : List ℕ → Type 0} {last : Option (List ℕ)} {left : ℕ} {old mid : DeState} {key : List ℕ} → 0 < left → TakesKnown known last old key mid → KeyRead last left old key mid
 key_known some t = record { sound = t.read; some = some; follows = t.follows; takes = t.takes }
-
-module _ {V S : Type 0} (name : List ℕ) (shape : Shape Tree V) (others : FieldShape S) (o : Option V) (state : S) where
-  -- ---- the first place
-
-  own_view : (t : Tree) → (place name shape others).take (o, state) name t ≡ option_map (λ v. (Some v, state)) (shape.view t)
-  own_view t = ap (λ (b : Bool). if b then option_map (λ v. (Some v, state)) (shape.view t) else option_map (λ x. (o, x)) (others.take state name t)) ((bytes_eq-Decides name name).1 refl)
-
-  own_need : (t : Tree) → (place name shape others).need name t ≡ shape.need t
-  own_need t = ap (λ (b : Bool). if b then shape.need t else others.need name t) ((bytes_eq-Decides name name).1 refl)
-
-  pub first_named : {E : Type 0} (before with_name after : AccessorState) (old mid new : DeState) (taken : Bool) (refusal : Option (DecodeError E)) (p : Option V)
-      → with_name ≡ with_key name before → TakesName before.last name old mid → ReadsNamedValue shape with_name mid taken refusal p after new
-      → ReadsNamed (place name shape others) (o, state) before old taken refusal (p, state) after new
-  first_named before with_name after old mid new true refusal (Some v) is h r = record {
-    key = name;
-    mid = mid;
-    begun = name_taken h;
-    counted = r.0 ∙ ap with_value is;
-    sound = r.1;
-    value = takes_as (λ v. (Some v, state)) shape (value_of (place name shape others) (o, state) name) own_view own_need r.2;
-  }
-  first_named before with_name after old mid new true refusal None is h r = absurd r
-  first_named before with_name after old mid new false (Some e) p is h r = record {
-    key = name;
-    mid = mid;
-    begun = name_taken h;
-    refused = refusal_carried Anything Anything mid.input mid.input new.input e record { faults = refl; lends = refl }
-        (λ front. front_as (λ v. (Some v, state)) shape (value_of (place name shape others) (o, state) name) own_view own_need front) (or_left _ _) (or_left _ _) (λ b l g. tt) r;
-  }
-  first_named before with_name after old mid new false None p is h r = absurd r
-
-  -- ---- the others
-
-  other_view : (k : List ℕ) → bytes_eq k name ≡ false → (t : Tree) → (place name shape others).take (o, state) k t ≡ option_map (λ x. (o, x)) (others.take state k t)
-  other_view k e t = ap (λ (b : Bool). if b then option_map (λ v. (Some v, state)) (shape.view t) else option_map (λ x. (o, x)) (others.take state k t)) e
-
-  other_need : (k : List ℕ) → bytes_eq k name ≡ false → (t : Tree) → (place name shape others).need k t ≡ others.need k t
-  other_need k e t = ap (λ (b : Bool). if b then shape.need t else others.need k t) e
-
-  pub other_named : {E : Type 0} (before after : AccessorState) (old new : DeState) (taken : Bool) (refusal : Option (DecodeError E)) (s : S)
-      → ¬ HasName before.last name old.input → ReadsNamed others state before old taken refusal s after new
-      → ReadsNamed (place name shape others) (o, state) before old taken refusal (o, s) after new
-  other_named before after old new true refusal s none h =
-      let e = other_name (λ is. none (subst (λ k. HasName before.last k old.input) is h.begun.is)) in
-      record {
-        key = h.key;
-        mid = h.mid;
-        begun = h.begun;
-        counted = h.counted;
-        sound = h.sound;
-        value = takes_as (λ x. (o, x)) (value_of others state h.key) (value_of (place name shape others) (o, state) h.key) (other_view h.key e) (other_need h.key e) h.value;
-      }
-  other_named before after old new false (Some r) s none h =
-      let e = other_name (λ is. none (subst (λ k. HasName before.last k old.input) is h.begun.is)) in
-      record {
-        key = h.key;
-        mid = h.mid;
-        begun = h.begun;
-        refused = refusal_carried Anything Anything h.mid.input h.mid.input new.input r record { faults = refl; lends = refl }
-            (λ front. front_as (λ x. (o, x)) (value_of others state h.key) (value_of (place name shape others) (o, state) h.key) (other_view h.key e) (other_need h.key e) front) (or_right _ _) (or_right _ _) (λ b l g. tt) h.refused;
-      }
-  other_named before after old new false None s none h = (ap (λ x. (o, x)) h.0, h.1, h.2)
-
-  -- where a call between them changed nothing
-  pub other_named_again : {E : Type 0} (before before' after : AccessorState) (old old' new : DeState) (taken : Bool) (refusal : Option (DecodeError E)) (s : S)
-      → before' ≡ before → old' ≡ old → ¬ HasName before.last name old.input → ReadsNamed others state before' old' taken refusal s after new
-      → ReadsNamed (place name shape others) (o, state) before old taken refusal (o, s) after new
-  other_named_again {E} before before' after old old' new taken refusal s b n none h = other_named before after old new taken refusal s none
-      (subst (λ x. ReadsNamed others state before x taken refusal s after new) n (subst (λ x. ReadsNamed others state x old' taken refusal s after new) b h))
 
 -- ---- entries so far
 

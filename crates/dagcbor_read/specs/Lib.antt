@@ -33,6 +33,8 @@ pub mod Accessors
 pub mod Collections
 pub mod Named
 pub mod Structs
+pub mod Joining
+pub mod JoiningLaws
 pub mod Enums
 pub mod Parts
 pub mod EnumViews

@@ -149,10 +149,10 @@ abbrev pub RefusesFurther : {E : Type 0} → (DeState → DecodeError E → DeSt
     → DecodeError E → DeState → Type 0
 RefusesFurther refuses old e new = (now : DeState) × IsFurther old now × refuses now e new
 
--- The value of one type was refused, or in another way.
-abbrev pub RefusesAsOr : {T E : Type 0} → (DeState → Result T (DecodeError E) → DeState → Type 0)
+-- A group of fields was refused, or what stands behind it.
+abbrev pub RefusesEither : {E : Type 0} → (DeState → DecodeError E → DeState → Type 0)
     → (DeState → DecodeError E → DeState → Type 0) → DeState → DecodeError E → DeState → Type 0
-RefusesAsOr answers others old e new = answers old (Err e) new ⊎ others old e new
+RefusesEither first second old e new = first old e new ⊎ second old e new
 
 -- The value was refused; or it was read, and there is no memory to keep it.
 abbrev pub RefusesToKeep : {T E : Type 0} → (DeState → Result T (DecodeError E) → DeState → Type 0)

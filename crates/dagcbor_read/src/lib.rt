@@ -24,10 +24,9 @@ mod whole;
 pub use access::accessor::Accessor;
 pub use access::enum_accessor::EnumAccessor;
 pub use access::fields::{Fields, read_fields, read_into, skip_value};
-pub use access::row::{Row, read_tuple};
-pub use access::structs::{
-    Closed, Omissible, Required, read_named_place, read_place, read_struct, read_struct_variant,
-};
+pub use access::group::{FieldGroup, Omissible, Required};
+pub use access::row::{OmissibleItem, Row, read_tuple};
+pub use access::structs::{Closed, read_struct, read_struct_variant};
 pub use access::variants::{Variants, read_enum};
 pub use deserialize::{Deserialize, DeserializeOwned};
 pub use deserializer::Deserializer;

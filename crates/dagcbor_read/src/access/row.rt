@@ -14,7 +14,6 @@ ghost use Rattle.dagcbor_read.specs.Collections.{optional_then, ReadsRest};
 ghost use Rattle.dagcbor_items.specs.Shapes.{Shape};
 
 use crate::access::accessor::Accessor;
-use crate::access::structs::Omissible;
 use crate::deserialize::Deserialize;
 use crate::deserializer::Deserializer;
 use dagcbor_heads::{DecodeError, Read, ReadResult};
@@ -124,7 +123,10 @@ impl<'de, T: Deserialize<'de>, L: Row<'de>> Row<'de> for (T, L) {
 }
 
 /// An item that may be absent, where none stands behind it.
-impl<'de, T: Deserialize<'de>, L: Row<'de>> Row<'de> for Omissible<T, L> {
+#[derive(Debug, Drop)]
+pub struct OmissibleItem<T, L>(pub Option<T>, pub L);
+
+impl<'de, T: Deserialize<'de>, L: Row<'de>> Row<'de> for OmissibleItem<T, L> {
     ghost View = { Option T.View × L.View };
 
     ghost meaning = { λ p. (option_map T.meaning p.0, L.meaning p.1) };
@@ -139,13 +141,13 @@ impl<'de, T: Deserialize<'de>, L: Row<'de>> Row<'de> for Omissible<T, L> {
         alloc: Global,
         items: &mut Accessor<'de>,
         de: &mut Deserializer<'de, R>,
-    ) -> ReadResult<Omissible<T, L>, R> {
+    ) -> ReadResult<OmissibleItem<T, L>, R> {
         let Some(first) = items.next_element(alloc, de)? else {
             let none_left = L::read_row(alloc, items, de)?;
-            return Ok(Omissible(None, none_left));
+            return Ok(OmissibleItem(None, none_left));
         };
         let others = L::read_row(alloc, items, de)?;
-        Ok(Omissible(Some(first), others))
+        Ok(OmissibleItem(Some(first), others))
     }
 }
 

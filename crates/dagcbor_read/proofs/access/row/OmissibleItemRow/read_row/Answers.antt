@@ -6,7 +6,7 @@ use Rattle.dagcbor_read.proofs.Answered.{element_read, element_refused, no_eleme
 use Rattle.dagcbor_read.proofs.ItemRows.{optional_joins, part_refused, parts_refused, parts_taken}
 use Rattle.dagcbor_read.proofs.Wholes.{on_refusal}
 use Rattle.dagcbor_read.proofs.Handing.{front_further, no_further}
-use Rattle.dagcbor_read.proofs.access.row.OmissibleRow.read_row.Goals as goal
+use Rattle.dagcbor_read.proofs.access.row.OmissibleItemRow.read_row.Goals as goal
 
 pub returns-in_err-first-clause-row : goal.returns-in_err-first-clause-row
 returns-in_err-first-clause-row g c =

@@ -1,9 +1,11 @@
 //! What types of an IPLD Schema stand on, which `dagcbor-types` makes: tuples that are written, of
-//! any number of parts, and values told by a number, by their kind, or by a tag before them.
+//! any number of parts, structs whose many fields are, and values told by a number, by their kind,
+//! or by a tag before them.
 #![tactic(auto)]
 
 mod by_kind;
 mod envelope;
+mod field_parts;
 mod implied;
 mod made;
 mod numbered;
@@ -12,6 +14,7 @@ mod part_row;
 
 pub use by_kind::{ByKind, NoKind};
 pub use envelope::{Enveloped, read_enveloped};
+pub use field_parts::{FieldPart, FieldParts, InParts, OnePart};
 pub use implied::unless_meant;
 pub use made::{Made, read_made};
 pub use numbered::{Numbered, read_numbered};

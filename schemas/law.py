@@ -35,8 +35,8 @@ TAKEN = set(
     """Any Bool Bytes Float Int Link List Map Null String Unit
     Box Clone Copy Debug Default Drop Eq Err From Hash Into Iterator Model Never None Ok Option Ord PartialEq PartialOrd Result Self
     Send Some Sync Vec BTreeMap Cid Ipld Global Closed DecodeError Deserialize DeserializeOwned Deserializer EnumAccessor Field FieldGroup Fields
-    Accessor ByKind Enveloped NoKind Numbered Omissible OmissibleItem Optional Read ReadResult Required Serialize Serializer Shown Variants Write WriteResult
-    EnumShape Lib Made Numbered OptionalPart Part Parts PartRow Prim R Shape Syntax TheOwn TheVariants Tree Type W""".split()
+    Accessor ByKind Enveloped WrittenGroup InGroups NoKind Numbered Omissible OmissibleItem Optional Read ReadResult Required Serialize Serializer Shown Variants Write WriteResult
+    EnumShape Lib Made Numbered OneGroup OptionalPart Part Parts PartRow Prim R Shape Syntax TheOwn TheVariants Tree Type W""".split()
 )
 TAKEN_VARIANTS = {"Below", "Self", "Denot"}
 RESERVED = set(
@@ -89,7 +89,7 @@ class Schema:
             if name in (other.name + "View",) or other.name == name + "View":
                 raise SchemaError(place, f"`{name}` and `{other.name}`: what the one is read as has the other's name")
             for one, part in ((name, other.name), (other.name, name)):
-                if re.fullmatch(one + "(Group|Row|Own)[0-9]+", part):
+                if re.fullmatch(one + "(Group|Row|Own|Written)[0-9]+", part):
                     raise SchemaError(place, f"`{name}` and `{other.name}`: a group of the one may have the other's name")
         self.by_name[name] = definition
 

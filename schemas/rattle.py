@@ -6,6 +6,7 @@ from schemas.law import MOST_FIELDS, RESERVED, field_name, held_by, parts, path_
 from schemas.layout import INSIDE_STRUCT, SHORT_IF, WIDTH, Group, arm, block_arm, filled, ghost, lines, pairs_of, split, typed
 from schemas.parsing import Alias, Enum, Int, Leaf, Link, ListOf, MapOf, Member, Named, Nullable, Struct, Union, Unit
 from schemas.groups import form, groups_of
+from schemas.written import all_groups, written_groups
 
 LEAVES = {
     # its type, what it is read as, its shape, its tree and its meaning
@@ -37,8 +38,9 @@ WORDS = {
     "Rattle.dagcbor_schema.specs.Pairs": "text_and_value named",
     "Rattle.dagcbor_schema.specs.Parts": "optional_part",
     "Rattle.dagcbor_schema.specs.Members": "there absent",
+    "Rattle.dagcbor_schema.specs.WrittenGroups": "field_before optional_before none_before",
 }
-SCHEMA_WORDS = """ByKind Enveloped Made NoKind Numbered OptionalPart Part of_name read_enveloped read_made read_numbered
+SCHEMA_WORDS = """ByKind Enveloped WrittenGroup InGroups Made NoKind Numbered OneGroup OptionalPart Part of_name read_enveloped read_made read_numbered
     unless_meant write_parts""".split()
 KINDS_PATH = "Rattle.dagcbor_schema.specs.declared.by_kind.ByKind.TheVariants as kinds"
 LETTERS = {"ℕ": "ℕ", "ℤ": "ℤ", "^": "◌^◌", "[]": "[]", "∷": "◌∷◌", "if": "if◌then◌else◌"}
@@ -591,24 +593,19 @@ class Module:
         for field, kind in kinds:
             if field.implicit is not None:
                 write += self.unless_implied(field, kind)
-        row = []
-        for field, _ in sorted_kinds:
-            form = "Optional" if may_lack(field) else "Field"
-            held = field_name(field.name) if field.implicit is not None else f"self.{field_name(field.name)}"
-            row.append(Group(f"{form}(", [f'"{field.key}"', f"&{held}"], ")"))
-        if len(row) > MOST_FIELDS:
-            write += lines(Group("let row = (", halves(row), ")"), 8, ";")
+        written = written_groups(self, struct, sorted_kinds) if len(kinds) > MOST_FIELDS else []
+        if written:
+            write += [*lines(all_groups(written), 8, ";"), "        let row = InGroups(self, groups);"]
         else:
-            write.append("        let row = ();")
-            for part in reversed(row):
-                write += lines(Group("let row = (", [part, "row"], ")"), 8, ";")
+            write += self.one_row(sorted_kinds)
         write.append("        write_struct(alloc, row, ser)")
         names = Group("let names = &[", [f'"{field.key}"' for field, _ in kinds], "]")
         end = "()" if struct.open else "Closed"
         read = lines(names, 8, ";")
         call = ["alloc", f'"{struct.name}"', "names", "de"]
         whole = ghost_rows("λ v. entries_tree (", tree, "[]")
-        made = [*self.serialize_impl(struct, whole, write), *self.shown_impl(struct, self.row_meaning(kinds))]
+        made = [line for group in written for line in group.items()]
+        made += [*self.serialize_impl(struct, whole, write), *self.shown_impl(struct, self.row_meaning(kinds))]
         if has_implied(struct):
             read += lines(Group("read_struct(", call, ")"), 8)
             return made + self.implied_impls(struct, kinds, end, read)
@@ -626,6 +623,16 @@ class Module:
             read += self.row_apart(kinds, end)
         read += lines(self.literal(struct), 8)
         return made + self.deserialize_impl(struct, read)
+
+    @staticmethod
+    def one_row(kinds):
+        """The lines that make the row that is written, field by field."""
+        made = ["        let row = ();"]
+        for field, _ in reversed(kinds):
+            held = field_name(field.name) if field.implicit is not None else f"self.{field_name(field.name)}"
+            part = Group("Optional(" if may_lack(field) else "Field(", [f'"{field.key}"', f"&{held}"], ")")
+            made += lines(Group("let row = (", [part, "row"], ")"), 8, ";")
+        return made
 
     @staticmethod
     def unless_implied(field, kind):
@@ -1524,12 +1531,6 @@ def matched(word, arms):
     if len(head[0]) > WIDTH:
         head, margin = [f"        let {word} =", f"            match {word} {{"], " " * 12
     return [*head, *(f"{margin}    {arm}" for arm in arms), f"{margin}}};"]
-
-
-def halves(fields):
-    """The two halves of a row that is written, and those of each."""
-    middle = len(fields) // 2
-    return [part[0] if len(part) == 1 else Group("(", halves(part), ")") for part in (fields[:middle], fields[middle:])]
 
 
 def cases_of(rows):

@@ -7,3 +7,4 @@ pub mod Parts
 pub mod Members
 pub mod Implied
 pub mod Pairs
+pub mod WrittenGroups

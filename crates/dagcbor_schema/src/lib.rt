@@ -1,5 +1,6 @@
 //! What types of an IPLD Schema stand on, which `dagcbor-types` makes: tuples that are written, of
-//! any number of parts, and values told by a number, by their kind, or by a tag before them.
+//! any number of parts, structs that are, of any number of fields, and values told by a number, by
+//! their kind, or by a tag before them.
 #![tactic(auto)]
 
 mod by_kind;
@@ -9,6 +10,7 @@ mod made;
 mod numbered;
 mod pairs;
 mod part_row;
+mod written_groups;
 
 pub use by_kind::{ByKind, NoKind};
 pub use envelope::{Enveloped, read_enveloped};
@@ -17,3 +19,4 @@ pub use made::{Made, read_made};
 pub use numbered::{Numbered, read_numbered};
 pub use pairs::of_name;
 pub use part_row::{OptionalPart, Part, PartRow, write_parts};
+pub use written_groups::{InGroups, OneGroup, WrittenGroup, WrittenGroups};

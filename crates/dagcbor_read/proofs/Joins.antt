@@ -1,5 +1,5 @@
 -- Groups of fields that are read before others: what they take and refuse, the row does.
-use Rattle.std.proofs.Common.{◌≡◌, ℕ, List, [], ◌∷◌, Bool, true, false, refl, sym, ap, ◌∙◌, subst, Option, None, Some, IfSome, IsSomeAnd, is_some, option_map, if◌then◌else◌, bytes_eq, Result, Ok, Err, IfErr, inl, inr}
+use Rattle.std.proofs.Common.{◌≡◌, ℕ, List, ◌∷◌, Bool, true, false, refl, sym, ap, ◌∙◌, subst, Option, None, Some, IfSome, IsSomeAnd, is_some, option_map, if◌then◌else◌, bytes_eq, Result, Ok, Err, inl, inr}
 use Rattle.std.proofs.lemmas.Slice.Eq.{bytes_eq-Decides}
 use Rattle.dagcbor_heads.specs.Reading.{Reading}
 use Rattle.dagcbor_heads.specs.declared.error.DecodeError.{DecodeError}
@@ -11,8 +11,8 @@ use Rattle.dagcbor_items.specs.TypedReads.{RefusesRead, HasFront, TakesFront, An
 use Rattle.dagcbor_read.specs.Accessors.{AccessorState, with_key, with_value}
 use Rattle.dagcbor_read.specs.Collections.{FieldShape, value_of, slot_of}
 use Rattle.dagcbor_read.specs.Deserializers.{DeState}
-use Rattle.dagcbor_read.specs.Joining.{field_own, beside, either_own, IsLike, GoesTo, TakesOwn, RefusesOwn, PassesOn, ReadsOwnNamed}
-use Rattle.dagcbor_read.specs.Named.{TakesName, TakesKnown, TakesField, RefusesValue, ReadsNamed, ReadsNamedValue}
+use Rattle.dagcbor_read.specs.Joining.{field_own, beside, either_own, IsLike, GoesTo, PassesOn, ReadsOwnNamed}
+use Rattle.dagcbor_read.specs.Named.{TakesName, ReadsNamed, ReadsNamedValue}
 use Rattle.dagcbor_read.specs.Parts.{IsFurther, RefusesFurther, RefusesEither}
 use Rattle.dagcbor_read.specs.Values.{ReadsValue}
 use Rattle.dagcbor_read.proofs.FieldPlaces.{other_name, takes_as, front_as}

@@ -1,23 +1,19 @@
 -- Entries whose keys are names of a row.
-use Rattle.std.proofs.Common.{◌≡◌, ℕ, ◌<◌, List, Bool, true, false, refl, sym, ap, ◌∙◌, subst, Option, None, Some, option_map, if◌then◌else◌, bytes_eq}
-use Rattle.std.proofs.lemmas.Slice.Eq.{bytes_eq-Decides}
+use Rattle.std.proofs.Common.{◌≡◌, ℕ, ◌<◌, List, true, false, refl, sym, subst, Option, None, Some}
 use Rattle.dagcbor_heads.specs.declared.error.DecodeError.{DecodeError}
-use Rattle.ipld_tree.specs.Tree.{Tree}
 use Rattle.dagcbor_items.specs.Entries.{HasName}
-use Rattle.dagcbor_items.specs.Shapes.{Shape, unless_lent}
+use Rattle.dagcbor_items.specs.Shapes.{unless_lent}
 use Rattle.dagcbor_items.specs.TypedReads.{RefusesRead, MayLack, Anything}
 use Rattle.dagcbor_items.proofs.StringItems.{text_taken}
-use Rattle.dagcbor_read.specs.Accessors.{AccessorState, with_key, with_value}
-use Rattle.dagcbor_read.specs.Collections.{FieldShape, value_of, HasFields, fields_memory, all_entries}
+use Rattle.dagcbor_read.specs.Accessors.{AccessorState}
+use Rattle.dagcbor_read.specs.Collections.{FieldShape, HasFields, fields_memory, all_entries}
 use Rattle.dagcbor_read.specs.Deserializers.{DeState}
-use Rattle.dagcbor_read.specs.Named.{TakesName, TakesKnown, TakesField, ReadsNamed, ReadsNamedValue}
-use Rattle.dagcbor_read.specs.Structs.{place}
+use Rattle.dagcbor_read.specs.Named.{TakesName, TakesKnown, TakesField, ReadsNamed}
 use Rattle.dagcbor_read.proofs.Answered.{KeyRead}
 use Rattle.dagcbor_read.proofs.EntryRows.{FieldsSoFar, one_more_field, value_not_read}
 use Rattle.dagcbor_read.proofs.ItemRows.{same_reader}
-use Rattle.dagcbor_read.proofs.FieldPlaces.{other_name, takes_as, front_as}
 use Rattle.dagcbor_heads.proofs.Refusing.{refusal_carried}
-use Rattle.dagcbor_read.proofs.Passing.{or_left, or_right, lacks_before}
+use Rattle.dagcbor_read.proofs.Passing.{or_right, lacks_before}
 
 pub name_taken : {last : Option (List ℕ)} {name : List ℕ} {old mid : DeState} → TakesName last name old mid → TakesKnown (λ k. HasName last k old.input) last old name mid
 name_taken h = record { is = h.0; follows = h.0.follows; read = h.1; takes = text_taken _ h.2 }

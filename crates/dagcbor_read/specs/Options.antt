@@ -1,5 +1,5 @@
 -- What reading a value that may be null answers and refuses.
-use Rattle.std.specs.Prelude.{◌≡◌, ◌≢◌, ℕ, ◌+◌, ◌<◌, ◌⊎◌, Bool, true, List, [], ◌∷◌, Option, Some, option_map, Result, MatchResult, MatchBool, codes}
+use Rattle.std.specs.Prelude.{◌≡◌, ◌≢◌, ℕ, ◌+◌, ◌<◌, ◌⊎◌, Bool, List, [], ◌∷◌, Option, Some, option_map, Result, MatchResult, MatchBool, codes}
 use Rattle.dagcbor_heads.specs.Reading.{Reading, Keeps}
 use Rattle.dagcbor_heads.specs.Fronts.{Takes}
 use Rattle.dagcbor_heads.specs.Refusals.{RefusesPlainly}

@@ -27,9 +27,9 @@ pub use dagcbor_heads::{
 };
 pub use dagcbor_items::{Kind, any_from_slice, check_slice, links_from_slice};
 pub use dagcbor_read::{
-    Accessor, Closed, Deserialize, DeserializeOwned, Deserializer, EnumAccessor, FieldGroup, Fields,
-    IgnoredAny, Omissible, OmissibleItem, Required, Row, Shown, StreamDeserializer, Variants,
-    from_reader, from_reader_once, from_slice, from_slice_owned, from_slice_with_depth,
+    Accessor, Closed, Deserialize, DeserializeOwned, Deserializer, EnumAccessor, FieldGroup,
+    Fields, IgnoredAny, Omissible, OmissibleItem, Required, Row, Shown, StreamDeserializer,
+    Variants, from_reader, from_reader_once, from_slice, from_slice_owned, from_slice_with_depth,
     iter_from_reader, read_enum, read_fields, read_into, read_struct, read_struct_variant,
     read_tuple, skip_value,
 };

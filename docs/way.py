@@ -116,7 +116,7 @@ def strangers():
 
 def lost_files():
     """The sources that the page names and nobody has."""
-    there = {path.name for top in ("crates", "callers", "faults", "bench", "docs") for path in (ROOT / top).rglob("*.*")}
+    there = {path.name for top in ("crates", "callers", "faults", "bench", "docs", "schemas") for path in (ROOT / top).rglob("*.*")}
     for name in re.findall(r"`[\w/]*?(\w+\.(?:rt|antt|c|h|py|rs|go))`", PAGE.read_text(encoding="utf-8")):
         if name not in there:
             yield f"docs/DESIGN.md: {name}"

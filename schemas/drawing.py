@@ -1,4 +1,4 @@
-"""Schemas drawn at random, which keep the law: every kind of type, names of 1 to 40 letters, up to 14 fields, types within
+"""Schemas drawn at random, which keep the law: every kind of type, names of 1 to 40 letters, up to 18 fields, types within
 types, in every order. A seed draws the same schema always. So many seeds in a row as there are PAIRS draw a union of each pair of
 members' kinds, and one of each kind alone."""
 
@@ -14,8 +14,8 @@ LENGTHS = (1, 2, 3, 5, 8, 13, 21, 40)
 LONG = 21  # from here on a word has no capitals behind the first, which would make it longer as a field's name
 SCALARS = ("Int", "String", "Bytes", "Bool", "&Any", "Any")
 KINDED = {"bool": "Bool", "int": "Int", "string": "String", "bytes": "Bytes", "link": "&Any", "list": "", "map": ""}
-MOST_FIELDS = 14
-MOST_IN_ALL = 15  # fields, members and cases of a schema
+MOST_FIELDS = 14  # of a tuple, and of a struct in which a field means a value where it is left out
+MOST_IN_ALL = 18  # fields, members and cases of a schema: a struct may have all, and is read and written in groups then
 MOST_TYPES = 3  # so that its proof takes a minute or two of a processor
 DRAWN = ("struct", "tuple", "pairs", "enum", "numbers", "nothing", "items", "entries", "keyed", "kinded", "inline", "envelope")
 MEMBERS = (*SCALARS, *DRAWN)  # of a union: a type that has a name, or the form of one that is drawn for it
@@ -93,10 +93,9 @@ class Drawing:
 
     # -- definitions
 
-    def field_types(self):
-        """The types of a struct's fields: of many they are plain, as the prover wants it."""
-        count = self.some(MOST_FIELDS)
-        most_steps = 2 if count > 8 else 16
+    def field_types(self, count):
+        """The types of a struct's fields: of many they are plain, as the prover wants it where they are not read in groups."""
+        most_steps = 2 if 8 < count <= MOST_FIELDS else 16
         for _ in range(count):
             while True:
                 kind, note = self.value() if most_steps > 2 else self.scalar()
@@ -115,13 +114,14 @@ class Drawing:
 
     def struct(self, name):
         names, keys, rows = set(), set(), []
-        for kind, note, before in self.field_types():
+        count = self.some(MOST_IN_ALL)
+        for kind, note, before in self.field_types(count):
             word = self.word(string.ascii_letters, string.ascii_letters + string.digits + "_", names, field_name)
             key = self.text(keys) if self.random.random() < 0.4 or word in keys else word
             keys.add(key)
             behind = [f'rename "{key}"'] if key != word else []
             plain = kind == "Bool" or (kind == "Int" and note.startswith(" # as u"))
-            if plain and not before and self.random.random() < 0.5:
+            if count <= MOST_FIELDS and plain and not before and self.random.random() < 0.5:
                 behind.append(f"implicit {self.meant(kind, note)}")
             behind = f" ({' '.join(behind)})" if behind else ""
             rows.append(f"  {word} {before}{kind}{behind}{note}")

@@ -1,7 +1,7 @@
 """How a struct of many fields is read: in groups, each a private struct, since the prover takes few fields at once."""
 
 from schemas.law import MOST_IN_GROUP, field_name
-from schemas.layout import INSIDE_STRUCT, Group, ghost, lines, typed
+from schemas.layout import INSIDE_STRUCT, WIDTH, Group, ghost, lines, pairs_of, typed
 from schemas.parsing import Nullable
 
 # The ghost members of a group, in order; those with no rows of their own are as its row's.
@@ -73,7 +73,7 @@ class FieldGroup:
             "",
             *ghosts,
             f"    fn unread_own(alloc: Global) -> {own} {{",
-            *lines(Group(f"{own} {{", [f"row: {row}::unread_own(alloc)"], "}", INSIDE_STRUCT), 8),
+            *lines(Group(f"{own} {{", [Group(f"row: {row}::unread_own(", ["alloc"], ")")], "}", INSIDE_STRUCT), 8),
             "    }",
             "",
             "    fn skip_names<'n, 'm>(names: &'n [&'m str]) -> &'n [&'m str] {",
@@ -101,8 +101,8 @@ class FieldGroup:
             *lines(Group(f"{row}::read_own_named(", ["&mut own.row", "alloc", "names", "entries", "de", "refusal"], ")"), 8),
             "    }",
             "",
-            f"    fn finish_own(own: {own}) -> Option<{self.name}> {{",
-            f"        let row = {row}::finish_own(own.row)?;",
+            *lines(Group("fn finish_own(", [f"own: {own}"], f") -> Option<{self.name}> {{", WIDTH), 4),
+            *lines(Group(f"let row = {row}::finish_own(", ["own.row"], ")?"), 8, ";"),
             *self.row_apart(),
             *lines(Group(f"Some({self.name} {{", self.words(), "})", INSIDE_STRUCT), 8),
             "    }",
@@ -193,9 +193,5 @@ def joined(kinds):
 
 
 def paired(rows):
-    """What the parts of a group's row mean, in pairs."""
-    *before, last = rows
-    flat = "".join(f"({row}, " for row in before) + last + ")" * len(before)
-    if len(flat) <= 60:
-        return [f"λ v. {flat}"]
-    return ["λ v.", *(f"        ({row}," for row in before), f"        {last}{')' * len(before)}"]
+    """What the parts of a group's row mean, in pairs, with nothing behind the last."""
+    return pairs_of(rows[:-1], rows[-1])

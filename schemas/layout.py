@@ -92,7 +92,7 @@ def filled(head, words, close):
 def typed(head, kind, indent, close):
     """A type behind what names it: where the line is too long, its parameters stand on lines of their own."""
     margin = " " * indent
-    if len(margin + head + kind + close) <= WIDTH and longest_tuple(kind) <= INSIDE or "<" not in kind:
+    if len(margin + head + kind + close) <= WIDTH and longest_tuple(kind) <= INSIDE or not (kind.startswith("(") or "<" in kind):
         return [margin + head + kind + close]
     if kind.startswith("("):
         name, inside, end = "(", kind[1:-1], ")"

@@ -40,8 +40,8 @@ WORDS = {
     "Rattle.dagcbor_schema.specs.Members": "there absent",
     "Rattle.dagcbor_schema.specs.WrittenGroups": "field_before optional_before none_before",
 }
-SCHEMA_WORDS = """ByKind Enveloped WrittenGroup InGroups Made NoKind Numbered OneGroup OptionalPart Part of_name read_enveloped read_made read_numbered
-    unless_meant write_parts""".split()
+SCHEMA_WORDS = """ByKind Enveloped InGroups Made NoKind Numbered OneGroup OptionalPart Part WrittenGroup
+    of_name read_enveloped read_made read_numbered unless_meant write_parts""".split()
 KINDS_PATH = "Rattle.dagcbor_schema.specs.declared.by_kind.ByKind.TheVariants as kinds"
 LETTERS = {"ℕ": "ℕ", "ℤ": "ℤ", "^": "◌^◌", "[]": "[]", "∷": "◌∷◌", "if": "if◌then◌else◌"}
 PUNCTUATION = str.maketrans({char: " " for char in "();,={}⟦⟧<>|[].λ:"})
@@ -536,8 +536,7 @@ class Module:
         text = documented(one.text, 0)
         if isinstance(one, Alias):
             kind = self.code(one.of, aliases=True)
-            whole = f"pub type {one.name} = {kind};"
-            return text + ([whole] if len(whole) <= WIDTH else [f"pub type {one.name} =", *typed("", kind, 4, ";")])
+            return text + typed(f"pub type {one.name} = ", kind, 0, ";")
         if isinstance(one, Struct):
             rows = []
             for field in one.fields:

@@ -1,6 +1,6 @@
 """How a struct of many fields is read: in groups, each a private struct, since the prover takes few fields at once."""
 
-from schemas.law import MOST_IN_GROUP, field_name
+from schemas.law import MOST_IN_GROUP, field_name, may_lack
 from schemas.layout import INSIDE_STRUCT, WIDTH, Group, ghost, lines, pairs_of, typed
 from schemas.parsing import Nullable
 
@@ -176,7 +176,7 @@ class OfGroups(FieldGroup):
 
 def form(field):
     """What holds a field in a row: one that must be there, or that may be absent."""
-    return "Omissible" if field.optional or field.implicit is not None else "Required"
+    return "Omissible" if may_lack(field) else "Required"
 
 
 def row_apart(words):

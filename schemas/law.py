@@ -388,8 +388,13 @@ def bounds(width):
     return (0, 2**bits - 1) if width[0] == "u" else (-(2 ** (bits - 1)), 2 ** (bits - 1) - 1)
 
 
+def may_lack(field):
+    """Whether the data may lack the field: it is optional, or means a value where it is left out."""
+    return field.optional or field.implicit is not None
+
+
 def in_groups(struct):
-    """Whether a struct of many fields is read in parts."""
+    """Whether a struct of many fields is read and written in groups."""
     return struct.representation == "map" and all(field.implicit is None for field in struct.fields)
 
 

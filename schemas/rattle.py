@@ -2,7 +2,7 @@
 
 import re
 
-from schemas.law import MOST_FIELDS, RESERVED, field_name, held_by, parts, path_name, snake
+from schemas.law import MOST_FIELDS, RESERVED, field_name, held_by, may_lack, parts, path_name, snake
 from schemas.layout import INSIDE_STRUCT, SHORT_IF, WIDTH, Group, arm, block_arm, filled, ghost, lines, pairs_of, split, typed
 from schemas.parsing import Alias, Enum, Int, Leaf, Link, ListOf, MapOf, Member, Named, Nullable, Struct, Union, Unit
 from schemas.groups import form, groups_of
@@ -1448,11 +1448,6 @@ def is_deep(kind):
     inner = parts(kind)
     holds = isinstance(kind, (ListOf, MapOf)) and any(isinstance(part, (ListOf, MapOf, Nullable)) for part in inner)
     return holds or any(map(is_deep, inner))
-
-
-def may_lack(field):
-    """Whether the data may lack the field: it is optional, or means a value where it is left out."""
-    return field.optional or field.implicit is not None
 
 
 def is_made(struct):

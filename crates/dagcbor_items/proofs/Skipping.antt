@@ -1,15 +1,16 @@
--- Items in a row, passed head by head.
-use Rattle.std.proofs.Common.{◌≡◌, ℕ, ◌+◌, ◌-◌, ◌*◌, ◌^◌, ◌<◌, ◌≤◌, pos, negsuc, List, [], ◌∷◌, ◌++◌, length, take, drop, length-append, append_assoc, refl, sym, ap, ◌∙◌, subst, arith, IsTrue, Bool, true, false, if◌then◌else◌, Option, None, Some}
+-- Items in a row, passed head by head, and where they end.
+use Rattle.std.proofs.Common.{◌≡◌, ℕ, zero, suc, MatchOption, ◌+◌, ◌-◌, ◌*◌, ◌^◌, ◌<◌, ◌≤◌, pos, negsuc, List, [], ◌∷◌, ◌++◌, length, take, drop, length-append, append_assoc, refl, sym, ap, ◌∙◌, subst, arith, IsTrue, Bool, true, false, if◌then◌else◌, Option, None, Some}
 use Rattle.std.proofs.Math.Seq.{drop-append_seam}
 use Rattle.std.proofs.lemmas.List.{take-append-drop}
 use Rattle.dagcbor_heads.specs.Head.{head}
 use Rattle.dagcbor_heads.specs.Splits.{SplitsHead, BeginsWithHead}
+use Rattle.dagcbor_heads.proofs.Heads.{head_unique}
 use Rattle.ipld_tree.specs.Tree.{Tree, null, boolean, integer, text, bytes, list, mapping, link, Items, no_items, item, Entries, no_entries, entry, IsTree}
 use Rattle.ipld_tree.specs.Spelling.{IsSpellable, item_count, entry_count, items_spelling, entries_spelling, IsFront, AreFronts, AreEntryFronts}
 use Rattle.ipld_tree.proofs.Unique.{major, argument, payload, argument_fits}
-use Rattle.ipld_tree.proofs.Fronts.{front_head, item_opened, item_closed, entry_opened}
-use Rattle.dagcbor_items.specs.Skips.{is_string, part_count, FindsBehindItem, FindsBehindItems}
-use Rattle.dagcbor_items.proofs.Judging.{head_opened, no_front}
+use Rattle.ipld_tree.proofs.Fronts.{front_head, major_le, item_opened, item_closed, entry_opened}
+use Rattle.dagcbor_items.specs.Skips.{is_string, part_count, PassesHead, PassesHeads, EndByHeads, FindsBehindItems}
+use Rattle.dagcbor_items.proofs.Judging.{head_opened}
 use Rattle.dagcbor_items.proofs.Ends.{head_some}
 
 -- so many items, and what follows them
@@ -94,55 +95,7 @@ row_some b rest (item t ts) h =
     let o = item_opened b rest t ts h in
     omega (arith, row_some (items_spelling ts ++ rest) rest ts o.1, front_some b (items_spelling ts ++ rest) t o.0)
 
--- ---- the loop
-
-pub record Skipping (b : List ℕ) (count more : ℕ) (now : List ℕ) : Type 0 where
-  pub before : List ℕ
-  pub whole : b ≡ before ++ now
-  pub left : (r : List ℕ) → IsRow b count r → IsRow now more r
-
-pub none_skipped : (b : List ℕ) (count : ℕ) → Skipping b count count b
-none_skipped b count = record { before = []; whole = refl; left = λ r row. row }
-
-none_found : {A : Type 0} (bytes_of : A → List ℕ) (b now : List ℕ) (count more : ℕ) → Skipping b count more now → ((r : List ℕ) → IsRow now more r → ⊥) → FindsBehindItems {A = A} bytes_of b count None
-none_found bytes_of b now count more s none = λ ts rest f e. none rest (s.left rest (ts, e, f))
-
-pub no_head_found : {A : Type 0} (bytes_of : A → List ℕ) (b now : List ℕ) (count more : ℕ) → Skipping b count more now → 0 < more → ¬ BeginsWithHead now → FindsBehindItems {A = A} bytes_of b count None
-no_head_found bytes_of b now count more s some none = none_found bytes_of b now count more s (λ r row. by r row.0 row.1 row.2)
-  where
-    by : (r : List ℕ) (ts : Items) → item_count ts ≡ more → AreFronts now ts r → ⊥
-    by r no_items e f = omega (arith, e, some)
-    by r (item t ts) e f = no_front now (items_spelling ts ++ r) t none (item_opened now r t ts f).0
-
-pub no_string_found : {A : Type 0} (bytes_of : A → List ℕ) (b now c : List ℕ) (count more m n : ℕ) → Skipping b count more now → 0 < more → SplitsHead now m n c → IsTrue (is_string m) → length c < n → FindsBehindItems {A = A} bytes_of b count None
-no_string_found bytes_of b now c count more m n s some h is few = none_found bytes_of b now count more s (λ r row. omega (arith, few, (head_passed now c r m n more some h row).0 is))
-
-pub too_many_found : {A : Type 0} (bytes_of : A → List ℕ) (b now c : List ℕ) (count more m n : ℕ) → Skipping b count more now → 0 < more → SplitsHead now m n c → length b < 2 ^ 64 → 2 ^ 64 ≤ part_count m n + (more - 1) → FindsBehindItems {A = A} bytes_of b count None
-too_many_found bytes_of b now c count more m n s some h short many = none_found bytes_of b now count more s (λ r row.
-    let on = (head_passed now c r m n more some h row).1 in
-    omega (arith, many, short, on.1, row_some (if is_string m then drop n c else c) r on.0 on.2, shorter (is_string m), ap length h.2, length-append (head m n) c, ap length s.whole, length-append s.before now))
-  where
-    shorter : (x : Bool) → length (if x then drop n c else c) ≤ length c
-    shorter true = omega (arith, ap length (take-append-drop n c), length-append (take n c) (drop n c))
-    shorter false = omega arith
-
-pub one_skipped : (b now c next : List ℕ) (count more m n left : ℕ) → Skipping b count more now → 0 < more → SplitsHead now m n c → next ≡ (if is_string m then drop n c else c) → left ≡ part_count m n + (more - 1) → Skipping b count left next
-one_skipped b now c next count more m n left s some h is e = subst (λ x. Skipping b count x next) (sym e) (subst (Skipping b count (part_count m n + (more - 1))) (sym is) (record {
-  before = s.before ++ (head m n ++ (ends (is_string m)).0);
-  whole = s.whole ∙ ap (λ x. s.before ++ x) (h.2 ∙ ap (λ x. head m n ++ x) (ends (is_string m)).1 ∙ sym (append_assoc (head m n) (ends (is_string m)).0 (if is_string m then drop n c else c))) ∙ sym (append_assoc s.before (head m n ++ (ends (is_string m)).0) (if is_string m then drop n c else c));
-  left = λ r row. (head_passed now c r m n more some h (s.left r row)).1;
-}))
-  where
-    ends : (x : Bool) → (front : List ℕ) × (c ≡ front ++ (if x then drop n c else c))
-    ends true = (take n c, sym (take-append-drop n c))
-    ends false = ([], refl)
-
-pub all_skipped : {A : Type 0} (bytes_of : A → List ℕ) (a : A) (b : List ℕ) (count more : ℕ) → more ≡ 0 → Skipping b count more (bytes_of a) → FindsBehindItems bytes_of b count (Some a)
-all_skipped bytes_of a b count more none s = λ ts rest f e. let row = s.left rest (ts, e, f) in by rest row.0 row.1 row.2
-  where
-    by : (rest : List ℕ) (ts : Items) → item_count ts ≡ more → AreFronts (bytes_of a) ts rest → bytes_of a ≡ rest
-    by rest no_items e f = f.is
-    by rest (item t ts) e f = absurd (omega (arith, e, none))
+-- ---- by heads
 
 -- what is behind a token is shorter
 pub token_shorter : (b c r : List ℕ) (m n : ℕ) → SplitsHead b m n c → r ≡ (if is_string m then drop n c else c) → length r < length b
@@ -152,6 +105,114 @@ token_shorter b c r m n h e = omega (arith, ap length e, by (is_string m), ap le
     by true = omega (arith, ap length (take-append-drop n c), length-append (take n c) (drop n c))
     by false = omega arith
 
--- one item
-pub one_found : {A : Type 0} (bytes_of : A → List ℕ) (b : List ℕ) (r : Option A) → FindsBehindItems bytes_of b 1 r → FindsBehindItem bytes_of b r
-one_found bytes_of b r found = λ t rest f. found (item t no_items) rest (item_closed b rest rest t no_items f (record { well_formed = tt; spellable = tt; is = refl })) refl
+-- of what a head passes nothing is free but the head
+abbrev pub IsPassed : (m n : ℕ) → List ℕ → (parts : ℕ) → List ℕ → Type 0
+IsPassed m n c parts rest = (parts ≡ part_count m n) × (IsTrue (is_string m) → n ≤ length c) × (rest ≡ (if is_string m then drop n c else c))
+
+passed_as : (b c rest : List ℕ) (m n parts : ℕ) → SplitsHead b m n c → PassesHead b parts rest → IsPassed m n c parts rest
+passed_as b c rest m n parts h p =
+    let u = head_unique p.major p.argument m n p.behind c p.split.1 h.1 (sym p.split.2 ∙ h.2) in
+    subst (λ x. IsPassed x n c parts rest) u.0 (subst (λ x. IsPassed p.major x c parts rest) u.1 (subst (λ x. IsPassed p.major p.argument x parts rest) u.2 (p.counted, p.there, p.left)))
+
+ends_opened : (b c r : List ℕ) (m n more : ℕ) → 0 < more → SplitsHead b m n c → EndByHeads b more r → (IsTrue (is_string m) → n ≤ length c) × EndByHeads (if is_string m then drop n c else c) (part_count m n + (more - 1)) r
+ends_opened b c r m n more some h (zero, e) = absurd (omega (arith, some, e.0))
+ends_opened b c r m n more some h (suc k, e) =
+    let p = passed_as b c e.2 m n e.1 h e.3 in
+    (p.1, (k, subst (λ x. PassesHeads k x (part_count m n + (more - 1)) r) p.2 (subst (λ x. PassesHeads k e.2 (x + (more - 1)) r) p.0 e.4)))
+
+ends_closed : (b c r : List ℕ) (m n more : ℕ) → 0 < more → SplitsHead b m n c → (IsTrue (is_string m) → n ≤ length c) → EndByHeads (if is_string m then drop n c else c) (part_count m n + (more - 1)) r → EndByHeads b more r
+ends_closed b c r m n more some h there e = (suc e.0, (some, part_count m n, (if is_string m then drop n c else c), record { major = m; argument = n; behind = c; split = h; counted = refl; there = there; left = refl }, e.1))
+
+passed_shorter : (b rest : List ℕ) (parts : ℕ) → PassesHead b parts rest → length rest < length b
+passed_shorter b rest parts p = token_shorter b p.behind rest p.major p.argument p.split p.left
+
+-- they end at one place
+passed_once : (k j n : ℕ) (b r s : List ℕ) → PassesHeads k b n r → PassesHeads j b n s → r ≡ s
+passed_once zero zero n b r s x y = sym x.1 ∙ y.1
+passed_once zero (suc j) n b r s x y = absurd (omega (arith, x.0, y.0))
+passed_once (suc k) zero n b r s x y = absurd (omega (arith, x.0, y.0))
+passed_once (suc k) (suc j) n b r s x y =
+    let p = passed_as b x.3.behind y.2 x.3.major x.3.argument y.1 x.3.split y.3 in
+    passed_once k j (x.1 + (n - 1)) x.2 r s x.4 (subst (λ m. PassesHeads j x.2 (m + (n - 1)) s) (p.0 ∙ sym x.3.counted) (subst (λ c. PassesHeads j c (y.1 + (n - 1)) s) (p.2 ∙ sym x.3.left) y.4))
+
+-- each takes a byte at least
+passed_some : (k n : ℕ) (b r : List ℕ) → PassesHeads k b n r → n ≤ length b
+passed_some zero n b r x = omega (arith, x.0)
+passed_some (suc k) n b r x = omega (arith, x.0, passed_some k (x.1 + (n - 1)) x.2 r x.4, passed_shorter b x.2 x.1 x.3)
+
+passed_ends : (b rest : List ℕ) (parts : ℕ) → PassesHead b parts rest → (before : List ℕ) × (b ≡ before ++ rest)
+passed_ends b rest parts p = let e = cut (is_string p.major) in (
+  head p.major p.argument ++ e.0,
+  p.split.2 ∙ ap (λ x. head p.major p.argument ++ x) (e.1 ∙ ap (λ x. e.0 ++ x) (sym p.left)) ∙ sym (append_assoc (head p.major p.argument) e.0 rest),
+)
+  where
+    cut : (x : Bool) → (front : List ℕ) × (p.behind ≡ front ++ (if x then drop p.argument p.behind else p.behind))
+    cut true = (take p.argument p.behind, sym (take-append-drop p.argument p.behind))
+    cut false = ([], refl)
+
+-- they end in these bytes
+pub ends_within : (b r : List ℕ) (n : ℕ) → EndByHeads b n r → (before : List ℕ) × (b ≡ before ++ r)
+ends_within b r n (k, x) = by k n b x
+  where
+    by : (k n : ℕ) (b : List ℕ) → PassesHeads k b n r → (before : List ℕ) × (b ≡ before ++ r)
+    by zero n b x = ([], x.1)
+    by (suc k) n b x =
+        let e = passed_ends b x.2 x.1 x.3 in
+        let more = by k (x.1 + (n - 1)) x.2 x.4 in
+        (e.0 ++ more.0, e.1 ∙ ap (λ c. e.0 ++ c) more.1 ∙ sym (append_assoc e.0 more.0 r))
+
+-- items that stand there end there
+row_ends : (most : ℕ) (b r : List ℕ) (n : ℕ) → length b ≤ most → IsRow b n r → EndByHeads b n r
+row_ends most b r n few (no_items, e, f) = (zero, (sym e, f.is))
+row_ends zero b r n few (item t ts, e, f) = absurd (omega (arith, few, row_some b r (item t ts) f))
+row_ends (suc most) b r n few (item t ts, e, f) =
+    let o = item_opened b r t ts f in
+    let c = payload t ++ (items_spelling ts ++ r) in
+    let h : SplitsHead b (major t) (argument t) c = (omega (arith, major_le t), argument_fits t o.0.spellable, front_head o.0) in
+    let on = head_passed b c r (major t) (argument t) n (omega (arith, e)) h (item t ts, e, f) in
+    let next = if is_string (major t) then drop (argument t) c else c in
+    ends_closed b c r (major t) (argument t) n (omega (arith, e)) h on.0 (row_ends most next r (part_count (major t) (argument t) + (n - 1)) (omega (arith, few, token_shorter b c next (major t) (argument t) h refl)) on.1)
+
+pub items_found : {A : Type 0} (bytes_of : A → List ℕ) (b rest : List ℕ) (n : ℕ) (ts : Items) (r : Option A) → FindsBehindItems bytes_of b n r → AreFronts b ts rest → item_count ts ≡ n → MatchOption r ⊥ (λ a. bytes_of a ≡ rest)
+items_found bytes_of b rest n ts None none f e = none rest (row_ends (length b) b rest n (omega arith) (ts, e, f))
+items_found bytes_of b rest n ts (Some a) found f e = let there = row_ends (length b) b rest n (omega arith) (ts, e, f) in passed_once found.0 there.0 n b (bytes_of a) rest found.1 there.1
+
+-- the item at the front
+pub one_found : {A : Type 0} (bytes_of : A → List ℕ) (b rest : List ℕ) (t : Tree) (r : Option A) → FindsBehindItems bytes_of b 1 r → IsFront b t rest → MatchOption r ⊥ (λ a. bytes_of a ≡ rest)
+one_found bytes_of b rest t r found f = items_found bytes_of b rest 1 (item t no_items) r found (item_closed b rest rest t no_items f (record { well_formed = tt; spellable = tt; is = refl })) refl
+
+-- ---- the loop
+
+pub record Skipping (b : List ℕ) (count more : ℕ) (now : List ℕ) : Type 0 where
+  pub shorter : length now ≤ length b
+  pub whole : (r : List ℕ) → EndByHeads now more r → EndByHeads b count r
+  pub left : (r : List ℕ) → EndByHeads b count r → EndByHeads now more r
+
+pub none_skipped : (b : List ℕ) (count : ℕ) → Skipping b count count b
+none_skipped b count = record { shorter = omega arith; whole = λ r e. e; left = λ r e. e }
+
+pub no_head_found : {A : Type 0} (bytes_of : A → List ℕ) (b now : List ℕ) (count more : ℕ) → Skipping b count more now → 0 < more → ¬ BeginsWithHead now → FindsBehindItems {A = A} bytes_of b count None
+no_head_found bytes_of b now count more s some none = λ r e. by r (s.left r e)
+  where
+    by : (r : List ℕ) → EndByHeads now more r → ⊥
+    by r (zero, x) = omega (arith, some, x.0)
+    by r (suc k, x) = none (x.3.major, x.3.argument, x.3.behind, x.3.split)
+
+pub no_string_found : {A : Type 0} (bytes_of : A → List ℕ) (b now c : List ℕ) (count more m n : ℕ) → Skipping b count more now → 0 < more → SplitsHead now m n c → IsTrue (is_string m) → length c < n → FindsBehindItems {A = A} bytes_of b count None
+no_string_found bytes_of b now c count more m n s some h is few = λ r e. omega (arith, few, (ends_opened now c r m n more some h (s.left r e)).0 is)
+
+pub too_many_found : {A : Type 0} (bytes_of : A → List ℕ) (b now c : List ℕ) (count more m n : ℕ) → Skipping b count more now → 0 < more → SplitsHead now m n c → length b < 2 ^ 64 → 2 ^ 64 ≤ part_count m n + (more - 1) → FindsBehindItems {A = A} bytes_of b count None
+too_many_found bytes_of b now c count more m n s some h short many = λ r e.
+    let next = if is_string m then drop n c else c in
+    let on = (ends_opened now c r m n more some h (s.left r e)).1 in
+    omega (arith, many, short, s.shorter, passed_some on.0 (part_count m n + (more - 1)) next r on.1, token_shorter now c next m n h refl)
+
+pub one_skipped : (b now c next : List ℕ) (count more m n left : ℕ) → Skipping b count more now → 0 < more → SplitsHead now m n c → (IsTrue (is_string m) → n ≤ length c) → next ≡ (if is_string m then drop n c else c) → left ≡ part_count m n + (more - 1) → Skipping b count left next
+one_skipped b now c next count more m n left s some h there is e = subst (λ x. Skipping b count x next) (sym e) (subst (Skipping b count (part_count m n + (more - 1))) (sym is) (record {
+  shorter = omega (arith, s.shorter, token_shorter now c (if is_string m then drop n c else c) m n h refl);
+  whole = λ r x. s.whole r (ends_closed now c r m n more some h there x);
+  left = λ r x. (ends_opened now c r m n more some h (s.left r x)).1;
+}))
+
+pub all_skipped : {A : Type 0} (bytes_of : A → List ℕ) (a : A) (b : List ℕ) (count more : ℕ) → more ≡ 0 → Skipping b count more (bytes_of a) → FindsBehindItems bytes_of b count (Some a)
+all_skipped bytes_of a b count more none s = s.whole (bytes_of a) (zero, (none, refl))

@@ -1,7 +1,7 @@
--- Where items end that stand one behind the other.
-use Rattle.std.specs.Prelude.{◌≡◌, ◌==◌, ◌||◌, ◌*◌, ℕ, Bool, List, Option, MatchOption, if◌then◌else◌}
-use Rattle.ipld_tree.specs.Tree.{Tree, Items}
-use Rattle.ipld_tree.specs.Spelling.{item_count, IsFront, AreFronts}
+-- Where items end that stand one behind the other, told by their heads alone.
+use Rattle.std.specs.Prelude.{◌≡◌, ◌==◌, ◌||◌, ◌*◌, ◌+◌, ◌-◌, ◌<◌, ◌≤◌, ℕ, zero, suc, Bool, IsTrue}
+use Rattle.std.specs.Prelude.{List, length, drop, Option, MatchOption, if◌then◌else◌}
+use Rattle.dagcbor_heads.specs.Splits.{SplitsHead}
 
 -- whether a head of this major type is one of a string
 abbrev pub is_string : ℕ → Bool
@@ -13,12 +13,27 @@ abbrev pub part_count : (major argument : ℕ) → ℕ
 part_count major argument = if major == 4 then argument else if major == 5 then 2 * argument
     else if major == 6 then 1 else 0
 
--- where an item stands, what follows it is found
-abbrev pub FindsBehindItem : {A : Type 0} → (A → List ℕ) → List ℕ → Option A → Type 0
-FindsBehindItem bytes_of b result = (t : Tree) (rest : List ℕ) → IsFront b t rest
-    → MatchOption result ⊥ (λ a. bytes_of a ≡ rest)
+-- the bytes begin with a head whose item has so many parts, and with its string, where it is one
+pub record PassesHead (b : List ℕ) (parts : ℕ) (rest : List ℕ) : Type 0 where
+  pub major : ℕ
+  pub argument : ℕ
+  pub behind : List ℕ
+  pub split : SplitsHead b major argument behind
+  pub counted : parts ≡ part_count major argument
+  pub there : IsTrue (is_string major) → argument ≤ length behind
+  pub left : rest ≡ (if is_string major then drop argument behind else behind)
 
--- where so many items stand, what follows them is found
-abbrev pub FindsBehindItems : {A : Type 0} → (A → List ℕ) → List ℕ → ℕ → Option A → Type 0
-FindsBehindItems bytes_of b count result = (ts : Items) (rest : List ℕ) → AreFronts b ts rest
-    → item_count ts ≡ count → MatchOption result ⊥ (λ a. bytes_of a ≡ rest)
+-- behind so many heads none of the items, and none of their parts, is left
+abbrev pub PassesHeads : (heads : ℕ) → List ℕ → (items : ℕ) → List ℕ → Type 0
+PassesHeads zero b items rest = (items ≡ 0) × (b ≡ rest)
+PassesHeads (suc heads) b items rest = (0 < items) × (parts : ℕ) × (behind : List ℕ)
+    × PassesHead b parts behind × PassesHeads heads behind (parts + (items - 1)) rest
+
+-- by the heads, so many items stand here, and these bytes follow
+abbrev pub EndByHeads : List ℕ → (items : ℕ) → List ℕ → Type 0
+EndByHeads b items rest = (heads : ℕ) × PassesHeads heads b items rest
+
+-- what follows so many items is found, exactly where they stand by their heads
+abbrev pub FindsBehindItems : {A : Type 0} → (A → List ℕ) → List ℕ → (items : ℕ) → Option A → Type 0
+FindsBehindItems bytes_of b items result = MatchOption result ((rest : List ℕ) → ¬ EndByHeads b items rest)
+    (λ a. EndByHeads b items (bytes_of a))

@@ -1,8 +1,8 @@
 //! What stands behind items that were judged, found by their heads alone.
 
-ghost use Rattle.std.specs.Prelude.{◌≡◌, ◌<◌, ◌≤◌, ◌^◌, ◌++◌, List, ℕ, length, drop, MatchOption, IfSome};
-ghost use Rattle.std.specs.Prelude.{IsTrue, if◌then◌else◌};
-ghost use Rattle.dagcbor_items.specs.Skips.{is_string, part_count, FindsBehindItem, FindsBehindItems};
+ghost use Rattle.std.specs.Prelude.{◌≡◌, ◌<◌, ◌≤◌, ◌^◌, List, ℕ, length, drop, MatchOption, IsTrue};
+ghost use Rattle.std.specs.Prelude.{if◌then◌else◌};
+ghost use Rattle.dagcbor_items.specs.Skips.{is_string, part_count, FindsBehindItems};
 
 use dagcbor_heads::split_head;
 
@@ -11,7 +11,8 @@ use dagcbor_heads::split_head;
 pub fn behind_token(major: u8, argument: u64, behind: &[u8]) -> Option<&[u8]>
     ensures { MatchOption result
         (IsTrue (is_string major) × (length behind.now < argument))
-        (λ rest. (rest.now ≡ (if is_string major then drop argument behind.now else behind.now))) }
+        (λ rest. (IsTrue (is_string major) → argument ≤ length behind.now)
+        × (rest.now ≡ (if is_string major then drop argument behind.now else behind.now))) }
 {
     if major != 2 && major != 3 {
         return Some(behind);
@@ -36,11 +37,11 @@ fn parts_behind(major: u8, argument: u64) -> Option<u64>
     }
 }
 
-/// The bytes behind so many items, where these stand there. Of lists, maps and links only the heads
-/// are looked at, as their parts follow them, and nothing is judged.
+/// The bytes behind so many items, by their heads: of lists, maps and links the parts follow, of
+/// strings the bytes, and nothing is judged. Where items stand, they end there (`items_found` in
+/// `proofs/Skipping.antt`); bytes that are no items may have such an end too.
 pub fn behind_items(bytes: &[u8], count: u64) -> Option<&[u8]>
-    ensures found { FindsBehindItems (λ s. s.now) bytes.now count result }
-    ensures within { IfSome result (λ s. (before : List ℕ) × (bytes.now ≡ before ++ s.now)) }
+    ensures { FindsBehindItems (λ s. s.now) bytes.now count result }
 {
     let mut rest = bytes;
     let mut more = count;
@@ -52,10 +53,9 @@ pub fn behind_items(bytes: &[u8], count: u64) -> Option<&[u8]>
     Some(rest)
 }
 
-/// The bytes behind the item at the front, where one stands there.
+/// The bytes behind the item at the front, as `behind_items` finds them.
 pub fn behind_item(bytes: &[u8]) -> Option<&[u8]>
-    ensures found { FindsBehindItem (λ s. s.now) bytes.now result }
-    ensures within { IfSome result (λ s. (before : List ℕ) × (bytes.now ≡ before ++ s.now)) }
+    ensures { FindsBehindItems (λ s. s.now) bytes.now 1 result }
 {
     behind_items(bytes, 1)
 }

@@ -12,6 +12,7 @@ use Rattle.ipld_tree.proofs.Unique.{major}
 use Rattle.ipld_tree.proofs.Fronts.{is_list, is_mapping, list_opened, map_opened}
 use Rattle.dagcbor_items.specs.Judging.{SplitsPayload}
 use Rattle.dagcbor_items.specs.Skips.{FindsBehindItems}
+use Rattle.dagcbor_items.proofs.Skipping.{items_found, ends_within}
 use Rattle.dagcbor_items.proofs.Judging.{head_opened, no_front, text_opened, too_few}
 use Rattle.dagcbor_paths.specs.Paths.{IsItemAt, IsPart}
 use Rattle.dagcbor_paths.specs.Parts.{EndsWith, GivesPart, FindsItem, FindsValue, FindsPart}
@@ -52,7 +53,11 @@ item_there bytes_of b at rest n ts us (Some a) f need g e few m = item_begins n 
 pub item_found : {A : Type 0} (bytes_of : A → List ℕ) (b : List ℕ) (count n : ℕ) (r : Option A) → n < count → FindsBehindItems bytes_of b n r → FindsItem bytes_of b count n r
 item_found bytes_of b count n r few found = λ ts rest f e need.
     let k = some_items n ts b rest f need (omega (arith, few, e)) in
-    item_there bytes_of b k.0 rest n ts k.1.0 r f need k.1.2 k.1.1 (omega (arith, few, e)) (found k.1.0 k.0 k.1.2 k.1.1)
+    item_there bytes_of b k.0 rest n ts k.1.0 r f need k.1.2 k.1.1 (omega (arith, few, e)) (items_found bytes_of b k.0 n k.1.0 r found k.1.2 k.1.1)
+
+pub item_within : {A : Type 0} (bytes_of : A → List ℕ) (b : List ℕ) (n : ℕ) (r : Option A) → FindsBehindItems bytes_of b n r → IfSome r (λ a. EndsWith b (bytes_of a))
+item_within bytes_of b n None found = tt
+item_within bytes_of b n (Some a) found = ends_within b (bytes_of a) n found
 
 -- ---- parts
 

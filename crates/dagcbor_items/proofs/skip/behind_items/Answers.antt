@@ -5,30 +5,27 @@ use Rattle.dagcbor_items.proofs.skip.behind_items.Goals as goal
 pub loop-more-init : goal.loop-more-init
 loop-more-init c = none_skipped _ _
 
-pub returns-in_err-major-clause-found : goal.returns-in_err-major-clause-found
-returns-in_err-major-clause-found c = rw c.from_residual.ensures (no_head_found (λ (s : Bor (List ℕ)). s.now) _ _ _ _ c.loop-more.invariant (omega arith) c.in_err-major.ensures)
+pub returns-in_err-major : goal.returns-in_err-major
+returns-in_err-major c = rw c.from_residual.ensures (no_head_found (λ (s : Bor (List ℕ)). s.now) _ _ _ _ c.loop-more.invariant (omega arith) c.in_err-major.ensures)
 
-pub returns-in_err-rest-clause-found : goal.returns-in_err-rest-clause-found
-returns-in_err-rest-clause-found c = rw c.from_residual-in_err-rest.ensures (no_string_found (λ (s : Bor (List ℕ)). s.now) _ _ _ _ _ _ _ c.loop-more.invariant (omega arith) c.in_ok-major.ensures c.in_err-rest.ensures.0 c.in_err-rest.ensures.1)
+pub returns-in_err-rest : goal.returns-in_err-rest
+returns-in_err-rest c = rw c.from_residual-in_err-rest.ensures (no_string_found (λ (s : Bor (List ℕ)). s.now) _ _ _ _ _ _ _ c.loop-more.invariant (omega arith) c.in_ok-major.ensures c.in_err-rest.ensures.0 c.in_err-rest.ensures.1)
 
-pub returns-in_err-parts_behind-clause-found : goal.returns-in_err-parts_behind-clause-found
-returns-in_err-parts_behind-clause-found c =
+pub returns-in_err-parts_behind : goal.returns-in_err-parts_behind
+returns-in_err-parts_behind c =
     let short : length c.args.bytes.now < 2 ^ 64 = search rules in
     rw c.from_residual-in_err-parts_behind.ensures (too_many_found (λ (s : Bor (List ℕ)). s.now) _ _ _ _ _ _ _ c.loop-more.invariant (omega arith) c.in_ok-major.ensures short (omega (arith, c.in_err-parts_behind.ensures)))
 
-pub returns-in_err-more-clause-found : goal.returns-in_err-more-clause-found
-returns-in_err-more-clause-found c =
+pub returns-in_err-more : goal.returns-in_err-more
+returns-in_err-more c =
     let short : length c.args.bytes.now < 2 ^ 64 = search rules in
     rw c.from_residual-in_err-more.ensures (too_many_found (λ (s : Bor (List ℕ)). s.now) _ _ _ _ _ _ _ c.loop-more.invariant (omega arith) c.in_ok-major.ensures short (omega (arith, c.in_err-more.ensures, c.in_ok-parts_behind.ensures)))
 
 pub loop-more-smaller : goal.loop-more-smaller
-loop-more-smaller c = token_shorter _ _ _ _ _ c.in_ok-major.ensures c.in_ok-rest.ensures
+loop-more-smaller c = token_shorter _ _ _ _ _ c.in_ok-major.ensures c.in_ok-rest.ensures.1
 
 pub loop-more-preserved : goal.loop-more-preserved
-loop-more-preserved c = one_skipped _ _ _ _ _ _ _ _ _ c.loop-more.invariant (omega arith) c.in_ok-major.ensures c.in_ok-rest.ensures (omega (arith, c.in_ok-more.ensures, c.in_ok-parts_behind.ensures))
+loop-more-preserved c = one_skipped _ _ _ _ _ _ _ _ _ c.loop-more.invariant (omega arith) c.in_ok-major.ensures c.in_ok-rest.ensures.0 c.in_ok-rest.ensures.1 (omega (arith, c.in_ok-more.ensures, c.in_ok-parts_behind.ensures))
 
-pub returns-clause-found : goal.returns-clause-found
-returns-clause-found c = all_skipped (λ (s : Bor (List ℕ)). s.now) c.loop-more.rest _ _ _ (omega arith) c.loop-more.invariant
-
-pub returns-clause-within : goal.returns-clause-within
-returns-clause-within c = (c.loop-more.invariant.before, c.loop-more.invariant.whole)
+pub returns : goal.returns
+returns c = all_skipped (λ (s : Bor (List ℕ)). s.now) c.loop-more.rest _ _ _ (omega arith) c.loop-more.invariant

@@ -27,13 +27,13 @@ returns-in_err-rest-clause-link c links holds =
     absurd (omega (arith, c.in_err-rest.ensures.1, k.0 c.in_err-rest.ensures.0))
 
 pub loop-major-smaller : goal.loop-major-smaller
-loop-major-smaller c = token_shorter c.loop-major.rest.now c.in-Some.behind.now c.in_ok-rest.rest.now c.in-Some.major c.in-Some.argument c.in-Some.ensures c.in_ok-rest.ensures
+loop-major-smaller c = token_shorter c.loop-major.rest.now c.in-Some.behind.now c.in_ok-rest.rest.now c.in-Some.major c.in-Some.argument c.in-Some.ensures c.in_ok-rest.ensures.1
 
 pub loop-major-preserved : goal.loop-major-preserved
 loop-major-preserved c =
     let some = c.loop-major.invariant.1 in (
-      λ links holds. rw c.in_ok-rest.ensures (token_passed c.loop-major.rest.now c.in-Some.behind.now c.in-Some.major c.in-Some.argument links c.if-major-eq6.false c.in-Some.ensures (c.loop-major.invariant.0 links holds)).1,
-      omega (arith, token_shorter c.loop-major.rest.now c.in-Some.behind.now c.in_ok-rest.rest.now c.in-Some.major c.in-Some.argument c.in-Some.ensures c.in_ok-rest.ensures),
+      λ links holds. rw c.in_ok-rest.ensures.1 (token_passed c.loop-major.rest.now c.in-Some.behind.now c.in-Some.major c.in-Some.argument links c.if-major-eq6.false c.in-Some.ensures (c.loop-major.invariant.0 links holds)).1,
+      omega (arith, token_shorter c.loop-major.rest.now c.in-Some.behind.now c.in_ok-rest.rest.now c.in-Some.major c.in-Some.argument c.in-Some.ensures c.in_ok-rest.ensures.1),
     )
 
 pub returns-clause-link : goal.returns-clause-link

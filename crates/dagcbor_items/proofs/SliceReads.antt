@@ -1,6 +1,5 @@
 -- Slices that are read as one item, or whose first item is.
 use Rattle.std.proofs.Common.{◌≡◌, ◌≢◌, ◌++◌, append-nil, inl, inr, ℕ, ◌+◌, ◌<◌, Bool, true, List, [], ◌∷◌, length, refl, sym, ap, ◌∙◌, subst, arith, Option, Some, Result, Ok, Err, MatchResult, IfOk, IfErr, Vec, Global}
-use Rattle.std.specs.Prelude.{⊤}
 use Rattle.std.specs.declared.convert.Infallible.{Infallible}
 use Rattle.dagcbor_heads.specs.Reading.{Reading}
 use Rattle.dagcbor_heads.specs.Fronts.{FindsEnd, ShowsByte}

@@ -1,6 +1,6 @@
 """How a struct of many fields is read: in groups, each a private struct, since the prover takes few fields at once."""
 
-from schemas.law import MOST_IN_GROUP, field_name, may_lack
+from schemas.law import MOST_IN_GROUP, field_name, in_parts, may_lack
 from schemas.layout import INSIDE_STRUCT, WIDTH, Group, ghost, lines, pairs_of, typed
 from schemas.parsing import Nullable
 
@@ -14,8 +14,7 @@ def groups_of(module, struct, few):
     row = [OfFields(module, struct, place + 1, fields) for place, fields in enumerate(few)]
     groups = row[:]
     while len(row) > MOST_IN_GROUP:
-        fours = [row[place : place + MOST_IN_GROUP] for place in range(0, len(row), MOST_IN_GROUP)]
-        row = [OfGroups(struct, len(groups) + place + 1, four) for place, four in enumerate(fours)]
+        row = [OfGroups(struct, len(groups) + at + 1, part) for at, part in enumerate(in_parts(row, MOST_IN_GROUP))]
         groups += row
     return groups, row
 

@@ -24,7 +24,7 @@ from schemas.parsing import (
 MOST_FIELDS = 14  # of a row that is read or written as one
 MOST_PAIRS = 3  # of the fields of a struct that is a list of pairs
 MOST_STEPS = 16  # of such a row: one for a field, and one for each list, map, nullable and optional of its type
-MOST_IN_GROUP = 4  # fields of a group, or groups of one, where a row is more than the prover takes at once
+MOST_IN_GROUP = 8  # fields of a group, or groups of one, where a row is more than the prover takes at once
 KINDS = ("bool", "int", "string", "bytes", "list", "map", "link")  # of the members of a kinded union
 
 # What a link may lead to, beside the types of the schema.
@@ -396,6 +396,13 @@ def may_lack(field):
 def in_groups(struct):
     """Whether a struct of many fields is read and written in groups."""
     return struct.representation == "map" and all(field.implicit is None for field in struct.fields)
+
+
+def in_parts(row, most):
+    """A row in as few parts of at most so many as there can be, of one size or of two that differ by one."""
+    count = -(-len(row) // most)
+    places = [at * len(row) // count for at in range(count + 1)]
+    return [row[begin:end] for begin, end in zip(places, places[1:])]
 
 
 def depth(kind):

@@ -1,6 +1,6 @@
 """What is written of a struct of many fields: a row of groups, each with a name, so that no function sees the types of all."""
 
-from schemas.law import MOST_FIELDS, field_name
+from schemas.law import MOST_FIELDS, field_name, in_parts
 from schemas.layout import WIDTH, Group, ghost, lines, typed
 
 
@@ -51,10 +51,8 @@ class Written:
 
 
 def written_groups(module, struct, kinds):
-    """The groups of a struct's fields, of one size, or of two that differ by one."""
-    count = -(-len(kinds) // MOST_FIELDS)
-    places = [at * len(kinds) // count for at in range(count + 1)]
-    return [Written(module, struct, at + 1, kinds[places[at] : places[at + 1]]) for at in range(count)]
+    """The groups of a struct's fields."""
+    return [Written(module, struct, at + 1, part) for at, part in enumerate(in_parts(kinds, MOST_FIELDS))]
 
 
 def all_groups(groups):

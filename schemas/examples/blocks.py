@@ -151,6 +151,14 @@ HOUR_MORE = {
     "picture": b"",
     "reviewed": False,
     "remarks": "none",
+    "swellHeight": 2,
+    "swellPeriod": 2**8 - 1,
+    "salinity": None,
+    "turbidity": 2**16 - 1,
+    "noise": 40,
+    "noiseAt": [0, 2**64 - 1],
+    "doorOpen": True,
+    "visits": {"a": 1, "b": 0},
 }
 
 BLOCKS = {

@@ -1,5 +1,5 @@
 -- Texts with commas between, one by one.
-use Rattle.std.proofs.Common.{◌≡◌, ◌≤◌, ◌⊎◌, inl, inr, ℕ, length, take, List, [], ◌∷◌, ◌++◌, Bool, true, false, cond, map, Global, String, Vec, string_bytes, refl, sym, ap, ◌∙◌, append_assoc, append-nil, subst, string_cmp, Less, rules, BTreeMap, ℤ, Result, Ok, Err, codes, is_ok, if◌then◌else◌, flat_map, take_all}
+use Rattle.std.proofs.Common.{◌≡◌, ◌≤◌, ◌⊎◌, inl, inr, ℕ, length, take, List, [], ◌∷◌, ◌++◌, Bool, true, false, cond, map, Global, String, Vec, string_bytes, refl, sym, ap, ◌∙◌, append_assoc, append-nil, subst, string_cmp, Less, rules, ℤ, Result, Ok, Err, codes, is_ok, if◌then◌else◌, flat_map, take_all}
 use Rattle.std.specs.Fmt.{signed_decimal}
 use Rattle.std.specs.List.{AllByRecursion}
 use Rattle.std.specs.List.Sorted.{IsStrictlySortedBy}
@@ -10,8 +10,8 @@ use Rattle.ipld_tree.specs.Key.{bytes_cmp}
 use Rattle.ipld_tree.specs.Cid.{CidParts, cid_bytes}
 use Rattle.ipld_tree.specs.Tree.{null, boolean, integer, text, bytes, list, mapping, link, items_of, ordered_entries}
 use Rattle.ipld_tree.specs.Ipld.{tree_of, trees_of, pairs_of}
-use Rattle.ipld_tree.specs.declared.ipld.Ipld.{Ipld, Null as Null', Bool as Bool', Integer as Integer', String as String', Bytes as Bytes', List as List', Map as Map', Link as Link', the_lemmas}
-use Rattle.ipld_tree.proofs.Trees.{IpldEntry, tree_of_Map}
+use Rattle.ipld_tree.specs.declared.ipld.Ipld.{Ipld, Null as Null', Bool as Bool', Integer as Integer', String as String', Bytes as Bytes', List as List', Link as Link', the_lemmas}
+use Rattle.ipld_tree.proofs.Trees.{IpldEntry}
 use Rattle.dag_json.specs.DagJson.{joined, member_text, json_text, boolean_text, bytes_text, link_text, list_text, map_text, dag_json, item_texts, Pushes}
 use Rattle.dag_json.proofs.Orders.{members, sorted_members}
 

@@ -1,14 +1,11 @@
 -- The header of a file: its spelling, its links, and why bytes are none.
 use Rattle.std.proofs.Common.{◌≡◌, ℕ, ◌≤◌, List, [], ◌∷◌, ◌++◌, map, length, codes, pos, refl, sym, ap, ◌∙◌, subst, arith, Option, Some, option_map}
-use Rattle.std.specs.declared.convert.Infallible.{Infallible}
-use Rattle.dagcbor_heads.specs.declared.error.DecodeError.{DecodeError}
-use Rattle.dagcbor_heads.specs.declared.error.DecodeError.TheVariants as unread
 use Rattle.ipld_tree.specs.Cid.{CidParts, cid_bytes}
 use Rattle.ipld_tree.specs.Tree.{Tree, integer, list, link, items_of, all_some, list_tree, entries_tree, any_need, items_need, links_of}
 use Rattle.ipld_tree.specs.Spelling.{spelling, IsSpelling}
 use Rattle.ipld_tree.proofs.Fronts.{front_unique}
 use Rattle.dagcbor_items.specs.Walks.{forms}
-use Rattle.dagcbor_items.specs.Slices.{IsBlock, SliceRefused, AreFirstLinks}
+use Rattle.dagcbor_items.specs.Slices.{IsBlock, AreFirstLinks}
 use Rattle.dagcbor_items.proofs.SliceReads.{whole_front}
 use Rattle.dagcbor_write.specs.Trees.{field}
 use Rattle.dagcbor_write.specs.Answers.{AreSpellingOf}

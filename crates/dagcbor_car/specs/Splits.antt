@@ -5,9 +5,9 @@ use Rattle.dagcbor_heads.specs.declared.error.DecodeError.TheVariants as unread
 use Rattle.ipld_tree.specs.Cid.{varint, CidParts, AreCidParts, cid_bytes}
 use Rattle.ipld_tree.specs.CidFault.{IsCutVarint, IsNoVarint, IsFault}
 use Rattle.ipld_tree.specs.declared.cid_error.CidError.{CidError}
-use Rattle.ipld_tree.specs.Tree.{Tree, link, items_of}
+use Rattle.ipld_tree.specs.Tree.{link, items_of}
 use Rattle.ipld_tree.specs.Spelling.{IsSpelling, AreFronts}
-use Rattle.dagcbor_items.specs.Slices.{IsBlock, SliceRefused}
+use Rattle.dagcbor_items.specs.Slices.{SliceRefused}
 use Rattle.dagcbor_items.specs.Walks.{forms}
 use Rattle.ipld_links.specs.Blocks.{HasBlock}
 use Rattle.dagcbor_car.specs.Car.{counted, Section, section_bytes, IsSection, header_tree, header_bytes, IsHeader}

@@ -1,5 +1,5 @@
 -- What calls hand on of what types answer beside their law.
-use Rattle.std.proofs.Common.{◌≡◌, ℕ, Bool, true, false, List, [], ◌++◌, inl, inr, refl, sym, ap, subst, ◌∙◌, append_assoc, Option, Some, None, IfSome, IfErr, Result, Ok, Err, IsErrAnd, MatchBool, codes, ◌⊎◌, ◌∷◌, ◌-◌, ◌/◌, ◌+◌, Global}
+use Rattle.std.proofs.Common.{◌≡◌, ℕ, Bool, true, false, List, [], ◌++◌, inl, inr, refl, sym, ap, subst, ◌∙◌, append_assoc, Option, Some, IfSome, IfErr, Result, Ok, Err, IsErrAnd, MatchBool, codes, ◌⊎◌, ◌∷◌, ◌-◌, ◌/◌, ◌+◌, Global}
 use Rattle.dagcbor_heads.specs.Head.{head}
 use Rattle.dagcbor_heads.specs.Names.{Names}
 use Rattle.dagcbor_heads.specs.declared.name.Name.{Name}
@@ -20,7 +20,7 @@ use Rattle.std.specs.declared.borrow.CowStr.{CowStr}
 use Rattle.dagcbor_read.specs.declared.access.enum_accessor.EnumAccessor.{EnumAccessor}
 use Rattle.dagcbor_read.specs.Enums.{EnumState, enum_state, SpendsEnum, ReadsName, BeginsHeld}
 use Rattle.dagcbor_read.specs.Collections.{FieldShape, TakesRow}
-use Rattle.dagcbor_read.specs.Parts.{HandsWholeOn, IsStart, IsNoEnd, IsFurther, RefusesFurther, RefusesEntry, RefusesFieldsAs, IfRefused, FillsAs, IsMissingField, HasMessage, RefusesRest, RefusesListAs, RefusesEnumAs, RefusesHeldFields}
+use Rattle.dagcbor_read.specs.Parts.{HandsWholeOn, IsStart, IsNoEnd, IsFurther, RefusesFurther, RefusesEntry, RefusesFieldsAs, IfRefused, IsMissingField, HasMessage, RefusesRest, RefusesListAs, RefusesEnumAs, RefusesHeldFields}
 use Rattle.dagcbor_read.proofs.Answered.{KeyRead}
 use Rattle.dagcbor_read.proofs.EntryRows.{FieldsSoFar, no_more_fields}
 use Rattle.dagcbor_read.proofs.ItemRows.{ReadSoFar, no_more_items}

@@ -7,9 +7,9 @@ use Rattle.std.proofs.lemmas.Slice.Eq.{bytes_eq-Decides}
 use Rattle.ipld_tree.specs.Key.{key_cmp}
 use Rattle.ipld_tree.specs.Tree.{Tree, null, boolean, integer, text, bytes, list, mapping, link, Items, no_items, item, Entries, no_entries, entry, IsTree, AreItems, AreEntries, Precedes, items_of, ordered_entries}
 use Rattle.ipld_tree.proofs.Ordered.{KeyAndTree, IsRising, Has, key_cmp_same, above, same_entries, HasPair, ordered_has, has_ordered, AreDistinct, rising_ordered}
-use Rattle.dagcbor_items.specs.Shapes.{Shape, view_unsigned, view_text, view_bytes, view_link, view_option, option_of}
-use Rattle.dagcbor_read.specs.Collections.{view_items, view_list, list_of, all_of, FieldShape, view_entries}
-use Rattle.dagcbor_read.specs.Structs.{StructShape, place, struct_shape, finish_required, required_field, no_other_fields}
+use Rattle.dagcbor_items.specs.Shapes.{Shape, view_unsigned, view_text, view_bytes, view_link, option_of}
+use Rattle.dagcbor_read.specs.Collections.{view_items, list_of, all_of, FieldShape, view_entries}
+use Rattle.dagcbor_read.specs.Structs.{StructShape, place, struct_shape, required_field, no_other_fields}
 
 -- the one tree that shows v
 abbrev pub IsShownBy : {V : Type 0} → Shape Tree V → (V → Tree) → Type 0

@@ -1,5 +1,5 @@
 -- What the writer holds for what is open; for private clauses.
-use Rattle.std.specs.Prelude.{◌≡◌, ℕ, ◌+◌, ◌≤◌, ◌<◌, List, [], ◌∷◌, ◌++◌, length, map, take, drop, Option, Some, None, reverse, slice_range, Bool, true, false, IsSomeAnd, ⊤, All, flat_map, IsSortedBy}
+use Rattle.std.specs.Prelude.{◌≡◌, ℕ, ◌+◌, ◌≤◌, ◌<◌, List, [], ◌∷◌, ◌++◌, length, map, take, drop, Option, Some, None, reverse, Bool, true, false, IsSomeAnd, ⊤, All, flat_map, IsSortedBy}
 use Rattle.serde.specs.Event.{Log}
 use Rattle.ipld_tree.specs.Tree.{Tree, text, link, IsTree, AreItems, items_of}
 use Rattle.ipld_tree.specs.Spelled.{spelled, spelled_items}

@@ -5,7 +5,6 @@ use Rattle.sqlite_trees.specs.Tree.{Trees}
 use Rattle.sqlite_trees.specs.View.{View, IsClean}
 use Rattle.sqlite_trees.specs.declared.store.Store.{Ghosts}
 use Rattle.ipld_tree.specs.Cid.{CidParts, cid_bytes}
-use Rattle.ipld_links.specs.Sets.{Among}
 use Rattle.ipld_links.proofs.Members.{push_among}
 use Rattle.block_trees.specs.RootRows.{root_tree, AreRoots, IsRootTooLong}
 use Rattle.block_trees.specs.Ends.{Quiet}

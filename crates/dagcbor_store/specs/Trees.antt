@@ -2,16 +2,16 @@
 use Rattle.std.specs.Prelude.{◌≡◌, ◌↔◌, ◌⊎◌, ℕ, List, [], ◌∷◌, ◌++◌, Some, Result, Err, MatchResult, Bool, ⊤}
 use Rattle.sqlite_trees.specs.View.{View}
 use Rattle.sqlite_trees.specs.declared.store.Store.{Ghosts}
-use Rattle.dagcbor_heads.specs.Written.{Written, WroteAll, Stops}
+use Rattle.dagcbor_heads.specs.Written.{Written}
 use Rattle.ipld_tree.specs.Cid.{CidParts, cid_bytes}
-use Rattle.dagcbor_car.specs.Car.{Section, car_bytes, section_bytes, IsSection, IsCar}
+use Rattle.dagcbor_car.specs.Car.{Section}
 use Rattle.ipld_links.specs.Sets.{Among}
 use Rattle.ipld_links.specs.Reaching.{Stored, LeadsFar, IsLost, ListsReachable, ListsLost, Walks, WalksAt}
 use Rattle.dagcbor_car.specs.Reached.{sections_at}
 use Rattle.ipld_links.specs.declared.reach.Reached.{Reached}
 use Rattle.ipld_links.specs.declared.reach.Walk.{Walk}
 use Rattle.block_trees.specs.Rows.{IsStored}
-use Rattle.dagcbor_store.specs.Stored.{IsNamedBy, HoldsOnly, ListsName, IsDamaged, FindsSo, FailsByStore}
+use Rattle.dagcbor_store.specs.Stored.{HoldsOnly, ListsName, IsDamaged, FindsSo, FailsByStore}
 use Rattle.dagcbor_store.specs.Walking.{WritesFile, WritesFirst, WriterStops, AppendsSection, SectionStops, FileUnsent}
 use Rattle.dagcbor_store.specs.declared.error.StoreRefusal.{StoreRefusal}
 use Rattle.dagcbor_store.specs.declared.error.StoreRefusal.TheVariants as refusal

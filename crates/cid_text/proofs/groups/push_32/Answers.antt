@@ -1,5 +1,4 @@
-use Rattle.std.proofs.Common.{◌+◌, ◌++◌, ap, sym, ◌∙◌, arith, length, List, ℕ, append_assoc, take-append-drop, length-take-le}
-use Rattle.cid_text.specs.Rfc4648.{text_in_groups}
+use Rattle.std.proofs.Common.{arith}
 use Rattle.cid_text.proofs.Grouping.{left_length, five_out}
 use Rattle.cid_text.proofs.groups.push_32.Goals as goal
 

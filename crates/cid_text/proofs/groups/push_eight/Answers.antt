@@ -1,4 +1,4 @@
-use Rattle.std.proofs.Common.{List, ◌+◌, ◌-◌, ◌*◌, ◌^◌, ◌%◌, ◌<◌, ◌≡◌, ℕ, ap, arith, subst, flat_map, take}
+use Rattle.std.proofs.Common.{List, ◌+◌, ◌-◌, ◌*◌, ◌^◌, ◌%◌, ◌<◌, ◌≡◌, ℕ, arith, subst, flat_map}
 use Rattle.std.proofs.lemmas.Nat.{pow_below}
 use Rattle.cid_text.specs.Rfc4648.{bits}
 use Rattle.cid_text.proofs.Alphabet.{alphabet_length}

@@ -1,6 +1,5 @@
 use Rattle.std.proofs.Common.{inl, inr, refl, ap, subst, ◌∙◌, arith}
 use Rattle.std.proofs.lemmas.Result.{err_from_is_err_and}
-use Rattle.sqlite_trees.specs.View.{IsClean}
 use Rattle.block_trees.specs.RootRows.{root_tree}
 use Rattle.dagcbor_store.specs.Roots.{AreRootsAdded, MayKeepRoots}
 use Rattle.dagcbor_store.proofs.Adding.{quiet_itself, quiet_then}

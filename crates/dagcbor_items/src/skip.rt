@@ -1,4 +1,4 @@
-//! What stands behind items that were judged, found by their heads alone.
+//! What stands behind items, found by their heads alone.
 
 ghost use Rattle.std.specs.Prelude.{◌≡◌, ◌<◌, ◌≤◌, ◌^◌, length, drop, MatchOption, IsTrue};
 ghost use Rattle.std.specs.Prelude.{if◌then◌else◌};

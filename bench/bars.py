@@ -1,8 +1,9 @@
 #!/usr/bin/env python3
-"""Puts the ratios of all tables of docs/SPEED.md into the one at its top, and draws some of them as bars (docs/speed.svg).
+"""Puts the ratios of all tables of docs/SPEED.md into the one at its top, and those of the codec's calls into README.md, and draws
+some of them as bars (docs/speed.svg).
 
-    bench/bars.py          does both anew; so does each script that puts a table into the page
-    bench/bars.py check    fails where the table or the picture is another than the tables say
+    bench/bars.py          does all anew; so does each script that puts a table into the page
+    bench/bars.py check    fails where the table, the sentence or the picture is another than the tables say
 
 Nothing is measured here. A bar to the left took less time than what it is compared with, one to the right more; the scale is
 logarithmic, so that half and twice the time are as far from the line."""
@@ -14,7 +15,7 @@ import sys
 from xml.sax.saxutils import escape
 
 ROOT = pathlib.Path(__file__).resolve().parent.parent
-PAGE, PICTURE = ROOT / "docs" / "SPEED.md", ROOT / "docs" / "speed.svg"
+PAGE, PICTURE, README = ROOT / "docs" / "SPEED.md", ROOT / "docs" / "speed.svg", ROOT / "README.md"
 
 # A group of bars: its heading, the first cell of its table's head, the columns of ratios, with what each adds to a row's name, and
 # the rows that are drawn.
@@ -94,6 +95,14 @@ def summarised(page):
     return before + BEGIN + "".join(summary(before + after)) + END + after
 
 
+def told(readme, page):
+    """The README's text, with the least and the greatest ratio of the codec's calls in its sentence."""
+    _, *row = next(row for table in tables(page) for row in ratios_of(table) if row[0] == "ours / serde_cbor")
+    ratios = row[0].values()
+    said = rf"\g<1>{min(ratios):.1f} to {max(ratios):.1f}\g<2>"
+    return re.sub(r"(calls take )[\d.]+ to [\d.]+( times as long as those of `serde_cbor`)", said, readme)
+
+
 def text(x, y, words, kind="", anchor="start"):
     return f'<text x="{x:.0f}" y="{y:.0f}" class="{kind}" text-anchor="{anchor}">{escape(words)}</text>'
 
@@ -142,6 +151,7 @@ def draw():
     """Draws the picture of the tables that stand in the page, and puts the table of all into it."""
     PAGE.write_text(summarised(PAGE.read_text(encoding="utf-8")), encoding="utf-8")
     PICTURE.write_text(picture(), encoding="utf-8")
+    README.write_text(told(README.read_text(encoding="utf-8"), PAGE.read_text(encoding="utf-8")), encoding="utf-8")
 
 
 def main(words):
@@ -151,6 +161,10 @@ def main(words):
     page = PAGE.read_text(encoding="utf-8")
     if page != summarised(page) or not PICTURE.exists() or PICTURE.read_text(encoding="utf-8") != picture():
         print("docs/speed.svg, or the first table of docs/SPEED.md, is not what its tables say: run bench/bars.py")
+        return 1
+    readme = README.read_text(encoding="utf-8")
+    if readme != told(readme, page) or "times as long as those of `serde_cbor`" not in readme:
+        print("README.md has other ratios than docs/SPEED.md: run bench/bars.py")
         return 1
     return 0
 

@@ -3,6 +3,7 @@
 import json
 import os
 import subprocess
+import sys
 import tempfile
 from concurrent.futures import ThreadPoolExecutor
 
@@ -14,6 +15,9 @@ from judge import Link, Refused, judge, links_of, spell, varint
 from vectors import VARIANTS, block_of
 
 ROOT = known.ROOT
+sys.path.append(f"{ROOT}/faults")
+
+import dag_pb
 
 
 def program(name):
@@ -132,19 +136,34 @@ def of_cid_text(vector):
 CODECS = {0x55: "raw", 0x70: "dag-pb", 0x71: "dag-cbor", 0x72: "libp2p-key", 0x129: "dag-json", 0x200: "json"}
 
 
-def missing_line(text):
-    """The line of a name that leads nowhere, with its codec: that of version 0 is dag-pb."""
+def codec_of(text):
+    """That of a CID: of version 0 it is dag-pb."""
     cid = cidtexts.read(text)
-    codec = 0x70 if cid[0] == 0x12 else varint(varint(cid)[1])[0]
+    return 0x70 if cid[0] == 0x12 else varint(varint(cid)[1])[0]
+
+
+def missing_line(text):
+    """The line of a name that leads nowhere, with its codec."""
+    codec = codec_of(text)
     return f"missing {text} {CODECS.get(codec, f'codec {codec:#x}')}"
 
 
+def program_verdict(section, file):
+    """What the programs say of a section: of blocks of DAG-PB too, which the vectors leave to others, and of other codecs."""
+    if section["verdict"] == "not read" and codec_of(section["cid"]) == 0x70:
+        return dag_pb.judged(file[section["block"] : section["end"]])[0]
+    if section["verdict"] == "not read" and codec_of(section["cid"]) != 0x55:
+        return "links not read"
+    return cars.in_variants(section["verdict"])
+
+
 def of_file(vector):
-    said = [f"{it['cid']} {cars.in_variants(it['verdict'])}" for it in vector.get("sections", ())]
+    file = block_of(vector)
+    said = [f"{it['cid']} {program_verdict(it, file)}" for it in vector.get("sections", ())]
     if vector["verdict"] == "refused":
         said.append(f"refused {cars.VARIANTS[vector['cause']]}")
     said += sorted(map(missing_line, vector.get("missing", ())))
-    return vector["id"], "check", block_of(vector), "".join(f"{it}\n" for it in said).encode()
+    return vector["id"], "check", file, "".join(f"{it}\n" for it in said).encode()
 
 
 def differing(asked):

@@ -20,6 +20,14 @@ START = re.compile(r"(?:abbrev |unfoldable )?(?:pub )?(?:record |data )?(?:mutua
 NAMES = re.compile(r"^\s*(?:abbrev |unfoldable )*(?:pub )(?:record |data |abbrev |unfoldable )*([A-Za-z_]\w*)")
 IMPORT = re.compile(r"^(?:ghost |pub )?use Rattle\.(\w+)\.specs\.(\w+)\.\{(.*)\};?$")
 
+# What a row of fields or of items says of the tree that it is read from.
+READ_BY_PARTS = [
+    ("structs", ["shape", "meaning", "finish"]),
+    ("row", ["shape", "meaning"]),
+    ("group", ["own_shape", "own_meaning", "own_finish", "behind", "shape_before", "shows", "finish_before",
+               "shape", "meaning", "finish"]),
+]
+
 # A sentence of the claim, and the calls or types whose contracts say it.
 SENTENCES = [
     ("`to_vec` answers the one spelling of the value's tree", ["dagcbor_write/src/whole.rt fn to_vec"]),
@@ -35,6 +43,13 @@ SENTENCES = [
     ("`check_slice` and `links_from_slice` judge a block",
      ["dagcbor_items/src/slices.rt fn check_slice", "dagcbor_items/src/slices.rt fn links_from_slice"]),
     ("`find_slice` answers the item to which a path leads", ["dagcbor_paths/src/find.rt fn find_slice"]),
+    ("The tree of a struct and of an enum that is written",
+     ["dagcbor_write/src/structs.rt fn write_struct", "dagcbor_write/src/structs.rt fn write_struct_variant",
+      *(f"dagcbor_write/src/row.rt ghost {name}" for name in ["pairs", "before"])]),
+    ("What a tree shows to a struct, an enum and a tuple",
+     ["dagcbor_read/src/access/structs.rt fn read_struct", "dagcbor_read/src/access/structs.rt fn read_struct_variant",
+      "dagcbor_read/src/access/variants.rt fn read_enum", "dagcbor_read/src/access/row.rt fn read_tuple",
+      *(f"dagcbor_read/src/access/{file}.rt ghost {name}" for file, names in READ_BY_PARTS for name in names)]),
     ("`dagcbor` answers each line", ["dagcbor_lines/src/command.rt fn run_command"]),
     ("`dagcar` judges a file of blocks", ["dagcar_lines/src/command.rt fn run_command"]),
     ("A path is resolved over blocks, and a root and a path bind what is found",
@@ -159,13 +174,15 @@ def lists():
     """Of each sentence its new definitions, how many lines they have, and how many ghost lines stand beside code, and where."""
     found = {}
     for sentence, calls in SENTENCES:
-        before, ghosts = set(found), 0
+        before, ghosts, folders = set(found), 0, {}
         for call in calls:
             for words, imports, lines in contract_words(call):
                 ghosts += lines
+                if lines:
+                    folders[f"`{call.split()[0].rpartition('/')[0]}`"] = None
                 reach(words, imports, None, found)
         new = [key for key in found if key not in before]
-        beside = f"{ghosts} ghost lines in `{calls[0].split()[0].rpartition('/')[0]}`" if ghosts else ""
+        beside = f"{ghosts} ghost lines in {', '.join(folders)}" if ghosts else ""
         yield sentence, new, found, beside
 
 

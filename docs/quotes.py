@@ -3,7 +3,8 @@
 
     docs/quotes.py page      puts each quotation into its page anew
     docs/quotes.py check     fails where a page has another text, or a block of Rust that stands in no source, or README
-                             another logic than that of `rt version`
+                             another logic than that of `rt version`; and where a page, or a line `//!` of a source, names a
+                             file or a function that is not there
 
 A quotation follows a line `<!-- quotes FILE NAME.. -->`: of src/ the heads of these functions, with their contracts; of specs/
 these definitions, with their comments; of a schema in schemas/examples these types, with their comments."""
@@ -19,6 +20,13 @@ from definitions import ROOT, Specs
 PAGES = [ROOT / "README.md", *sorted((ROOT / "docs").glob("*.md"))]
 QUOTE = re.compile(r"(<!-- quotes (\S+)\s(.*?) -->\n\n```(\w+)\n)(.*?)(```\n)", re.S)
 BLOCK = re.compile(r"```rust\n(.*?)```", re.S)
+CODE = re.compile(r"`([^`\n]+)`")
+FILE = re.compile(r"(?:\.\./)*[\w./-]+\.(?:rt|antt|py|md|ipldsch|edit)")
+CALL = re.compile(r"[a-z]\w*_\w+")
+# Words that a page says stand in a file: "`put_block`, `get_block`: `src/tests/mixed.rt`".
+WORDS_IN_FILE = re.compile(r"((?:`\w+`,? (?:and )?)*`\w+`): `([\w./-]+\.rt)`")
+# What a page tells its reader to make.
+MADE = {"lib/music.py", "specs/Echo.antt"}
 
 
 def dedented(lines):
@@ -71,6 +79,37 @@ def strangers(text, all_sources):
                 yield paragraph
 
 
+def is_there(pointer, names):
+    """Whether a file of the repository has this path, or one that ends so."""
+    return any(f"/{name}".endswith(f"/{pointer}") for name in names)
+
+
+def dead_pointers():
+    """What a line `//!` of a source names in backquotes and is not there: a file, or a function or another word of snake case
+    that no code has. Of a page, its files."""
+    listed = subprocess.run(["git", "ls-files"], cwd=ROOT, capture_output=True, text=True, check=True).stdout.split("\n")
+    names = [name for name in listed if (ROOT / name).is_file()]
+    code, heads = set(), []
+    for name in names:
+        if name.endswith((".rt", ".antt", ".rs", ".h")) or name == "crates.txt":
+            lines = (ROOT / name).read_text(encoding="utf-8").split("\n")
+            heads += [(name, line) for line in lines if name.endswith(".rt") and line.startswith("//!")]
+            code.update(word for line in lines if not line.lstrip().startswith(("//", "--")) for word in re.findall(r"\w+", line))
+    pages = [(str(page.relative_to(ROOT)), line) for page in PAGES for line in page.read_text(encoding="utf-8").split("\n")]
+    for name, line in heads + pages:
+        for pointer in CODE.findall(line):
+            if FILE.fullmatch(pointer) and pointer not in MADE and not is_there(pointer.lstrip("./"), names):
+                yield f"{name}: names {pointer}, which is not there"
+            elif name.endswith(".rt") and CALL.fullmatch(pointer) and pointer not in code:
+                yield f"{name}: names {pointer}, which no code has"
+    for page in PAGES:
+        for words, pointer in WORDS_IN_FILE.findall(page.read_text(encoding="utf-8")):
+            texts = [(ROOT / name).read_text(encoding="utf-8") for name in names if is_there(pointer, [name])]
+            for word in CODE.findall(words):
+                if not any(re.search(rf"\b{word}\b", text) for text in texts):
+                    yield f"{page.name}: {pointer} has no {word}"
+
+
 def other_logic():
     """The logic that README names, where `rt version` names another."""
     named = re.search(r"logic `(\w+)`", (ROOT / "README.md").read_text(encoding="utf-8"))[1]
@@ -94,6 +133,9 @@ def main(words):
         for paragraph in strangers(made, all_sources):
             print(f"{page.name}: stands in no source:\n{paragraph}\n")
             status = 1
+    for pointer in dead_pointers():
+        print(pointer)
+        status = 1
     if logic := other_logic():
         print(f"README names the logic {logic}")
         status = 1

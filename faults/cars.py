@@ -7,6 +7,7 @@ import hashlib
 import resource
 import subprocess
 
+import dag_pb
 from car_bytes import cid, counted, header, link, missing_line, section, text_of, varint
 
 
@@ -47,6 +48,16 @@ NO_HEADERS |= {
 
 class Refusal(Exception):
     """The variant of `CarError`."""
+
+
+def is_well(found):
+    """Whether a verdict tells of nothing wrong."""
+    return found in ("not read", "links not read") or found.startswith("ok ")
+
+
+def links_of(codec, block):
+    """Where the links of a block lead that is one of its codec."""
+    return dag_pb.judged(block)[1] if codec == 0x70 else BLOCKS[block][1]
 
 
 class Judge:
@@ -106,16 +117,16 @@ class Judge:
         body = self.counted()
         codec, hash_code, digest, end = self.name(body)
         found = self.verdict(codec, hash_code, digest, body[end:])
-        self.is_well = self.is_well and (found == "not read" or found.startswith("ok "))
+        self.is_well = self.is_well and is_well(found)
         self.sections.append((body[:end], body[end:], found))
         self.checked.append(f"{text_of(body[:end])} {found}")
-        if found.startswith("refused "):
+        if found.startswith("refused ") and codec == 0x71:
             self.places.append(f"{text_of(body[:end])}: {found} at byte {PLACES[body[end:]]}")
         self.listed.append(f"{text_of(body[:end])} {len(body) - end}")
         if found not in ("other bytes", "not verified"):
             self.held.add(body[:end])
         if found.startswith("ok "):
-            self.linked.update(BLOCKS[body[end:]][1])
+            self.linked.update(links_of(codec, body[end:]))
 
     def name(self, body):
         if body[:2] == b"\x12\x20" and len(body) >= 34:
@@ -138,7 +149,11 @@ class Judge:
             return "not verified"
         if digest != (hashlib.sha256(block).digest() if hash_code else block):
             return "other bytes"
-        return BLOCKS[block][0] if codec == 0x71 else "not read"
+        if codec == 0x70:
+            return dag_pb.judged(block)[0]
+        if codec == 0x71:
+            return BLOCKS[block][0]
+        return "not read" if codec == 0x55 else "links not read"
 
     def told(self, line):
         """Nothing is written, and why is told."""
@@ -155,10 +170,11 @@ class Judge:
         """The same of the blocks that links lead to from a root."""
         if self.refusal:
             return self.told(self.refusal[0])
-        stored = {}
+        stored, said = {}, {}
         for name, block, found in self.sections:
-            if (found == "not read" or found.startswith("ok ")) and name[2:3] != b"\x00":
+            if found not in ("other bytes", "not verified") and name[2:3] != b"\x00":
                 stored.setdefault(name, block)
+                said.setdefault(name, found)
         out, lost, seen, waiting = counted(header(root)), [], set(), [root]
         while waiting:
             name = waiting.pop()
@@ -168,9 +184,13 @@ class Judge:
             if name not in stored:
                 lost.append(name)
                 continue
+            # What the links of a block are must be known, or nothing is written.
+            if said[name] == "links not read" or said[name].startswith("refused "):
+                return self.told(f"{text_of(name)} {said[name]}")
             out += section(stored[name], name=name)
-            if name[1] == 0x71:
-                waiting += reversed(BLOCKS[stored[name]][1])
+            codec = 0x70 if name[0] == 0x12 else name[1]
+            if codec in (0x70, 0x71):
+                waiting += reversed(links_of(codec, stored[name]))
         told = "".join(missing_line(it) + "\n" for it in lost).encode()
         return (1 if lost else 0), (b"" if root in lost else out), told
 

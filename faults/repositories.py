@@ -6,9 +6,10 @@ import base64
 import os
 import pathlib
 import random
+import re
 import subprocess
 
-from car_bytes import counted, missing_line, section, text_of
+from car_bytes import cid, counted, missing_line, section, text_of
 from signed_trees import (MOST_KEY, Node, Pool, Row, commit, fields, file_of, key_text, layer, lines_of, named, record, shared_front, spelled,
                           tree_of)
 
@@ -87,6 +88,21 @@ def empty_subtree(rng, pool):
     return over(tree), "canonical"
 
 
+def empty_chain(rng, pool):
+    """Nodes without keys below a key, before other faults: the last node is not there, or has falling keys."""
+    tree, node = pick(rng, pool, lambda it: it.rows and not it.rows[0].after)
+    chain = Node(None, [])
+    for _ in range(rng.choice((0, 1, 5, 60))):
+        chain = Node(chain, [])
+    node.rows[0].after = chain
+    if rng.random() < 0.5:
+        node.rows.append(Row(0, node.rows[0].key, node.rows[0].value, None))
+        return over(tree), "canonical"
+    node.rows.append(Row(0, node.rows[-1].key + b"\x00", node.rows[-1].value, Node(None, [Row(0, b"away", record(b"1"), None)])))
+    kept = [it for it in tree.all() if it is not node.rows[-1].after]
+    return file_of(commit(tree.name()), kept), "canonical"
+
+
 def empty_root(rng, pool):
     """A node of a higher layer than that of any key."""
     tree, _ = some(rng, pool)
@@ -160,17 +176,27 @@ def other_version(rng, pool):
     return over(tree, version=rng.choice((b"\x02", b"\x04", b"\x00"))), "version"
 
 
+def missing_field(rng, pool):
+    """Of version 3, or of version 2 without what came later."""
+    tree, _ = some(rng, pool)
+    return over(tree, **rng.choice(({"prev": None}, {"rev": None}, {"rev": None, "version": b"\x02"}))), "missing"
+
+
 def other_fields(rng, pool):
     tree, _ = some(rng, pool)
     return over(tree, more=b"\x01"), "fields"
 
 
-def roots(rng, pool):
+def no_root(rng, pool):
+    tree, _ = some(rng, pool)
+    return counted(b"\xa2\x65roots\x80\x67version\x01") + section(commit(tree.name())), "root"
+
+
+def later_root(rng, pool):
+    """The commit is not the first root."""
     tree, _ = some(rng, pool)
     block = commit(tree.name())
-    if rng.random() < 0.5:
-        return file_of(block, tree.all(), named(block), tree.name()), "roots"
-    return counted(b"\xa2\x65roots\x80\x67version\x01") + section(block), "roots"
+    return file_of(block, tree.all(), tree.name(), named(block)), "fields"
 
 
 def commit_missing(rng, pool):
@@ -179,8 +205,9 @@ def commit_missing(rng, pool):
     return file_of(commit(tree.name()), tree.all(), name), missing_line(name)
 
 
-DAMAGES = (node_missing, short_prefix, long_prefix, lower_key, empty_subtree, empty_root, deep, out_of_order, listed_twice, node_twice,
-           empty_key, long_key, no_node, no_commit, other_version, other_fields, roots, commit_missing)
+DAMAGES = (node_missing, short_prefix, long_prefix, lower_key, empty_subtree, empty_chain, empty_root, deep, out_of_order, listed_twice, node_twice,
+           empty_key, long_key, no_node, no_commit, other_version, other_fields, missing_field, no_root, later_root,
+           commit_missing)
 
 # What a line says of a damage.
 WORDS = {
@@ -192,8 +219,9 @@ WORDS = {
     "node": "is no node",
     "commit": "is no commit: ",
     "version": "is a commit of version",
-    "fields": "is no commit: Msg",
-    "roots": "roots",
+    "fields": "is no commit: unknown field",
+    "missing": "is no commit: missing field",
+    "root": "the file has no commit: it has no root",
 }
 
 
@@ -215,7 +243,10 @@ def reference():
 def whole(path, rng, pool, count):
     for number in range(count):
         records = pool.take(rng)
-        found = ran(path, ["records"], over(tree_of(records)))
+        tree = tree_of(records)
+        block = commit(tree.name())
+        more = rng.choice(([], [named(block)], [tree.name(), record(b"away")]))
+        found = ran(path, ["records"], file_of(block, tree.all(), named(block), *more))
         if found != (0, lines_of(records), ""):
             yield f"tree {number}, of {len(records)} records: {found[0]}, {found[2]!r}"
 
@@ -304,6 +335,29 @@ def damaged(path, rng, pool, count):
             yield f"{damage.__name__}, {number}: {status}, {len(out)} bytes, {told!r}"
 
 
+def word_of(rng, key):
+    """The key as lines have it; or itself, where it is the text of no key. A word of a program is text, without a zero byte."""
+    try:
+        raw = b"\x00" not in key and key_text(key).encode() != key and bool(key.decode())
+    except UnicodeDecodeError:
+        raw = False
+    if raw and not re.fullmatch(rb"(%[0-9A-F]{2}|[!-$&-~])*", key) and rng.random() < 0.5:
+        return key
+    return key_text(key).encode()
+
+
+def raw_record(path):
+    """Of a record whose name says another codec the bytes are not shown, also where they are DAG-CBOR."""
+    data = spelled(2, b"raw")
+    for codec, word in ((0x55, "raw"), (0x70, "dag-pb"), (0x0129, "dag-json"), (0x300, "codec 0x300")):
+        name = cid(data, codec)
+        tree = tree_of({b"a/b": name})
+        file = file_of(commit(tree.name()), tree.all()) + section(data, codec)
+        found = ran(path, ["record", "a/b"], file)
+        if found != (1, "", f"{text_of(name)} is {word}, not dag-cbor\n"):
+            yield f"{word}: {found!r}"
+
+
 def one_record(path, rng, pool, count):
     """Each key that there is, and some that are not, over the whole file and over the nodes on the way alone."""
     for number in range(count):
@@ -311,16 +365,14 @@ def one_record(path, rng, pool, count):
         records = {**pool.take(rng), b"app.bsky.feed.post/self": record(data)}
         tree = tree_of(records)
         block = commit(tree.name())
-        # A word of a program is text.
-        words = [key for key in records if key == key_text(key).encode()]
-        way, node, key = [], tree, rng.choice([*words, b"app.bsky.feed.post/none"])
+        way, node, key = [], tree, rng.choice([*records, b"app.bsky.feed.post/none"])
         while node is not None:
             way.append(node)
             before = [row for row in node.rows if row.key <= key]
             node = None if before and before[-1].key == key else before[-1].after if before else node.left
         for nodes in (tree.all(), way):
             file = file_of(block, nodes) + section(spelled(2, data))
-            status, out, told = ran(path, ["record", key], file)
+            status, out, told = ran(path, ["record", word_of(rng, key)], file)
             if key not in records:
                 right = (status, out) == (1, "") and "no record" in told
             elif records[key] == record(data):
@@ -354,6 +406,7 @@ def sweep(path, folder, report, count=RANDOM_TREES):
     report("repositories, random trees", count, list(whole(path, rng, pool, count)))
     report("repositories, damaged", count // 4, list(damaged(path, rng, pool, count // 4)))
     report("repositories, one record", 2 * (count // 8), list(one_record(path, rng, pool, count // 8)))
+    report("repositories, a record of another codec", 4, list(raw_record(path)))
     report("repositories, two random ones", count // 4, list(differing(path, folder, rng, pool, count // 4)))
     report("repositories, two, damaged", count // 8, list(differing_damaged(path, folder, rng, pool, count // 8)))
     report("repositories, two, not told", 9, list(not_told(path, folder)))

@@ -261,7 +261,7 @@ def lines_of(names):
 
 def named(codec, block):
     """A block of a codec, and its CID."""
-    return b"\x01" + bytes([codec]) + b"\x12\x20" + hashlib.sha256(block).digest(), block
+    return b"\x01" + varint(codec) + b"\x12\x20" + hashlib.sha256(block).digest(), block
 
 
 def parent_of(names):
@@ -308,8 +308,14 @@ def roots(program, at, draw):
     expect("drop-root", run(program, path, "drop-root", text_of(first[0]), text_of(lost)), 0, b"removed 2\n")
     names = [third[0], second[0]]
     expect("roots behind drop-root", run(program, path, "roots"), 0, lines_of(names))
-    twice = run(program, path, "drop-root", text_of(lost), text_of(third[0]), text_of(third[0]))
-    expect("drop-root of none", twice, 1, b"removed 1\n", b"dagstore: no root has the name\n")
+
+    # A name that is given twice counts once; those that are no roots are told in the order of the words.
+    twice = run(program, path, "drop-root", text_of(lost), text_of(third[0]), text_of(first[0]), text_of(third[0]), text_of(lost))
+    told = f"{text_of(lost)} no root\n{text_of(first[0])} no root\n".encode()
+    expect("drop-root of none", twice, 1, b"removed 1\n", told)
+    expect("roots behind that", run(program, path, "roots"), 0, lines_of([second[0]]))
+    expect("add-root of one", run(program, path, "add-root", text_of(third[0])), 0, b"")
+    expect("drop-root A A", run(program, path, "drop-root", text_of(third[0]), text_of(third[0])), 0, b"removed 1\n")
     expect("add-root again", run(program, path, "add-root", text_of(third[0])), 0, b"")
     names = [second[0], third[0]]
     if tables_of(path) != (blocks, names):
@@ -343,7 +349,7 @@ def roots(program, at, draw):
     expect("roots of the earlier version", run(program, old, "roots"), 0, b"")
     expect("add-root to the earlier version", run(program, old, "add-root", text_of(first[0])), 1, b"", EARLIER)
     expect("gc of the earlier version", run(program, old, "gc"), 1, b"", NO_ROOTS)
-    expect("drop-root of the earlier version", run(program, old, "drop-root", text_of(lost)), 1, b"removed 0\n", b"dagstore: no root has the name\n")
+    expect("drop-root of the earlier version", run(program, old, "drop-root", text_of(lost)), 1, b"removed 0\n", f"{text_of(lost)} no root\n".encode())
     expect("export of the earlier version", run(program, old, "export"), 0, car_of(ordered))
     more = dict([parent_of([lost])])
     expect("import of a root to the earlier version", run(program, old, "import", given=car_of(more, [lost])), 1, b"", EARLIER)
@@ -402,7 +408,7 @@ def words(program, at, draw):
     blocks = dict(block_of(draw) for _ in range(200))
     lost = next(name for name, _ in iter(lambda: block_of(draw), None) if name not in blocks)
     held = next(iter(blocks))
-    # A raw leaf, and a node of the codec 0x70 with a link that nobody follows.
+    # A raw leaf, and a node of the codec 0x70 with a link to the lost one.
     raw, node = named(0x55, b"raw"), named(0x70, b"\x12\x26\x0a\x24" + lost)
     blocks.update((raw, node))
     name, parent = parent_of([lost, held, raw[0], node[0], lost])
@@ -421,7 +427,7 @@ def words(program, at, draw):
         wrong.append(f"export with a root: {rooted.returncode} {len(rooted.stdout)} bytes {rooted.stderr}")
     expect("import of the root", run(program, f"{at}/r.db", "import", given=rooted.stdout), 0, b"root %s\n" % text_of(name).encode() + said)
     expect("list", run(program, path, "list"), 0, "".join(f"{text_of(n)} {len(b)}\n" for n, b in stored).encode())
-    kinds = {n: "ok list" if n == name else "not read" if n in (raw[0], node[0]) else "ok bytes" for n in blocks}
+    kinds = {n: "ok list" if n == name else "not read" if n == raw[0] else "ok node" if n == node[0] else "ok bytes" for n in blocks}
     missing = f"missing {text_of(lost)} dag-cbor\n"
     expect("check", run(program, path, "check"), 1, ("".join(f"{text_of(n)} {kinds[n]}\n" for n, _ in stored) + missing).encode())
 
@@ -452,12 +458,21 @@ def words(program, at, draw):
     base.commit()
     base.close()
     ran = run(program, f"{at}/e.db", "gc", text_of(above))
-    if (ran.returncode, ran.stdout) != (1, b"") or text_of(held).encode() not in ran.stderr or set(rows_of(f"{at}/e.db")) != set(tree):
+    other = f"dagstore: {text_of(held)} other bytes\ndagstore: what is stored under the name has other bytes than it says\n".encode()
+    if (ran.returncode, ran.stdout, ran.stderr) != (1, b"", other) or set(rows_of(f"{at}/e.db")) != set(tree):
         wrong.append(f"gc of a damaged block: {ran.returncode} {ran.stdout} {ran.stderr}")
+    # Each command that reads a damaged block names it.
+    for words in (("get", text_of(held)), ("tree", text_of(above)), ("export",)):
+        ran = run(program, f"{at}/e.db", *words)
+        if (ran.returncode, ran.stderr) != (1, other):
+            wrong.append(f"{words[0]} of a damaged block: {ran.returncode} {ran.stderr}")
     expect("gc beside a damaged block", run(program, f"{at}/e.db", "gc", text_of(raw[0])), 0, b"removed 4\n")
-    expect("gc of a root that is not stored", run(program, f"{at}/e.db", "gc", text_of(lost)), 0, b"removed 1\n")
-    if rows_of(f"{at}/e.db"):
-        wrong.append("gc of a root that is not stored keeps a block")
+    # A root without a block: nothing is taken out.
+    ran = run(program, f"{at}/e.db", "gc", text_of(lost))
+    if (ran.returncode, ran.stdout, ran.stderr) != (1, b"", f"dagstore: {text_of(lost)} missing\ndagstore: a root has no block\n".encode()):
+        wrong.append(f"gc of a root that is not stored: {ran.returncode} {ran.stdout} {ran.stderr}")
+    if set(rows_of(f"{at}/e.db")) != {raw[0]}:
+        wrong.append("gc of a root that is not stored takes blocks out")
 
     # One block, put by its codec.
     put = f"{at}/p.db"
@@ -482,10 +497,13 @@ def words(program, at, draw):
         expect(f"put {word}", run(program, put, "put", word), 2, b"")
     expect("count", run(program, put, "count"), 0, b"holds 4\n")
     expect("has of another", run(program, put, "has", text_of(lost)), 1, b"")
-    ran = run(program, put, "remove", text_of(named(0x55, b"foo")[0]), text_of(lost))
-    if (ran.returncode, ran.stdout, ran.stderr) != (1, b"removed 1\n", b"dagstore: no block has the name\n"):
+    # A name that is given twice counts once; those under which nothing is listed are told in the order of the words.
+    foo, other, node = text_of(named(0x55, b"foo")[0]), text_of(named(0x55, b"other")[0]), text_of(named(0x70, b"\x0a\x00")[0])
+    ran = run(program, put, "remove", text_of(lost), foo, other, foo, text_of(lost))
+    told = f"{text_of(lost)} no block\n{other} no block\n"
+    if (ran.returncode, ran.stdout, ran.stderr) != (1, b"removed 1\n", told.encode()):
         wrong.append(f"remove: {ran.returncode} {ran.stdout} {ran.stderr}")
-    expect("remove", run(program, put, "remove", text_of(named(0x70, b"\x0a\x00")[0])), 0, b"removed 1\n")
+    expect("remove A A", run(program, put, "remove", node, node), 0, b"removed 1\n")
     expect("count", run(program, put, "count"), 0, b"holds 2\n")
 
     # A file that is read by its path; words that are no CID, or none; and what the program tells of itself.
@@ -538,7 +556,7 @@ def words(program, at, draw):
     base.commit()
     base.close()
     damaged = {first, second}
-    lines = "".join(f"{text_of(n)} damaged\n" if n in damaged else f"{text_of(n)} {kinds[n]}\n" for n, _ in stored)
+    lines = "".join(f"{text_of(n)} other bytes\n" if n in damaged else f"{text_of(n)} {kinds[n]}\n" for n, _ in stored)
     after = missing if name not in damaged else ""
     expect("check of other bytes", run(program, path, "check"), 1, (lines + after).encode())
     ran = run(program, path, "export")
@@ -548,6 +566,49 @@ def words(program, at, draw):
     expect("import of damaged blocks", run(program, path, "import", given=car_of({n: blocks[n] for n in (first, second)})), 0, b"stored 2\n")
     if rows_of(path) != blocks:
         wrong.append("an import left a damaged block")
+    return wrong
+
+
+def unread(program, at):
+    """Blocks of which it is not known what links they have: each command has one word for one, and nothing is lost."""
+    wrong, path = [], f"{at}/u.db"
+
+    def expect(what, ran, *wanted):
+        if (ran.returncode, ran.stdout, ran.stderr) != wanted:
+            wrong.append(f"{what}: {ran.returncode} {ran.stdout[:200]} {ran.stderr}")
+
+    def over(*names):
+        links = (b"\xd8\x2a" + head_of(0x40, 1 + len(it)) + b"\x00" + it for it in names)
+        return named(0x71, head_of(0x80, len(names)) + b"".join(links))
+
+    # A block of DAG-JSON, two raw ones, and lists of links.
+    json, raw, alone = named(0x0129, b"[]"), named(0x55, b"\xf6\xf6"), named(0x55, b"alone")
+    # The second one is DAG-CBOR by another name, and none.
+    item = b"\x01\x71" + raw[0][2:]
+    over_json, over_item = over(alone[0], json[0]), over(item)
+    blocks = dict([json, raw, alone, over_json, over_item])
+    expect("import", run(program, path, "import", given=car_of(blocks)), 0, b"stored 5\n", b"")
+    base = sqlite3.connect(path)
+    base.execute("UPDATE block SET cid = ? WHERE cid = ?", (item, raw[0]))
+    base.commit()
+    base.close()
+    blocks[item] = blocks.pop(raw[0])
+    states = {json[0]: "links not read", item: "refused TrailingData"}
+    for root, name in ((over_json[0], json[0]), (over_item[0], item)):
+        told = f"dagstore: {text_of(name)} {states[name]}\ndagstore: the links of a block cannot be read\n".encode()
+        expect("gc", run(program, path, "gc", text_of(alone[0]), text_of(root)), 1, b"", told)
+        expect("tree", run(program, path, "tree", text_of(root)), 1, b"", told)
+        expect("get", run(program, path, "get", text_of(name)), 0, blocks[name], b"")
+    if rows_of(path) != blocks:
+        wrong.append("gc took out a block")
+    kinds = {alone[0]: "not read", over_json[0]: "ok list", over_item[0]: "ok list", **states}
+    expect("check", run(program, path, "check"), 1, "".join(f"{text_of(it)} {kinds[it]}\n" for it in sorted(blocks)).encode(), b"")
+    # What no root leads to may be of any codec.
+    expect("gc of another root", run(program, path, "gc", text_of(alone[0])), 0, b"removed 4\n", b"")
+    # A stored root without a block is told by `check`, and takes nothing with it.
+    expect("add-root", run(program, path, "add-root", text_of(item)), 0, b"", b"")
+    expect("gc of a stored root", run(program, path, "gc"), 1, b"", f"dagstore: {text_of(item)} missing\ndagstore: a root has no block\n".encode())
+    expect("check of a root", run(program, path, "check"), 1, f"{text_of(alone[0])} not read\nmissing {text_of(item)} dag-cbor\n".encode(), b"")
     return wrong
 
 
@@ -590,4 +651,5 @@ def check(report, program, count=200, seed=1):
         report("dagstore: what its words say of a store, whole and changed by hand", 1, words(program, at, random.Random(seed)))
         report("dagstore: the roots of a store, and what export and gc do of them", 1, roots(program, at, random.Random(seed)))
         report("dagstore: what a path leads to in a store", 1, paths(program, at, random.Random(seed)))
+        report("dagstore: blocks whose links cannot be read, and roots without a block", 1, unread(program, at))
         report("dagstore: files that are none of ours", 3, foreign(program, at))

@@ -19,8 +19,8 @@ class CrateError(Exception):
     """The crate can't be made."""
 
 
-def made_of(path, make):
-    """What is made of a schema and of the name of its module."""
+def made_of(path, make, is_proved):
+    """What is made of a schema and of the name of its module. In Rattle it is proved."""
     if path.suffix != ".ipldsch" or not re.fullmatch(r"[a-z][a-z0-9]*(_[a-z0-9]+)*", path.stem):
         raise CrateError(f"{path}: a schema's file has a name as a module's, and ends in .ipldsch")
     try:
@@ -28,7 +28,7 @@ def made_of(path, make):
     except (OSError, UnicodeDecodeError) as error:
         raise CrateError(f"{path}: {error}") from error
     try:
-        return make(Schema(parse(text)), path.stem)
+        return make(Schema(parse(text), is_proved), path.stem)
     except SchemaError as error:
         raise CrateError(f"{path}:{error.place.line}:{error.place.column}: {error.message}") from error
 
@@ -46,10 +46,10 @@ def files_of(schemas, folder, language=None):
     folder, maker = folder.resolve(), LANGUAGES[language]
     refuse_names(schemas, maker.closed_modules)
 
-    def text_of(schema, name):
+    def made(schema, name):
         return maker(schema).text(f"{name}.ipldsch")
 
-    return folder, {folder / f"{path.stem}{maker.suffix}": made_of(path, text_of) for path in schemas}
+    return folder, {folder / f"{path.stem}{maker.suffix}": made_of(path, made, is_proved=False) for path in schemas}
 
 
 def files_of_crate(schemas, crate):
@@ -61,7 +61,7 @@ def files_of_crate(schemas, crate):
     def module_of(schema, name):
         return Module(schema, crate.name, name)
 
-    modules = sorted((made_of(path, module_of) for path in schemas), key=lambda module: module.name)
+    modules = sorted((made_of(path, module_of, is_proved=True) for path in schemas), key=lambda module: module.name)
     seen = {}
     for module in modules:
         for one in module.definitions:
@@ -99,16 +99,17 @@ def line_of(crate):
     return f"{crate.name}: {STANDS_ON}"
 
 
-def left_over(folder, files, language):
-    """Files that were made of what is no longer in the schemas."""
-    if language is None:
-        found = [path for name in ("src", "specs", "proofs") for path in (folder / name).rglob("*")]
-        suffixes = (".rt", ".antt")
-    else:
-        found, suffixes = folder.glob("*"), (LANGUAGES[language].suffix,)
+def left_over(crate, files):
+    """Files of the crate that were made of what is no longer in the schemas."""
+    found = [path for name in ("src", "specs", "proofs") for path in (crate / name).rglob("*")]
     for path in sorted(found):
-        if path.suffix in suffixes and path not in files and is_made(path.read_text(encoding="utf-8")):
+        if path.suffix in (".rt", ".antt") and path not in files and is_made(text_of(path)):
             yield path
+
+
+def text_of(path):
+    """That of a file, which others may have written."""
+    return path.read_text(encoding="utf-8", errors="replace")
 
 
 def is_made(text):
@@ -116,15 +117,16 @@ def is_made(text):
 
 
 def write(made, check, language=None):
-    """Writes the files, and answers a line for each that was another."""
+    """Writes the files, and answers a line for each that was another. A crate is all of its schemas; in a folder of
+    another language each file is by itself, and those of other calls stay."""
     folder, files = made
     told = []
-    for path in left_over(folder, files, language):
+    for path in left_over(folder, files) if language is None else ():
         told.append(f"{'left over' if check else 'removed'}: {shown(path)}")
         if not check:
             path.unlink()
     for path, text in files.items():
-        found = path.read_text(encoding="utf-8") if path.exists() else None
+        found = text_of(path) if path.exists() else None
         if found == text:
             continue
         if found is not None and not is_made(found):

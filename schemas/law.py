@@ -62,10 +62,10 @@ def path_name(module):
 
 
 class Schema:
-    """Definitions that keep the law."""
+    """Definitions that keep the law: where the types are to be proved they are no more than the prover takes."""
 
-    def __init__(self, definitions):
-        self.by_name = {}
+    def __init__(self, definitions, is_proved=True):
+        self.by_name, self.is_proved = {}, is_proved
         for definition in definitions:
             self.check_name(definition)
         self.definitions = [self.plain(definition) for definition in definitions]
@@ -171,11 +171,12 @@ class Schema:
             once(keys, field.key, field.place, "two fields have the key")
             if len(snake(field.name)) > 40:
                 raise SchemaError(field.place, f"a field's name has at most 40 letters here: `{field.name}`")
-        self.check_size(struct)
+        if self.is_proved:
+            self.check_size(struct)
         if struct.representation == "tuple":
             self.check_tuple(struct)
         if struct.representation == "listpairs":
-            check_pairs(struct)
+            check_pairs(struct, MOST_PAIRS if self.is_proved else len(struct.fields))
 
     def implied(self, struct, field):
         """What a field means that is left out, as a value of its type."""
@@ -307,7 +308,7 @@ class Schema:
                         case.place,
                         f"the key `{field.key}` is of two types in the members of `{union.name}`: lines {other.place.line} and {field.place.line}",
                     )
-        if len(seen) >= MOST_FIELDS:
+        if self.is_proved and len(seen) >= MOST_FIELDS:
             raise SchemaError(
                 union.place, f"the members of an inline union have at most {MOST_FIELDS - 1} fields in all, and those of `{union.name}` {len(seen)}"
             )
@@ -457,13 +458,13 @@ def check_key(key, place):
         raise SchemaError(place, f"names in the data are up to 40 printable characters of ASCII here, without \" and \\: {key!r}")
 
 
-def check_pairs(struct):
+def check_pairs(struct, most):
     """The pairs stand in the schema's order, and all are there: so each struct has one spelling."""
     for field in struct.fields:
         if field.optional:
             raise SchemaError(field.place, f"a list of pairs has all of its fields here: `{field.name}` is optional")
-    if len(struct.fields) > MOST_PAIRS:
-        raise SchemaError(struct.fields[MOST_PAIRS].place, f"a list of pairs has at most {MOST_PAIRS} fields here, which the prover can take at once: `{struct.name}`")
+    if len(struct.fields) > most:
+        raise SchemaError(struct.fields[most].place, f"a list of pairs has at most {most} fields here, which the prover can take at once: `{struct.name}`")
     if struct.open:
         raise SchemaError(struct.place, f"a list of pairs has no other keys to skip: `{struct.name}`")
 

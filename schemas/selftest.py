@@ -157,6 +157,15 @@ type Format enum {
   | Vinyl
 }"""
 
+# More than the prover takes, which other languages take.
+LARGE = [
+    "type A struct {\n" + "".join(f"  f{i} Int\n" for i in range(15)) + "} representation tuple",
+    "type A struct {\n" + "".join(f"  f{i} Int (implicit 0)\n" for i in range(15)) + "}",
+    "type A struct {\n  x " + "[" * 16 + "Int" + "]" * 16 + "\n}",
+    "type A struct {\n" + "".join(f"  f{i} Int\n" for i in range(4)) + "} representation listpairs",
+    'type A union {\n  | B "b"\n} representation inline {\n  discriminantKey "t"\n}\ntype B struct {\n' + "".join(f"  f{i} Int\n" for i in range(14)) + "}",
+]
+
 # A language, a schema, and a line that stands in what is made of it.
 MADE_IN = [
     ("python", "type A struct {\n  createdAt optional nullable [Int] # as u8\n}", "    created_at: list[int] | None | Absent = Absent.ABSENT"),
@@ -252,8 +261,8 @@ def refusal_by(make):
     return "none"
 
 
-def refusal(text, make=lambda schema: None):
-    return refusal_by(lambda: make(Schema(parse(text))))
+def refusal(text, make=lambda schema: None, is_proved=True):
+    return refusal_by(lambda: make(Schema(parse(text), is_proved)))
 
 
 def is_refusal(found, wanted):
@@ -269,15 +278,34 @@ def failures():
         made = Module(Schema(parse(text)), "trial", "trial").source("trial.ipldsch")
         yield None if wanted in made.split("\n") else f"{text}\n    makes no line: {wanted}\n{made}"
     for language, text, wanted in REFUSED_IN:
-        found = refusal(text, LANGUAGES[language])
+        found = refusal(text, LANGUAGES[language], is_proved=False)
         yield None if is_refusal(found, wanted) else f"{text}\n    is refused in {language} by: {found}\n    in place of: {wanted}"
     for language, text, wanted in MADE_IN:
-        made = LANGUAGES[language](Schema(parse(text))).text("trial.ipldsch")
+        made = LANGUAGES[language](Schema(parse(text), is_proved=False)).text("trial.ipldsch")
         if language == "python":
             compile(made, "trial.py", "exec")
         yield None if wanted in made.split("\n") else f"{text}\n    makes no line in {language}: {wanted}\n{made}"
+    for text in LARGE:
+        found = [refusal(text), *(refusal(text, make, is_proved=False) for make in LANGUAGES.values())]
+        yield None if found[0] != "none" and set(found[1:]) == {"none"} else f"{text}\n    is refused by: {found}"
     for make in LANGUAGES.values():
         yield more_is_told(make)
+    yield from left_alone()
+
+
+def left_alone():
+    """Of another language each schema's file is by itself: those that stand in the folder stay, also of no UTF-8."""
+    with tempfile.TemporaryDirectory() as name:
+        folder = pathlib.Path(name)
+        (folder / "other.py").write_bytes(b"# by ./dagcbor-types \xff\n")
+        for stem in ("a", "b"):
+            schema = folder / f"{stem}.ipldsch"
+            schema.write_text("type A struct {\n  x Int\n}\n", encoding="utf-8")
+            write(files_of([schema], folder, "python"), False, "python")
+        stand = sorted(path.name for path in folder.glob("*.py"))
+        told = write(files_of([folder / "a.ipldsch"], folder, "python"), True, "python")
+    wanted = ["a.py", "b.py", "other.py"]
+    yield None if (stand, told) == (wanted, []) else f"{stand} stand, and {told} is told, in place of {wanted}"
 
 
 def refuse_and_make():

@@ -76,9 +76,22 @@ type CARReader struct {
 	err     error
 }
 
+// A reader that ends where it is asked often and gives nothing.
+type progress struct{ io.Reader }
+
+func (reader progress) Read(room []byte) (count int, err error) {
+	for i := 0; i < 100 && count == 0 && err == nil; i++ {
+		count, err = reader.Reader.Read(room)
+	}
+	if count == 0 && err == nil {
+		err = io.ErrNoProgress
+	}
+	return
+}
+
 // NewCARReader reads the header.
 func NewCARReader(reader io.Reader) (*CARReader, error) {
-	car := &CARReader{reader: reader, end: math.MaxUint64}
+	car := &CARReader{reader: progress{reader}, end: math.MaxUint64}
 	var span [2]C.uint64_t
 	_, err := car.ask(func(at *C.uint8_t, length C.size_t) C.int32_t {
 		return C.dagcbor_car_span(at, length, &span[0])

@@ -177,7 +177,7 @@ func TestMarshal(t *testing.T) {
 		path  []any
 	}{
 		{1.5, "Unsupported", []any{}}, {[]any{1, map[string]any{"a": float32(0)}}, "Unsupported", []any{1, "a"}},
-		{map[int]int{}, "Mismatch", []any{}}, {"\xff", "RequireUtf8", []any{}}, {[]any{make(chan int)}, "Unsupported", []any{0}},
+		{map[int]int{}, "Mismatch", []any{}}, {"\xff", "RequireUtf8", []any{}}, {[]any{"a", map[string]any{"b": "\xff"}}, "RequireUtf8", []any{1, "b"}}, {[]any{make(chan int)}, "Unsupported", []any{0}},
 		{map[string]any{"a": CID{}}, "InvalidCid", []any{"a"}},
 		{new(big.Int).Sub(least, big.NewInt(1)), "CastOverflow", []any{}},
 	} {
@@ -273,7 +273,7 @@ func TestTypes(t *testing.T) {
 		B int `dagcbor:"x"`
 	}{})
 	var refusal *Error
-	equal(t, []any{errors.As(err, &refusal), refusal.Kind}, []any{true, "UnorderedKey"})
+	equal(t, []any{errors.As(err, &refusal), refusal.Kind}, []any{true, "Unsupported"})
 }
 
 // What is told of a file, as a row of the table has it.

@@ -1,23 +1,27 @@
 package dagcbor
 
 import (
-	"bytes"
+	"encoding"
 	"encoding/binary"
 	"math/big"
 	"reflect"
 	"sort"
-	"strings"
 	"sync"
 	"unicode/utf8"
 )
 
-// So many lists and maps may be around a part.
-const mostLevels = 127
+// So many lists and maps may be around a part, and so many pointers and interfaces before it: more
+// stand in a ring.
+const (
+	mostLevels   = 127
+	mostPointers = 1000
+)
 
 type writer struct {
 	block  []byte
-	levels int // of lists and maps around
-	last   lastType
+	levels int  // of lists and maps around
+	looks  bool // for the text that is not UTF-8
+	last   lastShape
 }
 
 var writers = sync.Pool{New: func() any { return &writer{} }}
@@ -25,19 +29,29 @@ var writers = sync.Pool{New: func() any { return &writer{} }}
 // Marshal is the one block of the data: what Unmarshal gives to an any, all sorts of integers, slices,
 // arrays, maps with keys of string, structs as maps, and what pointers point at; of nil pointers,
 // slices and maps it is null. An entry of a struct has the name of the tag
-// `dagcbor:"name,omitempty"`, else that of the tag for json, else the field's. Keys come in the order
-// of blocks.
+// `dagcbor:"name,omitempty"`, else that of the tag for json, else the field's; the fields of an
+// embedded struct are entries of the outer one, as for json. A struct that shows no field, as
+// time.Time, is the text of its MarshalText, or refused; a CID of go-cid is a link. Keys come in the
+// order of blocks.
 func Marshal(value any) ([]byte, error) {
 	writer := writers.Get().(*writer)
 	defer writers.Put(writer)
-	writer.block, writer.levels = writer.block[:0], 0
-	if err := writer.add(reflect.ValueOf(value)); err != nil {
+	if err := writer.write(value, false); err != nil {
 		return nil, err
 	}
 	if code := check(writer.block); code < 0 {
+		if err := writer.write(value, true); err != nil {
+			return nil, err
+		}
 		return nil, refused(code, -1)
 	}
 	return append([]byte{}, writer.block...), nil
+}
+
+// Texts are judged with the block: where a fault is, is looked for when there is one.
+func (writer *writer) write(value any, looks bool) error {
+	writer.block, writer.levels, writer.looks = writer.block[:0], 0, looks
+	return writer.add(reflect.ValueOf(value))
 }
 
 func refusedValue(kind, said string) error {
@@ -79,7 +93,7 @@ func appendText(block []byte, text string) []byte {
 }
 
 func (writer *writer) text(text string) error {
-	if !utf8.ValidString(text) {
+	if writer.looks && !utf8.ValidString(text) {
 		return refusedValue("RequireUtf8", "a text that is not UTF-8")
 	}
 	writer.block = appendText(writer.block, text)
@@ -119,14 +133,14 @@ var (
 )
 
 func (writer *writer) add(value reflect.Value) error {
-	switch value.Kind() {
-	case reflect.Pointer, reflect.Interface, reflect.Slice, reflect.Map:
-		if value.IsNil() {
-			return writer.head(Null, 0)
+	for i := 0; value.Kind() == reflect.Pointer || value.Kind() == reflect.Interface; i++ {
+		if i == mostPointers {
+			return refusedValue("DepthOverflow", "pointers that stand in a ring")
 		}
+		value = value.Elem()
 	}
 	switch value.Kind() {
-	case reflect.Invalid: // of a nil that has no type
+	case reflect.Invalid: // behind a nil
 		return writer.head(Null, 0)
 	case reflect.Bool:
 		if value.Bool() {
@@ -139,14 +153,18 @@ func (writer *writer) add(value reflect.Value) error {
 		return writer.integer(value.Int())
 	case reflect.Uint, reflect.Uint8, reflect.Uint16, reflect.Uint32, reflect.Uint64:
 		return writer.head(Integer, value.Uint())
-	case reflect.Pointer, reflect.Interface:
-		return writer.add(value.Elem())
 	case reflect.Slice, reflect.Array:
+		if value.Kind() == reflect.Slice && value.IsNil() {
+			return writer.head(Null, 0)
+		}
 		if isOfBytes(value) {
 			return writer.bytes(value)
 		}
 		return writer.list(value)
 	case reflect.Map:
+		if value.IsNil() {
+			return writer.head(Null, 0)
+		}
 		return writer.entries(value)
 	case reflect.Struct:
 		return writer.structure(value)
@@ -227,61 +245,12 @@ func (writer *writer) entries(value reflect.Value) error {
 	return nil
 }
 
-// A field of a struct that is an entry of its map, and its key as a block has it.
-type field struct {
-	name      string
-	key       []byte
-	index     int
-	omitEmpty bool
-}
-
 func isEmpty(value reflect.Value) bool {
 	switch value.Kind() {
 	case reflect.Slice, reflect.Map, reflect.String, reflect.Array:
 		return value.Len() == 0
 	}
 	return value.IsZero()
-}
-
-var fields sync.Map // of []field in the order of blocks, by type
-
-// The type whose fields were asked for last: as a rule that of the next one in a list.
-type lastType struct {
-	reflect.Type
-	fields []field
-}
-
-func (last *lastType) fieldsOf(of reflect.Type) []field {
-	if last.Type != of {
-		*last = lastType{of, fieldsOf(of)}
-	}
-	return last.fields
-}
-
-// The exported fields, by the tag `dagcbor:"name,omitempty"`, else that of json, else their names.
-func fieldsOf(of reflect.Type) []field {
-	if known, ok := fields.Load(of); ok {
-		return known.([]field)
-	}
-	found := []field{}
-	for i := 0; i < of.NumField(); i++ {
-		it := of.Field(i)
-		tag, ok := it.Tag.Lookup("dagcbor")
-		if !ok {
-			tag = it.Tag.Get("json")
-		}
-		if !it.IsExported() || tag == "-" {
-			continue
-		}
-		name, options, _ := strings.Cut(tag, ",")
-		if name == "" {
-			name = it.Name
-		}
-		found = append(found, field{name, appendText(nil, name), i, strings.Contains(options, "omitempty")})
-	}
-	sort.SliceStable(found, func(i, j int) bool { return bytes.Compare(found[i].key, found[j].key) < 0 })
-	fields.Store(of, found)
-	return found
 }
 
 func (writer *writer) structure(value reflect.Value) error {
@@ -292,27 +261,50 @@ func (writer *writer) structure(value reflect.Value) error {
 		n := value.Interface().(big.Int)
 		return writer.bigInteger(&n)
 	}
-	all := writer.last.fieldsOf(value.Type())
-	count := len(all)
-	for i := range all {
-		if all[i].omitEmpty && isEmpty(value.Field(all[i].index)) {
+	shape := writer.last.of(value.Type())
+	switch {
+	case (shape.isLink || shape.isText) && !value.CanInterface():
+		return refusedValue("Unsupported", value.Type().String()+" is not exported, and so its methods")
+	case shape.isLink:
+		return writer.link(pointerTo(value).(linker).KeyString())
+	case shape.isText:
+		text, err := pointerTo(value).(encoding.TextMarshaler).MarshalText()
+		if err != nil {
+			return refusedValue("Unsupported", err.Error())
+		}
+		return writer.text(string(text))
+	case shape.refusal != "":
+		return refusedValue("Unsupported", shape.refusal)
+	}
+	count := len(shape.fields)
+	for i := range shape.fields {
+		if !shape.fields[i].isSent(value) {
 			count--
 		}
 	}
 	if err := writer.open(Map, count); err != nil {
 		return err
 	}
-	for i := range all {
-		it := &all[i]
-		part := value.Field(it.index)
-		if it.omitEmpty && isEmpty(part) {
+	for i := range shape.fields {
+		it := &shape.fields[i]
+		if !it.isSent(value) {
 			continue
 		}
 		writer.block = append(writer.block, it.key...)
-		if err := writer.add(part); err != nil {
+		if err := writer.add(it.in(value)); err != nil {
 			return behind(it.name, err)
 		}
 	}
 	writer.levels--
 	return nil
+}
+
+// Of the value, or of a copy where it has no place.
+func pointerTo(value reflect.Value) any {
+	if !value.CanAddr() {
+		place := reflect.New(value.Type())
+		place.Elem().Set(value)
+		return place.Interface()
+	}
+	return value.Addr().Interface()
 }

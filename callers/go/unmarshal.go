@@ -2,6 +2,7 @@ package dagcbor
 
 import (
 	"bytes"
+	"encoding"
 	"math/big"
 	"reflect"
 )
@@ -9,7 +10,8 @@ import (
 // Unmarshal reads a block into what the pointer points at: what Marshal takes, with structs as maps.
 // An any becomes nil, bool, int64, uint64 of 2^63 or more, *big.Int below -2^63, string, []byte,
 // []any, map[string]any or CID. Entries that a struct has no field for are passed, and fields without
-// an entry left as they are. Null makes pointers, slices, maps and interfaces nil. Where the bytes
+// an entry left as they are; a struct that shows no field takes a text by its UnmarshalText. Null
+// makes pointers, slices, maps and interfaces nil. Where the bytes
 // are a block, and not one of the type, the Error has the kind "Type", and what stood before was
 // read; after other errors the target is as it was.
 func Unmarshal(block []byte, into any) error {
@@ -42,7 +44,7 @@ func unmarshal(bytes []byte, into any, mayFollow bool) (rest []byte, err error) 
 type reader struct {
 	block []byte
 	at    int
-	last  lastType
+	last  lastShape
 }
 
 // By the major type of a head.
@@ -148,6 +150,13 @@ func (reader *reader) value() any {
 func (reader *reader) into(into reflect.Value) error {
 	start := reader.at
 	kind, number := reader.next()
+	for i := 0; into.Kind() == reflect.Pointer && kind != Null; i++ {
+		if i == mostPointers {
+			return mismatch(start, "pointers that stand in a ring")
+		}
+		into.Set(reflect.New(into.Type().Elem()))
+		into = into.Elem()
+	}
 	target := into.Kind()
 	isAny := target == reflect.Interface && into.NumMethod() == 0
 	switch {
@@ -156,10 +165,6 @@ func (reader *reader) into(into reflect.Value) error {
 	case isAny:
 		reader.at = start
 		into.Set(reflect.ValueOf(reader.value()))
-	case target == reflect.Pointer:
-		reader.at = start
-		into.Set(reflect.New(into.Type().Elem()))
-		return reader.into(into.Elem())
 	case kind == Bool && target == reflect.Bool:
 		into.SetBool(number == 1)
 	case (kind == Integer || kind == negative) && setInteger(into, kind, number):
@@ -180,13 +185,16 @@ func (reader *reader) into(into reflect.Value) error {
 		return reader.list(into)
 	case kind == Map && target == reflect.Map && into.Type().Key().Kind() == reflect.String:
 		return reader.entries(number, into)
-	case kind == Map && target == reflect.Struct && into.Type() != ofCID && into.Type() != ofBig:
-		return reader.structure(number, into)
+	case target == reflect.Struct && into.Type() != ofCID && into.Type() != ofBig:
+		return reader.structure(start, kind, number, into)
 	default:
-		said := into.Type().String() + " takes no " + kind.String()
-		return &Error{Kind: "Type", Place: int64(start), Path: []any{}, said: said}
+		return mismatch(start, into.Type().String()+" takes no "+kind.String())
 	}
 	return nil
+}
+
+func mismatch(start int, said string) error {
+	return &Error{Kind: "Type", Place: int64(start), Path: []any{}, said: said}
 }
 
 func isOfBytes(list reflect.Value) bool { return list.Type().Elem().Kind() == reflect.Uint8 }
@@ -237,19 +245,51 @@ func (reader *reader) entries(count uint64, into reflect.Value) error {
 	return nil
 }
 
+// Reads the item, whose head was read, into a struct.
+func (reader *reader) structure(start int, kind Kind, number uint64, into reflect.Value) error {
+	shape := reader.last.of(into.Type())
+	if shape.refusal == "" && kind == Map {
+		return reader.fields(start, number, shape.fields, into)
+	}
+	if !into.CanInterface() {
+		return mismatch(start, into.Type().String()+" is not exported, and so its methods")
+	}
+	pointer := into.Addr().Interface()
+	ofText, takesText := pointer.(encoding.TextUnmarshaler)
+	ofLink, takesLink := pointer.(encoding.BinaryUnmarshaler)
+	var err error
+	switch {
+	case shape.refusal != "" && kind == String && takesText:
+		err = ofText.UnmarshalText(reader.take(number))
+	case shape.isLink && kind == Link && takesLink:
+		err = ofLink.UnmarshalBinary(reader.take(number))
+	default:
+		return mismatch(start, into.Type().String()+" takes no "+kind.String())
+	}
+	if err != nil {
+		return mismatch(start, err.Error())
+	}
+	return nil
+}
+
 // Fields and entries are both in the order of blocks.
-func (reader *reader) structure(count uint64, into reflect.Value) error {
-	fields := reader.last.fieldsOf(into.Type())
+func (reader *reader) fields(start int, count uint64, fields []field, into reflect.Value) error {
 	for ; count > 0; count-- {
-		start := reader.at
+		from := reader.at
 		reader.pass()
-		key := reader.block[start:reader.at]
+		key := reader.block[from:reader.at]
 		for len(fields) > 0 && bytes.Compare(fields[0].key, key) < 0 {
 			fields = fields[1:]
 		}
 		if len(fields) == 0 || !bytes.Equal(fields[0].key, key) {
 			reader.pass()
-		} else if err := reader.into(into.Field(fields[0].index)); err != nil {
+			continue
+		}
+		part := fields[0].into(into)
+		if !part.IsValid() || part.Kind() == reflect.Pointer && !part.CanSet() {
+			return mismatch(start, "no pointer of an embedded type that is not exported can be set")
+		}
+		if err := reader.into(part); err != nil {
 			return behind(fields[0].name, err)
 		}
 	}

@@ -46,10 +46,20 @@ const build = () => {
   const sources = ['addon.c', 'car.c', 'units.c'].map((it) => join(__dirname, it));
   const files = [...sources, library(), '-lm', '-o', out('dagcbor.node')];
   const all = [...words, ...flags, ...hidden, ...more, ...folders, ...files];
-  execFileSync(cc, all, { stdio: 'inherit' });
+  try {
+    execFileSync(cc, all, { stdio: 'inherit' });
+  } catch (e) {
+    if (e.code !== 'ENOENT') throw e;
+    throw new Error(`there is no C compiler ${cc}, which builds the addon: CC may name another`);
+  }
 };
 
 mkdirSync(join(__dirname, 'out'), { recursive: true });
 for (const it of ['dagcbor.node', 'dagcbor.wasm']) rmSync(out(it), { force: true });
-if (process.env.DAGCBOR_MODULE) copyFileSync(process.env.DAGCBOR_MODULE, out('dagcbor.wasm'));
-else build();
+try {
+  if (process.env.DAGCBOR_MODULE) copyFileSync(process.env.DAGCBOR_MODULE, out('dagcbor.wasm'));
+  else build();
+} catch (e) {
+  console.error(`dagcbor: ${e.message}`);
+  process.exit(1);
+}

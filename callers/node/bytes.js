@@ -39,7 +39,11 @@ const joined = (parts) => {
 };
 
 // The bytes of a text of one unit for each.
-const fromLatin1 = (text) => Uint8Array.from(text, (unit) => unit.charCodeAt(0));
+const fromLatin1 = (text) => {
+  const bytes = new Uint8Array(text.length);
+  for (let i = 0; i < text.length; i++) bytes[i] = text.charCodeAt(i);
+  return bytes;
+};
 
 // Whether a text has a surrogate that has no other.
 const isAlone = (text) => /[\ud800-\udfff]/.test(text) && /\p{Surrogate}/u.test(text);

@@ -1,7 +1,7 @@
 // Files of blocks: index.d.ts says what each call does.
 'use strict';
 const { native } = require('./library.js');
-const { CID, binaryOf, cidOf, unpack } = require('./cid.js');
+const { CID, binaryOf, bytesOf, cidOf, unpack } = require('./cid.js');
 const { joined, whole } = require('./bytes.js');
 const { encode } = require('./encode.js');
 const { DagCborError, KINDS, REASONS, refusal } = require('./errors.js');
@@ -18,11 +18,7 @@ const pieces = function* (bytes) {
   for (let at = 0; at < bytes.length; at += PIECE) yield bytes.subarray(at, at + PIECE);
 };
 
-// The bytes of a CID, of this package or another; and a text of them.
-const bytesOf = (cid) => {
-  const { bytes } = cid;
-  return bytes instanceof Uint8Array ? bytes : cid;
-};
+// A text of the bytes of a CID, of this package or another.
 const keyOf = (cid) => binaryOf(cid) ?? latin1(bytesOf(cid));
 
 class CarError extends DagCborError {}

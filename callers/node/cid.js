@@ -8,9 +8,8 @@ const { latin1 } = require('./platform.js');
 
 const DAG_PB = 0x70; // the codec of version 0
 const MADE = Symbol('made'); // by the library
-const BINARY = Symbol('binary');
 let binaryOf; // a CID's binary form, as a text of one unit for each byte; of others undefined
-let toldOf; // its parts; of others none
+const isUnits = (text) => /^[\0-\xff]*$/.test(text);
 
 // What a CID of another package says that its binary form is, as `multiformats` tells such ones.
 const foreignOf = (value) => {
@@ -20,9 +19,29 @@ const foreignOf = (value) => {
   return isTold && isBytes(bytes) ? latin1(bytes) : undefined;
 };
 
+// The binary form of a CID of this package that lost its class: a clone, as by `postMessage`, has its
+// property alone. No data has such a text, which is an object.
+const MARK = 'binary';
+const clonedOf = (value) => {
+  const binary = value?.[MARK];
+  if (typeof binary !== 'object') return undefined;
+  try {
+    const text = String.prototype.valueOf.call(binary);
+    return isUnits(text) ? text : undefined;
+  } catch (error) {
+    return undefined;
+  }
+};
+
+const toldBy = (value) => foreignOf(value) ?? clonedOf(value);
+
 const isCid = (binary) => typeof native.cidText(binary) === 'string';
 
 const varint = (n) => (n < 128 ? [n] : [(n % 128) + 128, ...varint(Math.floor(n / 128))]);
+const numberOf = (n) => {
+  if (Number.isSafeInteger(n) && n >= 0) return varint(n);
+  throw new TypeError('a number of a CID is an integer from 0 to 2^53 - 1');
+};
 
 // The parts of a CID, whose bytes they are.
 const partsOf = (bytes) => {
@@ -39,18 +58,28 @@ const partsOf = (bytes) => {
   const told = bytes.subarray(at);
   const [hash, size] = [next(), next()];
   const multihash = { code: hash, size, digest: bytes.subarray(at), bytes: told };
-  return { bytes, version, code, multihash };
+  return { version, code, multihash };
 };
+
+// The bytes of a CID, of this package or another: of one's own a copy of what nobody can change.
+const bytesOf = (cid) => {
+  const binary = binaryOf(cid) ?? clonedOf(cid);
+  if (binary !== undefined) return fromLatin1(binary);
+  const { bytes } = cid;
+  return bytes instanceof Uint8Array ? bytes : cid;
+};
+
+// The parts of a CID of this package.
+const toldOf = (cid) => (binaryOf(cid) === undefined ? {} : partsOf(bytesOf(cid)));
 
 class CID {
   #binary; // a text, which nobody can change
-  #parts; // of a copy
+  #bytes; // a copy
+  [MARK]; // for who compares properties, and for a clone, which has no more
 
   static {
     const isOwn = (value) => typeof value === 'object' && value !== null && #binary in value;
     binaryOf = (value) => (isOwn(value) ? value.#binary : undefined);
-    toldOf = (value) =>
-      isOwn(value) ? (value.#parts ??= partsOf(fromLatin1(value.#binary))) : {};
   }
 
   constructor(value, made) {
@@ -61,7 +90,7 @@ class CID {
       this.#binary = latin1(value);
       if (!isCid(this.#binary)) throw refusal(-26);
     }
-    this[BINARY] = this.#binary; // for who compares properties
+    this[MARK] = Object(this.#binary);
   }
 
   static parse(text) {
@@ -75,7 +104,7 @@ class CID {
   }
 
   static create(version, code, { bytes }) {
-    const front = version === 0 && code === DAG_PB ? [] : [...varint(version), ...varint(code)];
+    const front = version === 0 && code === DAG_PB ? [] : [...numberOf(version), ...numberOf(code)];
     return new CID(Uint8Array.of(...front, ...bytes));
   }
 
@@ -89,16 +118,16 @@ class CID {
 
   static asCID(value) {
     if (binaryOf(value) !== undefined) return value;
-    const binary = foreignOf(value);
+    const binary = toldBy(value);
     return binary !== undefined && isCid(binary) ? new CID(binary, MADE) : null;
   }
 
   get bytes() {
-    return toldOf(this).bytes;
+    return binaryOf(this) && (this.#bytes ??= fromLatin1(this.#binary));
   }
 
   get '/'() {
-    return toldOf(this).bytes;
+    return this.bytes;
   }
 
   get version() {
@@ -130,15 +159,17 @@ class CID {
   }
 
   toV0() {
-    return CID.create(0, this.code, this.multihash);
+    const { version, code, multihash } = toldOf(this);
+    return version === 0 ? this : CID.create(0, code, multihash);
   }
 
   toV1() {
-    return CID.create(1, this.code, this.multihash);
+    const { version, code, multihash } = toldOf(this);
+    return version === 1 ? this : CID.create(1, code, multihash);
   }
 
   equals(other) {
-    return (binaryOf(other) ?? foreignOf(other)) === this.#binary;
+    return (binaryOf(other) ?? toldBy(other)) === this.#binary;
   }
 
   toString(base) {
@@ -173,4 +204,4 @@ const unpack = (packed) => {
   return found;
 };
 
-module.exports = { CID, binaryOf, cidOf, foreignOf, unpack };
+module.exports = { CID, MARK, binaryOf, bytesOf, cidOf, clonedOf, foreignOf, toldOf, unpack };

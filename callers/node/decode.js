@@ -34,6 +34,19 @@ const plainText = (from, length) => {
   return cut.slice(from - cutFrom, to - cutFrom);
 };
 
+// The binary form of a CID, which is cut in the same way.
+let [links, linksFrom, linksTo] = ['', 0, 0];
+
+const linkAt = (from, length) => {
+  const to = from + length;
+  if (to > linksTo) {
+    linksFrom = from;
+    linksTo = Math.min(from + Math.max(WINDOW, length), lengthOf.call(block));
+    links = latin1(block, linksFrom, linksTo);
+  }
+  return cidOf(links.slice(from - linksFrom, to - linksFrom));
+};
+
 // Texts beyond ASCII, of which some that come have parts: one of a byte for each unit, and another.
 let [narrow, wide] = ['', ''];
 
@@ -174,7 +187,7 @@ const nextValue = () => {
     case STRING:
     case LATIN1:
     case WIDE: return textAt(at - 3);
-    case LINK: return cidOf(latin1(block, last, last + number));
+    case LINK: return linkAt(last, number);
     case BYTES: return view(block, last, last + number).slice();
     case NEGATIVE: return integer(number, last, true);
     case BOOL: return number === 1;
@@ -189,13 +202,13 @@ const decode = (bytes) => {
   words = typeof told === 'number' ? kept : told;
   block = bytes;
   at = 0;
-  cutTo = 0;
+  cutTo = linksTo = 0;
   turn += 1;
   if (keys > MOST_KEYS) [root, keys] = [newKey(''), 0];
   const value = nextValue();
   words = kept;
   block = undefined;
-  cut = narrow = wide = '';
+  cut = links = narrow = wide = '';
   return value;
 };
 

@@ -3,9 +3,9 @@
 'use strict';
 const { native } = require('./library.js');
 const { isAlone, isBytes, lengthOf } = require('./bytes.js');
-const { binaryOf, foreignOf } = require('./cid.js');
+const { MARK, binaryOf, clonedOf, foreignOf } = require('./cid.js');
 const { DagCborError, REASONS, answered } = require('./errors.js');
-const { isMap, isProxy, latin1, mayBeProxy, newPool, utf8 } = require('./platform.js');
+const { hasInside, isMap, isProxy, latin1, newPool, utf8 } = require('./platform.js');
 
 const encoder = new TextEncoder();
 const [NULL, BOOL, INTEGER, STRING, BYTES, LIST, MAP, LINK, NEGATIVE] = Array(9).keys();
@@ -77,7 +77,7 @@ class Tape {
   }
 
   enter(kind, count) {
-    if (this.levels === MOST_LEVELS) this.no(DEPTH);
+    if (this.levels === MOST_LEVELS - 1 && count > 0) this.no(DEPTH);
     this.put(kind, count, 0, 0);
     this.levels += 1;
   }
@@ -189,7 +189,8 @@ const [SLOTS, MOST_KEYS, MOST_UNITS, ODD] = [1024, 128, 1024, 0x9e3779b1];
 const newOrder = (keys, places) => {
   const inOrder = places.map((place) => keys[place]);
   const hasSlash = keys.includes('/');
-  return { keys, places, inOrder, hasSlash, spelt: undefined, lengths: [], turn: 0, place: 0 };
+  const isClone = keys.length === 1 && keys[0] === MARK;
+  return { keys, places, inOrder, hasSlash, isClone, spelt: undefined, lengths: [], turn: 0, place: 0 };
 };
 let last = newOrder([], []);
 const orders = new Array(SLOTS).fill(last);
@@ -233,19 +234,22 @@ const orderOf = (tape, keys) => {
   return made;
 };
 
-// The values of some more keys, which the engine reads quicker by itself; undefined where the map has
-// few or many, or is a Proxy, of which it might read other ones.
+// The values of some more keys of an object, each read by its key: in such a loop the engine knows
+// where it is. What Object.values reads may be of other keys. A key that goes while a value is read
+// ends the loop, and so does one that comes.
 const [FEW, MANY] = [8, 128];
 
-const valuesOf = (tape, map, keys) => {
-  if (keys.length <= FEW || keys.length > MANY || mayBeProxy(map)) return undefined;
-  const values = Object.values(map);
-  if (values.length !== keys.length) {
-    tape.no(UNSUPPORTED, 'an object that changes while it is read');
+const valuesOf = (map, keys) => {
+  const values = [];
+  for (const key in map) {
+    if (key !== keys[values.length]) break;
+    values.push(map[key]);
   }
+  while (values.length < keys.length) values.push(map[keys[values.length]]);
   return values;
 };
 
+// The entries, in the order of blocks.
 const putEntries = (tape, map, values, order) => {
   const { places, inOrder, spelt, lengths } = order;
   tape.enter(MAP, inOrder.length);
@@ -267,10 +271,12 @@ const putEntries = (tape, map, values, order) => {
 // CID that lost its class, as `multiformats` tells one. Each value is read once.
 const putMap = (tape, map) => {
   const keys = Object.keys(map);
+  if (keys.length === 0 && hasInside(map)) tape.no(UNSUPPORTED, OTHER);
   const order = orderOf(tape, keys);
-  const binary = order.hasSlash ? foreignOf(map) : undefined;
-  if (binary !== undefined) tape.putUnits(LINK, binary);
-  else putEntries(tape, map, valuesOf(tape, map, keys), order);
+  const binary = order.hasSlash ? foreignOf(map) : order.isClone ? clonedOf(map) : undefined;
+  if (binary !== undefined) return tape.putUnits(LINK, binary);
+  const isLoop = keys.length > FEW && keys.length <= MANY;
+  return putEntries(tape, map, isLoop ? valuesOf(map, keys) : undefined, order);
 };
 
 const putJsMap = (tape, map) => {
@@ -294,8 +300,10 @@ const putOther = (tape, value) => {
   const binary = binaryOf(value) ?? foreignOf(value);
   if (binary !== undefined) return tape.putUnits(LINK, binary);
   if (isMap(value)) return putJsMap(tape, value);
-  if (Object.prototype.toString.call(value) !== '[object Object]') tape.no(UNSUPPORTED, OTHER);
+  const isObject = Object.prototype.toString.call(value) === '[object Object]';
   if (isProxy(value)) tape.no(UNSUPPORTED, PROXY); // that of a Date looks like a map
+  // A class may say that its objects are such ones.
+  if (!isObject || (Symbol.toStringTag in value && hasInside(value))) tape.no(UNSUPPORTED, OTHER);
   return putMap(tape, value);
 };
 

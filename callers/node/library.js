@@ -19,7 +19,10 @@ const byModule = () => {
   return nativeOf(callsOf(new WebAssembly.Module(bytes)));
 };
 
-const isByModule = existsSync(module_) && !existsSync(addon);
-const native = isByModule ? byModule() : require('./out/dagcbor.node');
+const isThere = existsSync(addon);
+if (!isThere && !existsSync(module_)) {
+  throw new Error(`there is no ${addon}, which \`node build.js\` in ${__dirname} builds, and npm where scripts run`);
+}
+const native = isThere ? require('./out/dagcbor.node') : byModule();
 
 module.exports = { native };

@@ -3,7 +3,7 @@
 const { native } = require('./library.js');
 const { isAlone, lengthOf, view } = require('./bytes.js');
 const { verify } = require('./car.js');
-const { CID, binaryOf } = require('./cid.js');
+const { CID, binaryOf, toldOf } = require('./cid.js');
 const { decode } = require('./decode.js');
 const { DagCborError, answered, refusal } = require('./errors.js');
 
@@ -51,7 +51,8 @@ const find = (block, path) => {
 
 // What is held under the name. A name by the identity holds its block itself.
 const heldUnder = async (get, cid) => {
-  if (cid.multihash.code === IDENTITY) return cid.multihash.digest;
+  const { code, digest } = toldOf(cid).multihash;
+  if (code === IDENTITY) return digest;
   const held = await (typeof get === 'function' ? get(cid) : get.get(cid));
   if (held === undefined || held === null) {
     throw new DagCborError('MissingBlock', `no block is held under ${cid}`);

@@ -1,6 +1,6 @@
 // What Node has of its own, for what other engines have it in another way (callers/wasm/esm).
 'use strict';
-const { isMap, isProxy } = require('util').types;
+const { types } = require('util');
 const { markAsUntransferable } = require('worker_threads');
 const { lengthOf } = require('./bytes.js');
 
@@ -19,6 +19,9 @@ const latin1 = (bytes, from = 0, to = lengthOf.call(bytes)) => latin1Slice.call(
 // The text of UTF-8.
 const utf8 = (bytes, from, to) => utf8Slice.call(bytes, from, to);
 
-module.exports = {
-  isMap, isProxy, latin1, mayBeProxy: isProxy, newPool, plain: latin1, utf8,
-};
+// Whether an object has more inside than properties, whatever class it says that it is of.
+const { isMap, isProxy } = types;
+const hasInside = (value) =>
+  isMap(value) || types.isSet(value) || types.isDate(value) || types.isBoxedPrimitive(value);
+
+module.exports = { hasInside, isMap, isProxy, latin1, newPool, plain: latin1, utf8 };

@@ -82,7 +82,9 @@ export const hold = async (dagcbor, read) => {
   }
   class Own { a = 1; }
   same(hexOf(encode([new Own(), new Map([['b', new Map()]])])), '82a1616101a16162a0', 'objects');
-  const others = [undefined, 0.5, new Date(), new Set(), new Uint16Array(1), '\ud800', () => 1];
+  const [untold, tagged] = [Object.setPrototypeOf(new Map(), null), new Date()];
+  tagged[Symbol.toStringTag] = 'Object';
+  const others = [untold, tagged, undefined, 0.5, new Date(), new Set(), new Uint16Array(1), '\ud800', () => 1];
   others.push(new Proxy(new Date(), {}), new Proxy(new Map(), {}), new Proxy(new Uint8Array(1), {}));
   others.push(new Proxy(name(new Uint8Array()), {}), new Proxy(new Set(), {}), new Proxy(/a/, {}));
   for (const it of others) {

@@ -21,7 +21,9 @@ export const toBase64 = (bytes) => {
 export const fromBase64 = (text) => {
   const plain = text.replace(/-/g, '+').replace(/_/g, '/').replace(/=+$/, '');
   if (!/^[A-Za-z0-9+/]*$/.test(plain) || plain.length % 4 === 1) return null;
-  return Uint8Array.from(atob(plain), (it) => it.charCodeAt(0));
+  const units = atob(plain);
+  if (btoa(units).replace(/=+$/, '') !== plain) return null; // bits behind the last byte
+  return Uint8Array.from(units, (it) => it.charCodeAt(0));
 };
 
 // Hexadecimal where it can be, else base64: what it was read as and the bytes, or null.

@@ -360,9 +360,9 @@ test('memory', () => {
       return process.memoryUsage.rss();
     };
     (async () => {
-      await round(30);
-      const before = await round(30);
-      const more = (await round(300)) - before;
+      await round(10);
+      const before = await round(10);
+      const more = (await round(100)) - before;
       if (more > 40e6) throw new Error('more by ' + more);
     })();`;
   const words = ['--expose-gc', '-e', script, join(__dirname, '..'), hex(HEADER)];

@@ -1,6 +1,8 @@
 'use strict';
 const assert = require('node:assert');
-const { execFileSync } = require('node:child_process');
+const { execFileSync, spawnSync } = require('node:child_process');
+const { copyFileSync, mkdtempSync, readdirSync, rmSync } = require('node:fs');
+const { tmpdir } = require('node:os');
 const { join } = require('node:path');
 const { test } = require('node:test');
 const vm = require('node:vm');
@@ -167,10 +169,10 @@ test('a CID is of the memory of its bytes, whatever they say', () => {
 
 test('scripts that would run while a block is read do not', () => {
   const texts = Array.from({ length: 100 }, (_, i) => String(i).repeat(50));
-  const block = encode({ texts, hidden: 1, x: { toJSON: 1 } });
+  const block = encode({ texts, hidden: 1, x: { toJSON: 1 }, of: name(hex('05')) });
   const before = decode(block); // so the keys are known
   const set = () => assert.fail();
-  const odd = ['hidden', 'x', 'get', 'value'].map((key) => [Object.prototype, key]);
+  const odd = ['hidden', 'x', 'binary', '/', 'get', 'value'].map((key) => [Object.prototype, key]);
   const places = [[Array.prototype, '33'], ...odd];
   for (const [of, key] of places) Object.defineProperty(of, key, { set, configurable: true });
   try {
@@ -386,11 +388,30 @@ test('nothing is kept', () => {
       gc(), gc();
       return process.memoryUsage.rss();
     };
-    settle(); settle();
+    settle();
     const before = settle();
-    for (let i = 0; i < 5; i++) settle();
+    for (let i = 0; i < 3; i++) settle();
     const more = settle() - before;
     if (more > 20e6) throw new Error('more by ' + more);`;
   const words = ['--expose-gc', '-e', script, join(__dirname, '..')];
   execFileSync(process.execPath, words, { stdio: ['ignore', 'ignore', 'inherit'] });
+});
+
+test('what is not built says how', () => {
+  const folder = mkdtempSync(join(tmpdir(), 'dagcbor-'));
+  try {
+    for (const it of readdirSync(join(__dirname, '..')).filter((it) => /\.(js|c|h)$/.test(it))) {
+      copyFileSync(join(__dirname, '..', it), join(folder, it));
+    }
+    const run = (words, env) => {
+      const how = { encoding: 'utf8', env: { ...process.env, DAGCBOR_MODULE: '', ...env } };
+      return spawnSync(process.execPath, [join(folder, words)], how);
+    };
+    assert.match(run('index.js').stderr, /there is no .*dagcbor\.node, which `node build\.js` in .* builds/);
+    const { status, stderr } = run('build.js', { DAGCBOR_LIBRARY: __filename, CC: 'no-compiler' });
+    assert.strictEqual(status, 1);
+    assert.match(stderr, /^dagcbor: there is no (C compiler no-compiler|node_api\.h)[^\n]*\n$/);
+  } finally {
+    rmSync(folder, { recursive: true });
+  }
 });

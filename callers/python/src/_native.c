@@ -488,11 +488,16 @@ static int add_part(Writer *writer, Step step, PyObject *part) {
     return done;
 }
 
+/* Whether a list or map of so many parts has them in more lists and maps than a block may have. */
+static bool is_too_deep(const Writer *writer, Py_ssize_t count) {
+    return writer->level == MOST_LEVELS - 1 && count > 0;
+}
+
 /* Adds a list, or a tuple as one. */
 static int add_list(Writer *writer, PyObject *list) {
     bool is_tuple = PyTuple_Check(list);
     Py_ssize_t count = is_tuple ? PyTuple_Size(list) : PyList_Size(list);
-    if (writer->level == MOST_LEVELS) return refuse_value(writer, "DepthOverflow", "too deep", list);
+    if (is_too_deep(writer, count)) return refuse_value(writer, "DepthOverflow", "too deep", list);
     if (add_head(writer, DAGCBOR_LIST, (uint64_t)count) < 0) return -1;
     for (Py_ssize_t i = 0; i < count; i++) {
         if (!is_tuple && PyList_Size(list) != count)
@@ -524,7 +529,9 @@ static int add_entries(Writer *writer, size_t start, Py_ssize_t count) {
     if (add_head(writer, DAGCBOR_MAP, (uint64_t)count) < 0) return -1;
     for (Py_ssize_t i = 0; i < count; i++) {
         /* What follows may move them. */
-        Entry entry = ((Entry *)(writer->entries.start + start))[i];
+        const Entry *all = (Entry *)(writer->entries.start + start), entry = all[i];
+        if (i > 0 && compare_entries(&all[i - 1], &entry) == 0)
+            return refuse_value(writer, "UnorderedKey", "a key that stands twice", entry.key);
         if (add_payload(writer, DAGCBOR_STRING, entry.text, entry.length) < 0) return -1;
         if (add_part(writer, (Step){entry.key, 0}, entry.value) < 0) return -1;
     }
@@ -534,7 +541,8 @@ static int add_entries(Writer *writer, size_t start, Py_ssize_t count) {
 static int add_map(Writer *writer, PyObject *map) {
     size_t start = writer->entries.used;
     Py_ssize_t held = 0;
-    if (writer->level == MOST_LEVELS) return refuse_value(writer, "DepthOverflow", "too deep", map);
+    if (is_too_deep(writer, PyDict_Size(map)))
+        return refuse_value(writer, "DepthOverflow", "too deep", map);
     int done = hold_entries(writer, map, &held);
     if (done == 0) done = add_entries(writer, start, held);
     for (Py_ssize_t i = 0; i < held; i++) {
@@ -726,10 +734,11 @@ PyObject *unpack(State *state, const uint8_t *packed, size_t length) {
     return found;
 }
 
-/* Whether each byte of a length has as many behind it. */
+/* Whether each byte of a length has a CID of so many bytes behind it. */
 static bool are_packed(const uint8_t *packed, size_t length) {
     size_t at = 0;
-    while (at < length && packed[at] < length - at) at += 1 + packed[at];
+    while (at < length && packed[at] < length - at && are_cid(packed + at + 1, packed[at]))
+        at += 1 + packed[at];
     return at == length;
 }
 

@@ -189,7 +189,7 @@ def test_a_sha256_that_fails():
 def test_names_that_are_not_packed():
     name = bytes([4, 1, 0x55, 0, 0])
     assert [bytes(it) for it in CarCheck([], {}, [], name * 2).held] == [name[1:]] * 2
-    for packed in (b"\xff", b"\xffa", b"\x04\x01\x55\x00", name + b"\x01", "abc", None, bytearray(name)):
+    for packed in (b"\xff", b"\xffa", b"\x04\x01\x55\x00", name + b"\x01", "abc", None, bytearray(name), b"\0", b"\1\x12", b"\x04\1\x71\x12\x7f"):
         with pytest.raises(TypeError):
             CarCheck([], {}, [], packed).held
 
@@ -208,8 +208,14 @@ def said_by(words):
 
 
 def program(file):
+    """But for what the program tells of blocks of other codecs, as DAG-PB, which the package does not read."""
     ran = subprocess.run([DAGCAR, "check"], input=file, capture_output=True, check=False)
-    return said_by(ran.stdout.decode())
+    verdicts, fault, lost = said_by(ran.stdout.decode())
+    return [(name, "not read" if is_of_other(name, verdict) else verdict) for name, verdict in verdicts], fault, lost
+
+
+def is_of_other(name, verdict):
+    return CID(name).codec != 0x71 and verdict.startswith(("ok ", "refused ", "links "))
 
 
 def as_program(file):
@@ -519,8 +525,8 @@ class File:
 
 list(zip(range(3), read_car(File(3)))), check_car(File(3))
 before = peak()
-assert sum(it.verdict == "ok list" for it in read_car(File(100))) == 100
-assert check_car(File(100)).verdicts == {"ok list": 100}
+assert sum(it.verdict == "ok list" for it in read_car(File(30))) == 30
+assert check_car(File(30)).verdicts == {"ok list": 30}
 for length in (1 << 40, 1 << 62, (1 << 64) - 1):
     for call in (lambda it: list(read_car(it)), check_car):
         for file in (HEADER, b""):

@@ -1,10 +1,16 @@
 """What those who come from other packages are used to."""
 
+import array
 import collections
+import ctypes
 import hashlib
+import os
+import pickle
+import tomllib
 
+import dagcbor
 import pytest
-from dagcbor import CID, DagCborError, dumps, iter_loads, loads, loads_first, name, verify
+from dagcbor import CID, DagCborError, check, dumps, iter_loads, loads, loads_first, name, verify
 
 
 def refusal(call, *args, **named):
@@ -22,7 +28,10 @@ def test_tuples_are_lists():
     deep = None
     for _ in range(127):
         deep = (deep,)
-    assert len(dumps(deep)) == 128 and refusal(dumps, (deep,)).kind == "DepthOverflow"
+    assert len(dumps(deep)) == 128
+    for value in ((deep,), [deep]):
+        error = refusal(dumps, value)
+        assert error.kind == "DepthOverflow" and error.place == (0,) * 127
 
 
 def test_default():
@@ -111,3 +120,18 @@ def test_verify():
     assert refusal(verify, CID.of(0x71, 0x1E, b"a" * 32), block).kind == "NotVerified"
     with pytest.raises(TypeError):
         verify(str(name(block)), block)
+
+
+def test_buffers():
+    """Those of bytes are bytes; of others `default` says what they are."""
+    for it in (bytearray(b"abc"), memoryview(b"abc"), memoryview(array.array("B", b"abc"))):
+        assert dumps(it) == dumps(b"abc")
+    for it in (array.array("B", b"abc"), pickle.PickleBuffer(b"abc"), (ctypes.c_uint8 * 3)(*b"abc")):
+        assert refusal(dumps, it).kind == "Unsupported"
+        assert dumps([it], default=memoryview) == dumps([b"abc"])
+    assert check(array.array("B", b"\x01")) == "integer"
+
+
+def test_version():
+    with open(os.path.join(os.path.dirname(__file__), "../pyproject.toml"), "rb") as file:
+        assert dagcbor.__version__ == tomllib.load(file)["project"]["version"]

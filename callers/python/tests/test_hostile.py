@@ -76,9 +76,10 @@ def test_subclasses_are_their_data():
 def test_one_key_twice():
     twice = {OddStr("a"): 1, OddStr("a"): 2}
     assert len(twice) == 2
-    with pytest.raises(DagCborError) as caught:
-        dumps(twice)
-    assert caught.value.kind == "UnorderedKey" and caught.value.place is None
+    for value, place in ((twice, ()), ([1, {"b": twice}], (1, "b"))):
+        with pytest.raises(DagCborError) as caught:
+            dumps(value)
+        assert (caught.value.kind, caught.value.place) == ("UnorderedKey", place)
 
 
 def test_recursive():
@@ -89,7 +90,7 @@ def test_recursive():
     for value in (loop, around, [1, loop]):
         with pytest.raises(DagCborError) as caught:
             dumps(value)
-        assert caught.value.kind == "DepthOverflow" and len(caught.value.place) == 128
+        assert caught.value.kind == "DepthOverflow" and len(caught.value.place) == 127
 
 
 def test_bytearray_is_free_again():

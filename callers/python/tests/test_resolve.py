@@ -132,3 +132,19 @@ def test_other_arguments():
         resolve(None, name(dumps(ROOT)), "a")
     with pytest.raises(UnicodeEncodeError):
         resolve(BLOCKS, name(dumps(ROOT)), "\ud800")
+
+
+@pytest.mark.parametrize("path", ["a", ["a"]])
+def test_bytes_that_are_written_meanwhile(path):
+    """What is verified is what is read, where another thread writes the buffer behind the verdict."""
+    good, evil = dumps({"a": "good"}), dumps({"a": "evil"})
+    held = bytearray(good)
+
+    class Writing:
+        hash_code, codec = 0x12, 0x71
+
+        def __ne__(self, other):
+            held[:] = evil
+            return bool(other != name(good))
+
+    assert resolve(lambda _: held, Writing(), path) == "good"

@@ -4,7 +4,7 @@ use crate::calls::split_item;
 use crate::ser::{BYTES, INTEGER, LIST, MAP, NEGATIVE, NULL, TAG, TEXT, TRUE};
 use crate::{check, Error};
 use core::str;
-use serde::de::value::{BorrowedBytesDeserializer, BorrowedStrDeserializer, MapAccessDeserializer};
+use serde::de::value::{BorrowedStrDeserializer, BytesDeserializer, MapAccessDeserializer};
 use serde::de::{self, Deserialize, DeserializeSeed, Error as _, Expected, Unexpected, Visitor};
 
 /// By a newtype of this name serde's formats tell CIDs from bytes. That of the crate `cid` is the
@@ -61,11 +61,16 @@ pub fn from_reader<T: de::DeserializeOwned>(mut reader: impl std::io::Read) -> R
 }
 
 fn read<'de, T: Deserialize<'de>>(block: &'de [u8]) -> Result<T, Error> {
-    T::deserialize(&mut Reader {
+    let mut reader = Reader {
         rest: block,
         length: block.len(),
         options: 0,
-    })
+    };
+    let value = T::deserialize(&mut reader)?;
+    if !reader.rest.is_empty() {
+        return Err(Error::custom("the type leaves bytes").or_at(reader.place()));
+    }
+    Ok(value)
 }
 
 /// What is left of a block. That it is one is judged: here it is only seen that nothing is read
@@ -192,11 +197,11 @@ impl<'de> Reader<'de> {
             (BYTES, count) => visitor.visit_borrowed_bytes(self.bytes(count)?),
             (TEXT, count) => visitor.visit_borrowed_str(self.text(count)?),
             (LIST, count) => self.parts(count, |parts| visitor.visit_seq(parts)),
-            (MAP, count) => self.parts(count, |parts| visitor.visit_map(parts)),
+            (MAP, count) => self.parts(2 * count, |parts| visitor.visit_map(parts)),
             (TAG, _) => {
                 let (_, count) = self.head()?;
                 let cid = self.bytes(count)?.get(1..).unwrap_or_default();
-                visitor.visit_newtype_struct(BorrowedBytesDeserializer::new(cid))
+                visitor.visit_newtype_struct(BytesDeserializer::new(cid))
             }
             (_, NULL) => visitor.visit_none(),
             (_, value) => visitor.visit_bool(value == TRUE),
@@ -204,7 +209,7 @@ impl<'de> Reader<'de> {
         value.map_err(|it| it.or_at(place))
     }
 
-    /// The value of all parts of a list, or of all entries of a map.
+    /// The value of all parts of a list, or of all keys and values of a map.
     #[inline]
     fn parts<T>(
         &mut self,
@@ -310,7 +315,7 @@ impl<'de> de::Deserializer<'de> for &mut Reader<'de> {
             }
             0xa1 => {
                 let (_, count) = self.head()?;
-                self.parts(count, |it| {
+                self.parts(2 * count, |it| {
                     visitor.visit_enum(MapAccessDeserializer::new(it))
                 })
             }
@@ -329,7 +334,7 @@ impl<'de> de::Deserializer<'de> for &mut Reader<'de> {
     }
 }
 
-/// The parts of a list, or the entries of a map, that are left.
+/// The parts of a list, or the keys and values of a map, that are left.
 struct Parts<'a, 'de> {
     reader: &'a mut Reader<'de>,
     left: u64,
@@ -370,15 +375,22 @@ impl<'de> de::MapAccess<'de> for &mut Parts<'_, 'de> {
         &mut self,
         seed: S,
     ) -> Result<Option<S::Value>, Error> {
+        if self.left % 2 == 1 {
+            return Err(Error::custom("the type passes a value").or_at(self.reader.place()));
+        }
         self.next(seed)
     }
 
     #[inline]
     fn next_value_seed<S: DeserializeSeed<'de>>(&mut self, seed: S) -> Result<S::Value, Error> {
+        if self.left % 2 == 0 {
+            return Err(Error::custom("the type passes a key").or_at(self.reader.place()));
+        }
+        self.left -= 1;
         seed.deserialize(&mut *self.reader)
     }
 
     fn size_hint(&self) -> Option<usize> {
-        Some(self.left as usize)
+        Some(self.left as usize / 2)
     }
 }

@@ -3,9 +3,11 @@
 use crate::de::CID_NAME;
 use crate::Cid;
 use alloc::{collections::BTreeMap, string::String, vec::Vec};
-use core::fmt;
+use core::any::TypeId;
+use core::marker::PhantomData;
+use core::{fmt, mem};
 use serde::de::value::{MapAccessDeserializer, SeqAccessDeserializer};
-use serde::de::{self, Deserialize, Deserializer, MapAccess, SeqAccess, Visitor};
+use serde::de::{self, Deserialize, Deserializer, MapAccess, SeqAccess, Unexpected, Visitor};
 use serde::ser::{Serialize, Serializer};
 
 /// The data of a block.
@@ -218,7 +220,45 @@ impl<'de> Visitor<'de> for OfCid {
         Cid::try_from(bytes).map_err(E::custom)
     }
 
+    /// The bytes of a link are not lent by a block, but those of a byte string that was held back.
+    fn visit_borrowed_bytes<E: de::Error>(self, bytes: &'de [u8]) -> Result<Cid, E> {
+        if is_of_a_block::<E>() {
+            return Err(E::invalid_type(Unexpected::Bytes(bytes), &self));
+        }
+        self.visit_bytes(bytes)
+    }
+
+    /// No link of a block is a text: one that comes of a block was held back.
     fn visit_str<E: de::Error>(self, text: &str) -> Result<Cid, E> {
+        if is_of_a_block::<E>() {
+            return Err(E::invalid_type(Unexpected::Str(text), &self));
+        }
         text.parse().map_err(E::custom)
     }
+}
+
+/// Whether what is read with such errors is a block.
+fn is_of_a_block<E>() -> bool {
+    type_id::<E>() == TypeId::of::<crate::Error>()
+}
+
+/// What `TypeId::of` tells, also of a type that may have lifetimes, as of an error of some format: types
+/// that differ by these alone have one.
+fn type_id<T>() -> TypeId {
+    trait Told {
+        fn told(&self) -> TypeId
+        where
+            Self: 'static;
+    }
+    impl<T> Told for PhantomData<T> {
+        fn told(&self) -> TypeId
+        where
+            Self: 'static,
+        {
+            TypeId::of::<T>()
+        }
+    }
+    let marker = &PhantomData::<T>;
+    // SAFETY: the call reads nothing of what is lent so for ever, and keeps nothing of it.
+    Told::told(unsafe { mem::transmute::<&dyn Told, &(dyn Told + 'static)>(marker) })
 }

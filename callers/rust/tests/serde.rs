@@ -420,3 +420,109 @@ fn writers_that_fail() {
         std::io::ErrorKind::WriteZero
     );
 }
+
+#[test]
+fn what_is_held_back_is_no_link_but_by_its_tag() {
+    #[derive(Debug, PartialEq, Serialize, Deserialize)]
+    #[serde(untagged)]
+    enum Value {
+        Link(Cid),
+        Bytes(Bytes), // before a text, as which serde takes bytes that are UTF-8
+        Text(String),
+    }
+    #[derive(Debug, PartialEq, Serialize, Deserialize)]
+    #[serde(tag = "t")]
+    enum Record {
+        #[serde(rename = "p")]
+        Post { of: Cid },
+    }
+    #[derive(Debug, PartialEq, Serialize, Deserialize)]
+    struct Flat {
+        #[serde(flatten)]
+        rest: BTreeMap<String, Cid>,
+    }
+    let cid = Cid::try_from(&b"\x01\x55\0\0"[..]).unwrap();
+    both(Value::Text("bafkqaaa".into()), b"\x68bafkqaaa");
+    both(Value::Bytes(Bytes(cid.to_bytes())), b"\x44\x01\x55\0\0");
+    both(Value::Link(cid), b"\xd8\x2a\x45\0\x01\x55\0\0");
+    let post = |of: &[u8]| [b"\xa2\x61t\x61p\x62of", of].concat();
+    both(
+        Record::Post { of: cid },
+        &[b"\xa2\x61t\x61p\x62of", &b"\xd8\x2a\x45\0\x01\x55\0\0"[..]].concat(),
+    );
+    // Limits of serde, as the page has them: 128 bits are not held back, and bytes may be a text.
+    #[derive(Debug, Serialize, Deserialize)]
+    struct Wide {
+        #[serde(flatten)]
+        rest: BTreeMap<String, i128>,
+    }
+    let wide = Wide {
+        rest: BTreeMap::from([("a".into(), 5)]),
+    };
+    assert_eq!(to_vec(&wide).unwrap(), b"\xa1\x61a\x05");
+    assert!(from_slice::<Wide>(b"\xa1\x61a\x05").is_err());
+    #[derive(Debug, PartialEq, Deserialize)]
+    #[serde(untagged)]
+    enum Told {
+        Text(String),
+    }
+    assert_eq!(from_slice::<Told>(b"\x41a").unwrap(), Told::Text("a".into()));
+    // Other formats have other errors: of these a text and bytes are one.
+    use serde::de::value::{BorrowedBytesDeserializer, Error, StrDeserializer};
+    let text = Cid::deserialize(StrDeserializer::<Error>::new("bafkqaaa"));
+    let bytes = Cid::deserialize(BorrowedBytesDeserializer::<Error>::new(b"\x01\x55\0\0"));
+    assert_eq!((text, bytes), (Ok(cid), Ok(cid)));
+    for of in [&b"\x68bafkqaaa"[..], b"\x44\x01\x55\0\0"] {
+        assert!(from_slice::<Record>(&post(of)).is_err());
+        assert!(from_slice::<Flat>(&[b"\xa1\x61x", of].concat()).is_err());
+    }
+}
+
+#[test]
+fn nothing_is_left() {
+    /// Takes so many keys, and so many values behind each.
+    #[derive(Debug)]
+    struct Odd<const KEYS: usize, const VALUES: usize>;
+    impl<'de, const KEYS: usize, const VALUES: usize> Deserialize<'de> for Odd<KEYS, VALUES> {
+        fn deserialize<D: Deserializer<'de>>(deserializer: D) -> Result<Self, D::Error> {
+            struct Visitor<const KEYS: usize, const VALUES: usize>;
+            impl<'de, const KEYS: usize, const VALUES: usize> serde::de::Visitor<'de>
+                for Visitor<KEYS, VALUES>
+            {
+                type Value = Odd<KEYS, VALUES>;
+                fn expecting(&self, f: &mut std::fmt::Formatter<'_>) -> std::fmt::Result {
+                    f.write_str("a map")
+                }
+                fn visit_map<A: serde::de::MapAccess<'de>>(
+                    self,
+                    mut map: A,
+                ) -> Result<Self::Value, A::Error> {
+                    for _ in 0..KEYS {
+                        map.next_key::<String>()?;
+                        for _ in 0..VALUES {
+                            map.next_value::<String>()?;
+                        }
+                    }
+                    Ok(Odd)
+                }
+            }
+            deserializer.deserialize_map(Visitor)
+        }
+    }
+    /// Reads nothing.
+    #[derive(Debug)]
+    struct Nothing;
+    impl<'de> Deserialize<'de> for Nothing {
+        fn deserialize<D: Deserializer<'de>>(_: D) -> Result<Nothing, D::Error> {
+            Ok(Nothing)
+        }
+    }
+    let block = b"\xa2\x61a\x61c\x61b\x61d";
+    assert!(from_slice::<Odd<2, 1>>(block).is_ok());
+    assert!(from_slice::<Odd<3, 1>>(block).is_err());
+    assert!(from_slice::<Odd<2, 0>>(block).is_err());
+    assert!(from_slice::<Odd<1, 2>>(block).is_err());
+    assert!(from_slice::<Odd<1, 3>>(block).is_err());
+    assert!(from_slice::<Odd<1, 1>>(block).is_err());
+    assert!(from_slice::<Nothing>(block).is_err());
+}

@@ -7,23 +7,38 @@ const [fromUtf8, fromPlain] = ['utf-8', 'latin1'].map((it) =>
 // Nothing holds others back from transferring memory: so no two blocks share any.
 export const newPool = () => new Uint8Array();
 
-const sizeOf = Object.getOwnPropertyDescriptor(Map.prototype, 'size').get;
-
-export const isMap = (value) => {
+const sizeOf = (of) => Object.getOwnPropertyDescriptor(of.prototype, 'size').get;
+const takes = (call) => (value) => {
   try {
-    return sizeOf.call(value) >= 0;
+    call.call(value);
+    return true;
   } catch (error) {
     return false;
   }
 };
 
+export const isMap = takes(sizeOf(Map));
+
+// Whether an object has more inside than properties, whatever class it says that it is of. A clone tells
+// by its class, and sooner than calls that throw, where it has no properties.
+const values = [Date, Number, String, Boolean, BigInt, Symbol].map((it) => it.prototype.valueOf);
+const INSIDES = [sizeOf(Map), sizeOf(Set), ...values].map(takes);
+const tagOf = (value) => Object.prototype.toString.call(value);
+export const hasInside = (value) => {
+  if (Object.keys(value).length > 0) return INSIDES.some((it) => it(value));
+  try {
+    return tagOf(structuredClone(value)) !== '[object Object]';
+  } catch (error) {
+    return false; // as of a Proxy
+  }
+};
+
 // No script can tell a Proxy here. What has no such object's inside, and yet inherits from one, is
 // taken for one.
-const INSIDES = [
+const CLASSES = [
   Boolean, Date, Error, Map, Number, RegExp, Set, String, Object.getPrototypeOf(Uint8Array),
 ];
-export const isProxy = (value) => !isMap(value) && INSIDES.some((it) => value instanceof it);
-export const mayBeProxy = () => true;
+export const isProxy = (value) => CLASSES.some((it) => value instanceof it) && !isMap(value);
 
 // A text of one unit for each byte.
 const MOST = 4096; // arguments

@@ -55,7 +55,7 @@ def pasted(page):
     for given, title in [("0x83 01\n02:03", "list"), ("gwECAw==", "list"), ('{"b": [], "a": null}', "map")]:
         page.give(given)
         assert page.text(".banner h2").endswith(f"A block: {title}"), given
-    for given in ("?", "[1.5]", '{"a": 1, "a": 2}', '{"/": "no"}', "["):
+    for given in ("?", "zz", "1e3", "[1.5]", '{"a": 1, "a": 2}', '{"/": "no"}', "["):
         page.give(given)
         assert page.text("#said") and not page.count(".banner"), given
     return "three ways"

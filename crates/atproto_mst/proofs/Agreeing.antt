@@ -18,7 +18,7 @@ both (inr c) f = inr c
 links_agree : (C : Type 0) (V W : CidParts → List Entry → Type 0) → Agree C V W → (l : Option CidParts) (es fs : List Entry)
     → WalksLink V l es → WalksLink W l fs → (es ≡ fs) ⊎ C
 links_agree C V W same None es fs v w = inl (v ∙ sym w)
-links_agree C V W same (Some name) es fs v w = same name es fs v w
+links_agree C V W same (Some name) es fs v w = same name es fs v.0 w.0
 
 rows_agree : (C : Type 0) (V W : CidParts → List Entry → Type 0) → Agree C V W → (rows : List NodeRow) (previous : List ℕ) (es fs : List Entry)
     → WalksRows V previous rows es → WalksRows W previous rows fs → (es ≡ fs) ⊎ C

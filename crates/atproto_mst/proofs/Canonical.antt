@@ -131,13 +131,13 @@ unfolding subtree subtree_nodes node nodes
 subtrees_walked stored zero [] b l s = refl
 subtrees_walked stored zero (e ∷ es) b l s = absurd (omega (arith, b.0))
 subtrees_walked stored (suc n) [] b l s = refl
-subtrees_walked stored (suc n) (e ∷ es) b l s = node_walked stored n n (subtrees_walked stored n) (e ∷ es) l s
+subtrees_walked stored (suc n) (e ∷ es) b l s = (node_walked stored n n (subtrees_walked stored n) (e ∷ es) l s, λ none. cc none)
 
 -- ---- with more layers
 
 link_more : (V W : CidParts → List Entry → Type 0) → ((name : CidParts) (es : List Entry) → V name es → W name es) → (t : Option CidParts) (es : List Entry) → WalksLink V t es → WalksLink W t es
 link_more V W f None es h = h
-link_more V W f (Some name) es h = f name es h
+link_more V W f (Some name) es h = (f name es h.0, h.1)
 
 rows_more : (V W : CidParts → List Entry → Type 0) → ((name : CidParts) (es : List Entry) → V name es → W name es) → (previous : List ℕ) (rs : List NodeRow) (es : List Entry)
     → WalksRows V previous rs es → WalksRows W previous rs es

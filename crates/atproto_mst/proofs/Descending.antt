@@ -38,7 +38,7 @@ lists_one W x es h = (es, [], h, refl, sym (append-nil es))
 module _ (V W : CidParts → List Entry → Type 0) (f : (name : CidParts) (es : List Entry) → V name es → W name es) where
   link_lists : (l : Option CidParts) (es : List Entry) → WalksLink V l es → Lists W (link_items l) es
   link_lists None es h = h
-  link_lists (Some name) es h = lists_one W (a_link name) es (f name es h)
+  link_lists (Some name) es h = lists_one W (a_link name) es (f name es h.0)
 
   rows_list : (rows : List NodeRow) (previous : List ℕ) (es : List Entry) → WalksRows V previous rows es → Lists W (row_items previous rows) es
   rows_list [] previous es h = h

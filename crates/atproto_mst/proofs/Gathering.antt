@@ -1,5 +1,5 @@
 -- What is gathered, and where a walk stops, part by part.
-use Rattle.std.proofs.Common.{◌≡◌, ◌⊎◌, inl, inr, ℕ, zero, suc, ◌+◌, ◌-◌, ◌<◌, ◌≤◌, Bool, true, false, ◌&&◌, add-one, get_or, length, take, drop, drop-cons, map, List, [], ◌∷◌, ◌++◌, append_assoc, append-nil, refl, sym, ap, ◌∙◌, subst, arith, Option, None, Vec}
+use Rattle.std.proofs.Common.{◌≡◌, ◌≢◌, ◌⊎◌, inl, inr, ℕ, zero, suc, ◌+◌, ◌-◌, ◌<◌, ◌≤◌, Bool, true, false, ◌&&◌, add-one, get_or, length, take, drop, drop-cons, map, List, [], ◌∷◌, ◌++◌, append_assoc, append-nil, refl, sym, ap, ◌∙◌, subst, arith, Option, Some, None, Vec}
 use Rattle.std.proofs.lemmas.List.{drop_all, length-map, length-append, take-append-le, take_all}
 use Rattle.std.specs.Prelude.{Decides}
 use Rattle.std.specs.declared.alloc.Global.{Global}
@@ -14,7 +14,7 @@ use Rattle.atproto_mst.specs.Gathering.{GathersEntries, AddsRow, key_behind}
 use Rattle.atproto_mst.specs.InLayers.{IsLayerRow, IfLinked, AreRowsOf, IsOfLayer, IsEmpty, IsRightBelow}
 use Rattle.atproto_mst.specs.declared.entries.MstEntry.{MstEntry}
 use Rattle.atproto_mst.specs.declared.error.MstError.{MstError}
-use Rattle.atproto_mst.specs.declared.error.MstError.TheVariants.{OutOfMemory}
+use Rattle.atproto_mst.specs.declared.error.MstError.TheVariants.{OutOfMemory, OtherTree}
 use Rattle.repository_types.specs.declared.repository.Entry.{Entry as Row}
 use Rattle.atproto_mst.proofs.Nodes.{same_node_at}
 use Rattle.atproto_mst.proofs.Rising.{first_behind, joined_behind, last_joined}
@@ -41,6 +41,27 @@ gathers_none W v h = record { found = []; walked = h; behind = record { keys = t
 
 pub gathers_no_link : (W : CidParts → List Entry → Type 0) (l : Option CidParts) → l ≡ None → (v : Found) → GathersEntries (WalksLink W l) v v
 gathers_no_link W l h v = subst (λ x. GathersEntries (WalksLink W x) v v) (sym h) (gathers_none (WalksLink W None) v refl)
+
+-- behind a link there is an entry
+module _ (W : CidParts → List Entry → Type 0) (l : Option CidParts) (name : CidParts) (is : l ≡ Some name) (old new : Found) (g : GathersEntries (W name) old new) where
+  added : length new.items ≡ length old.items + length g.found
+  added = omega (arith, length-map old.items entry_of, length-map new.items entry_of, ap length g.all, length-append (entries old.items) g.found)
+
+  pub gathers_link : length new.items ≢ length old.items → GathersEntries (WalksLink W l) old new
+  gathers_link more = record {
+    found = g.found;
+    walked = subst (λ x. WalksLink W x g.found) (sym is) (g.walked, λ none. more (omega (arith, added, ap length none)));
+    behind = g.behind;
+    all = g.all;
+  }
+
+  none_found : (es : List Entry) → length es ≡ 0 → es ≡ []
+  none_found [] h = refl
+  none_found (e ∷ es) h = absurd (omega (arith, h))
+
+  pub stops_without : (S : List ℕ → CidParts → MstError → Type 0) → length new.items ≡ length old.items → StopsBehind W S (last_entry_key [] (entries old.items)) l OtherTree
+  stops_without S same =
+      subst (λ x. StopsBehind W S (last_entry_key [] (entries old.items)) x OtherTree) (sym is) (inr (refl, subst (W name) (none_found g.found (omega (arith, added, same))) g.walked))
 
 in_row : (a : List Entry) (e : Entry) (b c : List Entry) → ((a ++ (e ∷ [])) ++ b) ++ c ≡ a ++ (e ∷ (b ++ c))
 in_row a e b c = simp append_assoc
@@ -91,8 +112,8 @@ module _ (W : CidParts → List Entry → Type 0) (S : List ℕ → CidParts →
     stops_at_row e h = go.stops e (inl h)
 
     module _ (mid : Found) (a : AddsRow r previous old mid) where
-      pub stops_behind_row : (e : MstError) → StopsBehind S (last_entry_key [] (entries mid.items)) r.after e → StopsInRows W S (last_entry_key [] (entries first.items)) [] all e
-      stops_behind_row e h = go.stops e (inr (a.row, inl (subst (λ k. StopsBehind S k r.after e) (last_of_row r previous old mid a) h)))
+      pub stops_behind_row : (e : MstError) → StopsBehind W S (last_entry_key [] (entries mid.items)) r.after e → StopsInRows W S (last_entry_key [] (entries first.items)) [] all e
+      stops_behind_row e h = go.stops e (inr (a.row, inl (subst (λ k. StopsBehind W S k r.after e) (last_of_row r previous old mid a) h)))
 
       stops_later : (late : Found) → GathersEntries (WalksLink W r.after) mid late → (e : MstError) → StopsInRows W S (last_entry_key [] (entries late.items)) (key_of_row previous r) rs e
           → StopsInRows W S (last_entry_key [] (entries old.items)) previous (r ∷ rs) e

@@ -89,7 +89,7 @@ pub record IsWhole (stored : Stored) (n : ℕ) (name : CidParts) (es : List Entr
 module _ (stored : Stored) (n : ℕ) (F : CidParts → Type 0) (W : CidParts → List Entry → Type 0) (over : (name : CidParts) (es : List Entry) → F name → W name es → IsOver stored n (Some name) es) where
   link_over : (l : Option CidParts) (es : List Entry) → IfLinked F l → WalksLink W l es → IsOver stored n l es
   link_over None es f w = subst (IsOver stored n None) (sym w) (none_over stored n)
-  link_over (Some name) es f w = over name es f w
+  link_over (Some name) es f w = over name es f w.0
 
   row_over : (previous : List ℕ) (r : NodeRow) (rs : List NodeRow) (below more : List Entry) → IsLayerRow n previous r → r.shared ≤ length previous → IsOver stored n r.after below
       → AreOver stored n (key_of_row previous r) rs more → AreOver stored n previous (r ∷ rs) ((key_of_row previous r, r.value) ∷ (below ++ more))

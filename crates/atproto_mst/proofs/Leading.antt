@@ -12,9 +12,9 @@ use Rattle.atproto_mst.specs.Trees.{nodes_of}
 use Rattle.atproto_mst.specs.Entries.{AreStored, IsMst}
 use Rattle.atproto_mst.specs.Nodes.{NodeRow, NodeParts, IsNode, IsNodeAt, key_of_row}
 use Rattle.atproto_mst.specs.Walks.{WalksLink, WalksRows, WalksNode, WalksTree, most_layers}
-use Rattle.atproto_mst.specs.Stops.{NodeFault}
+use Rattle.atproto_mst.specs.Stops.{IsStoredNamed, NodeFault}
 use Rattle.atproto_mst.specs.Levels.{LevelItem, an_entry, a_link, link_items, row_items, node_items, link_names, OpensItems, IsOfShape, LevelLinksRefused}
-use Rattle.atproto_mst.specs.Differing.{IsRootOfEntries, NamesBind, HasLink, IsLedTo, LacksNode}
+use Rattle.atproto_mst.specs.Differing.{IsRootOfEntries, NamesBind, HasLink, IsLedTo, LacksNode, LacksOne}
 use Rattle.atproto_mst.specs.declared.error.MstError.{MstError}
 use Rattle.atproto_mst.specs.declared.error.MstError.TheVariants as error
 use Rattle.atproto_mst.proofs.Canonical.{mst_walked}
@@ -94,31 +94,52 @@ both_below m stored old new xs ys below beside (dropped, common, one, two) led =
 }
 
 abbrev pub DiffStops : Stored → CidParts → CidParts → MstError → Type 0
-DiffStops stored old new e = (e ≡ error.OutOfMemory) ⊎ (IsOfShape e ⊎ (LacksNode stored old e ⊎ LacksNode stored new e))
+DiffStops stored old new e = ((e ≡ error.OutOfMemory) × IsStoredNamed stored old) ⊎ (IsOfShape e ⊎ LacksOne stored old new e)
 
-pub both_stop : (k m : ℕ) (stored : Stored) (old new : CidParts) (xs ys : List LevelItem) → most_layers ≡ k + m → BothLed m stored old new xs ys → (e : MstError)
+-- the root of a tree is there
+abbrev pub HasRoot : Stored → CidParts → Type 0
+HasRoot stored root = (p : NodeParts) × IsNodeAt stored root p
+
+root_named : (stored : Stored) (root : CidParts) → HasRoot stored root → IsStoredNamed stored root
+root_named stored root (p, at) = (at.block, at.is, at.named)
+
+pub both_stop : (k m : ℕ) (stored : Stored) (old new : CidParts) (xs ys : List LevelItem) → HasRoot stored old → most_layers ≡ k + m → BothLed m stored old new xs ys → (e : MstError)
     → LevelLinksRefused stored (link_names xs) e ⊎ LevelLinksRefused stored (link_names ys) e → DiffStops stored old new e
-both_stop k m stored old new xs ys within led e (inl (inl memory)) = inl memory
-both_stop k m stored old new xs ys within led e (inl (inr (inl shape))) = inr (inl shape)
-both_stop k m stored old new xs ys within led e (inl (inr (inr (name, a, fault)))) = inr (inr (inl (name, led_within k m most_layers stored old name within (led.before name a), fault)))
-both_stop k m stored old new xs ys within led e (inr (inl memory)) = inl memory
-both_stop k m stored old new xs ys within led e (inr (inr (inl shape))) = inr (inl shape)
-both_stop k m stored old new xs ys within led e (inr (inr (inr (name, a, fault)))) = inr (inr (inr (name, led_within k m most_layers stored new name within (led.after name a), fault)))
+both_stop k m stored old new xs ys there within led e (inl (inl memory)) = inl (memory, root_named stored old there)
+both_stop k m stored old new xs ys there within led e (inl (inr (inl shape))) = inr (inl shape)
+both_stop k m stored old new xs ys there within led e (inl (inr (inr (name, a, fault)))) = inr (inr (inl (name, led_within k m most_layers stored old name within (led.before name a), fault)))
+both_stop k m stored old new xs ys there within led e (inr (inl memory)) = inl (memory, root_named stored old there)
+both_stop k m stored old new xs ys there within led e (inr (inr (inl shape))) = inr (inl shape)
+both_stop k m stored old new xs ys there within led e (inr (inr (inr (name, a, fault)))) = inr (inr (inr (there, (name, led_within k m most_layers stored new name within (led.after name a), fault))))
 
 -- a fault of the root itself
 pub root_lacks : (stored : Stored) (root : CidParts) (e : MstError) → NodeFault stored root e → LacksNode stored root e
 root_lacks stored root e fault = (root, led_within 128 1 most_layers stored root root refl (inl refl), fault)
+
+-- the first root is refused; or the second, where the first is there
+pub first_stops : (stored : Stored) (old new : CidParts) (e : MstError) → ((e ≡ error.OutOfMemory) × IsStoredNamed stored old) ⊎ NodeFault stored old e → DiffStops stored old new e
+first_stops stored old new e (inl memory) = inl memory
+first_stops stored old new e (inr fault) = inr (inr (inl (root_lacks stored old e fault)))
+
+pub second_stops : (stored : Stored) (old new : CidParts) (e : MstError) → HasRoot stored old → ((e ≡ error.OutOfMemory) × IsStoredNamed stored new) ⊎ NodeFault stored new e → DiffStops stored old new e
+second_stops stored old new e there (inl memory) = inl (memory.0, root_named stored old there)
+second_stops stored old new e there (inr fault) = inr (inr (inr (there, root_lacks stored new e fault)))
+
+-- later, at a shape
+pub later_stops : (stored : Stored) (old new : CidParts) (e : MstError) → HasRoot stored old → (e ≡ error.OutOfMemory) ⊎ IsOfShape e → DiffStops stored old new e
+later_stops stored old new e there (inl memory) = inl (memory, root_named stored old there)
+later_stops stored old new e there (inr shape) = inr (inl shape)
 
 -- ---- a tree that is stored lacks none
 
 walked_rows : (W : CidParts → List Entry → Type 0) (name : CidParts) (rows : List NodeRow) (previous : List ℕ) (es : List Entry) → WalksRows W previous rows es → Among (Some name) (map (λ r. r.after) rows)
     → (fs : List Entry) × W name fs
 walked_rows W name [] previous es w h = absurd h
-walked_rows W name (r ∷ rs) previous es (shares, (below, more, link, rest, is)) (inl e) = (below, subst (λ l. WalksLink W l below) (sym e) link)
+walked_rows W name (r ∷ rs) previous es (shares, (below, more, link, rest, is)) (inl e) = (below, (subst (λ l. WalksLink W l below) (sym e) link).0)
 walked_rows W name (r ∷ rs) previous es (shares, (below, more, link, rest, is)) (inr h) = walked_rows W name rs (key_of_row previous r) more rest h
 
 walked_node : (W : CidParts → List Entry → Type 0) (name : CidParts) (p : NodeParts) (es : List Entry) → WalksNode W p es → HasLink p name → (fs : List Entry) × W name fs
-walked_node W name p es (below, more, link, rest, is) (inl e) = (below, subst (λ l. WalksLink W l below) (sym e) link)
+walked_node W name p es (below, more, link, rest, is) (inl e) = (below, (subst (λ l. WalksLink W l below) (sym e) link).0)
 walked_node W name p es (below, more, link, rest, is) (inr h) = walked_rows W name p.rows [] more rest h
 
 abbrev IsWalked : Stored → CidParts → Type 0

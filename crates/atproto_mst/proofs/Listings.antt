@@ -9,7 +9,7 @@ use Rattle.atproto_mst.specs.Keys.{Entry, HaveCids, AreMstEntries}
 use Rattle.atproto_mst.specs.Entries.{entry_of, entries, IsMst}
 use Rattle.atproto_mst.specs.Nodes.{NodeRow, NodeParts, IsCidIfAny, IsNodeAt, key_of_row}
 use Rattle.atproto_mst.specs.Walks.{WalksLink, WalksRows, WalksNode, WalksTree, most_layers}
-use Rattle.atproto_mst.specs.Stops.{ComeBehind, StopsBehind, StopsInRows, StopsInNode, StopsWalk, MstRefused, OneReason, last_entry_key}
+use Rattle.atproto_mst.specs.Stops.{IsStoredNamed, NodeFault, ComeBehind, StopsInNode, StopsWalk, MstRefused, OneReason, last_entry_key}
 use Rattle.atproto_mst.specs.InLayers.{IsOfLayer, IsRightBelow, first_layer}
 use Rattle.atproto_mst.specs.Gathering.{GathersEntries}
 use Rattle.atproto_mst.specs.declared.error.MstError.{MstError}
@@ -33,7 +33,7 @@ cids_joined (e ∷ es) fs h k = (h.0, cids_joined es fs h.1 k)
 
 cids_behind : (W : CidParts → List Entry → Type 0) → GivesCids W → (l : Option CidParts) (es : List Entry) → WalksLink W l es → HaveCids es
 cids_behind W give None es w = subst HaveCids (sym w) tt
-cids_behind W give (Some name) es w = give name es w
+cids_behind W give (Some name) es w = give name es w.0
 
 cids_of_rows : (W : CidParts → List Entry → Type 0) → GivesCids W → (rows : List NodeRow) → AllByRecursion (λ r. AreCidParts r.value × IsCidIfAny r.after) rows
     → (previous : List ℕ) (es : List Entry) → WalksRows W previous rows es → HaveCids es
@@ -47,44 +47,35 @@ walk_cids stored (suc m) name es (p, at, (below, more, link, rows, is)) =
     subst HaveCids (sym is) (cids_joined below more (cids_behind (WalksTree m stored) (walk_cids stored m) p.left below link)
     (cids_of_rows (WalksTree m stored) (walk_cids stored m) p.rows at.node.rows [] more rows))
 
--- ---- where a walk stops, the tree is not another
+-- ---- why the root's tree is refused
 
-abbrev NoOther : (List ℕ → CidParts → MstError → Type 0) → Type 0
-NoOther S = (before : List ℕ) (name : CidParts) → S before name error.OtherTree → ⊥
+refused_by_stop : (stored : Stored) (root : CidParts) (e : MstError) → IsStoredNamed stored root → StopsWalk most_layers stored [] root e → MstRefused stored root e
+refused_by_stop stored root error.OutOfMemory named h = named
+refused_by_stop stored root error.OtherTree named h = inl h
+refused_by_stop stored root _ named h = h
 
-no_other_behind : (S : List ℕ → CidParts → MstError → Type 0) → NoOther S → (before : List ℕ) (l : Option CidParts) → StopsBehind S before l error.OtherTree → ⊥
-no_other_behind S never before None h = absurd h
-no_other_behind S never before (Some name) h = never before name h
-
-no_other_in_rows : (W : CidParts → List Entry → Type 0) (S : List ℕ → CidParts → MstError → Type 0) → NoOther S
-    → (rows : List NodeRow) (before previous : List ℕ) → StopsInRows W S before previous rows error.OtherTree → ⊥
-no_other_in_rows W S never [] before previous h = absurd h
-no_other_in_rows W S never (r ∷ rs) before previous (inl fault) = absurd fault
-no_other_in_rows W S never (r ∷ rs) before previous (inr (row, inl stop)) = no_other_behind S never (key_of_row previous r) r.after stop
-no_other_in_rows W S never (r ∷ rs) before previous (inr (row, inr (below, link, behind, stop))) =
-    no_other_in_rows W S never rs (last_entry_key (key_of_row previous r) below) (key_of_row previous r) stop
-
-no_other : (stored : Stored) (m : ℕ) → NoOther (StopsWalk m stored)
-no_other stored zero before name h = absurd (cc h)
-no_other stored (suc m) before name (inl fault) = absurd fault
-no_other stored (suc m) before name (inr (p, at, inl stop)) = no_other_behind (StopsWalk m stored) (no_other stored m) before p.left stop
-no_other stored (suc m) before name (inr (p, at, inr (below, link, behind, stop))) =
-    no_other_in_rows (WalksTree m stored) (StopsWalk m stored) (no_other stored m) p.rows (last_entry_key before below) [] stop
-
-refused_by_stop : (stored : Stored) (root : CidParts) (e : MstError) → StopsWalk most_layers stored [] root e → MstRefused stored root e
-refused_by_stop stored root error.OutOfMemory h = tt
-refused_by_stop stored root error.OtherTree h = absurd (no_other stored most_layers [] root h)
-refused_by_stop stored root _ h = h
+refused_by_fault : (stored : Stored) (root : CidParts) (e : MstError) → NodeFault stored root e → MstRefused stored root e
+refused_by_fault stored root error.OutOfMemory h = absurd h
+refused_by_fault stored root error.OtherTree h = absurd h
+refused_by_fault stored root _ h = inl h
 
 -- ---- what is gathered of the root, behind nothing
 
-pub refused_by : (stored : Stored) (root : CidParts) (e : MstError) → (e ≡ error.OutOfMemory) ⊎ StopsWalk most_layers stored [] root e → MstRefused stored root e
-refused_by stored root e (inl m) = subst (MstRefused stored root) (sym m) tt
-refused_by stored root e (inr s) = refused_by_stop stored root e s
+pub refused_by : (stored : Stored) (root : CidParts) (e : MstError) (p : NodeParts) → IsNodeAt stored root p → (e ≡ error.OutOfMemory) ⊎ StopsWalk most_layers stored [] root e → MstRefused stored root e
+refused_by stored root e p at (inl m) = subst (MstRefused stored root) (sym m) (at.block, at.is, at.named)
+refused_by stored root e p at (inr s) = refused_by_stop stored root e (at.block, at.is, at.named) s
+
+pub no_root : (stored : Stored) (root : CidParts) (e : MstError) → ((e ≡ error.OutOfMemory) × IsStoredNamed stored root) ⊎ NodeFault stored root e → MstRefused stored root e
+no_root stored root e (inl m) = subst (MstRefused stored root) (sym m.0) m.1
+no_root stored root e (inr fault) = refused_by_fault stored root e fault
 
 pub stops_for_memory : (stored : Stored) (root : CidParts) (e : MstError) → (e ≡ error.OutOfMemory) ⊎ StopsWalk most_layers stored [] root e → (es : List Entry) → IsMst stored root es → e ≡ error.OutOfMemory
 stops_for_memory stored root e (inl m) es h = m
 stops_for_memory stored root e (inr s) es h = absurd (stops_never_walks stored most_layers [] root e es s (mst_walked stored root es h) (all_behind es h.valid.keys h.valid.rise))
+
+-- the root of a tree that is stored is there
+pub stored_root : (stored : Stored) (root : CidParts) (es : List Entry) → IsMst stored root es → IsStoredNamed stored root
+stored_root stored root es h = let w = mst_walked stored root es h in (w.1.block, w.1.is, w.1.named)
 
 module _ (stored : Stored) (root : CidParts) (p : NodeParts) (at : IsNodeAt stored root p) (first : Found) (empty : first.items ≡ []) where
   -- the walk from the root stops
@@ -123,21 +114,22 @@ module _ (stored : Stored) (root : CidParts) (p : NodeParts) (at : IsNodeAt stor
           let yes = decided.1 (subst (λ n. IsOfLayer (IsRightBelow stored n) n p) (sym is) (root_stands stored root es p h at)) in absurd (cc (e, yes))
 
       pub refused_root : fits ≡ false → MstRefused stored root error.OtherTree
-      refused_root e = (entries found.items, walks_found, are_entries, other_root e (entries found.items))
+      refused_root e = inr (entries found.items, walks_found, are_entries, other_root e (entries found.items))
 
     pub found_root : (es : List Entry) → IsMst stored root es → entries found.items ≡ es
     found_root es h = one_walk stored most_layers most_layers root (entries found.items) es walks_found (mst_walked stored root es h)
 
 -- ---- there is one reason, beside memory
 
-walked_or_stopped : (stored : Stored) (root : CidParts) (e : MstError) → StopsWalk most_layers stored [] root e → MstRefused stored root error.OtherTree → ⊥
-walked_or_stopped stored root e s (es, w, valid, other) = stops_never_walks stored most_layers [] root e es s w (all_behind es valid.keys valid.rise)
+other_or_stopped : (stored : Stored) (root : CidParts) (e : MstError) → StopsWalk most_layers stored [] root e → MstRefused stored root error.OtherTree → e ≡ error.OtherTree
+other_or_stopped stored root e s (inl t) = one_fault stored most_layers [] root e error.OtherTree s t
+other_or_stopped stored root e s (inr (es, w, valid, other)) = absurd (stops_never_walks stored most_layers [] root e es s w (all_behind es valid.keys valid.rise))
 
 pub one_reason : OneReason
 one_reason stored root error.OutOfMemory f h k = inl refl
 one_reason stored root error.OtherTree error.OutOfMemory h k = inr (inl refl)
 one_reason stored root error.OtherTree error.OtherTree h k = inr (inr refl)
-one_reason stored root error.OtherTree f h k = absurd (walked_or_stopped stored root f k h)
+one_reason stored root error.OtherTree f h k = inr (inr (sym (other_or_stopped stored root f k h)))
 one_reason stored root e error.OutOfMemory h k = inr (inl refl)
-one_reason stored root e error.OtherTree h k = absurd (walked_or_stopped stored root e h k)
+one_reason stored root e error.OtherTree h k = inr (inr (other_or_stopped stored root e h k))
 one_reason stored root e f h k = inr (inr (one_fault stored most_layers [] root e f h k))

@@ -6,12 +6,12 @@ use Rattle.std.specs.declared.cmp.Ordering.{Ordering}
 use Rattle.std.specs.declared.cmp.Ordering.TheVariants.{Less, Equal, Greater}
 use Rattle.std.specs.Ordering.{nat_cmp}
 use Rattle.std.specs.Cmp.Lexicographic.{slice_cmp}
-use Rattle.std.proofs.lemmas.List.{at_drop_more, length-drop, take_all}
+use Rattle.std.proofs.lemmas.List.{at_drop_more, length-drop, length-map, take_all}
 use Rattle.std.proofs.lemmas.Map.Lookups.{exact_bytes}
 use Rattle.std.proofs.lemmas.Slice.Eq.{bytes_eq-Decides}
 use Rattle.ipld_tree.specs.Cid.{CidParts}
 use Rattle.atproto_mst.specs.Keys.{Entry, ComesBefore, Rise}
-use Rattle.atproto_mst.specs.Entries.{entries}
+use Rattle.atproto_mst.specs.Entries.{entry_of, entries}
 use Rattle.atproto_mst.specs.Finding.{lookup, by_order}
 use Rattle.atproto_mst.specs.Changes.{Changed, ComesBeforeChanges, HasChange, IsChange, AreChanges}
 use Rattle.atproto_mst.specs.Merging.{removed, added, same_record, changes_of_key}
@@ -201,6 +201,47 @@ module _ (all found new : List Changed) (es fs : List MstEntry) (at next : ℕ) 
   pub merged_greater : slice_cmp nat_cmp e.key.items f.key.items ≡ Greater → new ≡ found ++ (f.key.items, (None, Some f.value)) ∷ [] → Merged all new (drop at es) (drop (next + 1) fs)
   merged_greater o n = goes_on all found (put_there f ∷ []) new (diff_of (entries (drop at es)) (entries fs_behind)) n
       (at_order Greater o ∙ ap (λ l. found ++ (put_there f ∷ diff_of (entries l) (entries fs_behind))) (sym first_of_es))
+
+-- equal entries have equal rests
+abbrev pub SameRests : List MstEntry → List MstEntry → ℕ → ℕ → Type 0
+SameRests es fs at next = entries es ≡ entries fs → entries (drop at es) ≡ entries (drop next fs)
+
+first_from : (es : List MstEntry) (at : ℕ) (e : MstEntry) → e ≡ get_or es at e → at < length es → drop at es ≡ e ∷ drop (at + 1) es
+first_from es at e is lt = at_drop_more (λ l. l) es at e lt ∙ ap (λ x. x ∷ drop (at + 1) es) (sym is)
+
+module _ (es fs : List MstEntry) (at next : ℕ) (e f : MstEntry) (is_e : e ≡ get_or es at e) (is_f : f ≡ get_or fs next f)
+    (lt : at < length es) (under : next < length fs) (s : SameRests es fs at next) where
+  same_both : entries es ≡ entries fs → entry_of e ∷ entries (drop (at + 1) es) ≡ entry_of f ∷ entries (drop (next + 1) fs)
+  same_both is = ap entries (sym (first_from es at e is_e lt)) ∙ s is ∙ ap entries (first_from fs next f is_f under)
+
+  same_first : entries es ≡ entries fs → entry_of e ≡ entry_of f
+  same_first is = cc (same_both is)
+
+  pub same_behind : SameRests es fs (at + 1) (next + 1)
+  same_behind is = cc (same_both is)
+
+  pub others_less : slice_cmp nat_cmp e.key.items f.key.items ≡ Less → entries es ≢ entries fs
+  others_less o is = not_same e.key.items f.key.items o (ap (λ x. x.0) (same_first is))
+
+  pub others_greater : slice_cmp nat_cmp e.key.items f.key.items ≡ Greater → entries es ≢ entries fs
+  others_greater o is = not_same f.key.items e.key.items (below_turned e.key.items f.key.items o) (ap (λ x. x.0) (sym (same_first is)))
+
+  pub other_records : e.value ≢ f.value → entries es ≢ entries fs
+  other_records o is = o (ap (λ x. x.1) (same_first is))
+
+none_there : (es : List MstEntry) → length es ≡ 0 → es ≡ []
+none_there [] h = refl
+none_there (e ∷ es) h = absurd (omega (arith, h))
+
+-- of equal entries nothing is left where one of them has ended
+pub both_end : (es fs : List MstEntry) (at next : ℕ) → SameRests es fs at next → (length (drop at es) ≡ 0) ⊎ (length (drop next fs) ≡ 0) → entries es ≡ entries fs
+    → (drop at es ≡ []) × (drop next fs ≡ [])
+both_end es fs at next s ends is =
+    let same : length (drop at es) ≡ length (drop next fs) = sym (length-map (drop at es) entry_of) ∙ ap length (s is) ∙ length-map (drop next fs) entry_of in
+    elim ends [
+      | inl h ↦ (none_there (drop at es) h, none_there (drop next fs) (sym same ∙ h))
+      | inr h ↦ (none_there (drop at es) (same ∙ h), none_there (drop next fs) h)
+    ]
 
 pub rest_all : (i : ℕ) (l : List MstEntry) → take (length l - i) (drop i l) ≡ drop i l
 rest_all i l = take_all (length l - i) (drop i l) (omega (arith, length-drop i l))

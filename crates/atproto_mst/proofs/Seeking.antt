@@ -119,7 +119,7 @@ found_below : (W : CidParts → List Entry → Type 0) (F : CidParts → Option 
     → ((next : CidParts) (below : List Entry) → W next below → Rise below → F next (lookup key below)) → Decides W key s es → FindsBelow F s (lookup key es)
 found_below W F key (sought.Record v) es h d = d
 found_below W F key (sought.Below None) es h d = d.3 ∙ ap (lookup key) d.1
-found_below W F key (sought.Below (Some next)) es h d = subst (λ x. F next x) (sym d.3) (h next d.0 d.1 d.2)
+found_below W F key (sought.Below (Some next)) es h d = subst (λ x. F next x) (sym d.3) (h next d.0 d.1.0 d.2)
 found_below W F key sought.KeyFront es h d = absurd d
 
 -- what a walk finds is found from the root

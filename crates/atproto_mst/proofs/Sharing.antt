@@ -84,12 +84,12 @@ changes_of_stored stored old new cs a es fs h k = a es fs (h.valid, h.root_is) (
 
 module _ (stored : Stored) (old new : CidParts) (e : MstError) (no_shape : ¬ IsOfShape e) where
   pub diff_stopped : DiffStops stored old new e → DiffRefused stored old new e
-  diff_stopped (inl memory) = inr (inl (subst (MstRefused stored old) (sym memory) tt))
+  diff_stopped (inl memory) = inr (inl (subst (MstRefused stored old) (sym memory.0) memory.1))
   diff_stopped (inr (inl shape)) = absurd (no_shape shape)
   diff_stopped (inr (inr lacks)) = inl lacks
 
   pub stopped_for_memory : DiffStops stored old new e → (es fs : List Entry) → IsMst stored old es → IsMst stored new fs → e ≡ error.OutOfMemory
-  stopped_for_memory (inl memory) es fs h k = memory
+  stopped_for_memory (inl memory) es fs h k = memory.0
   stopped_for_memory (inr (inl shape)) es fs h k = absurd (no_shape shape)
   stopped_for_memory (inr (inr (inl lacks))) es fs h k = absurd (lacks_none stored old es e h lacks)
-  stopped_for_memory (inr (inr (inr lacks))) es fs h k = absurd (lacks_none stored new fs e k lacks)
+  stopped_for_memory (inr (inr (inr lacks))) es fs h k = absurd (lacks_none stored new fs e k lacks.1)

@@ -42,12 +42,13 @@ NeverWalks W S = (before : List ℕ) (name : CidParts) (e : MstError) (es : List
 
 one_behind : (W : CidParts → List Entry → Type 0) → OneListing W → (l : Option CidParts) (es fs : List Entry) → WalksLink W l es → WalksLink W l fs → es ≡ fs
 one_behind W one None es fs v w = v ∙ sym w
-one_behind W one (Some name) es fs v w = one name es fs v w
+one_behind W one (Some name) es fs v w = one name es fs v.0 w.0
 
-never_behind : (W : CidParts → List Entry → Type 0) (S : List ℕ → CidParts → MstError → Type 0) → NeverWalks W S
-    → (before : List ℕ) (l : Option CidParts) (e : MstError) (es : List Entry) → StopsBehind S before l e → WalksLink W l es → ComeBehind before es → ⊥
-never_behind W S never before None e es s w f = absurd s
-never_behind W S never before (Some name) e es s w f = never before name e es s w f
+never_behind : (W : CidParts → List Entry → Type 0) (S : List ℕ → CidParts → MstError → Type 0) → OneListing W → NeverWalks W S
+    → (before : List ℕ) (l : Option CidParts) (e : MstError) (es : List Entry) → StopsBehind W S before l e → WalksLink W l es → ComeBehind before es → ⊥
+never_behind W S one never before None e es s w f = absurd s
+never_behind W S one never before (Some name) e es (inl s) w f = never before name e es s w.0 f
+never_behind W S one never before (Some name) e es (inr (is, none)) w f = w.1 (one name es [] w.0 none)
 
 never_in_rows : (W : CidParts → List Entry → Type 0) (S : List ℕ → CidParts → MstError → Type 0) → OneListing W → NeverWalks W S
     → (rows : List NodeRow) (before previous : List ℕ) (e : MstError) (es : List Entry) → StopsInRows W S before previous rows e → WalksRows W previous rows es → ComeBehind before es → ⊥
@@ -55,7 +56,7 @@ never_in_rows W S one never [] before previous e es s w f = absurd s
 never_in_rows W S one never (r ∷ rs) before previous e es (inl fault) (shares, (below, more, link, rows, is)) f =
     no_row_fault previous before r (below ++ more) e fault shares (subst (ComeBehind before) is f)
 never_in_rows W S one never (r ∷ rs) before previous e es (inr (s, inl stop)) (shares, (below, more, link, rows, is)) f =
-    never_behind W S never (key_of_row previous r) r.after e below stop link
+    never_behind W S one never (key_of_row previous r) r.after e below stop link
     (behind_left (key_of_row previous r) below more (behind_first before (key_of_row previous r, r.value) (below ++ more) (subst (ComeBehind before) is f)))
 never_in_rows W S one never (r ∷ rs) before previous e es (inr (s, inr (other, to, behind, stop))) (shares, (below, more, link, rows, is)) f =
     never_in_rows W S one never rs (last_entry_key (key_of_row previous r) below) (key_of_row previous r) e more
@@ -65,7 +66,7 @@ never_in_rows W S one never (r ∷ rs) before previous e es (inr (s, inr (other,
 never_in_node : (W : CidParts → List Entry → Type 0) (S : List ℕ → CidParts → MstError → Type 0) → OneListing W → NeverWalks W S
     → (p : NodeParts) (before : List ℕ) (e : MstError) (es : List Entry) → StopsInNode W S before p e → WalksNode W p es → ComeBehind before es → ⊥
 never_in_node W S one never p before e es (inl stop) (below, more, link, rows, is) f =
-    never_behind W S never before p.left e below stop link (behind_left before below more (subst (ComeBehind before) is f))
+    never_behind W S one never before p.left e below stop link (behind_left before below more (subst (ComeBehind before) is f))
 never_in_node W S one never p before e es (inr (other, to, behind, stop)) (below, more, link, rows, is) f =
     never_in_rows W S one never p.rows (last_entry_key before below) [] e more
     (subst (λ x. StopsInRows W S (last_entry_key before x) [] p.rows e) (one_behind W one p.left other below to link) stop) rows
@@ -124,13 +125,19 @@ row_or_fault previous before r error.KeyLength h k = h.1 k.is_key
 row_or_fault previous before r error.KeyOrder h k = h.2 k.behind
 row_or_fault previous before r _ h k = absurd h
 
+nothing_behind : (before : List ℕ) → ComeBehind before []
+nothing_behind before = record { keys = tt; rise = tt; behind = tt }
+
 abbrev OneFault : (List ℕ → CidParts → MstError → Type 0) → Type 0
 OneFault S = (before : List ℕ) (name : CidParts) (e f : MstError) → S before name e → S before name f → e ≡ f
 
 module _ (W : CidParts → List Entry → Type 0) (S : List ℕ → CidParts → MstError → Type 0) (listing : OneListing W) (never_walks : NeverWalks W S) (one : OneFault S) where
-  one_fault_behind : (before : List ℕ) (l : Option CidParts) (e f : MstError) → StopsBehind S before l e → StopsBehind S before l f → e ≡ f
+  one_fault_behind : (before : List ℕ) (l : Option CidParts) (e f : MstError) → StopsBehind W S before l e → StopsBehind W S before l f → e ≡ f
   one_fault_behind before None e f s t = absurd s
-  one_fault_behind before (Some name) e f s t = one before name e f s t
+  one_fault_behind before (Some name) e f (inl s) (inl t) = one before name e f s t
+  one_fault_behind before (Some name) e f (inl s) (inr (is, none)) = absurd (never_walks before name e [] s none (nothing_behind before))
+  one_fault_behind before (Some name) e f (inr (is, none)) (inl t) = absurd (never_walks before name f [] t none (nothing_behind before))
+  one_fault_behind before (Some name) e f (inr (is, none)) (inr (same, empty)) = is ∙ sym same
 
   one_fault_in_rows : (rows : List NodeRow) (before previous : List ℕ) (e f : MstError) → StopsInRows W S before previous rows e → StopsInRows W S before previous rows f → e ≡ f
   one_fault_in_rows [] before previous e f s t = absurd s
@@ -139,17 +146,17 @@ module _ (W : CidParts → List Entry → Type 0) (S : List ℕ → CidParts →
   one_fault_in_rows (r ∷ rs) before previous e f (inr (row, s)) (inl b) = absurd (row_or_fault previous before r f b row)
   one_fault_in_rows (r ∷ rs) before previous e f (inr (row, inl a)) (inr (k, inl b)) = one_fault_behind (key_of_row previous r) r.after e f a b
   one_fault_in_rows (r ∷ rs) before previous e f (inr (row, inl a)) (inr (k, inr (below, link, behind, t))) =
-      absurd (never_behind W S never_walks (key_of_row previous r) r.after e below a link behind)
+      absurd (never_behind W S listing never_walks (key_of_row previous r) r.after e below a link behind)
   one_fault_in_rows (r ∷ rs) before previous e f (inr (row, inr (below, link, behind, s))) (inr (k, inl b)) =
-      absurd (never_behind W S never_walks (key_of_row previous r) r.after f below b link behind)
+      absurd (never_behind W S listing never_walks (key_of_row previous r) r.after f below b link behind)
   one_fault_in_rows (r ∷ rs) before previous e f (inr (row, inr (below, link, behind, s))) (inr (k, inr (other, to, h, t))) =
       one_fault_in_rows rs (last_entry_key (key_of_row previous r) below) (key_of_row previous r) e f s
       (subst (λ x. StopsInRows W S (last_entry_key (key_of_row previous r) x) (key_of_row previous r) rs f) (one_behind W listing r.after other below to link) t)
 
   one_fault_in_node : (p : NodeParts) (before : List ℕ) (e f : MstError) → StopsInNode W S before p e → StopsInNode W S before p f → e ≡ f
   one_fault_in_node p before e f (inl a) (inl b) = one_fault_behind before p.left e f a b
-  one_fault_in_node p before e f (inl a) (inr (below, link, behind, t)) = absurd (never_behind W S never_walks before p.left e below a link behind)
-  one_fault_in_node p before e f (inr (below, link, behind, s)) (inl b) = absurd (never_behind W S never_walks before p.left f below b link behind)
+  one_fault_in_node p before e f (inl a) (inr (below, link, behind, t)) = absurd (never_behind W S listing never_walks before p.left e below a link behind)
+  one_fault_in_node p before e f (inr (below, link, behind, s)) (inl b) = absurd (never_behind W S listing never_walks before p.left f below b link behind)
   one_fault_in_node p before e f (inr (below, link, behind, s)) (inr (other, to, h, t)) =
       one_fault_in_rows p.rows (last_entry_key before below) [] e f s
       (subst (λ x. StopsInRows W S (last_entry_key before x) [] p.rows f) (one_behind W listing p.left other below to link) t)

@@ -48,8 +48,12 @@ abbrev pub LacksNode : Stored → CidParts → MstError → Type 0
 LacksNode stored root e = (name : CidParts) × IsLedTo most_layers stored root name
     × NodeFault stored name e
 
+-- a node of the first is lacking; or the first has a root, and a node of the second is lacking
+abbrev pub LacksOne : Stored → CidParts → CidParts → MstError → Type 0
+LacksOne stored old new e = LacksNode stored old e
+    ⊎ (((p : NodeParts) × IsNodeAt stored old p) × LacksNode stored new e)
+
 -- A node of one is lacking; or the first tree is refused; or it is stored, and the second is refused
 abbrev pub DiffRefused : Stored → CidParts → CidParts → MstError → Type 0
-DiffRefused stored old new e = (LacksNode stored old e ⊎ LacksNode stored new e)
-    ⊎ (MstRefused stored old e
+DiffRefused stored old new e = LacksOne stored old new e ⊎ (MstRefused stored old e
     ⊎ ((es : List Entry) × IsMst stored old es × MstRefused stored new e))

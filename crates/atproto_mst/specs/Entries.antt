@@ -17,11 +17,11 @@ entry_of e = (e.key.items, e.value)
 abbrev pub entries : List MstEntry → List Entry
 entries es = map entry_of es
 
--- why entries are refused; memory is wanted of good ones alone
+-- why entries are refused: lengths before order; memory is wanted of good ones alone
 abbrev pub EntriesRefused : MstError → List Entry → Type 0
 EntriesRefused OutOfMemory es = AreMstEntries es
 EntriesRefused KeyLength es = ¬ HaveKeys es
-EntriesRefused KeyOrder es = ¬ Rise es
+EntriesRefused KeyOrder es = HaveKeys es × ¬ Rise es
 EntriesRefused _ es = ⊥
 
 -- under the name of each node its block is stored

@@ -1,5 +1,5 @@
 -- Repositories that are stored (AT Protocol specification, repository).
-use Rattle.std.specs.Prelude.{◌≡◌, ◌≢◌, ℕ, List, None, Some, ⊤}
+use Rattle.std.specs.Prelude.{◌≡◌, ◌≢◌, ℕ, List, None, Some}
 use Rattle.ipld_tree.specs.Cid.{CidParts}
 use Rattle.dagcbor_write.specs.Answers.{AreSpellingOf}
 use Rattle.ipld_links.specs.Names.{block_name}
@@ -7,7 +7,7 @@ use Rattle.ipld_links.specs.Reaching.{Stored}
 use Rattle.atproto_mst.specs.Commits.{commit_tree}
 use Rattle.atproto_mst.specs.UnreadCommits.{UnreadCommit}
 use Rattle.atproto_mst.specs.Entries.{entries, IsMst}
-use Rattle.atproto_mst.specs.Stops.{MstRefused}
+use Rattle.atproto_mst.specs.Stops.{IsStoredNamed, MstRefused}
 use Rattle.repository_types.specs.declared.repository.Commit.{Commit}
 use Rattle.atproto_mst.specs.declared.entries.MstEntry.{MstEntry}
 use Rattle.atproto_mst.specs.declared.error.MstError.TheVariants as tree
@@ -29,9 +29,9 @@ IsRepo stored name c records = IsStoredCommit stored name c × IsMst stored c.da
 
 -- ---- why it is not read
 
--- why no commit is read
+-- why no commit is read; memory is wanted of one that is stored
 abbrev pub CommitRefused : Stored → CidParts → RepoError → Type 0
-CommitRefused stored name error.OutOfMemory = ⊤
+CommitRefused stored name error.OutOfMemory = IsStoredNamed stored name
 CommitRefused stored name error.Missing = stored name ≡ None
 CommitRefused stored name error.OtherBytes = (b : List ℕ) × (stored name ≡ Some b) × (name ≢ block_name b)
 CommitRefused stored name (error.NoCommit e) = (b : List ℕ) × IsOwnBlock stored name b

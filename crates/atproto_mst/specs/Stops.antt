@@ -1,5 +1,5 @@
 -- Why a walk from a root stops: the first fault on its way.
-use Rattle.std.specs.Prelude.{◌≡◌, ◌≢◌, ◌⊎◌, ℕ, zero, suc, ◌≤◌, ◌<◌, List, [], ◌∷◌, length, Option, None, Some, ⊤}
+use Rattle.std.specs.Prelude.{◌≡◌, ◌≢◌, ◌⊎◌, ℕ, zero, suc, ◌≤◌, ◌<◌, List, [], ◌∷◌, length, Option, None, Some}
 use Rattle.std.specs.declared.cmp.Ordering.TheVariants.{Less}
 use Rattle.std.specs.Ordering.{nat_cmp}
 use Rattle.std.specs.Cmp.Lexicographic.{slice_cmp}
@@ -54,24 +54,25 @@ last_entry_key before (e ∷ es) = last_entry_key e.0 es
 
 -- ---- the walk
 
--- behind a link
-abbrev pub StopsBehind : (List ℕ → CidParts → MstError → Type 0) → List ℕ → Option CidParts → MstError → Type 0
-StopsBehind S before None e = ⊥
-StopsBehind S before (Some name) e = S before name e
+-- In the tree behind a link; or that tree has no entry.
+abbrev pub StopsBehind : (CidParts → List Entry → Type 0) → (List ℕ → CidParts → MstError → Type 0)
+    → List ℕ → Option CidParts → MstError → Type 0
+StopsBehind W S before None e = ⊥
+StopsBehind W S before (Some name) e = S before name e ⊎ ((e ≡ error.OtherTree) × W name [])
 
 -- At a row; else in the tree behind it; else, behind that tree, at a later row.
 abbrev pub StopsInRows : (CidParts → List Entry → Type 0) → (List ℕ → CidParts → MstError → Type 0)
     → List ℕ → List ℕ → List NodeRow → MstError → Type 0
 StopsInRows W S before previous [] e = ⊥
 StopsInRows W S before previous (r ∷ rs) e = RowFault previous before r e
-    ⊎ (IsRow previous before r × (StopsBehind S (key_of_row previous r) r.after e
+    ⊎ (IsRow previous before r × (StopsBehind W S (key_of_row previous r) r.after e
     ⊎ ((below : List Entry) × WalksLink W r.after below × ComeBehind (key_of_row previous r) below
     × StopsInRows W S (last_entry_key (key_of_row previous r) below) (key_of_row previous r) rs e)))
 
 -- In the tree before the first key; else behind it.
 abbrev pub StopsInNode : (CidParts → List Entry → Type 0) → (List ℕ → CidParts → MstError → Type 0)
     → List ℕ → NodeParts → MstError → Type 0
-StopsInNode W S before p e = StopsBehind S before p.left e
+StopsInNode W S before p e = StopsBehind W S before p.left e
     ⊎ ((below : List Entry) × WalksLink W p.left below × ComeBehind before below
     × StopsInRows W S (last_entry_key before below) [] p.rows e)
 
@@ -83,12 +84,12 @@ StopsWalk (suc m) stored before name e = NodeFault stored name e
 
 -- ---- why a tree is not read
 
--- Memory was wanted; the entries that the tree has are those of another tree, by which it should be
--- stored; or the walk stops, at the first fault on its way.
+-- Memory was wanted, of a root that is stored; the walk stops, at the first fault on its way; or it
+-- does not, but the entries are those of another tree, by which they should be stored.
 abbrev pub MstRefused : Stored → CidParts → MstError → Type 0
-MstRefused stored root error.OutOfMemory = ⊤
-MstRefused stored root error.OtherTree = (es : List Entry) × WalksTree most_layers stored root es
-    × AreMstEntries es × ¬ IsMst stored root es
+MstRefused stored root error.OutOfMemory = IsStoredNamed stored root
+MstRefused stored root error.OtherTree = StopsWalk most_layers stored [] root error.OtherTree
+    ⊎ ((es : List Entry) × WalksTree most_layers stored root es × AreMstEntries es × ¬ IsMst stored root es)
 MstRefused stored root e = StopsWalk most_layers stored [] root e
 
 -- of a tree that is refused there is one reason, beside memory

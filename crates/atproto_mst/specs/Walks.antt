@@ -1,15 +1,16 @@
 -- The entries of a stored tree, in the order of a walk from its root (AT Protocol specification,
--- repository). Nothing is said of layers or of the order of keys.
-use Rattle.std.specs.Prelude.{◌≡◌, ℕ, zero, suc, ◌≤◌, List, [], ◌∷◌, ◌++◌, length, Option, None, Some}
+-- repository). A link leads to a tree with an entry: only a root has none. Nothing is said of layers or
+-- of the order of keys.
+use Rattle.std.specs.Prelude.{◌≡◌, ◌≢◌, ℕ, zero, suc, ◌≤◌, List, [], ◌∷◌, ◌++◌, length, Option, None, Some}
 use Rattle.ipld_tree.specs.Cid.{CidParts}
 use Rattle.ipld_links.specs.Reaching.{Stored}
 use Rattle.atproto_mst.specs.Keys.{Entry}
 use Rattle.atproto_mst.specs.Nodes.{NodeRow, NodeParts, IsNodeAt, key_of_row}
 
--- the entries of the tree behind a link; no link has none
+-- the entries of the tree behind a link, which has some; no link has none
 abbrev pub WalksLink : (CidParts → List Entry → Type 0) → Option CidParts → List Entry → Type 0
 WalksLink W None es = es ≡ []
-WalksLink W (Some name) es = W name es
+WalksLink W (Some name) es = W name es × (es ≢ [])
 
 -- the entries of these rows behind a key, and of the trees behind them
 abbrev pub WalksRows : (CidParts → List Entry → Type 0) → List ℕ → List NodeRow → List Entry → Type 0

@@ -1,6 +1,6 @@
 //! What differs between the entries of two trees.
 
-ghost use Rattle.std.specs.Prelude.{◌≡◌, ◌⊎◌, [], ◌∷◌, ◌++◌, List, None, Some, MatchResult, IfOk, OnOk, IfErr};
+ghost use Rattle.std.specs.Prelude.{◌≡◌, ◌≢◌, ◌⊎◌, [], ◌∷◌, ◌++◌, List, None, Some, MatchResult, IfOk, OnOk, IfErr};
 ghost use Rattle.ipld_links.specs.Reaching.{stored_in};
 ghost use Rattle.atproto_mst.specs.Keys.{Entry, Rise};
 ghost use Rattle.atproto_mst.specs.Entries.{entries, IsMst};
@@ -56,8 +56,9 @@ pub fn diff_entries(
     old: &[MstEntry],
     new: &[MstEntry],
 ) -> Result<Vec<Change>, AllocError>
-    ensures { Rise (entries old.now) → Rise (entries new.now)
+    ensures found { Rise (entries old.now) → Rise (entries new.now)
         → IfOk result (λ v. AreChanges (entries old.now) (entries new.now) (changes v.items)) }
+    ensures memory { IfErr result (λ _. entries old.now ≢ entries new.now) }
 {
     let mut found = Vec::new(alloc);
     let mut at = 0;
@@ -110,8 +111,9 @@ fn add_if_changed(
     other: &MstEntry,
     found: &mut Vec<Change>,
 ) -> Result<(), AllocError>
-    ensures { OnOk result (changes found.new.items ≡ changes found.old.items
+    ensures added { OnOk result (changes found.new.items ≡ changes found.old.items
         ++ changes_of_key one.now.key.items (Some one.now.value) (Some other.now.value)) }
+    ensures memory { IfErr result (λ _. one.now.value ≢ other.now.value) }
 {
     if one.value == other.value {
         return Ok(());
@@ -121,8 +123,9 @@ fn add_if_changed(
 
 /// Appends the changes of entries that are in the one alone.
 fn add_removed(alloc: Global, rest: &[MstEntry], found: &mut Vec<Change>) -> Result<(), AllocError>
-    ensures { OnOk result
+    ensures added { OnOk result
         (changes found.new.items ≡ changes found.old.items ++ removed (entries rest.now)) }
+    ensures memory { IfErr result (λ _. rest.now ≢ []) }
 {
     for entry in rest {
         add_change(alloc, &entry.key, Some(entry.value), None, found)?;
@@ -132,8 +135,9 @@ fn add_removed(alloc: Global, rest: &[MstEntry], found: &mut Vec<Change>) -> Res
 
 /// Appends the changes of entries that are in the other alone.
 fn add_added(alloc: Global, rest: &[MstEntry], found: &mut Vec<Change>) -> Result<(), AllocError>
-    ensures { OnOk result
+    ensures added { OnOk result
         (changes found.new.items ≡ changes found.old.items ++ added (entries rest.now)) }
+    ensures memory { IfErr result (λ _. rest.now ≢ []) }
 {
     for entry in rest {
         add_change(alloc, &entry.key, None, Some(entry.value), found)?;

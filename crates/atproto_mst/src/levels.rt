@@ -34,6 +34,8 @@ pub(crate) struct Level {
     /// The tree before the first key.
     pub left: Option<Cid>,
     pub entries: Vec<LevelEntry>,
+    /// The names of the nodes that were opened on the way to it.
+    pub opened: CidSet,
 }
 
 /// Whether the error tells of keys or of the shape of a tree.
@@ -56,6 +58,7 @@ pub(crate) fn whole_level(alloc: Global, root: &Cid) -> Level
     Level {
         left: Some(*root),
         entries: Vec::new(alloc),
+        opened: CidSet::new(alloc),
     }
 }
 
@@ -145,16 +148,21 @@ fn open_level(
         (level_items below))
         (LevelLinksRefused (stored_in blocks.now) (link_names (level_items level))) }
 {
-    let Level { left, entries } = level;
-    let node = node_below(alloc, blocks, dropped, &left)?;
-    let mut opened = Vec::new(alloc);
-    push_rows(alloc, &node, &mut opened)?;
+    let Level {
+        left,
+        entries,
+        mut opened,
+    } = level;
+    let node = node_below(alloc, blocks, dropped, &left, &mut opened)?;
+    let mut below = Vec::new(alloc);
+    push_rows(alloc, &node, &mut below)?;
     for held in entries {
-        open_entry(alloc, blocks, dropped, held, &mut opened)?;
+        open_entry(alloc, blocks, dropped, held, &mut opened, &mut below)?;
     }
     Ok(Level {
         left: node.l,
-        entries: opened,
+        entries: below,
+        opened,
     })
 }
 
@@ -164,26 +172,29 @@ fn open_entry(
     blocks: &BTreeMap<Cid, Vec<u8>>,
     dropped: &CidSet,
     held: LevelEntry,
-    opened: &mut Vec<LevelEntry>,
+    opened: &mut CidSet,
+    below: &mut Vec<LevelEntry>,
 ) -> Result<(), MstError>
     ensures { MatchResult result
         (λ _. (more : List LevelItem) × OpensItems (stored_in blocks.now) (members dropped.now)
         (held_items (held ∷ [])) more
-        × (held_items opened.new.items ≡ held_items opened.old.items ++ more))
+        × (held_items below.new.items ≡ held_items below.old.items ++ more))
         (LevelLinksRefused (stored_in blocks.now) (link_names (held_items (held ∷ [])))) }
 {
     let LevelEntry { entry, after } = held;
-    let node = node_below(alloc, blocks, dropped, &after)?;
-    push_entry(entry, node.l, opened)?;
-    push_rows(alloc, &node, opened)
+    let node = node_below(alloc, blocks, dropped, &after, opened)?;
+    push_entry(entry, node.l, below)?;
+    push_rows(alloc, &node, below)
 }
 
-/// The node behind the link; one with nothing, where there is no link, or it is dropped.
+/// The node after the link; one with nothing, where there is no link, or it is dropped. A node that
+/// was opened before is refused.
 fn node_below(
     alloc: Global,
     blocks: &BTreeMap<Cid, Vec<u8>>,
     dropped: &CidSet,
     link: &Option<Cid>,
+    opened: &mut CidSet,
 ) -> Result<Node, MstError>
     ensures { MatchResult result
         (λ node. OpensItems (stored_in blocks.now) (members dropped.now) (link_items link.now)
@@ -196,7 +207,19 @@ fn node_below(
     if dropped.contains(name) {
         return Ok(no_node(alloc));
     }
+    add_opened(name, opened)?;
     node_at(alloc, blocks, name)
+}
+
+/// Adds the name, if it is new. No tree has a node twice.
+fn add_opened(name: &Cid, opened: &mut CidSet) -> Result<(), MstError>
+    ensures { IfErr result (λ e. (e ≡ OutOfMemory) ⊎ IsOfShape e) }
+{
+    if opened.contains(name) {
+        return Err(MstError::OtherTree);
+    }
+    opened.add(*name)?;
+    Ok(())
 }
 
 /// A node with nothing.
@@ -273,7 +296,7 @@ pub(crate) fn only_entries(alloc: Global, level: Level) -> Result<Vec<MstEntry>,
     ensures all { IfOk result (λ v. level_items level ≡ map an_entry (entries v.items)) }
     ensures refused { IfErr result (λ e. (e ≡ OutOfMemory) ⊎ IsOfShape e) }
 {
-    let Level { left, entries } = level;
+    let Level { left, entries, .. } = level;
     if left.is_some() {
         return Err(MstError::OtherTree);
     }

@@ -27,8 +27,9 @@ use std::collections::BTreeMap;
 pub(crate) const MOST_LAYERS: u8 = 129;
 
 /// The entries of the tree that is stored with this root, in the order of their keys. Each node is
-/// read once, whatever else the map has, and of a tree that is refused nothing is read behind the
-/// first fault. Records themselves need not be stored.
+/// read once, whatever else the map has. The first fault ends the walk, and so does a tree below the
+/// root that has no entry. A node that is linked again has its keys again, so its second reading is
+/// the last one. Records themselves need not be stored.
 pub fn read_mst(
     alloc: Global,
     blocks: &BTreeMap<Cid, Vec<u8>>,
@@ -122,8 +123,8 @@ fn gather_node(
     Ok(left & rows)
 }
 
-/// Appends the entries of the tree behind the link, if there is one, and answers whether it stands
-/// right below the layer.
+/// Appends the entries of the tree after the link, if there is one, and answers whether it stands
+/// right below the layer. A tree without entries ends the walk.
 #[cycle(gather)]
 fn gather_below(
     alloc: Global,
@@ -136,15 +137,20 @@ fn gather_below(
     ensures walked { OnOk result
         (GathersEntries (WalksLink (WalksTree layers (stored_in blocks.now)) link.now) found.old found.new) }
     ensures stopped { IfErr result (λ e. (e ≡ OutOfMemory)
-        ⊎ StopsBehind (StopsWalk layers (stored_in blocks.now))
+        ⊎ StopsBehind (WalksTree layers (stored_in blocks.now)) (StopsWalk layers (stored_in blocks.now))
         (last_entry_key [] (entries found.old.items)) link.now e) }
     ensures fits { IfOk result
         (λ fits. Decides fits (IfLinked (IsRightBelow (stored_in blocks.now) above) link.now)) }
 {
-    match link {
-        Some(name) => gather(alloc, blocks, name, layers, above, found),
-        None => Ok(true),
+    let Some(name) = link else {
+        return Ok(true);
+    };
+    let before = found.len();
+    let fits = gather(alloc, blocks, name, layers, above, found)?;
+    if found.len() == before {
+        return Err(MstError::OtherTree);
     }
+    Ok(fits)
 }
 
 /// Appends the entries of the rows of a node and of the trees behind them, and answers whether they

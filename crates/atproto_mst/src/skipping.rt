@@ -5,11 +5,12 @@ ghost use Rattle.ipld_links.specs.Reaching.{stored_in};
 ghost use Rattle.ipld_links.specs.Sets.{members};
 ghost use Rattle.atproto_mst.specs.Keys.{Entry};
 ghost use Rattle.atproto_mst.specs.Entries.{entries, IsMst};
-ghost use Rattle.atproto_mst.specs.Stops.{MstRefused, NodeFault};
+ghost use Rattle.atproto_mst.specs.Nodes.{NodeParts, IsNodeAt};
+ghost use Rattle.atproto_mst.specs.Stops.{IsStoredNamed, MstRefused, NodeFault};
 ghost use Rattle.atproto_mst.specs.Changes.{changes, AreChanges};
 ghost use Rattle.atproto_mst.specs.Levels.{level_items, link_names, DropsShared, StepsDown};
 ghost use Rattle.atproto_mst.specs.Levels.{IsOfShape, LevelLinksRefused};
-ghost use Rattle.atproto_mst.specs.Differing.{AreChangesOf, LacksNode, DiffRefused};
+ghost use Rattle.atproto_mst.specs.Differing.{AreChangesOf, LacksOne, DiffRefused};
 ghost use Rattle.atproto_mst.specs.declared.error.MstError.TheVariants.{OutOfMemory};
 
 use crate::diffs::{Change, diff_entries, diff_whole};
@@ -26,10 +27,31 @@ use std::collections::BTreeMap;
 
 /// The keys whose records differ between the trees with these roots, in their order. Subtrees that
 /// both have are left out, so the answer is right whether or not they are stored. The roots are
-/// read, but of equal ones nothing is, and there are no changes. Where keys or the shape of a tree
-/// are wrong, both trees are read whole, to tell what is; but an answer does not say that they are
-/// trees.
+/// read, but of equal ones nothing is, and there are no changes. No tree has a node below its root
+/// twice, so each is read once on the way down. Where keys or the shape of a tree are wrong, both
+/// trees are read whole, to tell what is; but an answer does not say that they are trees.
 pub fn diff(
+    alloc: Global,
+    blocks: &BTreeMap<Cid, Vec<u8>>,
+    old: &Cid,
+    new: &Cid,
+) -> Result<Vec<Change>, MstError>
+    ensures read { IfOk result
+        (λ v. AreChangesOf (stored_in blocks.now) old.now new.now (changes v.items)) }
+    ensures same { old.now ≡ new.now → MatchResult result (λ v. v.items ≡ []) (λ _. ⊥) }
+    ensures refused { IfErr result (DiffRefused (stored_in blocks.now) old.now new.now) }
+    ensures whole { (es fs : List Entry) → IsMst (stored_in blocks.now) old.now es
+        → IsMst (stored_in blocks.now) new.now fs
+        → MatchResult result (λ v. AreChanges es fs (changes v.items)) (λ e. e ≡ OutOfMemory) }
+{
+    if old == new {
+        return Ok(Vec::new(alloc));
+    }
+    diff_apart(alloc, blocks, old, new)
+}
+
+/// The keys whose records differ between the trees with these roots, of which both are read.
+fn diff_apart(
     alloc: Global,
     blocks: &BTreeMap<Cid, Vec<u8>>,
     old: &Cid,
@@ -42,9 +64,6 @@ pub fn diff(
         → IsMst (stored_in blocks.now) new.now fs
         → MatchResult result (λ v. AreChanges es fs (changes v.items)) (λ e. e ≡ OutOfMemory) }
 {
-    if old == new {
-        return Ok(Vec::new(alloc));
-    }
     match diff_levels(alloc, blocks, old, new) {
         Ok(found) => Ok(found),
         Err(error) => {
@@ -66,9 +85,9 @@ fn diff_levels(
 ) -> Result<Vec<Change>, MstError>
     ensures read { IfOk result
         (λ v. AreChangesOf (stored_in blocks.now) old.now new.now (changes v.items)) }
-    ensures refused { IfErr result (λ e. (e ≡ OutOfMemory) ⊎ (IsOfShape e
-        ⊎ (LacksNode (stored_in blocks.now) old.now e
-        ⊎ LacksNode (stored_in blocks.now) new.now e))) }
+    ensures refused { IfErr result
+        (λ e. ((e ≡ OutOfMemory) × IsStoredNamed (stored_in blocks.now) old.now)
+        ⊎ (IsOfShape e ⊎ LacksOne (stored_in blocks.now) old.now new.now e)) }
 {
     let old_top = top_layer_at(alloc, blocks, old)?;
     let new_top = top_layer_at(alloc, blocks, new)?;
@@ -89,7 +108,10 @@ fn diff_levels(
 
 /// The layer of the root's first key, and 0 where it has none.
 fn top_layer_at(alloc: Global, blocks: &BTreeMap<Cid, Vec<u8>>, root: &Cid) -> Result<u8, MstError>
-    ensures { IfErr result (λ e. (e ≡ OutOfMemory) ⊎ NodeFault (stored_in blocks.now) root.now e) }
+    ensures { MatchResult result
+        (λ _. (p : NodeParts) × IsNodeAt (stored_in blocks.now) root.now p)
+        (λ e. ((e ≡ OutOfMemory) × IsStoredNamed (stored_in blocks.now) root.now)
+        ⊎ NodeFault (stored_in blocks.now) root.now e) }
 {
     let node = node_at(alloc, blocks, root)?;
     Ok(root_layer(&node))

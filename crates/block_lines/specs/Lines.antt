@@ -10,7 +10,7 @@ use Rattle.ipld_links.specs.declared.verdict.Verdict.TheVariants as verdicts
 use Rattle.dagcbor_items.specs.PrintedNames.{kind_name, variant_name}
 use Rattle.ipld_tree.specs.Cid.{CidParts}
 use Rattle.block_lines.specs.Codecs.{codec_text}
-use Rattle.block_lines.specs.Names.{cid_fault_name, fault_name}
+use Rattle.block_lines.specs.Names.{cid_fault_name, fault_name, pb_cause_name}
 use Rattle.cid_text.specs.declared.error.CidTextError.{CidTextError}
 use Rattle.dagcbor_cli.specs.declared.fault.ToolError.{ToolError}
 use Rattle.dagcbor_cli.specs.declared.fault.ToolError.TheVariants.{Output}
@@ -23,14 +23,19 @@ line said = said ++ 10 ∷ []
 abbrev pub verdict_text : Verdict → List ℕ
 verdict_text (verdicts.Block kind) = codes "ok " ++ kind_name kind
 verdict_text (verdicts.Refused e) = codes "refused " ++ variant_name e
+verdict_text verdicts.Node = codes "ok node"
+verdict_text (verdicts.NoNode e) = codes "refused " ++ pb_cause_name e.cause
 verdict_text verdicts.OtherBytes = codes "other bytes"
 verdict_text verdicts.NotRead = codes "not read"
+verdict_text verdicts.LinksNotRead = codes "links not read"
 verdict_text verdicts.Unverified = codes "not verified"
 
 -- whether a verdict tells of nothing wrong
 abbrev pub is_well : Verdict → Bool
 is_well (verdicts.Block kind) = true
+is_well verdicts.Node = true
 is_well verdicts.NotRead = true
+is_well verdicts.LinksNotRead = true
 is_well _ = false
 
 -- of a section: its name as text, and the verdict

@@ -1,7 +1,9 @@
--- The names of the refusals of a file, and of a text that should be a CID.
+-- The names of the refusals of a file, of a block of DAG-PB, and of a text that should be a CID.
 use Rattle.std.specs.Prelude.{ℕ, List, codes}
 use Rattle.dagcbor_car.specs.declared.error.CarError.{CarError}
 use Rattle.dagcbor_car.specs.declared.error.CarError.TheVariants as faults
+use Rattle.dag_pb.specs.declared.error.PbCause.{PbCause}
+use Rattle.dag_pb.specs.declared.error.PbCause.TheVariants as causes
 use Rattle.cid_text.specs.declared.error.CidTextError.{CidTextError}
 use Rattle.cid_text.specs.declared.error.CidTextError.TheVariants as texts
 
@@ -15,6 +17,14 @@ fault_name (faults.NoBlock e) = codes "NoBlock"
 fault_name faults.OtherHeader = codes "OtherHeader"
 fault_name faults.InvalidOffset = codes "InvalidOffset"
 fault_name faults.OutOfMemory = codes "OutOfMemory"
+
+-- the name of the variant of a cause for which a block is no DAG-PB
+abbrev pub pb_cause_name : PbCause → List ℕ
+pb_cause_name causes.Truncated = codes "Truncated"
+pb_cause_name causes.InvalidVarint = codes "InvalidVarint"
+pb_cause_name (causes.UnexpectedField tag) = codes "UnexpectedField"
+pb_cause_name causes.NoHash = codes "NoHash"
+pb_cause_name (causes.InvalidCid e) = codes "InvalidCid"
 
 -- the name of the variant of a text's refusal as a CID
 abbrev pub cid_fault_name : CidTextError → List ℕ

@@ -13,5 +13,5 @@ pub use line::{
     Said, line_of, listed_line, missing_line, missing_lines, named_line, refused_line, root_lines,
     say, say_both,
 };
-pub use names::{fault_name, no_cid_line};
+pub use names::{fault_name, no_cid_line, pb_cause_name};
 pub use verdict::{is_well, verdict_line, verdict_words};

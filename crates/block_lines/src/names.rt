@@ -2,9 +2,10 @@
 
 ghost use Rattle.std.specs.Prelude.{◌≡◌};
 ghost use Rattle.block_lines.specs.Lines.{no_cid_line};
-ghost use Rattle.block_lines.specs.Names.{fault_name};
+ghost use Rattle.block_lines.specs.Names.{fault_name, pb_cause_name};
 
 use cid_text::CidTextError;
+use dag_pb::PbCause;
 use dagcbor_car::CarError;
 
 /// The name of the variant of a file's refusal.
@@ -20,6 +21,19 @@ pub fn fault_name<E>(refusal: &CarError<E>) -> &'static str
         CarError::OtherHeader => "OtherHeader",
         CarError::InvalidOffset => "InvalidOffset",
         CarError::OutOfMemory => "OutOfMemory",
+    }
+}
+
+/// The name of the variant of a cause for which a block is no DAG-PB.
+pub fn pb_cause_name(cause: &PbCause) -> &'static str
+    ensures { result.now ≡ pb_cause_name cause.now }
+{
+    match cause {
+        PbCause::Truncated => "Truncated",
+        PbCause::InvalidVarint => "InvalidVarint",
+        PbCause::UnexpectedField(_) => "UnexpectedField",
+        PbCause::NoHash => "NoHash",
+        PbCause::InvalidCid(_) => "InvalidCid",
     }
 }
 

@@ -4,6 +4,7 @@ ghost use Rattle.std.specs.Prelude.{◌≡◌, ◌++◌, ◌∷◌, List, ℕ, I
 ghost use Rattle.block_lines.specs.Lines.{verdict_text, is_well, verdict_line};
 
 use crate::line::{Said, line_of};
+use crate::names::pb_cause_name;
 use cid_text::cid_text;
 use dagcbor_items::{kind_name, variant_name};
 use ipld_links::Verdict;
@@ -17,8 +18,11 @@ pub fn verdict_words(verdict: &Verdict) -> (&'static str, &'static str)
     match verdict {
         Verdict::Block(kind) => (" ok ", kind_name(*kind)),
         Verdict::Refused(refusal) => (" refused ", variant_name(refusal)),
+        Verdict::Node => (" ok ", "node"),
+        Verdict::NoNode(error) => (" refused ", pb_cause_name(&error.cause)),
         Verdict::OtherBytes => (" other bytes", ""),
         Verdict::NotRead => (" not read", ""),
+        Verdict::LinksNotRead => (" links not read", ""),
         Verdict::Unverified => (" not verified", ""),
     }
 }
@@ -30,8 +34,11 @@ pub fn is_well(verdict: &Verdict) -> bool
     match verdict {
         Verdict::Block(_) => true,
         Verdict::Refused(_) => false,
+        Verdict::Node => true,
+        Verdict::NoNode(_) => false,
         Verdict::OtherBytes => false,
         Verdict::NotRead => true,
+        Verdict::LinksNotRead => true,
         Verdict::Unverified => false,
     }
 }

@@ -6,6 +6,7 @@ use Rattle.sqlite_value.specs.declared.value.Value.TheVariants.{Int, Blob}
 use Rattle.sqlite_value.specs.Order.{Row, column, value_cmp}
 use Rattle.sqlite_value.proofs.OrderLemmas.{value_cmp_total}
 use Rattle.sqlite_trees.specs.declared.store.Direction.TheVariants.{Forward}
+use Rattle.sqlite_trees.specs.declared.store.Shape.TheVariants.{Table}
 use Rattle.sqlite_trees.specs.Tree.{IsTable, rowid, has_rowid, put_row, without_rowid, from_key, sought, order_of}
 use Rattle.sqlite_trees.specs.View.{View, IsShaped, IsOrdered, with_cursor}
 use Rattle.sqlite_exec.specs.Loops.{left_of}
@@ -78,7 +79,11 @@ pub passes_all : (rows left : List Row) (name : List ℕ) → left ≡ [] → Pa
 passes_all rows left name none h = subst (λ rs. HasRoot rs name → ⊥) (sym (append-nil h.0) ∙ ap (λ l. h.0 ++ l) (sym none) ∙ h.1) h.2
 
 pub passes_found : (rows left : List Row) (name : List ℕ) (r : Row) (id : ℤ) → PassesTo rows (r ∷ left) name → r ≡ root_row id name → FindsRoot rows name (Some id)
-passes_found rows left name r id h is = subst (λ x. Among x rows) is (subst (Among r) h.1 (among_middle h.0 r left))
+passes_found rows left name r id h is = (h.0, left, sym h.1 ∙ ap (λ x. h.0 ++ x ∷ left) is, h.2)
+
+-- a row that was found is one
+pub found_among : (rows : List Row) (name : List ℕ) (id : ℤ) → FindsRoot rows name (Some id) → Among (root_row id name) rows
+found_among rows name id h = subst (Among (root_row id name)) (sym h.2) (among_middle h.0 (root_row id name) h.1)
 
 -- ---- adding
 
@@ -106,7 +111,7 @@ others_behind id r (x ∷ rows) is up = (by, others_behind id r rows is up.1)
     by = ap is_eq (value_cmp_total.antisymm (rowid x) (Int id) ∙ ap ordering_reverse less)
 
 -- the row with the number is left out
-pub takes_number : (rows : List Row) (id : ℤ) (name : List ℕ) → IsTable rows → Among (root_row id name) rows → (rest : List Row) → LeavesOut (IsRowOfRoot name) (without_rowid id rows) rest → LeavesOut (IsRowOfRoot name) rows rest
+takes_number : (rows : List Row) (id : ℤ) (name : List ℕ) → IsTable rows → Among (root_row id name) rows → (rest : List Row) → LeavesOut (IsRowOfRoot name) (without_rowid id rows) rest → LeavesOut (IsRowOfRoot name) rows rest
 takes_number [] id name up m rest l = absurd m
 takes_number (r ∷ rows) id name up (inl here) rest l =
     let is : rowid r ≡ Int id = ap rowid (sym here) in
@@ -129,10 +134,13 @@ takes_number (r ∷ rows) id name up (inr later) rest l = stays (takes_number ro
     stays behind (inl k) = inl (k.0, behind rest k.1)
     stays behind (inr k) = inr (k.0, (k.1.0, k.1.1, behind k.1.0 k.1.2))
 
--- where a row of it is there, the tree is a table
+-- where a row is there, the tree is a table
+pub shape_of : (v : View) (r : Row) → IsRootShape (v.shape root_tree) → IsOrdered v.shape v.trees → Among r (v.trees root_tree) → v.shape root_tree ≡ Table
+shape_of v r (inl at) ordered there = at
+shape_of v r (inr none) ordered there = absurd (subst (Among r) (subst (λ s. IsShaped s (v.trees root_tree)) none (ordered root_tree)) there)
+
 pub table_of : (v : View) (r : Row) → IsRootShape (v.shape root_tree) → IsOrdered v.shape v.trees → Among r (v.trees root_tree) → IsTable (v.trees root_tree)
-table_of v r (inl at) ordered there = (subst (λ s. IsShaped s (v.trees root_tree)) at (ordered root_tree)).0
-table_of v r (inr none) ordered there = absurd (subst (Among r) (subst (λ s. IsShaped s (v.trees root_tree)) none (ordered root_tree)) there)
+table_of v r rooted ordered there = (subst (λ s. IsShaped s (v.trees root_tree)) (shape_of v r rooted ordered there) (ordered root_tree)).0
 
 -- where no row is of the name, none is left out
 leaves_all : (rows : List Row) (name : List ℕ) → (HasRoot rows name → ⊥) → LeavesOut (IsRowOfRoot name) rows rows
@@ -148,16 +156,19 @@ pub record TakesSome (old now : List Row) (name : List ℕ) (taken : Bool) : Typ
 pub takes_none : (rows : List Row) (name : List ℕ) → TakesSome rows rows name false
 takes_none rows name = record { were = λ t. absurd (true≢false (sym t)); same = λ e. refl; leaves = λ rest l. l }
 
-pub takes_more : (old mid new : List Row) (name : List ℕ) (taken : Bool) → TakesSome old mid name taken → TakesOutRoot mid new name true → TakesSome old new name true
-takes_more old mid new name taken h t = record {
+pub takes_more : (old mid new : List Row) (name : List ℕ) (taken : Bool) → IsTable mid → TakesSome old mid name taken → TakesOutRoot mid new name true → TakesSome old new name true
+takes_more old mid new name taken table h t = record {
   were = λ yes. by taken refl;
   same = λ e. absurd (true≢false e);
-  leaves = λ rest l. h.leaves rest (t.1 rest l);
+  leaves = λ rest l. h.leaves rest (takes_number mid t.0 name table there rest (subst (λ rows. LeavesOut (IsRowOfRoot name) rows rest) t.2 l));
 }
   where
+    there : Among (root_row t.0 name) mid
+    there = found_among mid name t.0 t.1
+
     by : (b : Bool) → taken ≡ b → HasRoot old name
     by true e = h.were e
-    by false e = subst (λ rows. HasRoot rows name) (h.same e) t.0
+    by false e = subst (λ rows. HasRoot rows name) (h.same e) (t.0, there)
 
 pub takes_done : (old mid new : List Row) (name : List ℕ) (taken : Bool) → TakesSome old mid name taken → TakesOutRoot mid new name false → TakesRoot old new name taken
 takes_done old mid new name taken h t = (

@@ -4,7 +4,7 @@ use Rattle.std.specs.List.{AllByRecursion}
 use Rattle.std.specs.declared.cmp.Ordering.TheVariants.{Less}
 use Rattle.sqlite_value.specs.declared.value.Value.TheVariants.{Int, Blob}
 use Rattle.sqlite_value.specs.Order.{Row, value_cmp}
-use Rattle.sqlite_trees.specs.Tree.{rowid}
+use Rattle.sqlite_trees.specs.Tree.{rowid, without_rowid}
 use Rattle.sqlite_trees.specs.View.{IsStorableRow}
 use Rattle.sqlite_trees.specs.declared.store.Shape.{Shape}
 use Rattle.sqlite_trees.specs.declared.store.Shape.TheVariants.{Table, Absent}
@@ -44,10 +44,11 @@ AreRoots (r ∷ rows) (c ∷ names) = IsRootIn r c × AreRoots rows names
 abbrev pub HasRoot : List Row → List ℕ → Type 0
 HasRoot rows name = (id : ℤ) × Among (root_row id name) rows
 
--- the number of a row of the name was found, or there is none
+-- the number of the first row of the name was found, or there is none
 abbrev pub FindsRoot : List Row → List ℕ → Option ℤ → Type 0
 FindsRoot rows name None = ¬ HasRoot rows name
-FindsRoot rows name (Some id) = Among (root_row id name) rows
+FindsRoot rows name (Some id) = (before after : List Row)
+    × (rows ≡ before ++ root_row id name ∷ after) × ¬ HasRoot before name
 
 -- the number is above that of each row
 abbrev pub IsAboveAll : List Row → ℤ → Type 0
@@ -59,22 +60,17 @@ AppendsRoot old new name New = (id : ℤ) × (new ≡ old ++ root_row id name �
 AppendsRoot old new name Stored = ⊥
 AppendsRoot old new name NoNumber = FreesId old None × (new ≡ old)
 
--- what comes of a root: it was one, and nothing is changed; or a row of it is appended
-abbrev pub AddsRoot : List Row → List Row → List ℕ → Added → Type 0
-AddsRoot old new name added = (HasRoot old name × (added ≡ Stored) × (new ≡ old))
-    ⊎ ((¬ HasRoot old name) × AppendsRoot old new name added)
-
 -- those that are not so, in their order
 abbrev pub LeavesOut : {X : Type 0} → (X → Type 0) → List X → List X → Type 0
 LeavesOut IsSo [] new = new ≡ []
 LeavesOut {X} IsSo (x ∷ old) new = (IsSo x × LeavesOut IsSo old new)
     ⊎ ((¬ IsSo x) × ((more : List X) × (new ≡ x ∷ more) × LeavesOut IsSo old more))
 
--- none is of the name, and nothing is changed; or one is, and more would be left out of the old rows than of the new
+-- none is of the name, and nothing is changed; or the row with the number of the first is taken out
 abbrev pub TakesOutRoot : List Row → List Row → List ℕ → Bool → Type 0
-TakesOutRoot old new name false = (¬ HasRoot old name) × (new ≡ old)
-TakesOutRoot old new name true = HasRoot old name
-    × ((rest : List Row) → LeavesOut (IsRowOfRoot name) new rest → LeavesOut (IsRowOfRoot name) old rest)
+TakesOutRoot old new name false = FindsRoot old name None × (new ≡ old)
+TakesOutRoot old new name true = (id : ℤ) × FindsRoot old name (Some id)
+    × (new ≡ without_rowid id old)
 
 -- each row of the name is taken out, if there is one
 abbrev pub TakesRoot : List Row → List Row → List ℕ → Bool → Type 0

@@ -5,7 +5,7 @@ ghost use Rattle.sqlite_trees.specs.View.{IsClean};
 ghost use Rattle.sqlite_trees.specs.Tree.{put_row, without_rowid};
 ghost use Rattle.sqlite_exec.specs.Calls.{OnlyReads};
 ghost use Rattle.block_trees.specs.Ends.{EndsOnRows, WritesIn, IsOfRoots, HasTable, MayHaveRoots};
-ghost use Rattle.block_trees.specs.RootRows.{root_tree, root_row, IsRootIn, AreRoots, FindsRoot, AddsRoot, AppendsRoot, TakesOutRoot, TakesRoot, IsRootTooLong};
+ghost use Rattle.block_trees.specs.RootRows.{root_tree, root_row, IsRootIn, AreRoots, FindsRoot, AppendsRoot, TakesOutRoot, TakesRoot, IsRootTooLong};
 
 use crate::entries::{Added, CURSOR, free_number, integer, is_blob};
 use ipld_tree::Cid;
@@ -92,24 +92,8 @@ fn find<S: Store>(store: &mut S, row: &mut Row, name: &[u8]) -> Result<Option<i6
     Err(StoreError::OutOfMemory)
 }
 
-/// Puts a row of the name behind the others, unless there is one.
-pub fn add<S: Store>(store: &mut S, row: &mut Row, name: &[u8]) -> Result<Added, StoreError>
-    requires table { HasTable S.Store root_tree store.old }
-    ensures ok { IfOk result (λ added. IsClean (S.Store.view store.new)
-        → AddsRoot ((S.Store.view store.old).trees root_tree) ((S.Store.view store.new).trees root_tree)
-        name.now added) }
-    ensures ends { EndsOnRows S.Store (WritesIn IsOfRoots)
-        (IsRootTooLong (S.Store.view store.old).reals name.now)
-        result store.old store.new }
-{
-    match find(store, row, name)? {
-        Some(_) => Ok(Added::Stored),
-        None => append(store, row, name),
-    }
-}
-
-/// Puts a row of the name behind the others.
-fn append<S: Store>(store: &mut S, row: &mut Row, name: &[u8]) -> Result<Added, StoreError>
+/// Puts a row of the name after the others.
+pub fn append<S: Store>(store: &mut S, row: &mut Row, name: &[u8]) -> Result<Added, StoreError>
     requires table { HasTable S.Store root_tree store.old }
     ensures ok { IfOk result (λ added. IsClean (S.Store.view store.new)
         → AppendsRoot ((S.Store.view store.old).trees root_tree) ((S.Store.view store.new).trees root_tree)

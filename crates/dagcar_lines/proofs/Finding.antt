@@ -15,7 +15,7 @@ use Rattle.dagcbor_heads.specs.declared.error.EncodeError.{EncodeError}
 use Rattle.dagcbor_heads.specs.declared.error.EncodeError.TheVariants as unsent
 use Rattle.dagcbor_cli.specs.declared.fault.ToolError.{ToolError}
 use Rattle.dagcbor_cli.specs.declared.fault.ToolError.TheVariants.{Output}
-use Rattle.ipld_links.specs.Reaching.{Stored, ListsReachable, ListsLost}
+use Rattle.ipld_links.specs.Reaching.{Stored, ReachesKnown}
 use Rattle.ipld_links.proofs.Members.{among_push}
 use Rattle.block_lines.specs.Lines.{missing_line, BreaksLine, SaysBoth}
 use Rattle.dagcbor_car.specs.Versions.{IsFile}
@@ -25,7 +25,7 @@ use Rattle.held_lines.specs.declared.take.Ended.{Ended}
 use Rattle.held_lines.specs.declared.take.Ended.TheVariants as ended
 use Rattle.held_lines.proofs.Taking.{took_knows}
 use Rattle.held_lines.proofs.Keeping.{fault_told, start_told}
-use Rattle.dagcar_lines.specs.Finding.{Seeks, IsTreeFile, IsTreeOf, SendsTree}
+use Rattle.dagcar_lines.specs.Finding.{Seeks, IsTreeFile, IsTreeFound, SendsTree}
 use Rattle.dagcar_lines.specs.declared.get.Search.{Search}
 use Rattle.dagcar_lines.specs.declared.get.Stop.{Stop}
 use Rattle.dagcar_lines.specs.declared.get.Stop.TheVariants as stops
@@ -36,6 +36,9 @@ pub verified_of : (s : Section) (v : Verdict) → IsVerdict s v → (v ≡ verdi
 verified_of s (verdicts.Block kind) h other none = h.0
 verified_of s (verdicts.Refused e) h other none = h.0
 verified_of s verdicts.NotRead h other none = h.0
+verified_of s verdicts.LinksNotRead h other none = h.0
+verified_of s verdicts.Node h other none = h.0
+verified_of s (verdicts.NoNode e) h other none = h.0
 verified_of s verdicts.OtherBytes h other none = absurd (other refl)
 verified_of s verdicts.Unverified h other none = absurd (none refl)
 
@@ -90,28 +93,27 @@ front_sent text old new e f before after stops is b a =
     let k = (subst (Stops (Some text) old new) is stops).0 in
     inr (k.0, k.1, sym k.2, refl, subst (λ x. Appends x after k.0) b (subst (λ x. Appends old.bytes x k.0) a k.3))
 
-module _ (stored : Stored) (root : CidParts) (found names lost : List CidParts) (well : Bool) (told text : List ℕ) (same : names ≡ found) (reachable : ListsReachable stored root found) (missing : ListsLost stored root lost) (lines : told ≡ flat_map missing_line lost) (same_told : text ≡ told)
+module _ (stored : Stored) (root : CidParts) (found names lost : List CidParts) (well : Bool) (told text : List ℕ) (same : names ≡ found) (reaches : ReachesKnown stored root found lost) (lines : told ≡ flat_map missing_line lost) (same_told : text ≡ told)
     (wellness : IsTrue well ↔ (lost ≡ [])) where
-  is_tree : (out : List ℕ) → IsTreeFile stored root names out → IsTreeOf stored root well out text
+  is_tree : (out : List ℕ) → IsTreeFile stored root names out → IsTreeFound stored root well out text
   is_tree out file = record {
     found = found;
     lost = lost;
-    reachable = reachable;
-    missing = missing;
+    reaches = reaches;
     tree = subst (λ ns. IsTreeFile stored root ns out) same file;
     lines = same_told ∙ lines;
     wellness = wellness;
   }
 
-  pub tree_broken : (old heard new : Option (List ℕ)) (r : Result Bool ToolError) (e : ToolError) → IsErrAnd r (λ x. x ≡ e) → SendsTree stored root names old (Err e) new → SaysBoth (IsTreeOf stored root) old heard r new heard
+  pub tree_broken : (old heard new : Option (List ℕ)) (r : Result Bool ToolError) (e : ToolError) → IsErrAnd r (λ x. x ≡ e) → SendsTree stored root names old (Err e) new → SaysBoth (IsTreeFound stored root) old heard r new heard
   tree_broken old heard new (Ok w) e is h = absurd is
   tree_broken old heard new (Err x) e is h = by h.2
     where
-      by : BreaksLine (λ out. out ≡ h.0) old new e → SaysBoth (IsTreeOf stored root) old heard (Err x) new heard
+      by : BreaksLine (λ out. out ≡ h.0) old new e → SaysBoth (IsTreeFound stored root) old heard (Err x) new heard
       by (inl none) = inl (none, Appends-nil heard)
       by (inr k) = inr (well, k.0, k.1, [], text, is_tree (k.0 ++ k.1) (subst (IsTreeFile stored root names) (sym k.2) h.1), is ∙ k.3, k.4, Appends-nil heard)
 
-  pub told_broken : (old heard new after : Option (List ℕ)) (r : Result Bool ToolError) (e : ToolError) → IsErrAnd r (λ x. x ≡ e) → e ≡ Output → SendsTree stored root names old (Ok tt) new → ((front back : List ℕ) × (text ≡ front ++ back) × Appends heard after front) → SaysBoth (IsTreeOf stored root) old heard r new after
+  pub told_broken : (old heard new after : Option (List ℕ)) (r : Result Bool ToolError) (e : ToolError) → IsErrAnd r (λ x. x ≡ e) → e ≡ Output → SendsTree stored root names old (Ok tt) new → ((front back : List ℕ) × (text ≡ front ++ back) × Appends heard after front) → SaysBoth (IsTreeFound stored root) old heard r new after
   told_broken old heard new after (Ok w) e is out h k = absurd is
   told_broken old heard new after (Err x) e is out h k =
-      inr (well, h.0, [], k.0, k.1, subst (IsTreeOf stored root well (h.0 ++ [])) k.2 (is_tree (h.0 ++ []) (subst (IsTreeFile stored root names) (sym (append-nil h.0)) h.1)), is ∙ out, h.2, k.3)
+      inr (well, h.0, [], k.0, k.1, subst (IsTreeFound stored root well (h.0 ++ [])) k.2 (is_tree (h.0 ++ []) (subst (IsTreeFile stored root names) (sym (append-nil h.0)) h.1)), is ∙ out, h.2, k.3)

@@ -11,7 +11,7 @@ use Rattle.ipld_links.specs.declared.verdict.Verdict.{Verdict}
 use Rattle.block_lines.specs.Lines.{missing_line}
 use Rattle.dagcar_lines.specs.Answers.{summary_speech}
 use Rattle.dagcar_lines.specs.Steps.{KnowsMore, SaysAtEnd}
-use Rattle.dagcar_lines.specs.Summary.{is_ok, is_not_read, is_refused, is_other_bytes, is_unverified, one_if, how_many, summary_lines, counts_lines, AreCounts, CountsOne, KnowsCounts}
+use Rattle.dagcar_lines.specs.Summary.{is_ok, is_not_read, are_links_not_read, is_refused, is_other_bytes, is_unverified, one_if, how_many, summary_lines, counts_lines, AreCounts, CountsOne, KnowsCounts}
 use Rattle.dagcar_lines.specs.declared.summary.Counts.{Counts}
 use Rattle.dagcar_lines.specs.declared.summary.Summing.{Summing}
 
@@ -27,6 +27,7 @@ counts_push told s v old new h k = record {
   sections = omega (arith, h.sections, k.sections, length-append told ((s, v) ∷ []));
   ok = one_counted is_ok told s v old.ok new.ok h.ok k.ok;
   not_read = one_counted is_not_read told s v old.not_read new.not_read h.not_read k.not_read;
+  links_not_read = one_counted are_links_not_read told s v old.links_not_read new.links_not_read h.links_not_read k.links_not_read;
   refused = one_counted is_refused told s v old.refused new.refused h.refused k.refused;
   other_bytes = one_counted is_other_bytes told s v old.other_bytes new.other_bytes h.other_bytes k.other_bytes;
   unverified = one_counted is_unverified told s v old.unverified new.unverified h.unverified k.unverified;
@@ -50,7 +51,7 @@ on_ok (Ok x) f p = f p
 on_ok (Err e) f p = tt
 
 lines_of : (counts : Counts) (told : List Told) (missing : ℕ) → AreCounts counts told → counts_lines counts missing ≡ summary_lines told missing
-lines_of counts told missing h = λ i. counts_lines (record { sections = h.sections i; ok = h.ok i; not_read = h.not_read i; refused = h.refused i; other_bytes = h.other_bytes i; unverified = h.unverified i }) missing
+lines_of counts told missing h = λ i. counts_lines (record { sections = h.sections i; ok = h.ok i; not_read = h.not_read i; links_not_read = h.links_not_read i; refused = h.refused i; other_bytes = h.other_bytes i; unverified = h.unverified i }) missing
 
 pub summary_is_said : {E : Type 0} (it : Summing) (v : Vec CidParts Global) (items : List CidParts) (r : Result (Vec ℕ Global × Bool) E) → items ≡ v.items → ((roots : List (List ℕ)) (sections : List Section) → IsAfter it.check roots sections → ListsMissingInFile roots sections v)
     → IfOk r (λ p. p.0.items ≡ flat_map missing_line items ++ counts_lines it.counts (length items)) → IfOk r (λ p. IsTrue p.1 ↔ (items ≡ [])) → SaysAtEnd summary_speech KnowsCounts it r

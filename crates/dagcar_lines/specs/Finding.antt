@@ -6,9 +6,10 @@ use Rattle.dagcbor_car.specs.Car.{Section, car_bytes}
 use Rattle.dagcbor_car.specs.Versions.{IsFile}
 use Rattle.ipld_links.specs.Verdicts.{IsVerified}
 use Rattle.dagcbor_car.specs.Checks.{IsFileFront, IsHeldInFile}
-use Rattle.ipld_links.specs.Reaching.{Stored, IsLost, ListsReachable, ListsLost}
+use Rattle.ipld_links.specs.Reaching.{Stored, IsLost, ReachesKnown, IsHiddenFrom}
+use Rattle.ipld_links.specs.declared.verdict.Verdict.{Verdict}
 use Rattle.dagcbor_car.specs.Reached.{sections_at}
-use Rattle.block_lines.specs.Lines.{missing_line, BreaksLine}
+use Rattle.block_lines.specs.Lines.{verdict_line, missing_line, BreaksLine}
 use Rattle.dagcbor_cli.specs.declared.fault.ToolError.{ToolError}
 use Rattle.held_lines.specs.Holding.{Stores, TellsFault}
 use Rattle.held_lines.specs.declared.holding.Kept.TheVariants as which
@@ -43,22 +44,28 @@ abbrev pub IsTreeFile : Stored → CidParts → List CidParts → List ℕ → T
 IsTreeFile stored root names out = (IsLost stored root × (out ≡ []))
     ⊎ ((¬ IsLost stored root) × (out ≡ car_bytes (cid_bytes root ∷ []) (sections_at stored names)))
 
--- what `tree` gives of what is stored: the file of the blocks that links lead to from the root, and a
--- line for each name that has none
-pub record IsTreeOf (stored : Stored) (root : CidParts) (well : Bool) (out told : List ℕ) : Type 0 where
+-- what `tree` gives where it is known what links each block on the way has: the file of the blocks that
+-- links lead to from the root, and a line for each name that has none
+pub record IsTreeFound (stored : Stored) (root : CidParts) (well : Bool) (out told : List ℕ) : Type 0 where
   pub found : List CidParts
   pub lost : List CidParts
-  pub reachable : ListsReachable stored root found
-  pub missing : ListsLost stored root lost
+  pub reaches : ReachesKnown stored root found lost
   pub tree : IsTreeFile stored root found out
   pub lines : told ≡ flat_map missing_line lost
   pub wellness : IsTrue well ↔ (lost ≡ [])
 
--- what `tree` gives: that of the sound sections of a file; or nothing, and a line that tells why the
+-- what `tree` gives of what is stored: that; or nothing, and the line of a block on the way of which it
+-- is not known what links it has
+abbrev pub IsTreeOf : Stored → CidParts → Bool → List ℕ → List ℕ → Type 0
+IsTreeOf stored root well out told = IsTreeFound stored root well out told
+    ⊎ ((well ≡ false) × (out ≡ []) × ((p : CidParts × Verdict) × IsHiddenFrom stored root p
+    × (told ≡ verdict_line ((p.0, []), p.1))))
+
+-- what `tree` gives: that of the sections of a file whose bytes are those that their names say; or nothing, and a line that tells why the
 -- bytes are no file
 abbrev pub IsTreeOfFile : CidParts → List ℕ → Bool → List ℕ → List ℕ → Type 0
 IsTreeOfFile root b well out told = ((roots : List (List ℕ)) × (sections : List Section)
-    × IsFile b roots sections × ((stored : Stored) × Stores which.Sound sections stored
+    × IsFile b roots sections × ((stored : Stored) × Stores which.Verified sections stored
     × IsTreeOf stored root well out told))
     ⊎ ((well ≡ false) × (out ≡ []) × TellsFault (λ sections. ⊤) b told)
 

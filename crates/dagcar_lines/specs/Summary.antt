@@ -16,14 +16,20 @@ use Rattle.dagcar_lines.specs.declared.summary.Summing.{Summing}
 
 abbrev pub is_ok : Verdict → Bool
 is_ok (verdicts.Block kind) = true
+is_ok verdicts.Node = true
 is_ok _ = false
 
 abbrev pub is_not_read : Verdict → Bool
 is_not_read verdicts.NotRead = true
 is_not_read _ = false
 
+abbrev pub are_links_not_read : Verdict → Bool
+are_links_not_read verdicts.LinksNotRead = true
+are_links_not_read _ = false
+
 abbrev pub is_refused : Verdict → Bool
 is_refused (verdicts.Refused e) = true
+is_refused (verdicts.NoNode e) = true
 is_refused _ = false
 
 abbrev pub is_other_bytes : Verdict → Bool
@@ -55,10 +61,11 @@ abbrev pub summary_lines : List Told → ℕ → List ℕ
 summary_lines told missing = number_line (codes "sections") (length told)
     ++ (number_line (codes "ok") (how_many is_ok told)
     ++ (number_line (codes "not read") (how_many is_not_read told)
+    ++ (number_line (codes "links not read") (how_many are_links_not_read told)
     ++ (number_line (codes "refused") (how_many is_refused told)
     ++ (number_line (codes "other bytes") (how_many is_other_bytes told)
     ++ (number_line (codes "not verified") (how_many is_unverified told)
-    ++ number_line (codes "missing") missing)))))
+    ++ number_line (codes "missing") missing))))))
 
 -- What `check --summary` says at the end: what `check` says, and how many sections had which verdict.
 pub record IsSummary (roots : List (List ℕ)) (sections : List Section) (well : Bool) (text : List ℕ) : Type 0 where
@@ -77,6 +84,7 @@ pub record AreCounts (counts : Counts) (told : List Told) : Type 0 where
   pub sections : counts.sections ≡ length told
   pub ok : counts.ok ≡ how_many is_ok told
   pub not_read : counts.not_read ≡ how_many is_not_read told
+  pub links_not_read : counts.links_not_read ≡ how_many are_links_not_read told
   pub refused : counts.refused ≡ how_many is_refused told
   pub other_bytes : counts.other_bytes ≡ how_many is_other_bytes told
   pub unverified : counts.unverified ≡ how_many is_unverified told
@@ -86,6 +94,7 @@ pub record CountsOne (v : Verdict) (old new : Counts) : Type 0 where
   pub sections : new.sections ≡ old.sections + 1
   pub ok : new.ok ≡ old.ok + one_if (is_ok v)
   pub not_read : new.not_read ≡ old.not_read + one_if (is_not_read v)
+  pub links_not_read : new.links_not_read ≡ old.links_not_read + one_if (are_links_not_read v)
   pub refused : new.refused ≡ old.refused + one_if (is_refused v)
   pub other_bytes : new.other_bytes ≡ old.other_bytes + one_if (is_other_bytes v)
   pub unverified : new.unverified ≡ old.unverified + one_if (is_unverified v)
@@ -104,7 +113,8 @@ abbrev pub counts_lines : Counts → ℕ → List ℕ
 counts_lines counts missing = number_line (codes "sections") counts.sections
     ++ (number_line (codes "ok") counts.ok
     ++ (number_line (codes "not read") counts.not_read
+    ++ (number_line (codes "links not read") counts.links_not_read
     ++ (number_line (codes "refused") counts.refused
     ++ (number_line (codes "other bytes") counts.other_bytes
     ++ (number_line (codes "not verified") counts.unverified
-    ++ number_line (codes "missing") missing)))))
+    ++ number_line (codes "missing") missing))))))

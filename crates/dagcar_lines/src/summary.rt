@@ -22,6 +22,7 @@ pub struct Counts {
     pub sections: u64,
     pub ok: u64,
     pub not_read: u64,
+    pub links_not_read: u64,
     pub refused: u64,
     pub other_bytes: u64,
     pub unverified: u64,
@@ -43,6 +44,7 @@ impl Counts {
             sections: 0,
             ok: 0,
             not_read: 0,
+            links_not_read: 0,
             refused: 0,
             other_bytes: 0,
             unverified: 0,
@@ -56,7 +58,10 @@ impl Counts {
         self.sections = one_more(self.sections)?;
         match verdict {
             Verdict::Block(_) => self.ok = one_more(self.ok)?,
+            Verdict::Node => self.ok = one_more(self.ok)?,
+            Verdict::NoNode(_) => self.refused = one_more(self.refused)?,
             Verdict::NotRead => self.not_read = one_more(self.not_read)?,
+            Verdict::LinksNotRead => self.links_not_read = one_more(self.links_not_read)?,
             Verdict::Refused(_) => self.refused = one_more(self.refused)?,
             Verdict::OtherBytes => self.other_bytes = one_more(self.other_bytes)?,
             Verdict::Unverified => self.unverified = one_more(self.unverified)?,
@@ -93,6 +98,7 @@ fn push_counts(
     push_count(alloc, out, "sections", counts.sections)?;
     push_count(alloc, out, "ok", counts.ok)?;
     push_count(alloc, out, "not read", counts.not_read)?;
+    push_count(alloc, out, "links not read", counts.links_not_read)?;
     push_count(alloc, out, "refused", counts.refused)?;
     push_count(alloc, out, "other bytes", counts.other_bytes)?;
     push_count(alloc, out, "not verified", counts.unverified)?;

@@ -3,18 +3,18 @@
 ghost use Rattle.std.specs.Prelude.{◌∷◌, [], IfSome, MatchBool};
 ghost use Rattle.ipld_tree.specs.Cid.{cid_bytes};
 ghost use Rattle.dagcbor_car.specs.Car.{car_bytes};
-ghost use Rattle.ipld_links.specs.Reaching.{stored_in, IsLost};
+ghost use Rattle.ipld_links.specs.Reaching.{stored_in, IsLost, ReachesKnown};
 ghost use Rattle.dagcbor_car.specs.Reached.{sections_at};
-ghost use Rattle.dagcar_lines.specs.Finding.{IsTreeOf, IsTreeOfFile, Sends, SendsTree};
+ghost use Rattle.dagcar_lines.specs.Finding.{IsTreeFound, IsTreeOf, IsTreeOfFile, Sends, SendsTree};
 ghost use Rattle.block_lines.specs.Lines.{SaysBoth};
 
 use crate::check::names_said;
-use block_lines::say_both;
+use block_lines::{say_both, verdict_line};
 use dagcbor_car::push_tree;
 use dagcbor_cli::{ToolError, write_all};
 use dagcbor_heads::{EncodeError, IoRefWriter};
 use held_lines::{Kept, held_of, is_there};
-use ipld_links::{IDENTITY, Reached, reach_from};
+use ipld_links::{IDENTITY, Reached, reach_known};
 use ipld_tree::Cid;
 use std::alloc::Global;
 use std::collections::BTreeMap;
@@ -76,6 +76,26 @@ fn send_tree<W: Write>(
 
 /// Writes the file of the root, and of the blocks that links lead to from there, and tells which links
 /// lead nowhere. Whether none does.
+fn say_reached<W: Write, V: Write>(
+    alloc: Global,
+    root: &Cid,
+    blocks: &BTreeMap<Cid, Vec<u8>>,
+    reached: &Reached,
+    output: &mut W,
+    errors: &mut V,
+) -> Result<bool, ToolError>
+    ensures { ReachesKnown (stored_in blocks.now) root.now reached.now.found.items reached.now.lost.items
+        → SaysBoth (IsTreeFound (stored_in blocks.now) root.now) (W.contents output.old)
+        (V.contents errors.old) result (W.contents output.new) (V.contents errors.new) }
+{
+    let (told, whole) = names_said(alloc, &reached.lost)?;
+    send_tree(alloc, root, blocks, &reached.found, output)?;
+    write_all(errors, &told)?;
+    Ok(whole)
+}
+
+/// The same, of the root alone; or tells of the first block on the way whose links can't be read, and
+/// writes nothing. Whether nothing is wrong.
 fn say_tree<W: Write, V: Write>(
     alloc: Global,
     root: &Cid,
@@ -86,16 +106,18 @@ fn say_tree<W: Write, V: Write>(
     ensures { SaysBoth (IsTreeOf (stored_in blocks.now) root.now) (W.contents output.old)
         (V.contents errors.old) result (W.contents output.new) (V.contents errors.new) }
 {
-    let Reached { found, lost } = reach_from(alloc, blocks, root)?;
-    let (told, whole) = names_said(alloc, &lost)?;
-    send_tree(alloc, root, blocks, &found, output)?;
-    write_all(errors, &told)?;
-    Ok(whole)
+    match reach_known(alloc, blocks, root)? {
+        Ok(reached) => say_reached(alloc, root, blocks, &reached, output, errors),
+        Err(hidden) => {
+            let (line, _well) = verdict_line(alloc, &hidden.0, &hidden.1)?;
+            say_both((Vec::new(alloc), false), &line, output, errors)
+        }
+    }
 }
 
 /// Writes the file of the root, and of the blocks that links lead to from there within the file that
-/// the input is, and tells which links lead nowhere; or tells why there is none. Whether nothing is
-/// wrong. The blocks of the input are in memory.
+/// the input is, and tells which links lead nowhere; or tells why there is none: the input is no file,
+/// or the links of a block on the way can't be read. Whether nothing is wrong. The blocks of the input are in memory.
 pub fn write_tree<R: BufRead, W: Write, V: Write>(
     alloc: Global,
     root: &Cid,
@@ -107,7 +129,7 @@ pub fn write_tree<R: BufRead, W: Write, V: Write>(
         SaysBoth (IsTreeOfFile root.now b) (W.contents output.old) (V.contents errors.old) result
         (W.contents output.new) (V.contents errors.new)) }
 {
-    match held_of(alloc, Kept::Sound, input) {
+    match held_of(alloc, Kept::Verified, input) {
         Ok(Ok(held)) => say_tree(alloc, root, &held.blocks, output, errors),
         Ok(Err(line)) => say_both((Vec::new(alloc), false), &line, output, errors),
         Err(fault) => Err(fault),

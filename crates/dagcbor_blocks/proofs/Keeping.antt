@@ -32,7 +32,7 @@ use Rattle.dagcbor_blocks.specs.Steps.{HasTree, DepthRefused, StoresBlock}
 use Rattle.dagcbor_blocks.proofs.Unique.{front_unique, whole_front}
 use Rattle.ipld_links.proofs.Members.{same_at}
 use Rattle.dagcbor_blocks.specs.declared.error.BlockError.{BlockError}
-use Rattle.dagcbor_blocks.specs.declared.error.BlockError.TheVariants.{Encode, Decode, OtherCodec, Collision, OutOfMemory}
+use Rattle.dagcbor_blocks.specs.declared.error.BlockError.TheVariants.{Encode, Decode, Collision, OutOfMemory, OtherCodec}
 use Rattle.serde_ipld_dagcbor.specs.Reading.{default_steps}
 
 abbrev pub BlockEntry : Type 0
@@ -163,9 +163,9 @@ put_done law (Some t) v name old new (Ok n) a has named h =
     )
 put_done law (Some t) v name old new (Err (Encode e)) a has named h = absurd h.1
 put_done law (Some t) v name old new (Err (Decode e)) a has named h = absurd h.1
-put_done law (Some t) v name old new (Err OtherCodec) a has named h = absurd h.1
 put_done law (Some t) v name old new (Err Collision) a has named h = (h.0, subst (λ b. HoldsOther (block_name b) b old) a.is (subst (λ m. HoldsOther m v.items old) named h.1))
 put_done law (Some t) v name old new (Err OutOfMemory) a has named h = (h.0, tt)
+put_done law (Some t) v name old new (Err OtherCodec) a has named h = absurd h.1
 
 -- ---- getting
 

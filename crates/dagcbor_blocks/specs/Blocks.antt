@@ -9,8 +9,8 @@ use Rattle.std.specs.declared.convert.Infallible.{Infallible}
 use Rattle.serde_ipld_dagcbor.specs.DecodeError.{DecodeError}
 use Rattle.serde_ipld_dagcbor.specs.DecodeError.TheVariants as unread
 use Rattle.serde_ipld_dagcbor.specs.Cid.{CidParts, cid_bytes, cid_cmp}
-use Rattle.serde_ipld_dagcbor.specs.Tree.{Tree, any_need, links_of}
-use Rattle.serde_ipld_dagcbor.specs.Spelling.{IsSpellable, spelling, IsSpelling}
+use Rattle.serde_ipld_dagcbor.specs.Tree.{Tree, any_need}
+use Rattle.serde_ipld_dagcbor.specs.Spelling.{IsSpellable, spelling}
 use Rattle.serde_ipld_dagcbor.specs.Shapes.{Shape}
 use Rattle.serde_ipld_dagcbor.specs.Slices.{IsBlock, LinksRefused}
 use Rattle.serde_ipld_dagcbor.specs.Whole.{IsWhole}
@@ -20,8 +20,9 @@ use Rattle.serde_ipld_dagcbor.specs.EncodeError.TheVariants as unwritten
 use Rattle.ipld_links.specs.Names.{block_name}
 use Rattle.ipld_links.specs.Sets.{Among}
 use Rattle.ipld_links.specs.Verdicts.{IsDagCbor}
+use Rattle.ipld_links.specs.Blocks.{HasLinks}
 use Rattle.dagcbor_blocks.specs.declared.error.BlockError.{BlockError}
-use Rattle.dagcbor_blocks.specs.declared.error.BlockError.TheVariants.{Encode, Decode, OtherCodec, Collision, OutOfMemory}
+use Rattle.dagcbor_blocks.specs.declared.error.BlockError.TheVariants.{Encode, Decode, Collision, OutOfMemory, OtherCodec}
 use Rattle.dagcbor_blocks.specs.declared.store.Blocks.{Blocks}
 use Rattle.serde_ipld_dagcbor.specs.Reading.{default_steps}
 
@@ -79,9 +80,9 @@ HoldsAlso old these new = (q : CidParts) (b : List ℕ)
 abbrev pub ValueRefused : Option Tree → Held → BlockError → Type 0
 ValueRefused tree old (Encode e) = IsRefusalOfValue e × IfSome tree (λ t. ¬ IsSpellable t)
 ValueRefused tree old (Decode e) = IsSomeAnd tree (ExceedsSteps e)
-ValueRefused tree old OtherCodec = ⊥
 ValueRefused tree old Collision = IsSomeAnd tree (λ t. HoldsOther (block_name (spelling t)) (spelling t) old)
 ValueRefused tree old OutOfMemory = ⊤
+ValueRefused tree old OtherCodec = ⊥
 
 -- The spelling of the value's tree is kept under its name. A refusal changes nothing.
 abbrev pub Puts : Option Tree → Held → Result CidParts BlockError → Held → Type 0
@@ -104,16 +105,16 @@ HoldsUnread name blocks = ((b : List ℕ) × HoldsBytes name b blocks) × ¬ IsD
 abbrev pub HoldsRead : CidParts → List ℕ → Held → Type 0
 HoldsRead name b blocks = HoldsBytes name b blocks × IsDagCbor name
 
--- why a held block is not read: it is of another codec; or the type does not accept it; or want of
--- memory, which reading the type may take
+-- why a held block is not read: the type does not accept it; or want of memory, which reading the
+-- type may take; or it is of another codec
 abbrev pub NotReadAs : {V : Type 0} → Shape Tree V → CidParts → Held → BlockError → Type 0
 NotReadAs shape name blocks (Encode e) = ⊥
 NotReadAs {V} shape name blocks (Decode e) = IsRefusalOfBytes e
     × ((b : List ℕ) × HoldsRead name b blocks × ((v : V) → ¬ IsWhole shape default_steps b v))
-NotReadAs shape name blocks OtherCodec = HoldsUnread name blocks
 NotReadAs shape name blocks Collision = ⊥
 NotReadAs shape name blocks OutOfMemory = ((b : List ℕ) × HoldsRead name b blocks)
     × (shape.memory true ≡ true)
+NotReadAs shape name blocks OtherCodec = HoldsUnread name blocks
 
 -- none where no block has the name, else what the held block shows to the type
 abbrev pub GetsHeld : {T V : Type 0} → (T → V) → Shape Tree V → CidParts → Held → Option T → Type 0
@@ -130,16 +131,16 @@ Gets show shape name blocks result = MatchResult result (GetsHeld show shape nam
 
 -- ---- links
 
--- the binary form is that of a link in a held block of DAG-CBOR
+-- the binary form is that of a link in a held block of DAG-CBOR or DAG-PB
 abbrev pub IsHeldLink : List ℕ → Held → Type 0
-IsHeldLink form blocks = (e : CidParts × List ℕ) × (t : Tree) × Among e blocks × IsDagCbor e.0
-    × IsSpelling e.1 t × Among form (links_of t)
+IsHeldLink form blocks = (e : CidParts × List ℕ) × (links : List (List ℕ)) × Among e blocks
+    × HasLinks e.0.codec e.1 links × Among form links
 
 -- it names no held block
 abbrev pub NamesNoneHeld : List ℕ → Held → Type 0
 NamesNoneHeld form blocks = (e : CidParts × List ℕ) → Among e blocks → cid_bytes e.0 ≢ form
 
--- The links in held blocks of DAG-CBOR that name no held block, of whatever codec, are listed, each once, in their order.
+-- The links in held blocks of DAG-CBOR and DAG-PB that name no held block, of whatever codec, are listed, each once, in their order.
 abbrev pub ListsUnheld : Held → Result (Vec CidParts Global) BlockError → Type 0
 ListsUnheld blocks result = MatchResult result
     (λ v. IsStrictlySortedBy cid_cmp v.items × ((form : List ℕ) → Among form (forms v.items) ↔ (IsHeldLink form blocks × NamesNoneHeld form blocks)))

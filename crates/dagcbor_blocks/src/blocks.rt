@@ -8,7 +8,7 @@ ghost use Rattle.dagcbor_blocks.specs.Steps.{AddsOne, AddsMissing};
 
 use crate::error::BlockError;
 use crate::store::Blocks;
-use ipld_links::{CidSet, is_dag_cbor, name_of_block};
+use ipld_links::{CidSet, is_block_of, is_dag_cbor, links_of_block, name_of_block};
 use serde_ipld_dagcbor::{Cid, Deserialize, Serialize, from_slice, laws, links_from_slice, to_vec};
 use std::alloc::{AllocError, Global};
 use std::collections::BTreeMap;
@@ -88,8 +88,8 @@ impl Blocks {
         }
     }
 
-    /// The links in held blocks of DAG-CBOR that name no held block, each once, in their order. Links
-    /// in blocks of another codec are not read. A link by the identity is listed as any other, and the
+    /// The links in held blocks of DAG-CBOR and DAG-PB that name no held block, each once, in their
+    /// order. Links in blocks of another codec are not read. A link by the identity is listed as any other, and the
     /// block in its digest, which is not held, is not read.
     pub fn missing(&self) -> Result<Vec<Cid>, BlockError>
         ensures lists { ListsUnheld (held_blocks self.now) result }
@@ -105,16 +105,14 @@ impl Blocks {
     fn missing_of_some(&self) -> Result<Vec<Cid>, BlockError>
         ensures { ListsUnheld (held_blocks self.now) result }
     {
-        laws::spelling_unique();
         laws::cid_equality();
         let mut missing = CidSet::new(self.alloc);
         for (name, block) in self.blocks.iter() {
-            if !is_dag_cbor(name) {
+            if !is_block_of(name.codec(), block) {
                 continue;
             }
-            let links = match links_from_slice(self.alloc, block) {
-                Ok(links) => links,
-                Err(error) => return Err(BlockError::of_decoding(error)),
+            let Ok(links) = links_of_block(self.alloc, name.codec(), block) else {
+                return Err(BlockError::OutOfMemory);
             };
             if self.add_missing(&links, &mut missing).is_err() {
                 return Err(BlockError::OutOfMemory);

@@ -15,14 +15,14 @@ pub enum BlockError {
     /// The block is not read as the type within 256 steps; of `put`: its links are not.
     #[error("decode error: {0}")]
     Decode(DecodeError<Infallible>),
-    /// Of `get`: the block is of another codec than DAG-CBOR.
-    #[error("the block is of another codec than DAG-CBOR")]
-    OtherCodec,
     #[error("other bytes are held under the name")]
     Collision,
     /// A growth was refused.
     #[error("out of memory")]
     OutOfMemory,
+    /// Of `get`: the block is of another codec than DAG-CBOR.
+    #[error("the block is of another codec than DAG-CBOR")]
+    OtherCodec,
 }
 
 impl BlockError {

@@ -49,10 +49,14 @@ abbrev pub answer_code : {E : Type 0} → Result Kind (DecodeError E) → ℤ
 answer_code (Ok kind) = kind_code kind
 answer_code (Err e) = refusal_code e
 
--- the number of a verdict on a block under a name: from 0 where nothing is wrong
+-- the number of a verdict on a block under a name: from 0 where nothing is wrong. Blocks of DAG-PB are
+-- not told apart from those that are not read
 abbrev pub verdict_code : Verdict → ℤ
 verdict_code (verdicts.Block kind) = kind_code kind
 verdict_code verdicts.NotRead = pos 9
+verdict_code verdicts.LinksNotRead = pos 9
+verdict_code verdicts.Node = pos 9
+verdict_code (verdicts.NoNode e) = pos 9
 verdict_code (verdicts.Refused e) = refusal_code e
 verdict_code verdicts.OtherBytes = negsuc 21
 verdict_code verdicts.Unverified = negsuc 22

@@ -13,13 +13,16 @@ use dagcbor_car::{Section, split_section};
 use ipld_links::{Verdict, verify};
 use ipld_tree::Cid;
 
-/// The number of a verdict.
+/// The number of a verdict. Blocks of DAG-PB are not told apart from those that are not read.
 fn verdict_code(verdict: &Verdict) -> i32
     ensures { result ≡ verdict_code verdict.now }
 {
     match verdict {
         Verdict::Block(kind) => kind_code(*kind),
         Verdict::NotRead => 9,
+        Verdict::LinksNotRead => 9,
+        Verdict::Node => 9,
+        Verdict::NoNode(_) => 9,
         Verdict::Refused(refusal) => refusal_code(refusal),
         Verdict::OtherBytes => -22,
         Verdict::Unverified => -23,

@@ -4,26 +4,24 @@ use Rattle.std.specs.declared.convert.Infallible.{Infallible}
 use Rattle.dagcbor_heads.specs.declared.error.DecodeError.{DecodeError}
 use Rattle.std.specs.List.Sorted.{IsStrictlySortedBy}
 use Rattle.ipld_tree.specs.Cid.{CidParts, AreCidParts, cid_bytes, cid_cmp}
-use Rattle.ipld_tree.specs.Tree.{Tree, links_of}
 use Rattle.ipld_tree.proofs.Cids.{cid_unique}
-use Rattle.ipld_tree.proofs.Fronts.{front_unique}
 use Rattle.dagcbor_items.specs.Walks.{forms}
-use Rattle.dagcbor_items.specs.Slices.{IsBlock}
-use Rattle.dagcbor_items.specs.declared.kind.Kind.{Kind}
-use Rattle.dagcbor_items.proofs.SliceReads.{whole_front}
+use Rattle.dag_pb.specs.declared.error.PbError.{PbError}
+use Rattle.ipld_links.specs.Blocks.{HasLinks}
+use Rattle.ipld_links.proofs.Rows.{one_links}
+use Rattle.ipld_links.proofs.Linking.{refused_unlinked, no_node_unlinked, unread_unlinked, unknown_unlinked}
 use Rattle.dagcbor_car.specs.Car.{Section}
-use Rattle.ipld_links.specs.Verdicts.{IsVerified, IsDagCbor, IsVerdict}
+use Rattle.ipld_links.specs.Verdicts.{IsVerified, IsVerdict}
 use Rattle.ipld_links.specs.Sets.{Among, members, RemovesCid, AreCids}
 use Rattle.ipld_links.specs.Held.{IsHeldName, HoldsNone, AddsName, AreNames}
 use Rattle.ipld_links.specs.Within.{IsLinkWithin, IsReached, IsReachedName, AddsReached, AddsAll, AddsLinks}
 use Rattle.ipld_links.proofs.Within.{HoldsReached, reached_only, reached_of_cids, reached_cid, not_inline}
 use Rattle.dagcbor_car.specs.Checks.{IsHeldInFile, IsLinkedFrom, NamesNoneInFile, ListsMissingInFile, IsAfter, TakesSection, HoldsName, FollowsLinks}
 use Rattle.ipld_links.specs.declared.verdict.Verdict.{Verdict}
-use Rattle.ipld_links.specs.declared.verdict.Verdict.TheVariants.{Block, Refused, OtherBytes, NotRead, Unverified}
+use Rattle.ipld_links.specs.declared.verdict.Verdict.TheVariants.{Refused, NoNode, OtherBytes, NotRead, LinksNotRead, Unverified}
 use Rattle.ipld_links.specs.declared.cid_set.CidSet.{CidSet}
 use Rattle.ipld_links.specs.declared.held.HeldNames.{HeldNames}
 use Rattle.dagcbor_car.specs.declared.check.CarCheck.{CarCheck}
-use Rattle.ipld_links.proofs.Sounding.{no_block}
 use Rattle.ipld_links.proofs.Testing.{verified_testable}
 use Rattle.ipld_links.proofs.Members.{among_push, push_among, map_among, among_forms}
 
@@ -59,7 +57,7 @@ after_header roots held start missing none empty h = record {
 -- what was linked is linked still
 linked_still : (form : List ℕ) (roots : List (List ℕ)) (sections : List Section) (s : Section) → IsLinkedFrom form roots sections → IsLinkedFrom form roots (sections ++ s ∷ [])
 linked_still form roots sections s (link, n, inl m, w) = (link, n, inl m, w)
-linked_still form roots sections s (link, n, inr l, w) = (link, n, inr (l.0, l.1, push_among l.0 sections s (inl l.2), l.3, l.4, l.5, l.6), w)
+linked_still form roots sections s (link, n, inr l, w) = (link, n, inr (l.0, l.1, push_among l.0 sections s (inl l.2), l.3, l.4, l.5), w)
 
 -- a name joined those of the verified blocks
 held_more : (s : Section) (sections : List Section) (old new : HeldNames) → IsVerified s → AddsName s.0 old new → ((c : CidParts) → IsHeldName c old ↔ IsHeldInFile c sections) → (c : CidParts) → IsHeldName c new ↔ IsHeldInFile c (sections ++ s ∷ [])
@@ -80,16 +78,16 @@ held_more s sections old new v a h c = (there, back)
 names_more : (c : CidParts) (old new : HeldNames) → AddsName c old new → AreNames old → AreNames new
 names_more c old new a h q m = elim ((a.1 q).0 m) [ inl o ↦ h q o | inr e ↦ subst AreCidParts (sym e) a.0 ]
 
--- reached from a link of the section's block, where that is verified and DAG-CBOR
+-- reached from a link of the section's block, where that is verified and of a codec that is read
 abbrev IsLinkOf : List ℕ → Section → Type 0
-IsLinkOf form s = (t : Tree) × IsVerified s × IsDagCbor s.0 × IsBlock s.1 t × IsReached form (links_of t)
+IsLinkOf form s = (links : List (List ℕ)) × IsVerified s × HasLinks s.0.codec s.1 links × IsReached form links
 
 -- what is linked was linked before, or is by this section
 linked_by : (form : List ℕ) (roots : List (List ℕ)) (sections : List Section) (s : Section) → IsLinkedFrom form roots (sections ++ s ∷ []) → IsLinkedFrom form roots sections ⊎ IsLinkOf form s
 linked_by form roots sections s (link, n, inl m, w) = inl (link, n, inl m, w)
 linked_by form roots sections s (link, n, inr l, w) = elim (among_push l.0 sections s l.2) [
-  | inl m ↦ inl (link, n, inr (l.0, l.1, m, l.3, l.4, l.5, l.6), w)
-  | inr e ↦ inr (l.1, subst IsVerified e l.3, subst (λ (p : Section). IsDagCbor p.0) e l.4, subst (λ (p : Section). IsBlock p.1 l.1) e l.5, (link, n, l.6, w))
+  | inl m ↦ inl (link, n, inr (l.0, l.1, m, l.3, l.4, l.5), w)
+  | inr e ↦ inr (l.1, subst IsVerified e l.3, subst (λ (p : Section). HasLinks p.0.codec p.1 l.1) e l.4, (link, n, l.5, w))
 ]
 
 -- what names none of the blocks named none of the first
@@ -128,11 +126,11 @@ fewer_cids : (c : CidParts) (old new : CidSet) → RemovesCid c old new → AreC
 fewer_cids c old new cut h q m = h q ((cut q).0 m).0
 
 -- the links that are not held are missing too
-links_in : (s : Section) (t : Tree) (roots : List (List ℕ)) (sections : List Section) (held : HeldNames) (old new : CidSet) → IsVerified s → IsDagCbor s.0 → IsBlock s.1 t → AddsReached (links_of t) held old new
+links_in : (s : Section) (links : List (List ℕ)) (roots : List (List ℕ)) (sections : List Section) (held : HeldNames) (old new : CidSet) → IsVerified s → HasLinks s.0.codec s.1 links → AddsReached links held old new
     → AreNames held → ((c : CidParts) → IsHeldName c held ↔ IsHeldInFile c (sections ++ s ∷ []))
     → ((form : List ℕ) → Among form (forms (members old)) ↔ (IsLinkedFrom form roots sections × NamesNoneInFile form (sections ++ s ∷ [])))
     → (form : List ℕ) → Among form (forms (members new)) ↔ (IsLinkedFrom form roots (sections ++ s ∷ []) × NamesNoneInFile form (sections ++ s ∷ []))
-links_in s t roots sections held old new v d block joins names has h form = (there, back)
+links_in s links roots sections held old new v block joins names has h form = (there, back)
   where
     more : List Section
     more = sections ++ s ∷ []
@@ -143,7 +141,7 @@ links_in s t roots sections held old new v d block joins names has h form = (the
         elim ((joins q.0).0 q.1) [
           | inl o ↦ let k = (h form).0 (among_forms form q.0 (members old) o q.2) in (linked_still form roots sections s k.0, k.1)
           | inr (r, free) ↦ (
-            (r.2.0, r.2.1, inr (s, t, push_among s sections s (inr refl), v, d, block, r.2.2), subst (IsLinkWithin r.2.1 r.2.0) (sym q.2) r.2.3),
+            (r.2.0, r.2.1, inr (s, links, push_among s sections s (inr refl), v, block, r.2.2), subst (IsLinkWithin r.2.1 r.2.0) (sym q.2) r.2.3),
             (
               not_inline form q.0 r.0 r.1 q.2,
               λ k n u e.
@@ -154,13 +152,10 @@ links_in s t roots sections held old new v d block joins names has h form = (the
           )
         ]
 
-    same_tree : (u : Tree) → IsBlock s.1 u → u ≡ t
-    same_tree u b = (front_unique s.1 [] [] u t (whole_front b.0) (whole_front block.0)).0
-
-    joined : IsReached form (links_of t) → NamesNoneInFile form more → Among form (forms (members new))
+    joined : IsReached form links → NamesNoneInFile form more → Among form (forms (members new))
     joined r none =
-        let q = reached_cid t form block.0.well_formed r in
-        let name : IsReachedName q.0 (links_of t) = (q.1, (λ i. none.0 (q.0, q.1, q.2, i)), (r.0, r.1, r.2, subst (IsLinkWithin r.1 r.0) q.2 r.3)) in
+        let q = reached_cid s.0.codec s.1 links form block r in
+        let name : IsReachedName q.0 links = (q.1, (λ i. none.0 (q.0, q.1, q.2, i)), (r.0, r.1, r.2, subst (IsLinkWithin r.1 r.0) q.2 r.3)) in
         among_forms form q.0 (members new) ((joins q.0).1 (inr (name, λ found. let w = (has q.0).0 found in none.1 (q.0, w.0) w.1 w.2 (sym q.2)))) q.2
 
     stays : Among form (forms (members old)) → Among form (forms (members new))
@@ -169,24 +164,24 @@ links_in s t roots sections held old new v d block joins names has h form = (the
     back : IsLinkedFrom form roots more × NamesNoneInFile form more → Among form (forms (members new))
     back m = elim (linked_by form roots sections s m.0) [
       | inl o ↦ stays ((h form).1 (o, m.1))
-      | inr k ↦ joined (subst (λ u. IsReached form (links_of u)) (same_tree k.0 k.3) k.4) m.1
+      | inr k ↦ joined (subst (IsReached form) (one_links s.0.codec s.1 k.0 links k.2 block) k.3) m.1
     ]
 
 more_cids : (links : List (List ℕ)) (held : HeldNames) (old new : CidSet) → AddsReached links held old new → AreCids old → AreCids new
 more_cids links held old new joins h q m = elim ((joins q).0 m) [ inl o ↦ h q o | inr w ↦ w.0.0 ]
 
-pub links_followed : {E : Type 0} (b : List ℕ) (old : CarCheck) (after : CidSet) (r : Result (Unit {0}) E) → AddsLinks b old.held old.missing r after
-    → OnOk r (FollowsLinks b old record { held = old.held; missing = after; failed = old.failed })
-links_followed b old after (Ok u) found = (refl, found)
-links_followed b old after (Err e) found = tt
+pub links_followed : {E : Type 0} (codec : ℕ) (b : List ℕ) (old : CarCheck) (after : CidSet) (r : Result (Unit {0}) E) → AddsLinks codec b old.held old.missing r after
+    → OnOk r (FollowsLinks codec b old record { held = old.held; missing = after; failed = old.failed })
+links_followed codec b old after (Ok u) found = (refl, found)
+links_followed codec b old after (Err e) found = tt
 
--- a verified block of DAG-CBOR
-block_taken : (s : Section) (old mid new : CarCheck) → IsVerified s → IsDagCbor s.0 → HoldsName s.0 old mid → FollowsLinks s.1 mid new → TakesSection s old new
-block_taken s old mid new v d (a, cut) (same, (t, block, joins)) roots sections h = record {
+-- a verified block of a codec that is read
+block_taken : (s : Section) (old mid new : CarCheck) → IsVerified s → HoldsName s.0 old mid → FollowsLinks s.0.codec s.1 mid new → TakesSection s old new
+block_taken s old mid new v (a, cut) (same, (links, block, joins)) roots sections h = record {
   held = subst (λ k. (c : CidParts) → IsHeldName c k ↔ IsHeldInFile c (sections ++ s ∷ [])) (sym same) held;
   names = subst AreNames (sym same) names;
-  missing = links_in s t roots sections mid.held mid.missing new.missing v d block joins names held (name_out s roots sections old.missing mid.missing v a.0 h.cids cut h.missing);
-  cids = more_cids (links_of t) mid.held mid.missing new.missing joins (fewer_cids s.0 old.missing mid.missing cut h.cids);
+  missing = links_in s links roots sections mid.held mid.missing new.missing v block joins names held (name_out s roots sections old.missing mid.missing v a.0 h.cids cut h.missing);
+  cids = more_cids links mid.held mid.missing new.missing joins (fewer_cids s.0 old.missing mid.missing cut h.cids);
 }
   where
     held : (c : CidParts) → IsHeldName c mid.held ↔ IsHeldInFile c (sections ++ s ∷ [])
@@ -196,19 +191,19 @@ block_taken s old mid new v d (a, cut) (same, (t, block, joins)) roots sections 
     names = names_more s.0 old.held mid.held a h.names
 
 -- where no link comes from the section, the links stay
-links_stay : (s : Section) (roots : List (List ℕ)) (sections : List Section) (missing : CidSet) → ((t : Tree) → IsVerified s → IsDagCbor s.0 → IsBlock s.1 t → ⊥)
+links_stay : (s : Section) (roots : List (List ℕ)) (sections : List Section) (missing : CidSet) → ((links : List (List ℕ)) → IsVerified s → HasLinks s.0.codec s.1 links → ⊥)
     → ((form : List ℕ) → Among form (forms (members missing)) ↔ (IsLinkedFrom form roots sections × NamesNoneInFile form (sections ++ s ∷ [])))
     → (form : List ℕ) → Among form (forms (members missing)) ↔ (IsLinkedFrom form roots (sections ++ s ∷ []) × NamesNoneInFile form (sections ++ s ∷ []))
 links_stay s roots sections missing none h form = (
   λ m. let w = (h form).0 m in (linked_still form roots sections s w.0, w.1),
   λ m. elim (linked_by form roots sections s m.0) [
     | inl o ↦ (h form).1 (o, m.1)
-    | inr k ↦ absurd (none k.0 k.1 k.2 k.3)
+    | inr k ↦ absurd (none k.0 k.1 k.2)
   ],
 )
 
 -- a verified block of which no links are read
-named_taken : (s : Section) (old new : CarCheck) → IsVerified s → ((t : Tree) → IsVerified s → IsDagCbor s.0 → IsBlock s.1 t → ⊥) → HoldsName s.0 old new → TakesSection s old new
+named_taken : (s : Section) (old new : CarCheck) → IsVerified s → ((links : List (List ℕ)) → IsVerified s → HasLinks s.0.codec s.1 links → ⊥) → HoldsName s.0 old new → TakesSection s old new
 named_taken s old new v none (a, cut) roots sections h = record {
   held = held_more s sections old.held new.held v a h.held;
   names = names_more s.0 old.held new.held a h.names;
@@ -227,7 +222,7 @@ unnamed_taken s k none roots sections h = record {
     ],
   );
   names = h.names;
-  missing = links_stay s roots sections k.missing (λ t v d b. none v) (λ form. (
+  missing = links_stay s roots sections k.missing (λ ls v b. none v) (λ form. (
     λ m. let w = (h.missing form).0 m in (w.0, none_more form sections s w.1 (λ v e. none v)),
     λ m. (h.missing form).1 (m.0, none_before form sections s m.1),
   ));
@@ -248,23 +243,33 @@ taken_same s old before behind new a b c d h roots sections k = known_same behin
 
 -- ---- by the verdict
 
-pub block_noted : {E : Type 0} (s : Section) (v : Verdict) (kind : Kind) (r : Result (Unit {0}) E) (old mid new : CarCheck) → v ≡ Block kind → IsVerdict s v → HoldsName s.0 old mid → OnOk r (FollowsLinks s.1 mid new) → OnOk r (TakesSection s old new)
-block_noted s v kind (Ok u) old mid new is verdict a l =
-    let w = subst (IsVerdict s) is verdict in
-    block_taken s old mid new w.0 w.1 a l
-block_noted s v kind (Err e) old mid new is verdict a l = tt
+pub linked_noted : {E : Type 0} (s : Section) (codec : ℕ) (r : Result (Unit {0}) E) (old mid new : CarCheck) → codec ≡ s.0.codec → IsVerified s → HoldsName s.0 old mid → OnOk r (FollowsLinks codec s.1 mid new) → OnOk r (TakesSection s old new)
+linked_noted s codec (Ok u) old mid new is v a l = block_taken s old mid new v a (subst (λ n. FollowsLinks n s.1 mid new) is l)
+linked_noted s codec (Err e) old mid new is v a l = tt
 
 pub refused_noted : {E : Type 0} (s : Section) (v : Verdict) (x : DecodeError Infallible) (r : Result (Unit {0}) E) (old new : CarCheck) → v ≡ Refused x → IsVerdict s v → OnOk r (HoldsName s.0 old new) → OnOk r (TakesSection s old new)
 refused_noted s v x (Ok u) old new is verdict a =
     let w = subst (IsVerdict s) is verdict in
-    named_taken s old new w.0 (λ t _ d b. no_block x s.1 w.2 w.3 t b) a
+    named_taken s old new w.0 (λ ls _ h. refused_unlinked s x w ls h) a
 refused_noted s v x (Err e) old new is verdict a = tt
+
+pub no_node_noted : {E : Type 0} (s : Section) (v : Verdict) (x : PbError) (r : Result (Unit {0}) E) (old new : CarCheck) → v ≡ NoNode x → IsVerdict s v → OnOk r (HoldsName s.0 old new) → OnOk r (TakesSection s old new)
+no_node_noted s v x (Ok u) old new is verdict a =
+    let w = subst (IsVerdict s) is verdict in
+    named_taken s old new w.0 (λ ls _ h. no_node_unlinked s x w ls h) a
+no_node_noted s v x (Err e) old new is verdict a = tt
 
 pub unread_noted : {E : Type 0} (s : Section) (v : Verdict) (r : Result (Unit {0}) E) (old new : CarCheck) → v ≡ NotRead → IsVerdict s v → OnOk r (HoldsName s.0 old new) → OnOk r (TakesSection s old new)
 unread_noted s v (Ok u) old new is verdict a =
     let w = subst (IsVerdict s) is verdict in
-    named_taken s old new w.0 (λ t _ d b. w.1 d) a
+    named_taken s old new w.0 (λ ls _ h. unread_unlinked s w ls h) a
 unread_noted s v (Err e) old new is verdict a = tt
+
+pub unknown_noted : {E : Type 0} (s : Section) (v : Verdict) (r : Result (Unit {0}) E) (old new : CarCheck) → v ≡ LinksNotRead → IsVerdict s v → OnOk r (HoldsName s.0 old new) → OnOk r (TakesSection s old new)
+unknown_noted s v (Ok u) old new is verdict a =
+    let w = subst (IsVerdict s) is verdict in
+    named_taken s old new w.0 (λ ls _ h. unknown_unlinked s w ls h) a
+unknown_noted s v (Err e) old new is verdict a = tt
 
 pub others_noted : (s : Section) (v : Verdict) (k : CarCheck) → v ≡ OtherBytes → IsVerdict s v → TakesSection s k k
 others_noted s v k is verdict =

@@ -5,13 +5,12 @@ use Rattle.std.specs.List.Sorted.{IsStrictlySortedBy}
 use Rattle.std.specs.declared.alloc.Global.{Global}
 use Rattle.dagcbor_heads.specs.Reading.{Reading, Stays}
 use Rattle.ipld_tree.specs.Cid.{CidParts, cid_bytes, cid_cmp}
-use Rattle.ipld_tree.specs.Tree.{Tree, links_of}
-use Rattle.dagcbor_items.specs.Slices.{IsBlock}
 use Rattle.dagcbor_items.specs.Walks.{forms}
 use Rattle.dagcbor_car.specs.Car.{Section, IsHeader, IsSection, car_bytes}
 use Rattle.dagcbor_car.specs.Versions.{IsVersion2, begin_of, length_of, HasSpan, HoldsCar, IsFile}
 use Rattle.dagcbor_car.specs.Sources.{CarRefuses, RefusesStart, RefusesSection, LacksMemoryIf, FileLacks}
-use Rattle.ipld_links.specs.Verdicts.{IsVerified, IsDagCbor, IsVerdict}
+use Rattle.ipld_links.specs.Verdicts.{IsVerified, IsVerdict}
+use Rattle.ipld_links.specs.Blocks.{HasLinks}
 use Rattle.dagcbor_car.specs.Told.{Told, sections_of, AreTold, TellsAll, Tells}
 use Rattle.ipld_links.specs.Sets.{Among, members, AreCids, RemovesCid}
 use Rattle.ipld_links.specs.Held.{IsHeldName, AddsName, AreNames}
@@ -30,16 +29,16 @@ use Rattle.dagcbor_car.specs.declared.check.Checking.{Checking}
 abbrev pub IsHeldInFile : CidParts → List Section → Type 0
 IsHeldInFile c sections = (b : List ℕ) × Among (c, b) sections × IsVerified (c, b)
 
--- the binary form is that of a link in a verified block of DAG-CBOR
+-- the binary form is that of a link in a verified block of DAG-CBOR or DAG-PB
 abbrev pub IsLinkIn : List ℕ → List Section → Type 0
-IsLinkIn form sections = (s : Section) × (t : Tree) × Among s sections × IsVerified s × IsDagCbor s.0
-    × IsBlock s.1 t × Among form (links_of t)
+IsLinkIn form sections = (s : Section) × (links : List (List ℕ)) × Among s sections × IsVerified s
+    × HasLinks s.0.codec s.1 links × Among form links
 
--- the binary form is that of a root, or of a link in a verified block of DAG-CBOR
+-- the binary form is that of a root, or of such a link
 abbrev pub IsPlainlyLinked : List ℕ → List (List ℕ) → List Section → Type 0
 IsPlainlyLinked form roots sections = Among form roots ⊎ IsLinkIn form sections
 
--- it is that of such a root or link, or of a link within one
+-- it is that of one of these, or of a link within one
 abbrev pub IsLinkedFrom : List ℕ → List (List ℕ) → List Section → Type 0
 IsLinkedFrom form roots sections = (link : List ℕ) × (n : ℕ) × IsPlainlyLinked link roots sections
     × IsLinkWithin n link form
@@ -71,9 +70,9 @@ HoldsName c old new = AddsName c old.held new.held × RemovesCid c old.missing n
 
 -- the names that are reached from the links of the block and are not held joined those that are
 -- missing
-abbrev pub FollowsLinks : List ℕ → CarCheck → CarCheck → Type 0
-FollowsLinks b old new = (new.held ≡ old.held) × ((t : Tree) × IsBlock b t
-    × AddsReached (links_of t) old.held old.missing new.missing)
+abbrev pub FollowsLinks : ℕ → List ℕ → CarCheck → CarCheck → Type 0
+FollowsLinks codec b old new = (new.held ≡ old.held) × ((links : List (List ℕ)) × HasLinks codec b links
+    × AddsReached links old.held old.missing new.missing)
 
 -- what is known behind a section, whatever stood before
 abbrev pub TakesSection : Section → CarCheck → CarCheck → Type 0

@@ -1,13 +1,13 @@
 //! A whole file: the verdicts on its sections, and what leads to no block of it.
 
-ghost use Rattle.std.specs.Prelude.{◌≡◌, ◌⊎◌, [], IfOk, OnOk, OnErr, MatchResult, List, ℕ};
+ghost use Rattle.std.specs.Prelude.{◌≡◌, ◌≢◌, ◌⊎◌, [], IfOk, OnOk, OnErr, MatchResult, List, ℕ};
 ghost use Rattle.std.specs.Prelude.{true, false, is_err};
 ghost use Rattle.dagcbor_heads.specs.Inputs.{input_reading};
 ghost use Rattle.dagcbor_items.specs.Walks.{forms};
 ghost use Rattle.dagcbor_car.specs.Car.{Section as CarSection};
 ghost use Rattle.ipld_links.specs.Verdicts.{IsVerified, IsVerdict};
 ghost use Rattle.dagcbor_car.specs.Told.{TellsAll};
-ghost use Rattle.ipld_links.specs.Blocks.{HasBlock};
+ghost use Rattle.ipld_links.specs.Blocks.{IsBlockOf};
 ghost use Rattle.dagcbor_car.specs.Splits.{CountsBlock};
 ghost use Rattle.dagcbor_car.specs.Versions.{HoldsCar};
 ghost use Rattle.dagcbor_car.specs.Sources.{LacksMemoryIf};
@@ -44,6 +44,7 @@ impl CarCheck {
     pub fn new(alloc: Global, roots: &[Cid]) -> Result<CarCheck, AllocError>
         ensures after { IfOk result (λ check. IsAfter check (forms roots.now) []) }
         ensures sound { IfOk result (λ check. check.failed ≡ false) }
+        ensures memory { OnErr result (roots.now ≢ []) }
     {
         let held = HeldNames::new(alloc);
         let mut missing = CidSet::new(alloc);
@@ -84,15 +85,27 @@ impl CarCheck {
         ensures same { self.new.failed ≡ self.old.failed }
     {
         match verdict {
-            Verdict::Block(_) => {
-                self.hold(section.cid)?;
-                self.follow(section.block)
-            }
+            Verdict::Block(_) => self.hold_linked(section),
+            Verdict::Node => self.hold_linked(section),
             Verdict::Refused(_) => self.hold(section.cid),
+            Verdict::NoNode(_) => self.hold(section.cid),
             Verdict::NotRead => self.hold(section.cid),
+            Verdict::LinksNotRead => self.hold(section.cid),
             Verdict::OtherBytes => Ok(()),
             Verdict::Unverified => Ok(()),
         }
+    }
+
+    /// Notes a verified block, and its links.
+    fn hold_linked(&mut self, section: &Section<'_>) -> Result<(), AllocError>
+        requires verified { IsVerified (section.now.cid, section.now.block.now) }
+        requires linked { IsBlockOf section.now.cid.codec section.now.block.now }
+        ensures after { OnOk result
+            (TakesSection (section.now.cid, section.now.block.now) self.old self.new) }
+        ensures same { self.new.failed ≡ self.old.failed }
+    {
+        self.hold(section.cid)?;
+        self.follow(section.cid.codec(), section.block)
     }
 
     /// Notes the name of a verified block.
@@ -106,12 +119,12 @@ impl CarCheck {
 
     /// Notes the links of a block, and those within them, that lead to no verified block so far.
     #[tactic(auto, using(crate::proofs::Checking::links_followed))]
-    fn follow(&mut self, block: &[u8]) -> Result<(), AllocError>
-        requires { HasBlock block.now }
-        ensures followed { OnOk result (FollowsLinks block.now self.old self.new) }
+    fn follow(&mut self, codec: u64, block: &[u8]) -> Result<(), AllocError>
+        requires { IsBlockOf codec block.now }
+        ensures followed { OnOk result (FollowsLinks codec block.now self.old self.new) }
         ensures same { self.new.failed ≡ self.old.failed }
     {
-        self.missing.add_links(block, &self.held)
+        self.missing.add_links(codec, block, &self.held)
     }
 
     /// The roots and the links that lead to no verified block, each once, in their order.

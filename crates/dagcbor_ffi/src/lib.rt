@@ -68,8 +68,8 @@ pub extern "C" fn dagcbor_compact_tape(
 }
 
 /// The answer of `dagcbor_check`. Of a block, what `dagcbor_tape` does, and `place` becomes the number of
-/// its bytes. Of refused bytes `place` becomes that of the fault: so many bytes might go on as an item,
-/// or are one, and with the next one the refusal stands. `needed` becomes the number of tokens that
+/// its bytes. Of refused bytes `place` becomes that of the fault: of so many bytes only missing
+/// bytes are told, or they are an item, and with the next one the refusal stands. `needed` becomes the number of tokens that
 /// stand whole before it; where `tape` has room for them all they are put at its front, and else it
 /// stays.
 #[unsafe(no_mangle)]

@@ -81,15 +81,15 @@ impl<E: Debug> Display for EncodeError<E> {
 
 impl<E: Error> Error for EncodeError<E> {}
 
-/// Why a value was not read. `E` is the reader's error; a name says what was being read, and
-/// `found` is the byte that stands at the place.
+/// Why a value was not read. `E` is the reader's error. A name says what was being read, and
+/// `found` is the byte at the place.
 #[derive(Debug, Drop)]
 pub enum DecodeError<E> {
     /// A type accepts no such value.
     Msg(Name),
     /// The reader faulted.
     Read(E),
-    /// The input ends before `expect` bytes: the whole width of an argument, or the whole announced
+    /// The input ends before `expect` bytes, the whole width of an argument or the whole announced
     /// length.
     Eof {
         name: Name,
@@ -105,7 +105,7 @@ pub enum DecodeError<E> {
         name: Name,
         found: u8,
     },
-    /// Never answered here. For types of a caller's own.
+    /// Never answered here. For a caller's own types.
     RequireLength {
         name: Name,
         found: Len,
@@ -118,7 +118,7 @@ pub enum DecodeError<E> {
     RequireUtf8 {
         name: Name,
     },
-    /// Never answered here. For types of a caller's own.
+    /// Never answered here. For a caller's own types.
     LengthOverflow {
         name: Name,
         found: Len,
@@ -127,12 +127,12 @@ pub enum DecodeError<E> {
     CastOverflow {
         name: Name,
     },
-    /// Never answered here. For types of a caller's own.
+    /// Never answered here. For a caller's own types.
     ArithmeticOverflow {
         name: Name,
         ty: ArithmeticOverflow,
     },
-    /// A step into an item is wanted, and none is left.
+    /// An item needs a step, and none is left.
     DepthOverflow {
         name: Name,
     },
@@ -142,7 +142,7 @@ pub enum DecodeError<E> {
         expect: usize,
         value: usize,
     },
-    /// A byte is left behind the item.
+    /// A byte is left after the item.
     TrailingData,
     /// The head announces an indefinite length, or is a break.
     IndefiniteSize,
@@ -151,7 +151,7 @@ pub enum DecodeError<E> {
         name: Name,
         found: u8,
     },
-    /// The key does not stand behind the one before it.
+    /// The key does not come after the one before it.
     UnorderedKey,
     /// A growth was refused.
     OutOfMemory,

@@ -85,7 +85,7 @@ fn split_argument(information: u8, bytes: &[u8]) -> Option<(u64, &[u8])>
     }
 }
 
-/// The head at the front: its major type, its argument, and the bytes behind it.
+/// The head at the front: its major type, its argument, and the bytes after it.
 #[inline(always)]
 pub fn split_head(bytes: &[u8]) -> Option<(u8, u64, &[u8])>
     ensures { MatchOption result (¬ BeginsWithHead bytes.now)

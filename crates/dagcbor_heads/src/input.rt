@@ -31,8 +31,8 @@ impl<'de, R: Read> Input<'de, R> {
         }
     }
 
-    /// The bytes that are left, where the input is a slice. Nothing is taken, and nothing counted:
-    /// who looks at them takes by `lend` those that it knows then.
+    /// The bytes that are left, if the input is a slice. Nothing is taken, and nothing counted. A
+    /// caller that has looked at them takes by `lend` those that it then knows.
     #[inline(always)]
     pub fn rest(&self) -> Option<&'de [u8]>
         ensures bytes { IfSome result
@@ -45,7 +45,7 @@ impl<'de, R: Read> Input<'de, R> {
         }
     }
 
-    /// Takes the next n bytes and lends them, where the input is a slice that has so many. Else
+    /// Takes the next n bytes and lends them, if the input is a slice that has so many. Else
     /// nothing is taken.
     #[inline(always)]
     pub fn lend(&mut self, n: u64) -> Option<&'de [u8]>
@@ -64,8 +64,8 @@ impl<'de, R: Read> Input<'de, R> {
         }
     }
 
-    /// Takes the string of this major type at the front, with its head, and lends its bytes, where
-    /// the input is a slice that has all of them. Else nothing is taken, and nothing counted, as in
+    /// Takes the string of this major type at the front, with its head, and lends its bytes, if the
+    /// input is a slice that has all of them. Else nothing is taken, and nothing counted, as in
     /// `take_string` of `SliceReader`.
     #[inline(always)]
     pub fn take_string(&mut self, kind: u8) -> Option<&'de [u8]>
@@ -86,7 +86,7 @@ impl<'de, R: Read> Input<'de, R> {
         }
     }
 
-    /// The reader, where it is no slice.
+    /// The reader, if it is not a slice.
     pub fn into_reader(self) -> Option<R>
         ensures { MatchOption result ((input_reading R.reading self.entry).lends ≡ true)
             (λ r. self.entry ≡ Reader r) }

@@ -10,9 +10,9 @@ use std::io;
 use std::io::BufRead;
 use std::marker::Model;
 
-/// A reader over a buffered source. It takes no byte early: what is shown are copies of bytes that
-/// the source still has. The source loses those that were taken where it is asked for more, in
-/// `into_inner`, and where the reader is dropped. An interrupted call is a fault like any other.
+/// A reader over a buffered source. It takes no byte early: the bytes shown are copies of bytes
+/// that the source still has. The source loses those that were taken when it is asked for more, in
+/// `into_inner`, and when the reader is dropped. An interrupted call is a fault like any other.
 pub struct IoReader<R: BufRead> {
     source: R,
     window: Window,
@@ -59,7 +59,7 @@ impl<R: BufRead> IoReader<R> {
         }
     }
 
-    /// The source, from which exactly what was taken is gone.
+    /// The source, without exactly the bytes that were taken.
     pub fn into_inner(self) -> R
         ensures { (b : List ℕ) → self.left ≡ Some b → R.remaining result ≡ Some b }
     {

@@ -60,7 +60,7 @@ impl<'r, R: BufRead> IoRefReader<'r, R> {
         }
     }
 
-    /// The source, from which exactly what was taken is gone.
+    /// The source, without exactly the bytes that were taken.
     pub fn into_inner(self) -> &'r mut R
         ensures reference { self.entry.through ≡ result.ghost_name ∷ [] }
         ensures left { (b : List ℕ) → self.entry.left ≡ Some b → R.remaining result.now ≡ Some b }

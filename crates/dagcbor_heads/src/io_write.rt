@@ -12,8 +12,7 @@ use std::io::ErrorKind;
 use std::marker::Model;
 
 /// A writer over a device. A refused push leaves a beginning of the bytes there. A write that takes
-/// no byte of a rest is the fault `WriteZero`; nothing is tried again, an interrupted write
-/// neither.
+/// no byte of a rest is the fault `WriteZero`. Nothing is retried, not even an interrupted write.
 #[derive(Drop)]
 pub struct IoWriter<W: io::Write> {
     device: W,
@@ -61,7 +60,7 @@ impl<W: io::Write> Write for IoWriter<W> {
     }
 }
 
-/// Writes the bytes, as many a call as the device takes, up to its first fault.
+/// Writes the bytes, as many in each call as the device takes, up to its first fault.
 pub(crate) fn push_all<W: io::Write>(
     device: &mut W,
     faults: &mut Tally,
@@ -85,7 +84,8 @@ pub(crate) fn push_all<W: io::Write>(
     Ok(())
 }
 
-/// Writes at least one of the bytes, and answers how many: that the device takes none is a fault.
+/// Writes at least one of the bytes, and answers how many. If the device takes none, that is a
+/// fault.
 fn write_some<W: io::Write>(device: &mut W, bytes: &[u8]) -> io::Result<usize>
     ensures some { IfOk result (λ n. (0 < n) × (n ≤ length bytes.now)) }
     ensures written { WriteAppends (W.contents device.old)

@@ -1,6 +1,6 @@
 //! Heads of DAG-CBOR items, and the readers, writers and errors below them.
 //!
-//! A list of three items begins, and its first is 1 (`src/tests/writers.rt` of `tests_io`):
+//! The beginning of a list of three items, whose first is 1 (`src/tests/writers.rt` of `tests_io`):
 //!
 //! ```rust
 //! push_head(&mut writer, 4, 3)?;

@@ -228,8 +228,8 @@ fn pull_head_argument_slowly<R: Read>(name: &str, reader: &mut R) -> ReadResult<
     Ok(argument)
 }
 
-/// The argument of the next head, which is taken. It is quicker than `pull_head` where the major
-/// type is known from the first byte: only a number is handed up.
+/// The argument of the next head, which is taken. It is faster than `pull_head` if the major type
+/// is known from the first byte: it returns only a number.
 #[inline(never)]
 pub fn pull_head_argument<R: Read>(name: &str, reader: &mut R) -> ReadResult<u64, R>
     ensures taken { MatchResult result

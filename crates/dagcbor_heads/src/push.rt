@@ -6,8 +6,8 @@ ghost use Rattle.dagcbor_heads.specs.Written.{Writes, WantsMemoryOnlyIf, WritesA
 
 use crate::write::{Write, WriteResult};
 
-/// The bytes of the shortest head (RFC 8949, section 3) at the front, zeros behind them, and how many
-/// its bytes are.
+/// The bytes of the shortest head (RFC 8949, section 3), followed by zeros, and the length of the
+/// head.
 #[tactic(auto, unfolding(crate::specs::Head::head))]
 pub fn head_bytes(major: u8, argument: u64) -> ([u8; 9], usize)
     requires { major ≤ 7 }
@@ -32,9 +32,9 @@ pub fn head_bytes(major: u8, argument: u64) -> ([u8; 9], usize)
     }
 }
 
-/// Appends the shortest head where the writer has room for it; else appends nothing, and answers
-/// false. How many bytes a head has is known at each place, so that they are stored one by one, and
-/// no copy is called.
+/// Appends the shortest head, if the writer has room for it. Else appends nothing, and answers
+/// false. Each branch knows the length of its head, so bytes are stored one by one, without a call
+/// that copies.
 #[tactic(auto, unfolding(crate::specs::Head::head))]
 pub fn push_head_at_once<W: Write>(writer: &mut W, major: u8, argument: u64) -> bool
     requires { major ≤ 7 }
@@ -58,8 +58,8 @@ pub fn push_head_at_once<W: Write>(writer: &mut W, major: u8, argument: u64) -> 
     }
 }
 
-/// Appends the shortest head and the bytes behind it, where the head is one byte and the writer has
-/// room for all; else appends nothing, and answers false.
+/// Appends the shortest head and the bytes after it, if the head is one byte and the writer has
+/// room for all of them. Else appends nothing, and answers false.
 #[tactic(auto, unfolding(crate::specs::Head::head))]
 pub fn push_headed_at_once<W: Write>(writer: &mut W, major: u8, argument: u64, bytes: &[u8]) -> bool
     requires { major ≤ 7 }
@@ -82,8 +82,8 @@ pub fn push_head<W: Write>(writer: &mut W, major: u8, argument: u64) -> WriteRes
     push_head_bytes(writer, major, argument)
 }
 
-/// Pushes the shortest head. Apart, so that a head that finds room has no part in what a push
-/// answers.
+/// Pushes the shortest head. This is a separate function, so that a head for which there is room
+/// does not handle the result of a push.
 #[cold]
 #[inline(never)]
 fn push_head_bytes<W: Write>(writer: &mut W, major: u8, argument: u64) -> WriteResult<(), W>

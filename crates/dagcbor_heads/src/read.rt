@@ -32,8 +32,8 @@ pub trait Read: Drop {
     /// What contracts see of the reader.
     ghost reading: { Self → Reading };
 
-    /// Sees to it that a front of the bytes left is shown, and takes nothing. None are shown only
-    /// at the end of the bytes, or where `want` is 0.
+    /// Ensures that a front of the bytes left is shown, and takes nothing. No byte is shown only at
+    /// the end of the bytes, or if `want` is 0.
     fn prepare(&mut self, want: usize) -> Result<(), Self::Error>
         ensures { MatchResult result
             (λ _. Shows (reading self.old) want (reading self.new))
@@ -43,26 +43,28 @@ pub trait Read: Drop {
     fn shown(&self) -> &[u8]
         ensures { result.now ≡ (reading self.now).shown };
 
-    /// Takes n of the bytes shown. Nothing counts as shown then; where n is 0 no contract says so.
+    /// Takes n of the bytes shown. After that nothing counts as shown. If n is 0, no contract says
+    /// so.
     fn advance(&mut self, n: usize)
         requires { n ≤ length (reading self.old).shown }
         ensures { Advances (reading self.old) n (reading self.new) };
 
-    /// Spends a step, and answers false where none is left.
+    /// Spends a step, or answers false if none is left.
     fn step_in(&mut self) -> bool
         ensures { MatchBool result
             ((0 < (reading self.old).steps) × ((reading self.new).steps < (reading self.new).budget)
             × (reading self.new ≡ with_steps ((reading self.old).steps - 1) (reading self.old)))
             (((reading self.old).steps ≡ 0) × (reading self.new ≡ reading self.old)) };
 
-    /// Gives a step back that is out.
+    /// Gives back a step that was spent.
     fn step_out(&mut self)
         requires { (reading self.old).steps < (reading self.old).budget }
         ensures { reading self.new ≡ with_steps ((reading self.old).steps + 1) (reading self.old) };
 
-    /// Takes the head at the front where all of it is at hand: its major type, its argument and its
-    /// first byte. Else nothing is taken, and nothing counted, though the bytes of a head may have
-    /// been looked at: what then goes on byte by byte looks at each once, and counts it twice.
+    /// Takes the head at the front, if all of it is at hand: its major type, its argument and its
+    /// first byte. Else nothing is taken, and nothing counted, although it may have looked at the
+    /// bytes of a head. A call that then goes on byte by byte looks at each byte once, and counts
+    /// it twice.
     fn take_head(&mut self) -> Option<(u8, u64, u8)>
         ensures taken { MatchOption result
             (reading self.new ≡ reading self.old)
@@ -76,7 +78,7 @@ pub trait Read: Drop {
         None
     }
 
-    /// A front of the bytes left, for which nothing is asked of the source. It may have none.
+    /// A front of the bytes left that needs no call of the source. It may be empty.
     fn at_hand(&self) -> &[u8]
         ensures { (b : List ℕ) → (reading self.now).left ≡ Some b
             → (rest : List ℕ) × (b ≡ result.now ++ rest) }
@@ -84,7 +86,7 @@ pub trait Read: Drop {
         &[]
     }
 
-    /// Takes the next n bytes, where they are at hand. Else nothing is taken, and nothing counted.
+    /// Takes the next n bytes, if they are at hand. Else nothing is taken, and nothing counted.
     fn take_at_hand(&mut self, n: usize) -> bool
         ensures { MatchBool result
             (TakesSome n (reading self.old) (reading self.new))
@@ -161,9 +163,10 @@ impl<'a> SliceReader<'a> {
         self.rest
     }
 
-    /// Takes the string of this major type at the front, with its head, and lends its bytes, where
-    /// all of them are left. Else nothing is taken, and nothing counted: the bytes of a head of this
-    /// major type may have been looked at, as in `take_head`, and of any other its first byte alone.
+    /// Takes the string of this major type at the front, with its head, and lends its bytes, if all
+    /// of them are left. Else nothing is taken, and nothing counted. It may have looked at the
+    /// bytes of a head of this major type, as in `take_head`; of any other head only at the first
+    /// byte.
     #[inline(always)]
     pub fn take_string(&mut self, kind: u8) -> Option<&'a [u8]>
         ensures taken { MatchOption result
@@ -189,7 +192,7 @@ impl<'a> SliceReader<'a> {
         Some(payload)
     }
 
-    /// Takes the next n bytes and lends them, where so many are left.
+    /// Takes the next n bytes and lends them, if so many are left.
     pub fn lend(&mut self, n: u64) -> Option<&'a [u8]>
         ensures lends { self.old.lends ≡ true }
         ensures lent { MatchOption result

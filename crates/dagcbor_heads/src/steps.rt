@@ -8,7 +8,7 @@ use crate::name::Name;
 use crate::read::{Read, ReadResult};
 use std::marker::Model;
 
-/// The steps that a reader has, where nothing else is said.
+/// The steps that a reader has by default.
 pub const DEFAULT_STEPS: usize = 256;
 
 /// How many steps are left of the budget.
@@ -40,7 +40,7 @@ impl Steps {
         }
     }
 
-    /// Spends one, and answers false where none is left.
+    /// Spends one, or answers false if none is left.
     pub(crate) fn spend(&mut self) -> bool
         ensures { MatchBool result
             ((0 < self.old.left) × (self.new.left < self.new.budget)

@@ -5,7 +5,7 @@ ghost use base.Fml.{ftrue};
 
 use std::marker::Model;
 
-/// A count that takes no bytes and has no greatest value, as of a device's faults.
+/// A count that takes no room in memory and has no greatest value, for a device's faults, say.
 pub struct Tally {
     pub ghost count: { ℕ },
 }

@@ -14,8 +14,8 @@ use std::marker::Model;
 /// The most bytes that are copied at once.
 const WINDOW: usize = 1024;
 
-/// Copies of bytes that a source still has, how many of these were taken, how many behind them are
-/// shown, how often the source faulted, and how many bytes were looked at.
+/// Copies of bytes that a source still has. It knows how many of them were taken, how many after
+/// these are shown, how often the source faulted, and how many bytes were looked at.
 #[derive(Drop)]
 pub(crate) struct Window {
     bytes: [u8; WINDOW],
@@ -66,9 +66,9 @@ impl Window {
         self.start
     }
 
-    /// Shows at most as many of the next bytes as are wanted: none only at the end, or where none is
-    /// wanted. The source is asked only where all that was copied is taken, which it loses then. A
-    /// fault is counted.
+    /// Shows at most as many of the next bytes as are wanted: none only at the end, or if none is
+    /// wanted. It asks the source only if all that was copied is taken; the source then loses these
+    /// bytes. A fault is counted.
     pub(crate) fn look<R: BufRead>(&mut self, source: &mut R, want: usize) -> io::Result<()>
         ensures shown { MatchResult result
             (λ _. Refills (bytes_told self.old.copies self.old.taken (R.remaining source.old)
@@ -89,7 +89,7 @@ impl Window {
         Ok(())
     }
 
-    /// Copies some of the next bytes where all that was copied is taken: none only at the end.
+    /// If all that was copied is taken, copies some of the next bytes: none only at the end.
     #[inline(always)]
     fn prepare<R: BufRead>(&mut self, source: &mut R) -> io::Result<()>
         ensures ready { MatchResult result
@@ -113,7 +113,8 @@ impl Window {
         self.refill(source)
     }
 
-    /// Lets the source lose what was taken, and copies some of its next bytes: none only at the end.
+    /// Tells the source what was taken, which it then loses, and copies some of its next bytes:
+    /// none only at the end.
     #[cold]
     #[inline(never)]
     fn refill<R: BufRead>(&mut self, source: &mut R) -> io::Result<()>
@@ -173,7 +174,7 @@ impl Window {
         &self.bytes[self.start..self.start + self.shown]
     }
 
-    /// Takes n of the bytes that are shown, and shows nothing any more.
+    /// Takes n of the bytes that are shown. Nothing is shown after that.
     pub(crate) fn advance(&mut self, n: usize)
         requires { n ≤ length self.old.shown }
         ensures { self.new ≡ record {
@@ -198,7 +199,7 @@ impl Window {
         &self.bytes[..self.end][self.start..]
     }
 
-    /// Takes the next n bytes, where they were copied. The source is not asked.
+    /// Takes the next n bytes, if they were copied. Does not ask the source.
     #[inline(always)]
     pub(crate) fn take(&mut self, n: usize) -> bool
         ensures most { self.old.taken ≤ length self.old.copies }
@@ -221,8 +222,8 @@ impl Window {
         true
     }
 
-    /// Takes the head at the front, where all of it was copied: its major type, its argument and its
-    /// first byte. The source is not asked.
+    /// Takes the head at the front, if all of it was copied: its major type, its argument and its
+    /// first byte. Does not ask the source.
     pub(crate) fn take_head(&mut self) -> Option<(u8, u64, u8)>
         ensures { MatchOption result
             (self.new ≡ self.old)
@@ -236,7 +237,7 @@ impl Window {
     }
 }
 
-/// The head at the front, where all of it is there: its major type, its argument, its first byte and
+/// The head at the front, if all of it is there: its major type, its argument, its first byte and
 /// its length.
 #[inline(always)]
 fn whole_head(bytes: &[u8]) -> Option<(u8, u64, u8, usize)>

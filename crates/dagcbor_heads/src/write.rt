@@ -21,16 +21,16 @@ pub trait Write {
     /// Whether a push may take memory.
     ghost takes_memory: { Bool };
 
-    /// Appends the bytes. Refused with `Write` or `OutOfMemory` alone; a beginning of the bytes may
-    /// have gone out then.
+    /// Appends the bytes. It is refused only with `Write` or `OutOfMemory`. Then a beginning of the
+    /// bytes may have gone out.
     fn push(&mut self, bytes: &[u8]) -> WriteResult<(), Self>
         ensures written { Writes (Some bytes.now) (written self.old) (written self.new) result }
         ensures memory { WantsMemoryOnlyIf takes_memory result };
 
-    /// Appends both, one behind the other, where the writer has room for them; else appends nothing,
-    /// and answers false. It takes no memory and asks no device, so that nothing can fail, and the
-    /// answer stays in a register. Who is answered false pushes. A writer that has no room of its own
-    /// leaves this out.
+    /// Appends both, one after the other, if the writer has room for them. Else appends nothing,
+    /// and answers false. It takes no memory and asks no device, so nothing can fail, and the
+    /// answer stays in a register. A caller that gets false pushes. A writer that has no room of
+    /// its own leaves this out.
     fn push_at_once(&mut self, _front: &[u8], _rest: &[u8]) -> bool
         ensures { WritesAtOnce (Some (_front.now ++ _rest.now)) (written self.old)
             (written self.new) result }
@@ -67,7 +67,7 @@ impl Write for Vec<u8> {
 
     ghost takes_memory = { true };
 
-    /// Appends the bytes. Where memory runs out, nothing has changed.
+    /// Appends the bytes. If memory runs out, nothing has changed.
     fn push(&mut self, bytes: &[u8]) -> Result<(), EncodeError<Infallible>>
         ensures written { Writes (Some bytes.now)
             (record { bytes = Some self.old.items; faults = 0; through = [] })
@@ -128,7 +128,7 @@ impl BufWriter {
         bytes
     }
 
-    /// Holds nothing from now on, and keeps the memory.
+    /// Removes all bytes, and keeps the memory.
     pub fn clear(&mut self)
         ensures { self.new ≡ [] }
     {
@@ -143,7 +143,7 @@ impl Write for BufWriter {
 
     ghost takes_memory = { true };
 
-    /// Appends the bytes. Where memory runs out, nothing has changed.
+    /// Appends the bytes. If memory runs out, nothing has changed.
     fn push(&mut self, bytes: &[u8]) -> Result<(), EncodeError<Infallible>>
         ensures written { Writes (Some bytes.now)
             (record { bytes = Some self.old; faults = 0; through = [] })
@@ -160,7 +160,8 @@ impl Write for BufWriter {
     }
 }
 
-/// The refusal of a growth. Made apart, so that a push that is taken writes none of it.
+/// The refusal of a growth. It is made in a separate function, so that a push that succeeds writes
+/// none of it.
 #[cold]
 #[inline(never)]
 fn out_of_memory<E>() -> Result<(), EncodeError<E>>

@@ -1,5 +1,5 @@
 -- Reading the items of a list.
-use Rattle.std.proofs.Common.{IfOk, ◌≡◌, ℕ, suc, ◌+◌, ◌-◌, ◌<◌, ◌≤◌, List, [], ◌∷◌, ◌++◌, length, map, refl, sym, ap, ◌∙◌, subst, arith, length-append, Vec, Global, false, cond, is_ok, is_err, Result, Ok, Err, set}
+use Rattle.std.proofs.Common.{◌≡◌, ℕ, suc, ◌+◌, ◌-◌, ◌<◌, ◌≤◌, List, [], ◌∷◌, ◌++◌, length, map, refl, sym, ap, ◌∙◌, subst, arith, length-append, Vec, Global, false, cond, is_ok, is_err, Result, Ok, Err, set}
 use Rattle.std.proofs.Math.Seq.{set-append_seam}
 use Rattle.dagcbor_heads.specs.Head.{head}
 use Rattle.dagcbor_heads.specs.Reading.{Reading, with_steps}
@@ -132,10 +132,6 @@ all_items_read ts none s = (omega (arith, s.counted, none), s.takes)
 map_push : {A B : Type 0} (f : A → B) (xs : List A) (x : A) → map f (xs ++ x ∷ []) ≡ map f xs ++ f x ∷ []
 map_push f [] x = refl
 map_push f (y ∷ xs) x = ap (λ l. f y ∷ l) (map_push f xs x)
-
-pub map_appended : {A B X Y : Type 0} (f : A → B) (r : Result X Y) (xs ys : List A) (x : A) → false ≡ is_err r → IfOk r (λ _. ys ≡ xs ++ x ∷ []) → map f ys ≡ map f xs ++ f x ∷ []
-map_appended f (Ok v) xs ys x e h = ap (map f) h ∙ map_push f xs x
-map_appended f (Err d) xs ys x e h = absurd (cc e)
 
 pub map_pushed : {A B X Y : Type 0} (f : A → B) (r : Result X Y) (xs ys : List A) (x : A) → false ≡ is_err r → ys ≡ cond (is_ok r) (xs ++ x ∷ []) xs → map f ys ≡ map f xs ++ f x ∷ []
 map_pushed f (Ok v) xs ys x e h = ap (map f) h ∙ map_push f xs x

@@ -1,6 +1,6 @@
 //! Reading items of any kind.
 
-ghost use Rattle.std.specs.Prelude.{◌≡◌, [], ◌∷◌, ◌++◌, IfErr, IfOk, IfSome, MatchOption};
+ghost use Rattle.std.specs.Prelude.{◌≡◌, IfErr, IfSome, MatchOption};
 ghost use Rattle.dagcbor_heads.specs.Inputs.{input_reading, OverInput};
 ghost use Rattle.dagcbor_heads.specs.Fronts.{StartsWith};
 ghost use Rattle.dagcbor_heads.specs.Looking.{Looks, LooksSome, LooksBehind, LooksAtTaken};
@@ -16,7 +16,7 @@ use crate::key::read_key;
 use crate::leaf::{read_leaf, read_text, take_integer};
 use dagcbor_heads::{DecodeError, Input, Read, ReadResult, is_indefinite, peek_one, spend_step};
 use ipld_tree::Ipld;
-use std::alloc::{AllocError, Global};
+use std::alloc::Global;
 use std::collections::BTreeMap;
 
 /// Reads an item of any kind, no deeper than the steps that are left.
@@ -31,7 +31,7 @@ pub fn read_any<R: Read>(alloc: Global, input: &mut Input<'_, R>) -> ReadResult<
     Ok(item)
 }
 
-/// Reads an item of any kind into the place. Only a refusal is handed up: a value is long.
+/// Reads an item of any kind into the place. Only a refusal is returned, because a value is long.
 #[tactic(auto, using(crate::proofs::PartRefusals::depth_item))]
 #[cycle(any)]
 #[inline(always)]
@@ -132,7 +132,7 @@ fn read_items<R: Read>(
     let mut items = Vec::new(alloc);
     for _index in 0..count {
         if let Some(number) = take_number(input) {
-            if push_item(&mut items, count, Ipld::Integer(number)).is_err() {
+            if items.push(Ipld::Integer(number)).is_err() {
                 return Err(DecodeError::OutOfMemory);
             }
             continue;
@@ -140,7 +140,7 @@ fn read_items<R: Read>(
         if items.is_empty() {
             let mut first = Ipld::Null;
             read_into(alloc, input, &mut first)?;
-            if push_item(&mut items, count, first).is_err() {
+            if items.push(first).is_err() {
                 return Err(DecodeError::OutOfMemory);
             }
             continue;
@@ -154,7 +154,7 @@ fn read_items<R: Read>(
     Ok(items)
 }
 
-/// Takes an integer, where the input is a slice that has all of it. It may take nothing.
+/// Takes an integer, if the input is a slice that has all of it. It may take nothing.
 #[inline(always)]
 fn take_number<R: Read>(input: &mut Input<'_, R>) -> Option<i128>
     ensures taken { MatchOption result
@@ -178,25 +178,6 @@ fn take_number<R: Read>(input: &mut Input<'_, R>) -> Option<i128>
             input.step_out();
             None
         }
-    }
-}
-
-/// The room that a vector of items takes at first.
-const FIRST_ROOM: u64 = 4;
-
-/// Appends an item that was read to those of a list of so many. With the first the vector takes its
-/// room: a list that is shorter than the first room takes it for its items alone, since an `Ipld`
-/// has a hundred bytes.
-#[inline(always)]
-fn push_item(items: &mut Vec<Ipld>, count: u64, item: Ipld) -> Result<(), AllocError>
-    ensures { IfOk result (λ _. items.new.items ≡ items.old.items ++ item ∷ []) }
-{
-    if items.capacity() == 0 {
-        items.reserve_exact(count.min(FIRST_ROOM) as usize)?;
-    }
-    match items.push(item) {
-        Ok(()) => Ok(()),
-        Err(_) => Err(AllocError),
     }
 }
 

@@ -1,6 +1,6 @@
-//! Judging bytes that are all there: what is behind the item with which they begin. Nothing is
-//! built, and no memory is taken. Where the judge stops, the walk names the cause, which is put
-//! beside the results with its place, so that these stay in registers.
+//! Judging bytes that are all there: what comes after the item with which they begin. Nothing is
+//! built, and no memory is taken. When the judge stops, the walk names the cause. The cause and its
+//! place are put beside the results, so that these stay in registers.
 
 ghost use Rattle.std.specs.Prelude.{◌≡◌, ◌≢◌, ◌↔◌, ◌⊎◌, ◌-◌, ◌<◌, ◌≤◌, length, List, ℕ, IsTrue, IsUtf8};
 ghost use Rattle.std.specs.Prelude.{MatchOption, option_map};
@@ -34,7 +34,7 @@ use simdutf8::is_utf8;
 use std::convert::Infallible;
 use std::str::from_utf8;
 
-/// The next n bytes, and the bytes behind them.
+/// The next n bytes, and the bytes after them.
 #[inline(always)]
 pub(crate) fn split_payload(bytes: &[u8], n: u64) -> Option<(&[u8], &[u8])>
     ensures { MatchOption result (length bytes.now < n)
@@ -79,7 +79,7 @@ pub fn is_text(bytes: &[u8]) -> bool
     is_any_text(bytes)
 }
 
-/// The bytes of a text of n bytes, and the bytes behind it.
+/// The bytes of a text of n bytes, and the bytes after it.
 #[inline(always)]
 fn split_text(bytes: &[u8], n: u64) -> Option<(&[u8], &[u8])>
     ensures { MatchOption result
@@ -93,7 +93,7 @@ fn split_text(bytes: &[u8], n: u64) -> Option<(&[u8], &[u8])>
     Some((payload, rest))
 }
 
-/// The bytes of a key, and the bytes behind it.
+/// The bytes of a key, and the bytes after it.
 #[inline(always)]
 fn split_key(bytes: &[u8]) -> Option<(&[u8], &[u8])>
     ensures { MatchOption result
@@ -107,7 +107,7 @@ fn split_key(bytes: &[u8]) -> Option<(&[u8], &[u8])>
     split_text(behind, count)
 }
 
-/// Whether the key may stand behind the one before it.
+/// Whether the key may come after the one before it.
 #[inline(always)]
 pub fn follows(previous: &Option<&[u8]>, key: &[u8]) -> bool
     ensures { IsTrue result ↔ Follows (option_map (λ s. s.now) previous.now) key.now }
@@ -118,7 +118,7 @@ pub fn follows(previous: &Option<&[u8]>, key: &[u8]) -> bool
     }
 }
 
-/// Whether these are fields of one byte each, with a digest of so many bytes behind them.
+/// Whether these are fields of one byte each, with a digest of so many bytes after them.
 #[inline(always)]
 fn are_short_fields(codec: u8, hash_code: u8, count: u8, digest: &[u8]) -> bool
     ensures { IsTrue result → (codec < 128) × (hash_code < 128) × (count ≤ 64)
@@ -169,7 +169,7 @@ pub fn is_cid(bytes: &[u8]) -> bool
     is_plain_cid(bytes) || is_any_cid(bytes)
 }
 
-/// The bytes behind a byte string of a zero and a CID.
+/// The bytes after a byte string of a zero and a CID.
 #[inline(always)]
 fn behind_cid(bytes: &[u8]) -> Option<&[u8]>
     ensures { MatchOption result
@@ -191,7 +191,7 @@ fn behind_cid(bytes: &[u8]) -> Option<&[u8]>
     Some(rest)
 }
 
-/// The bytes behind what a tag of this number stands before, where that is the tag of links.
+/// The bytes after the item that a tag of this number is for, if it is the tag of links.
 #[inline(always)]
 fn behind_tag(number: u64, bytes: &[u8]) -> Option<&[u8]>
     ensures { MatchOption result
@@ -204,7 +204,7 @@ fn behind_tag(number: u64, bytes: &[u8]) -> Option<&[u8]>
     behind_cid(bytes)
 }
 
-/// The bytes behind the link at the front, where one stands.
+/// The bytes after the link at the front, if there is one.
 pub fn behind_link(bytes: &[u8]) -> Option<&[u8]>
     ensures { MatchOption result
         (¬ ((cid : List ℕ) × (rest : List ℕ) × IsFront bytes.now (link cid) rest))
@@ -217,7 +217,7 @@ pub fn behind_link(bytes: &[u8]) -> Option<&[u8]>
     behind_tag(number, behind)
 }
 
-/// The bytes behind a simple value, where it is one of data: false, true or null.
+/// The bytes after a simple value, if it is one of data: false, true or null.
 #[inline(always)]
 fn behind_simple(value: u64, bytes: &[u8]) -> Option<&[u8]>
     ensures { MatchOption result (20 ≤ value → ¬ (value ≤ 22))
@@ -232,7 +232,7 @@ fn behind_simple(value: u64, bytes: &[u8]) -> Option<&[u8]>
     Some(bytes)
 }
 
-/// The bytes behind an item that holds no others, whose head was split off.
+/// The bytes after an item that holds no others, whose head was split off.
 #[inline(always)]
 pub(crate) fn behind_leaf(major: u8, argument: u64, behind: &[u8]) -> Option<&[u8]>
     requires no_list { major ≢ 4 }
@@ -257,7 +257,7 @@ pub(crate) fn behind_leaf(major: u8, argument: u64, behind: &[u8]) -> Option<&[u
     }
 }
 
-/// The bytes of a key that may stand behind the one before it, and the bytes behind it.
+/// The bytes of a key that may come after the one before it, and the bytes after it.
 #[inline(always)]
 fn split_key_after<'b>(previous: &Option<&[u8]>, bytes: &'b [u8]) -> Option<(&'b [u8], &'b [u8])>
     ensures { MatchOption result
@@ -273,7 +273,7 @@ fn split_key_after<'b>(previous: &Option<&[u8]>, bytes: &'b [u8]) -> Option<(&'b
     Some((key, behind))
 }
 
-/// Why no key stands there that may stand behind the one before it.
+/// Why there is no key there that may come after the one before it.
 fn name_key_cause(previous: &Option<&[u8]>, bytes: &[u8]) -> DecodeError<Infallible>
     requires { ¬ ((key : List ℕ) × (rest : List ℕ)
         × SplitsKeyAfter (option_map (λ s. s.now) previous.now) bytes.now key rest) }
@@ -285,7 +285,7 @@ fn name_key_cause(previous: &Option<&[u8]>, bytes: &[u8]) -> DecodeError<Infalli
     }
 }
 
-/// Stops where no key stands that may stand behind the one before it.
+/// Stops if there is no key there that may come after the one before it.
 #[cold]
 #[inline(never)]
 fn stop_at_key(previous: &Option<&[u8]>, bytes: &[u8], stop: &mut Stop)
@@ -300,8 +300,8 @@ fn stop_at_key(previous: &Option<&[u8]>, bytes: &[u8], stop: &mut Stop)
     *stop = Stop { cause, behind };
 }
 
-/// Why what is to stand there is too deep, where the steps that are left are too few for it. An
-/// indefinite length is told first.
+/// Why the item there is too deep, if too few steps are left for it. An indefinite length is named
+/// first.
 fn name_depth_cause(bytes: &[u8], steps: usize) -> Option<DecodeError<Infallible>>
     ensures { MatchOption result (BeginsIndefinite bytes.now ⊎ HasSteps steps bytes.now)
         (λ e. IsTooDeep steps e bytes.now) }
@@ -332,8 +332,7 @@ fn too_deep(name: &str) -> DecodeError<Infallible>
     }
 }
 
-/// Why no item stands there that takes no more than these steps: for the depth, where it is too
-/// great.
+/// Why there is no item there that takes at most these steps. For the depth, if it is too great.
 fn name_item_cause(bytes: &[u8], steps: usize) -> DecodeError<Infallible>
     requires few { steps ≤ 1024 }
     requires none { ¬ ((rest : List ℕ) × SplitsItem bytes.now steps rest) }
@@ -350,8 +349,8 @@ fn name_item_cause(bytes: &[u8], steps: usize) -> DecodeError<Infallible>
     }
 }
 
-/// Stops where no item stands that takes no more than these steps, and no list or map with steps
-/// for its parts.
+/// Stops if there is no item that takes at most these steps, and no list or map with steps for its
+/// parts.
 #[cold]
 #[inline(never)]
 fn stop_at_item(bytes: &[u8], steps: usize, stop: &mut Stop)
@@ -366,8 +365,8 @@ fn stop_at_item(bytes: &[u8], steps: usize, stop: &mut Stop)
     *stop = Stop { cause, behind };
 }
 
-/// The bytes behind the item at the front, where one stands that takes no more than these steps,
-/// and else why not, and where. Each step takes stack, so they are no more than those of a reader.
+/// The bytes after the item at the front, if there is one that takes at most these steps; else why
+/// not, and where. Each step takes stack, so there are no more steps than those of a reader.
 #[cycle(judge)]
 #[inline(always)]
 pub(crate) fn judge_item<'b>(bytes: &'b [u8], steps: usize, stop: &mut Stop) -> Option<&'b [u8]>
@@ -397,8 +396,8 @@ pub(crate) fn judge_item<'b>(bytes: &'b [u8], steps: usize, stop: &mut Stop) -> 
     None
 }
 
-/// How many bytes are left behind so many items of a list that may take these steps, or why these
-/// do not stand there.
+/// How many bytes are left after so many items of a list that may take these steps, or why these
+/// items are not there.
 #[cycle(judge)]
 #[inline(never)]
 fn left_behind_items(bytes: &[u8], count: u64, steps: usize, stop: &mut Stop) -> Option<usize>
@@ -418,8 +417,8 @@ fn left_behind_items(bytes: &[u8], count: u64, steps: usize, stop: &mut Stop) ->
     Some(rest.len())
 }
 
-/// How many bytes are left behind so many entries of a map that may take these steps, or why these
-/// do not stand there.
+/// How many bytes are left after so many entries of a map that may take these steps, or why these
+/// entries are not there.
 #[cycle(judge)]
 #[inline(never)]
 fn left_behind_entries(bytes: &[u8], count: u64, steps: usize, stop: &mut Stop) -> Option<usize>

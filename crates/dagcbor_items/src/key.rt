@@ -1,4 +1,4 @@
-//! Reading the keys of maps: texts, each behind the one before it.
+//! Reading the keys of maps: texts, each after the one before it.
 
 ghost use Rattle.std.specs.Prelude.{◌≡◌, ◌↔◌, true, false, IfOk, IsTrue, option_map, IfErr, IsUtf8};
 ghost use Rattle.std.specs.Prelude.{IfSome, MatchOption, MatchBool, ◌++◌, ◌<◌, List, ℕ, length};
@@ -21,7 +21,7 @@ use std::alloc::Global;
 use std::borrow::CowStr;
 use std::str::from_utf8_unchecked;
 
-/// Whether the key may stand behind the one before it.
+/// Whether the key may come after the one before it.
 fn follows(previous: &Option<CowStr<'_>>, key: &str) -> bool
     ensures { IsTrue result ↔ Follows (option_map cow_str_bytes previous.now) key.now }
 {
@@ -29,7 +29,7 @@ fn follows(previous: &Option<CowStr<'_>>, key: &str) -> bool
     judge::follows(&before, key.as_bytes())
 }
 
-/// The bytes as a key that may stand behind the one before it.
+/// The bytes as a key, if it may come after the one before it.
 #[inline(always)]
 fn key_of<'de>(payload: &'de [u8], previous: &Option<CowStr<'de>>) -> Option<&'de str>
     ensures { MatchOption result
@@ -44,8 +44,8 @@ fn key_of<'de>(payload: &'de [u8], previous: &Option<CowStr<'de>>) -> Option<&'d
     Some(text)
 }
 
-/// Takes the text at the front, where the input is a slice that has all of it: the key, lent, or
-/// the bytes that are none behind the one before it. Else nothing is taken.
+/// Takes the text at the front, if the input is a slice that has all of it: the key, lent, or the
+/// bytes if they are not a key after the one before it. Else nothing is taken.
 #[inline(always)]
 pub fn take_key<'de, R: Read>(
     input: &mut Input<'de, R>,
@@ -67,7 +67,7 @@ pub fn take_key<'de, R: Read>(
     }
 }
 
-/// Whether the bytes are the same. In line it is quicker than `==` for a name that is known.
+/// Whether the bytes are the same. Inlined, it is faster than `==` for a name that is known.
 #[inline(always)]
 fn is_same(text: &[u8], wanted: &[u8]) -> bool
     requires { length text.now ≡ length wanted.now }
@@ -92,7 +92,8 @@ pub fn is_name(key: &str, name: &str) -> bool
     is_same(key.as_bytes(), name.as_bytes())
 }
 
-/// The text at the front, whose head has one byte, and the bytes behind it, where it is this name.
+/// The text at the front, whose head has one byte, and the bytes after it, if that text is this
+/// name.
 #[inline(always)]
 fn split_name<'b>(front: &'b [u8], name: &str) -> Option<(&'b str, &'b [u8])>
     ensures { MatchOption result
@@ -116,8 +117,8 @@ fn split_name<'b>(front: &'b [u8], name: &str) -> Option<(&'b str, &'b [u8])>
     Some((unsafe { from_utf8_unchecked(text) }, rest))
 }
 
-/// Takes this name, exactly where the input is a slice that begins with it, its head has one byte,
-/// and it may stand behind the key before it. Else nothing is taken.
+/// Takes this name, exactly if the input is a slice that begins with it, its head has one byte, and
+/// it may come after the key before it. Else nothing is taken.
 #[inline(always)]
 pub fn take_name<'de, R: Read>(
     input: &mut Input<'de, R>,
@@ -145,8 +146,8 @@ pub fn take_name<'de, R: Read>(
     Some(key)
 }
 
-/// Takes this name, where it is at hand, its head has one byte, and it may stand behind the key
-/// before it. Else nothing is taken.
+/// Takes this name, if it is at hand, its head has one byte, and it may come after the key before
+/// it. Else nothing is taken.
 #[inline(always)]
 fn take_name_at_hand<R: Read>(reader: &mut R, last: &Option<CowStr<'_>>, name: &str) -> bool
     ensures { MatchBool result
@@ -163,7 +164,7 @@ fn take_name_at_hand<R: Read>(reader: &mut R, last: &Option<CowStr<'_>>, name: &
     reader.take_at_hand(1 + name.len())
 }
 
-/// Takes the one of the names that is at hand and may stand behind the key before it. It may take
+/// Takes the name, among these, that is at hand and may come after the key before it. It may take
 /// nothing.
 #[inline(always)]
 pub fn take_one_of<'n, R: Read>(
@@ -196,7 +197,7 @@ pub fn no_key<E>(payload: &[u8]) -> DecodeError<E>
     }
 }
 
-/// A key, lent where the input lends.
+/// A key, lent if the input lends.
 #[inline(always)]
 pub fn read_key<'de, R: Read>(
     alloc: Global,
@@ -219,7 +220,7 @@ pub fn read_key<'de, R: Read>(
     }
 }
 
-/// A key, where no slice has all of its text.
+/// A key, if no slice has all of its text.
 #[tactic(auto, using(crate::proofs::PartRefusals::text_key))]
 #[inline(always)]
 fn read_key_slowly<'de, R: Read>(

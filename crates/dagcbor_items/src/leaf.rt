@@ -18,7 +18,7 @@ use dagcbor_heads::{DecodeError, Input, Read, ReadResult, pull_head, pull_one};
 use ipld_tree::Ipld;
 use std::alloc::Global;
 
-/// Takes the integer whose first byte was seen, where its head is at hand. Else nothing is taken.
+/// Takes the integer whose first byte was seen, if its head is at hand. Else nothing is taken.
 #[inline(always)]
 pub(crate) fn take_integer<R: Read>(reader: &mut R, first: u8) -> Option<i128>
     requires { StartsWith (R.reading reader.old) first }
@@ -108,7 +108,7 @@ fn read_simple<R: Read>(reader: &mut R, first: u8) -> ReadResult<Ipld, R>
     }
 }
 
-/// Reads a link, whose first byte was seen: in one piece where a slice has all of it.
+/// Reads a link, whose first byte was seen: in one piece, if a slice has all of it.
 fn read_link_at_once<R: Read>(input: &mut Input<'_, R>) -> ReadResult<Ipld, R>
     requires { StartsWithMajor (input_reading R.reading input.old) 6 }
     ensures leaf { OverInput R.reading ReadsLeaf input.old result input.new }

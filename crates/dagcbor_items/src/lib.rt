@@ -1,6 +1,6 @@
 //! Reading items of DAG-CBOR from an input: leaves, keys, links, and items of any kind.
 //!
-//! Whether a slice is a block, and of which kind, with nothing built and no memory taken:
+//! Whether a slice is a block, and of which kind, without building anything or taking memory:
 //!
 //! ```rust
 //! agree(check_slice(b"\x82\x39\x01\x2b\x61a")?, Kind::List)?;

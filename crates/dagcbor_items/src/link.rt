@@ -48,7 +48,7 @@ pub(crate) fn pull_wanted<R: Read>(
     Ok(())
 }
 
-/// The CID behind a zero.
+/// The CID after a zero.
 fn cid_behind_zero(payload: &[u8]) -> Option<Cid>
     ensures { IsZeroAndCid payload.now result }
 {
@@ -58,7 +58,7 @@ fn cid_behind_zero(payload: &[u8]) -> Option<Cid>
     }
 }
 
-/// The byte string behind the tag of links at the front, and the bytes behind it.
+/// The byte string after the tag of links at the front, and the bytes after that.
 #[inline(always)]
 fn split_tagged(front: &[u8]) -> Option<(&[u8], &[u8])>
     ensures { IfSome result (λ p. (tagged : List ℕ) × (front.now ≡ 0xd8 ∷ 0x2a ∷ tagged)
@@ -74,7 +74,7 @@ fn split_tagged(front: &[u8]) -> Option<(&[u8], &[u8])>
     split_payload(behind, count)
 }
 
-/// Takes the link at the front, where all of it is at hand. It may take nothing.
+/// Takes the link at the front, if all of it is at hand. It may take nothing.
 #[inline(always)]
 pub fn take_link<R: Read>(input: &mut Input<'_, R>) -> Option<Cid>
     ensures taken { MatchOption result
@@ -113,7 +113,7 @@ fn pull_cid_string<R: Read>(reader: &mut R) -> ReadResult<Cid, R>
     }
 }
 
-/// Reads what stands behind the tag.
+/// Reads what follows the tag.
 #[tactic(auto, using(crate::proofs::PartRefusals::end_link))]
 fn pull_cid<R: Read>(reader: &mut R) -> ReadResult<Cid, R>
     ensures cid { ReadsCid (R.reading reader.old) result (R.reading reader.new) }

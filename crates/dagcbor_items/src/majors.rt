@@ -10,7 +10,7 @@ ghost use Rattle.dagcbor_items.specs.AnsweredVariants.{OfByte, OfHead};
 
 use dagcbor_heads::{DecodeError, Read, ReadResult, peek_one, pull_head};
 
-/// The next byte, which is left, where its major type lies from `low` to `high`.
+/// The next byte, if its major type is from `low` to `high`. The byte is not taken.
 #[tactic(auto, using(crate::proofs::PartRefusals::end_byte))]
 pub(crate) fn peek_major<R: Read>(
     name: &str,
@@ -34,7 +34,7 @@ pub(crate) fn peek_major<R: Read>(
     Ok(first)
 }
 
-/// The next byte, where its major type lies so, asked for on its own: a refusal names its cause.
+/// Takes the next head, after the first byte was asked for separately: a refusal names its cause.
 #[tactic(auto, using(crate::proofs::PartRefusals::named_kind, crate::proofs::PartRefusals::byte_kind))]
 #[cold]
 #[inline(never)]
@@ -55,8 +55,8 @@ fn pull_major_slowly<R: Read>(
     Ok((first / 32, argument))
 }
 
-/// The major type and the argument of the next head, which is taken, where its major type lies from
-/// `low` to `high`. Where all of a head of another major type is at hand, it is taken too.
+/// Takes the next head, if its major type is from `low` to `high`, and answers its major type and
+/// argument. If all of a head of another major type is at hand, that is taken too.
 #[inline(always)]
 pub fn pull_major<R: Read>(
     name: &str,

@@ -36,7 +36,7 @@ fn pull_number<R: Read>(name: &str, reader: &mut R) -> ReadResult<i128, R>
     Ok(number_of(major, argument))
 }
 
-/// The number as a type has it that reaches from -1 - `greatest` to `greatest`.
+/// The number as a type that reaches from -1 - `greatest` to `greatest` has it.
 fn signed_of(number: i128, greatest: u64) -> Option<i128>
     ensures { result ≡ within (greatest + 1) number }
 {
@@ -80,7 +80,7 @@ pub fn pull_signed<R: Read>(name: &str, reader: &mut R, greatest: u64) -> ReadRe
     }
 }
 
-/// A number of any size, which no tag announces.
+/// A number of any size, without a tag.
 #[tactic(auto, using(crate::proofs::PartRefusals::end_kind))]
 fn pull_big<R: Read>(name: &str, reader: &mut R) -> ReadResult<i128, R>
     ensures number { Reads
@@ -96,7 +96,7 @@ fn pull_big<R: Read>(name: &str, reader: &mut R) -> ReadResult<i128, R>
     pull_number(name, reader)
 }
 
-/// The number where it is not below 0.
+/// The number, if it is not below 0.
 fn big_natural_of(number: i128) -> Option<u128>
     ensures { result ≡ natural_below (2 ^ 128) number }
 {

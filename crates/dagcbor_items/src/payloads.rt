@@ -1,5 +1,5 @@
-//! How the strings of items are read: gathered in memory where an input does not lend them, or lent
-//! by a slice.
+//! How the strings of items are read: gathered in memory if an input does not lend them, or lent by
+//! a slice.
 
 ghost use Rattle.std.specs.Prelude.{◌≡◌, ◌<◌, ◌↔◌, ℕ, List, true, false, IsTrue, option_map, IfErr};
 ghost use Rattle.std.specs.Prelude.{◌+◌, [], length, MatchBool, IfSome};
@@ -28,7 +28,7 @@ use std::convert::Infallible;
 
 /// A reader whose strings can be skipped, and the keys of whose maps can be kept.
 pub trait PayloadReader: Read {
-    /// Where memory for a string comes from, or nothing where none is taken.
+    /// Where memory for a string comes from, or nothing if none is taken.
     type Alloc: Copy;
 
     /// A key of a map, which is kept until the next one is compared with it.
@@ -36,7 +36,7 @@ pub trait PayloadReader: Read {
 
     ghost key_bytes: { Self.Key → List ℕ };
 
-    /// Takes the item at the front, where it holds no others and no link, and all of it is at hand.
+    /// Takes the item at the front, if it contains no others and no link, and all of it is at hand.
     /// It may take nothing.
     fn take_leaf(&mut self) -> bool
         ensures taken { MatchBool result
@@ -46,7 +46,7 @@ pub trait PayloadReader: Read {
         ensures looked { IsTrue result
             → LooksAtTaken 3 0 (Self.reading self.old) (Self.reading self.new) };
 
-    /// Reads a key behind the one before it.
+    /// Reads a key after the one before it.
     fn pull_key(
         &mut self,
         alloc: Self::Alloc,
@@ -72,7 +72,7 @@ pub trait PayloadReader: Read {
         ensures variant { IfErr result OfText };
 }
 
-/// Lent where the input lends, and else gathered in memory.
+/// Lent if the input lends, else gathered in memory.
 impl<'de, R: Read> PayloadReader for Input<'de, R> {
     type Alloc = Global;
 
@@ -183,7 +183,7 @@ pub(crate) fn pull_lent_text<'de>(
     pull_lent_text_slowly(name, reader)
 }
 
-/// Whether the key may stand behind the one before it.
+/// Whether the key may come after the one before it.
 fn lent_follows(previous: &Option<&str>, key: &str) -> bool
     ensures { IsTrue result ↔ Follows (option_map (λ s. s.now) previous.now) key.now }
 {
@@ -191,7 +191,7 @@ fn lent_follows(previous: &Option<&str>, key: &str) -> bool
     follows(&before, key.as_bytes())
 }
 
-/// How many bytes the item at the front has, where it holds no others and no link.
+/// How many bytes the item at the front has, if it contains no others and no link.
 #[inline(always)]
 fn leaf_length(bytes: &[u8]) -> Option<usize>
     ensures { IfSome result (λ n. (t : Tree) × (rest : List ℕ) × IsFront bytes.now t rest

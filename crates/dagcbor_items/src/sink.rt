@@ -12,7 +12,7 @@ pub trait LinkSink {
     /// What contracts see of the sink.
     ghost sink: { Sink Self };
 
-    /// Hands it the next link. Where it refuses, it holds what it held.
+    /// Hands it the next link. If it refuses, it holds what it held before.
     fn take(&mut self, cid: Cid) -> Result<(), AllocError>
         ensures { MatchResult result
             (λ _. Finds sink.holds self.old (cid_bytes cid ∷ []) self.new)

@@ -1,4 +1,4 @@
-//! What stands behind items, found by their heads alone.
+//! What comes after items, found by their heads only.
 
 ghost use Rattle.std.specs.Prelude.{◌≡◌, ◌<◌, ◌≤◌, ◌^◌, length, drop, MatchOption, IsTrue};
 ghost use Rattle.std.specs.Prelude.{if◌then◌else◌};
@@ -6,7 +6,7 @@ ghost use Rattle.dagcbor_items.specs.Skips.{is_string, part_count, FindsBehindIt
 
 use dagcbor_heads::split_head;
 
-/// What is behind a head, and behind its string, where it is one of a string.
+/// What comes after a head, and after its string if it has one.
 #[inline(always)]
 pub fn behind_token(major: u8, argument: u64, behind: &[u8]) -> Option<&[u8]>
     ensures { MatchOption result
@@ -37,9 +37,9 @@ fn parts_behind(major: u8, argument: u64) -> Option<u64>
     }
 }
 
-/// The bytes behind so many items, by their heads: of lists, maps and links the parts follow, of
-/// strings the bytes, and nothing is judged. Where items stand, they end there (`items_found` in
-/// `proofs/Skipping.antt`); bytes that are no items may have such an end too.
+/// The bytes after so many items, by their heads. After those of lists, maps and links come the
+/// parts, after those of strings the bytes. Nothing is judged. If there are items, they end there
+/// (`items_found` in `proofs/Skipping.antt`). Bytes that are not items may have such an end too.
 pub fn behind_items(bytes: &[u8], count: u64) -> Option<&[u8]>
     ensures { FindsBehindItems (λ s. s.now) bytes.now count result }
 {
@@ -53,7 +53,7 @@ pub fn behind_items(bytes: &[u8], count: u64) -> Option<&[u8]>
     Some(rest)
 }
 
-/// The bytes behind the item at the front, as `behind_items` finds them.
+/// The bytes after the item at the front, as `behind_items` finds them.
 pub fn behind_item(bytes: &[u8]) -> Option<&[u8]>
     ensures { FindsBehindItems (λ s. s.now) bytes.now 1 result }
 {

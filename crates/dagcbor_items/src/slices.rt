@@ -24,15 +24,15 @@ use ipld_tree::{Cid, Ipld};
 use std::alloc::Global;
 use std::convert::Infallible;
 
-/// Why bytes are no block, and where: behind so many bytes an item might go on, and no item goes on
-/// with the next one.
+/// Why bytes are not a block, and where. Of the bytes before `place` only missing bytes are told; with
+/// the next byte the cause stands.
 #[derive(Debug, Drop)]
 pub struct Refused {
     pub cause: DecodeError<Infallible>,
     pub place: usize,
 }
 
-/// The data whose spelling the bytes are, as `from_slice` answers it. Its contract also names the
+/// The data whose spelling is these bytes, as `from_slice` answers it. Its contract also names the
 /// cause of a refusal.
 ///
 /// ```rust
@@ -49,8 +49,8 @@ pub fn any_from_slice(alloc: Global, bytes: &[u8]) -> Result<Ipld, DecodeError<I
     Ok(value)
 }
 
-/// The kind of the data whose spelling the bytes are. What `any_from_slice` refuses is refused, but
-/// nothing is built, and no memory taken.
+/// The kind of the data whose spelling is these bytes. It refuses what `any_from_slice` refuses,
+/// but builds nothing and takes no memory.
 ///
 /// ```rust
 /// agree(check_slice(b"\x82\x39\x01\x2b\x61a")?, Kind::List)?;
@@ -67,7 +67,7 @@ pub fn check_slice(bytes: &[u8]) -> Result<Kind, DecodeError<Infallible>>
     }
 }
 
-/// The kind of a block, as `check_slice` answers it, or why and where the bytes are none.
+/// The kind of a block, as `check_slice` answers it, or why the bytes are not a block, and where.
 ///
 /// ```rust
 /// let Err(refused) = judge_slice(b"\x82\x01\x18\x17") else {
@@ -93,7 +93,7 @@ pub fn judge_slice(bytes: &[u8]) -> Result<Kind, Refused>
     }
 }
 
-/// The refusal of bytes in which the judge stops.
+/// The refusal of bytes at which the judge stops.
 fn refused_at(bytes: &[u8], stop: Stop) -> Refused
     requires { StopsInItem default_steps stop.cause stop.behind bytes.now }
     ensures cause { result.cause ≡ stop.cause }
@@ -124,7 +124,7 @@ pub fn links_from_slice(alloc: Global, bytes: &[u8]) -> Result<Vec<Cid>, DecodeE
 }
 
 /// The kind of the first item of the bytes, whose links are handed on. What follows it is not
-/// looked at, and no memory is taken but by the sink.
+/// looked at, and only the sink takes memory.
 pub fn walk_slice<S: LinkSink>(bytes: &[u8], links: &mut S) -> Result<Kind, DecodeError<Infallible>>
     ensures { WalksFirst S.sink bytes.now links.old result links.new }
 {
@@ -139,7 +139,7 @@ fn lent<'de>(bytes: &'de [u8]) -> Input<'de, SliceReader<'de>>
     Input::Slice(SliceReader::new(bytes))
 }
 
-/// Takes nothing: `TrailingData` where a byte is left.
+/// Takes nothing: `TrailingData` if a byte is left.
 fn pull_end<R: Read>(reader: &mut R) -> ReadResult<(), R>
     ensures { PullsEnd (R.reading reader.old) result (R.reading reader.new) }
 {

@@ -1,5 +1,5 @@
-//! Where the judge stops: how many bytes of a head, a key or a leaf it has seen when the cause
-//! stands.
+//! Where the judge stops: how many bytes of a head, a key or a leaf it has seen when it knows the
+//! cause.
 
 ghost use Rattle.std.specs.Prelude.{◌≡◌, ◌+◌, ◌≤◌, ◌%◌, ◌/◌, ◌≢◌, ◌⊎◌, ℕ, List, ◌∷◌, ◌++◌, length, MatchBool};
 ghost use Rattle.std.specs.Prelude.{Option};
@@ -20,7 +20,7 @@ use crate::link::LONGEST_CID;
 use dagcbor_heads::{DecodeError, is_indefinite, split_head};
 use std::convert::Infallible;
 
-/// Why the judge stops, and how many bytes are behind the last that it has seen.
+/// Why the judge stops, and how many bytes come after the last that it has seen.
 #[derive(Drop)]
 pub(crate) struct Stop {
     pub(crate) cause: DecodeError<Infallible>,
@@ -57,7 +57,7 @@ fn is_deep(cause: &DecodeError<Infallible>) -> bool
     }
 }
 
-/// How many bytes of argument stand behind a first byte.
+/// How many bytes of argument follow a first byte.
 fn width_behind(first: u8) -> usize
     ensures most { result ≤ 8 }
     ensures width { result ≡ argument_width (first % 32) }
@@ -71,7 +71,7 @@ fn width_behind(first: u8) -> usize
     }
 }
 
-/// Of a head that is refused.
+/// How many bytes are seen of a refused head.
 fn seen_of_head(bytes: &[u8]) -> usize
     ensures most { result ≤ 9 }
     ensures head { StopsWith HeadCause EndsInHead bytes.now result }
@@ -82,7 +82,7 @@ fn seen_of_head(bytes: &[u8]) -> usize
     1 + width_behind(*first)
 }
 
-/// Of a string whose head or payload is refused.
+/// How many bytes are seen of a string whose head or payload is refused.
 fn seen_of_string(bytes: &[u8]) -> usize
     ensures most { result ≤ length bytes.now + 9 }
     ensures head { StopsWith HeadCause EndsInHead bytes.now result }
@@ -98,7 +98,7 @@ fn seen_of_string(bytes: &[u8]) -> usize
     bytes.len() - behind.len() + count as usize
 }
 
-/// Whether bytes that are there begin with one of the major type.
+/// Whether the first byte, if there is one, has the major type.
 fn begins_as(bytes: &[u8], major: u8) -> bool
     ensures { MatchBool result (BeginsAs major bytes.now)
         ((first : ℕ) × (more : List ℕ) × (bytes.now ≡ first ∷ more) × (first / 32 ≢ major)) }
@@ -109,7 +109,7 @@ fn begins_as(bytes: &[u8], major: u8) -> bool
     *first / 32 == major
 }
 
-/// Of a key that is refused.
+/// How many bytes are seen of a refused key.
 fn seen_of_key(bytes: &[u8]) -> usize
     ensures { (previous : Option (List ℕ)) → StopsWith (KeyCause previous) EndsInKey bytes.now result }
 {
@@ -119,7 +119,7 @@ fn seen_of_key(bytes: &[u8]) -> usize
     seen_of_string(bytes)
 }
 
-/// Of a byte string that is no zero and a CID.
+/// How many bytes are seen of a refused byte string of a link.
 fn seen_of_cid(bytes: &[u8]) -> usize
     ensures most { result ≤ length bytes.now + 9 }
     ensures cid { StopsWith LinkBytesCause EndsInCid bytes.now result }
@@ -135,7 +135,7 @@ fn seen_of_cid(bytes: &[u8]) -> usize
     seen_of_string(bytes)
 }
 
-/// Of a link that is refused.
+/// How many bytes are seen of a refused link.
 fn seen_of_link(bytes: &[u8]) -> usize
     ensures { StopsWith LinkCause EndsInLink bytes.now result }
 {
@@ -154,7 +154,7 @@ fn seen_of_link(bytes: &[u8]) -> usize
     2 + seen_of_cid(cid)
 }
 
-/// Of an item that holds no others, or of a head.
+/// How many bytes are seen of a refused item that contains no others, or of a refused head.
 fn seen_of_leaf(bytes: &[u8]) -> usize
     ensures { StopsWith LeafCause EndsInLeaf bytes.now result }
 {
@@ -173,8 +173,8 @@ fn seen_of_leaf(bytes: &[u8]) -> usize
     seen_of_string(bytes)
 }
 
-/// How many bytes are behind those that were seen, where an item is refused that is no list or map
-/// with steps for its parts.
+/// How many bytes come after those that were seen, if the refused item is not a list or map with
+/// steps for its parts.
 pub(crate) fn behind_refused_item(
     cause: &DecodeError<Infallible>,
     bytes: &[u8],
@@ -194,7 +194,7 @@ pub(crate) fn behind_refused_item(
     bytes.len().saturating_sub(seen_of_leaf(bytes))
 }
 
-/// How many bytes are behind those that were seen, where a key is refused.
+/// How many bytes come after those that were seen, if a key is refused.
 pub(crate) fn behind_refused_key(cause: &DecodeError<Infallible>, bytes: &[u8]) -> usize
     ensures { (previous : Option (List ℕ)) → KeyCause previous cause.now bytes.now
         → StopsInKey previous cause.now result bytes.now }

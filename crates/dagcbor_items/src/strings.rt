@@ -28,7 +28,7 @@ use dagcbor_heads::{
 use std::alloc::{AllocError, Global};
 use std::borrow::{CowSlice, CowStr};
 
-/// The bytes of a string whose first byte has the major type, lent where the input lends.
+/// The bytes of a string whose first byte has the major type, lent if the input lends.
 #[tactic(auto, using(crate::proofs::PartRefusals::named_kind, crate::proofs::PartRefusals::payload_kind))]
 fn pull_peeked_string<'de, R: Read>(
     alloc: Global,
@@ -60,7 +60,7 @@ fn owned_text_of(bytes: Vec<u8>) -> Option<String>
     Some(unsafe { String::from_utf8_unchecked(bytes) })
 }
 
-/// The payload as a text, lent where it is.
+/// The payload as a text, lent if the payload is.
 fn text_of<'de>(payload: CowSlice<'de, u8>) -> Option<CowStr<'de>>
     ensures text { MatchOption result (¬ IsUtf8 (cow_slice_items payload.entry))
         (λ s. (cow_str_bytes s ≡ cow_slice_items payload.entry) × IsUtf8 (cow_str_bytes s)) }
@@ -72,7 +72,7 @@ fn text_of<'de>(payload: CowSlice<'de, u8>) -> Option<CowStr<'de>>
     }
 }
 
-/// A byte string whose first byte has its major type, lent where the input lends.
+/// A byte string whose first byte has its major type, lent if the input lends.
 #[tactic(auto, using(crate::proofs::StringReads::bytes_read))]
 pub(crate) fn pull_peeked_slice<'de, R: Read>(
     alloc: Global,
@@ -90,7 +90,7 @@ pub(crate) fn pull_peeked_slice<'de, R: Read>(
     pull_peeked_string(alloc, "bytes", input, 2)
 }
 
-/// A byte string, lent where the input lends.
+/// A byte string, lent if the input lends.
 #[tactic(auto, using(crate::proofs::PartRefusals::byte_kind))]
 pub fn pull_slice<'de, R: Read>(
     alloc: Global,
@@ -108,7 +108,7 @@ pub fn pull_slice<'de, R: Read>(
     pull_peeked_slice(alloc, input)
 }
 
-/// A text whose first byte has its major type, lent where the input lends.
+/// A text whose first byte has its major type, lent if the input lends.
 #[tactic(auto, using(crate::proofs::PartRefusals::kind_text))]
 pub(crate) fn pull_peeked_str<'de, R: Read>(
     alloc: Global,
@@ -169,8 +169,8 @@ fn copy_text(alloc: Global, text: &str) -> Result<String, AllocError>
     String::from_str(alloc, text)
 }
 
-/// Takes the text at the front into memory of its own, where the input lends nothing and all of it
-/// is at hand. Else nothing is taken, and where memory is wanted.
+/// Takes the text at the front into memory of its own, if the input lends nothing and all of it is
+/// at hand. Else, and if memory is wanted, nothing is taken.
 fn take_copied<R: Read>(
     alloc: Global,
     input: &mut Input<'_, R>,
@@ -201,7 +201,7 @@ fn take_copied<R: Read>(
     }
 }
 
-/// What refuses a payload that is no text, read byte by byte: a refusal names its cause.
+/// A text, read byte by byte: a refusal names its cause.
 #[tactic(auto, using(crate::proofs::PartRefusals::byte_text))]
 #[cold]
 #[inline(never)]
@@ -222,7 +222,7 @@ fn pull_str_slowly<'de, R: Read>(
     pull_peeked_str(alloc, name, input)
 }
 
-/// A text, lent where the input lends. Refusals carry the name.
+/// A text, lent if the input lends. Refusals carry the name.
 #[inline(always)]
 pub fn pull_str<'de, R: Read>(
     alloc: Global,
@@ -261,7 +261,7 @@ fn own_text(alloc: Global, text: CowStr<'_>) -> Result<String, AllocError>
     text.into_owned(alloc)
 }
 
-/// The bytes in memory of their own. Where there are none, none is taken.
+/// The bytes in memory of their own. If there are none, none is taken.
 fn own_bytes(alloc: Global, bytes: CowSlice<'_, u8>) -> Result<Vec<u8>, AllocError>
     ensures bytes { IfOk result (λ v. v.items ≡ cow_slice_items bytes.entry) }
     ensures memory { IfErr result (λ _. 0 < length (cow_slice_items bytes.entry)) }
@@ -290,7 +290,7 @@ pub(crate) fn pull_peeked_owned_text<R: Read>(
     }
 }
 
-/// A text of its own, also where the input lends.
+/// A text of its own, even if the input lends.
 #[tactic(auto, using(crate::proofs::PartRefusals::byte_text))]
 pub fn pull_owned_text<R: Read>(alloc: Global, input: &mut Input<'_, R>) -> ReadResult<String, R>
     ensures text { OverInput R.reading ReadsOwnedText input.old result input.new }
@@ -323,7 +323,7 @@ pub(crate) fn pull_peeked_owned_bytes<R: Read>(
     }
 }
 
-/// A byte string of its own, also where the input lends.
+/// A byte string of its own, even if the input lends.
 #[tactic(auto, using(crate::proofs::PartRefusals::byte_kind))]
 pub fn pull_owned_bytes<R: Read>(alloc: Global, input: &mut Input<'_, R>) -> ReadResult<Vec<u8>, R>
     ensures bytes { OverInput R.reading ReadsOwnedBytes input.old result input.new }

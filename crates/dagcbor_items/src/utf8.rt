@@ -1,5 +1,5 @@
-//! Whether bytes are a text: short ones are first looked at for ASCII, longer ones are read 64 bytes
-//! a step.
+//! Whether bytes are a text. Short ones are first checked for ASCII; longer ones are read in steps
+//! of 64 bytes.
 
 ghost use Rattle.std.specs.Prelude.{◌≡◌, IsUtf8, MatchOption};
 
@@ -7,7 +7,7 @@ use crate::judge::{SHORT, is_plain};
 use simdutf8::basic;
 use std::str::{from_utf8, from_utf8_unchecked};
 
-/// How many bytes a step reads. It pays from so many on.
+/// How many bytes a step reads. Steps pay from this length on.
 const STEP: usize = 64;
 
 /// The bytes as a text.

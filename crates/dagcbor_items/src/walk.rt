@@ -1,5 +1,5 @@
-//! Going through items of any kind: read as `any` reads them, with nothing built. How their strings
-//! are read, and what is done with their links, is the caller's.
+//! Going through items of any kind, as `any` reads them, without building anything. The caller
+//! decides how their strings are read, and what is done with their links.
 
 ghost use Rattle.std.specs.Prelude.{◌≡◌, ◌≢◌, ◌≤◌, ◌/◌, IfErr};
 ghost use Rattle.dagcbor_heads.specs.Fronts.{StartsWith};

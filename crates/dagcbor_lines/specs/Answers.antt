@@ -1,5 +1,5 @@
 -- What the program writes for its input.
-use Rattle.std.specs.Prelude.{◌≡◌, ◌≢◌, ◌⊎◌, ℕ, List, [], ◌∷◌, ◌++◌, codes, Option, None, Some, MatchResult, Result, IfSome, OnOk, OnErr, IfErr}
+use Rattle.std.specs.Prelude.{◌≡◌, ◌≢◌, ◌⊎◌, ℕ, ◌<◌, ◌-◌, ◌^◌, List, [], ◌∷◌, ◌++◌, length, codes, ⊤, Option, None, Some, MatchResult, Result, IfSome, OnOk, OnErr, IfErr}
 use Rattle.std.specs.Io.{StartsWith}
 use Rattle.std.specs.Io.KnownBytes.{Appends}
 use Rattle.std.specs.Str.Lines.{lines}
@@ -84,9 +84,10 @@ module _ (Said : List ℕ → List ℕ → Type 0) where
   AreAnswers (line ∷ lines) out = (said more : List ℕ) × Said line said × (out ≡ said ++ 10 ∷ more)
       × AreAnswers lines more
 
-  -- one line of output for each of the first lines of the text was appended to these bytes
-  pub record AppendsAnswers (text left old new : List ℕ) : Type 0 where
+  -- one line of output for each of so many first lines of the text was appended to these bytes
+  pub record AppendsAnswers (count : ℕ) (text left old new : List ℕ) : Type 0 where
     pub done : List (List ℕ)
+    pub counted : length done ≡ count
     pub out : List ℕ
     pub begins : BeginsWithLines text done left
     pub answers : AreAnswers done out
@@ -98,9 +99,10 @@ module _ (Said : List ℕ → List ℕ → Type 0) where
     pub answers : AreAnswers asked out
     pub appended : Appends old new out
 
-  -- what a call wrote is one line of output for each of the first lines of the input
-  pub record WritesWhole (input : List ℕ) (old new : Option (List ℕ)) : Type 0 where
+  -- what a call wrote is one line of output for each of so many first lines of the input
+  pub record WritesWhole (count : ℕ) (input : List ℕ) (old new : Option (List ℕ)) : Type 0 where
     pub done : List (List ℕ)
+    pub counted : length done ≡ count
     pub others : List (List ℕ)
     pub split : lines input ≡ done ++ others
     pub wrote : WritesAnswers done old new
@@ -121,9 +123,10 @@ module _ (Said : List ℕ → List ℕ → Type 0) where
     pub begins : IsBeginning asked part
     pub appended : Appends old new part
 
-  -- what was taken from the input so far are whole lines, and each was answered
-  pub record HasAnswered (input : List ℕ) (remaining old new : Option (List ℕ)) : Type 0 where
+  -- what was taken from the input so far are so many whole lines, and each was answered
+  pub record HasAnswered (count : ℕ) (input : List ℕ) (remaining old new : Option (List ℕ)) : Type 0 where
     pub done : List (List ℕ)
+    pub counted : length done ≡ count
     pub left : List ℕ
     pub split : lines input ≡ done ++ lines left
     pub remains : remaining ≡ Some left
@@ -151,15 +154,25 @@ module _ (Said : List ℕ → List ℕ → Type 0) where
   -- whole lines were taken from the input, and each was answered; then the run broke off, in the
   -- next line or before it, and of the answers of the next lines at most a beginning was written
   pub record AnswersSome (input : List ℕ) (remaining old new : Option (List ℕ)) : Type 0 where
+    pub count : ℕ
     pub behind : List ℕ
     pub now : Option (List ℕ)
-    pub answered : HasAnswered input (Some behind) old now
+    pub answered : HasAnswered count input (Some behind) old now
     pub broken : BreaksOff behind remaining now new
+
+-- after so many lines a run ends, with `Input`
+abbrev pub most_lines : ℕ
+most_lines = 2 ^ 64 - 1
+
+-- behind how many lines a run may end so: memory is wanting only before the run ends anyway
+abbrev pub MayEndBehind : ℕ → ToolError → Type 0
+MayEndBehind count OutOfMemory = count < most_lines
+MayEndBehind count _ = ⊤
 
 -- A run of a command over the input, where the reader tells its bytes: each line was answered, or
 -- the run broke off; and unless it was the output that failed, whole lines were written.
 pub record RunsLines (command : Command) (before after old new : Option (List ℕ)) (r : Result Unit ToolError) : Type 0 where
   pub answered : OnOk r (IfSome before (λ input. AnswersAll (IsAnswer command) input after old new))
   pub broken : OnErr r (IfSome before (λ input. AnswersSome (IsAnswer command) input after old new))
-  pub whole : IfErr r (λ e. e ≢ Output
-      → IfSome before (λ input. WritesWhole (IsAnswer command) input old new))
+  pub whole : IfErr r (λ e. e ≢ Output → (count : ℕ) × MayEndBehind count e
+      × IfSome before (λ input. WritesWhole (IsAnswer command) count input old new))

@@ -1,13 +1,13 @@
 //! A run of a command: each line of the input is answered by a line of the output, the lines of a
 //! fill in one piece.
 
-ghost use Rattle.std.specs.Prelude.{◌≡◌, ◌≢◌, ◌++◌, [], ℕ, List, All, IfSome, IfErr, false};
+ghost use Rattle.std.specs.Prelude.{◌≡◌, ◌≢◌, ◌++◌, ◌+◌, ◌-◌, ◌^◌, ◌<◌, if◌then◌else◌, [], ℕ, List, All, IfSome, IfErr, false};
 ghost use Rattle.std.specs.Prelude.{OnOk, OnErr};
 ghost use Rattle.std.specs.Io.KnownBytes.{prepend_known, IsAtEnd};
 ghost use Rattle.std.specs.Str.Lines.{lines, strip_carriage_return};
 ghost use Rattle.dagcbor_lines.specs.Answers.{IsAnswer, AppendsLine, AppendsAnswers, HasAnswered};
 ghost use Rattle.dagcbor_lines.specs.Answers.{WritesAnswers, WritesBeginning, WritesWhole};
-ghost use Rattle.dagcbor_lines.specs.Answers.{BreaksOff, RunsLines};
+ghost use Rattle.dagcbor_lines.specs.Answers.{BreaksOff, RunsLines, MayEndBehind, most_lines};
 
 use crate::answer::push_answer;
 use crate::command::Command;
@@ -25,6 +25,8 @@ struct Buffers {
     block: Vec<u8>,
     /// The answers that are not written yet.
     out: Vec<u8>,
+    /// How many lines were answered.
+    lines: u64,
     ghost one_line: { All (λ b. b ≢ 10) partial.items },
 }
 
@@ -41,6 +43,7 @@ fn answer_line(
         buffers.old.out.items buffers.new.out.items) }
     ensures emptied { OnOk result (buffers.new.partial.items ≡ []) }
     ensures same { OnErr result (buffers.new.out.items ≡ buffers.old.out.items) }
+    ensures lines { buffers.new.lines ≡ buffers.old.lines }
     ensures memory { IfErr result (λ e. e ≡ ToolError.OutOfMemory) }
 {
     if buffers.partial.is_empty() {
@@ -54,23 +57,32 @@ fn answer_line(
     Ok(())
 }
 
-/// Answers each line that ends in what is shown, and holds what stands behind the last of them.
+/// Answers each line that ends in what is shown, and holds what stands after the last of them. The
+/// greatest number of lines is `u64::MAX`: none is answered after it.
 fn answer_shown(
     alloc: Global,
     command: Command,
     shown: &[u8],
     buffers: &mut Buffers,
 ) -> Result<(), ToolError>
-    ensures answered { OnOk result (AppendsAnswers (IsAnswer command)
-        (buffers.old.partial.items ++ shown.now) buffers.new.partial.items
-        buffers.old.out.items buffers.new.out.items) }
-    ensures some { (left : List ℕ) × AppendsAnswers (IsAnswer command)
-        (buffers.old.partial.items ++ shown.now) left buffers.old.out.items buffers.new.out.items }
-    ensures memory { IfErr result (λ e. e ≡ ToolError.OutOfMemory) }
+    requires { buffers.old.lines < most_lines }
+    ensures answered { OnOk result ((count : ℕ) × (buffers.new.lines ≡ buffers.old.lines + count)
+        × AppendsAnswers (IsAnswer command) count (buffers.old.partial.items ++ shown.now)
+        buffers.new.partial.items buffers.old.out.items buffers.new.out.items) }
+    ensures some { (count : ℕ) × (left : List ℕ) × (buffers.new.lines ≡ buffers.old.lines + count)
+        × AppendsAnswers (IsAnswer command) count (buffers.old.partial.items ++ shown.now)
+        left buffers.old.out.items buffers.new.out.items }
+    ensures most { OnOk result (buffers.new.lines < most_lines) }
+    ensures cause { IfErr result (MayEndBehind buffers.new.lines) }
+    ensures inner { IfErr result (λ e. e ≢ ToolError.Output) }
 {
     let mut rest = shown;
     while let Some(at) = line_feed(rest) {
         answer_line(alloc, command, &rest[..at], buffers)?;
+        buffers.lines += 1;
+        if buffers.lines == u64::MAX {
+            return Err(ToolError::Input);
+        }
         rest = &rest[at + 1..];
     }
     buffers.partial.extend_from_slice(rest)?;
@@ -86,11 +98,13 @@ fn answer_fill<R: BufRead, W: Write>(
     writer: &mut W,
     buffers: &mut Buffers,
 ) -> Result<bool, ToolError>
-    ensures answered { OnOk result
-        (IfSome (prepend_known buffers.old.partial.items (R.remaining reader.old)) (λ input.
-        HasAnswered (IsAnswer command) input
+    requires { buffers.old.lines < most_lines }
+    ensures answered { OnOk result ((count : ℕ) × (buffers.new.lines ≡ buffers.old.lines + count)
+        × IfSome (prepend_known buffers.old.partial.items (R.remaining reader.old)) (λ input.
+        HasAnswered (IsAnswer command) count input
         (prepend_known buffers.new.partial.items (R.remaining reader.new))
         (W.contents writer.old) (W.contents writer.new))) }
+    ensures most { OnOk result (buffers.new.lines < most_lines) }
     ensures end { result ≡ Ok false
         → IfSome (R.remaining reader.old) (λ _. IsAtEnd (R.remaining reader.new)) }
     ensures broken { OnErr result
@@ -98,8 +112,9 @@ fn answer_fill<R: BufRead, W: Write>(
         BreaksOff (IsAnswer command) input (R.remaining reader.new)
         (W.contents writer.old) (W.contents writer.new))) }
     ensures whole { IfErr result (λ e. e ≢ ToolError.Output
-        → IfSome (prepend_known buffers.old.partial.items (R.remaining reader.old)) (λ input.
-        WritesWhole (IsAnswer command) input (W.contents writer.old) (W.contents writer.new))) }
+        → (count : ℕ) × MayEndBehind (buffers.old.lines + count) e
+        × IfSome (prepend_known buffers.old.partial.items (R.remaining reader.old)) (λ input.
+        WritesWhole (IsAnswer command) count input (W.contents writer.old) (W.contents writer.new))) }
 {
     let Ok(shown) = reader.fill_buf() else {
         return Err(ToolError::Input);
@@ -128,7 +143,7 @@ fn answer_last<W: Write>(
     ensures broken { OnErr result (WritesBeginning (IsAnswer command)
         (lines buffers.old.partial.items) (W.contents writer.old) (W.contents writer.new)) }
     ensures whole { IfErr result (λ e. e ≢ ToolError.Output
-        → WritesWhole (IsAnswer command) buffers.old.partial.items
+        → WritesWhole (IsAnswer command) 0 buffers.old.partial.items
         (W.contents writer.old) (W.contents writer.new)) }
 {
     if buffers.partial.is_empty() {
@@ -160,15 +175,27 @@ pub fn run_lines<R: BufRead, W: Write>(
         partial: Vec::new(alloc),
         block: Vec::new(alloc),
         out: Vec::new(alloc),
+        lines: 0,
     };
-    // No input has as many fills: each but the last takes a byte at least.
-    for _ in 0..u64::MAX {
+    // The fills since the last line ended.
+    let mut fills = 0;
+    while fills < u64::MAX {
+        let lines = buffers.lines;
         let more = answer_fill(alloc, command, reader, writer, &mut buffers)?;
         if !more {
             return answer_last(alloc, command, writer, &mut buffers);
         }
+        fills = fills_since(fills, buffers.lines == lines);
     }
-    Err(ToolError::OutOfMemory)
+    Err(ToolError::Input)
+}
+
+/// One fill more where it ended no line, else none.
+fn fills_since(fills: u64, goes_on: bool) -> u64
+    requires { fills < 2 ^ 64 - 1 }
+    ensures { result ≡ (if goes_on then fills + 1 else 0) }
+{
+    if goes_on { fills + 1 } else { 0 }
 }
 
 /// For each line, whether it is the spelling of a value, and of which kind.

@@ -1,7 +1,9 @@
 -- What calls say that answered, or were refused, on a Deserializer that had not failed.
-use Rattle.std.proofs.Common.{◌≡◌, ℕ, List, Global, ◌<◌, ◌-◌, true, false, refl, subst, Option, None, Some, IfSome, Ok, Err}
+use Rattle.std.proofs.Common.{◌≡◌, ℕ, List, ◌++◌, length, append_assoc, ◌∙◌, Global, ◌<◌, ◌-◌, true, false, refl, subst, Option, None, Some, IfSome, Ok, Err}
 use Rattle.std.specs.Cow.{cow_str_bytes}
 use Rattle.std.specs.declared.borrow.CowStr.{CowStr}
+use Rattle.dagcbor_heads.specs.Head.{head}
+use Rattle.dagcbor_heads.specs.Reading.{Reading}
 use Rattle.dagcbor_heads.specs.Refusals.{RefusesOrLacksMemoryUnlent}
 use Rattle.dagcbor_heads.specs.declared.error.DecodeError.{DecodeError}
 use Rattle.ipld_tree.specs.Tree.{Tree, text}
@@ -13,7 +15,8 @@ use Rattle.dagcbor_read.specs.Deserializers.{DeState, Call}
 use Rattle.dagcbor_items.specs.TypedReads.{RefusesRead, HasFront, TakesFront}
 use Rattle.dagcbor_read.proofs.Progressing.{call_answered, call_told}
 use Rattle.dagcbor_read.specs.Accessors.{AccessorState, ReadsElement, after_element, ReadsNextKey, KeepsKey, after_key}
-use Rattle.dagcbor_items.specs.Shapes.{Shape}
+use Rattle.dagcbor_items.specs.Majors.{BeginsSomeString}
+use Rattle.dagcbor_items.specs.Shapes.{Shape, leaf, view_text}
 use Rattle.dagcbor_items.proofs.StringItems.{text_taken}
 
 -- ---- the next item of a list
@@ -71,6 +74,12 @@ after_some_key E o k c d e h = subst (λ x. d ≡ after_key {E = E} (Ok x) c) e 
 
 pub after_no_key : (E : Type 0) (o : Option (CowStr Global)) (c d : AccessorState) → o ≡ None → d ≡ after_key {E = E} (Ok o) c → d ≡ c
 after_no_key E o c d e h = subst (λ x. d ≡ after_key {E = E} (Ok x) c) e h
+
+-- memory is wanting for a copy of a text of some bytes
+pub copy_lacks : {old new : Reading} {k : List ℕ} → TakesFront (leaf view_text) old k new → 0 < length k → (b : List ℕ) → old.left ≡ Some b → BeginsSomeString 3 b
+copy_lacks {old} {new} {k} h some b l =
+    let q = (text_taken k h).taken b l in
+    (length k, k ++ q.0, some, q.1.spellable, q.1.is ∙ append_assoc (head 3 (length k)) k q.0)
 
 -- a key that was read and kept
 pub kept_read : (E : Type 0) (last kept : Option (List ℕ)) (left : ℕ) (old new : DeState) (u : Unit {0}) → 0 < left → Call (KeepsKey {E = E} last kept) old (Ok u) new → (k : List ℕ) × (kept ≡ Some k) × KeyRead last left old k new

@@ -28,6 +28,16 @@ use Rattle.dagcbor_read.proofs.ItemRows.{same_reader, left_again}
 use Rattle.dagcbor_heads.proofs.Refusing.{refusal_carried}
 use Rattle.dagcbor_read.proofs.Passing.{or_left, lacks_before, lacks_unlent}
 use Rattle.dagcbor_items.specs.Shapes.{unless_lent}
+use Rattle.dagcbor_read.specs.Parts.{PassesEntries}
+
+-- one entry more was passed
+one_passed : (es : Entries) (b c at d : List ℕ) (before last : Option (List ℕ)) (k : List ℕ) (t : Tree) → PassesEntries es b before c last → IsFront c (text k) at → Follows last k → IsFront at t d
+    → (more : Entries) × PassesEntries more b before d (Some k) × (entry_count more ≡ entry_count es + 1)
+one_passed no_entries b c at d before last k t h f follows v =
+    (entry k t no_entries, (at, d, subst (λ x. IsFront x (text k) at) h.0 f, subst (λ x. Follows x k) h.1 follows, v, (refl, refl)), refl)
+one_passed (entry l u es) b c at d before last k t h f follows v =
+    let r = one_passed es h.1 c at d (Some l) last k t h.5 f follows v in
+    (entry l u r.0, (h.0, h.1, h.2, h.3, h.4, r.1), omega (arith, r.2))
 
 module _ {S : Type 0} (shape : FieldShape S) where
   -- ---- an entry before others
@@ -99,6 +109,8 @@ module _ {S : Type 0} (shape : FieldShape S) where
     pub has : HasFields shape start before.last before.left old.input → HasFields shape s now_left.last now_left.left now.input
     pub takes : (count : ℕ) (end : S) (new : Reading) → TakesFields shape s now_left.last count now.input end new
         → TakesFields shape start before.last (count + (before.left - now_left.left)) old.input end new
+    pub stands : (b : List ℕ) → old.input.left ≡ Some b
+        → (es : Entries) × (c : List ℕ) × PassesEntries es b before.last c now_left.last × (entry_count es + now_left.left ≡ before.left) × (now.input.left ≡ Some c)
 
   pub as_count : {old new : Reading} {state s : S} {last : Option (List ℕ)} {count count' : ℕ} → count ≡ count' → TakesFields shape state last count old s new → TakesFields shape state last count' old s new
   as_count {old} {new} {state} {s} {last} e h = subst (λ n. TakesFields shape state last n old s new) e h
@@ -113,6 +125,7 @@ module _ {S : Type 0} (shape : FieldShape S) where
     same = stays old.input;
     has = λ h. h;
     takes = λ count end new t. as_count (omega arith) t;
+    stands = λ b l. (no_entries, b, (refl, refl), omega arith, l);
   }
 
   pub key_not_read : {E : Type 0} {start s : S} {before now_left : AccessorState} {old now : DeState} (borrows : Type 0) (new : Reading) (e : DecodeError E) → FieldsSoFar start before old now_left s now → 0 < now_left.left
@@ -146,6 +159,12 @@ module _ {S : Type 0} (shape : FieldShape S) where
         same = stays_both i.same (stays_both k.takes.same w.same);
         has = λ h. subst (λ n. HasFields shape next after.last n new.input) (sym less) (subst (λ l. HasFields shape next l (now_left.left - 1) new.input) (sym last) (fields_others key k.some k.takes w (i.has h)));
         takes = λ count end to t. as_count (omega (arith, less, k.some, i.fewer)) (i.takes (count + 1) end to (fields_taken key k.follows k.takes w (subst (λ l. TakesFields shape next l count new.input end to) last t)));
+        stands = λ b l.
+            let p = i.stands b l in
+            let q = k.takes.taken p.1 p.4 in
+            let u = w.taken q.0 q.3 in
+            let r = one_passed p.0 b p.1 q.0 u.1 before.last now_left.last key u.0 p.2 q.1 k.follows u.2 in
+            (r.0, u.1, subst (λ x. PassesEntries r.0 b before.last u.1 x) (sym last) r.1, omega (arith, less, k.some, p.3, r.2), u.5);
       }
 
   -- none of those that are left

@@ -1,5 +1,5 @@
 -- What calls hand on of what types answer beside their law.
-use Rattle.std.proofs.Common.{◌≡◌, ℕ, Bool, true, false, List, [], ◌++◌, inl, inr, refl, sym, ap, subst, ◌∙◌, append_assoc, Option, Some, IfSome, IfErr, Result, Ok, Err, IsErrAnd, MatchBool, codes, ◌⊎◌, ◌∷◌, ◌-◌, ◌/◌, ◌+◌, Global}
+use Rattle.std.proofs.Common.{◌≡◌, ℕ, Bool, true, false, List, [], ◌++◌, inl, inr, refl, sym, ap, subst, ◌∙◌, append_assoc, ◌<◌, arith, Option, None, Some, IfSome, IfErr, Result, Ok, Err, IsErrAnd, MatchBool, MatchResult, codes, ◌⊎◌, ◌∷◌, ◌-◌, ◌/◌, ◌+◌, Global}
 use Rattle.dagcbor_heads.specs.Head.{head}
 use Rattle.dagcbor_heads.specs.Names.{Names}
 use Rattle.dagcbor_heads.specs.declared.name.Name.{Name}
@@ -9,20 +9,20 @@ use Rattle.dagcbor_heads.specs.Inputs.{not_lending}
 use Rattle.dagcbor_heads.specs.declared.error.DecodeError.{DecodeError}
 use Rattle.dagcbor_heads.specs.declared.error.DecodeError.TheVariants.{Msg, Read, TrailingData}
 use Rattle.ipld_tree.specs.Tree.{Tree, text, Items}
-use Rattle.ipld_tree.specs.Spelling.{spelling, items_spelling, entries_spelling}
+use Rattle.ipld_tree.specs.Spelling.{spelling, items_spelling}
 use Rattle.dagcbor_items.specs.Shapes.{Shape}
 use Rattle.dagcbor_items.specs.Entering.{Enters}
 use Rattle.dagcbor_items.specs.TypedReads.{TakesFront}
 use Rattle.dagcbor_read.specs.Deserializers.{DeState, Call, Ends, TellsEnd}
-use Rattle.dagcbor_read.specs.Accessors.{AccessorState, BeginsItems}
+use Rattle.dagcbor_read.specs.Accessors.{AccessorState, accessor_state}
 use Rattle.dagcbor_read.specs.declared.access.accessor.Accessor.{Accessor}
 use Rattle.std.specs.declared.borrow.CowStr.{CowStr}
 use Rattle.dagcbor_read.specs.declared.access.enum_accessor.EnumAccessor.{EnumAccessor}
-use Rattle.dagcbor_read.specs.Enums.{EnumState, enum_state, SpendsEnum, ReadsName, BeginsHeld}
+use Rattle.dagcbor_read.specs.Enums.{enum_state, SpendsEnum, ReadsName}
 use Rattle.dagcbor_read.specs.Collections.{FieldShape, TakesRow}
-use Rattle.dagcbor_read.specs.Parts.{HandsWholeOn, IsStart, IsNoEnd, IsFurther, RefusesFurther, RefusesEntry, RefusesFieldsAs, IfRefused, IsMissingField, HasMessage, RefusesRest, RefusesListAs, RefusesEnumAs, RefusesHeldFields}
+use Rattle.dagcbor_read.specs.Parts.{HandsWholeOn, IsStart, IsNoEnd, IsFurther, IsAtKey, RefusesFurther, RefusesWithin, RefusesEntries, IfRefused, LacksField, HasMessage, RefusesEnumAs}
 use Rattle.dagcbor_read.proofs.Answered.{KeyRead}
-use Rattle.dagcbor_read.proofs.EntryRows.{FieldsSoFar, no_more_fields}
+use Rattle.dagcbor_read.proofs.EntryRows.{FieldsSoFar}
 use Rattle.dagcbor_read.proofs.ItemRows.{ReadSoFar, no_more_items}
 use Rattle.dagcbor_read.proofs.Progressing.{match_false, call_answered, call_told}
 
@@ -93,43 +93,47 @@ pub entered_further : {major count : ℕ} {old now : DeState} → now.failed ≡
 entered_further {major} {count} sound h = record { sound = sound; passed = λ b l. let q = h.takes.taken b l in (head major count, q.0, q.1, q.2) }
 
 module _ {S : Type 0} (shape : FieldShape S) where
-  pub fields_further : {start s : S} {before now_left : AccessorState} {old now : DeState} → FieldsSoFar shape start before old now_left s now → IsFurther old now
-  fields_further {start} {s} {before} {now_left} {old} {now} i = record {
+  pub at_key : {start s : S} {before now_left : AccessorState} {old now : DeState} → FieldsSoFar shape start before old now_left s now → 0 < now_left.left → IsAtKey before old now now_left.last
+  at_key {start} {s} {before} {now_left} {old} {now} i some = record {
     sound = i.sound;
-    passed = λ b l. let q = (i.takes 0 s now.input (no_more_fields shape s now_left.last now.input)).taken b l in (entries_spelling q.0, q.1, q.4.is, q.7);
+    stands = λ b l. let p = i.stands b l in (p.0, p.1, p.2, omega (arith, some, p.3), p.4);
   }
 
 module _ {E : Type 0} (refuses : DeState → DecodeError E → DeState → Type 0) where
   pub from_further : (old mid new : DeState) (e : DecodeError E) → IsFurther old mid → RefusesFurther refuses mid e new → RefusesFurther refuses old e new
   from_further old mid new e i h = (h.0, further_both i h.1, h.2)
 
-  pub named_refused : (old mid new : DeState) (o : Option (DecodeError E)) (e : DecodeError E) → IsFurther old mid → o ≡ Some e → IfSome o (λ x. RefusesFurther refuses mid x new) → RefusesFurther (RefusesEntry refuses) old e new
-  named_refused old mid new o e i is h = (mid, i, inr (subst (λ x. IfSome x (λ y. RefusesFurther refuses mid y new)) is h))
+  pub named_refused : (begun : AccessorState) (last : Option (List ℕ)) (old mid new : DeState) (o : Option (DecodeError E)) (e : DecodeError E) → IsAtKey begun old mid last → o ≡ Some e → IfSome o (λ x. RefusesFurther refuses mid x new) → RefusesEntries refuses begun old e new
+  named_refused begun last old mid new o e i is h = (mid, last, i, inr (subst (λ x. IfSome x (λ y. RefusesFurther refuses mid y new)) is h))
 
-  -- a map that was begun, and the rest of it refused
-  pub fields_refused : {T : Type 0} (name : List ℕ) (old mid new : DeState) (a : Accessor) (r : Result T (DecodeError E)) → Call (BeginsItems {E = E} 5 name 1) old (Ok a) mid → IfErr r (λ e. RefusesFurther (RefusesEntry refuses) mid e new)
-      → IfRefused (RefusesFieldsAs refuses name) old r new
-  fields_refused name old mid new a (Ok v) b h sound = tt
-  fields_refused name old mid new a (Err e) b h sound =
-      let k = call_answered (BeginsItems 5 name 1) old mid a b in
-      inr (from_further' old mid new e (entered_further k.1 k.2.2) h)
-    where
-      from_further' : (old mid new : DeState) (e : DecodeError E) → IsFurther old mid → RefusesFurther (RefusesEntry refuses) mid e new → RefusesFurther (RefusesEntry refuses) old e new
-      from_further' old mid new e i h = (h.0, further_both i h.1, h.2)
+-- ---- a list or map that was to be begun
 
-  pub not_begun : {T : Type 0} (name : List ℕ) (old new : DeState) (r : Result T (DecodeError E)) (e : DecodeError E) → IsErrAnd r (λ y. y ≡ e) → Call (BeginsItems {E = E} 5 name 1) old (Err e) new → IfRefused (RefusesFieldsAs refuses name) old r new
-  not_begun name old new (Ok v) e is h sound = tt
-  not_begun name old new (Err y) e is h sound =
-      let k = call_told (BeginsItems 5 name 1) old new (Err e) sound h in
-      inl (k.0, subst (λ x. BeginsItems 5 name 1 old.input (Err x) new.input) (sym is) k.1)
+module _ {E : Type 0} (begins : Reading → Result Accessor (DecodeError E) → Reading → Type 0) (refuses : AccessorState → DeState → DecodeError E → DeState → Type 0) where
+  pub not_begun : {T : Type 0} (old new : DeState) (r : Result T (DecodeError E)) (e : DecodeError E) → IsErrAnd r (λ y. y ≡ e) → Call begins old (Err e) new → IfRefused (RefusesWithin begins refuses) old r new
+  not_begun old new (Ok v) e is h sound = tt
+  not_begun old new (Err y) e is h sound =
+      let k = call_told begins old new (Err e) sound h in
+      inl (k.0, subst (λ x. begins old.input (Err x) new.input) (sym is) k.1)
 
-  pub or_missing : {T : Type 0} (name : List ℕ) (old new : DeState) (r : Result T (DecodeError E)) → IfRefused (RefusesFieldsAs refuses name) old r new → IfRefused (λ s e t. RefusesFieldsAs refuses name s e t ⊎ IsMissingField e t) old r new
-  or_missing name old new (Ok v) h sound = tt
-  or_missing name old new (Err e) h sound = inl (h sound)
+  -- it was, and the rest of it refused
+  pub rest_refused : {T : Type 0} (old mid new : DeState) (a : Accessor) (r : Result T (DecodeError E)) → Call begins old (Ok a) mid → IfErr r (λ e. refuses (accessor_state a) mid e new) → IfRefused (RefusesWithin begins refuses) old r new
+  rest_refused old mid new a (Ok v) b h sound = tt
+  rest_refused old mid new a (Err e) b h sound = let k = call_answered begins old mid a b in inr (a, mid, k.1, k.2, h)
 
-  pub missing_told : {T : Type 0} (name : List ℕ) (old new : DeState) (r : Result T (DecodeError E)) → new.failed ≡ false → IfErr r (λ e. (kept : Name) × (e ≡ Msg kept) × Names kept (codes "missing field")) → IfRefused (λ s e t. RefusesFieldsAs refuses name s e t ⊎ IsMissingField e t) old r new
-  missing_told name old new (Ok v) sound h fresh = tt
-  missing_told name old new (Err e) sound h fresh = inr (says h, sound)
+-- ---- a field that is missing
+
+module _ {E S V : Type 0} (refuses : DeState → DecodeError E → DeState → Type 0) (takes : Reading → S → Reading → Type 0) (finish : S → Option V) where
+  pub or_lacking : {T : Type 0} (old new : DeState) (r : Result T (DecodeError E)) → IfRefused refuses old r new → IfRefused (λ s e t. refuses s e t ⊎ LacksField takes finish s e t) old r new
+  or_lacking old new (Ok v) h sound = tt
+  or_lacking old new (Err e) h sound = inl (h sound)
+
+  pub lacking_told : {T : Type 0} (meaning : T → V) (old new : DeState) (r : Result T (DecodeError E)) (s : S)
+      → MatchResult r (λ v. finish s ≡ Some (meaning v)) (λ e. (finish s ≡ None) × ((kept : Name) × (e ≡ Msg kept)))
+      → IfErr r (λ e. (kept : Name) × (e ≡ Msg kept) × Names kept (codes "missing field"))
+      → (old.failed ≡ false → (new.failed ≡ false) × takes old.input s new.input)
+      → IfRefused (λ x e t. refuses x e t ⊎ LacksField takes finish x e t) old r new
+  lacking_told meaning old new (Ok v) s h m t sound = tt
+  lacking_told meaning old new (Err e) s h m t sound = inr ((says m, (t sound).0), (s, h.0, (t sound).1))
 
 -- ---- items
 
@@ -138,20 +142,6 @@ row_further sound h = record { sound = sound; passed = λ b l. let q = h.taken b
 
 pub items_further : {V : Type 0} (shape : Shape Tree V) {before now_left : AccessorState} {old now : DeState} {vs : List V} → ReadSoFar shape before old now_left vs now → IsFurther old now
 items_further shape {before} {now_left} {old} {now} {vs} i = row_further i.sound (i.takes 0 [] now.input (no_more_items shape now.input))
-
-module _ {E : Type 0} (refuses : DeState → DecodeError E → DeState → Type 0) where
-  pub list_refused : {T : Type 0} (name : List ℕ) (old mid new : DeState) (a : Accessor) (r : Result T (DecodeError E)) → Call (BeginsItems {E = E} 4 name 1) old (Ok a) mid → IfErr r (λ e. RefusesRest refuses mid e new)
-      → IfRefused (RefusesListAs refuses name) old r new
-  list_refused name old mid new a (Ok v) b h sound = tt
-  list_refused name old mid new a (Err e) b h sound =
-      let k = call_answered (BeginsItems 4 name 1) old mid a b in
-      inr (mid, entered_further k.1 k.2.2, h)
-
-  pub list_not_begun : {T : Type 0} (name : List ℕ) (old new : DeState) (r : Result T (DecodeError E)) (e : DecodeError E) → IsErrAnd r (λ y. y ≡ e) → Call (BeginsItems {E = E} 4 name 1) old (Err e) new → IfRefused (RefusesListAs refuses name) old r new
-  list_not_begun name old new (Ok v) e is h sound = tt
-  list_not_begun name old new (Err y) e is h sound =
-      let k = call_told (BeginsItems 4 name 1) old new (Err e) sound h in
-      inl (k.0, subst (λ x. BeginsItems 4 name 1 old.input (Err x) new.input) (sym is) k.1)
 
 -- ---- variants
 
@@ -164,16 +154,6 @@ form_further E name old mid a h =
     by : (m : Bool) → mid.failed ≡ false → MatchBool m (((enum_state a).first ≡ 0xa1) × Takes (with_steps (old.input.steps - 1) old.input) (0xa1 ∷ []) mid.input) (((enum_state a).first / 32 ≡ 3) × ShowsByte (with_steps (old.input.steps - 1) old.input) (enum_state a).first mid.input) → IsFurther old mid
     by true sound t = record { sound = sound; passed = λ b l. let q = t.1.taken b l in (0xa1 ∷ [], q.0, q.1, q.2) }
     by false sound t = record { sound = sound; passed = λ b l. ([], b, refl, t.1.kept b l) }
-
--- the fields that a variant holds were begun
-pub held_further : (E : Type 0) (name : List ℕ) (e : EnumState) (old mid : DeState) (a : Accessor) → Call (BeginsHeld {E = E} 5 name e) old (Ok a) mid → IsFurther old mid
-held_further E name e old mid a h =
-    let k = call_answered (BeginsHeld 5 name e) old mid a h in
-    by e.in_map k.1 k.2
-  where
-    by : (m : Bool) → mid.failed ≡ false → MatchBool m (BeginsItems {E = E} 5 name (e.steps + 1) old.input (Ok a) mid.input) ⊥ → IsFurther old mid
-    by true sound t = entered_further sound t.2
-    by false sound t = absurd t
 
 module _ {E : Type 0} (refuses : DeState → DecodeError E → DeState → Type 0) where
   pub enum_not_begun : {T : Type 0} (name : List ℕ) (old new : DeState) (r : Result T (DecodeError E)) (e : DecodeError E) → IsErrAnd r (λ y. y ≡ e) → Call (SpendsEnum {E = E} name) old (Err e) new → IfRefused (RefusesEnumAs refuses name) old r new
@@ -195,18 +175,3 @@ module _ {E : Type 0} (refuses : DeState → DecodeError E → DeState → Type 
       let i = form_further E name old mid a b in
       let k = call_answered ReadsName mid now v h in
       inr (now, further_both i (front_further k.1 k.2), inr w)
-
-  pub held_not_begun : {T : Type 0} (variant : EnumState) (old new : DeState) (r : Result T (DecodeError E)) (e : DecodeError E) → IsErrAnd r (λ y. y ≡ e) → Call (BeginsHeld {E = E} 5 (codes "map") variant) old (Err e) new → IfRefused (λ s x t. RefusesHeldFields refuses variant s x t ⊎ IsMissingField x t) old r new
-  held_not_begun variant old new (Ok v) e is h sound = tt
-  held_not_begun variant old new (Err y) e is h sound =
-      let k = call_told (BeginsHeld 5 (codes "map") variant) old new (Err e) sound h in
-      inl (inl (k.0, subst (λ x. BeginsHeld 5 (codes "map") variant old.input (Err x) new.input) (sym is) k.1))
-
-  pub held_refused : {T : Type 0} (variant : EnumState) (old mid new : DeState) (a : Accessor) (r : Result T (DecodeError E)) → Call (BeginsHeld {E = E} 5 (codes "map") variant) old (Ok a) mid → IfErr r (λ e. RefusesFurther (RefusesEntry refuses) mid e new)
-      → IfRefused (λ s x t. RefusesHeldFields refuses variant s x t ⊎ IsMissingField x t) old r new
-  held_refused variant old mid new a (Ok v) b h sound = tt
-  held_refused variant old mid new a (Err e) b h sound = inl (inr (h.0, further_both (held_further E (codes "map") variant old mid a b) h.1, h.2))
-
-  pub held_missing : {T : Type 0} (variant : EnumState) (old new : DeState) (r : Result T (DecodeError E)) → new.failed ≡ false → IfErr r (λ e. (kept : Name) × (e ≡ Msg kept) × Names kept (codes "missing field")) → IfRefused (λ s x t. RefusesHeldFields refuses variant s x t ⊎ IsMissingField x t) old r new
-  held_missing variant old new (Ok v) sound h fresh = tt
-  held_missing variant old new (Err e) sound h fresh = inr (says h, sound)

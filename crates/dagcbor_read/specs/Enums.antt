@@ -120,12 +120,18 @@ EndsUnit e old result new = MatchResult result
     (λ _. (e.in_map ≡ false) × (new ≡ with_steps (old.steps + e.steps) old))
     (λ r. (e.in_map ≡ true) × IsOtherForm e r × (new ≡ old))
 
+-- The enum has the form of a map, and what the variant holds shows v and was taken. Then the enum's
+-- steps were given back.
+abbrev pub TakesHeld : {V : Type 0} → Shape Tree V → EnumState → Reading → V → Reading → Type 0
+TakesHeld shape e old v new = (e.in_map ≡ true)
+    × ((now : Reading) × TakesFront shape old v now × (new ≡ with_steps (now.steps + e.steps) now))
+
 -- What a variant holds is read as the law of its type says, exactly where the enum has the form of
--- a map: then the enum's steps are given back.
+-- a map.
 abbrev pub ReadsHeld : {T V E : Type 0} → (T → V) → Shape Tree V → EnumState → Reading
     → Result T (DecodeError E) → Reading → Type 0
 ReadsHeld meaning shape e old result new = MatchResult result
-    (λ v. (e.in_map ≡ true) × ((now : Reading) × TakesFront shape old (meaning v) now × (new ≡ with_steps (now.steps + e.steps) now)))
+    (λ v. TakesHeld shape e old (meaning v) new)
     (λ r. MatchBool e.in_map (RefusesRead (HasFront shape old) shape old r new)
     (IsOtherForm e r × (new ≡ old)))
 

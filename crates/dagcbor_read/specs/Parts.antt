@@ -1,14 +1,19 @@
 -- What reading a value answers beside the law of its type, and how a call that reads a part hands
 -- that on.
-use Rattle.std.specs.Prelude.{◌≡◌, ◌⊎◌, ℕ, ◌+◌, Bool, true, false, List, ◌++◌, Option, Some, Result, Ok, Err, IfErr, IfSome, MatchResult, codes, ⊤}
+use Rattle.std.specs.Prelude.{◌≡◌, ◌⊎◌, ℕ, ◌+◌, ◌<◌, Bool, true, false, List, ◌++◌, Option, None, Some, Result, Ok, Err, IfErr, IfSome, MatchResult, codes, ⊤}
 use Rattle.dagcbor_heads.specs.Reading.{Reading, with_steps}
 use Rattle.dagcbor_heads.specs.Names.{Names}
 use Rattle.dagcbor_heads.specs.declared.error.DecodeError.{DecodeError}
 use Rattle.dagcbor_heads.specs.declared.error.DecodeError.TheVariants.{Msg, Read, RequireBorrowed, OutOfMemory, TrailingData}
+use Rattle.ipld_tree.specs.Tree.{text, Entries, no_entries, entry}
+use Rattle.ipld_tree.specs.Spelling.{entry_count, IsFront}
+use Rattle.dagcbor_items.specs.Majors.{LacksForString}
+use Rattle.dagcbor_items.specs.Places.{Follows}
 use Rattle.dagcbor_read.specs.Deserializers.{DeState, Call}
 use Rattle.dagcbor_read.specs.Options.{EntersSome, RefusesToEnter}
 use Rattle.dagcbor_read.specs.Enums.{EnumState, SpendsEnum, ReadsName, BeginsHeld}
-use Rattle.dagcbor_read.specs.Accessors.{AccessorState, BeginsItems, KeepsKey, EndsItems}
+use Rattle.dagcbor_read.specs.Accessors.{AccessorState, accessor_state, BeginsItems, KeepsKey, EndsItems}
+use Rattle.dagcbor_read.specs.declared.access.accessor.Accessor.{Accessor}
 
 -- ---- what types answer
 
@@ -18,6 +23,14 @@ abbrev pub ReadsOnce : {T E : Type 0} → (Reading → Result T (DecodeError E) 
     → Result T (DecodeError E) → DeState → Type 0
 ReadsOnce reads looks of old result new = Call reads old result new
     × looks old.input result new.input × IfErr result of
+
+-- One call reads a string of this major type so, and wants memory only for some bytes.
+abbrev pub ReadsStringOnce : {T E : Type 0} → ℕ
+    → (Reading → Result T (DecodeError E) → Reading → Type 0)
+    → (Reading → Result T (DecodeError E) → Reading → Type 0) → (DecodeError E → Type 0) → DeState
+    → Result T (DecodeError E) → DeState → Type 0
+ReadsStringOnce kind reads looks of old result new = ReadsOnce reads looks of old result new
+    × IfErr result (LacksForString kind old.input.left)
 
 -- What another type answers, whose value is held.
 abbrev pub ReadsAs : {A T E : Type 0} → (A → T)
@@ -37,18 +50,18 @@ ReadsInMemory {A} {T} held answers old result new = ReadsAs held answers old res
 
 -- a wish for a loan, under this name
 abbrev pub WantsLoan : {E : Type 0} → List ℕ → DecodeError E → Type 0
-WantsLoan text (RequireBorrowed name) = Names name text
-WantsLoan text _ = ⊥
+WantsLoan said (RequireBorrowed name) = Names name said
+WantsLoan said _ = ⊥
 
 -- What another type answers, where it is lent; or it is not, and the wish for a loan leaves all as
 -- it is then.
 abbrev pub ReadsLent : {A T X E : Type 0} → (A → X) → (T → X) → (T → Type 0) → List ℕ
     → (DeState → Result T (DecodeError E) → DeState → Type 0) → DeState
     → Result A (DecodeError E) → DeState → Type 0
-ReadsLent {A} {T} seen shown is_lent text answers old result new = MatchResult result
+ReadsLent {A} {T} seen shown is_lent said answers old result new = MatchResult result
     (λ a. (v : T) × is_lent v × (shown v ≡ seen a) × answers old (Ok v) new)
     (λ e. answers old (Err e) new
-    ⊎ (WantsLoan text e × ((v : T) × (¬ is_lent v) × answers old (Ok v) new)))
+    ⊎ (WantsLoan said e × ((v : T) × (¬ is_lent v) × answers old (Ok v) new)))
 
 -- ---- how a part is handed on
 
@@ -160,29 +173,66 @@ abbrev pub RefusesToKeep : {T E : Type 0} → (DeState → Result T (DecodeError
 RefusesToKeep {T} answers old e new = answers old (Err e) new
     ⊎ ((e ≡ OutOfMemory) × ((v : T) × answers old (Ok v) new))
 
--- a key was refused, behind the one before it
-abbrev pub RefusesKeyHere : {E : Type 0} → DeState → DecodeError E → DeState → Type 0
-RefusesKeyHere old e new = (last kept : Option (List ℕ)) × Call (KeepsKey last kept) old (Err e) new
+-- A list or map was not begun so; or it was, and what it holds was refused.
+abbrev pub RefusesWithin : {E : Type 0}
+    → (Reading → Result Accessor (DecodeError E) → Reading → Type 0)
+    → (AccessorState → DeState → DecodeError E → DeState → Type 0) → DeState → DecodeError E
+    → DeState → Type 0
+RefusesWithin begins refuses old e new = ((new.failed ≡ true) × begins old.input (Err e) new.input)
+    ⊎ ((a : Accessor) × (mid : DeState) × (mid.failed ≡ false) × begins old.input (Ok a) mid.input
+    × refuses (accessor_state a) mid e new)
 
--- an entry was refused: its key, or the value behind it
-abbrev pub RefusesEntry : {E : Type 0} → (DeState → DecodeError E → DeState → Type 0) → DeState
-    → DecodeError E → DeState → Type 0
-RefusesEntry refuses old e new = RefusesKeyHere old e new ⊎ RefusesFurther refuses old e new
+-- from b on these entries stand, whole, the first after this key; then c is left, and `last` is the
+-- last key
+abbrev pub PassesEntries : Entries → List ℕ → Option (List ℕ) → List ℕ → Option (List ℕ) → Type 0
+PassesEntries no_entries b before c last = (c ≡ b) × (last ≡ before)
+PassesEntries (entry k t es) b before c last = (at d : List ℕ) × IsFront b (text k) at
+    × Follows before k × IsFront at t d × PassesEntries es d (Some k) c last
+
+-- Where bytes are known, whole entries stood there, fewer than a map had left, and this is the last
+-- key. Nothing has failed.
+pub record IsAtKey (begun : AccessorState) (old now : DeState) (last : Option (List ℕ)) : Type 0 where
+  pub sound : now.failed ≡ false
+  pub stands : (b : List ℕ) → old.input.left ≡ Some b
+      → (es : Entries) × (c : List ℕ) × PassesEntries es b begun.last c last
+      × (entry_count es < begun.left) × (now.input.left ≡ Some c)
+
+-- a key was refused, after the last one; memory is wanting only for a text of some bytes
+abbrev pub RefusesKeyHere : {E : Type 0} → Option (List ℕ) → DeState → DecodeError E → DeState
+    → Type 0
+RefusesKeyHere last old e new = ((kept : Option (List ℕ)) × Call (KeepsKey last kept) old (Err e) new)
+    × LacksForString 3 old.input.left e
+
+-- an entry was refused, after the last key: its own key, or the value behind it
+abbrev pub RefusesEntry : {E : Type 0} → (DeState → DecodeError E → DeState → Type 0)
+    → Option (List ℕ) → DeState → DecodeError E → DeState → Type 0
+RefusesEntry refuses last old e new = RefusesKeyHere last old e new ⊎ RefusesFurther refuses old e new
+
+-- one of the entries that a map has left was refused, after whole ones
+abbrev pub RefusesEntries : {E : Type 0} → (DeState → DecodeError E → DeState → Type 0)
+    → AccessorState → DeState → DecodeError E → DeState → Type 0
+RefusesEntries refuses begun old e new = (now : DeState) × (last : Option (List ℕ))
+    × IsAtKey begun old now last × RefusesEntry refuses last now e new
 
 -- A map was not begun, under its name; or one of its entries was refused.
 abbrev pub RefusesFieldsAs : {E : Type 0} → (DeState → DecodeError E → DeState → Type 0)
     → List ℕ → DeState → DecodeError E → DeState → Type 0
-RefusesFieldsAs refuses name old e new = ((new.failed ≡ true) × BeginsItems 5 name 1 old.input (Err e) new.input)
-    ⊎ RefusesFurther (RefusesEntry refuses) old e new
+RefusesFieldsAs refuses name = RefusesWithin (BeginsItems 5 name 1) (RefusesEntries refuses)
 
 -- the refusal is this message
 abbrev pub HasMessage : {E : Type 0} → List ℕ → DecodeError E → Type 0
-HasMessage text (Msg message) = Names message text
-HasMessage text _ = ⊥
+HasMessage said (Msg message) = Names message said
+HasMessage said _ = ⊥
 
 -- a field is missing, once all that is there was read
 abbrev pub IsMissingField : {E : Type 0} → DecodeError E → DeState → Type 0
 IsMissingField e new = HasMessage (codes "missing field") e × (new.failed ≡ false)
+
+-- A field is missing: all entries were read, as `takes` says, and what they make is no value.
+abbrev pub LacksField : {S V E : Type 0} → (Reading → S → Reading → Type 0) → (S → Option V)
+    → DeState → DecodeError E → DeState → Type 0
+LacksField {S} takes finish old e new = IsMissingField e new
+    × ((s : S) × (finish s ≡ None) × takes old.input s new.input)
 
 -- a key that no field has
 abbrev pub IsUnknownField : {E : Type 0} → DeState → DecodeError E → DeState → Type 0
@@ -213,21 +263,21 @@ abbrev pub RefusesOptional : {T E : Type 0}
     → (DeState → DecodeError E → DeState → Type 0) → DeState → DecodeError E → DeState → Type 0
 RefusesOptional answers others old e new = IsPartsRefusal answers old e new ⊎ RefusesFurther others old e new
 
--- items are unread
-abbrev pub RefusesUnread : {E : Type 0} → DeState → DecodeError E → DeState → Type 0
-RefusesUnread old e new = (new.failed ≡ true)
-    × ((c : AccessorState) × EndsItems c old.input (Err e) new.input)
+-- items of a list that was begun are unread
+abbrev pub RefusesUnread : {E : Type 0} → AccessorState → DeState → DecodeError E → DeState → Type 0
+RefusesUnread begun old e new = (new.failed ≡ true)
+    × ((left : ℕ) × EndsItems (record begun { left = left }) old.input (Err e) new.input)
 
 -- The row of items was refused; or some are unread behind it.
-abbrev pub RefusesRest : {E : Type 0} → (DeState → DecodeError E → DeState → Type 0) → DeState
-    → DecodeError E → DeState → Type 0
-RefusesRest refuses old e new = refuses old e new ⊎ RefusesFurther RefusesUnread old e new
+abbrev pub RefusesRest : {E : Type 0} → (DeState → DecodeError E → DeState → Type 0)
+    → AccessorState → DeState → DecodeError E → DeState → Type 0
+RefusesRest refuses begun old e new = refuses old e new
+    ⊎ RefusesFurther (RefusesUnread begun) old e new
 
 -- A list was not begun, under its name; or its row of items was refused, or some are unread.
 abbrev pub RefusesListAs : {E : Type 0} → (DeState → DecodeError E → DeState → Type 0) → List ℕ
     → DeState → DecodeError E → DeState → Type 0
-RefusesListAs refuses name old e new = ((new.failed ≡ true) × BeginsItems 4 name 1 old.input (Err e) new.input)
-    ⊎ RefusesFurther (RefusesRest refuses) old e new
+RefusesListAs refuses name = RefusesWithin (BeginsItems 4 name 1) (RefusesRest refuses)
 
 -- ---- how what a variant holds is handed on
 
@@ -240,5 +290,4 @@ RefusesEnumAs refuses name old e new = ((new.failed ≡ true) × SpendsEnum name
 -- The fields that a variant holds were not begun; or one of their entries was refused.
 abbrev pub RefusesHeldFields : {E : Type 0} → (DeState → DecodeError E → DeState → Type 0)
     → EnumState → DeState → DecodeError E → DeState → Type 0
-RefusesHeldFields refuses variant old e new = ((new.failed ≡ true) × BeginsHeld 5 (codes "map") variant old.input (Err e) new.input)
-    ⊎ RefusesFurther (RefusesEntry refuses) old e new
+RefusesHeldFields refuses variant = RefusesWithin (BeginsHeld 5 (codes "map") variant) (RefusesEntries refuses)

@@ -12,15 +12,15 @@ use std::alloc::Global;
 
 /// A value that can be read from a `Deserializer` whose input lives for `'de`.
 pub trait Deserialize<'de>: Shown + Sized + Drop {
-    /// Where a value lies that was read, of an input that lends or of one that does not: a type whose
-    /// values may be lent says here when they are.
+    /// Where a value that was read is in memory, for an input that lends and for one that does not.
+    /// A type whose values may be lent says here when they are.
     ghost lies: { Bool → Self → Type 0 } = { λ lends v. ⊤ };
 
-    /// What reading a value answers beside the law: the causes of its refusals, its looks, and whether
-    /// it has failed then. Who reads a part hands it on.
+    /// What reading a value answers in addition to the law: the causes of its refusals, its looks,
+    /// and whether it has failed after that. Calls that read a part pass it on.
     ghost answers: { {E : Type 0} → DeState → Result Self (DecodeError E) → DeState → Type 0 } = { λ old result new. ⊤ };
 
-    /// Reads a value: exactly where a tree stands that the type accepts, within the steps that are
+    /// Reads a value: exactly if there is a tree that the type accepts, within the steps that are
     /// left.
     fn deserialize<R: Read>(alloc: Global, de: &mut Deserializer<'de, R>) -> ReadResult<Self, R>
         ensures value { Over R.reading (ReadsValue Self.meaning Self.shape) de.old result de.new }

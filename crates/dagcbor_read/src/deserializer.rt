@@ -10,6 +10,7 @@ ghost use Rattle.dagcbor_heads.specs.Looking.{Looks, LooksOnce, LooksAtTaken};
 ghost use Rattle.dagcbor_items.specs.Looks.{LooksAtAny};
 ghost use Rattle.dagcbor_read.specs.Deserializers.{de_state, Call, Ends, Over, LooksAtFirst};
 ghost use Rattle.dagcbor_items.specs.Entries.{ReadsKey};
+ghost use Rattle.dagcbor_items.specs.Majors.{LacksForString};
 ghost use Rattle.dagcbor_items.specs.Untyped.{ReadsItem};
 ghost use Rattle.dagcbor_items.specs.Links.{ReadsLink};
 ghost use Rattle.dagcbor_items.specs.AnsweredVariants.{OfItem, OfLink, OfHead, OfNumber, OfByte};
@@ -46,8 +47,8 @@ use ipld_tree::{Cid, Ipld};
 use std::alloc::Global;
 use std::borrow::{CowSlice, CowStr};
 
-/// What is read, where nothing was refused so far; else the function answers `Failed`. A refusal
-/// ends the function too, and is remembered.
+/// What is read, if nothing was refused so far; else the function answers `Failed`. A refusal also
+/// ends the function, and is remembered.
 macro_rules! call {
     ($de:ident, $read:expr) => {{
         $de.begin()?;
@@ -76,7 +77,8 @@ impl<'de> Deserializer<'de, SliceReader<'de>> {
         Deserializer::from_slice_reader(SliceReader::new(bytes))
     }
 
-    /// Reads from what the reader of a slice has left, which is lent, with the steps that it has.
+    /// Reads from what the reader of a slice has left, with the steps that it has. The bytes are
+    /// lent.
     pub fn from_slice_reader(reader: SliceReader<'de>) -> Deserializer<'de, SliceReader<'de>>
         ensures { de_state (λ r. r) result ≡ record { input = reader.entry; failed = false } }
     {
@@ -106,7 +108,7 @@ impl<'de, R: Read> Deserializer<'de, R> {
         false
     }
 
-    /// Until the call answers, it counts as refused.
+    /// Until the call returns, it counts as refused.
     pub(crate) fn begin(&mut self) -> ReadResult<(), R>
         ensures { MatchResult result
             (λ _. ((de_state R.reading self.old).failed ≡ false)
@@ -120,7 +122,7 @@ impl<'de, R: Read> Deserializer<'de, R> {
         Ok(())
     }
 
-    /// The kind of the item that stands here, by its first byte, which is left.
+    /// The kind of the item here, by its first byte, which is not taken.
     pub fn peek_kind(&mut self) -> ReadResult<Kind, R>
         ensures kind { Over R.reading (Call PeeksKind) self.old result self.new }
         ensures variant { IfErr result OfPeek }
@@ -158,7 +160,7 @@ impl<'de, R: Read> Deserializer<'de, R> {
         Ok(call!(self, pull_link(&mut self.input)))
     }
 
-    /// Whether the input ends here: `TrailingData` where a byte is left, which stays, and reading
+    /// Whether the input ends here: `TrailingData` if a byte is left. The byte stays, and reading
     /// may go on.
     pub fn end(&mut self) -> ReadResult<(), R>
         ensures end { Over R.reading Ends self.old result self.new }
@@ -288,7 +290,7 @@ impl<'de, R: Read> Deserializer<'de, R> {
         Ok(self.signed("i64", 0x7fff_ffff_ffff_ffff)? as i64)
     }
 
-    /// Reads any number from 0 on, but none in a tag.
+    /// Reads any number from 0 on, but no tagged one.
     pub fn deserialize_u128(&mut self) -> ReadResult<u128, R>
         ensures number { Over R.reading (Call ReadsU128) self.old result self.new }
         ensures variant { IfErr result OfNumber }
@@ -298,7 +300,7 @@ impl<'de, R: Read> Deserializer<'de, R> {
         Ok(call!(self, pull_u128(&mut self.input)))
     }
 
-    /// Reads any number, but none in a tag.
+    /// Reads any number, but no tagged one.
     pub fn deserialize_i128(&mut self) -> ReadResult<i128, R>
         ensures number { Over R.reading (Call ReadsI128) self.old result self.new }
         ensures variant { IfErr result OfHead }
@@ -338,11 +340,13 @@ impl<'de, R: Read> Deserializer<'de, R> {
         Ok(call!(self, pull_bool(&mut self.input)))
     }
 
-    /// Reads a text, lent where the input lends.
+    /// Reads a text, lent if the input lends.
     pub fn deserialize_str(&mut self, alloc: Global) -> ReadResult<CowStr<'de>, R>
         ensures text { Over R.reading (Call (ReadsStr (codes "string"))) self.old result self.new }
         ensures lent { IfOk result
             (λ s. IsBorrowedStr s ↔ ((de_state R.reading self.old).input.lends ≡ true)) }
+        ensures memory { IfErr result
+            (LacksForString 3 (de_state R.reading self.old).input.left) }
         ensures variant { IfErr result OfText }
         ensures looked { Looks 3 (de_state R.reading self.old).input result
             (de_state R.reading self.new).input }
@@ -355,6 +359,8 @@ impl<'de, R: Read> Deserializer<'de, R> {
         ensures text { Over R.reading (Call (ReadsStr (codes "string"))) self.old result self.new }
         ensures lent { IfOk result
             (λ s. IsBorrowedStr s ↔ ((de_state R.reading self.old).input.lends ≡ true)) }
+        ensures memory { IfErr result
+            (LacksForString 3 (de_state R.reading self.old).input.left) }
         ensures variant { IfErr result OfText }
         ensures looked { Looks 3 (de_state R.reading self.old).input result
             (de_state R.reading self.new).input }
@@ -362,11 +368,13 @@ impl<'de, R: Read> Deserializer<'de, R> {
         self.deserialize_str(alloc)
     }
 
-    /// Reads a byte string, lent where the input lends.
+    /// Reads a byte string, lent if the input lends.
     pub fn deserialize_bytes(&mut self, alloc: Global) -> ReadResult<CowSlice<'de, u8>, R>
         ensures bytes { Over R.reading (Call ReadsByteSlice) self.old result self.new }
         ensures lent { IfOk result
             (λ c. IsBorrowedSlice c ↔ ((de_state R.reading self.old).input.lends ≡ true)) }
+        ensures memory { IfErr result
+            (LacksForString 2 (de_state R.reading self.old).input.left) }
         ensures variant { IfErr result OfHead }
         ensures looked { Looks 3 (de_state R.reading self.old).input result
             (de_state R.reading self.new).input }
@@ -377,6 +385,8 @@ impl<'de, R: Read> Deserializer<'de, R> {
     /// Reads a text.
     pub fn deserialize_string(&mut self, alloc: Global) -> ReadResult<String, R>
         ensures text { Over R.reading (Call ReadsOwnedText) self.old result self.new }
+        ensures memory { IfErr result
+            (LacksForString 3 (de_state R.reading self.old).input.left) }
         ensures variant { IfErr result OfText }
         ensures looked { Looks 3 (de_state R.reading self.old).input result
             (de_state R.reading self.new).input }
@@ -387,6 +397,8 @@ impl<'de, R: Read> Deserializer<'de, R> {
     /// Reads a byte string.
     pub fn deserialize_byte_buf(&mut self, alloc: Global) -> ReadResult<Vec<u8>, R>
         ensures bytes { Over R.reading (Call ReadsOwnedBytes) self.old result self.new }
+        ensures memory { IfErr result
+            (LacksForString 2 (de_state R.reading self.old).input.left) }
         ensures variant { IfErr result OfHead }
         ensures looked { Looks 3 (de_state R.reading self.old).input result
             (de_state R.reading self.new).input }
@@ -397,6 +409,8 @@ impl<'de, R: Read> Deserializer<'de, R> {
     /// Reads a text of one character.
     pub fn deserialize_char(&mut self, alloc: Global) -> ReadResult<char, R>
         ensures character { Over R.reading (Call ReadsChar) self.old result self.new }
+        ensures memory { IfErr result
+            (LacksForString 3 (de_state R.reading self.old).input.left) }
         ensures variant { IfErr result OfChar }
         ensures looked { Looks 3 (de_state R.reading self.old).input result
             (de_state R.reading self.new).input }
@@ -416,7 +430,7 @@ impl<'de, R: Read> Deserializer<'de, R> {
         Ok(())
     }
 
-    /// A key behind the one before it: the one of the names, where it is at hand.
+    /// A key after the one before it: one of the names, if it is at hand.
     pub(crate) fn read_key(
         &mut self,
         alloc: Global,
@@ -425,6 +439,8 @@ impl<'de, R: Read> Deserializer<'de, R> {
     ) -> ReadResult<CowStr<'de>, R>
         ensures key { Over R.reading
             (Call (ReadsKey (option_map cow_str_bytes last.now))) self.old result self.new }
+        ensures memory { IfErr result
+            (LacksForString 3 (de_state R.reading self.old).input.left) }
     {
         self.begin()?;
         if let Some(name) = take_one_of(&mut self.input, last, names) {
@@ -436,7 +452,7 @@ impl<'de, R: Read> Deserializer<'de, R> {
         Ok(key)
     }
 
-    /// A key behind the one before it, twice.
+    /// A key after the one before it, twice.
     pub(crate) fn read_key_after(
         &mut self,
         alloc: Global,
@@ -446,6 +462,8 @@ impl<'de, R: Read> Deserializer<'de, R> {
             (Call (ReadsKeyAfter (option_map cow_str_bytes last.now))) self.old result self.new }
         ensures lent { IfOk result
             (λ p. IsBorrowedStr p.0 ↔ ((de_state R.reading self.old).input.lends ≡ true)) }
+        ensures memory { IfErr result
+            (LacksForString 3 (de_state R.reading self.old).input.left) }
         ensures variant { IfErr result OfKey }
         ensures looked { Looks 3 (de_state R.reading self.old).input result
             (de_state R.reading self.new).input }
@@ -459,7 +477,7 @@ impl<'de, R: Read> Deserializer<'de, R> {
         Ok((key, copy))
     }
 
-    /// Begins a list (4) or map (5), whose end gives so many more steps back than its own.
+    /// Begins a list (4) or map (5). Its end gives back its own step, and so many more.
     #[inline(always)]
     pub(crate) fn begin_items(
         &mut self,
@@ -491,7 +509,7 @@ impl<'de, R: Read> Deserializer<'de, R> {
         self.begin_items("array", 4, 0)
     }
 
-    /// Begins a list for a tuple, whose length is not looked at. Takes no memory.
+    /// Begins a list for a tuple. The length is not looked at. Takes no memory.
     pub fn deserialize_tuple(&mut self, _len: usize) -> ReadResult<Accessor<'de>, R>
         ensures begun { Over R.reading
             (Call (BeginsItems 4 (codes "tuple") 1)) self.old result self.new }
@@ -502,7 +520,7 @@ impl<'de, R: Read> Deserializer<'de, R> {
         self.begin_items("tuple", 4, 0)
     }
 
-    /// Begins a list for a tuple struct, whose length is not looked at. Takes no memory.
+    /// Begins a list for a tuple struct. The length is not looked at. Takes no memory.
     pub fn deserialize_tuple_struct(
         &mut self,
         name: &str,
@@ -527,7 +545,7 @@ impl<'de, R: Read> Deserializer<'de, R> {
         self.begin_items("map", 5, 0)
     }
 
-    /// Begins a map for a struct, whose fields' names are not looked at. Takes no memory.
+    /// Begins a map for a struct. The names of the fields are not looked at. Takes no memory.
     pub fn deserialize_struct(
         &mut self,
         name: &str,
@@ -617,8 +635,8 @@ impl<'de, R: Read> Deserializer<'de, R> {
         Ok(call!(self, spend_form(name, &mut self.input)))
     }
 
-    /// Skips an item of any kind, with what `deserialize_any` refuses. Over a slice it takes no
-    /// memory.
+    /// Skips an item of any kind. It refuses what `deserialize_any` refuses. Over a slice it takes
+    /// no memory.
     pub fn deserialize_ignored_any(&mut self, alloc: Global) -> ReadResult<(), R>
         ensures item { Over R.reading (Call ReadsIgnored) self.old result self.new }
         ensures looked { LooksAtAny (de_state R.reading self.old).input result
@@ -628,8 +646,8 @@ impl<'de, R: Read> Deserializer<'de, R> {
         Ok(call!(self, skip_any(alloc, &mut self.input)))
     }
 
-    /// Reads an item of any kind, with what `deserialize_any` refuses, and keeps its links alone:
-    /// left to right, repeats kept.
+    /// Reads an item of any kind, and keeps only its links: left to right, with repeats. It refuses
+    /// what `deserialize_any` refuses.
     pub fn deserialize_links(&mut self, alloc: Global) -> ReadResult<Vec<Cid>, R>
         ensures links { Over R.reading (Call GathersLinks) self.old result self.new }
         ensures looked { LooksAtAny (de_state R.reading self.old).input result
@@ -647,7 +665,7 @@ impl<'de, R: Read> Deserializer<'de, R> {
         StreamDeserializer::new(alloc, self)
     }
 
-    /// Reads a value, where the input does not end here. No byte is taken to see this.
+    /// Reads a value, if the input does not end here. No byte is taken to see this.
     pub(crate) fn next_value<T: Deserialize<'de>>(
         &mut self,
         alloc: Global,
@@ -679,7 +697,7 @@ fn enter<R: Read>(name: &str, reader: &mut R, major: u8) -> ReadResult<u64, R>
     Ok(count)
 }
 
-/// Whether a null stood there, which is taken. Else a step is spent.
+/// Takes a null, if there is one. Else spends a step. Answers whether there was.
 fn enter_option<R: Read>(reader: &mut R) -> ReadResult<bool, R>
     ensures entered { EntersOption (R.reading reader.old) result (R.reading reader.new) }
     ensures looked { LooksAtFirst (λ is_null. is_null) (R.reading reader.old) result

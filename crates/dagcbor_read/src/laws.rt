@@ -6,12 +6,12 @@ use crate::deserialize::Deserialize;
 use crate::shown::Shown;
 use dagcbor_heads::Read;
 
-/// What comes of a stream over known bytes is the stream of the type on these bytes.
+/// The items of a stream over known bytes are the stream of the type on these bytes.
 pub fn streams_exact<'de, T: Deserialize<'de>, R: Read>()
     ensures { StreamsAreExact R.Error (stream_state {T = T} R.reading) T.meaning T.shape T.lies }
 {}
 
-/// Of given bytes there is one stream of a type.
+/// Given bytes have one stream of a type.
 pub fn stream_unique<T: Shown>()
     ensures { StreamsAreUnique T.shape }
 {}

@@ -1,7 +1,7 @@
 //! Reading values from DAG-CBOR.
 //!
-//! The examples here are taken from `src/tests/recipes.rt` of `uses`; `agree` and
-//! `is_told` are the tests' own, and fail where the answer is another:
+//! The examples here are taken from `src/tests/recipes.rt` of `tests_uses`. `agree` and `is_told`
+//! belong to the tests, and fail if the answer differs:
 //!
 //! ```rust
 //! let block = to_vec(alloc, &(-300i16, "a"))?;

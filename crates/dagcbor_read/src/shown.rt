@@ -5,7 +5,7 @@ ghost use Rattle.dagcbor_items.specs.Shapes.{Shape};
 
 /// What trees mean to a type.
 pub trait Shown {
-    /// What a value holds, wherever it lies in memory.
+    /// What a value holds, wherever it is in memory.
     ghost View: { Type 0 };
 
     ghost meaning: { Self → View };

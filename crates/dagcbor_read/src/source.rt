@@ -13,8 +13,8 @@ use std::alloc::Global;
 use std::io;
 use std::io::BufRead;
 
-/// The value whose spelling the source's bytes are, all of them: a value exactly where `from_slice`
-/// answers one, with the same view, where the source does not fault.
+/// The value whose spelling is all of the source's bytes. It answers a value exactly if
+/// `from_slice` does, with the same view, if the source does not fault.
 ///
 /// ```rust
 /// let source = BufReader::new(rt.alloc(), File::open(&rt, "ferris.cbor")?)?;
@@ -40,8 +40,8 @@ pub fn from_reader<'de, T: DeserializeOwned<'de>, R: BufRead + Drop>(
     Ok(value)
 }
 
-/// The value whose spelling stands first in the source, which has exactly what follows it left.
-/// Nothing is said of what it has left after a refusal.
+/// The value with whose spelling the source begins. The source then has exactly what follows it
+/// left. Nothing is said of what is left after a refusal.
 ///
 /// ```rust
 /// let mut source = device.as_slice();

@@ -1,4 +1,4 @@
-//! Streams: values one behind the other, up to the end of the input.
+//! Streams: values one after the other, up to the end of the input.
 
 ghost use Rattle.std.specs.Prelude.{◌≡◌, [], false};
 ghost use Rattle.dagcbor_heads.specs.Reading.{fresh_reading, default_steps};
@@ -12,8 +12,8 @@ use std::alloc::Global;
 use std::io::BufRead;
 use std::marker::PhantomData;
 
-/// The values that stand one behind the other in an input. After an error, and after the end,
-/// nothing more comes.
+/// The values in an input, one after the other. After an error, and after the end, nothing more
+/// comes.
 #[derive(Drop)]
 pub struct StreamDeserializer<'de, R, T> {
     alloc: Global,

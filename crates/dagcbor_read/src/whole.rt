@@ -13,7 +13,7 @@ use dagcbor_heads::{DEFAULT_STEPS, DecodeError, SliceReader};
 use std::alloc::Global;
 use std::convert::Infallible;
 
-/// The value whose spelling the bytes are.
+/// The value whose spelling is these bytes.
 ///
 /// ```rust
 /// let block = to_vec(alloc, &(-300i16, "a"))?;
@@ -37,8 +37,8 @@ pub fn from_slice<'a, T: Deserialize<'a>>(
     from_slice_with_depth(alloc, bytes, DEFAULT_STEPS)
 }
 
-/// Reads a whole slice within a budget of so many steps, at most 1,024: each list or map takes a
-/// step or two, and needs stack (README).
+/// Reads a whole slice within a budget of so many steps, at most 1,024. Each list or map takes a
+/// step or two, and needs stack (SECURITY.md).
 ///
 /// ```rust
 /// let nested = b"\x81\x81\x01";
@@ -70,7 +70,7 @@ pub fn from_slice_with_depth<'a, T: Deserialize<'a>>(
     result
 }
 
-/// What `from_slice` answers, from bytes that need not outlive the value.
+/// As `from_slice`, from bytes that need not outlive the value.
 pub fn from_slice_owned<'de, T: DeserializeOwned<'de>>(
     alloc: Global,
     bytes: &[u8],

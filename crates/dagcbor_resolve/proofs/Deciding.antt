@@ -10,7 +10,7 @@ use Rattle.dagcbor_paths.proofs.Ends.{no_part_of_link}
 use Rattle.ipld_links.specs.Reaching.{Stored, AreBytesOf}
 use Rattle.ipld_links.specs.Verdicts.{IsVerified, IsVerdict}
 use Rattle.ipld_links.specs.declared.verdict.Verdict.{Verdict}
-use Rattle.ipld_links.specs.declared.verdict.Verdict.TheVariants.{Block, Refused, OtherBytes, NotRead, Unverified}
+use Rattle.ipld_links.specs.declared.verdict.Verdict.TheVariants.{Block, Refused, Node, NoNode, OtherBytes, NotRead, LinksNotRead, Unverified}
 use Rattle.ipld_links.proofs.Sounding.{no_block}
 use Rattle.dagcbor_resolve.specs.Resolving.{AreNamed, LeadsOn, IsNoBlock, EndsAs, ResolvesIn, IsEndlessAfter, GoesOver}
 use Rattle.dagcbor_resolve.specs.Laws.{LeadsInBlock, Leads, AgreeOn, WaysDecideEnds, WaysDecideItems}
@@ -39,9 +39,12 @@ led_no_further s name next path left found x h k g =
 no_block_goes_on : (s : Stored) (name next : CidParts) (path left : List (List ℕ)) (v : Verdict) (b : List ℕ) → AreBytesOf s name b → IsVerdict (name, b) v → IsNoBlock v → LeadsOn s name path next left → ⊥
 no_block_goes_on s name next path left (Block kind) b h v none g = none
 no_block_goes_on s name next path left (Refused e) b h v none g =
-    no_block e b v.2 v.3 g.1.1 (subst (λ z. IsBlock z g.1.1) (bytes_unique s name g.1.0 b g.1.2.0 h) g.1.3.block)
+    no_block e b v.1.1 v.1.2 g.1.1 (subst (λ z. IsBlock z g.1.1) (bytes_unique s name g.1.0 b g.1.2.0 h) g.1.3.block)
 no_block_goes_on s name next path left OtherBytes b h v none g = v.1 (subst (λ z. IsVerified (name, z)) (bytes_unique s name g.1.0 b g.1.2.0 h) g.1.2.1)
-no_block_goes_on s name next path left NotRead b h v none g = v.1 g.1.2.2
+no_block_goes_on s name next path left NotRead b h v none g = absurd (omega (arith, v.1, g.1.2.2))
+no_block_goes_on s name next path left LinksNotRead b h v none g = v.1.1 (inl g.1.2.2)
+no_block_goes_on s name next path left Node b h v none g = absurd (omega (arith, v.1.0, g.1.2.2))
+no_block_goes_on s name next path left (NoNode e) b h v none g = absurd (omega (arith, v.1.0, g.1.2.2))
 no_block_goes_on s name next path left Unverified b h v none g = elim g.1.2.1 [ inl is ↦ v (inl is.0) | inr is ↦ v (inr is.0) ]
 
 -- nor from where it ends

@@ -1,5 +1,5 @@
 -- The names on the way of a path.
-use Rattle.std.proofs.Common.{◌≡◌, ◌↔◌, inl, inr, ℕ, ◌+◌, ◌<◌, List, [], ◌∷◌, ◌++◌, length, get_or, take, refl, sym, ap, ◌∙◌, subst, append_assoc, add-one, take-suc}
+use Rattle.std.proofs.Common.{◌≡◌, ◌↔◌, ◌⊎◌, inl, inr, ℕ, ◌+◌, ◌<◌, List, [], ◌∷◌, ◌++◌, length, get_or, take, refl, sym, ap, ap₂, ◌∙◌, subst, append_assoc, add-one, take-suc}
 use Rattle.std.proofs.Math.Seq.{take-length}
 use Rattle.ipld_tree.specs.Cid.{CidParts}
 use Rattle.ipld_links.specs.Sets.{Among, members, AddsCid}
@@ -32,14 +32,24 @@ pub record Gathered (done once : List CidParts) (seen : CidSet) : Type 0 where
   pub all : AreOnceEach done once
   pub known : (q : CidParts) → Among q (members seen) ↔ Among q done
 
-twice : {X : Type 0} (xs : List X) (y : X) → Among y xs → NoneTwice (xs ++ y ∷ []) → ⊥
-twice [] y m once = m
-twice (x ∷ xs) y (inl e) once = once.0 (push_among x xs y (inr (sym e)))
-twice (x ∷ xs) y (inr m) once = twice xs y m once.1
+-- what stands in a list with one more behind: it is that one, or stands before
+last_or_before : (done before behind : List CidParts) (name q : CidParts) → done ++ name ∷ [] ≡ before ++ q ∷ behind
+    → ((done ≡ before) × (name ≡ q)) ⊎ ((less : List CidParts) × (done ≡ before ++ q ∷ less))
+last_or_before [] [] behind name q is = let e : name ≡ q = cc is in inl (refl, e)
+last_or_before [] (b ∷ []) behind name q is = absurd (cc is)
+last_or_before [] (b ∷ x ∷ before) behind name q is = absurd (cc is)
+last_or_before (d ∷ done) [] behind name q is = let e : d ≡ q = cc is in inr (done, ap (λ x. x ∷ done) e)
+last_or_before (d ∷ done) (b ∷ before) behind name q is =
+    let first : d ≡ b = cc is in
+    let more : done ++ name ∷ [] ≡ before ++ q ∷ behind = cc is in
+    elim (last_or_before done before behind name q more) [
+      | inl same ↦ inl (ap₂ (λ x xs. x ∷ xs) first same.0, same.1)
+      | inr less ↦ inr (less.0, ap₂ (λ x xs. x ∷ xs) first less.1)
+    ]
 
-once_before : {X : Type 0} (xs : List X) (y : X) → NoneTwice (xs ++ y ∷ []) → NoneTwice xs
-once_before [] y once = tt
-once_before (x ∷ xs) y once = ((λ m. once.0 (push_among x xs y (inl m))), once_before xs y once.1)
+nothing_split : (before behind : List CidParts) (q : CidParts) → [] ≡ before ++ q ∷ behind → ⊥
+nothing_split [] behind q is = cc is
+nothing_split (b ∷ before) behind q is = cc is
 
 once_push : {X : Type 0} (xs : List X) (y : X) → NoneTwice xs → (Among y xs → ⊥) → NoneTwice (xs ++ y ∷ [])
 once_push [] y h none = (λ m. m, tt)
@@ -50,7 +60,7 @@ once_push (x ∷ xs) y h none = (
 
 pub none_gathered : (seen : CidSet) → members seen ≡ [] → Gathered [] [] seen
 none_gathered seen none = record {
-  all = record { lists = record { all = λ q. (λ m. m, λ m. m); once = tt }; order = λ once. refl };
+  all = record { lists = record { all = λ q. (λ m. m, λ m. m); once = tt }; order = λ before behind q is. absurd (nothing_split before behind q is) };
   known = λ q. (λ m. subst (Among q) none m, λ m. absurd m);
 }
 
@@ -66,7 +76,10 @@ gathered_before done once seen name m h =
           );
           once = h.all.lists.once;
         };
-        order = λ k. absurd (twice done name among k);
+        order = λ before behind q is fresh. elim (last_or_before done before behind name q is) [
+          | inl same ↦ absurd (fresh (subst (Among q) same.0 (subst (λ x. Among x done) same.1 among)))
+          | inr less ↦ h.all.order before less.0 q less.1 fresh
+        ];
       };
       known = λ q. (
         λ k. push_among q done name (inl ((h.known q).0 k)),
@@ -84,7 +97,12 @@ gathered_new done once after seen now name fresh adds is h = subst (λ ns. Gathe
       );
       once = once_push once name h.all.lists.once (λ m. fresh ((h.known name).1 ((h.all.lists.all name).0 m)));
     };
-    order = λ k. ap (λ ns. ns ++ name ∷ []) (h.all.order (once_before done name k));
+    order = λ before behind q at first. elim (last_or_before done before behind name q at) [
+      | inl same ↦ (once, [], ap (λ x. once ++ x ∷ []) same.1, λ r. subst (λ l. Among r once ↔ Among r l) same.0 (h.all.lists.all r))
+      | inr less ↦
+          let k = h.all.order before less.0 q less.1 first in
+          (k.0, k.1 ++ name ∷ [], ap (λ l. l ++ name ∷ []) k.2 ∙ append_assoc k.0 (q ∷ k.1) (name ∷ []), k.3)
+    ];
   };
   known = λ q. (
     λ k. push_among q done name (elim ((adds.1 q).0 k) [ inl a ↦ inl ((h.known q).0 a) | inr e ↦ inr e ]),

@@ -1,5 +1,5 @@
 -- Resolving a path over blocks, in whatever they are stored.
-use Rattle.std.specs.Prelude.{◌≡◌, ◌≢◌, ℕ, zero, suc, ◌+◌, ◌-◌, ◌^◌, List, [], ◌∷◌, length, ⊤, Option, None, Some}
+use Rattle.std.specs.Prelude.{◌≡◌, ◌≢◌, ◌↔◌, ℕ, zero, suc, ◌+◌, ◌-◌, ◌^◌, List, [], ◌∷◌, ◌++◌, length, ⊤, Option, None, Some}
 use Rattle.ipld_tree.specs.Cid.{CidParts, AreCidParts, cid_bytes}
 use Rattle.ipld_tree.specs.Tree.{Tree, link}
 use Rattle.dagcbor_items.specs.Slices.{IsBlock}
@@ -7,7 +7,7 @@ use Rattle.dagcbor_items.specs.TreeKinds.{kind_of}
 use Rattle.dagcbor_paths.specs.Paths.{segments, At}
 use Rattle.dagcbor_paths.specs.Finding.{StandAt, LeadsInto, HasNoPart}
 use Rattle.ipld_links.specs.Sets.{Among}
-use Rattle.ipld_links.specs.Reaching.{Stored, AreBytesOf, NoneTwice, Lists}
+use Rattle.ipld_links.specs.Reaching.{Stored, AreBytesOf, Lists}
 use Rattle.ipld_links.specs.Verdicts.{IsVerified, IsDagCbor, IsVerdict}
 use Rattle.ipld_links.specs.declared.verdict.Verdict.{Verdict}
 use Rattle.ipld_links.specs.declared.verdict.Verdict.TheVariants.{Block}
@@ -78,10 +78,12 @@ abbrev pub AreOnTheWay : Stored → CidParts → List (List ℕ) → List CidPar
 AreOnTheWay stored root path names = (more : List CidParts) × (names ≡ root ∷ more)
     × GoesOver stored root path more
 
--- the names, each once, in their order where none stands twice
+-- The names, each once. Where a name stands first, it stands once behind just those that stand before.
 pub record AreOnceEach (names once : List CidParts) : Type 0 where
   pub lists : Lists (λ q. Among q names) once
-  pub order : NoneTwice names → once ≡ names
+  pub order : (before behind : List CidParts) (q : CidParts) → names ≡ before ++ q ∷ behind
+      → ¬ Among q before → (front rest : List CidParts) × (once ≡ front ++ q ∷ rest)
+      × ((r : CidParts) → Among r front ↔ Among r before)
 
 -- ---- one block
 

@@ -24,7 +24,8 @@ pub enum End<'p> {
     NoSuchPath(&'p str),
     /// No bytes are stored under the name.
     NotHeld,
-    /// The bytes are not those that the name says, or they are no block.
+    /// The bytes are not those that the name says, or they are no block of DAG-CBOR: paths do not lead
+    /// into nodes of DAG-PB.
     NoBlock(Verdict),
     /// 2^64 - 1 blocks were passed, which no store has but one whose links go in a circle.
     Endless,
@@ -83,8 +84,11 @@ fn step_in<'p>(name: &Cid, bytes: &[u8], path: &'p str) -> Step<'p>
     match verify(name, bytes) {
         Verdict::Block(_kind) => step_at(bytes, path),
         Verdict::Refused(error) => Step::Ends(End::NoBlock(Verdict::Refused(error))),
+        Verdict::Node => Step::Ends(End::NoBlock(Verdict::Node)),
+        Verdict::NoNode(error) => Step::Ends(End::NoBlock(Verdict::NoNode(error))),
         Verdict::OtherBytes => Step::Ends(End::NoBlock(Verdict::OtherBytes)),
         Verdict::NotRead => Step::Ends(End::NoBlock(Verdict::NotRead)),
+        Verdict::LinksNotRead => Step::Ends(End::NoBlock(Verdict::LinksNotRead)),
         Verdict::Unverified => Step::Ends(End::NoBlock(Verdict::Unverified)),
     }
 }

@@ -1,5 +1,5 @@
 -- A map of a tag and of what it tells, read entry by entry.
-use Rattle.std.proofs.Common.{◌≡◌, ℕ, ◌+◌, ◌-◌, ◌<◌, ◌≤◌, Bool, true, false, List, ◌++◌, refl, sym, ap, ap₂, ◌∙◌, subst, arith, append_assoc, zero-le, Option, None, Some, is_some, option_map, Result, Ok, Err, IsErrAnd, MatchResult, if◌then◌else◌, bytes_eq}
+use Rattle.std.proofs.Common.{◌≡◌, ℕ, ◌+◌, ◌-◌, ◌<◌, ◌≤◌, Bool, true, false, List, ◌++◌, refl, sym, ap, ap₂, ◌∙◌, subst, arith, append_assoc, zero-le, Option, None, Some, is_some, option_map, Result, Ok, Err, IsErrAnd, MatchResult, if◌then◌else◌, bytes_eq, codes}
 use Rattle.std.proofs.lemmas.Slice.Eq.{bytes_eq-Decides}
 use Rattle.std.specs.Prelude.{⊤}
 use Rattle.dagcbor_heads.specs.Head.{head}
@@ -8,6 +8,7 @@ use Rattle.dagcbor_heads.specs.Refusals.{RefusesOrLacksMemoryUnlent, Refuses}
 use Rattle.dagcbor_heads.specs.declared.error.DecodeError.{DecodeError}
 use Rattle.dagcbor_heads.specs.declared.error.DecodeError.TheVariants.{Msg, LengthMismatch}
 use Rattle.dagcbor_heads.specs.declared.name.Name.{Name}
+use Rattle.dagcbor_heads.specs.Names.{Names}
 use Rattle.dagcbor_heads.proofs.Taking.{stays, stays_both}
 use Rattle.dagcbor_heads.proofs.Refusing.{as_refusal, SameReader, refusal_carried}
 use Rattle.ipld_tree.specs.Tree.{Tree, text, mapping, Entries, no_entries, entry}
@@ -19,7 +20,7 @@ use Rattle.dagcbor_items.specs.Shapes.{Shape, cow_leaf, view_text, unless_lent}
 use Rattle.dagcbor_items.specs.TypedReads.{RefusesRead, HasFront, TakesFront, MayLack, Anything}
 use Rattle.dagcbor_items.specs.Untyped.{TakesItem}
 use Rattle.dagcbor_items.proofs.Maps.{map_closed}
-use Rattle.dagcbor_read.specs.Accessors.{AccessorState, accessor_state, HasHeadOf, BeginsItems, EndsItems, LeavesUnread, with_key, with_value}
+use Rattle.dagcbor_read.specs.Accessors.{AccessorState, accessor_state, fresh, HasHeadOf, BeginsItems, EndsItems, LeavesUnread, with_key, with_value}
 use Rattle.dagcbor_read.specs.Deserializers.{DeState, Call}
 use Rattle.dagcbor_read.specs.Values.{ReadsPart, ReadsValue}
 use Rattle.dagcbor_read.specs.declared.access.accessor.Accessor.{Accessor}
@@ -235,6 +236,9 @@ module _ {V : Type 0} (tag content : List ℕ) (shape : EnumShape V) where
 
   -- the map was begun
   pub record AtFirstKey (old : DeState) (entries : AccessorState) (now : DeState) : Type 0 where
+    pub accessor : Accessor
+    pub is : accessor_state accessor ≡ entries
+    pub begun : (accessor_state accessor ≡ fresh accessor.name true accessor.left 1) × Names accessor.name (codes "map") × Enters 5 accessor.left old.input now.input
     pub enters : Enters 5 entries.left old.input now.input
     pub last : entries.last ≡ None
     pub steps : entries.steps ≡ 1
@@ -270,10 +274,10 @@ module _ {V : Type 0} (tag content : List ℕ) (shape : EnumShape V) where
     pub some : 0 < before.left
     pub sound : now.failed ≡ false
 
-  pub at_first_key : (E : Type 0) (old now : DeState) (name : List ℕ) (a : Accessor) → Call (BeginsItems {E = E} 5 name 1) old (Ok a) now → AtFirstKey old (accessor_state a) now
-  at_first_key E old now name a h =
-      let k = call_answered (BeginsItems 5 name 1) old now a h in
-      record { enters = k.2.2; last = ap (λ (c : AccessorState). c.last) k.2.0; steps = ap (λ (c : AccessorState). c.steps) k.2.0; sound = k.1 }
+  pub at_first_key : (E : Type 0) (old now : DeState) (a : Accessor) → Call (BeginsItems {E = E} 5 (codes "map") 1) old (Ok a) now → AtFirstKey old (accessor_state a) now
+  at_first_key E old now a h =
+      let k = call_answered (BeginsItems 5 (codes "map") 1) old now a h in
+      record { accessor = a; is = refl; begun = k.2; enters = k.2.2; last = ap (λ (c : AccessorState). c.last) k.2.0; steps = ap (λ (c : AccessorState). c.steps) k.2.0; sound = k.1 }
 
   pub at_told : (E : Type 0) {old mid now : DeState} {before entries : AccessorState} → AtFirstKey old before mid → ReadsNamedKey {E = E} tag before mid (Ok tt) entries now → AtTold old entries now
   at_told E {old} {mid} {now} {before} {entries} s h = record { before = before; mid = mid; begun = s; key = h.3; after = h.4; some = h.1; sound = h.0 }

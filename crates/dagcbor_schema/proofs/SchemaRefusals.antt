@@ -2,16 +2,17 @@
 use Rattle.std.proofs.Common.{◌≡◌, ℕ, ◌-◌, List, false, sym, ap, subst, ◌∙◌, inl, inr, Result, Ok, Err, IsErrAnd, codes}
 use Rattle.dagcbor_heads.specs.Looking.{Looks}
 use Rattle.dagcbor_heads.specs.declared.error.DecodeError.{DecodeError}
+use Rattle.dagcbor_heads.specs.declared.error.DecodeError.TheVariants.{LengthMismatch}
 use Rattle.ipld_tree.specs.Tree.{text}
 use Rattle.ipld_tree.specs.Spelling.{spelling}
 use Rattle.dagcbor_items.specs.AnsweredVariants.{OfText}
 use Rattle.dagcbor_items.specs.LeafReads.{ReadsStr}
 use Rattle.dagcbor_items.specs.Untyped.{TakesItem}
 use Rattle.dagcbor_items.specs.declared.kind.Kind.{Kind}
-use Rattle.dagcbor_read.specs.Accessors.{AccessorState, EndsItems, with_key, with_value}
+use Rattle.dagcbor_read.specs.Accessors.{AccessorState, EndsItems, LeavesUnread, with_key, with_value}
 use Rattle.dagcbor_read.specs.Deserializers.{DeState, Call}
 use Rattle.dagcbor_read.specs.EnumViews.{EnumShape, part_of}
-use Rattle.dagcbor_read.specs.Parts.{ReadsOnce, IsPartsRefusal, IsFurther}
+use Rattle.dagcbor_read.specs.Parts.{ReadsStringOnce, IsPartsRefusal, IsFurther}
 use Rattle.dagcbor_read.specs.Values.{ReadsValue}
 use Rattle.dagcbor_read.proofs.Handing.{front_further, further_both}
 use Rattle.dagcbor_read.proofs.Progressing.{call_told}
@@ -44,10 +45,10 @@ module _ {V E : Type 0} (tag content : List ℕ) (shape : EnumShape V) (refuses 
   Refused = RefusesEnvelope tag content refuses
 
   pub tag_told : {old mid new : DeState} {entries : AccessorState} {e : DecodeError E} → AtFirstKey tag content shape old entries mid → RefusesNamedKey tag entries.last entries.left mid e new → Refused old e new
-  tag_told {old} {mid} {new} {entries} {e} s r = inr (entries.left, mid, s.sound, s.enters, inl (subst (λ l. RefusesNamedKey tag l entries.left mid e new) s.last r))
+  tag_told {old} {mid} {new} {entries} {e} s r = inr (s.accessor, mid, s.sound, s.begun, inl (subst (λ (c : AccessorState). RefusesNamedKey tag c.last c.left mid e new) (sym s.is) r))
 
-  behind : {old mid now new : DeState} {before : AccessorState} {e : DecodeError E} → AtFirstKey tag content shape old before mid → IsFurther mid now → RefusesBehindTag tag content (before.left - 1) refuses now e new → Refused old e new
-  behind {old} {mid} {now} {new} {before} {e} s i r = inr (before.left, mid, s.sound, s.enters, inr (now, i, r))
+  behind : {old mid now new : DeState} {before : AccessorState} {e : DecodeError E} → AtFirstKey tag content shape old before mid → IsFurther mid now → RefusesBehindTag tag content refuses before now e new → Refused old e new
+  behind {old} {mid} {now} {new} {before} {e} s i r = inr (s.accessor, mid, s.sound, s.begun, inr (now, i, subst (λ c. RefusesBehindTag tag content refuses c now e new) (sym s.is) r))
 
   told_further : {old now : DeState} {entries : AccessorState} (s : AtTold tag content shape old entries now) → IsFurther s.mid now
   told_further s = item_further s.sound s.key
@@ -58,20 +59,30 @@ module _ {V E : Type 0} (tag content : List ℕ) (shape : EnumShape V) (refuses 
   held_further : {name : List ℕ} {old now : DeState} {entries : AccessorState} (s : AtHeld tag content shape name old entries now) → IsFurther s.begun.begun.mid now
   held_further s = further_both (second_further s.begun) (item_further s.sound s.key)
 
-  pub name_told : {old mid new : DeState} {entries : AccessorState} {e : DecodeError E} → AtTold tag content shape old entries mid → IsPartsRefusal (ReadsOnce (ReadsStr (codes "string")) (Looks 3) OfText) mid e new → Refused old e new
+  pub name_told : {old mid new : DeState} {entries : AccessorState} {e : DecodeError E} → AtTold tag content shape old entries mid → IsPartsRefusal (ReadsStringOnce 3 (ReadsStr (codes "string")) (Looks 3) OfText) mid e new → Refused old e new
   name_told s r = behind s.begun (told_further s) (inl r)
 
   pub content_told : {name : List ℕ} {old mid new : DeState} {entries : AccessorState} {e : DecodeError E} → AtSecondKey tag content shape name old entries mid → RefusesNamedKey content entries.last entries.left mid e new → Refused old e new
   content_told {name} {old} {mid} {new} {entries} {e} s r =
       let is : entries ≡ with_value (with_key tag s.begun.before) = s.after ∙ ap with_value s.begun.after in
-      behind s.begun.begun (second_further s) (inr (inl (subst (λ (c : AccessorState). RefusesNamedKey content c.last c.left mid e new) is r)))
+      let named = subst (λ (c : AccessorState). RefusesNamedKey content c.last c.left mid e new) is r in
+      behind s.begun.begun (second_further s) (inr (inl named))
 
   pub held_told : {name : List ℕ} {old mid new : DeState} {entries : AccessorState} {e : DecodeError E} → AtHeld tag content shape name old entries mid → refuses mid e new → Refused old e new
   held_told s r = behind s.begun.begun.begun (held_further s) (inr (inr (inl r)))
 
+  -- what an accessor leaves unread is the same for one that read two keys
+  two_read : (c : AccessorState) (e : DecodeError E) → LeavesUnread (with_value (with_key content (with_value (with_key tag c)))) e → LeavesUnread (record c { left = c.left - 1 - 1 }) e
+  two_read c (LengthMismatch name expect value) h = h
+  two_read c _ h = absurd h
+
   pub unread_told : {T : Type 0} {name text' : List ℕ} {old mid now new : DeState} {entries : AccessorState} (meaning : T → V) (v : T) (end : AccessorState) (e : DecodeError E) → AtHeld tag content shape name old entries mid
-      → ReadsValue {E = E} meaning (part_of shape text') mid (Ok v) now → Call (EndsItems end) now (Err e) new → Refused old e new
-  unread_told {T} {name} {text'} {old} {mid} {now} {new} {entries} meaning v end e s r h =
+      → ReadsValue {E = E} meaning (part_of shape text') mid (Ok v) now → end ≡ with_value entries → Call (EndsItems end) now (Err e) new → Refused old e new
+  unread_told {T} {name} {text'} {old} {mid} {now} {new} {entries} meaning v end e s r after h =
       let k = r s.sound in
       let q = call_told (EndsItems end) now new (Err e) k.0 h in
-      behind s.begun.begun.begun (further_both (held_further s) (front_further k.0 k.1)) (inr (inr (inr (q.0, (end, q.1)))))
+      let first = s.begun.begun.before in
+      let is : end ≡ with_value (with_key content (with_value (with_key tag first))) =
+      after ∙ ap with_value (s.after ∙ ap (λ c. with_key content c) (s.begun.after ∙ ap with_value s.begun.begun.after)) in
+      let u = subst (λ (c : AccessorState). EndsItems c now.input (Err e) new.input) is q.1 in
+      behind s.begun.begun.begun (further_both (held_further s) (front_further k.0 k.1)) (inr (inr (inr (q.0, (first.left - 1 - 1, (u.0, two_read first e u.1, u.2))))))

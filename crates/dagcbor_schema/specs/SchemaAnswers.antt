@@ -6,14 +6,14 @@ use Rattle.std.specs.declared.alloc.Global.{Global}
 use Rattle.dagcbor_heads.specs.Looking.{Looks, LooksOnce}
 use Rattle.dagcbor_heads.specs.declared.error.DecodeError.{DecodeError}
 use Rattle.dagcbor_items.specs.AnsweredVariants.{OfText, OfKey}
-use Rattle.dagcbor_items.specs.Entering.{Enters}
 use Rattle.dagcbor_items.specs.LeafReads.{ReadsStr}
+use Rattle.dagcbor_items.specs.Majors.{LacksForString}
 use Rattle.dagcbor_items.specs.declared.kind.Kind.{Kind}
 use Rattle.dagcbor_items.specs.declared.kind.Kind.TheVariants as kinds
-use Rattle.dagcbor_read.specs.Accessors.{BeginsItems, ReadsNextKey}
+use Rattle.dagcbor_read.specs.Accessors.{AccessorState, BeginsItems, ReadsNextKey}
 use Rattle.dagcbor_read.specs.Deserializers.{DeState, Call}
 use Rattle.dagcbor_read.specs.Kinds.{PeeksKind, OfPeek}
-use Rattle.dagcbor_read.specs.Parts.{ReadsOnce, IsPartsRefusal, RefusesFurther, RefusesUnread, HasMessage}
+use Rattle.dagcbor_read.specs.Parts.{ReadsOnce, ReadsStringOnce, IsPartsRefusal, RefusesFurther, RefusesWithin, RefusesUnread, HasMessage}
 use Rattle.dagcbor_schema.specs.declared.by_kind.ByKind.{ByKind}
 use Rattle.dagcbor_schema.specs.declared.by_kind.ByKind.TheVariants as told
 
@@ -68,11 +68,12 @@ module _ {E B I T Y L M K : Type 0} (of_bool : DeState → Result B (DecodeError
 
 -- ---- a key that is known beforehand
 
--- a key is read, where so many are left, with bounded looks
+-- a key is read, where so many are left, with bounded looks, and memory only for some bytes
 abbrev pub ReadsKeyOnce : {E : Type 0} → Option (List ℕ) → ℕ → DeState
     → Result (Option (CowStr Global)) (DecodeError E) → DeState → Type 0
 ReadsKeyOnce last left old result new = Call (ReadsNextKey last left) old result new
     × (0 < left → Looks 3 old.input result new.input) × IfErr result OfKey
+    × IfErr result (LacksForString 3 old.input.left)
 
 -- no key is left, or it is another
 abbrev pub IsOtherKey : {E : Type 0} → List ℕ → Option (CowStr Global) → DecodeError E → Type 0
@@ -87,17 +88,21 @@ RefusesNamedKey {E} name last left old e new = ReadsKeyOnce last left old (Err e
 
 -- Behind the tag's key its text was refused, or the content's key, or what the content holds, or
 -- entries are unread.
-abbrev pub RefusesBehindTag : {E : Type 0} → (tag content : List ℕ) → ℕ
-    → (DeState → DecodeError E → DeState → Type 0) → DeState → DecodeError E → DeState → Type 0
-RefusesBehindTag tag content left refuses old e new =
-    IsPartsRefusal (ReadsOnce (ReadsStr (codes "string")) (Looks 3) OfText) old e new
-    ⊎ (RefusesNamedKey content (Some tag) left old e new ⊎ (refuses old e new ⊎ RefusesUnread old e new))
+abbrev pub RefusesBehindTag : {E : Type 0} → (tag content : List ℕ)
+    → (DeState → DecodeError E → DeState → Type 0) → AccessorState → DeState → DecodeError E
+    → DeState → Type 0
+RefusesBehindTag tag content refuses begun old e new =
+    IsPartsRefusal (ReadsStringOnce 3 (ReadsStr (codes "string")) (Looks 3) OfText) old e new
+    ⊎ (RefusesNamedKey content (Some tag) (begun.left - 1) old e new ⊎ (refuses old e new ⊎ RefusesUnread begun old e new))
 
--- The map was not begun; or the first of its keys was refused, or is not the tag's; or what is
--- behind that was.
+-- The first of the keys was refused, or is not the tag's; or what is behind that was.
+abbrev pub RefusesTold : {E : Type 0} → (tag content : List ℕ)
+    → (DeState → DecodeError E → DeState → Type 0) → AccessorState → DeState → DecodeError E
+    → DeState → Type 0
+RefusesTold tag content refuses begun old e new = RefusesNamedKey tag begun.last begun.left old e new
+    ⊎ RefusesFurther (RefusesBehindTag tag content refuses begun) old e new
+
+-- The map was not begun, or what it holds was refused.
 abbrev pub RefusesEnvelope : {E : Type 0} → (tag content : List ℕ)
     → (DeState → DecodeError E → DeState → Type 0) → DeState → DecodeError E → DeState → Type 0
-RefusesEnvelope tag content refuses old e new =
-    ((new.failed ≡ true) × BeginsItems 5 (codes "map") 1 old.input (Err e) new.input)
-    ⊎ ((count : ℕ) × (mid : DeState) × (mid.failed ≡ false) × Enters 5 count old.input mid.input
-    × (RefusesNamedKey tag None count mid e new ⊎ RefusesFurther (RefusesBehindTag tag content (count - 1) refuses) mid e new))
+RefusesEnvelope tag content refuses = RefusesWithin (BeginsItems 5 (codes "map") 1) (RefusesTold tag content refuses)

@@ -3,6 +3,8 @@ pub mod Keeping
 pub mod Calls
 pub mod Rooting
 pub mod Opening
+pub mod Trusting
+pub mod Moving
 pub mod Adding
 pub mod ManyRoots
 pub mod Reading

@@ -1,17 +1,25 @@
 -- Roots that are added to a store one by one.
-use Rattle.std.proofs.Common.{◌≡◌, ◌≢◌, ◌⊎◌, inl, inr, ℕ, zero, suc, ◌+◌, ◌<◌, ◌≤◌, List, [], ◌∷◌, ◌++◌, length, get_or, take, refl, sym, ap, ◌∙◌, subst, arith, add-one, take-suc}
+use Rattle.std.proofs.Common.{◌≡◌, inl, inr, ℕ, zero, suc, ◌+◌, ◌<◌, ◌≤◌, List, [], ◌∷◌, ◌++◌, length, get_or, take, refl, sym, ap, ◌∙◌, subst, arith, add-one, take-suc}
 use Rattle.std.proofs.Math.Seq.{take-length}
 use Rattle.sqlite_trees.specs.Tree.{Trees}
-use Rattle.sqlite_trees.specs.View.{View, IsClean}
+use Rattle.sqlite_trees.specs.View.{View, IsClean, KeepsSchema}
 use Rattle.sqlite_trees.specs.declared.store.Store.{Ghosts}
+use Rattle.sqlite_trees.specs.declared.error.StoreError.{StoreError}
+use Rattle.sqlite_trees.specs.declared.error.StoreError.TheVariants as stored
 use Rattle.ipld_tree.specs.Cid.{CidParts, cid_bytes}
+use Rattle.ipld_links.specs.Sets.{AddsCid}
+use Rattle.ipld_links.specs.declared.cid_set.CidSet.{CidSet}
 use Rattle.ipld_links.proofs.Members.{push_among}
 use Rattle.block_trees.specs.RootRows.{root_tree, AreRoots, IsRootTooLong}
 use Rattle.block_trees.specs.Ends.{Quiet}
-use Rattle.dagcbor_store.specs.Roots.{JoinsRoots, AddsInTurn, KeepsRoots, MayKeepRoots, IsRootAdded, RootRefused, AreRootsAdded, ComesNext, IsRootTooLongFor, IsAnyTooLong, RootsRefused}
+use Rattle.block_trees.proofs.Causes.{cause_then}
+use Rattle.dagcbor_store.specs.Stored.{IsSame, TellsOfStore, FailsByStore}
+use Rattle.dagcbor_store.specs.Roots.{JoinsRoots, AddsInTurn, IsRootAdded, RootRefused, AreRootsAdded, ComesNext, IsRootTooLongFor, IsAnyTooLong, RootsRefused, HasJust, KnowsRoots}
 use Rattle.dagcbor_store.specs.declared.error.StoreRefusal.{StoreRefusal}
 use Rattle.dagcbor_store.specs.declared.error.StoreRefusal.TheVariants as refusal
 use Rattle.dagcbor_store.proofs.Adding.{KeepsLast, fails_behind}
+use Rattle.dagcbor_store.proofs.Calls.{not_number}
+use Rattle.dagcbor_store.proofs.Rooting.{just_push}
 use Rattle.dagcbor_store.proofs.Unlisted.{item_among}
 
 -- ---- names
@@ -25,14 +33,29 @@ stands_at [] i name within is = absurd (omega (arith, within))
 stands_at (n ∷ names) zero name within is = (names, ap (λ x. x ∷ names) (sym is))
 stands_at (n ∷ names) (suc i) name within is = let k = stands_at names i name (omega (arith, within)) is in (k.0, ap (λ ns. n ∷ ns) k.1)
 
-not_none : (names : List CidParts) (i : ℕ) → i < length names → names ≢ []
-not_none [] i within is = absurd (omega (arith, within))
-not_none (n ∷ names) i within is = cc is
-
 -- ---- adding
 
-pub roots_none : (v : View) → AreRootsAdded v v []
-roots_none v = record { roots = λ names are. (names, are, refl); same = λ names are all. refl; beside = λ t out. refl; committed = refl; reals = refl; is_open = refl; broken = refl }
+longer : (names : List CidParts) (i : ℕ) (name : CidParts) → i < length names → name ≡ get_or names i name → take i names ++ name ∷ [] ≡ take (i + 1) names
+longer names i name within is = ap (λ y. take i names ++ y ∷ []) is ∙ sym (take-suc names i name within) ∙ ap (λ n. take n names) (sym (add-one i))
+
+pub roots_none : (old new : View) → IsSame old new → KeepsSchema old new → AreRootsAdded old new []
+roots_none old new h s = record {
+  roots = λ names are. (names, subst (λ (t : Trees). AreRoots (t root_tree) names) (sym h.trees) are, refl);
+  same = λ names are all. h.trees;
+  beside = λ t out. ap (λ (f : Trees). f t) h.trees;
+  committed = h.committed;
+  reals = s.reals;
+  is_open = h.is_open;
+  broken = h.broken;
+}
+
+pub known_since : (old new : View) (known : CidSet) → IsSame old new → KnowsRoots old known → KnowsRoots new known
+known_since old new known h k = (k.0, subst (λ (t : Trees). AreRoots (t root_tree) k.0) (sym h.trees) k.1, k.2)
+
+-- ---- the set of the names
+
+pub just_more : (names : List CidParts) (i : ℕ) (name : CidParts) (before after : CidSet) → i < length names → name ≡ get_or names i name → HasJust (take i names) before → AddsCid name before after → HasJust (take (i + 1) names) after
+just_more names i name before after within is h add = subst (λ ns. HasJust ns after) (longer names i name within is) (just_push (take i names) name before after h add)
 
 roots_more : (old mid new : View) (names : List CidParts) (name : CidParts) → AreRootsAdded old mid names → IsRootAdded mid new name → AreRootsAdded old new (names ++ name ∷ [])
 roots_more old mid new names name h a = record {
@@ -43,14 +66,12 @@ roots_more old mid new names name h a = record {
   beside = λ t out. a.beside t out ∙ h.beside t out;
   committed = a.committed ∙ h.committed;
   reals = a.reals ∙ h.reals;
-  is_open = a.is_open ∙ sym a.was_open ∙ h.is_open;
+  is_open = a.is_open ∙ h.is_open;
   broken = a.broken ∙ h.broken;
 }
 
 pub roots_next : (old mid new : View) (names : List CidParts) (i : ℕ) (name : CidParts) → i < length names → name ≡ get_or names i name → AreRootsAdded old mid (take i names) → IsRootAdded mid new name → AreRootsAdded old new (take (i + 1) names)
-roots_next old mid new names i name within is h a =
-    let longer : take i names ++ name ∷ [] ≡ take (i + 1) names = ap (λ y. take i names ++ y ∷ []) is ∙ sym (take-suc names i name within) ∙ ap (λ n. take n names) (sym (add-one i)) in
-    subst (AreRootsAdded old new) longer (roots_more old mid new (take i names) name h a)
+roots_next old mid new names i name within is h a = subst (AreRootsAdded old new) (longer names i name within is) (roots_more old mid new (take i names) name h a)
 
 pub all_taken : (names : List CidParts) (i : ℕ) → i ≤ length names → length names ≤ i → take i names ≡ names
 all_taken names i below end =
@@ -62,25 +83,34 @@ last_rooted old new names h = record { was_open = λ o. sym h.is_open ∙ o; com
 
 -- ---- refusals
 
--- none was added, and nothing is changed; or the file is not of the earlier version
-abbrev pub IsBegun : {S : Type 0} → Ghosts S → List CidParts → S → S → Type 0
-IsBegun g names old new = ((names ≡ []) × (new ≡ old)) ⊎ KeepsRoots (g.view old)
+not_earlier : (e : StoreError) → TellsOfStore e refusal.EarlierVersion → ⊥
+not_earlier stored.OutOfMemory h = cc
+not_earlier stored.Broken (inl h) = cc
+not_earlier stored.Broken (inr h) = cc
+not_earlier _ h = cc
 
-pub may_keep : {S : Type 0} (g : Ghosts S) (names : List CidParts) (old new : S) → IsBegun g names old new → MayKeepRoots (g.view old) names
-may_keep g names old new (inl k) = inl k.0
-may_keep g names old new (inr keeps) = inr keeps
+fails_wider : {S : Type 0} (g : Ghosts S) (V : Type 0) (old new : S) (told : StoreRefusal) → FailsByStore g ⊥ old new told → FailsByStore g V old new told
+fails_wider g V old new told f = record {
+  error = f.error;
+  tells = f.tells;
+  blamed = f.blamed;
+  caused = λ clean. cause_then (g.view old) (g.view old) (g.faults old) (g.faults old) (g.faults new) ⊥ V f.error (omega arith) refl (λ u. absurd u) (f.caused clean);
+  undone = f.undone;
+}
+
+-- the store failed before any was added
+pub unlisted : {S : Type 0} (g : Ghosts S) (names : List CidParts) (old new : S) (told : StoreRefusal) → FailsByStore g ⊥ old new told → RootsRefused g names old new told
+unlisted g names old new refusal.EarlierVersion f = absurd (not_earlier f.error f.tells)
+unlisted g names old new refusal.NoNumber f = absurd (not_number f.error f.tells)
+unlisted g names old new told f = fails_wider g (IsAnyTooLong (g.view old) names) old new told f
 
 module _ {S : Type 0} (g : Ghosts S) (names : List CidParts) (i : ℕ) (name : CidParts) (old mid new : S) (within : i < length names) (is : name ≡ get_or names i name) (added : IsClean (g.view mid) → AreRootsAdded (g.view old) (g.view mid) (take i names))
-    (shape : (g.view mid).shape ≡ (g.view old).shape) (begun : IsBegun g (take i names) old mid) (before : Quiet g old mid) (quiet : Quiet g mid new) where
+    (before : Quiet g old mid) (quiet : Quiet g mid new) where
   too_long : IsClean (g.view mid) → IsRootTooLongFor (g.view mid) name → IsAnyTooLong (g.view old) names
   too_long clean long = (name, item_among names i name within is, subst (λ r. IsRootTooLong r (cid_bytes name)) (added clean).reals long)
 
-  earlier : IsBegun g (take i names) old mid → RootRefused g name mid new refusal.EarlierVersion → RootsRefused g names old new refusal.EarlierVersion
-  earlier (inl k) p = (sym (ap (λ f. f root_tree) shape) ∙ p.0, not_none names i within, p.1 ∙ k.1)
-  earlier (inr keeps) p = absurd (keeps (sym (ap (λ f. f root_tree) shape) ∙ p.0))
-
   pub roots_refused : (told : StoreRefusal) → RootRefused g name mid new told → RootsRefused g names old new told
-  roots_refused refusal.EarlierVersion p = earlier begun p
+  roots_refused refusal.EarlierVersion p = absurd (not_earlier p.error p.tells)
   roots_refused refusal.NoNumber p = λ clean.
       let k = p clean in
       record { first = take i names; name = name; held = g.view mid; stands = stands_at names i name within is; added = added (omega (arith, quiet.clean)); lacks = k.0; same = k.1 }

@@ -1,23 +1,23 @@
 -- The roots of a store, and that it stays ready.
-use Rattle.std.proofs.Common.{◌≡◌, inl, inr, ℕ, ℤ, List, [], ◌∷◌, ◌++◌, refl, sym, ap, ◌∙◌, subst, true≢false, IsTrue, Bool, Result, Ok, Err, IfErr, OnOk}
+use Rattle.std.proofs.Common.{◌≡◌, inl, inr, ℕ, ℤ, List, [], ◌∷◌, ◌++◌, refl, sym, ap, ap₂, ◌∙◌, subst, true≢false, IsTrue, Bool, false, Result, Ok, Err, IfErr, OnOk, is_err}
 use Rattle.std.proofs.Math.Decide.{ℕ_discrete}
 use Rattle.sqlite_value.specs.Order.{Row}
 use Rattle.sqlite_trees.specs.Tree.{Trees}
 use Rattle.sqlite_trees.specs.View.{View, IsClean}
 use Rattle.sqlite_trees.specs.declared.store.Store.{Ghosts}
-use Rattle.sqlite_trees.specs.declared.error.StoreError.{StoreError}
-use Rattle.sqlite_trees.specs.declared.error.StoreError.TheVariants as stored
 use Rattle.ipld_tree.specs.Cid.{CidParts, AreCidParts, cid_bytes}
 use Rattle.ipld_tree.proofs.Cids.{cid_unique}
-use Rattle.ipld_links.specs.Sets.{Among}
+use Rattle.ipld_links.specs.Sets.{Among, members, AddsCid}
+use Rattle.ipld_links.specs.declared.cid_set.CidSet.{CidSet}
+use Rattle.ipld_links.proofs.Members.{among_push, push_among}
 use Rattle.block_trees.specs.Rows.{name_tree, IsKeyed}
-use Rattle.block_trees.specs.RootRows.{root_tree, root_row, IsRowOfRoot, AreRoots, HasRoot, AddsRoot, LeavesOut, TakesRoot}
+use Rattle.block_trees.specs.RootRows.{root_tree, root_row, IsRowOfRoot, AreRoots, HasRoot, AppendsRoot, LeavesOut, TakesRoot}
 use Rattle.block_trees.specs.Ends.{WritesIn, KeepsOthers, IsOfRoots}
 use Rattle.block_trees.specs.declared.entries.Added.{Added}
 use Rattle.block_trees.specs.declared.entries.Added.TheVariants.{New, Stored, NoNumber}
 use Rattle.block_trees.proofs.Rooting.{are_more}
-use Rattle.dagcbor_store.specs.Stored.{AreAllRoots, IsReady, IsToldAdded, TellsOfStore, FailsByStore}
-use Rattle.dagcbor_store.specs.Roots.{JoinsRoots, IsRootAdded, IsRootTooLongFor, RootRefused, IsRootTaken}
+use Rattle.dagcbor_store.specs.Stored.{AreAllRoots, IsReady, IsSame, IsToldAdded, FailsByStore}
+use Rattle.dagcbor_store.specs.Roots.{JoinsRoots, LacksNumber, HasJust, KnowsRoots, IsRootAdded, IsRootTooLongFor, RootRefused, IsRootTaken}
 use Rattle.dagcbor_store.specs.declared.error.StoreRefusal.{StoreRefusal}
 use Rattle.dagcbor_store.specs.declared.error.StoreRefusal.TheVariants as refusal
 use Rattle.dagcbor_store.proofs.Calls.{ready_written, still_open, not_number}
@@ -39,6 +39,17 @@ among_has [] (n ∷ names) c are m = absurd are
 among_has (r ∷ rows) [] c are m = absurd are
 among_has (r ∷ rows) (n ∷ names) c are (inl e) = (are.0.1.0, inl (ap (λ (x : CidParts). root_row are.0.1.0 (cid_bytes x)) e ∙ sym are.0.1.1))
 among_has (r ∷ rows) (n ∷ names) c are (inr m) = let k = among_has rows names c are.1 m in (k.0, inr k.1)
+
+-- rows have one list of names
+roots_same : (rows : List Row) (names others : List CidParts) → AreRoots rows names → AreRoots rows others → names ≡ others
+roots_same [] [] [] p q = refl
+roots_same [] [] (d ∷ others) p q = absurd q
+roots_same [] (c ∷ names) others p q = absurd p
+roots_same (r ∷ rows) [] others p q = absurd p
+roots_same (r ∷ rows) (c ∷ names) [] p q = absurd q
+roots_same (r ∷ rows) (c ∷ names) (d ∷ others) p q =
+    let same : c ≡ d = cid_unique c d p.0.0 q.0.0 (same_name (cid_bytes c) (cid_bytes d) p.0.1.0 q.0.1.0 (sym p.0.1.1 ∙ q.0.1.1)) in
+    ap₂ (λ x xs. x ∷ xs) same (roots_same rows names others p.1 q.1)
 
 -- the rows that are left are those of the names that are left
 pub leaves_names : (rows new : List Row) (names : List CidParts) (c : CidParts) → AreRoots rows names → AreCidParts c → LeavesOut (IsRowOfRoot (cid_bytes c)) rows new
@@ -80,64 +91,93 @@ pub done_if_clean : {X E : Type 0} (r : Result X E) (C P : Type 0) → (C → On
 done_if_clean (Ok x) C P h = h
 done_if_clean (Err e) C P h = tt
 
-adds_names : (rows new : List Row) (names : List CidParts) (c : CidParts) (added : Added) → AreCidParts c → AddsRoot rows new (cid_bytes c) added → AreRoots rows names
+-- what a call ensures where it did not refuse
+pub on_ok : {X Y : Type 0} (r : Result X Y) (P : Type 0) → false ≡ is_err r → OnOk r P → P
+on_ok (Ok x) P e h = h
+on_ok (Err y) P e h = absurd (cc e)
+
+appended : (rows new : List Row) (names : List CidParts) (c : CidParts) → AreCidParts c → AppendsRoot rows new (cid_bytes c) New → AreRoots rows names → AreRoots new (names ++ c ∷ [])
+appended rows new names c valid a are = subst (λ rs. AreRoots rs (names ++ c ∷ [])) (sym a.1) (are_more rows names (root_row a.0 (cid_bytes c)) c are (valid, (a.0, refl)))
+
+adds_names : (rows new : List Row) (names : List CidParts) (c : CidParts) (added : Added) → AreCidParts c → (HasRoot rows (cid_bytes c) → ⊥) → AppendsRoot rows new (cid_bytes c) added → AreRoots rows names
     → (added ≡ NoNumber → ⊥) → (now : List CidParts) × AreRoots new now × JoinsRoots names c now
-adds_names rows new names c added valid (inl k) are some = (names, subst (λ rs. AreRoots rs names) (sym k.2) are, inl (has_among rows names c are valid k.0, refl))
-adds_names rows new names c New valid (inr k) are some =
-    (names ++ c ∷ [], subst (λ rs. AreRoots rs (names ++ c ∷ [])) (sym k.1.1) (are_more rows names (root_row k.1.0 (cid_bytes c)) c are (valid, (k.1.0, refl))), inr (λ m. k.0 (among_has rows names c are m), refl))
-adds_names rows new names c Stored valid (inr k) are some = absurd k.1
-adds_names rows new names c NoNumber valid (inr k) are some = absurd (some refl)
+adds_names rows new names c New valid none a are some = (names ++ c ∷ [], appended rows new names c valid a are, inr (λ m. none (among_has rows names c are m), refl))
+adds_names rows new names c Stored valid none a are some = absurd a
+adds_names rows new names c NoNumber valid none a are some = absurd (some refl)
 
 -- each row is that of a root still
-pub roots_added : (rows new : List Row) (c : CidParts) (added : Added) → AreCidParts c → AddsRoot rows new (cid_bytes c) added → AreAllRoots rows → AreAllRoots new
-roots_added rows new c New valid a (names, are) = let k = adds_names rows new names c New valid a are (λ e. cc e) in (k.0, k.1)
-roots_added rows new c Stored valid a (names, are) = let k = adds_names rows new names c Stored valid a are (λ e. cc e) in (k.0, k.1)
-roots_added rows new c NoNumber valid (inl k) (names, are) = (names, subst (λ rs. AreRoots rs names) (sym k.2) are)
-roots_added rows new c NoNumber valid (inr k) (names, are) = (names, subst (λ rs. AreRoots rs names) (sym k.1.1) are)
+pub roots_added : (rows new : List Row) (c : CidParts) (added : Added) → AreCidParts c → AppendsRoot rows new (cid_bytes c) added → AreAllRoots rows → AreAllRoots new
+roots_added rows new c New valid a (names, are) = (names ++ c ∷ [], appended rows new names c valid a are)
+roots_added rows new c Stored valid a (names, are) = absurd a
+roots_added rows new c NoNumber valid a (names, are) = (names, subst (λ rs. AreRoots rs names) (sym a.1) are)
 
-added_view : (old new : View) (name : CidParts) (added : Added) → WritesIn IsOfRoots old new → IsTrue old.is_open → AreCidParts name → AddsRoot (old.trees root_tree) (new.trees root_tree) (cid_bytes name) added
+-- what the set of the roots says of a name
+pub none_known : (v : View) (known : CidSet) (name : CidParts) → AreCidParts name → KnowsRoots v known → (Among name (members known) → ⊥) → HasRoot (v.trees root_tree) (cid_bytes name) → ⊥
+none_known v known name valid h none has = none ((h.2 name).1 (has_among (v.trees root_tree) h.0 name h.1 valid has))
+
+pub known_added : (v : View) (known : CidSet) (name : CidParts) → KnowsRoots v known → Among name (members known) → IsRootAdded v v name
+known_added v known name h m = record {
+  roots = λ names are. (names, are, inl (subst (Among name) (roots_same (v.trees root_tree) h.0 names h.1 are) ((h.2 name).0 m), refl));
+  same = λ names are among. refl;
+  beside = λ t out. refl;
+  committed = refl;
+  reals = refl;
+  is_open = refl;
+  broken = refl;
+}
+
+-- one name more
+pub just_push : (names : List CidParts) (name : CidParts) (before after : CidSet) → HasJust names before → AddsCid name before after → HasJust (names ++ name ∷ []) after
+just_push names name before after h add c = (
+  λ m. push_among c names name (elim ((add.1 c).0 m) [ inl was ↦ inl ((h c).0 was) | inr e ↦ inr e ]),
+  λ m. (add.1 c).1 (elim (among_push c names name m) [ inl was ↦ inl ((h c).1 was) | inr e ↦ inr e ]),
+)
+
+known_more : (old new : View) (before after : CidSet) (name : CidParts) → KnowsRoots old before → AddsCid name before after → AppendsRoot (old.trees root_tree) (new.trees root_tree) (cid_bytes name) New → KnowsRoots new after
+known_more old new before after name h add a = (
+  h.0 ++ name ∷ [],
+  appended (old.trees root_tree) (new.trees root_tree) h.0 name add.0 a h.1,
+  just_push h.0 name before after h.2 add,
+)
+
+added_view : (old new : View) (name : CidParts) (added : Added) → WritesIn IsOfRoots old new → AreCidParts name → (HasRoot (old.trees root_tree) (cid_bytes name) → ⊥) → AppendsRoot (old.trees root_tree) (new.trees root_tree) (cid_bytes name) added
     → (added ≡ NoNumber → ⊥) → IsRootAdded old new name
-added_view old new name added h o valid a some = record {
-  roots = λ names are. adds_names (old.trees root_tree) (new.trees root_tree) names name added valid a are some;
-  same = λ names are m. elim a [
-    | inl k ↦ same_trees old.trees new.trees h.others k.2
-    | inr k ↦ absurd (k.0 (among_has (old.trees root_tree) names name are m))
-  ];
+added_view old new name added h valid none a some = record {
+  roots = λ names are. adds_names (old.trees root_tree) (new.trees root_tree) names name added valid none a are some;
+  same = λ names are m. absurd (none (among_has (old.trees root_tree) names name are m));
   beside = h.others;
   committed = ap (λ (v : View). v.committed) h.frame;
   reals = ap (λ (v : View). v.reals) h.frame;
-  was_open = o;
-  is_open = still_open old new h.frame o;
+  is_open = ap (λ (v : View). v.is_open) h.frame;
   broken = ap (λ (v : View). v.is_broken) h.frame;
 }
 
-pub is_root_added : (old new : View) (name : CidParts) (added : Added) (r : Result (Unit {0}) StoreRefusal) → WritesIn IsOfRoots old new → IsTrue old.is_open → AreCidParts name
-    → AddsRoot (old.trees root_tree) (new.trees root_tree) (cid_bytes name) added → IsToldAdded added r → OnOk r (IsRootAdded old new name)
-is_root_added old new name New r h o valid a is = subst (λ x. OnOk x (IsRootAdded old new name)) (sym is) (added_view old new name New h o valid a (λ e. cc e))
-is_root_added old new name Stored r h o valid a is = subst (λ x. OnOk x (IsRootAdded old new name)) (sym is) (added_view old new name Stored h o valid a (λ e. cc e))
-is_root_added old new name NoNumber r h o valid a is = subst (λ x. OnOk x (IsRootAdded old new name)) (sym is) tt
+pub is_root_added : (old new : View) (name : CidParts) (added : Added) (r : Result (Unit {0}) StoreRefusal) → WritesIn IsOfRoots old new → AreCidParts name → (HasRoot (old.trees root_tree) (cid_bytes name) → ⊥)
+    → AppendsRoot (old.trees root_tree) (new.trees root_tree) (cid_bytes name) added → IsToldAdded added r → OnOk r (IsRootAdded old new name)
+is_root_added old new name New r h valid none a is = subst (λ x. OnOk x (IsRootAdded old new name)) (sym is) (added_view old new name New h valid none a (λ e. cc e))
+is_root_added old new name Stored r h valid none a is = absurd a
+is_root_added old new name NoNumber r h valid none a is = subst (λ x. OnOk x (IsRootAdded old new name)) (sym is) tt
+
+pub is_known : (old new : View) (before after : CidSet) (name : CidParts) (added : Added) (r : Result (Unit {0}) StoreRefusal) → KnowsRoots old before → AddsCid name before after → AppendsRoot (old.trees root_tree) (new.trees root_tree) (cid_bytes name) added → IsToldAdded added r → OnOk r (KnowsRoots new after)
+is_known old new before after name New r h add a is = subst (λ x. OnOk x (KnowsRoots new after)) (sym is) (known_more old new before after name h add a)
+is_known old new before after name Stored r h add a is = absurd a
+is_known old new before after name NoNumber r h add a is = subst (λ x. OnOk x (KnowsRoots new after)) (sym is) tt
 
 module _ {S : Type 0} (g : Ghosts S) (name : CidParts) (old new : S) where
-  none_added : AddsRoot ((g.view old).trees root_tree) ((g.view new).trees root_tree) (cid_bytes name) NoNumber → WritesIn IsOfRoots (g.view old) (g.view new) → IsClean (g.view new) → RootRefused g name old new refusal.NoNumber
-  none_added (inl k) h clean = absurd (cc k.1)
-  none_added (inr k) h clean = λ now. (
-    (k.1.0, λ names are m. k.0 (among_has ((g.view old).trees root_tree) names name are m)),
-    record { trees = same_trees (g.view old).trees (g.view new).trees h.others k.1.1; committed = ap (λ (v : View). v.committed) h.frame; is_open = ap (λ (v : View). v.is_open) h.frame; broken = ap (λ (v : View). v.is_broken) h.frame },
+  none_added : AppendsRoot ((g.view old).trees root_tree) ((g.view new).trees root_tree) (cid_bytes name) NoNumber → (HasRoot ((g.view old).trees root_tree) (cid_bytes name) → ⊥) → WritesIn IsOfRoots (g.view old) (g.view new) → LacksNumber (g.view old).trees name × IsSame (g.view old) (g.view new)
+  none_added a none h = (
+    (a.0, λ names are m. none (among_has ((g.view old).trees root_tree) names name are m)),
+    record { trees = same_trees (g.view old).trees (g.view new).trees h.others a.1; committed = ap (λ (v : View). v.committed) h.frame; is_open = ap (λ (v : View). v.is_open) h.frame; broken = ap (λ (v : View). v.is_broken) h.frame },
   )
 
   pub root_not_added : (added : Added) (r : Result (Unit {0}) StoreRefusal)
-      → (IsClean (g.view new) → AddsRoot ((g.view old).trees root_tree) ((g.view new).trees root_tree) (cid_bytes name) added × WritesIn IsOfRoots (g.view old) (g.view new)) → IsToldAdded added r → IfErr r (RootRefused g name old new)
+      → (IsClean (g.view new) → AppendsRoot ((g.view old).trees root_tree) ((g.view new).trees root_tree) (cid_bytes name) added × (HasRoot ((g.view old).trees root_tree) (cid_bytes name) → ⊥) × WritesIn IsOfRoots (g.view old) (g.view new)) → IsToldAdded added r → IfErr r (RootRefused g name old new)
   root_not_added New r h is = subst (λ x. IfErr x (RootRefused g name old new)) (sym is) tt
   root_not_added Stored r h is = subst (λ x. IfErr x (RootRefused g name old new)) (sym is) tt
-  root_not_added NoNumber r h is = subst (λ x. IfErr x (RootRefused g name old new)) (sym is) (λ clean. none_added (h clean).0 (h clean).1 clean clean)
-
-  not_earlier : (e : StoreError) → TellsOfStore e refusal.EarlierVersion → ⊥
-  not_earlier stored.OutOfMemory h = cc
-  not_earlier _ h = cc
+  root_not_added NoNumber r h is = subst (λ x. IfErr x (RootRefused g name old new)) (sym is) (λ clean. none_added (h clean).0 (h clean).1 (h clean).2)
 
   pub root_failed : (told : StoreRefusal) → FailsByStore g (IsRootTooLongFor (g.view old) name) old new told → RootRefused g name old new told
   root_failed refusal.NoNumber f = absurd (not_number f.error f.tells)
-  root_failed refusal.EarlierVersion f = absurd (not_earlier f.error f.tells)
   root_failed _ f = f
 
 -- ---- taking out

@@ -19,7 +19,8 @@ use Rattle.block_trees.specs.Ends.{Quiet, KeepsOthers, IsOfBlocks}
 use Rattle.block_trees.specs.Rows.{block_tree, name_tree, block_row, name_entry, name_cmp, IsStored, IsListed}
 use Rattle.dagcbor_store.specs.Stored.{IsBehind, IsNext, GivesNextName, ListsName, IsSame, IsTaken, IsCommitted, FailsByStore}
 use Rattle.dagcbor_store.specs.Trees.{ShowsStored}
-use Rattle.dagcbor_store.specs.Collecting.{IsLedForm, HoldsThose, KeepsReachable, TakesOut, IsCollected, Marks, IsKeptForm, SweepsNext, IsSwept}
+use Rattle.dagcbor_store.proofs.Marking.{known_there}
+use Rattle.dagcbor_store.specs.Collecting.{IsLedForm, HoldsThose, KeepsReachable, TakesOut, IsCollected, MarksRoots, IsKeptForm, SweepsNext, IsSwept}
 use Rattle.dagcbor_store.specs.declared.error.StoreRefusal.{StoreRefusal}
 use Rattle.dagcbor_store.proofs.Adding.{KeepsLast, fails_behind}
 
@@ -232,26 +233,19 @@ last_swept old now committed is_open = record { was_open = λ o. sym is_open ∙
 
 -- ---- the call
 
-module _ (old mid swept : View) (roots : List CidParts) (kept : BTreeSet CidParts) (count : ℕ) (same : IsSame old mid) (marks : Marks old roots kept) (h : IsSwept mid swept kept count) where
+module _ (old mid swept : View) (roots : List CidParts) (kept : BTreeSet CidParts) (count : ℕ) (same : IsSame old mid) (marks : MarksRoots old roots kept) (h : IsSwept mid swept kept count) where
   module _ (stored : Stored) (shows : ShowsStored old stored) where
     led : (q : List ℕ) → IsKeptForm kept q → IsLedForm stored roots q
-    led q k = (k.0, k.1, ((marks stored shows k.0).0.0 k.2).1, k.3)
+    led q k = (k.0, k.1, ((marks.1 stored shows k.0).0.0 k.2).1, k.3)
 
     kept_there : (q : List ℕ) → IsListed (old.trees name_tree) q → IsLedForm stored roots q → IsKeptForm kept q
-    kept_there q l k = (k.0, k.1, (marks stored shows k.0).0.1 (some (stored k.0) refl, k.2), k.3)
-      where
-        none : (b : List ℕ) → None ≡ Some b → ⊥
-        none b clash = absurd (cc clash)
-
-        some : (o : Option (List ℕ)) → stored k.0 ≡ o → IsThere stored k.0
-        some (Some b) e = subst (λ x. is_some x ≡ true) (sym e) refl
-        some None e = absurd ((marks stored shows k.0).1 k.2 (subst (IsListed (old.trees name_tree)) (sym k.3) l, λ b s sound. none b (sym e ∙ (shows k.0 b).1 s)))
+    kept_there q l k = (k.0, k.1, (marks.1 stored shows k.0).0.1 (known_there old stored k.0 shows ((marks.1 stored shows k.0).1 k.2) (subst (IsListed (old.trees name_tree)) (sym k.3) l), k.2), k.3)
 
     those_led : HoldsThose (IsLedForm stored roots) old.trees swept.trees
     those_led = those_as (IsKeptForm kept) (IsLedForm stored roots) old.trees swept.trees (λ q l. (led q, kept_there q l)) (subst (λ t. HoldsThose (IsKeptForm kept) t swept.trees) same.trees h.trees)
 
   pub keeps_reachable : KeepsReachable old roots swept.trees
-  keeps_reachable stored shows = (those_led stored shows, λ name l. (marks stored shows name).1 l)
+  keeps_reachable = (marks.0, λ stored shows. (those_led stored shows, λ name l. (marks.1 stored shows name).1 l))
 
   pub beside_swept : KeepsOthers IsOfBlocks old.trees swept.trees
   beside_swept = subst (λ (u : Trees). KeepsOthers IsOfBlocks u swept.trees) same.trees h.beside

@@ -30,7 +30,7 @@ use Rattle.dagcbor_store.specs.declared.car_error.WriteTreeError.TheVariants as 
 use Rattle.block_trees.proofs.Surveying.{all_more}
 use Rattle.block_trees.specs.Ends.{Quiet}
 use Rattle.dagcbor_store.proofs.Adding.{quiet_itself, quiet_then}
-use Rattle.dagcbor_store.proofs.Walking.{holds_same, damaged_same, same_itself, same_then, fails_same, car_push}
+use Rattle.dagcbor_store.proofs.Walking.{holds_same, damaged_same, same_itself, same_then, fails_same, not_unread, car_push}
 
 -- ---- what is stored
 
@@ -44,16 +44,6 @@ got_stored v stored name None shows none = nothing (stored name) refl
     nothing : (o : Option (List ℕ)) → stored name ≡ o → stored name ≡ None
     nothing None e = e
     nothing (Some b) e = let s = (shows name b).0 e in absurd (none (s.id, s.listed))
-
--- ---- the walk
-
-pub reaches_over : (v : View) (root : CidParts) (walk : Walk) (r : Reached) → r.found ≡ walk.found → r.lost ≡ walk.lost → OfStored v (λ stored. IsWalkOver stored root walk) → Reaches v root r
-reaches_over v root walk r found lost over stored shows =
-    let o = over stored shows in
-    (subst (λ f. ListsReachable stored root f.items) (sym found) o.0, subst (λ l. ListsLost stored root l.items) (sym lost) o.1)
-
-pub leads_to_next : (stored : Stored) (root name : CidParts) (walk : Walk) → WalksAt stored root name walk → LeadsFar stored root name
-leads_to_next stored root name walk at = at.1.stepped name (inr (push_among name walk.waiting.items name (inr refl)))
 
 -- ---- the names of a file
 
@@ -100,20 +90,6 @@ listed_there v stored name shows there = some (stored name) refl
     some (Some b) e = let s = (shows name b).0 e in (s.id, s.listed)
 
 module _ {S : Type 0} (g : Ghosts S) where
-  pub visit_refused : (root name : CidParts) (old mid new : S) (told : StoreRefusal) → Quiet g old mid → (IsClean (g.view mid) → IsSame (g.view old) (g.view mid)) → (IsClean (g.view mid) → OfStored (g.view old) (λ stored. LeadsFar stored root name))
-      → Quiet g mid new → GetRefused g name mid new told → ReachRefused g root old new told
-  visit_refused root name old mid new (refusal.Damaged n) before same far quiet p = λ clean.
-      let k = p.1 clean in
-      let was : IsClean (g.view mid) = omega (arith, quiet.clean) in
-      let s = same was in (
-        λ stored shows. (
-          damaged_same (g.view old) (g.view mid) n s (subst (IsDamaged (g.view mid)) (sym p.0) k.0),
-          subst (LeadsFar stored root) (sym p.0) (far was stored shows),
-        ),
-        same_then (g.view old) (g.view mid) (g.view new) s k.1,
-      )
-  visit_refused root name old mid new told before same far quiet p = fails_same g old mid new told before same quiet p
-
   -- ---- a file
 
   -- how much of the file of these names was written
@@ -256,6 +232,7 @@ module _ {S : Type 0} (g : Ghosts S) where
                 (damaged_same (g.view old) (g.view mid) n s (k.0 (listed_there (g.view mid) stored n (shows_same (g.view old) (g.view mid) stored s shows) q.0)), q.1),
             same_then (g.view old) (g.view mid) (g.view new) s k.1,
           )
+      names_refused (refusal.LinksUnread n verdict) p = absurd (not_unread g p.error n verdict p.tells)
       names_refused told p = fails_same g old mid new told before same quiet p
 
       pub tree_refused : {E : Type 0} (e : WriteCarError E) → NamesUnwritten g root r.found.items mid sent e after new → TreeRefused g root old sent (tree.Unwritten e) after new

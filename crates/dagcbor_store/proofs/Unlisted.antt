@@ -7,23 +7,20 @@ use Rattle.std.proofs.Math.Seq.{take-length}
 use Rattle.sqlite_trees.specs.View.{View}
 use Rattle.ipld_tree.specs.Cid.{CidParts, cid_bytes, cid_cmp}
 use Rattle.ipld_tree.proofs.Cids.{cid_unique}
-use Rattle.ipld_tree.specs.Tree.{Tree, links_of}
-use Rattle.ipld_tree.proofs.Fronts.{front_unique}
 use Rattle.dagcbor_items.specs.Walks.{forms}
-use Rattle.dagcbor_items.specs.Slices.{IsBlock}
-use Rattle.dagcbor_items.proofs.SliceReads.{whole_front}
 use Rattle.dagcbor_car.specs.Car.{Section}
-use Rattle.ipld_links.specs.Blocks.{HasBlock}
-use Rattle.ipld_links.specs.Verdicts.{IsDagCbor}
+use Rattle.ipld_links.specs.Blocks.{HasLinks, HasKnownLinks, IsReadCodec, IsBlockOf}
+use Rattle.ipld_links.proofs.Rows.{one_links}
+use Rattle.ipld_links.proofs.Linking.{linked_read}
 use Rattle.ipld_links.specs.Sets.{Among}
-use Rattle.ipld_links.specs.Within.{IsReached, IsReachedName, AreFirstNames}
+use Rattle.ipld_links.specs.Within.{IsReached, IsReachedName, AreNamesOf}
 use Rattle.ipld_links.proofs.Within.{reached_cid, not_inline}
-use Rattle.ipld_links.proofs.Members.{at_same, same_at, any_among, among_any, among_push, push_among, among_map, map_among, whole_block}
+use Rattle.ipld_links.proofs.Members.{at_same, same_at, any_among, among_any, among_push, push_among, among_map, map_among}
 use Rattle.sqlite_trees.specs.Tree.{Trees}
 use Rattle.block_trees.specs.Rows.{name_tree, IsListed}
 use Rattle.dagcbor_store.specs.Stored.{ListsName, IsNext, GivesNextName, HoldsOnly, IsSame}
 use Rattle.dagcbor_store.specs.Walking.{AreBlocks}
-use Rattle.dagcbor_store.specs.Lost.{IsLinked, NamesNoneListed, ListsLostLinks, AddsUnlisted, AddsNames, AddsLost, AddsOf, HoldsNoneSound, GrowsByLost, IsReachedIn}
+use Rattle.dagcbor_store.specs.Lost.{IsLinked, NamesNoneListed, ListsLostLinks, AddsUnlisted, AddsNames, AddsLost, AddsOf, GrowsByLost, IsReachedIn}
 use Rattle.dagcbor_store.proofs.Walking.{IsWalked, all_blocks}
 
 -- ---- one name
@@ -107,28 +104,23 @@ names_all v names i old new below end h =
 
 -- ---- the links of a block
 
-pub adds_lost : (v : View) (b : List ℕ) (names : List CidParts) (old new : BTreeSet CidParts) → HasBlock b → AreFirstNames b names → AddsNames v names old new → AddsLost v b old new
-adds_lost v b names old new has first added q =
-    let block = whole_block b first.1 first.0 has first.2 in (
-      λ m. elim ((added q).0 m) [ inl o ↦ inl o | inr u ↦ inr ((first.0, block, (first.4 q).0 u.0), u.1) ],
-      λ m. elim m [
-        | inl o ↦ (added q).1 (inl o)
-        | inr u ↦
-            let same = front_unique b [] [] first.0 u.0.0 (whole_front block.0) (whole_front u.0.1.0) in
-            (added q).1 (inr ((first.4 q).1 (subst (λ t. IsReachedName q (links_of t)) (sym same.0) u.0.2), u.1))
-      ],
-    )
+pub adds_lost : (v : View) (codec : ℕ) (b : List ℕ) (names : List CidParts) (old new : BTreeSet CidParts) → AreNamesOf codec b names → AddsNames v names old new → AddsLost v codec b old new
+adds_lost v codec b names old new first added q = (
+  λ m. elim ((added q).0 m) [ inl o ↦ inl o | inr u ↦ inr ((first.0, first.1, (first.2 q).0 u.0), u.1) ],
+  λ m. elim m [
+    | inl o ↦ (added q).1 (inl o)
+    | inr u ↦ (added q).1 (inr ((first.2 q).1 (subst (IsReachedName q) (one_links codec b u.0.0 first.0 u.0.1 first.1) u.0.2), u.1))
+  ],
+)
 
-pub grows_linked : (b : List ℕ) (names : List CidParts) (old new : BTreeSet CidParts) → HasBlock b → AreFirstNames b names → GrowsByLost (λ q. Among q names) old new → GrowsByLost (IsReachedIn b) old new
-grows_linked b names old new has first grown q =
-    let block = whole_block b first.1 first.0 has first.2 in
-    ((grown q).0, λ m. elim ((grown q).1 m) [ inl o ↦ inl o | inr u ↦ inr (first.0, block, (first.4 q).0 u) ])
+pub grows_linked : (codec : ℕ) (b : List ℕ) (names : List CidParts) (old new : BTreeSet CidParts) → AreNamesOf codec b names → GrowsByLost (λ q. Among q names) old new → GrowsByLost (IsReachedIn codec b) old new
+grows_linked codec b names old new first grown q = ((grown q).0, λ m. elim ((grown q).1 m) [ inl o ↦ inl o | inr u ↦ inr (first.0, first.1, (first.2 q).0 u) ])
 
 -- ---- the walk
 
--- a link in one of the blocks of DAG-CBOR leads to the name
+-- a link in one of the blocks leads to the name
 abbrev pub LeadsTo : List Section → CidParts → Type 0
-LeadsTo ss q = (s : Section) × Among s ss × IsDagCbor s.0 × ((t : Tree) × IsBlock s.1 t × IsReachedName q (links_of t))
+LeadsTo ss q = (s : Section) × Among s ss × IsReachedIn s.0.codec s.1 q
 
 -- the set has the names that links in these blocks lead to which are not listed
 abbrev pub LostOf : View → List Section → BTreeSet CidParts → Type 0
@@ -137,29 +129,29 @@ LostOf v ss s = (q : CidParts) → Among q s.keys ↔ (LeadsTo ss q × (ListsNam
 pub lost_none : (v : View) (s : BTreeSet CidParts) → s.keys ≡ [] → LostOf v [] s
 lost_none v s none q = (λ m. absurd (subst (Among q) none m), λ h. absurd h.0.1)
 
-lost_more : (v : View) (ss : List Section) (c : CidParts) (b : List ℕ) (old new : BTreeSet CidParts) → LostOf v ss old → IsDagCbor c → AddsLost v b old new → LostOf v (ss ++ (c, b) ∷ []) new
-lost_more v ss c b old new h dag added q = (
+lost_more : (v : View) (ss : List Section) (c : CidParts) (b : List ℕ) (old new : BTreeSet CidParts) → LostOf v ss old → AddsLost v c.codec b old new → LostOf v (ss ++ (c, b) ∷ []) new
+lost_more v ss c b old new h added q = (
   λ m. elim ((added q).0 m) [
-    | inl o ↦ let k = (h q).0 o in ((k.0.0, push_among k.0.0 ss (c, b) (inl k.0.1), k.0.2, k.0.3), k.1)
-    | inr u ↦ (((c, b), push_among (c, b) ss (c, b) (inr refl), dag, u.0), u.1)
+    | inl o ↦ let k = (h q).0 o in ((k.0.0, push_among k.0.0 ss (c, b) (inl k.0.1), k.0.2), k.1)
+    | inr u ↦ (((c, b), push_among (c, b) ss (c, b) (inr refl), u.0), u.1)
   ],
   λ k. elim (among_push k.0.0 ss (c, b) k.0.1) [
-    | inl m ↦ (added q).1 (inl ((h q).1 ((k.0.0, m, k.0.2, k.0.3), k.1)))
-    | inr e ↦ (added q).1 (inr (subst (λ (s : Section). (t : Tree) × IsBlock s.1 t × IsReachedName q (links_of t)) e k.0.3, k.1))
+    | inl m ↦ (added q).1 (inl ((h q).1 ((k.0.0, m, k.0.2), k.1)))
+    | inr e ↦ (added q).1 (inr (subst (λ (s : Section). IsReachedIn s.0.codec s.1 q) e k.0.2, k.1))
   ],
 )
 
-lost_skip : (v : View) (ss : List Section) (c : CidParts) (b : List ℕ) (s : BTreeSet CidParts) → LostOf v ss s → (IsDagCbor c → ⊥) → LostOf v (ss ++ (c, b) ∷ []) s
+lost_skip : (v : View) (ss : List Section) (c : CidParts) (b : List ℕ) (s : BTreeSet CidParts) → LostOf v ss s → (IsReadCodec c.codec → ⊥) → LostOf v (ss ++ (c, b) ∷ []) s
 lost_skip v ss c b s h other q = (
-  λ m. let k = (h q).0 m in ((k.0.0, push_among k.0.0 ss (c, b) (inl k.0.1), k.0.2, k.0.3), k.1),
+  λ m. let k = (h q).0 m in ((k.0.0, push_among k.0.0 ss (c, b) (inl k.0.1), k.0.2), k.1),
   λ k. elim (among_push k.0.0 ss (c, b) k.0.1) [
-    | inl m ↦ (h q).1 ((k.0.0, m, k.0.2, k.0.3), k.1)
-    | inr e ↦ absurd (other (subst (λ (s : Section). IsDagCbor s.0) e k.0.2))
+    | inl m ↦ (h q).1 ((k.0.0, m, k.0.2), k.1)
+    | inr e ↦ absurd (other (linked_read c.codec b k.0.2.0 (subst (λ (s : Section). HasLinks s.0.codec s.1 k.0.2.0) e k.0.2.1)))
   ],
 )
 
 pub lost_push : (v : View) (ss : List Section) (c : CidParts) (b : List ℕ) (old new : BTreeSet CidParts) → LostOf v ss old → AddsOf v c b old new → LostOf v (ss ++ (c, b) ∷ []) new
-lost_push v ss c b old new h (inl a) = lost_more v ss c b old new h a.0 a.1
+lost_push v ss c b old new h (inl a) = lost_more v ss c b old new h a.1
 lost_push v ss c b old new h (inr a) = subst (LostOf v (ss ++ (c, b) ∷ [])) (sym a.1) (lost_skip v ss c b old h a.0)
 
 pub lists_lost : (v : View) (last : Option CidParts) (ss : List Section) (s : BTreeSet CidParts) (links : Vec CidParts Global) → IsWalked v last ss → GivesNextName v last None → LostOf v ss s → IsStrictlySortedBy cid_cmp links.items × (links.items ≡ s.keys) → ListsLostLinks v links.items
@@ -172,18 +164,18 @@ lists_lost v last ss s links walked none h listed = (listed.0, λ form. (there f
     there form m =
         let k = map_among cid_bytes form links.items m in
         let w = (h k.0).0 (subst (Among k.0) listed.1 k.1) in
-        let t = w.0.3 in
+        let t = w.0.2 in
         subst (λ f. IsLinked f v × NamesNoneListed f v) (sym k.2)
-        ((w.0.0.0, w.0.0.1, t.0, walked.valid w.0.0 w.0.1, w.0.2, (walked.stored w.0.0 w.0.1).0, t.1, t.2.2), (not_inline (cid_bytes k.0) k.0 t.2.0 t.2.1 refl, w.1))
+        ((w.0.0.0, w.0.0.1, t.0, walked.valid w.0.0 w.0.1, (walked.stored w.0.0 w.0.1).0, t.1, t.2.2), (not_inline (cid_bytes k.0) k.0 t.2.0 t.2.1 refl, w.1))
 
     back : (form : List ℕ) → IsLinked form v × NamesNoneListed form v → Among form (forms links.items)
     back form m =
         let l = m.0 in
-        let c = reached_cid l.2 form l.6.0.well_formed l.7 in
-        let at = (blocks.stored (cid_bytes l.0) l.1).1 l.5 in
+        let c = reached_cid l.0.codec l.1 l.2 form l.5 l.6 in
+        let at = (blocks.stored (cid_bytes l.0) l.1).1 l.4 in
         let name = cid_unique at.0.0 l.0 (walked.valid at.0 at.1) l.3 at.2 in
         let is = subst (λ f. NamesNoneListed f v) c.2 m.1 in
-        let found = (h c.0).1 ((at.0, at.1, subst IsDagCbor (sym name) l.4, (l.2, subst (λ b. IsBlock b l.2) (sym at.3) l.6, (c.1, λ i. is.0 (c.0, c.1, refl, i), subst (λ f. IsReached f (links_of l.2)) c.2 l.7))), is.1) in
+        let found = (h c.0).1 ((at.0, at.1, (l.2, subst (λ (n : CidParts). HasLinks n.codec at.0.1 l.2) (sym name) (subst (λ b. HasLinks l.0.codec b l.2) (sym at.3) l.5), (c.1, λ i. is.0 (c.0, c.1, refl, i), subst (λ f. IsReached f l.2) c.2 l.6))), is.1) in
         subst (λ f. Among f (forms links.items)) (sym c.2) (among_map cid_bytes c.0 links.items (subst (Among c.0) (sym listed.1) found))
 
 -- ---- the same view
@@ -191,11 +183,11 @@ lists_lost v last ss s links walked none h listed = (listed.0, λ form. (there f
 pub name_same : (old mid : View) (name : CidParts) (s t : BTreeSet CidParts) → IsSame old mid → AddsUnlisted mid name s t → AddsUnlisted old name s t
 name_same old mid name s t same h = subst (λ (u : Trees). (q : CidParts) → Among q t.keys ↔ (Among q s.keys ⊎ ((q ≡ name) × (IsListed (u name_tree) (cid_bytes q) → ⊥)))) same.trees h
 
-pub lost_same : (old mid : View) (b : List ℕ) (s t : BTreeSet CidParts) → IsSame old mid → AddsLost mid b s t → AddsLost old b s t
-lost_same old mid b s t same h = subst (λ (u : Trees). (q : CidParts) → Among q t.keys ↔ (Among q s.keys ⊎ (((x : Tree) × IsBlock b x × IsReachedName q (links_of x)) × (IsListed (u name_tree) (cid_bytes q) → ⊥)))) same.trees h
+pub lost_same : (old mid : View) (codec : ℕ) (b : List ℕ) (s t : BTreeSet CidParts) → IsSame old mid → AddsLost mid codec b s t → AddsLost old codec b s t
+lost_same old mid codec b s t same h = subst (λ (u : Trees). (q : CidParts) → Among q t.keys ↔ (Among q s.keys ⊎ (IsReachedIn codec b q × (IsListed (u name_tree) (cid_bytes q) → ⊥)))) same.trees h
 
 pub adds_same : (old mid : View) (c : CidParts) (b : List ℕ) (s t : BTreeSet CidParts) → IsSame old mid → AddsOf mid c b s t → AddsOf old c b s t
-adds_same old mid c b s t same (inl a) = inl (a.0, lost_same old mid b s t same a.1)
+adds_same old mid c b s t same (inl a) = inl (a.0, lost_same old mid c.codec b s t same a.1)
 adds_same old mid c b s t same (inr a) = inr a
 
 -- ---- calls
@@ -204,5 +196,6 @@ pub on_ok_clean : {X E : Type 0} (r : Result X E) (C P Q : Type 0) → OnOk r (C
 on_ok_clean (Ok x) C P Q h f = λ clean. f (h clean)
 on_ok_clean (Err e) C P Q h f = tt
 
-pub none_sound_here : (v : View) (last : Option CidParts) (n : CidParts) (b : List ℕ) (r : Bool) → IsNext (v.trees name_tree) last n → HoldsOnly v n b → IsDagCbor n → r ≡ false → (IsTrue r ↔ HasBlock b) → HoldsNoneSound v n
-none_sound_here v last n b r next only dag none tells = (next.listed, λ d s sound. true≢false (sym (tells.1 (subst HasBlock (only.1 d s) (sound.read dag))) ∙ none))
+pub linked_unless : (codec : ℕ) (b : List ℕ) → HasKnownLinks codec b → (codec ≡ 0x55 → ⊥) → IsBlockOf codec b
+linked_unless codec b (inl raw) other = absurd (other raw)
+linked_unless codec b (inr linked) other = linked

@@ -10,6 +10,7 @@ use Rattle.dagcbor_heads.proofs.Writing.{WroteAll_then, Stops-then}
 use Rattle.ipld_tree.specs.Cid.{CidParts, AreCidParts, cid_bytes}
 use Rattle.dagcbor_car.specs.Car.{Section, header_bytes, section_bytes, car_bytes, IsHeader, IsSection, IsCar}
 use Rattle.ipld_links.specs.Sets.{Among}
+use Rattle.ipld_links.specs.declared.verdict.Verdict.{Verdict}
 use Rattle.ipld_links.proofs.Members.{among_push}
 use Rattle.dagcbor_car.proofs.Places.{flat_push}
 use Rattle.block_trees.specs.Rows.{name_tree, name_cmp, IsStored, IsListed}
@@ -121,7 +122,21 @@ module _ {S : Type 0} (g : Ghosts S) where
 
   pub not_damaged : (e : StoreError) (n : CidParts) → TellsOfStore e (refusal.Damaged n) → ⊥
   not_damaged stored.OutOfMemory n h = cc
+  not_damaged stored.Broken n (inl h) = cc
+  not_damaged stored.Broken n (inr h) = cc
   not_damaged _ n h = cc
+
+  pub not_unread : (e : StoreError) (n : CidParts) (verdict : Verdict) → TellsOfStore e (refusal.LinksUnread n verdict) → ⊥
+  not_unread stored.OutOfMemory n v h = cc
+  not_unread stored.Broken n v (inl h) = cc
+  not_unread stored.Broken n v (inr h) = cc
+  not_unread _ n v h = cc
+
+  pub not_lacking : (e : StoreError) (n : CidParts) → TellsOfStore e (refusal.NoBlock n) → ⊥
+  not_lacking stored.OutOfMemory n h = cc
+  not_lacking stored.Broken n (inl h) = cc
+  not_lacking stored.Broken n (inr h) = cc
+  not_lacking _ n h = cc
 
   pub fails_walk : (old new : S) (told : StoreRefusal) → FailsByStore g ⊥ old new told → WalkRefused g old new told
   fails_walk old new (refusal.Damaged n) f = absurd (not_damaged f.error n f.tells)

@@ -6,14 +6,12 @@ use Rattle.sqlite_trees.specs.View.{View}
 use Rattle.sqlite_trees.specs.declared.store.Store.{Ghosts}
 use Rattle.ipld_tree.specs.Cid.{CidParts, AreCidParts, cid_bytes}
 use Rattle.ipld_links.specs.Sets.{Among}
-use Rattle.ipld_links.specs.Sound.{IsSound}
-use Rattle.ipld_links.specs.Reaching.{Stored, IsThere, LeadsFar, NoneTwice, ListsReachable, Walks, WalksAt}
-use Rattle.ipld_links.specs.declared.reach.Walk.{Walk}
+use Rattle.ipld_links.specs.Names.{IsInline}
+use Rattle.ipld_links.specs.Reaching.{Stored, IsThere, LeadsFar, NoneTwice}
 use Rattle.block_trees.specs.Rows.{block_tree, name_tree, block_row, name_entry, IsStored, IsListed}
 use Rattle.block_trees.specs.Ends.{KeepsOthers, IsOfBlocks}
-use Rattle.dagcbor_store.specs.Stored.{IsNext, GivesNextName, ListsName, HoldsOnly, IsSame, IsTaken, FindsSo, FailsByStore}
-use Rattle.dagcbor_store.specs.Lost.{HoldsNoneSound}
-use Rattle.dagcbor_store.specs.Trees.{OfStored}
+use Rattle.dagcbor_store.specs.Stored.{IsNext, GivesNextName, ListsName, IsSame, IsTaken, FindsSo, FailsByStore}
+use Rattle.dagcbor_store.specs.Trees.{OfStored, IsKnown, Place, StopsAt}
 use Rattle.dagcbor_store.specs.declared.error.StoreRefusal.{StoreRefusal}
 use Rattle.dagcbor_store.specs.declared.error.StoreRefusal.TheVariants as refusal
 
@@ -36,10 +34,20 @@ pub record HoldsThose (IsSo : List ℕ → Type 0) (old new : Trees) : Type 0 wh
       ↔ (Among (block_row id q b) (old block_tree)
       × ¬ (¬ IsSo q × Among (name_entry q id) (old name_tree)))
 
--- What links lead to from the roots is what stands, and of that nothing is damaged.
+-- a block is listed under the name, or the name holds it itself
+abbrev pub HasBlockAt : View → CidParts → Type 0
+HasBlockAt v name = ListsName v name ⊎ IsInline name
+
+-- so has each of the names
+abbrev pub HaveBlocks : View → List CidParts → Type 0
+HaveBlocks v names = (name : CidParts) → Among name names → HasBlockAt v name
+
+-- What links lead to from the roots is what stands. Each root has a block, and of each name that they
+-- lead to it is known what links it has.
 abbrev pub KeepsReachable : View → List CidParts → Trees → Type 0
-KeepsReachable v roots new = OfStored v (λ stored. HoldsThose (IsLedForm stored roots) v.trees new
-    × ((name : CidParts) → IsRooted stored roots name → ¬ HoldsNoneSound v name))
+KeepsReachable v roots new = HaveBlocks v roots
+    × OfStored v (λ stored. HoldsThose (IsLedForm stored roots) v.trees new
+    × ((name : CidParts) → IsRooted stored roots name → IsKnown v name))
 
 -- so many names were listed, and are no more
 abbrev pub TakesOut : Trees → Trees → ℕ → Type 0
@@ -55,92 +63,51 @@ pub record IsCollected (old new : View) (roots : List CidParts) (count : ℕ) : 
   pub committed : new.committed ≡ new.trees
   pub is_open : IsTrue new.is_open
 
--- nothing sound is stored under the name, and links lead to it from one of the roots
-abbrev pub IsRootedUnsound : View → List CidParts → CidParts → Type 0
-IsRootedUnsound v roots name =
-    HoldsNoneSound v name × OfStored v (λ stored. IsRooted stored roots name)
+-- a name that is so has no block; or the store failed
+abbrev pub BlocksLacking : {S : Type 0} → Ghosts S → (CidParts → Type 0) → S → S → StoreRefusal
+    → Type 0
+BlocksLacking g IsSo old new (refusal.NoBlock n) =
+    FindsSo g old new (λ v. IsSo n × ¬ HasBlockAt v n)
+BlocksLacking g IsSo old new told = FailsByStore g ⊥ old new told
 
--- under some name that links lead to from the roots nothing sound is stored; or the store failed
+-- the names that links lead to from the roots
+abbrev pub AtRooted : List CidParts → Place
+AtRooted roots v n IsSo = IsSo × OfStored v (λ stored. IsRooted stored roots n)
+
+-- a root has no block; or links lead from the roots to a name that is damaged or whose links are not
+-- known; or the store failed
 abbrev pub CollectRefused : {S : Type 0} → Ghosts S → List CidParts → S → S → StoreRefusal → Type 0
-CollectRefused g roots old new (refusal.Damaged n) =
-    FindsSo g old new (λ v. IsRootedUnsound v roots n)
-CollectRefused g roots old new told = FailsByStore g ⊥ old new told
+CollectRefused g roots old new (refusal.NoBlock n) =
+    BlocksLacking g (λ q. Among q roots) old new (refusal.NoBlock n)
+CollectRefused g roots old new told =
+    StopsAt g (AtRooted roots) old new told
 
 -- ---- marking
-
--- none where nothing is listed under the name, else the bytes that are stored under it, which are
--- sound
-abbrev pub GetsSound : View → CidParts → Option (List ℕ) → Type 0
-GetsSound v name None = ¬ ListsName v name
-GetsSound v name (Some b) = HoldsOnly v name b × IsSound (name, b)
-
--- nothing sound is stored under the name; or the store failed
-abbrev pub SoundRefused : {S : Type 0} → Ghosts S → CidParts → S → S → StoreRefusal → Type 0
-SoundRefused g name old new (refusal.Damaged n) =
-    (n ≡ name) × FindsSo g old new (λ v. HoldsNoneSound v name)
-SoundRefused g name old new told = FailsByStore g ⊥ old new told
-
--- what a walk is shown: no bytes of a name in the set, and of another what is stored
-abbrev pub IsShownToWalk : View → BTreeSet CidParts → CidParts → Option (List ℕ) → Type 0
-IsShownToWalk v kept name o = (Among name kept.keys × (o ≡ Some []))
-    ⊎ ((¬ Among name kept.keys) × GetsSound v name o)
-
--- it has what a walk is shown of each name
-abbrev pub Fits : View → BTreeSet CidParts → Stored → Type 0
-Fits v kept stored = (name : CidParts) (o : Option (List ℕ))
-    → IsShownToWalk v kept name o → stored name ≡ o
-
--- the name is visited, with what is shown of it
-abbrev pub VisitsShown : View → BTreeSet CidParts → CidParts → Walk → Walk → Type 0
-VisitsShown v kept name old new = (root : CidParts) (stored : Stored) → Fits v kept stored
-    → WalksAt stored root name old → Walks stored root new
-
--- the names that such a walk finds
-abbrev pub FindsBeside : View → BTreeSet CidParts → CidParts → List CidParts → Type 0
-FindsBeside v kept root found = (stored : Stored)
-    → Fits v kept stored → ListsReachable stored root found
-
--- nothing sound is stored under the name, and such a walk comes to it
-abbrev pub IsFoundUnsound : View → CidParts → BTreeSet CidParts → CidParts → Type 0
-IsFoundUnsound v root kept name = HoldsNoneSound v name
-    × ((stored : Stored) → Fits v kept stored → LeadsFar stored root name)
-
--- under some name that it comes to nothing sound is stored; or the store failed
-abbrev pub FindRefused : {S : Type 0} → Ghosts S → CidParts → BTreeSet CidParts
-    → S → S → StoreRefusal → Type 0
-FindRefused g root kept old new (refusal.Damaged n) =
-    FindsSo g old new (λ v. IsFoundUnsound v root kept n)
-FindRefused g root kept old new told = FailsByStore g ⊥ old new told
 
 -- the names are put into the set
 abbrev pub CollectsAll : List CidParts → BTreeSet CidParts → BTreeSet CidParts → Type 0
 CollectsAll names old new = (q : CidParts) → Among q new.keys ↔ (Among q old.keys ⊎ Among q names)
 
--- the set has the names that links lead to from the roots and under which bytes are stored, and of
--- what they lead to nothing is damaged
+-- the set has the names that links lead to from the roots and under which bytes are stored, and of each
+-- that they lead to it is known what links it has
 abbrev pub Marks : View → List CidParts → BTreeSet CidParts → Type 0
 Marks v roots kept = OfStored v (λ stored. (name : CidParts)
     → (Among name kept.keys ↔ (IsThere stored name × IsRooted stored roots name))
-    × (IsRooted stored roots name → ¬ HoldsNoneSound v name))
+    × (IsRooted stored roots name → IsKnown v name))
+
+-- and each root has a block
+abbrev pub MarksRoots : View → List CidParts → BTreeSet CidParts → Type 0
+MarksRoots v roots kept = HaveBlocks v roots × Marks v roots kept
 
 -- the set has what one root more leads to, too
 abbrev pub MarksMore : View → CidParts → BTreeSet CidParts → BTreeSet CidParts → Type 0
 MarksMore v root old new = (roots : List CidParts)
     → Marks v roots old → Marks v (roots ++ root ∷ []) new
 
--- nothing sound is stored under the name, and links lead to it from the root, where the set is that
--- of other roots
-abbrev pub IsMarkedUnsound : View → CidParts → BTreeSet CidParts → CidParts → Type 0
-IsMarkedUnsound v root kept name = HoldsNoneSound v name
-    × ((roots : List CidParts) → Marks v roots kept
-    → OfStored v (λ stored. LeadsFar stored root name))
-
--- under some name that links lead to from it nothing sound is stored; or the store failed
-abbrev pub MarkRefused : {S : Type 0} → Ghosts S → CidParts → BTreeSet CidParts
-    → S → S → StoreRefusal → Type 0
-MarkRefused g root kept old new (refusal.Damaged n) =
-    FindsSo g old new (λ v. IsMarkedUnsound v root kept n)
-MarkRefused g root kept old new told = FailsByStore g ⊥ old new told
+-- the names that links lead to from the root, where the set is that of other roots
+abbrev pub AtMarked : CidParts → BTreeSet CidParts → Place
+AtMarked root kept v n IsSo = IsSo × ((roots : List CidParts) → Marks v roots kept
+    → OfStored v (λ stored. LeadsFar stored root n))
 
 -- ---- sweeping
 

@@ -6,41 +6,39 @@ use Rattle.std.specs.declared.alloc.Global.{Global}
 use Rattle.sqlite_trees.specs.View.{View}
 use Rattle.sqlite_trees.specs.declared.store.Store.{Ghosts}
 use Rattle.ipld_tree.specs.Cid.{CidParts, AreCidParts, cid_cmp}
-use Rattle.ipld_tree.specs.Tree.{Tree, links_of}
 use Rattle.dagcbor_items.specs.Walks.{forms}
-use Rattle.dagcbor_items.specs.Slices.{IsBlock}
-use Rattle.ipld_links.specs.Verdicts.{IsDagCbor}
-use Rattle.ipld_links.specs.Sound.{IsSound}
+use Rattle.ipld_links.specs.Blocks.{HasLinks, IsReadCodec}
 use Rattle.ipld_links.specs.Sets.{Among}
 use Rattle.ipld_links.specs.Within.{IsInlineForm, IsReached, IsReachedName}
 use Rattle.block_trees.specs.Rows.{name_tree, IsListed}
-use Rattle.dagcbor_store.specs.Stored.{IsNext, GivesNextName, ListsName, Holds, HoldsOnly, FindsSo, FailsByStore}
+use Rattle.dagcbor_store.specs.Stored.{IsNext, GivesNextName, ListsName, Holds, HoldsOnly}
+use Rattle.dagcbor_store.specs.Trees.{Place, StopsAt}
 use Rattle.dagcbor_store.specs.declared.error.StoreRefusal.{StoreRefusal}
-use Rattle.dagcbor_store.specs.declared.error.StoreRefusal.TheVariants as refusal
 
--- the binary form is that of a link in a stored block of DAG-CBOR, or of one within such a link
+-- the binary form is that of a link in a stored block of DAG-CBOR or DAG-PB, or of one within such a
+-- link
 abbrev pub IsLinked : List ℕ → View → Type 0
-IsLinked form v = (c : CidParts) × (b : List ℕ) × (t : Tree)
-    × AreCidParts c × IsDagCbor c × Holds v c b × IsBlock b t × IsReached form (links_of t)
+IsLinked form v = (c : CidParts) × (b : List ℕ) × (links : List (List ℕ))
+    × AreCidParts c × Holds v c b × HasLinks c.codec b links × IsReached form links
 
 -- nothing is listed under it, nor does it hold a block itself
 abbrev pub NamesNoneListed : List ℕ → View → Type 0
 NamesNoneListed form v = ¬ IsInlineForm form × ¬ IsListed (v.trees name_tree) form
 
--- the links in stored blocks of DAG-CBOR that name nothing that is listed, each once, in their
+-- the links in stored blocks of these codecs that name nothing that is listed, each once, in their
 -- order
 abbrev pub ListsLostLinks : View → List CidParts → Type 0
 ListsLostLinks v links = IsStrictlySortedBy cid_cmp links
     × ((form : List ℕ) → Among form (forms links) ↔ (IsLinked form v × NamesNoneListed form v))
 
--- under the name nothing is stored that is sound under it
-abbrev pub HoldsNoneSound : View → CidParts → Type 0
-HoldsNoneSound v name = ListsName v name × ((b : List ℕ) → Holds v name b → IsSound (name, b) → ⊥)
+-- the names that are listed
+abbrev pub AtListed : Place
+AtListed v n IsSo = IsSo × ListsName v n
 
--- under some name nothing sound is stored; or the store failed
+-- what is under a name that is listed is damaged, or it is not known what links it has; or the store
+-- failed
 abbrev pub LostRefused : {S : Type 0} → Ghosts S → S → S → StoreRefusal → Type 0
-LostRefused g old new (refusal.Damaged n) = FindsSo g old new (λ v. HoldsNoneSound v n)
-LostRefused g old new told = FailsByStore g ⊥ old new told
+LostRefused g = StopsAt g AtListed
 
 -- the set keeps what it had, and has no name more but such
 abbrev pub GrowsByLost : (CidParts → Type 0) → BTreeSet CidParts → BTreeSet CidParts → Type 0
@@ -48,8 +46,8 @@ GrowsByLost IsSuch old new = (q : CidParts) → (Among q old.keys → Among q ne
     × (Among q new.keys → Among q old.keys ⊎ IsSuch q)
 
 -- links in the block lead to the name
-abbrev pub IsReachedIn : List ℕ → CidParts → Type 0
-IsReachedIn b q = (t : Tree) × IsBlock b t × IsReachedName q (links_of t)
+abbrev pub IsReachedIn : ℕ → List ℕ → CidParts → Type 0
+IsReachedIn codec b q = (links : List (List ℕ)) × HasLinks codec b links × IsReachedName q links
 
 -- ---- steps
 
@@ -64,14 +62,15 @@ AddsNames v names old new = (q : CidParts) → Among q new.keys
     ↔ (Among q old.keys ⊎ (Among q names × ¬ ListsName v q))
 
 -- the names that the links in the block lead to, and that are not listed, are put into the set
-abbrev pub AddsLost : View → List ℕ → BTreeSet CidParts → BTreeSet CidParts → Type 0
-AddsLost v b old new = (q : CidParts) → Among q new.keys
-    ↔ (Among q old.keys ⊎ (IsReachedIn b q × ¬ ListsName v q))
+abbrev pub AddsLost : View → ℕ → List ℕ → BTreeSet CidParts → BTreeSet CidParts → Type 0
+AddsLost v codec b old new = (q : CidParts) → Among q new.keys
+    ↔ (Among q old.keys ⊎ (IsReachedIn codec b q × ¬ ListsName v q))
 
--- where the next block is of DAG-CBOR, the names that its links lead to, and that are not listed,
+-- where the next block is of such a codec, the names that its links lead to, and that are not listed,
 -- are put into the set
 abbrev pub AddsOf : View → CidParts → List ℕ → BTreeSet CidParts → BTreeSet CidParts → Type 0
-AddsOf v c b old new = (IsDagCbor c × AddsLost v b old new) ⊎ ((¬ IsDagCbor c) × (new ≡ old))
+AddsOf v c b old new = (IsReadCodec c.codec × AddsLost v c.codec b old new)
+    ⊎ ((¬ IsReadCodec c.codec) × (new ≡ old))
 
 -- such names of the block behind the last name are put into the set; or none comes behind it
 abbrev pub AddsLostLinks : View → Option CidParts → BTreeSet CidParts

@@ -1,5 +1,8 @@
 -- What an open finds.
 use Rattle.std.specs.Prelude.{◌≡◌, ◌⊎◌, false, IsTrue}
+use Rattle.sqlite_disk.specs.declared.Disk as disk
+use Rattle.sqlite_store.specs.declared.store.FileStore.{FileStore}
+use Rattle.sqlite_store.specs.FileStore.{view, log_frames}
 use Rattle.sqlite_value.specs.Keys.{plain}
 use Rattle.sqlite_trees.specs.Tree.{Trees}
 use Rattle.sqlite_trees.specs.View.{View}
@@ -51,6 +54,14 @@ pub record IsOpened (old new : View) : Type 0 where
 pub record IsSettled (v : View) : Type 0 where
   pub is_open : IsTrue v.is_open
   pub committed : v.committed ≡ v.trees
+
+module _ {D : Type 0} {g : disk.Ghosts D} where
+  -- what was committed stands in the file, nothing waits for a commit, and the log is empty
+  pub record IsMoved (old new : FileStore D g) : Type 0 where
+    pub is_open : IsTrue (view new).is_open
+    pub trees : (view new).trees ≡ (view old).committed
+    pub committed : (view new).committed ≡ (view old).committed
+    pub log : log_frames new ≡ 0
 
 -- how the refusal of an open is told
 abbrev pub TellsOfOpening : OpenError → StoreRefusal → Type 0

@@ -5,7 +5,8 @@ use Rattle.sqlite_trees.specs.View.{View, IsClean}
 use Rattle.sqlite_trees.specs.declared.store.Store.{Ghosts}
 use Rattle.sqlite_trees.specs.declared.store.Shape.TheVariants as shape
 use Rattle.ipld_tree.specs.Cid.{CidParts, cid_bytes}
-use Rattle.ipld_links.specs.Sets.{Among}
+use Rattle.ipld_links.specs.Sets.{Among, members}
+use Rattle.ipld_links.specs.declared.cid_set.CidSet.{CidSet}
 use Rattle.block_trees.specs.Rows.{FreesId}
 use Rattle.block_trees.specs.RootRows.{root_tree, AreRoots, LeavesOut, IsRootTooLong}
 use Rattle.block_trees.specs.Ends.{KeepsOthers, IsOfRoots}
@@ -22,19 +23,6 @@ abbrev pub JoinsRoots : List CidParts → CidParts → List CidParts → Type 0
 JoinsRoots old name new = (Among name old × (new ≡ old))
     ⊎ ((¬ Among name old) × (new ≡ old ++ name ∷ []))
 
--- The name is a root, behind those that there were; where it was one, nothing is changed. Each
--- other tree is the same, and what was committed.
-pub record IsRootAdded (old new : View) (name : CidParts) : Type 0 where
-  pub roots : (names : List CidParts) → HasRoots old names
-      → (now : List CidParts) × HasRoots new now × JoinsRoots names name now
-  pub same : (names : List CidParts) → HasRoots old names → Among name names → new.trees ≡ old.trees
-  pub beside : KeepsOthers IsOfRoots old.trees new.trees
-  pub committed : new.committed ≡ old.committed
-  pub reals : new.reals ≡ old.reals
-  pub was_open : IsTrue old.is_open
-  pub is_open : IsTrue new.is_open
-  pub broken : new.is_broken ≡ old.is_broken
-
 -- the file is of the earlier version
 abbrev pub IsEarlier : View → Type 0
 IsEarlier v = v.shape root_tree ≡ shape.Absent
@@ -47,16 +35,6 @@ LacksNumber t name = FreesId (t root_tree) None
 -- the row of the name as a root would be too long
 abbrev pub IsRootTooLongFor : View → CidParts → Type 0
 IsRootTooLongFor v name = IsRootTooLong v.reals (cid_bytes name)
-
--- The file is of the earlier version, and nothing is changed; no number is left for a row of the
--- name, which is no root; or the store failed.
-abbrev pub RootRefused : {S : Type 0} → Ghosts S → CidParts → S → S → StoreRefusal → Type 0
-RootRefused g name old new refusal.EarlierVersion = IsEarlier (g.view old) × (new ≡ old)
-RootRefused g name old new refusal.NoNumber = FindsSo g old new (λ v. LacksNumber v.trees name)
-RootRefused g name old new told =
-    FailsByStore g (IsRootTooLongFor (g.view old) name) old new told
-
--- ---- many
 
 -- each of these names is added, one behind the other
 abbrev pub AddsInTurn : List CidParts → List CidParts → List CidParts → Type 0
@@ -108,13 +86,41 @@ pub record RootsRunOut (old now : View) (names : List CidParts) : Type 0 where
   pub same : IsSame held now
 
 -- The file is of the earlier version, there are names, and nothing is changed; the first are added,
--- and no number is left for a row of the next; or the store failed.
+-- and no number is left for a row of the next; or the store failed, which is told as `NotAStore`
+-- where a row of the table is none of a root.
 abbrev pub RootsRefused : {S : Type 0} → Ghosts S → List CidParts → S → S → StoreRefusal → Type 0
 RootsRefused g names old new refusal.EarlierVersion =
     IsEarlier (g.view old) × (names ≢ []) × (new ≡ old)
 RootsRefused g names old new refusal.NoNumber =
     IsClean (g.view new) → RootsRunOut (g.view old) (g.view new) names
 RootsRefused g names old new told = FailsByStore g (IsAnyTooLong (g.view old) names) old new told
+
+-- ---- one of them
+
+-- the set has just these names
+abbrev pub HasJust : List CidParts → CidSet → Type 0
+HasJust names known = (c : CidParts) → Among c (members known) ↔ Among c names
+
+-- the set has just the roots
+abbrev pub KnowsRoots : View → CidSet → Type 0
+KnowsRoots v known = (names : List CidParts) × HasRoots v names × HasJust names known
+
+-- the name is a root, as one that is added in its turn
+pub record IsRootAdded (old new : View) (name : CidParts) : Type 0 where
+  pub roots : (names : List CidParts) → HasRoots old names
+      → (now : List CidParts) × HasRoots new now × JoinsRoots names name now
+  pub same : (names : List CidParts) → HasRoots old names → Among name names → new.trees ≡ old.trees
+  pub beside : KeepsOthers IsOfRoots old.trees new.trees
+  pub committed : new.committed ≡ old.committed
+  pub reals : new.reals ≡ old.reals
+  pub is_open : new.is_open ≡ old.is_open
+  pub broken : new.is_broken ≡ old.is_broken
+
+-- no number is left for a row of the name, which is no root; or the store failed
+abbrev pub RootRefused : {S : Type 0} → Ghosts S → CidParts → S → S → StoreRefusal → Type 0
+RootRefused g name old new refusal.NoNumber = FindsSo g old new (λ v. LacksNumber v.trees name)
+RootRefused g name old new told =
+    FailsByStore g (IsRootTooLongFor (g.view old) name) old new told
 
 -- ---- taking out
 

@@ -106,10 +106,11 @@ pub record IsUndone (old new : View) : Type 0 where
 -- ---- refusals
 
 -- want of memory, and a row that is too long, are told as such, and each other failure as the
--- store's
+-- store's; an entry or a row that is none of a store's as a file that is no store
 abbrev pub TellsOfStore : StoreError → StoreRefusal → Type 0
 TellsOfStore stored.OutOfMemory told = told ≡ refusal.OutOfMemory
 TellsOfStore stored.Unstorable told = told ≡ refusal.TooLong
+TellsOfStore stored.Broken told = (told ≡ refusal.Disk stored.Broken) ⊎ (told ≡ refusal.NotAStore)
 TellsOfStore e told = told ≡ refusal.Disk e
 
 -- The store failed, by the cause that it named, and what was not committed is undone.

@@ -1,17 +1,22 @@
 -- The blocks of a store that links lead to from a root, and the file of them.
-use Rattle.std.specs.Prelude.{◌≡◌, ◌↔◌, ◌⊎◌, ℕ, List, [], ◌∷◌, ◌++◌, Some, Result, Err, MatchResult, Bool, ⊤}
+use Rattle.std.specs.Prelude.{◌≡◌, ◌↔◌, ◌⊎◌, ℕ, List, [], ◌∷◌, ◌++◌, Option, None, Some, Result, Err, MatchResult, Bool, ⊤}
+use Rattle.std.specs.BTreeSet.{BTreeSet}
 use Rattle.sqlite_trees.specs.View.{View}
 use Rattle.sqlite_trees.specs.declared.store.Store.{Ghosts}
 use Rattle.dagcbor_heads.specs.Written.{Written}
 use Rattle.ipld_tree.specs.Cid.{CidParts, cid_bytes}
 use Rattle.dagcbor_car.specs.Car.{Section}
 use Rattle.ipld_links.specs.Sets.{Among}
-use Rattle.ipld_links.specs.Reaching.{Stored, LeadsFar, IsLost, ListsReachable, ListsLost, Walks, WalksAt}
+use Rattle.ipld_links.specs.Names.{IsInline}
+use Rattle.ipld_links.specs.Blocks.{HasKnownLinks}
+use Rattle.ipld_links.specs.Verdicts.{HidesLinks}
+use Rattle.ipld_links.specs.declared.verdict.Verdict.{Verdict}
+use Rattle.ipld_links.specs.Reaching.{Stored, LeadsFar, IsLost, ListsReachable, ListsLost, Walks, WalksAt, SeesAlso}
 use Rattle.dagcbor_car.specs.Reached.{sections_at}
 use Rattle.ipld_links.specs.declared.reach.Reached.{Reached}
 use Rattle.ipld_links.specs.declared.reach.Walk.{Walk}
 use Rattle.block_trees.specs.Rows.{IsStored}
-use Rattle.dagcbor_store.specs.Stored.{HoldsOnly, ListsName, IsDamaged, FindsSo, FailsByStore}
+use Rattle.dagcbor_store.specs.Stored.{HoldsOnly, IsNamedBy, ListsName, IsDamaged, FindsSo, FailsByStore}
 use Rattle.dagcbor_store.specs.Walking.{WritesFile, WritesFirst, WriterStops, AppendsSection, SectionStops, FileUnsent}
 use Rattle.dagcbor_store.specs.declared.error.StoreRefusal.{StoreRefusal}
 use Rattle.dagcbor_store.specs.declared.error.StoreRefusal.TheVariants as refusal
@@ -29,25 +34,84 @@ ShowsStored v stored = (q : CidParts) (b : List ℕ)
 abbrev pub OfStored : View → (Stored → Type 0) → Type 0
 OfStored v IsSo = (stored : Stored) → ShowsStored v stored → IsSo stored
 
--- the names of the blocks that links lead to from the root, and those that are lost
+-- ---- what a walk comes to
+
+-- what is got under a name whose links are known: nothing, where none is listed; or the bytes that are
+-- stored under it, which it names
+abbrev pub GetsKnown : View → CidParts → Option (List ℕ) → Type 0
+GetsKnown v name None = (¬ ListsName v name) × (IsInline name → HasKnownLinks name.codec name.digest)
+GetsKnown v name (Some b) = HoldsOnly v name b × IsNamedBy name b × HasKnownLinks name.codec b
+
+-- what is under the name is not damaged, and it is known what links it has
+abbrev pub IsKnown : View → CidParts → Type 0
+IsKnown v name = (o : Option (List ℕ)) × GetsKnown v name o
+
+-- by the verdict on the block under the name it is not known what links it has
+abbrev pub HidesLinksOf : View → CidParts → Verdict → Type 0
+HidesLinksOf v name verdict = (b : List ℕ) × HidesLinks name.codec b verdict
+    × ((HoldsOnly v name b × IsNamedBy name b)
+    ⊎ ((¬ ListsName v name) × IsInline name × (name.digest ≡ b)))
+
+-- a place at which a walk may stop: which names stand there, and what is so of one
+abbrev pub Place : Type 1
+Place = View → CidParts → Type 0 → Type 0
+
+-- A walk was stopped at such a name: what is under it is damaged, or it is not known what links it has.
+-- Or the store failed.
+abbrev pub StopsAt : {S : Type 0} → Ghosts S → Place → S → S → StoreRefusal → Type 0
+StopsAt g At old new (refusal.Damaged n) = FindsSo g old new (λ v. At v n (IsDamaged v n))
+StopsAt g At old new (refusal.LinksUnread n verdict) =
+    FindsSo g old new (λ v. At v n (HidesLinksOf v n verdict))
+StopsAt g At old new told = FailsByStore g ⊥ old new told
+
+-- this name alone stands there
+abbrev pub AtName : CidParts → Place
+AtName name v n IsSo = (n ≡ name) × IsSo
+
+-- the names of the blocks that links lead to from the root, and those that are lost; of each name on
+-- the way it is known what links it has
 abbrev pub Reaches : View → CidParts → Reached → Type 0
-Reaches v root r = OfStored v (λ stored.
-    ListsReachable stored root r.found.items × ListsLost stored root r.lost.items)
+Reaches v root r = OfStored v (λ stored. ListsReachable stored root r.found.items
+    × ListsLost stored root r.lost.items
+    × ((q : CidParts) → LeadsFar stored root q → IsKnown v q))
 
--- what is stored under the name is damaged, and links lead to it from the root
-abbrev pub IsReachedDamaged : View → CidParts → CidParts → Type 0
-IsReachedDamaged v root name = OfStored v (λ stored. IsDamaged v name × LeadsFar stored root name)
-
--- what is stored under some name that links lead to is damaged; or the store failed
+-- links lead to the name at which it stopped; or the store failed
 abbrev pub ReachRefused : {S : Type 0} → Ghosts S → CidParts → S → S → StoreRefusal → Type 0
-ReachRefused g root old new (refusal.Damaged n) =
-    FindsSo g old new (λ v. IsReachedDamaged v root n)
-ReachRefused g root old new told = FailsByStore g ⊥ old new told
+ReachRefused g root = StopsAt g (λ v n IsSo. OfStored v (λ stored. IsSo × LeadsFar stored root n))
 
--- the name is visited, with the bytes that are stored under it
-abbrev pub VisitsStored : View → CidParts → Walk → Walk → Type 0
-VisitsStored v name old new = (root : CidParts)
-    → OfStored v (λ stored. WalksAt stored root name old → Walks stored root new)
+-- ---- a walk beside names that are known
+
+-- what a walk is shown: no bytes of a name in the set, and of another what is got under it
+abbrev pub IsShownToWalk : View → BTreeSet CidParts → CidParts → Option (List ℕ) → Type 0
+IsShownToWalk v kept name o = (Among name kept.keys × (o ≡ Some []))
+    ⊎ ((¬ Among name kept.keys) × GetsKnown v name o)
+
+-- it has what a walk is shown of each name
+abbrev pub Fits : View → BTreeSet CidParts → Stored → Type 0
+Fits v kept stored = (name : CidParts) (o : Option (List ℕ))
+    → IsShownToWalk v kept name o → stored name ≡ o
+
+-- the name is in the set, or it is known what links it has
+abbrev pub IsKnownBeside : View → BTreeSet CidParts → CidParts → Type 0
+IsKnownBeside v kept name = Among name kept.keys ⊎ IsKnown v name
+
+-- the name is visited, with what is shown of it
+pub record VisitsShown (v : View) (kept : BTreeSet CidParts) (name : CidParts) (old new : Walk)
+    : Type 0 where
+  pub visits : (root : CidParts) (stored : Stored) → Fits v kept stored
+      → WalksAt stored root name old → Walks stored root new
+  pub sees : SeesAlso name old new
+  pub known : IsKnownBeside v kept name
+
+-- where such a walk leads
+abbrev pub ReachesBeside : View → BTreeSet CidParts → CidParts → Reached → Type 0
+ReachesBeside v kept root r = (stored : Stored) → Fits v kept stored
+    → ListsReachable stored root r.found.items × ListsLost stored root r.lost.items
+    × ((q : CidParts) → LeadsFar stored root q → IsKnownBeside v kept q)
+
+-- the names that such a walk comes to
+abbrev pub AtMetBeside : CidParts → BTreeSet CidParts → Place
+AtMetBeside root kept v n IsSo = IsSo × ((stored : Stored) → Fits v kept stored → LeadsFar stored root n)
 
 -- ---- a file of them
 

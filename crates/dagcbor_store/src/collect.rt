@@ -1,15 +1,16 @@
 //! Keeping what links lead to from roots, and nothing else.
 
-ghost use Rattle.std.specs.Prelude.{◌⊎◌, IfOk, IfErr, OnOk, option_map};
+ghost use Rattle.std.specs.Prelude.{◌≡◌, ◌⊎◌, IfOk, IfErr, OnOk, option_map};
+ghost use Rattle.ipld_links.specs.Sets.{Among};
 ghost use Rattle.sqlite_trees.specs.View.{IsClean};
 ghost use Rattle.block_trees.specs.Ends.{Quiet, KeepsOthers, IsOfBlocks};
 ghost use Rattle.dagcbor_store.specs.Stored.{StaysSame, FailsByStore, IsKeptBy};
-ghost use Rattle.dagcbor_store.specs.Collecting.{KeepsReachable, IsCollected, CollectRefused, GetsSound, SoundRefused, IsShownToWalk, VisitsShown, FindsBeside, FindRefused, CollectsAll, Marks, MarksMore, MarkRefused, SweepsNext, IsSwept};
+ghost use Rattle.dagcbor_store.specs.Trees.{GetsKnown, StopsAt, AtName, ReachesBeside, AtMetBeside, IsShownToWalk, VisitsShown};
+ghost use Rattle.dagcbor_store.specs.Collecting.{KeepsReachable, IsCollected, CollectRefused, HasBlockAt, HaveBlocks, BlocksLacking, AtRooted, CollectsAll, MarksRoots, Marks, MarksMore, AtMarked, SweepsNext, IsSwept};
 
 use crate::error::StoreRefusal;
-use crate::lost::is_block;
 use crate::store::BlockStore;
-use ipld_links::{Walk, is_dag_cbor};
+use ipld_links::{IDENTITY, Reached, Walk, hidden_under};
 use ipld_tree::Cid;
 use sqlite_trees::store::Store;
 use std::alloc::AllocError;
@@ -31,11 +32,12 @@ fn put_all(names: &[Cid], kept: &mut BTreeSet<Cid>) -> Result<(), AllocError>
 impl<S: Store> BlockStore<S> {
     /// Keeps the blocks that links lead to from the roots, as `reach` finds them, takes out what else
     /// is listed, and commits that, with whatever waited for a commit. Answers how many names were
-    /// taken out. A root need not be stored, and a link may lead to nothing.
+    /// taken out. A link may lead to nothing.
     ///
-    /// Where what is listed under a name that links lead to is damaged, or is no DAG-CBOR though the
-    /// name says so, its links can't be read: then nothing is changed. One block is in memory at a
-    /// time, and the names that are kept.
+    /// Nothing is changed where a root has no block (`NoBlock`), where what is listed under a name that
+    /// links lead to is damaged, and where it is not known what links a block has that would be kept
+    /// (`LinksUnread`): what these lead to would be lost. One block is in memory at a time, and the names
+    /// that are kept.
     pub fn keep_reachable(&mut self, roots: &[Cid]) -> Result<u64, StoreRefusal>
         ensures ok { IfOk result (λ count. IsClean (S.Store.view self.new) → IsCollected (S.Store.view self.old) (S.Store.view self.new) roots.now count) }
         ensures refused { IfErr result (CollectRefused S.Store roots.now self.old self.new) }
@@ -43,17 +45,60 @@ impl<S: Store> BlockStore<S> {
         ensures beside { (db : _) → S.Store.recovers self.new db → S.Store.recovers self.old db ⊎ (IsClean (S.Store.view self.new) → KeepsOthers IsOfBlocks (S.Store.view self.old).trees db) }
         ensures kept { IsKeptBy S.Store self.old self.new }
     {
-        let kept = self.mark(roots)?;
+        let kept = self.mark_roots(roots)?;
         let count = self.sweep(&kept)?;
         self.commit()?;
         Ok(count)
+    }
+
+    /// The names that links lead to from the roots, of which each has a block, and under which bytes are
+    /// stored.
+    fn mark_roots(&mut self, roots: &[Cid]) -> Result<BTreeSet<Cid>, StoreRefusal>
+        ensures ok { IfOk result (λ kept. IsClean (S.Store.view self.new) → MarksRoots (S.Store.view self.old) roots.now kept) }
+        ensures same { OnOk result (StaysSame S.Store self.old self.new) }
+        ensures refused { IfErr result (CollectRefused S.Store roots.now self.old self.new) }
+        ensures quiet { Quiet S.Store self.old self.new }
+    {
+        self.check_roots(roots)?;
+        self.mark(roots)
+    }
+
+    /// Refuses the first root that has no block.
+    fn check_roots(&mut self, roots: &[Cid]) -> Result<(), StoreRefusal>
+        ensures ok { OnOk result (IsClean (S.Store.view self.new) → HaveBlocks (S.Store.view self.old) roots.now) }
+        ensures same { OnOk result (StaysSame S.Store self.old self.new) }
+        ensures refused { IfErr result (BlocksLacking S.Store (λ n. Among n roots.now) self.old self.new) }
+        ensures quiet { Quiet S.Store self.old self.new }
+    {
+        for root in roots {
+            self.check_root(root)?;
+        }
+        Ok(())
+    }
+
+    /// Refuses a root under which nothing is listed, and which holds no block itself.
+    fn check_root(&mut self, root: &Cid) -> Result<(), StoreRefusal>
+        ensures ok { OnOk result (IsClean (S.Store.view self.new) → HasBlockAt (S.Store.view self.old) root.now) }
+        ensures same { OnOk result (StaysSame S.Store self.old self.new) }
+        ensures refused { IfErr result (BlocksLacking S.Store (λ n. n ≡ root.now) self.old self.new) }
+        ensures quiet { Quiet S.Store self.old self.new }
+    {
+        if root.hash_code() == IDENTITY {
+            return Ok(());
+        }
+        let is_listed = self.contains(root)?;
+        if is_listed {
+            Ok(())
+        } else {
+            Err(StoreRefusal::NoBlock(*root))
+        }
     }
 
     /// The names that links lead to from the roots, and under which bytes are stored.
     fn mark(&mut self, roots: &[Cid]) -> Result<BTreeSet<Cid>, StoreRefusal>
         ensures ok { IfOk result (λ kept. IsClean (S.Store.view self.new) → Marks (S.Store.view self.old) roots.now kept) }
         ensures same { OnOk result (StaysSame S.Store self.old self.new) }
-        ensures refused { IfErr result (CollectRefused S.Store roots.now self.old self.new) }
+        ensures refused { IfErr result (StopsAt S.Store (AtRooted roots.now) self.old self.new) }
         ensures quiet { Quiet S.Store self.old self.new }
     {
         let mut kept = BTreeSet::new(self.alloc);
@@ -67,21 +112,25 @@ impl<S: Store> BlockStore<S> {
     fn mark_from(&mut self, root: &Cid, kept: &mut BTreeSet<Cid>) -> Result<(), StoreRefusal>
         ensures ok { OnOk result (IsClean (S.Store.view self.new) → MarksMore (S.Store.view self.old) root.now kept.old kept.new) }
         ensures same { OnOk result (StaysSame S.Store self.old self.new) }
-        ensures refused { IfErr result (MarkRefused S.Store root.now kept.old self.old self.new) }
+        ensures refused { IfErr result (StopsAt S.Store (AtMarked root.now kept.old) self.old self.new) }
         ensures quiet { Quiet S.Store self.old self.new }
     {
-        let found = self.find_beside(root, kept)?;
-        match put_all(&found, kept) {
+        let reached = self.reach_beside(root, kept)?;
+        match put_all(&reached.found, kept) {
             Ok(()) => Ok(()),
             Err(_) => Err(self.give_up()),
         }
     }
 
-    /// The names that a walk from the root finds, which goes on behind none of the set.
-    fn find_beside(&mut self, root: &Cid, kept: &BTreeSet<Cid>) -> Result<Vec<Cid>, StoreRefusal>
-        ensures ok { IfOk result (λ found. IsClean (S.Store.view self.new) → FindsBeside (S.Store.view self.old) kept.now root.now found.items) }
+    /// Where a walk from the root leads, which goes on behind none of the set.
+    pub(crate) fn reach_beside(
+        &mut self,
+        root: &Cid,
+        kept: &BTreeSet<Cid>,
+    ) -> Result<Reached, StoreRefusal>
+        ensures ok { IfOk result (λ r. IsClean (S.Store.view self.new) → ReachesBeside (S.Store.view self.old) kept.now root.now r) }
         ensures same { OnOk result (StaysSame S.Store self.old self.new) }
-        ensures refused { IfErr result (FindRefused S.Store root.now kept.now self.old self.new) }
+        ensures refused { IfErr result (StopsAt S.Store (AtMetBeside root.now kept.now) self.old self.new) }
         ensures quiet { Quiet S.Store self.old self.new }
     {
         let Ok(mut walk) = Walk::new(self.alloc, root) else {
@@ -89,7 +138,7 @@ impl<S: Store> BlockStore<S> {
         };
         for _count in 0..u64::MAX {
             let Some(name) = walk.next() else {
-                return Ok(walk.into_reached().found);
+                return Ok(walk.into_reached());
             };
             self.visit_beside(name, kept, &mut walk)?;
         }
@@ -105,7 +154,7 @@ impl<S: Store> BlockStore<S> {
     ) -> Result<(), StoreRefusal>
         ensures ok { OnOk result (IsClean (S.Store.view self.new) → VisitsShown (S.Store.view self.old) kept.now name walk.old walk.new) }
         ensures same { OnOk result (StaysSame S.Store self.old self.new) }
-        ensures refused { IfErr result (SoundRefused S.Store name self.old self.new) }
+        ensures refused { IfErr result (StopsAt S.Store (AtName name) self.old self.new) }
         ensures quiet { Quiet S.Store self.old self.new }
     {
         let block = self.shown(&name, kept)?;
@@ -119,29 +168,27 @@ impl<S: Store> BlockStore<S> {
     fn shown(&mut self, name: &Cid, kept: &BTreeSet<Cid>) -> Result<Option<Vec<u8>>, StoreRefusal>
         ensures ok { IfOk result (λ o. IsClean (S.Store.view self.new) → IsShownToWalk (S.Store.view self.old) kept.now name.now (option_map (λ b. b.items) o)) }
         ensures same { OnOk result (StaysSame S.Store self.old self.new) }
-        ensures refused { IfErr result (SoundRefused S.Store name.now self.old self.new) }
+        ensures refused { IfErr result (StopsAt S.Store (AtName name.now) self.old self.new) }
         ensures quiet { Quiet S.Store self.old self.new }
     {
         if kept.contains(name) {
             return Ok(Some(Vec::new(self.alloc)));
         }
-        self.get_sound(name)
+        self.get_known(name)
     }
 
-    /// As `get_block`. What is no block of DAG-CBOR, though the name says so, is damaged too.
-    fn get_sound(&mut self, name: &Cid) -> Result<Option<Vec<u8>>, StoreRefusal>
-        ensures ok { IfOk result (λ o. IsClean (S.Store.view self.new) → GetsSound (S.Store.view self.old) name.now (option_map (λ b. b.items) o)) }
+    /// As `get_block`. It refuses with `LinksUnread` where it is not known what links the block has.
+    pub(crate) fn get_known(&mut self, name: &Cid) -> Result<Option<Vec<u8>>, StoreRefusal>
+        ensures ok { IfOk result (λ o. IsClean (S.Store.view self.new) → GetsKnown (S.Store.view self.old) name.now (option_map (λ b. b.items) o)) }
         ensures same { OnOk result (StaysSame S.Store self.old self.new) }
-        ensures refused { IfErr result (SoundRefused S.Store name.now self.old self.new) }
+        ensures refused { IfErr result (StopsAt S.Store (AtName name.now) self.old self.new) }
         ensures quiet { Quiet S.Store self.old self.new }
     {
-        let Some(block) = self.get_block(name)? else {
-            return Ok(None);
-        };
-        if is_dag_cbor(name) && !is_block(&block) {
-            return Err(StoreRefusal::Damaged(*name));
+        let block = self.get_block(name)?;
+        match hidden_under(name, block.as_deref()) {
+            Some(verdict) => Err(StoreRefusal::LinksUnread(*name, verdict)),
+            None => Ok(block),
         }
-        Ok(Some(block))
     }
 
     /// Takes out each name that is not in the set, with what is listed under it. Answers how many.

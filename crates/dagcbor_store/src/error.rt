@@ -3,7 +3,7 @@
 ghost use Rattle.dagcbor_store.specs.Opened.{TellsOfOpening};
 ghost use Rattle.dagcbor_store.specs.Stored.{TellsOfStore};
 
-use ipld_links::Unsound;
+use ipld_links::{Unsound, Verdict};
 use ipld_tree::Cid;
 use sqlite_store::OpenError;
 use sqlite_trees::error::StoreError;
@@ -15,9 +15,16 @@ pub enum StoreRefusal {
     /// The block is not the one that the name names, or no DAG-CBOR where its codec is that.
     #[error("{0}")]
     Unsound(Unsound),
-    /// What is stored under the name is no block of that name, or no DAG-CBOR where its codec is that.
+    /// What is stored under the name are not the bytes that it names.
     #[error("what is stored under the name has other bytes than it says")]
     Damaged(Cid),
+    /// The bytes under the name are those that it names. What links they have is not known: by the
+    /// verdict, they are no block of their codec, or of a codec whose links are not read here.
+    #[error("the links of a block cannot be read")]
+    LinksUnread(Cid, Verdict),
+    /// A root has no block: nothing is stored under it, and it holds none itself.
+    #[error("a root has no block")]
+    NoBlock(Cid),
     /// A row has the greatest number that a row can have.
     #[error("no number is left for a row")]
     NoNumber,

@@ -3,7 +3,7 @@
 ghost use Rattle.std.specs.Prelude.{◌≡◌, ◌↔◌, IsTrue, IfOk, IfErr, OnOk};
 ghost use Rattle.dagcbor_items.specs.Walks.{forms};
 ghost use Rattle.ipld_links.specs.Sets.{Among};
-ghost use Rattle.ipld_links.specs.Blocks.{HasBlock};
+ghost use Rattle.ipld_links.specs.Blocks.{IsBlockOf};
 ghost use Rattle.sqlite_trees.specs.View.{IsClean};
 ghost use Rattle.block_trees.specs.Ends.{Quiet};
 ghost use Rattle.dagcbor_store.specs.Stored.{StaysSame, FailsByStore};
@@ -11,8 +11,7 @@ ghost use Rattle.dagcbor_store.specs.Lost.{ListsLostLinks, LostRefused, AddsLost
 
 use crate::error::StoreRefusal;
 use crate::store::BlockStore;
-use dagcbor_items::check_slice;
-use ipld_links::{is_dag_cbor, names_from_slice};
+use ipld_links::{RAW, hidden_links, names_of_block};
 use ipld_tree::Cid;
 use sqlite_trees::store::Store;
 use std::alloc::{AllocError, Global};
@@ -29,18 +28,11 @@ fn in_order(alloc: Global, keys: BTreeSet<Cid>) -> Result<Vec<Cid>, AllocError>
     Ok(list)
 }
 
-/// Whether the bytes are a block.
-pub(crate) fn is_block(bytes: &[u8]) -> bool
-    ensures { IsTrue result ↔ HasBlock bytes.now }
-{
-    check_slice(bytes).is_ok()
-}
-
 impl<S: Store> BlockStore<S> {
-    /// The links in blocks of DAG-CBOR that name nothing that is listed, each once, in their order.
-    /// Links in blocks of another codec are not read. A name by the identity holds its block itself:
-    /// it is not listed, and the links in that block are followed. One block is in memory at a time,
-    /// beside the links that are answered.
+    /// The links in blocks that name nothing that is listed, each once, in their order. A name by the
+    /// identity holds its block itself: it is not listed, and the links in that block are followed. It
+    /// refuses with `LinksUnread` where it is not known what links a block has. One block is in memory at
+    /// a time, beside the links that are answered.
     pub fn lost(&mut self) -> Result<Vec<Cid>, StoreRefusal>
         ensures lists { IfOk result (λ v. IsClean (S.Store.view self.new) → ListsLostLinks (S.Store.view self.old) v.items) }
         ensures same { OnOk result (StaysSame S.Store self.old self.new) }
@@ -76,27 +68,32 @@ impl<S: Store> BlockStore<S> {
             Some(next) => next,
             None => return Ok(None),
         };
-        if !is_dag_cbor(&name) {
+        if let Some(verdict) = hidden_links(name.codec(), &block) {
+            return Err(StoreRefusal::LinksUnread(name, verdict));
+        }
+        if name.codec() == RAW {
             return Ok(Some(name));
         }
-        if !is_block(&block) {
-            return Err(StoreRefusal::Damaged(name));
-        }
-        self.add_lost(&block, lost)?;
+        self.add_lost(name.codec(), &block, lost)?;
         Ok(Some(name))
     }
 
     /// Adds the links of the block that name nothing that is listed, as `lost` answers them. A refusal
     /// leaves in the set what it had, and some of those.
-    pub fn add_lost(&mut self, block: &[u8], lost: &mut BTreeSet<Cid>) -> Result<(), StoreRefusal>
-        requires { HasBlock block.now }
-        ensures ok { OnOk result (IsClean (S.Store.view self.new) → AddsLost (S.Store.view self.old) block.now lost.old lost.new) }
-        ensures grows { GrowsByLost (IsReachedIn block.now) lost.old lost.new }
+    pub fn add_lost(
+        &mut self,
+        codec: u64,
+        block: &[u8],
+        lost: &mut BTreeSet<Cid>,
+    ) -> Result<(), StoreRefusal>
+        requires { IsBlockOf codec block.now }
+        ensures ok { OnOk result (IsClean (S.Store.view self.new) → AddsLost (S.Store.view self.old) codec block.now lost.old lost.new) }
+        ensures grows { GrowsByLost (IsReachedIn codec block.now) lost.old lost.new }
         ensures same { OnOk result (StaysSame S.Store self.old self.new) }
         ensures refused { IfErr result (FailsByStore S.Store ⊥ self.old self.new) }
         ensures quiet { Quiet S.Store self.old self.new }
     {
-        match names_from_slice(self.alloc, block) {
+        match names_of_block(self.alloc, codec, block) {
             Ok(names) => self.add_unlisted(&names, lost),
             Err(_) => Err(self.give_up()),
         }

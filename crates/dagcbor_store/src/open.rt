@@ -1,11 +1,20 @@
 //! Opening a store.
 
-ghost use Rattle.std.specs.Prelude.{◌≡◌, ◌⊎◌, IsTrue, IfOk, IfErr, IfSome};
+ghost use Rattle.std.specs.Prelude.{◌≡◌, ◌⊎◌, ◌↔◌, true, false, map, IsTrue, IfOk, IfErr, IfSome};
+ghost use Rattle.sqlite_value.specs.declared.value.Value.TheVariants.{Text};
+ghost use Rattle.sqlite_value.specs.Value.{owned};
 ghost use Rattle.sqlite_trees.specs.View.{IsClean};
-ghost use Rattle.dagcbor_store.specs.Stored.{IsKeptBy};
+ghost use Rattle.sqlite_std_file.specs.File.{file_is_usable, IsFresh as IsFileFresh};
+ghost use Rattle.sqlite_wal.specs.Files.{image_at, seen_image};
+ghost use Rattle.sqlite_wal.specs.PageSize.{bytes_of};
+ghost use Rattle.sqlite_wal.specs.Reads.{are_clean, AreClean, OnlyReads};
+ghost use Rattle.sqlite_store.specs.Calls.{IsQuietCall};
+ghost use Rattle.sqlite_store.specs.Catalog.{text_or_null, wanted_of};
 ghost use Rattle.sqlite_store.specs.FileStore.{view};
-ghost use Rattle.sqlite_store.specs.Unopened.{AreUsable};
-ghost use Rattle.dagcbor_store.specs.Opened.{HasTrees, IsChecked, IsOpened, IsSettled, OnlyMarks};
+ghost use Rattle.sqlite_store.specs.Unopened.{AreUsable, files_of, state_of, wanted_by};
+ghost use Rattle.dagcbor_store.specs.Stored.{IsKeptBy};
+ghost use Rattle.dagcbor_store.specs.Opened.{HasTrees, IsChecked, IsMoved, IsOpened, IsSettled, OnlyMarks};
+ghost use Rattle.dagcbor_store.specs.Left.{store_objects, IsRowOfObject, ListsObjects, NamesSize, IsLeft, IsFresh, HoldsLeft, HasStore};
 
 use crate::error::StoreRefusal;
 use crate::store::BlockStore;
@@ -20,7 +29,9 @@ use sqlite_trees::error::StoreError;
 use sqlite_trees::schema::Object;
 use sqlite_trees::store::{Alter, Shape, Store};
 use sqlite_value::keys::Order;
+use sqlite_value::order::is_same;
 use sqlite_value::row::Row;
+use sqlite_value::value::ValueRef;
 use sqlite_wal::{PageSize, probe_first_page, probe_page_size};
 use std::alloc::{AllocFailed, Global};
 use std::hash::{BuildHasher, RandomState};
@@ -39,6 +50,10 @@ const ROOT_TABLE: &str = "CREATE TABLE root (cid BLOB NOT NULL) STRICT";
 
 /// The size of a page of a file that is made.
 const PAGE_SIZE: usize = 4096;
+
+/// How many pages that wait for a commit stay in memory, before they go to the log: 128 MB of 4096
+/// bytes. Names come in no order, so each time that they go, most pages of a large index go too.
+const SPILL_PAGES: usize = 32_768;
 
 /// The version of the schema that has these trees.
 fn version_of<S: Store>(store: &S) -> Option<u32>
@@ -102,6 +117,7 @@ impl<S: Alter + Drop> BlockStore<S> {
     }
 }
 
+/// As `over`, for what is of no further use where it is refused.
 fn opened<S: Alter + Drop>(alloc: Global, store: S) -> Result<BlockStore<S>, StoreRefusal>
     ensures ok { IfOk result (λ it. IsClean (S.Store.view it) → IsOpened (S.Store.view store) (S.Store.view it)) }
 {
@@ -115,8 +131,25 @@ fn opened<S: Alter + Drop>(alloc: Global, store: S) -> Result<BlockStore<S>, Sto
     }
 }
 
+/// Takes a database that was just opened and is known to be a store's. One with no version is looked
+/// through.
+fn trusted<S: Alter + Drop>(alloc: Global, store: S) -> Result<BlockStore<S>, StoreRefusal>
+    requires fresh { IsClean (S.Store.view store) → IsFresh (S.Store.view store) }
+    ensures ok { IfOk result (λ it. IsClean (S.Store.view it) → IsOpened (S.Store.view store) (S.Store.view it)) }
+{
+    let Some(version) = version_of(&store) else {
+        return Err(StoreRefusal::NotAStore);
+    };
+    if store.version() == version {
+        return Ok(BlockStore::of(alloc, store, Row::new(alloc)));
+    }
+    opened(alloc, store)
+}
+
 /// The table of blocks, the index of their names, and the table of roots.
-fn schema() -> [Object<'static>; 3] {
+fn schema() -> [Object<'static>; 3]
+    ensures { map wanted_of result ≡ store_objects }
+{
     [
         Object {
             shape: Shape::Table,
@@ -145,12 +178,61 @@ fn schema() -> [Object<'static>; 3] {
     ]
 }
 
+/// Whether the value is this text.
+fn is_text(value: ValueRef<'_>, text: &str) -> bool
+    ensures { IsTrue result ↔ (owned value.entry ≡ Text text.now) }
+{
+    is_same(value, ValueRef::Text(text.as_bytes()))
+}
+
+/// Whether the value is the text of an object.
+fn is_sql(value: ValueRef<'_>, sql: Option<&str>) -> bool
+    ensures { IsTrue result ↔ (owned value.entry ≡ text_or_null sql.entry) }
+{
+    match sql {
+        Some(text) => is_text(value, text),
+        None => is_same(value, ValueRef::Null),
+    }
+}
+
+/// Whether the row of `sqlite_schema` is that of the object.
+fn is_row_of(row: &Row, object: &Object<'_>) -> bool
+    ensures { IsTrue result → IsRowOfObject (wanted_of object.now) row.now }
+{
+    is_text(row.get(1), object.kind)
+        && is_text(row.get(2), object.name)
+        && is_text(row.get(3), object.table)
+        && is_sql(row.get(5), object.sql)
+}
+
+/// Whether the rows are those of these objects, in this order.
+fn lists(rows: &[Row], objects: &[Object<'_>]) -> bool
+    ensures { IsTrue result → ListsObjects (map wanted_of objects.now) rows.now }
+{
+    let [row, rows @ ..] = rows else {
+        return objects.is_empty();
+    };
+    let [object, objects @ ..] = objects else {
+        return false;
+    };
+    is_row_of(row, object) && lists(rows, objects)
+}
+
+/// Whether the rows are those of the schema.
+fn lists_schema(rows: &[Row]) -> bool
+    ensures { IsTrue result → ListsObjects store_objects rows.now }
+{
+    lists(rows, &schema())
+}
+
 /// The size of the pages, and whether the files begin as a database does.
 fn page_size<D: Disk>(alloc: Global, files: &mut Files<D>) -> Result<(PageSize, bool), StoreRefusal>
     requires log { IsTrue (D.Disk.is_usable files.old.log) }
     requires db { IsTrue (D.Disk.is_usable files.old.db) }
-    ensures log { IsTrue (D.Disk.is_usable files.new.log) }
-    ensures db { IsTrue (D.Disk.is_usable files.new.db) }
+    ensures log { OnlyReads D.Disk files.old.log files.new.log }
+    ensures db { OnlyReads D.Disk files.old.db files.new.db }
+    ensures names { IfOk result (λ p. AreClean D.Disk files.new.log files.new.db → IsTrue p.1
+        → NamesSize (seen_image D.Disk files.old.log files.old.db) (bytes_of p.0)) }
 {
     let size = match probe_page_size(files) {
         Ok(Some(size)) => size,
@@ -176,8 +258,16 @@ fn over_files<D: Disk + Drop>(
     requires log { IsTrue (D.Disk.is_usable files.log) }
     requires db { IsTrue (D.Disk.is_usable files.db) }
     ensures usable { IfOk result (λ it. AreUsable it) }
+    ensures files { IfOk result (λ it. files_of it ≡ (files.log, files.db)) }
+    ensures size { IfOk result (λ it. (state_of it).page_size ≡ bytes_of size) }
+    ensures schema { IfOk result (λ it. wanted_by it ≡ map wanted_of schema.now) }
+    ensures clean { IfOk result (λ it. (state_of it).is_clean ≡ are_clean D.Disk files.log files.db) }
 {
-    let Ok(pager) = Pager::new(alloc, files, size, Options::new(seed)) else {
+    let options = Options {
+        spill_pages: SPILL_PAGES,
+        ..Options::new(seed)
+    };
+    let Ok(pager) = Pager::new(alloc, files, size, options) else {
         return Err(StoreRefusal::OutOfMemory);
     };
     match Unopened::new(alloc, pager, schema) {
@@ -186,24 +276,103 @@ fn over_files<D: Disk + Drop>(
     }
 }
 
-/// These files, with the schema of the earlier version where they list no third object.
-fn as_listed<D: Disk + Drop>(
+/// Makes the database, or goes on with one whose making was cut off.
+fn create<D: Disk + Drop>(
+    alloc: Global,
+    unopened: Unopened<D>,
+) -> Result<BlockStore<FileStore<D>>, StoreRefusal>
+    requires usable { AreUsable unopened }
+    ensures settled { IfOk result (λ it. IsClean (view it) → IsSettled (view it)) }
+{
+    match unopened.create() {
+        Ok(store) => opened(alloc, store),
+        Err((error, _)) => Err(StoreRefusal::of_opening(error)),
+    }
+}
+
+/// Opens the database, and looks it through: each page and each name that is listed.
+fn open_whole<D: Disk + Drop>(
+    alloc: Global,
+    found: Unopened<D>,
+) -> Result<BlockStore<FileStore<D>>, StoreRefusal>
+    requires usable { AreUsable found }
+    ensures settled { IfOk result (λ it. IsClean (view it) → IsSettled (view it)) }
+{
+    match found.open_numbered() {
+        Ok(store) => opened(alloc, store),
+        Err((error, _)) => Err(StoreRefusal::of_opening(error)),
+    }
+}
+
+/// Opens the database, which is a store's.
+fn open_trusted<D: Disk + Drop>(
+    alloc: Global,
+    found: Unopened<D>,
+) -> Result<BlockStore<FileStore<D>>, StoreRefusal>
+    requires usable { AreUsable found }
+    requires ours { IsTrue (state_of found).is_clean → HasStore found }
+    ensures settled { IfOk result (λ it. IsClean (view it) → IsSettled (view it)) }
+{
+    match found.open_trusted() {
+        Ok(store) => trusted(alloc, store),
+        Err((error, _)) => Err(StoreRefusal::of_opening(error)),
+    }
+}
+
+/// How much of a database is looked through as it is opened.
+#[derive(Clone, Copy, Debug, PartialEq, Eq)]
+enum Depth {
+    /// The header, the list of free pages and the schema.
+    Schema,
+    /// Each page, and each name that is listed.
+    Whole,
+}
+
+/// Opens a database whose `sqlite_schema` has these rows.
+fn open_listed<D: Disk + Drop>(
+    alloc: Global,
+    found: Unopened<D>,
+    rows: &[Row],
+    depth: Depth,
+) -> Result<BlockStore<FileStore<D>>, StoreRefusal>
+    requires usable { AreUsable found }
+    requires ours { depth ≡ Depth.Schema → IsTrue (state_of found).is_clean → ListsObjects store_objects rows.now → HasStore found }
+    ensures settled { IfOk result (λ it. IsClean (view it) → IsSettled (view it)) }
+{
+    if rows.is_empty() {
+        return create(alloc, found);
+    }
+    if !lists_schema(rows) {
+        return Err(StoreRefusal::NotAStore);
+    }
+    match depth {
+        Depth::Schema => open_trusted(alloc, found),
+        Depth::Whole => open_whole(alloc, found),
+    }
+}
+
+/// Opens the database in files that begin as one. One of the earlier version is looked through.
+fn open_found<D: Disk + Drop>(
     alloc: Global,
     mut found: Unopened<D>,
     size: PageSize,
     seed: u64,
-) -> Result<Unopened<D>, StoreRefusal>
+    depth: Depth,
+) -> Result<BlockStore<FileStore<D>>, StoreRefusal>
     requires usable { AreUsable found }
-    ensures usable { IfOk result (λ it. AreUsable it) }
+    requires schema { wanted_by found ≡ store_objects }
+    requires ours { depth ≡ Depth.Schema → IsTrue (state_of found).is_clean → HoldsLeft found }
+    ensures settled { IfOk result (λ it. IsClean (view it) → IsSettled (view it)) }
 {
-    let listed = match found.read_catalog() {
-        Ok(rows) => rows.len(),
+    let rows = match found.read_catalog() {
+        Ok(rows) => rows,
         Err(error) => return Err(StoreRefusal::of_opening(error)),
     };
-    if listed > 2 {
-        return Ok(found);
+    if rows.len() == 2 {
+        let earlier = over_files(alloc, found.close(), size, seed, &schema()[..2])?;
+        return open_whole(alloc, earlier);
     }
-    over_files(alloc, found.close(), size, seed, &schema()[..2])
+    open_listed(alloc, found, rows.as_slice(), depth)
 }
 
 /// Recovers the database in the files, or makes one where there is none.
@@ -211,45 +380,95 @@ fn recover<D: Disk + Drop>(
     alloc: Global,
     mut files: Files<D>,
     seed: u64,
-) -> Result<FileStore<D>, StoreRefusal>
+    depth: Depth,
+) -> Result<BlockStore<FileStore<D>>, StoreRefusal>
     requires log { IsTrue (D.Disk.is_usable files.log) }
     requires db { IsTrue (D.Disk.is_usable files.db) }
+    requires ours { depth ≡ Depth.Schema → IsLeft (seen_image D.Disk files.log files.db) }
+    ensures settled { IfOk result (λ it. IsClean (view it) → IsSettled (view it)) }
 {
     let (size, is_begun) = page_size(alloc, &mut files)?;
-    let schema = schema();
-    let unopened = over_files(alloc, files, size, seed, &schema)?;
-    let opened = if is_begun {
-        as_listed(alloc, unopened, size, seed)?.open_numbered()
+    let unopened = over_files(alloc, files, size, seed, &schema())?;
+    if is_begun {
+        open_found(alloc, unopened, size, seed, depth)
     } else {
-        unopened.create()
+        create(alloc, unopened)
+    }
+}
+
+/// Opens the files at the path, or makes them where there are none, with a random number.
+fn files_at<S: Start>(
+    rt: &HostRuntime,
+    path: &str,
+    start: S,
+) -> Result<(Files<FileFrom<S>>, u64), StoreRefusal>
+    ensures log { IfOk result (λ p. IsTrue (file_is_usable S.Start p.0.log)) }
+    ensures db { IfOk result (λ p. IsTrue (file_is_usable S.Start p.0.db)) }
+    ensures fresh { IfOk result (λ p. IsFileFresh true p.0.log × IsFileFresh false p.0.db) }
+{
+    let files = match sqlite_std_file::open(rt, path, start) {
+        Ok(files) => files,
+        Err(PathError::OutOfMemory) => return Err(StoreRefusal::OutOfMemory),
+        Err(PathError::Busy) => return Err(StoreRefusal::Locked),
+        Err(_) => return Err(StoreRefusal::CannotOpen),
     };
-    match opened {
-        Ok(store) => Ok(store),
-        Err((error, _)) => Err(StoreRefusal::of_opening(error)),
+    match RandomState::new(rt) {
+        Ok(state) => Ok((files, state.hash_one(&0u8))),
+        Err(_) => Err(StoreRefusal::CannotOpen),
     }
 }
 
 impl<S: Start> BlockStore<FileStore<FileFrom<S>>> {
     /// Opens the store in the file, or makes it where there is no file, or an empty one. The file is
     /// locked until the store is dropped. One that is none of ours is refused, and left as it is.
+    ///
+    /// It reads the header, the schema and the list of free pages, whatever the size, and of a log all.
+    /// So it takes it that a file with the schema of a store is what a store left, as after any crash;
+    /// `open_whole` finds out.
     pub fn open(
+        rt: &HostRuntime,
+        path: &str,
+        start: S,
+    ) -> Result<BlockStore<FileStore<FileFrom<S>>>, StoreRefusal>
+        requires ours { IsLeft (image_at S.Start) }
+        ensures settled { IfOk result (λ it. IsClean (view it) → IsSettled (view it)) }
+    {
+        let (files, seed) = files_at(rt, path, start)?;
+        recover(rt.alloc(), files, seed, Depth::Schema)
+    }
+
+    /// As `open`, for a file that may be damaged: it reads each page, and refuses one whose trees are
+    /// unsound, or that lists a name twice or one that is no CID.
+    pub fn open_whole(
         rt: &HostRuntime,
         path: &str,
         start: S,
     ) -> Result<BlockStore<FileStore<FileFrom<S>>>, StoreRefusal>
         ensures settled { IfOk result (λ it. IsClean (view it) → IsSettled (view it)) }
     {
-        let files = match sqlite_std_file::open(rt, path, start) {
-            Ok(files) => files,
-            Err(PathError::OutOfMemory) => return Err(StoreRefusal::OutOfMemory),
-            Err(PathError::Busy) => return Err(StoreRefusal::Locked),
-            Err(_) => return Err(StoreRefusal::CannotOpen),
-        };
-        let seed = match RandomState::new(rt) {
-            Ok(state) => state.hash_one(&0u8),
-            Err(_) => return Err(StoreRefusal::CannotOpen),
-        };
-        let store = recover(rt.alloc(), files, seed)?;
-        opened(rt.alloc(), store)
+        let (files, seed) = files_at(rt, path, start)?;
+        recover(rt.alloc(), files, seed, Depth::Whole)
+    }
+}
+
+impl<D: Disk> BlockStore<FileStore<D>> {
+    /// Gives the database back, once all that was committed is moved from the log into its file, and the
+    /// log is cut to its header: so the next open reads no log. What was not committed is undone.
+    /// Where that fails, the log stays as it is, and has what the file lacks.
+    pub fn into_file(self) -> Result<FileStore<D>, (StoreRefusal, FileStore<D>)>
+        ensures moved { IfOk result (λ it. IsClean (view it) → IsMoved self it) }
+        ensures kept { IfOk result (IsQuietCall self) }
+        ensures unharmed { IfErr result (λ e. IsQuietCall self e.1) }
+    {
+        let BlockStore {
+            alloc: _,
+            mut store,
+            row: _,
+        } = self;
+        store.rollback();
+        match store.checkpoint() {
+            Ok(()) => Ok(store),
+            Err(error) => Err((StoreRefusal::of_store(error), store)),
+        }
     }
 }

@@ -1,66 +1,110 @@
 //! The roots that a store keeps beside its blocks.
 
-ghost use Rattle.std.specs.Prelude.{◌≡◌, IfOk, IfErr, OnOk};
-ghost use Rattle.sqlite_trees.specs.View.{IsClean};
+ghost use Rattle.std.specs.Prelude.{◌≡◌, [], ◌∷◌, IfOk, IfErr, OnOk};
+ghost use Rattle.sqlite_trees.specs.View.{IsClean, KeepsSchema};
 ghost use Rattle.block_trees.specs.Ends.{Quiet};
 ghost use Rattle.dagcbor_store.specs.Stored.{StaysSame, FailsByStore};
-ghost use Rattle.dagcbor_store.specs.Roots.{HasRoots, IsRootAdded, RootRefused, IsRootTaken, KeepsRoots, MayKeepRoots, AreRootsAdded, RootsRefused};
+ghost use Rattle.dagcbor_store.specs.Roots.{HasRoots, IsRootTaken, KeepsRoots, MayKeepRoots, AreRootsAdded, RootsRefused, HasJust, KnowsRoots, IsRootAdded, RootRefused};
 
 use crate::error::StoreRefusal;
-use crate::store::{BlockStore, told, undo};
+use crate::store::{BlockStore, disown, told, undo};
 use arrayvec::ArrayVec;
 use block_trees::roots::{self, ROOTS};
+use ipld_links::CidSet;
 use ipld_tree::Cid;
-use sqlite_trees::error::StoreError;
 use sqlite_trees::store::{Shape, Store};
+use std::alloc::{AllocError, Global};
 
 impl<S: Store> BlockStore<S> {
-    /// The roots, in their order. A file of the earlier version has none.
+    /// The roots, in their order. A file of the earlier version has none. It refuses with `NotAStore`
+    /// where a row is none of a root.
     pub fn roots(&mut self) -> Result<Vec<Cid>, StoreRefusal>
         ensures ok { IfOk result (λ names. IsClean (S.Store.view self.new) → HasRoots (S.Store.view self.old) names.items) }
         ensures same { OnOk result (StaysSame S.Store self.old self.new) }
+        ensures schema { OnOk result (KeepsSchema (S.Store.view self.old) (S.Store.view self.new)) }
         ensures refused { IfErr result (FailsByStore S.Store ⊥ self.old self.new) }
         ensures quiet { Quiet S.Store self.old self.new }
     {
         match roots::list(self.alloc, &mut self.store, &mut self.row) {
             Ok(Some(names)) => Ok(names),
-            Ok(None) => Err(undo(&mut self.store, StoreError::Broken)),
+            Ok(None) => Err(disown(&mut self.store)),
             Err(error) => Err(undo(&mut self.store, error)),
         }
     }
 
-    /// Makes the name a root behind the others, with what is committed next, unless it is one. A block
-    /// need not be stored under it. A file of the earlier version keeps no roots.
+    /// Makes the name a root after the others, with what is committed next, unless it is one, as
+    /// `add_roots` of this name alone. A block need not be stored under it.
     pub fn add_root(&mut self, name: &Cid) -> Result<(), StoreRefusal>
-        ensures ok { OnOk result (IsClean (S.Store.view self.new) → IsRootAdded (S.Store.view self.old) (S.Store.view self.new) name.now) }
+        ensures ok { OnOk result (IsClean (S.Store.view self.new) → AreRootsAdded (S.Store.view self.old) (S.Store.view self.new) (name.now ∷ [])) }
         ensures table { OnOk result (KeepsRoots (S.Store.view self.old)) }
-        ensures shape { OnOk result ((S.Store.view self.new).shape ≡ (S.Store.view self.old).shape) }
-        ensures refused { IfErr result (RootRefused S.Store name.now self.old self.new) }
+        ensures refused { IfErr result (RootsRefused S.Store (name.now ∷ []) self.old self.new) }
         ensures quiet { Quiet S.Store self.old self.new }
     {
-        if self.store.shape(ROOTS) == Shape::Absent {
-            return Err(StoreRefusal::EarlierVersion);
-        }
-        let mut form = ArrayVec::new();
-        name.write_bytes(&mut form);
-        match roots::add(&mut self.store, &mut self.row, &form) {
-            Ok(added) => told(added),
-            Err(error) => Err(undo(&mut self.store, error)),
-        }
+        self.add_roots(&[*name])
     }
 
-    /// Makes each of the names a root, one behind the other. Those before one that is refused are
+    /// Makes each of the names a root, one after the other, with what is committed next: a name that is
+    /// no root goes after the others. The rows are read once. Those before one that is refused are
     /// roots with what is committed next, where the store did not fail.
+    ///
+    /// A file of the earlier version keeps no roots (`EarlierVersion`). Where a row of the table is none
+    /// of a root, it refuses with `NotAStore`.
     pub fn add_roots(&mut self, names: &[Cid]) -> Result<(), StoreRefusal>
         ensures ok { OnOk result (IsClean (S.Store.view self.new) → AreRootsAdded (S.Store.view self.old) (S.Store.view self.new) names.now) }
         ensures table { OnOk result (MayKeepRoots (S.Store.view self.old) names.now) }
         ensures refused { IfErr result (RootsRefused S.Store names.now self.old self.new) }
         ensures quiet { Quiet S.Store self.old self.new }
     {
+        if names.is_empty() {
+            return Ok(());
+        }
+        if self.store.shape(ROOTS) == Shape::Absent {
+            return Err(StoreRefusal::EarlierVersion);
+        }
+        let mut known = self.known_roots()?;
         for name in names {
-            self.add_root(name)?;
+            self.add_unknown(name, &mut known)?;
         }
         Ok(())
+    }
+
+    /// The set of the roots.
+    fn known_roots(&mut self) -> Result<CidSet, StoreRefusal>
+        ensures ok { IfOk result (λ known. IsClean (S.Store.view self.new) → KnowsRoots (S.Store.view self.old) known) }
+        ensures same { OnOk result (StaysSame S.Store self.old self.new) }
+        ensures schema { OnOk result (KeepsSchema (S.Store.view self.old) (S.Store.view self.new)) }
+        ensures refused { IfErr result (FailsByStore S.Store ⊥ self.old self.new) }
+        ensures quiet { Quiet S.Store self.old self.new }
+    {
+        let names = self.roots()?;
+        match set_of(self.alloc, &names) {
+            Ok(known) => Ok(known),
+            Err(_) => Err(self.give_up()),
+        }
+    }
+
+    /// Makes the name a root after the others, unless the set of the roots has it, which has it then.
+    fn add_unknown(&mut self, name: &Cid, known: &mut CidSet) -> Result<(), StoreRefusal>
+        requires table { KeepsRoots (S.Store.view self.old) }
+        requires known { IsClean (S.Store.view self.old) → KnowsRoots (S.Store.view self.old) known.old }
+        ensures ok { OnOk result (IsClean (S.Store.view self.new) → IsRootAdded (S.Store.view self.old) (S.Store.view self.new) name.now) }
+        ensures known { OnOk result (IsClean (S.Store.view self.new) → KnowsRoots (S.Store.view self.new) known.new) }
+        ensures shape { OnOk result ((S.Store.view self.new).shape ≡ (S.Store.view self.old).shape) }
+        ensures refused { IfErr result (RootRefused S.Store name.now self.old self.new) }
+        ensures quiet { Quiet S.Store self.old self.new }
+    {
+        if known.contains(name) {
+            return Ok(());
+        }
+        if known.add(*name).is_err() {
+            return Err(self.give_up());
+        }
+        let mut form = ArrayVec::new();
+        name.write_bytes(&mut form);
+        match roots::append(&mut self.store, &mut self.row, &form) {
+            Ok(added) => told(added),
+            Err(error) => Err(undo(&mut self.store, error)),
+        }
     }
 
     /// Takes the name out of the roots, with what is committed next, and answers whether it was one.
@@ -76,4 +120,15 @@ impl<S: Store> BlockStore<S> {
             Err(error) => Err(undo(&mut self.store, error)),
         }
     }
+}
+
+/// The set of the names.
+fn set_of(alloc: Global, names: &[Cid]) -> Result<CidSet, AllocError>
+    ensures { IfOk result (λ known. HasJust names.now known) }
+{
+    let mut known = CidSet::new(alloc);
+    for name in names {
+        known.add(*name)?;
+    }
+    Ok(known)
 }

@@ -52,6 +52,17 @@ pub(crate) fn undo<S: Store>(store: &mut S, error: StoreError) -> StoreRefusal
     StoreRefusal::of_store(error)
 }
 
+/// Undoes what is not committed, where an entry or a row is none of a store's.
+pub(crate) fn disown<S: Store>(store: &mut S) -> StoreRefusal
+    ensures told { TellsOfStore StoreError.Broken result }
+    ensures undone { IsRolledBack (S.Store.view store.old) (S.Store.view store.new) }
+    ensures blame { S.Store.blamed store.new ≡ S.Store.blamed store.old }
+    ensures quiet { Quiet S.Store store.old store.new }
+{
+    store.rollback();
+    StoreRefusal::NotAStore
+}
+
 impl<S: Store> BlockStore<S> {
     pub(crate) fn of(alloc: Global, store: S, row: Row) -> BlockStore<S>
         requires { IsClean (S.Store.view store) → IsReady (S.Store.view store) }
@@ -60,7 +71,8 @@ impl<S: Store> BlockStore<S> {
         BlockStore { alloc, store, row }
     }
 
-    /// How many names are listed. It walks over the index.
+    /// How many names are listed. It walks over the index, and where an entry is none of a store's, it
+    /// refuses with `NotAStore`.
     pub fn len(&mut self) -> Result<u64, StoreRefusal>
         ensures ok { IfOk result (λ n. IsClean (S.Store.view self.new) → n ≡ length ((S.Store.view self.old).trees name_tree)) }
         ensures same { OnOk result (StaysSame S.Store self.old self.new) }
@@ -69,7 +81,7 @@ impl<S: Store> BlockStore<S> {
     {
         match survey(self.alloc, &mut self.store, &mut self.row) {
             Ok(Some(count)) => Ok(count),
-            Ok(None) => Err(undo(&mut self.store, StoreError::Broken)),
+            Ok(None) => Err(disown(&mut self.store)),
             Err(error) => Err(undo(&mut self.store, error)),
         }
     }
@@ -90,7 +102,8 @@ impl<S: Store> BlockStore<S> {
     }
 
     /// The first of the listed names that come behind the last one, or the first of all; none behind
-    /// the greatest. Names stand in the order of the bytes of their binary forms.
+    /// the greatest. Names stand in the order of the bytes of their binary forms. It refuses with
+    /// `NotAStore` where that entry is none of a store's.
     pub fn next_name(&mut self, last: Option<Cid>) -> Result<Option<Cid>, StoreRefusal>
         ensures next { IfOk result (λ next. IsClean (S.Store.view self.new) → GivesNextName (S.Store.view self.old) last next) }
         ensures same { OnOk result (StaysSame S.Store self.old self.new) }
@@ -101,7 +114,7 @@ impl<S: Store> BlockStore<S> {
         match entries::first_from(&mut self.store, &mut self.row, &bound) {
             Ok(None) => Ok(None),
             Ok(Some(Ok(name))) => Ok(Some(name)),
-            Ok(Some(Err(_))) => Err(undo(&mut self.store, StoreError::Broken)),
+            Ok(Some(Err(_))) => Err(disown(&mut self.store)),
             Err(error) => Err(undo(&mut self.store, error)),
         }
     }

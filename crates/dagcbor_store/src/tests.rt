@@ -15,6 +15,8 @@ const FOLDER: &str = "dagcbor_store_values";
 
 const FILE: &str = "dagcbor_store_values/a.db";
 
+const LOG: &str = "dagcbor_store_values/a.db-wal";
+
 /// Fails where the condition does not hold.
 fn agree(holds: bool, wanted: &str) -> Result<(), Fail> {
     if holds {
@@ -49,6 +51,7 @@ fn has_one_value<S: Store>(store: &mut BlockStore<S>) -> Result<(), Fail> {
 }
 
 /// Puts and adds in the file, and commits no more.
+#[tactic(auto, using(crate::proofs::Trusting::nothing_left))]
 fn put_in_file(rt: &HostRuntime) -> Result<(), Fail> {
     let mut store = BlockStore::open(rt, FILE, Wary)?;
     puts_a_value(&mut store)
@@ -56,8 +59,28 @@ fn put_in_file(rt: &HostRuntime) -> Result<(), Fail> {
 
 /// Fails where the file has anything but what was committed.
 fn read_from_file(rt: &HostRuntime) -> Result<(), Fail> {
-    let mut store = BlockStore::open(rt, FILE, Wary)?;
+    let mut store = BlockStore::open_whole(rt, FILE, Wary)?;
     has_one_value(&mut store)
+}
+
+/// Moves the log into the file.
+fn close(store: BlockStore<FileStore<FileFrom<Wary>>>) {
+    let _ = store.into_file();
+}
+
+/// Opens the file, and moves its log into it.
+#[tactic(auto, using(crate::proofs::Trusting::nothing_left))]
+fn open_and_close(rt: &HostRuntime) -> Result<(), Fail> {
+    let mut store = BlockStore::open(rt, FILE, Wary)?;
+    has_one_value(&mut store)?;
+    close(store);
+    Ok(())
+}
+
+/// Fails where a frame stays in the log.
+fn log_is_moved(rt: &HostRuntime) -> Result<(), Fail> {
+    let log = fs::metadata(rt, LOG)?;
+    agree(log.len() < 56, "no frame is left")
 }
 
 #[test]
@@ -66,6 +89,9 @@ fn values_last(rt: HostRuntime) -> Result<(), Fail> {
     fs::create_dir(&rt, FOLDER)?;
     put_in_file(&rt)?;
     // What was added and not committed is lost.
+    read_from_file(&rt)?;
+    open_and_close(&rt)?;
+    log_is_moved(&rt)?;
     read_from_file(&rt)?;
     fs::remove_dir_all(&rt, FOLDER)?;
     Ok(())
@@ -98,6 +124,10 @@ const MIXED: &[u8] =
 /// The section of a node of the codec 0x70, with a link to other raw bytes, "bar".
 const NODE: &[u8] =
     b"\x55\x01\x70\x12\x20\xcc\x4f\x9b\xdc\x12\x82\xb3\x2a\xe4\xbb\x65\x9e\xab\x53\xd2\x21\x05\xd9\x56\xdc\xb2\xf5\xee\x91\x2d\x73\x47\x55\x6f\x89\x1c\x76\x12\x2b\x0a\x24\x01\x55\x12\x20\xfc\xde\x2b\x2e\xdb\xa5\x6b\xf4\x08\x60\x1f\xb7\x21\xfe\x9b\x5c\x33\x8d\x10\xee\x42\x9e\xa0\x4f\xae\x55\x11\xb6\x8f\xbf\x8f\xb9\x12\x01\x61\x18\x03\x0a\x02\x08\x01";
+
+/// The name of "bar", which is not stored.
+const BAR: &[u8] =
+    b"\x01\x55\x12\x20\xfc\xde\x2b\x2e\xdb\xa5\x6b\xf4\x08\x60\x1f\xb7\x21\xfe\x9b\x5c\x33\x8d\x10\xee\x42\x9e\xa0\x4f\xae\x55\x11\xb6\x8f\xbf\x8f\xb9";
 
 /// The name of the number 5, which is not stored.
 const FIVE: &[u8] =
@@ -143,6 +173,7 @@ fn cause_of(cause: &Unsound) -> &'static str {
         Unsound::OtherBytes => "other bytes",
         Unsound::NoBlock(DecodeError::UnorderedKey, 5) => "unordered at byte 5",
         Unsound::NoBlock(_, _) => "no block",
+        Unsound::NoNode(_) => "no node",
     }
 }
 
@@ -202,12 +233,13 @@ fn writes_files<S: Store>(alloc: Global, store: &mut BlockStore<S>) -> Result<()
     agree(lost.is_empty(), "no link is lost")
 }
 
-/// Fails where other links are lost behind `TEXT` than the one to it, and the one to the number 5.
+/// Fails where other links are lost behind `TEXT` than the one to it, and those to "bar" and the
+/// number 5.
 fn loses_links<S: Store>(store: &mut BlockStore<S>) -> Result<(), Fail> {
     let text = name_in(TEXT)?;
     agree(store.remove(&text)?, "it was there")?;
-    let wanted = [text, Cid::try_from(FIVE)?];
-    agree(store.lost()?.as_slice() == wanted.as_slice(), "two links")?;
+    let wanted = [Cid::try_from(BAR)?, text, Cid::try_from(FIVE)?];
+    agree(store.lost()?.as_slice() == wanted.as_slice(), "three links")?;
     let typed = store.get::<u8>(&name_in(RAW)?);
     agree(matches!(typed, Err(GetError::OtherCodec)), "another codec")
 }

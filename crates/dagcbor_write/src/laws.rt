@@ -2,8 +2,8 @@
 
 ghost use Rattle.dagcbor_write.specs.Laws.{OrderUnseen};
 
-/// Entries that come in another order have the same tree, and so the same spelling: a hashed map's
-/// walk does not show.
+/// Entries in another order have the same tree, and so the same spelling: the order in which a hash
+/// map iterates does not show.
 #[tactic(auto, using(crate::proofs::Walks::same_map))]
 pub fn order_unseen()
     ensures { OrderUnseen }

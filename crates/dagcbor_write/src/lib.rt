@@ -1,7 +1,7 @@
 //! Writing values as DAG-CBOR.
 //!
-//! The examples here are taken from `src/tests/recipes.rt` of `uses`; `agree` is the
-//! tests' own, and fails where the answer is another:
+//! The examples here are taken from `src/tests/recipes.rt` of `tests_uses`. `agree` belongs to the
+//! tests, and fails if the answer differs:
 //!
 //! ```rust
 //! let block = to_vec(alloc, &(-300i16, "a"))?;

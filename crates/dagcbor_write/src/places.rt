@@ -7,17 +7,17 @@ use crate::row::FieldRow;
 use arrayvec::ArrayVec;
 use ipld_tree::{comes_before, key_cmp};
 
-/// The name of a field that stands in the map, and its place among those that do.
+/// The name of a field that is in the map, and its place among those that are.
 #[derive(Clone, Copy, Default)]
 pub struct Place {
     pub name: &'static str,
     pub at: usize,
 }
 
-/// The places of a row that is put in key order. A row of more fields is written as maps are.
+/// The places of a row that is sorted. A row of more fields is written as maps are.
 pub type Places = ArrayVec<Place, 16>;
 
-/// Whether each name stands behind the one before it, in key order, and the first is not empty.
+/// Whether each name comes after the one before it, in key order, and the first is not empty.
 fn names_rise(places: &[Place]) -> bool
     ensures { result ≡ names_rise [] places.now }
 {
@@ -32,8 +32,7 @@ fn names_rise(places: &[Place]) -> bool
     true
 }
 
-/// Lists the places of the fields in key order. False where they are many, or a name is there
-/// twice.
+/// Lists the places of the fields in key order. False if there are too many, or a name is repeated.
 pub(crate) fn list_in_order<F: FieldRow>(fields: &F, places: &mut Places) -> bool
     requires { places.old.items ≡ [] }
     ensures { IsTrue result → IsKeyOrder (F.pairs fields.now) (Some places.new.items) }

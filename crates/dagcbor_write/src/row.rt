@@ -26,16 +26,15 @@ const MOST_FIELDS: usize = 65_535;
 #[derive(Drop)]
 pub struct Field<'a, T>(pub &'static str, pub &'a T);
 
-/// A field that is left out of the map where its value is `None`; where it is `Some`, its part
-/// stands there.
+/// A field that is left out of the map if its value is `None`. If it is `Some`, its part is there.
 #[derive(Drop)]
 pub struct Optional<'a, T>(pub &'static str, pub &'a Option<T>);
 
-/// The fields of a struct, one after another: a field, no field, or a row and another behind it, as
-/// `(Field("x", &self.x), (Optional("y", &self.y), ()))`. A row of many fields is made of halves,
-/// and those of halves, since the check of a row is long where pairs are deep in one another.
+/// The fields of a struct, one after another: a field, no field, or a row and another after it, as
+/// `(Field("x", &self.x), (Optional("y", &self.y), ()))`. Make a row of many fields of halves, and
+/// those of halves: the check of deeply nested pairs takes long.
 pub trait FieldRow: Drop {
-    /// The names and the trees of the fields that stand in the map.
+    /// The names and the trees of the fields that are in the map.
     ghost pairs: { Self → List Pair };
 
     /// The names and the trees before others.
@@ -43,8 +42,8 @@ pub trait FieldRow: Drop {
 
     ghost joins: { (row : Self) (others : List Pair) → before row others ≡ pairs row ++ others };
 
-    /// Hands the fields over, one after another. Refused with `Msg("Struct value cannot be
-    /// serialized.")` where one has no spelling; those before it stay then.
+    /// Hands the fields over, one after another. Refused with
+    /// `Msg("Struct value cannot be serialized.")` if one has no spelling; those before it stay.
     fn push_fields<W: Write>(&self, map: &mut CollectMap<'_, W>) -> WriteResult<(), W>
         requires { (map_state map.old).key ≡ None }
         ensures nothing_written { WritesNothing map.old map.new }
@@ -53,9 +52,9 @@ pub trait FieldRow: Drop {
             (λ _. JoinsPairs (pairs self.now) (map_state map.old).entries (map_state map.new).entries)
             (StopsAtPair (pairs self.now) (map_state map.old).entries (map_state map.new).entries) };
 
-    /// The last name and how many there are up to it, where each name stands behind the one before
-    /// it, in key order, and the first behind this one. None where one does not, or where they are
-    /// very many.
+    /// The last name and how many there are up to it, if each name comes after the one before it,
+    /// in key order, and the first comes after this one. None if one does not, or if there are very
+    /// many.
     fn count_rising(&self, last: Place) -> Option<Place>
         ensures { IfSome result (λ end. (end.at ≡ last.at + length (pairs self.now))
             × KeysRiseTo last.name.now (pairs self.now) end.name.now) };
@@ -68,19 +67,19 @@ pub trait FieldRow: Drop {
         ensures message { IfErr result (OnMessage (λ _. LacksValue (pairs self.now))) }
         ensures empty { pairs self.now ≡ [] → IsOk result };
 
-    /// Lists the names behind others, each with its place. False where there is no room for all.
+    /// Appends the names to others, each with its place. False if there is no room for all.
     fn list_places(&self, places: &mut Places) -> bool
         ensures { IsTrue result
             → ListsPlaces (pairs self.now) places.old.items places.new.items };
 
-    /// The place that this one is behind the fields. None where it is one of theirs.
+    /// This place, counted from the end of the fields. None if it is one of theirs.
     fn behind(&self, place: usize) -> Option<usize>
         ensures { MatchOption result (place < length (pairs self.now))
             (λ more. place ≡ more + length (pairs self.now)) };
 
-    /// Writes the name and the value of the field in this place, and refuses where there is none. It
-    /// is counted off, so n fields take n² / 2 tests at most, where n is at most 16; in line, the
-    /// place is looked up at once.
+    /// Writes the name and the value of the field in this place, and refuses if there is none. It
+    /// is counted off, so n fields take at most n² / 2 tests, where n is at most 16. When inlined,
+    /// the place is looked up at once.
     fn write_field<W: Write>(
         &self,
         place: usize,

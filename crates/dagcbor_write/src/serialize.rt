@@ -14,21 +14,21 @@ use std::alloc::Global;
 
 /// A value that can be written.
 pub trait Serialize {
-    /// The value's tree. None where it has none, as a map whose key is a number.
+    /// The value's tree, or none: a map whose key is a number has none, say.
     ghost tree: { Self → Option Tree };
 
-    /// Whether writing a value may take memory, where the writer takes none.
+    /// Whether writing a value may take memory, even if the writer takes none.
     ghost takes_memory: { Bool } = { true };
 
-    /// Which messages a value that has no spelling may be refused with. Any, where a type doesn't
+    /// The messages with which a value without a spelling may be refused. Any, if a type doesn't
     /// say.
     ghost message: { Self → List ℕ → Type 0 } = { λ v m. ⊤ };
 
     /// Whether a message comes before anything goes out.
     ghost unsent: { Self → Bool } = { λ v. false };
 
-    /// Appends the spelling of the value's tree. Refused with `Msg` only where there is none. After
-    /// a refusal of a value with a spelling a beginning of it may have gone out.
+    /// Appends the spelling of the value's tree. Refused with `Msg` only if there is none. After a
+    /// refusal of a value with a spelling, a beginning of it may have gone out.
     fn serialize<W: Write>(&self, alloc: Global, ser: &mut Serializer<W>) -> WriteResult<(), W>
         ensures written { Writes (spelled_tree (tree self.now))
             (W.written ser.old) (W.written ser.new) result }

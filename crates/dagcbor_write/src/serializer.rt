@@ -21,10 +21,10 @@ use ipld_tree::Cid;
 use std::alloc::Global;
 use std::marker::Model;
 
-/// What an integer without a spelling is refused with.
+/// The message for an integer without a spelling.
 const INTEGER_RANGE: &str = "Integer must be within [-u64::MAX-1, u64::MAX] range";
 
-/// What an unsigned integer without a spelling is refused with.
+/// The message for an unsigned integer without a spelling.
 const UNSIGNED_RANGE: &str = "Unsigned integer must be within [0, u64::MAX] range";
 
 /// Writes values to a writer. Contracts see the writer.
@@ -120,7 +120,7 @@ impl<W: Write> Serializer<W> {
         push_head(&mut self.writer, major, argument as u64)
     }
 
-    /// A head of major type 0 or 1. Outside -2^64 to 2^64 - 1 refused with
+    /// Appends a head of major type 0 or 1. A number outside -2^64 to 2^64 - 1 is refused with
     /// `Msg("Integer must be within [-u64::MAX-1, u64::MAX] range")`.
     #[tactic(auto, unfolding(ipld_tree::specs::Spelled::spelled))]
     pub fn serialize_i128(&mut self, v: i128) -> WriteResult<(), W>
@@ -175,8 +175,8 @@ impl<W: Write> Serializer<W> {
         push_head(&mut self.writer, 0, v)
     }
 
-    /// A head of major type 0. Above 2^64 - 1 refused with `Msg("Unsigned integer must be within
-    /// [0, u64::MAX] range")`.
+    /// Appends a head of major type 0. A number above 2^64 - 1 is refused with
+    /// `Msg("Unsigned integer must be within [0, u64::MAX] range")`.
     #[tactic(auto, unfolding(ipld_tree::specs::Spelled::spelled))]
     pub fn serialize_u128(&mut self, v: u128) -> WriteResult<(), W>
         ensures written { Writes (spelled (integer (pos v)))
@@ -396,7 +396,8 @@ impl<W: Write> Serializer<W> {
     }
 }
 
-/// Leaves, where the writer has room for them; else nothing is appended, and false answered.
+/// Leaves, appended if the writer has room for them. Else nothing is appended, and the answer is
+/// false.
 impl<W: Write> Serializer<W> {
     #[tactic(auto, unfolding(ipld_tree::specs::Spelled::spelled))]
     pub(crate) fn null_at_once(&mut self) -> bool
@@ -453,8 +454,8 @@ impl<W: Write> Serializer<W> {
     }
 }
 
-/// Appends a head of the number of bytes, and the bytes, where they are few and the writer has room
-/// for them; else appends nothing, and answers false.
+/// Appends a head of the number of bytes, and the bytes, if they are few and the writer has room
+/// for all. Else appends nothing, and answers false.
 fn counted_at_once<W: Write>(writer: &mut W, major: u8, payload: &[u8]) -> bool
     requires { major ≤ 7 }
     ensures written { WritesAtOnce (spelled_bytes major payload.now)
@@ -476,8 +477,8 @@ fn push_counted<W: Write>(writer: &mut W, major: u8, payload: &[u8]) -> WriteRes
     writer.push(payload)
 }
 
-/// Appends the link to a CID of this binary form, where that is of 23 bytes or more and the writer
-/// has room for it; else appends nothing, and answers false.
+/// Appends the link to a CID of this binary form, if that has 23 bytes or more and the writer has
+/// room for it. Else appends nothing, and answers false.
 fn link_at_once<W: Write>(writer: &mut W, cid: &ArrayVec<u8, 86>) -> bool
     ensures written { WritesAtOnce (spelled (link cid.now.items))
         (W.written writer.old) (W.written writer.new) result }

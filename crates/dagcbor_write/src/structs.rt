@@ -40,8 +40,8 @@ fn write_places<F: FieldRow, W: Write>(
     Ok(())
 }
 
-/// The names and the values of the fields, as they stand or those in these places, one after another.
-/// Refused with `Msg("Struct value cannot be serialized.")` where one has no spelling.
+/// Writes the names and the values of the fields, in their own order or in the order of these
+/// places. Refused with `Msg("Struct value cannot be serialized.")` if one has no spelling.
 #[inline(always)]
 fn gather_fields<F: FieldRow, E>(
     alloc: Global,
@@ -70,7 +70,8 @@ fn gather_fields<F: FieldRow, E>(
     }
 }
 
-/// Writes a struct of these fields, whose names rise as they stand or in these places.
+/// Writes a struct of these fields. Their names rise in their own order, or in that of these
+/// places.
 #[inline(always)]
 #[tactic(auto, using(crate::proofs::Fields::exit_row))]
 fn write_rising<F: FieldRow, W: Write>(
@@ -95,8 +96,8 @@ fn write_rising<F: FieldRow, W: Write>(
     ser.push(bytes.as_slice())
 }
 
-/// Writes a struct of these fields, whose names do not rise as they stand: by their places, or as a
-/// map where there are many fields, or a name is there twice.
+/// Writes a struct of these fields, whose names are not in key order: by their places, or as a map
+/// if there are many fields or a name is repeated.
 fn write_unordered<F: FieldRow, W: Write>(
     alloc: Global,
     fields: &F,
@@ -119,10 +120,10 @@ fn write_unordered<F: FieldRow, W: Write>(
 }
 
 /// Writes a struct of these fields, as a map, in key order. Nothing goes out before each field has
-/// been spelled in memory. Where the row is in key order already, nothing is sorted; else at most
-/// 16 fields are put in order by their places, which takes no memory. Refused with `Msg("Struct
-/// value cannot be serialized.")` where a value has no spelling, else with `Msg("Map keys must be
-/// unique")` where a name is there twice.
+/// been spelled in memory. If the row is in key order already, nothing is sorted. Else at most 16
+/// fields are sorted by their places, which takes no memory. Refused with
+/// `Msg("Struct value cannot be serialized.")` if a value has no spelling, else with
+/// `Msg("Map keys must be unique")` if a name is repeated.
 ///
 /// ```rust
 /// let fields = (Field("year", &self.year), (Field("text", &self.text), ()));
@@ -148,7 +149,7 @@ pub fn write_struct<F: FieldRow, W: Write>(
 }
 
 /// Writes a variant with these fields: a map of one entry, from the variant's name to the map of
-/// the fields. Refused with a message as `write_struct`; the variant's name is out then.
+/// the fields. Refused with the messages of `write_struct`. Then the variant's name is out.
 ///
 /// ```rust
 /// let fields = (Field("x", x), (Field("y", y), ()));

@@ -14,8 +14,8 @@ use std::alloc::Global;
 use std::convert::Infallible;
 use std::io;
 
-/// The one spelling of the value's tree. Refused with `Msg` only where it has none, as an integer
-/// outside -2^64 to 2^64 - 1 has none.
+/// The one spelling of the value's tree. Refused with `Msg` only if it has none, as an integer
+/// outside -2^64 to 2^64 - 1.
 ///
 /// ```rust
 /// let block = to_vec(alloc, &(-300i16, "a"))?;
@@ -35,8 +35,8 @@ pub fn to_vec<T: Serialize>(alloc: Global, value: &T) -> Result<Vec<u8>, EncodeE
 }
 
 /// Writes the one spelling of the value's tree to the device. Refused with `Msg` as `to_vec`. After
-/// a refusal the device holds what it held before, and behind it some bytes: of a value with a
-/// spelling a beginning of that.
+/// a refusal the device holds what it held before, and then some bytes: a beginning of the
+/// spelling, if the value has one.
 ///
 /// ```rust
 /// let mut device = Vec::new(alloc);

@@ -46,7 +46,10 @@ fn import_from<R: Read + Drop, W: Write>(
 fn run_import<W: Write>(rt: &HostRuntime, path: &str, from: Option<&str>, errors: &mut W) -> u8 {
     let Some(from) = from else {
         return match open(rt, path, errors) {
-            Ok(mut store) => import_from(rt, &mut store, rt.reader(), errors),
+            Ok(mut store) => {
+                let status = import_from(rt, &mut store, rt.reader(), errors);
+                close(store, status)
+            }
             Err(status) => status,
         };
     };
@@ -55,7 +58,10 @@ fn run_import<W: Write>(rt: &HostRuntime, path: &str, from: Option<&str>, errors
         return give_up(errors, NOT_READ, 2);
     };
     match open(rt, path, errors) {
-        Ok(mut store) => import_from(rt, &mut store, source, errors),
+        Ok(mut store) => {
+            let status = import_from(rt, &mut store, source, errors);
+            close(store, status)
+        }
         Err(status) => status,
     }
 }
@@ -89,7 +95,10 @@ fn run_put<W: Write>(rt: &HostRuntime, path: &str, codec: u64, errors: &mut W) -
         return tell_refusal(&refusal, errors);
     }
     match open(rt, path, errors) {
-        Ok(mut store) => put_into(rt, &mut store, codec, &block, errors),
+        Ok(mut store) => {
+            let status = put_into(rt, &mut store, codec, &block, errors);
+            close(store, status)
+        }
         Err(status) => status,
     }
 }
@@ -243,6 +252,7 @@ fn run_list<W: Write>(rt: &HostRuntime, store: &mut Store, errors: &mut W) -> u8
 }
 
 /// Opens the store, or makes it. The status, where it can't be.
+#[tactic(auto, using(dagcbor_store::proofs::Trusting::nothing_left))]
 fn open<W: Write>(rt: &HostRuntime, path: &str, errors: &mut W) -> Result<Store, u8> {
     match BlockStore::open(rt, path, Wary) {
         Ok(store) => Ok(store),
@@ -258,10 +268,35 @@ fn open_old<W: Write>(rt: &HostRuntime, path: &str, errors: &mut W) -> Result<St
     open(rt, path, errors)
 }
 
+/// The same, for `check`: each page is looked through.
+fn open_whole<W: Write>(rt: &HostRuntime, path: &str, errors: &mut W) -> Result<Store, u8> {
+    if matches!(fs::exists(rt, path), Ok(false)) {
+        return Err(give_up(errors, NO_STORE, 1));
+    }
+    match BlockStore::open_whole(rt, path, Wary) {
+        Ok(store) => Ok(store),
+        Err(refusal) => Err(tell_refusal(&refusal, errors)),
+    }
+}
+
+/// Moves the log into the file, so that no later call reads it. Where that fails, the log stays, and
+/// has all that was said to be stored.
+fn close(store: Store, status: u8) -> u8 {
+    let _ = store.into_file();
+    status
+}
+
 /// Does what is to be done with a file that is there.
 fn run<W: Write>(rt: &HostRuntime, path: &str, command: Command, errors: &mut W) -> u8 {
-    match open_old(rt, path, errors) {
-        Ok(mut store) => run_over(rt, &mut store, command, errors),
+    let opened = match command {
+        Command::Check => open_whole(rt, path, errors),
+        _ => open_old(rt, path, errors),
+    };
+    match opened {
+        Ok(mut store) => {
+            let status = run_over(rt, &mut store, command, errors);
+            close(store, status)
+        }
         Err(status) => status,
     }
 }

@@ -1,6 +1,7 @@
 pub mod Sending
 pub mod Telling
 pub mod Missing
+pub mod Leaving
 pub mod Importing
 pub mod Removing
 pub mod Exporting

@@ -1,5 +1,5 @@
 -- Links in a store that lead to nothing.
-use Rattle.std.proofs.Common.{◌≡◌, ◌⊎◌, inl, inr, ℕ, List, [], ◌∷◌, ◌++◌, Bool, true, false, refl, sym, subst, ◌↔◌, Option, None, Some, BTreeSet, Vec, Global, Result, Ok, Err, IfOk, OnOk}
+use Rattle.std.proofs.Common.{◌≡◌, ◌≢◌, ◌∙◌, ◌⊎◌, inl, inr, ℕ, List, [], ◌∷◌, ◌++◌, Bool, true, false, refl, sym, subst, ◌↔◌, Option, None, Some, BTreeSet, Vec, Global, Result, Ok, Err, IfOk, OnOk, arith}
 use Rattle.std.specs.List.Sorted.{IsStrictlySortedBy}
 use Rattle.sqlite_trees.specs.Tree.{Trees}
 use Rattle.sqlite_trees.specs.View.{View, IsClean}
@@ -8,67 +8,52 @@ use Rattle.dagcbor_heads.specs.declared.error.DecodeError.TheVariants as unread
 use Rattle.std.specs.declared.convert.Infallible.{Infallible}
 use Rattle.ipld_tree.specs.Cid.{CidParts, AreCidParts, cid_bytes, cid_cmp}
 use Rattle.ipld_tree.proofs.Cids.{cid_unique}
-use Rattle.ipld_tree.specs.Tree.{Tree, links_of}
+use Rattle.ipld_tree.specs.Tree.{links_of}
 use Rattle.dagcbor_items.specs.Walks.{forms}
-use Rattle.dagcbor_items.specs.Slices.{IsBlock, SliceRefused}
-use Rattle.dagcbor_items.specs.TreeKinds.{kind_of}
-use Rattle.dagcbor_items.specs.declared.kind.Kind.{Kind}
+use Rattle.dagcbor_items.specs.Slices.{SliceRefused}
 use Rattle.ipld_links.specs.Sets.{Among}
-use Rattle.ipld_links.specs.Blocks.{HasBlock}
-use Rattle.ipld_links.specs.Sound.{IsSound}
-use Rattle.ipld_links.specs.Verdicts.{IsDagCbor, IsVerdict}
+use Rattle.dag_pb.specs.Node.{node_links}
+use Rattle.ipld_links.specs.Blocks.{IsBlockOf}
+use Rattle.ipld_links.proofs.Linking.{linked_read, item_of, node_of}
+use Rattle.ipld_links.specs.Verdicts.{IsVerdictOn}
 use Rattle.ipld_links.specs.declared.verdict.Verdict.{Verdict}
 use Rattle.ipld_links.specs.declared.verdict.Verdict.TheVariants as verdicts
-use Rattle.block_lines.specs.Lines.{verdict_line}
 use Rattle.ipld_links.specs.Within.{IsReached}
 use Rattle.ipld_links.proofs.Sounding.{no_block}
 use Rattle.ipld_links.proofs.Within.{reached_cid, not_inline}
 use Rattle.ipld_links.proofs.Members.{among_push, push_among, among_map, map_among}
 use Rattle.dagcbor_store.specs.Rows.{name_tree, IsListed, IsStored}
 use Rattle.dagcbor_store.specs.Stored.{IsNamedBy, IsBehind, IsNext, IsSame, HoldsOnly, IsDamaged, ListsName}
-use Rattle.dagcbor_store.specs.Lost.{NamesNoneListed, AddsLost, HoldsNoneSound, IsReachedIn}
-use Rattle.dagcbor_store.proofs.Walking.{holds_same}
-use Rattle.dagstore_lines.specs.Lines.{damaged_line}
+use Rattle.dagcbor_store.specs.Lost.{NamesNoneListed, AddsLost, IsReachedIn}
+use Rattle.dagcbor_store.proofs.Walking.{holds_same, damaged_same}
 use Rattle.dagstore_lines.specs.Names.{AreAll}
-use Rattle.dagstore_lines.specs.Checks.{IsCheckedLine, IsSoundlyLinked, ListsSoundlyMissing, LinksTo, AddsUnlistedLinks, IsMissing}
+use Rattle.dagstore_lines.specs.Checks.{is_linked, IsCheckedLine, IsSoundlyLinked, ListsSoundlyMissing, LinksTo, AddsUnlistedLinks, IsMissing}
 use Rattle.dagstore_lines.proofs.Telling.{StaysSaid}
 
 -- ---- one name
 
-none_sound_same : (old mid : View) (c : CidParts) → IsSame old mid → HoldsNoneSound mid c → HoldsNoneSound old c
-none_sound_same old mid c same h = subst (λ (t : Trees). IsListed (t name_tree) (cid_bytes c) × ((b : List ℕ) → IsStored t (cid_bytes c) b → IsSound (c, b) → ⊥)) same.trees h
-
 pub checked_stays : StaysSaid IsCheckedLine
-checked_stays old mid now new later same c true t h = (h.0, h.1, h.2, h.3, λ clean. holds_same old mid c h.0 (same clean) (h.4 (later clean)), h.5)
-checked_stays old mid now new later same c false t h = (λ clean. none_sound_same old mid c (same clean) (h.0 (later clean)), h.1)
+checked_stays old mid now new later same c well t (inl h) = inl (h.0, h.1, h.2, h.3, (λ clean. holds_same old mid c h.0 (same clean) (h.4 (later clean))), h.5, h.6)
+checked_stays old mid now new later same c well t (inr h) = inr ((λ clean. damaged_same old mid c (same clean) (h.0 (later clean))), h.1, h.2)
 
-pub adds_block : (v : View) (c : CidParts) (b : List ℕ) (old new : BTreeSet CidParts) → IsDagCbor c → HoldsOnly v c b → IsNamedBy c b → AddsLost v b old new → AddsUnlistedLinks v c old new
-adds_block v c b old new dag only named a q = (
-  λ m. elim ((a q).0 m) [ inl o ↦ inl o | inr u ↦ inr ((dag, (b, only.0, named, u.0)), u.1) ],
-  λ k. elim k [ inl o ↦ (a q).1 (inl o) | inr u ↦ (a q).1 (inr (subst (λ d. IsReachedIn d q) (only.1 u.0.1.0 u.0.1.1) u.0.1.3, u.1)) ],
+pub adds_block : (v : View) (c : CidParts) (b : List ℕ) (old new : BTreeSet CidParts) → HoldsOnly v c b → IsNamedBy c b → AddsLost v c.codec b old new → AddsUnlistedLinks v c old new
+adds_block v c b old new only named a q = (
+  λ m. elim ((a q).0 m) [ inl o ↦ inl o | inr u ↦ inr ((b, only.0, named, u.0), u.1) ],
+  λ k. elim k [ inl o ↦ (a q).1 (inl o) | inr u ↦ (a q).1 (inr (subst (λ d. IsReachedIn c.codec d q) (only.1 u.0.0 u.0.1) u.0.3, u.1)) ],
 )
 
 adds_none : (v : View) (c : CidParts) (s : BTreeSet CidParts) → ((q : CidParts) → LinksTo v c q → ⊥) → AddsUnlistedLinks v c s s
 adds_none v c s none q = (λ m. inl m, λ k. elim k [ inl o ↦ o | inr u ↦ absurd (none q u.0) ])
 
-pub adds_unread : (v : View) (c : CidParts) (s : BTreeSet CidParts) → (IsDagCbor c → ⊥) → AddsUnlistedLinks v c s s
-adds_unread v c s other = adds_none v c s (λ q l. other l.0)
-
 pub adds_damaged : (v : View) (c : CidParts) (s : BTreeSet CidParts) → IsDamaged v c → AddsUnlistedLinks v c s s
-adds_damaged v c s damaged = adds_none v c s (λ q l. damaged.1 l.1.0 l.1.1 l.1.2)
+adds_damaged v c s damaged = adds_none v c s (λ q l. damaged.1 l.0 l.1 l.2)
 
-pub adds_refused : (v : View) (c : CidParts) (b : List ℕ) (e : DecodeError Infallible) (s : BTreeSet CidParts) → HoldsOnly v c b → SliceRefused e b → (e ≡ unread.OutOfMemory → ⊥) → AddsUnlistedLinks v c s s
-adds_refused v c b e s only refused not = adds_none v c s (λ q l. let k = subst (λ d. IsReachedIn d q) (only.1 l.1.0 l.1.1) l.1.3 in no_block e b refused not k.0 k.1)
-
-pub none_sound_refused : (v : View) (c : CidParts) (b : List ℕ) (e : DecodeError Infallible) → ListsName v c → HoldsOnly v c b → IsDagCbor c → SliceRefused e b → (e ≡ unread.OutOfMemory → ⊥) → HoldsNoneSound v c
-none_sound_refused v c b e listed only dag refused not = (listed, λ d s sound. let k = subst HasBlock (only.1 d s) (sound.read dag) in no_block e b refused not k.0 k.1)
-
-pub none_sound_damaged : (v : View) (c : CidParts) → IsDamaged v c → HoldsNoneSound v c
-none_sound_damaged v c h = (h.0, λ b s sound. h.1 b s (sound.by_sha256, sound.digest))
+pub adds_refused : (v : View) (c : CidParts) (b : List ℕ) (s : BTreeSet CidParts) → HoldsOnly v c b → (IsBlockOf c.codec b → ⊥) → AddsUnlistedLinks v c s s
+adds_refused v c b s only not = adds_none v c s (λ q l. let k = subst (λ d. IsReachedIn c.codec d q) (only.1 l.0 l.1) l.3 in not (k.0, k.1))
 
 pub adds_same : (old mid : View) (c : CidParts) (s t : BTreeSet CidParts) → IsSame old mid → AddsUnlistedLinks mid c s t → AddsUnlistedLinks old c s t
 adds_same old mid c s t same h = subst (λ (u : Trees). (q : CidParts) → Among q t.keys
-    ↔ (Among q s.keys ⊎ ((IsDagCbor c × ((b : List ℕ) × IsStored u (cid_bytes c) b × IsNamedBy c b × IsReachedIn b q)) × (IsListed (u name_tree) (cid_bytes q) → ⊥)))) same.trees h
+    ↔ (Among q s.keys ⊎ (((b : List ℕ) × IsStored u (cid_bytes c) b × IsNamedBy c b × IsReachedIn c.codec b q) × (IsListed (u name_tree) (cid_bytes q) → ⊥)))) same.trees h
 
 -- ---- the line of one name
 
@@ -78,28 +63,38 @@ lists_there old mid c same h = subst (λ (t : Trees). IsListed (t name_tree) (ci
 holds_there : (old mid : View) (c : CidParts) (b : List ℕ) → IsSame old mid → HoldsOnly old c b → HoldsOnly mid c b
 holds_there old mid c b same h = subst (λ (t : Trees). IsStored t (cid_bytes c) b × ((d : List ℕ) → IsStored t (cid_bytes c) d → d ≡ b)) (sym same.trees) h
 
-checked_line : (old new : View) (c : CidParts) (b text : List ℕ) (verdict : Verdict) (well : Bool) → well ≡ true → text ≡ verdict_line ((c, b), verdict) → IsSound (c, b) → IsVerdict (c, b) verdict → (IsClean new → HoldsOnly old c b) → IsCheckedLine old new c well text
-checked_line old new c b text verdict well is said sound told holds = subst (λ w. IsCheckedLine old new c w text) (sym is) (b, verdict, sound, told, holds, said)
+no_item_of : (codec : ℕ) (b : List ℕ) (e : DecodeError Infallible) → codec ≡ 0x71 → SliceRefused e b → (e ≡ unread.OutOfMemory → ⊥) → IsBlockOf codec b → ⊥
+no_item_of codec b e is refused not h = let k = item_of codec b h is in no_block e b refused not k.0 k.1
 
-pub unread_checked : (old new : View) (c : CidParts) (b text : List ℕ) (well : Bool) → well ≡ true → text ≡ verdict_line ((c, b), verdicts.NotRead) → IsNamedBy c b → (IsDagCbor c → ⊥) → (IsClean new → HoldsOnly old c b) → IsCheckedLine old new c well text
-unread_checked old new c b text well is said named other holds =
-    checked_line old new c b text verdicts.NotRead well is said (record { by_sha256 = named.0; digest = named.1; read = λ dag. absurd (other dag) }) (inl named, other) holds
+no_raw : (codec : ℕ) (b : List ℕ) → codec ≡ 0x55 → IsBlockOf codec b → ⊥
+no_raw codec b is (links, inl h) = absurd (omega (arith, is, h.0))
+no_raw codec b is (links, inr h) = absurd (omega (arith, is, h.0))
 
-pub block_checked : (old new : View) (c : CidParts) (b text : List ℕ) (kind : Kind) (well : Bool) → well ≡ true → text ≡ verdict_line ((c, b), verdicts.Block kind) → IsNamedBy c b → IsDagCbor c → (t : Tree) × IsBlock b t × (kind ≡ kind_of t) → (IsClean new → HoldsOnly old c b) → IsCheckedLine old new c well text
-block_checked old new c b text kind well is said named dag k holds =
-    checked_line old new c b text (verdicts.Block kind) well is said (record { by_sha256 = named.0; digest = named.1; read = λ d. (k.0, k.1) }) (inl named, dag, k) holds
+pub linked_by : (codec : ℕ) (b : List ℕ) (v : Verdict) → IsVerdictOn codec b v → is_linked v ≡ true → IsBlockOf codec b
+linked_by codec b (verdicts.Block kind) h t = (links_of h.1.0, inl (h.0, (h.1.0, h.1.1, refl)))
+linked_by codec b verdicts.Node h t = (node_links h.1.0, inr (h.0, (h.1.0, h.1.1, refl)))
+linked_by codec b (verdicts.Refused e) h t = absurd (cc t)
+linked_by codec b (verdicts.NoNode e) h t = absurd (cc t)
+linked_by codec b verdicts.NotRead h t = absurd (cc t)
+linked_by codec b verdicts.LinksNotRead h t = absurd (cc t)
+linked_by codec b verdicts.OtherBytes h t = absurd h
+linked_by codec b verdicts.Unverified h t = absurd h
 
-pub damaged_checked : (old new : View) (c : CidParts) (text : List ℕ) (well : Bool) → well ≡ false → text ≡ damaged_line c → (IsClean new → HoldsNoneSound old c) → IsCheckedLine old new c well text
-damaged_checked old new c text well is said none = subst (λ w. IsCheckedLine old new c w text) (sym is) (none, said)
+pub unlinked_by : (codec : ℕ) (b : List ℕ) (v : Verdict) → IsVerdictOn codec b v → is_linked v ≡ false → IsBlockOf codec b → ⊥
+unlinked_by codec b (verdicts.Block kind) h f k = absurd (cc f)
+unlinked_by codec b verdicts.Node h f k = absurd (cc f)
+unlinked_by codec b (verdicts.Refused e) h f k = no_item_of codec b e h.0 h.1 h.2 k
+unlinked_by codec b (verdicts.NoNode e) h f k = h.1.0 (node_of codec b k h.0)
+unlinked_by codec b verdicts.NotRead h f k = no_raw codec b h k
+unlinked_by codec b verdicts.LinksNotRead h f k = h.1 (linked_read codec b k.0 k.1)
+unlinked_by codec b verdicts.OtherBytes h f k = absurd h
+unlinked_by codec b verdicts.Unverified h f k = absurd h
 
 pub judged_checked : {E : Type 0} (old mid new : View) (c : CidParts) (b d : List ℕ) (r : Result (Vec ℕ Global × Bool) E) → d ≡ b → IsNamedBy c b → (IsClean new → IsClean mid) → (IsClean mid → IsSame old mid) → (IsClean mid → HoldsOnly old c b)
-    → IfOk r (λ p. IsNamedBy c d → (IsClean new → HoldsOnly mid c d × ListsName mid c) → IsCheckedLine mid new c p.1 p.0.items) → IfOk r (λ p. (IsClean new → ListsName old c) → IsCheckedLine old new c p.1 p.0.items)
+    → IfOk r (λ p. IsNamedBy c d → (IsClean new → HoldsOnly mid c d) → IsCheckedLine mid new c p.1 p.0.items) → IfOk r (λ p. (IsClean new → ListsName old c) → IsCheckedLine old new c p.1 p.0.items)
 judged_checked old mid new c b d (Err e) is named was same holds h = tt
 judged_checked old mid new c b d (Ok p) is named was same holds h = λ listed.
-    checked_stays old mid new new (λ clean. clean) (λ clean. same (was clean)) c p.1 p.0.items (h (subst (IsNamedBy c) (sym is) named) (λ clean. (
-      subst (HoldsOnly mid c) (sym is) (holds_there old mid c b (same (was clean)) (holds (was clean))),
-      lists_there old mid c (same (was clean)) (listed clean),
-    )))
+    checked_stays old mid new new (λ clean. clean) (λ clean. same (was clean)) c p.1 p.0.items (h (subst (IsNamedBy c) (sym is) named) (λ clean. subst (HoldsOnly mid c) (sym is) (holds_there old mid c b (same (was clean)) (holds (was clean)))))
 
 pub judged_missing : {X E : Type 0} (old mid new : View) (c : CidParts) (b d : List ℕ) (s t : BTreeSet CidParts) (r : Result X E) → d ≡ b → IsNamedBy c b → (IsClean new → IsClean mid) → (IsClean mid → IsSame old mid) → (IsClean mid → HoldsOnly old c b)
     → OnOk r (IsNamedBy c d → IsClean new → HoldsOnly mid c d → AddsUnlistedLinks mid c s t) → OnOk r (IsClean new → ListsName old c → AddsUnlistedLinks old c s t)
@@ -149,7 +144,7 @@ pub missing_all : (v : View) (names : List CidParts) (s : BTreeSet CidParts) →
 missing_all v names s all h q = (
   λ m. let k = (h q).0 m in ((k.0.0, all_valid v None names k.0.0 all k.0.1, k.0.2), k.1),
   λ k.
-      let stored = k.0.2.1.1 in
+      let stored = k.0.2.1 in
       let at = all_listed v None names (cid_bytes k.0.0) all (stored.id, stored.listed) tt in
       let is = cid_unique at.0 k.0.0 (all_valid v None names at.0 all at.1) k.0.1 at.2 in
       (h q).1 ((k.0.0, subst (λ x. Among x names) is at.1, k.0.2), k.1),
@@ -162,15 +157,15 @@ lists_missing v s sorted h = (sorted, λ form. (there form, back form))
     there form m =
         let k = map_among cid_bytes form s.keys m in
         let w = (h k.0).0 k.1 in
-        let l = w.0.2.1 in
+        let l = w.0.2 in
         let t = l.3 in
         subst (λ f. IsSoundlyLinked f v × NamesNoneListed f v) (sym k.2)
-        ((w.0.0, l.0, t.0, w.0.1, w.0.2.0, l.1, l.2, t.1, t.2.2), (not_inline (cid_bytes k.0) k.0 t.2.0 t.2.1 refl, w.1))
+        ((w.0.0, l.0, t.0, w.0.1, l.1, l.2, t.1, t.2.2), (not_inline (cid_bytes k.0) k.0 t.2.0 t.2.1 refl, w.1))
 
     back : (form : List ℕ) → IsSoundlyLinked form v × NamesNoneListed form v → Among form (forms s.keys)
     back form m =
         let l = m.0 in
-        let c = reached_cid l.2 form l.7.0.well_formed l.8 in
+        let c = reached_cid l.0.codec l.1 l.2 form l.6 l.7 in
         let is = subst (λ f. NamesNoneListed f v) c.2 m.1 in
-        let found = (h c.0).1 ((l.0, l.3, (l.4, (l.1, l.5, l.6, (l.2, l.7, (c.1, λ i. is.0 (c.0, c.1, refl, i), subst (λ f. IsReached f (links_of l.2)) c.2 l.8))))), is.1) in
+        let found = (h c.0).1 ((l.0, l.3, (l.1, l.4, l.5, (l.2, l.6, (c.1, λ i. is.0 (c.0, c.1, refl, i), subst (λ f. IsReached f l.2) c.2 l.7)))), is.1) in
         subst (λ f. Among f (forms s.keys)) (sym c.2) (among_map cid_bytes c.0 s.keys found)

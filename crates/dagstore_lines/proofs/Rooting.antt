@@ -1,7 +1,5 @@
 -- The roots that a store keeps: those that are meant, and how they change.
-use Rattle.std.proofs.Common.{◌≡◌, inl, inr, ℕ, ◌+◌, ◌≤◌, ◌<◌, List, [], ◌∷◌, ◌++◌, length, take, get_or, take-suc, add-one, Bool, true, false, refl, sym, ap, ◌∙◌, subst, arith, IsTrue, ◌↔◌, Option, Result, Ok, Err}
-use Rattle.std.proofs.Math.Seq.{take-length}
-use mir.Val.{bool_byte}
+use Rattle.std.proofs.Common.{◌≡◌, ◌⊎◌, inl, inr, ℕ, ◌+◌, ◌<◌, List, [], ◌∷◌, ◌++◌, length, take, get_or, codes, Bool, refl, sym, ◌∙◌, subst, arith, IsTrue, ◌↔◌, Option, Result, Ok, Err}
 use Rattle.sqlite_trees.specs.Tree.{Trees}
 use Rattle.sqlite_trees.specs.View.{View, IsClean}
 use Rattle.sqlite_trees.specs.declared.store.Store.{Ghosts}
@@ -10,41 +8,44 @@ use Rattle.sqlite_trees.specs.declared.error.StoreError.TheVariants as stored
 use Rattle.ipld_tree.specs.Cid.{CidParts, cid_bytes}
 use Rattle.dagcbor_car.specs.Car.{Section}
 use Rattle.ipld_links.specs.Sets.{Among}
-use Rattle.ipld_links.specs.Sound.{IsSound}
+use Rattle.ipld_links.specs.Reaching.{NoneTwice}
+use Rattle.ipld_links.proofs.Members.{among_push, push_among}
 use Rattle.dagcbor_store.specs.Rows.{name_tree, IsStored, IsListed}
 use Rattle.dagcbor_store.specs.RootRows.{LeavesOut}
 use Rattle.dagcbor_store.specs.Ends.{Quiet, KeepsOthers, IsOfBlocks}
 use Rattle.dagcbor_store.specs.Stored.{IsSame, IsUndone, IsCommitted, FailsByStore, TellsOfStore}
-use Rattle.dagcbor_store.specs.Roots.{AreRootsAdded, IsAnyTooLong, RootsRefused, IsRootTaken}
+use Rattle.dagcbor_resolve.specs.Resolving.{AreOnceEach}
+use Rattle.dagcbor_store.specs.Roots.{HasRoots, AreRootsAdded, IsAnyTooLong, RootsRefused, IsRootTaken}
 use Rattle.dagcbor_store.specs.Cars.{IsSectionIn, RootsNotKept}
 use Rattle.dagcbor_store.specs.Walking.{AreBlocks, AreFirstBlocks}
-use Rattle.dagcbor_store.specs.Collecting.{KeepsReachable, TakesOut, IsCollected, CollectRefused, HoldsThose, IsLedForm}
-use Rattle.dagcbor_store.specs.Lost.{HoldsNoneSound}
+use Rattle.dagcbor_store.specs.Collecting.{KeepsReachable, TakesOut, IsCollected, HoldsThose, IsLedForm}
 use Rattle.dagcbor_store.proofs.Adding.{KeepsLast, last_itself, last_same, last_then, last_undone, undone_then, fails_behind}
 use Rattle.dagcbor_store.proofs.ManyRoots.{last_rooted}
 use Rattle.dagcbor_store.proofs.Reading.{roots_not_kept}
 use Rattle.dagcbor_store.proofs.Trees.{shows_same}
+use Rattle.dagcbor_store.proofs.Marking.{have_same, known_same, collect_after}
 use Rattle.dagcbor_store.proofs.Walking.{same_then, walk_refused}
 use Rattle.dagcbor_store.specs.declared.error.StoreRefusal.{StoreRefusal}
 use Rattle.dagcbor_store.specs.declared.error.StoreRefusal.TheVariants as refusal
-use Rattle.dagstore_lines.specs.Changes.{SaysCollected, SaysTaken}
+use Rattle.dagstore_lines.specs.Changes.{SaysCollected, Changes, Commits, Notes, SaysTaken}
 use Rattle.dagstore_lines.specs.Files.{Exports}
-use Rattle.dagstore_lines.specs.Lines.{no_root_line}
-use Rattle.dagstore_lines.specs.Roots.{AreMeant, Changes, Commits, DropsNames, DropsRoots, SaysDropped}
+use Rattle.dagstore_lines.specs.Roots.{AreMeant, DropsRoots, SplitsRoots, Drops, SaysDropped}
+use Rattle.dagstore_lines.proofs.Removing.{longer, fresh, leaves_among, splits_next, committed_all}
+use Rattle.dagstore_lines.specs.declared.taken.Taken.{Taken}
 use Rattle.dagstore_lines.specs.declared.fault.Fault.{Fault}
 use Rattle.dagstore_lines.specs.declared.fault.Fault.TheVariants as fault
 
 -- ---- behind a call that changed nothing
 
 keeps_from : (old mid : View) (roots : List CidParts) (db : Trees) → IsSame old mid → KeepsReachable mid roots db → KeepsReachable old roots db
-keeps_from old mid roots db same h stored shows =
-    let k = h stored (shows_same old mid stored same shows) in (
-      subst (λ t. HoldsThose (IsLedForm stored roots) t db) same.trees k.0,
-      λ name led. subst (λ (t : Trees). (IsListed (t name_tree) (cid_bytes name) × ((b : List ℕ) → IsStored t (cid_bytes name) b → IsSound (name, b) → ⊥)) → ⊥) same.trees (k.1 name led),
-    )
-
-none_sound_from : (old mid : View) (name : CidParts) → IsSame old mid → HoldsNoneSound mid name → HoldsNoneSound old name
-none_sound_from old mid name same h = subst (λ (t : Trees). IsListed (t name_tree) (cid_bytes name) × ((b : List ℕ) → IsStored t (cid_bytes name) b → IsSound (name, b) → ⊥)) same.trees h
+keeps_from old mid roots db same h = (
+  λ name m. have_same old mid name same (h.0 name m),
+  λ stored shows.
+      let k = h.1 stored (shows_same old mid stored same shows) in (
+        subst (λ t. HoldsThose (IsLedForm stored roots) t db) same.trees k.0,
+        λ name led. known_same old mid name same (k.1 name led),
+      ),
+)
 
 collected_from : (old mid new : View) (roots : List CidParts) (count : ℕ) → IsSame old mid → IsCollected mid new roots count → IsCollected old new roots count
 collected_from old mid new roots count same h = record {
@@ -102,54 +103,30 @@ module _ {S : Type 0} (g : Ghosts S) (old mid new : S) (before_quiet : Quiet g o
       },
     )
 
-  module _ (was : IsClean (g.view new) → IsClean (g.view mid)) where
-    swept_from : (roots : List CidParts) (told : StoreRefusal) → CollectRefused g roots mid new told → CollectRefused g roots old new told
-    swept_from roots (refusal.Damaged n) k = λ clean.
-        let w = k clean in
-        let s = same (was clean) in (
-          (none_sound_from (g.view old) (g.view mid) n s w.0.0, λ stored shows. w.0.1 stored (shows_same (g.view old) (g.view mid) stored s shows)),
-          same_then (g.view old) (g.view mid) (g.view new) s w.1,
-        )
-    swept_from roots told k =
-        fails_behind g ⊥ ⊥ old mid new told before_quiet was (λ clean. let s = same clean in (s.broken, last_same (g.view old) (g.view mid) s, λ u. u)) k
-
-    pub collects_from : (roots : List CidParts) (out heard after said : Option (List ℕ)) (r : Result Bool Fault) → SaysCollected g roots mid out heard r new after said → SaysCollected g roots old out heard r new after said
-    collects_from roots out heard after said (Ok well) k = (k.0, λ clean. collected_from (g.view old) (g.view mid) (g.view new) roots k.0 (same (was clean)) (k.1 clean), k.2, k.3, k.4)
-    collects_from roots out heard after said (Err (fault.Store told)) k = (swept_from roots told k.0, k.1, k.2)
-    collects_from roots out heard after said (Err (fault.Tool e)) k = (k.0, λ clean. collected_from (g.view old) (g.view mid) (g.view new) roots k.0 (same (was clean)) (k.1 clean), k.2, k.3)
+  pub collects_from : (roots : List CidParts) (out after : Option (List ℕ)) (r : Result Bool Fault) → (IsClean (g.view new) → IsClean (g.view mid)) → SaysCollected g roots mid out r new after → SaysCollected g roots old out r new after
+  collects_from roots out after (Ok well) was k = (k.0, λ clean. collected_from (g.view old) (g.view mid) (g.view new) roots k.0 (same (was clean)) (k.1 clean), k.2, k.3)
+  collects_from roots out after (Err (fault.Store told)) was k = (collect_after g roots old mid new told before_quiet same was k.0, k.1)
+  collects_from roots out after (Err (fault.Tool e)) was k = (k.0, λ clean. collected_from (g.view old) (g.view mid) (g.view new) roots k.0 (same (was clean)) (k.1 clean), k.2)
 
 -- the roots that are meant, seen behind another call
 pub meant_later : (old mid new : View) (given roots : List CidParts) → (IsClean new → IsClean mid) → AreMeant old mid given roots → AreMeant old new given roots
 meant_later old mid new given roots was (inl k) = inl (k.0, λ clean. k.1 (was clean))
 meant_later old mid new given roots was (inr k) = inr k
 
--- ---- changes
-
-pub committed_all : (Does : Trees → Trees → Type 0) (old mid new : View) → Changes Does old mid → IsCommitted mid new → Commits Does old new
-committed_all Does old mid new h c = record {
-  trees = subst (Does old.trees) (sym c.trees) h.trees;
-  committed = c.committed ∙ sym c.trees;
-  is_open = c.is_open;
-}
-
-longer : (names : List CidParts) (i : ℕ) (c : CidParts) → i < length names → c ≡ get_or names i c → take i names ++ c ∷ [] ≡ take (i + 1) names
-longer names i c within is = ap (λ y. take i names ++ y ∷ []) is ∙ sym (take-suc names i c within) ∙ ap (λ n. take n names) (sym (add-one i))
-
-whole : (names : List CidParts) (i : ℕ) → i ≤ length names → length names ≤ i → take i names ≡ names
-whole names i below end =
-    let same : i ≡ length names = omega (arith, below, end) in
-    ap (λ n. take n names) same ∙ take-length names
-
 -- ---- adding
 
 tells_no_version : (e : StoreError) → TellsOfStore e refusal.EarlierVersion → ⊥
 tells_no_version stored.OutOfMemory t = cc t
 tells_no_version stored.Unstorable t = cc t
+tells_no_version stored.Broken (inl t) = cc t
+tells_no_version stored.Broken (inr t) = cc t
 tells_no_version e t = cc t
 
 tells_no_number : (e : StoreError) → TellsOfStore e refusal.NoNumber → ⊥
 tells_no_number stored.OutOfMemory t = cc t
 tells_no_number stored.Unstorable t = cc t
+tells_no_number stored.Broken (inl t) = cc t
+tells_no_number stored.Broken (inr t) = cc t
 tells_no_number e t = cc t
 
 module _ {S : Type 0} (g : Ghosts S) (names : List CidParts) where
@@ -183,47 +160,39 @@ module _ {S : Type 0} (g : Ghosts S) (names : List CidParts) where
 
 -- ---- taking out
 
-drops_push : (before names mid now : List CidParts) (c : CidParts) (taken : Bool) (count : ℕ) → DropsNames before names mid count → (IsTrue taken ↔ Among c mid) → LeavesOut (λ n. n ≡ c) mid now → DropsNames before (names ++ c ∷ []) now (count + bool_byte taken)
-drops_push before [] mid now c true count h is out = (
-  now,
-  subst (λ b. LeavesOut (λ n. n ≡ c) b now) h.0 out,
-  inl (subst (Among c) h.0 (is.0 refl), (0, ap (λ n. n + 1) h.1, (refl, refl))),
-)
-drops_push before [] mid now c false count h is out = (
-  now,
-  subst (λ b. LeavesOut (λ n. n ≡ c) b now) h.0 out,
-  inr ((λ m. no_truth (is.1 (subst (Among c) (sym h.0) m))), (refl, ap (λ n. n + 0) h.1)),
-)
-  where
-    no_truth : IsTrue false → ⊥
-    no_truth e = cc
-drops_push before (x ∷ names) mid now c taken count h is out = (
-  h.0,
-  h.1,
-  elim h.2 [
-    | inl k ↦ inl (k.0, (k.1.0 + bool_byte taken, counted k.1.0 k.1.1, drops_push h.0 names mid now c taken k.1.0 k.1.2 is out))
-    | inr k ↦ inr (k.0, drops_push h.0 names mid now c taken count k.1 is out)
-  ],
-)
-  where
-    counted : (fewer : ℕ) → count ≡ fewer + 1 → count + bool_byte taken ≡ fewer + bool_byte taken + 1
-    counted fewer e = omega (arith, e)
+-- what is left of what is left
+leaves_then : {X : Type 0} (P Q R : X → Type 0) → ((x : X) → R x ↔ (P x ⊎ Q x)) → (xs ys zs : List X) → LeavesOut P xs ys → LeavesOut Q ys zs → LeavesOut R xs zs
+leaves_then P Q R both [] ys zs l m = subst (λ y. LeavesOut Q y zs) l m
+leaves_then P Q R both (x ∷ xs) ys zs (inl k) m = inl ((both x).1 (inl k.0), leaves_then P Q R both xs ys zs k.1 m)
+leaves_then P Q R both (x ∷ xs) ys zs (inr k) m = elim (subst (λ y. LeavesOut Q y zs) k.1.1 m) [
+  | inl n ↦ inl ((both x).1 (inr n.0), leaves_then P Q R both xs k.1.0 zs k.1.2 n.1)
+  | inr n ↦ inr (λ r. elim ((both x).0 r) [ inl p ↦ k.0 p | inr q ↦ n.0 q ], (n.1.0, n.1.1, leaves_then P Q R both xs k.1.0 n.1.0 k.1.2 n.1.2))
+]
 
-pub none_dropped : (v : View) → Changes (DropsRoots [] 0) v v
+leaves_as : {X : Type 0} (P Q : X → Type 0) → ((x : X) → P x ↔ Q x) → (xs ys : List X) → LeavesOut P xs ys → LeavesOut Q xs ys
+leaves_as P Q alike [] ys l = l
+leaves_as P Q alike (x ∷ xs) ys (inl k) = inl ((alike x).0 k.0, leaves_as P Q alike xs ys k.1)
+leaves_as P Q alike (x ∷ xs) ys (inr k) = inr (λ q. k.0 ((alike x).1 q), (k.1.0, k.1.1, leaves_as P Q alike xs k.1.0 k.1.2))
+
+leaves_nothing : {X : Type 0} (xs : List X) → LeavesOut (λ x. ⊥) xs xs
+leaves_nothing [] = refl
+leaves_nothing (x ∷ xs) = inr (λ out. out, (xs, refl, leaves_nothing xs))
+
+pub none_dropped : (v : View) → Changes (DropsRoots []) v v
 none_dropped v = record {
-  trees = record { roots = λ before are. (before, are, (refl, refl)); beside = λ t other. refl };
+  trees = record { roots = λ before are. (before, are, leaves_nothing before); beside = λ t other. refl };
   committed = refl;
   is_open = refl;
   broken = refl;
 }
 
-drops_more : (old mid new : View) (names : List CidParts) (count : ℕ) (c : CidParts) (taken : Bool) → Changes (DropsRoots names count) old mid → IsRootTaken mid new c taken → Changes (DropsRoots (names ++ c ∷ []) (count + bool_byte taken)) old new
-drops_more old mid new names count c taken h t = record {
+drops_more : (old mid new : View) (names : List CidParts) (c : CidParts) (was : Bool) → Changes (DropsRoots names) old mid → IsRootTaken mid new c was → Changes (DropsRoots (names ++ c ∷ [])) old new
+drops_more old mid new names c was h t = record {
   trees = record {
     roots = λ before are.
         let k = h.trees.roots before are in
         let n = t.roots k.0 k.1 in
-        (n.1.0, n.1.1, drops_push before names k.0 n.1.0 c taken count k.2 n.0 n.1.2);
+        (n.1.0, n.1.1, leaves_then (λ x. Among x names) (λ x. x ≡ c) (λ x. Among x (names ++ c ∷ [])) (λ x. (among_push x names c, push_among x names c)) before k.0 n.1.0 k.2 n.1.2);
     beside = λ x other. t.beside x other ∙ h.trees.beside x other;
   };
   committed = t.committed ∙ h.committed;
@@ -234,15 +203,34 @@ drops_more old mid new names count c taken h t = record {
     opened : new.is_open ≡ mid.is_open
     opened = t.is_open ∙ sym t.was_open
 
-pub drops_next : (old mid new : View) (names : List CidParts) (i count : ℕ) (c : CidParts) (taken : Bool) → i < length names → c ≡ get_or names i c → Changes (DropsRoots (take i names) count) old mid → IsRootTaken mid new c taken
-    → Changes (DropsRoots (take (i + 1) names) (count + bool_byte taken)) old new
-drops_next old mid new names i count c taken within is h t = subst (λ ns. Changes (DropsRoots ns (count + bool_byte taken)) old new) (longer names i c within is) (drops_more old mid new (take i names) count c taken h t)
+pub drops_next : (old mid new : View) (names : List CidParts) (i : ℕ) (c : CidParts) (was : Bool) → i < length names → c ≡ get_or names i c → Changes (DropsRoots (take i names)) old mid → IsRootTaken mid new c was → Changes (DropsRoots (take (i + 1) names)) old new
+drops_next old mid new names i c was within is h t = subst (λ ns. Changes (DropsRoots ns) old new) (longer names i c within is) (drops_more old mid new (take i names) c was h t)
 
-pub drops_all : (old new : View) (names : List CidParts) (i count : ℕ) → i ≤ length names → length names ≤ i → Changes (DropsRoots (take i names) count) old new → Changes (DropsRoots names count) old new
-drops_all old new names i count below end h = subst (λ ns. Changes (DropsRoots ns count) old new) (whole names i below end) h
+-- whether the name was a root before all of them
+root_before : (old mid new : View) (names : List CidParts) (c : CidParts) (was : Bool) (roots : List CidParts) → Changes (DropsRoots names) old mid → (Among c names → ⊥) → IsRootTaken mid new c was → HasRoots old roots → IsTrue was ↔ Among c roots
+root_before old mid new names c was roots h new_name t has =
+    let k = h.trees.roots roots has in
+    let is = (t.roots k.0 k.1).0 in
+    let left = leaves_among (λ x. Among x names) roots k.0 k.2 c in
+    (λ yes. (left.0 (is.0 yes)).0, λ m. is.1 (left.1 (m, new_name)))
 
-pub dropped_said : {S : Type 0} (g : Ghosts S) (names : List CidParts) (old new : S) (count given : ℕ) (before heard after told : Option (List ℕ)) (r : Result Bool Fault) → given ≡ length names → (IsClean (g.view new) → Commits (DropsRoots names count) (g.view old) (g.view new)) → SaysTaken no_root_line count given before heard r after told
+pub roots_split : (old mid new : View) (names : List CidParts) (i : ℕ) (c : CidParts) (was : Bool) (before after : Taken) → i < length names → c ≡ get_or names i c → NoneTwice names → Changes (DropsRoots (take i names)) old mid → IsRootTaken mid new c was → Notes c was before after
+    → SplitsRoots old (take i names) before → SplitsRoots old (take (i + 1) names) after
+roots_split old mid new names i c was before after within is once h t n s roots has =
+    splits_next (λ x. Among x roots) names i c was before after within is (root_before old mid new (take i names) c was roots h (fresh names i c once within is) t has) n (s roots has)
+
+-- the names that are given are those where each counts once
+pub drops_once : (names once : List CidParts) (old new : Trees) → AreOnceEach names once → DropsRoots once old new → DropsRoots names old new
+drops_once names once old new each h = record {
+  roots = λ before are. let k = h.roots before are in (k.0, k.1, leaves_as (λ x. Among x once) (λ x. Among x names) each.lists.all before k.0 k.2);
+  beside = h.beside;
+}
+
+pub dropped : (old mid new : View) (names once : List CidParts) → AreOnceEach names once → Changes (DropsRoots once) old mid → IsCommitted mid new → Commits (DropsRoots names) old new
+dropped old mid new names once each h c = committed_all (DropsRoots names) old mid new (record { trees = drops_once names once old.trees mid.trees each h.trees; committed = h.committed; is_open = h.is_open; broken = h.broken }) c
+
+pub dropped_said : {S : Type 0} (g : Ghosts S) (names : List CidParts) (old new : S) (taken : Taken) (before heard after told : Option (List ℕ)) (r : Result Bool Fault) → Drops g names old new taken → SaysTaken (codes " no root") taken before heard r after told
     → SaysDropped g names old before heard r new after told
-dropped_said g names old new count given before heard after told (Ok well) is h k = (count, h, subst (λ n. SaysTaken no_root_line count n before heard (Ok well) after told) is k)
-dropped_said g names old new count given before heard after told (Err (fault.Store why)) is h k = absurd k
-dropped_said g names old new count given before heard after told (Err (fault.Tool e)) is h k = (count, h, subst (λ n. SaysTaken no_root_line count n before heard (Err (fault.Tool e)) after told) is k)
+dropped_said g names old new taken before heard after told (Ok well) h k = (taken, h, k)
+dropped_said g names old new taken before heard after told (Err (fault.Store why)) h k = absurd k
+dropped_said g names old new taken before heard after told (Err (fault.Tool e)) h k = (taken, h, k)

@@ -46,6 +46,12 @@ module _ {A : Type 0} where
   pub name_told : (before after : Option (List ℕ)) (name : CidParts) (a : List ℕ) (r : Result A ToolError) → a ≡ cid_text name → WritesFront before after r ((codes "dagstore: of " ++ a) ++ 10 ∷ []) → WritesFront before after r (dagstore_line (codes "of " ++ cid_text name))
   name_told before after name a r is h = subst (λ t. WritesFront before after r ((codes "dagstore: of " ++ t) ++ 10 ∷ [])) is h
 
+  pub named_told : (before after : Option (List ℕ)) (name : CidParts) (first second t a b : List ℕ) (r : Result A ToolError) → t ≡ cid_text name → a ≡ first → b ≡ second → WritesFront before after r ((codes "dagstore: " ++ t) ++ ((a ++ b) ++ 10 ∷ [])) → WritesFront before after r (dagstore_line (cid_text name ++ (first ++ second)))
+  named_told before after name first second t a b r is one two h = subst (λ z. WritesFront before after r (codes "dagstore: " ++ z)) whole h
+    where
+      whole : t ++ ((a ++ b) ++ 10 ∷ []) ≡ (cid_text name ++ (first ++ second)) ++ 10 ∷ []
+      whole = ap (λ z. z ++ ((a ++ b) ++ 10 ∷ [])) is ∙ ap (λ z. cid_text name ++ ((z ++ b) ++ 10 ∷ [])) one ∙ ap (λ z. cid_text name ++ ((first ++ z) ++ 10 ∷ [])) two ∙ sym (append_assoc (cid_text name) (first ++ second) (10 ∷ []))
+
 -- nothing is a front of a text
 pub nothing_told : (heard : Option (List ℕ)) (text : List ℕ) → AppendsFront heard heard text
 nothing_told heard text = ([], text, refl, Appends-nil heard)

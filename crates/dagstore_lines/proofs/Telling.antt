@@ -152,3 +152,8 @@ module _ {S : Type 0} (g : Ghosts S) where
   pub fails_from : (old mid new : S) (e : Fault) → Quiet g old mid → StaysSame g old mid → Quiet g mid new → StoreFails g mid new e → StoreFails g old new e
   fails_from old mid new (fault.Store told) before same quiet f = fails_same g old mid new told before same quiet f
   fails_from old mid new (fault.Tool e) before same quiet f = λ clean. same_then (g.view old) (g.view mid) (g.view new) (same (omega (arith, quiet.clean))) (f clean)
+
+-- where nothing more went out, what went out broke off
+pub nothing_out : (IsLine : List ℕ → Type 0) (before : Option (List ℕ)) (e : Fault) → Breaks IsLine before before e
+nothing_out IsLine before (fault.Store told) = Appends-nil before
+nothing_out IsLine before (fault.Tool e) = inl (Appends-nil before)

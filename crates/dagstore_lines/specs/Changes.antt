@@ -1,5 +1,5 @@
 -- What is said of blocks that are kept and taken out.
-use Rattle.std.specs.Prelude.{◌≡◌, ◌≢◌, ◌↔◌, ◌⊎◌, ℕ, List, [], ◌++◌, length, codes, Bool, true, IsTrue, if◌then◌else◌, Option, Result, Ok, Err}
+use Rattle.std.specs.Prelude.{◌≡◌, ◌≢◌, ◌↔◌, ◌⊎◌, ℕ, ◌+◌, List, [], ◌∷◌, ◌++◌, length, codes, flat_map, Bool, true, false, IsTrue, Option, Result, Ok, Err}
 use Rattle.std.specs.Io.KnownBytes.{Appends}
 use Rattle.sha2.specs.Sha256.{sha256}
 use Rattle.sqlite_trees.specs.Tree.{Trees}
@@ -15,12 +15,14 @@ use Rattle.ipld_links.specs.Sound.{IsSound, IsUnsound}
 use Rattle.dagcbor_cli.specs.declared.fault.ToolError.{ToolError}
 use Rattle.dagcbor_cli.specs.declared.fault.ToolError.TheVariants.{Input, Output, OutOfMemory}
 use Rattle.block_lines.specs.Lines.{line}
-use Rattle.dagcbor_store.specs.Stored.{IsPut, PutRefused, FailsByStore}
-use Rattle.dagcbor_store.specs.Collecting.{HoldsThose, TakesOut, IsCollected, CollectRefused}
+use Rattle.dagcbor_resolve.specs.Resolving.{AreOnceEach}
+use Rattle.dagcbor_store.specs.RootRows.{LeavesOut}
+use Rattle.dagcbor_store.specs.Stored.{IsPut, PutRefused, ListsName, FailsByStore}
+use Rattle.dagcbor_store.specs.Collecting.{HoldsThose, IsCollected, CollectRefused}
 use Rattle.dagcbor_store.specs.declared.error.StoreRefusal.{StoreRefusal}
 use Rattle.dagcbor_store.specs.declared.error.StoreRefusal.TheVariants as refusal
-use Rattle.dagstore_lines.specs.Lines.{no_block_line, removed_line}
-use Rattle.dagstore_lines.specs.Refusals.{dagstore_line}
+use Rattle.dagstore_lines.specs.Lines.{removed_line}
+use Rattle.dagstore_lines.specs.declared.taken.Taken.{Taken}
 use Rattle.dagstore_lines.specs.declared.fault.Fault.{Fault}
 use Rattle.dagstore_lines.specs.declared.fault.Fault.TheVariants as fault
 
@@ -70,24 +72,66 @@ SaysPut g name b old before (Err (fault.Tool e)) new after = IsPutWell g name b 
 
 -- ---- gc
 
--- of what a refusal is told before its own line: of the name of a damaged block
-abbrev pub name_lines : StoreRefusal → List ℕ
-name_lines (refusal.Damaged name) = dagstore_line (codes "of " ++ cid_text name)
-name_lines told = []
-
 -- What links lead to is kept, and nothing else, and so many names were taken out, whose line went
 -- out; or the store refused, and nothing did; or it is so kept, and the line is not out.
 abbrev pub SaysCollected : {S : Type 0} → Ghosts S → List CidParts
-    → S → Option (List ℕ) → Option (List ℕ) → Result Bool Fault
-    → S → Option (List ℕ) → Option (List ℕ) → Type 0
-SaysCollected g roots old before heard (Ok well) new after told = (count : ℕ)
+    → S → Option (List ℕ) → Result Bool Fault → S → Option (List ℕ) → Type 0
+SaysCollected g roots old before (Ok well) new after = (count : ℕ)
     × (IsClean (g.view new) → IsCollected (g.view old) (g.view new) roots count) × (well ≡ true)
-    × Appends before after (removed_line count) × (told ≡ heard)
-SaysCollected g roots old before heard (Err (fault.Store why)) new after told =
-    CollectRefused g roots old new why × (after ≡ before) × AppendsFront heard told (name_lines why)
-SaysCollected g roots old before heard (Err (fault.Tool e)) new after told = (count : ℕ)
+    × Appends before after (removed_line count)
+SaysCollected g roots old before (Err (fault.Store why)) new after =
+    CollectRefused g roots old new why × (after ≡ before)
+SaysCollected g roots old before (Err (fault.Tool e)) new after = (count : ℕ)
     × (IsClean (g.view new) → IsCollected (g.view old) (g.view new) roots count)
-    × TextFails (removed_line count) before e after × (told ≡ heard)
+    × TextFails (removed_line count) before e after
+
+-- ---- changes
+
+-- the trees are so changed, and what was committed stands
+pub record Changes (Does : Trees → Trees → Type 0) (old new : View) : Type 0 where
+  pub trees : Does old.trees new.trees
+  pub committed : new.committed ≡ old.committed
+  pub is_open : new.is_open ≡ old.is_open
+  pub broken : new.is_broken ≡ old.is_broken
+
+-- the trees are so changed, and all is committed
+pub record Commits (Does : Trees → Trees → Type 0) (old new : View) : Type 0 where
+  pub trees : Does old.trees new.trees
+  pub committed : new.committed ≡ new.trees
+  pub is_open : IsTrue new.is_open
+
+-- ---- names that are to be taken out
+
+-- the name is one more of those that were there, or the last of the others
+abbrev pub Notes : CidParts → Bool → Taken → Taken → Type 0
+Notes name true old new = (new.count ≡ old.count + 1) × (new.others.items ≡ old.others.items)
+Notes name false old new = (new.count ≡ old.count) × (new.others.items ≡ old.others.items ++ name ∷ [])
+
+-- so many of the names are so, and the others are those that are not, in their order
+pub record Splits (IsSo : CidParts → Type 0) (names : List CidParts) (taken : Taken) : Type 0 where
+  pub others : LeavesOut IsSo names taken.others.items
+  pub count : taken.count + length taken.others.items ≡ length names
+
+-- so it is of the names where each counts once
+abbrev pub SplitsOnce : (CidParts → Type 0) → List CidParts → Taken → Type 0
+SplitsOnce IsSo names taken = (once : List CidParts) × AreOnceEach names once × Splits IsSo once taken
+
+-- the line of a name, with these words after it
+abbrev pub line_after : List ℕ → CidParts → List ℕ
+line_after words name = line (cid_text name ++ words)
+
+-- The line of how many were there went out, and of each of the others a line with these words was
+-- told; all is well where there are no others. Or not all of these lines are out.
+abbrev pub SaysTaken : List ℕ → Taken → Option (List ℕ) → Option (List ℕ)
+    → Result Bool Fault → Option (List ℕ) → Option (List ℕ) → Type 0
+SaysTaken words taken before heard (Ok well) after told = (IsTrue well ↔ (taken.others.items ≡ []))
+    × Appends before after (removed_line taken.count)
+    × Appends heard told (flat_map (line_after words) taken.others.items)
+SaysTaken words taken before heard (Err (fault.Store why)) after told = ⊥
+SaysTaken words taken before heard (Err (fault.Tool e)) after told =
+    (TextFails (removed_line taken.count) before e after × (told ≡ heard))
+    ⊎ (Appends before after (removed_line taken.count) × (taken.others.items ≢ [])
+    × TextFails (flat_map (line_after words) taken.others.items) heard e told)
 
 -- ---- remove
 
@@ -95,47 +139,19 @@ SaysCollected g roots old before heard (Err (fault.Tool e)) new after told = (co
 abbrev pub ListsOthers : List CidParts → Trees → Trees → Type 0
 ListsOthers names = HoldsThose (λ q. ¬ Among q (forms names))
 
--- what is stored is what was, without these names, so many of them were listed, and what was
--- committed stands
-pub record RemovesNames (old new : View) (names : List CidParts) (count : ℕ) : Type 0 where
-  pub trees : ListsOthers names old.trees new.trees
-  pub taken : TakesOut old.trees new.trees count
-  pub committed : new.committed ≡ old.committed
-  pub is_open : new.is_open ≡ old.is_open
-  pub broken : new.is_broken ≡ old.is_broken
+-- unless a wrong answer of the disk was taken as true, these names are removed, and all is
+-- committed; of the names, each counted once, it is known which were listed
+abbrev pub Removes : {S : Type 0} → Ghosts S → List CidParts → S → S → Taken → Type 0
+Removes g names old new taken = IsClean (g.view new)
+    → Commits (ListsOthers names) (g.view old) (g.view new)
+    × SplitsOnce (ListsName (g.view old)) names taken
 
--- what is stored is what was, without these names, so many of them were listed, and all is
--- committed
-pub record IsRemoved (old new : View) (names : List CidParts) (count : ℕ) : Type 0 where
-  pub trees : ListsOthers names old.trees new.trees
-  pub taken : TakesOut old.trees new.trees count
-  pub committed : new.committed ≡ new.trees
-  pub is_open : IsTrue new.is_open
-
--- unless a wrong answer of the disk was taken as true, these names are removed, so many were
--- listed, and all is committed
-abbrev pub Removes : {S : Type 0} → Ghosts S → List CidParts → S → S → ℕ → Type 0
-Removes g names old new count =
-    IsClean (g.view new) → IsRemoved (g.view old) (g.view new) names count
-
--- The line of how many were there went out; where that are not as many as were given, this other
--- line is told. Or one of the two lines is not out.
-abbrev pub SaysTaken : List ℕ → ℕ → ℕ → Option (List ℕ) → Option (List ℕ)
-    → Result Bool Fault → Option (List ℕ) → Option (List ℕ) → Type 0
-SaysTaken none count given before heard (Ok well) after told = (IsTrue well ↔ (count ≡ given))
-    × Appends before after (removed_line count) × Appends heard told (if well then [] else none)
-SaysTaken none count given before heard (Err (fault.Store why)) after told = ⊥
-SaysTaken none count given before heard (Err (fault.Tool e)) after told =
-    (TextFails (removed_line count) before e after × (told ≡ heard))
-    ⊎ (Appends before after (removed_line count) × (count ≢ given) × TextFails none heard e told)
-
--- The names are taken out, and it is said how many were listed; or the store failed, and nothing
--- went out.
+-- The names are taken out, and it is said how many were listed, and which were not; or the store
+-- failed, and nothing went out.
 abbrev pub SaysRemoved : {S : Type 0} → Ghosts S → List CidParts
     → S → Option (List ℕ) → Option (List ℕ) → Result Bool Fault
     → S → Option (List ℕ) → Option (List ℕ) → Type 0
 SaysRemoved g names old before heard (Err (fault.Store why)) new after told =
     FailsByStore g ⊥ old new why × (after ≡ before) × (told ≡ heard)
-SaysRemoved g names old before heard ended new after told = (count : ℕ)
-    × Removes g names old new count
-    × SaysTaken no_block_line count (length names) before heard ended after told
+SaysRemoved g names old before heard ended new after told = (taken : Taken)
+    × Removes g names old new taken × SaysTaken (codes " no block") taken before heard ended after told

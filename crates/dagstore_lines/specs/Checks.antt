@@ -6,37 +6,34 @@ use Rattle.std.specs.BTreeSet.{BTreeSet}
 use Rattle.std.specs.declared.alloc.Global.{Global}
 use Rattle.sqlite_trees.specs.View.{View, IsClean}
 use Rattle.ipld_tree.specs.Cid.{CidParts, AreCidParts, cid_cmp}
-use Rattle.ipld_tree.specs.Tree.{Tree, links_of}
 use Rattle.dagcbor_items.specs.Walks.{forms}
-use Rattle.dagcbor_items.specs.Slices.{IsBlock}
 use Rattle.ipld_links.specs.Sets.{Among}
-use Rattle.ipld_links.specs.Sound.{IsSound}
-use Rattle.ipld_links.specs.Verdicts.{IsDagCbor, IsVerdict}
+use Rattle.ipld_links.specs.Verdicts.{IsVerdictOn}
+use Rattle.ipld_links.specs.Blocks.{HasLinks}
 use Rattle.ipld_links.specs.Within.{IsReached}
 use Rattle.ipld_links.specs.declared.verdict.Verdict.{Verdict}
-use Rattle.block_lines.specs.Lines.{verdict_line, missing_line, IsSaidOfEach}
-use Rattle.dagcbor_store.specs.Stored.{IsNamedBy, Holds, HoldsOnly, ListsName}
-use Rattle.dagcbor_store.specs.Lost.{NamesNoneListed, HoldsNoneSound, IsReachedIn}
+use Rattle.ipld_links.specs.declared.verdict.Verdict.TheVariants as verdicts
+use Rattle.block_lines.specs.Lines.{is_well, verdict_line, missing_line, IsSaidOfEach}
+use Rattle.dagcbor_store.specs.Stored.{IsNamedBy, Holds, HoldsOnly, IsDamaged, ListsName}
+use Rattle.dagcbor_store.specs.Lost.{NamesNoneListed, IsReachedIn}
 use Rattle.dagstore_lines.specs.Lines.{damaged_line}
 use Rattle.dagstore_lines.specs.Said.{Breaks}
 use Rattle.dagstore_lines.specs.Names.{Telling, AreAll, SaysNames}
 use Rattle.dagstore_lines.specs.declared.fault.Fault.{Fault}
 
--- the verdict on the bytes that are stored under the name, which are sound; or nothing sound is
--- stored under it
+-- the verdict on the bytes that are stored under the name, which it names; or that those are others
 abbrev pub IsCheckedLine : Telling
-IsCheckedLine old new name true text = (b : List ℕ) × (verdict : Verdict) × IsSound (name, b)
-    × IsVerdict (name, b) verdict × (IsClean new → HoldsOnly old name b)
-    × (text ≡ verdict_line ((name, b), verdict))
-IsCheckedLine old new name false text = (IsClean new → HoldsNoneSound old name)
-    × (text ≡ damaged_line name)
+IsCheckedLine old new name well text = ((b : List ℕ) × (verdict : Verdict) × IsNamedBy name b
+    × IsVerdictOn name.codec b verdict × (IsClean new → HoldsOnly old name b)
+    × (well ≡ is_well verdict) × (text ≡ verdict_line ((name, b), verdict)))
+    ⊎ ((IsClean new → IsDamaged old name) × (well ≡ false) × (text ≡ damaged_line name))
 
--- the binary form is that of a link in a stored block of DAG-CBOR, whose bytes are those that its
--- name names, or of one within such a link
+-- the binary form is that of a link in a stored block of DAG-CBOR or DAG-PB, whose bytes are those that
+-- its name names, or of one within such a link
 abbrev pub IsSoundlyLinked : List ℕ → View → Type 0
-IsSoundlyLinked form v = (c : CidParts) × (b : List ℕ) × (t : Tree)
-    × AreCidParts c × IsDagCbor c × Holds v c b × IsNamedBy c b
-    × IsBlock b t × IsReached form (links_of t)
+IsSoundlyLinked form v = (c : CidParts) × (b : List ℕ) × (links : List (List ℕ))
+    × AreCidParts c × Holds v c b × IsNamedBy c b
+    × HasLinks c.codec b links × IsReached form links
 
 -- those of them that name nothing that is listed, nor hold a block themselves, each once, in their
 -- order
@@ -74,11 +71,17 @@ abbrev pub SaysCheck : View → Option (List ℕ) → Result Bool Fault → View
 SaysCheck old before (Ok well) new after = IsStoreChecked old new before well after
 SaysCheck old before (Err e) new after = BreaksCheck old new before e after
 
+-- the verdict is that bytes are a block whose links are read
+abbrev pub is_linked : Verdict → Bool
+is_linked (verdicts.Block kind) = true
+is_linked verdicts.Node = true
+is_linked _ = false
+
 -- ---- the set of missing links
 
 -- links in the block under the first name, which is sound, lead to the second
 abbrev pub LinksTo : View → CidParts → CidParts → Type 0
-LinksTo v c q = IsDagCbor c × ((b : List ℕ) × Holds v c b × IsNamedBy c b × IsReachedIn b q)
+LinksTo v c q = (b : List ℕ) × Holds v c b × IsNamedBy c b × IsReachedIn c.codec b q
 
 -- those of the names that links in the block under this one lead to which are not listed are put
 -- into the set

@@ -25,7 +25,7 @@ use Rattle.dagcbor_store.specs.declared.car_error.ReadCarError.TheVariants as ca
 use Rattle.dagcbor_store.specs.declared.car_error.WriteCarError.{WriteCarError}
 use Rattle.dagcbor_store.specs.declared.car_error.WriteCarError.TheVariants as unwritten
 use Rattle.dagstore_lines.specs.Lines.{stored_line}
-use Rattle.dagstore_lines.specs.Refusals.{dagstore_line, tool_text, refusal_text, refusal_status, status_of, TellsRunFault}
+use Rattle.dagstore_lines.specs.Refusals.{dagstore_line, tool_text, refusal_text, refusal_lines, refusal_status, status_of, TellsRunFault}
 use Rattle.dagstore_lines.specs.declared.fault.Fault.{Fault}
 use Rattle.dagstore_lines.specs.declared.fault.Fault.TheVariants as fault
 
@@ -105,7 +105,7 @@ unread_lines (car.Section count e) = behind_line count ++ dagstore_line (file_te
 unread_lines (car.Block count name told) =
     behind_line count ++ (dagstore_line (codes "of " ++ cid_text name)
     ++ dagstore_line (refusal_text told))
-unread_lines (car.Store told) = dagstore_line (refusal_text told)
+unread_lines (car.Store told) = refusal_lines told
 unread_lines car.OutOfMemory = dagstore_line (tool_text OutOfMemory)
 
 -- 1 where the bytes, or the blocks in them, are the cause, else 2

@@ -3,6 +3,7 @@ pub mod Commands
 pub mod Said
 pub mod Names
 pub mod Checks
+pub mod Lacking
 pub mod Refusals
 pub mod Blocks
 pub mod Changes

@@ -4,9 +4,9 @@ use Rattle.ipld_tree.specs.Cid.{CidParts}
 use Rattle.cid_text.specs.Texts.{cid_text}
 use Rattle.block_lines.specs.Lines.{line}
 
--- of a name under which nothing is stored that it names
+-- of a name under which other bytes are stored than it names
 abbrev pub damaged_line : CidParts → List ℕ
-damaged_line name = line (cid_text name ++ codes " damaged")
+damaged_line name = line (cid_text name ++ codes " other bytes")
 
 -- of how many names are listed
 abbrev pub holds_line : ℕ → List ℕ
@@ -15,10 +15,6 @@ holds_line count = line (codes "holds " ++ decimal count)
 -- where no block has the name
 abbrev pub no_block_line : List ℕ
 no_block_line = line (codes "dagstore: no block has the name")
-
--- where a name is no root
-abbrev pub no_root_line : List ℕ
-no_root_line = line (codes "dagstore: no root has the name")
 
 -- where no root is given, and none is stored
 abbrev pub no_roots_line : List ℕ

@@ -1,5 +1,5 @@
 -- What is told of a refusal, and the status of a run that ends so.
-use Rattle.std.specs.Prelude.{◌≡◌, ℕ, List, ◌++◌, codes, decimal, Bool, Option, Result, Ok, Err, if◌then◌else◌}
+use Rattle.std.specs.Prelude.{◌≡◌, ℕ, List, [], ◌∷◌, ◌++◌, codes, decimal, Bool, Option, Result, Ok, Err, if◌then◌else◌}
 use Rattle.sqlite_trees.specs.declared.error.StoreError.{StoreError}
 use Rattle.sqlite_trees.specs.declared.error.StoreError.TheVariants as disk
 use Rattle.dagcbor_heads.specs.Written.{AppendsFront}
@@ -10,7 +10,9 @@ use Rattle.dagcbor_cli.specs.declared.fault.ToolError.{ToolError}
 use Rattle.dagcbor_cli.specs.declared.fault.ToolError.TheVariants as tool
 use Rattle.dagcbor_store.specs.declared.error.StoreRefusal.{StoreRefusal}
 use Rattle.dagcbor_store.specs.declared.error.StoreRefusal.TheVariants as refusal
-use Rattle.block_lines.specs.Lines.{line}
+use Rattle.cid_text.specs.Texts.{cid_text}
+use Rattle.block_lines.specs.Lines.{line, verdict_text}
+use Rattle.block_lines.specs.Names.{pb_cause_name}
 use Rattle.dagstore_lines.specs.declared.fault.Fault.{Fault}
 use Rattle.dagstore_lines.specs.declared.fault.Fault.TheVariants as fault
 
@@ -23,19 +25,23 @@ disk_text disk.Full = codes "database or disk is full"
 disk_text disk.Broken = codes "the transaction must be rolled back"
 disk_text disk.Unstorable = codes "a row cannot be stored"
 
--- of a block that is not kept under its name; of one that is no DAG-CBOR, with the byte by which it
--- is none
+-- of a block that is not kept under its name; of one that is no DAG-CBOR or DAG-PB, with the byte by
+-- which it is none
 abbrev pub unsound_text : Unsound → List ℕ
 unsound_text unsound.OtherHash = codes "the block is named by another hash function than SHA-256"
 unsound_text unsound.OtherBytes = codes "the block has other bytes than its name says"
 unsound_text (unsound.NoBlock e place) = codes "the block is no DAG-CBOR: "
     ++ (variant_name e ++ (codes " at byte " ++ decimal place))
+unsound_text (unsound.NoNode e) = codes "the block is no DAG-PB: "
+    ++ (pb_cause_name e.cause ++ (codes " at byte " ++ decimal e.place))
 
 -- of a refusal of the store
 abbrev pub refusal_text : StoreRefusal → List ℕ
 refusal_text (refusal.Unsound e) = unsound_text e
 refusal_text (refusal.Damaged name) =
     codes "what is stored under the name has other bytes than it says"
+refusal_text (refusal.LinksUnread name verdict) = codes "the links of a block cannot be read"
+refusal_text (refusal.NoBlock name) = codes "a root has no block"
 refusal_text refusal.NoNumber = codes "no number is left for a row"
 refusal_text refusal.TooLong = codes "the block is too long for a row"
 refusal_text refusal.NotAStore = codes "the file is no store of blocks"
@@ -49,6 +55,8 @@ refusal_text refusal.OutOfMemory = codes "out of memory"
 abbrev pub refusal_status : StoreRefusal → ℕ
 refusal_status (refusal.Unsound e) = 1
 refusal_status (refusal.Damaged name) = 1
+refusal_status (refusal.LinksUnread name verdict) = 1
+refusal_status (refusal.NoBlock name) = 1
 refusal_status refusal.NoNumber = 2
 refusal_status refusal.TooLong = 1
 refusal_status refusal.NotAStore = 1
@@ -68,9 +76,21 @@ tool_text tool.OutOfMemory = codes "out of memory"
 abbrev pub dagstore_line : List ℕ → List ℕ
 dagstore_line text = line (codes "dagstore: " ++ text)
 
+-- of the block of which a refusal is: its name and its state, in the words of `check`
+abbrev pub state_lines : StoreRefusal → List ℕ
+state_lines (refusal.Damaged name) = dagstore_line (cid_text name ++ codes " other bytes")
+state_lines (refusal.LinksUnread name verdict) =
+    dagstore_line (cid_text name ++ (32 ∷ verdict_text verdict))
+state_lines (refusal.NoBlock name) = dagstore_line (cid_text name ++ codes " missing")
+state_lines told = []
+
+-- of a refusal of the store: its block, if it is of one, and why it refused
+abbrev pub refusal_lines : StoreRefusal → List ℕ
+refusal_lines told = state_lines told ++ dagstore_line (refusal_text told)
+
 -- of what ended a run
 abbrev pub fault_line : Fault → List ℕ
-fault_line (fault.Store told) = dagstore_line (refusal_text told)
+fault_line (fault.Store told) = refusal_lines told
 fault_line (fault.Tool e) = dagstore_line (tool_text e)
 
 -- the status of a run that ended so: 0 where nothing is wrong, 1 where something is

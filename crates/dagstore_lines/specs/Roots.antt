@@ -1,5 +1,5 @@
 -- What is said of the roots that a store keeps, and how they change.
-use Rattle.std.specs.Prelude.{◌≡◌, ◌≢◌, ◌⊎◌, ◌+◌, ℕ, List, [], ◌∷◌, length, Bool, true, false, Option, Result, Ok, Err, MatchResult, IsTrue, flat_map}
+use Rattle.std.specs.Prelude.{◌≡◌, ◌≢◌, ◌⊎◌, ℕ, List, [], codes, Bool, true, false, Option, Result, Ok, Err, MatchResult, flat_map}
 use Rattle.std.specs.Io.KnownBytes.{Appends}
 use Rattle.sqlite_trees.specs.Tree.{Trees}
 use Rattle.sqlite_trees.specs.View.{View, IsClean}
@@ -14,11 +14,12 @@ use Rattle.dagcbor_store.specs.Stored.{FindsSo, IsUndone, IsCommitted, FailsBySt
 use Rattle.dagcbor_store.specs.Roots.{HasRoots, AreRootsAdded, MayKeepRoots}
 use Rattle.dagcbor_store.specs.Collecting.{KeepsReachable}
 use Rattle.dagcbor_store.specs.declared.error.StoreRefusal.{StoreRefusal}
-use Rattle.dagstore_lines.specs.Changes.{cid_line, SaysCollected, SaysTaken}
+use Rattle.dagstore_lines.specs.Changes.{cid_line, SaysCollected, Commits, Splits, SplitsOnce, SaysTaken}
 use Rattle.dagstore_lines.specs.Files.{Exports}
-use Rattle.dagstore_lines.specs.Lines.{no_root_line, no_roots_line}
+use Rattle.dagstore_lines.specs.Lines.{no_roots_line}
 use Rattle.dagstore_lines.specs.Said.{Breaks}
 use Rattle.dagstore_lines.specs.Trees.{TellsText}
+use Rattle.dagstore_lines.specs.declared.taken.Taken.{Taken}
 use Rattle.dagstore_lines.specs.declared.fault.Fault.{Fault}
 use Rattle.dagstore_lines.specs.declared.fault.Fault.TheVariants as fault
 
@@ -76,27 +77,12 @@ CollectsMeant g given old before heard ended new after told = ((why : StoreRefus
     × (after ≡ before) × (told ≡ heard))
     ⊎ (TellsNoRoots g given old before heard ended new after told
     ⊎ ((roots : List CidParts) × (roots ≢ []) × AreMeant (g.view old) (g.view new) given roots
-    × SaysCollected g roots old before heard ended new after told))
+    × SaysCollected g roots old before ended new after × (told ≡ heard)))
 
 -- what links lead to from the roots that are meant, of which there are some, is what stands
 abbrev pub KeepsMeant : View → View → List CidParts → Trees → Type 0
 KeepsMeant old new given db = (roots : List CidParts) × (roots ≢ []) × AreMeant old new given roots
     × KeepsReachable old roots db
-
--- ---- changes
-
--- the trees are so changed, and what was committed stands
-pub record Changes (Does : Trees → Trees → Type 0) (old new : View) : Type 0 where
-  pub trees : Does old.trees new.trees
-  pub committed : new.committed ≡ old.committed
-  pub is_open : new.is_open ≡ old.is_open
-  pub broken : new.is_broken ≡ old.is_broken
-
--- the trees are so changed, and all is committed
-pub record Commits (Does : Trees → Trees → Type 0) (old new : View) : Type 0 where
-  pub trees : Does old.trees new.trees
-  pub committed : new.committed ≡ new.trees
-  pub is_open : IsTrue new.is_open
 
 -- ---- add-root
 
@@ -117,30 +103,32 @@ AddsToRoots g names old (Err (fault.Tool e)) new = ⊥
 
 -- ---- drop-root
 
--- each of the names is taken out of the roots in its turn, and so many were roots
-abbrev pub DropsNames : List CidParts → List CidParts → List CidParts → ℕ → Type 0
-DropsNames old [] new count = (new ≡ old) × (count ≡ 0)
-DropsNames old (name ∷ names) new count = (mid : List CidParts) × LeavesOut (λ c. c ≡ name) old mid
-    × ((Among name old × ((fewer : ℕ) × (count ≡ fewer + 1) × DropsNames mid names new fewer))
-    ⊎ ((¬ Among name old) × DropsNames mid names new count))
-
--- the roots are those, and each other tree is the same
-pub record DropsRoots (names : List CidParts) (count : ℕ) (old new : Trees) : Type 0 where
+-- the roots are those that there were without these names, in their order, and each other tree is
+-- the same
+pub record DropsRoots (names : List CidParts) (old new : Trees) : Type 0 where
   pub roots : (before : List CidParts) → AreRoots (old root_tree) before
-      → (now : List CidParts) × AreRoots (new root_tree) now × DropsNames before names now count
+      → (now : List CidParts) × AreRoots (new root_tree) now × LeavesOut (λ c. Among c names) before now
   pub beside : KeepsOthers IsOfRoots old new
 
--- The names are taken out of the roots, and it is said how many were roots; or the store failed,
--- and nothing went out.
+-- of the names so many are roots, and the others are not
+abbrev pub SplitsRoots : View → List CidParts → Taken → Type 0
+SplitsRoots v names taken = (roots : List CidParts) → HasRoots v roots
+    → Splits (λ c. Among c roots) names taken
+
+-- unless a wrong answer of the disk was taken as true, these names are taken out of the roots, and
+-- all is committed; of the names, each counted once, it is known which were roots
+abbrev pub Drops : {S : Type 0} → Ghosts S → List CidParts → S → S → Taken → Type 0
+Drops g names old new taken = IsClean (g.view new)
+    → Commits (DropsRoots names) (g.view old) (g.view new)
+    × ((roots : List CidParts) → HasRoots (g.view old) roots
+    → SplitsOnce (λ c. Among c roots) names taken)
+
+-- The names are taken out of the roots, and it is said how many were roots, and which were not; or
+-- the store failed, and nothing went out.
 abbrev pub SaysDropped : {S : Type 0} → Ghosts S → List CidParts
     → S → Option (List ℕ) → Option (List ℕ) → Result Bool Fault
     → S → Option (List ℕ) → Option (List ℕ) → Type 0
 SaysDropped g names old before heard (Err (fault.Store why)) new after told =
     FailsByStore g ⊥ old new why × (after ≡ before) × (told ≡ heard)
-SaysDropped g names old before heard ended new after told = (count : ℕ)
-    × (IsClean (g.view new) → Commits (DropsRoots names count) (g.view old) (g.view new))
-    × SaysTaken no_root_line count (length names) before heard ended after told
-
--- some of the names may have been roots, and none of them is
-abbrev pub DropsSome : List CidParts → Trees → Trees → Type 0
-DropsSome names old new = (count : ℕ) × DropsRoots names count old new
+SaysDropped g names old before heard ended new after told = (taken : Taken)
+    × Drops g names old new taken × SaysTaken (codes " no root") taken before heard ended after told

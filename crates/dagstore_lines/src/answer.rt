@@ -7,10 +7,10 @@ ghost use Rattle.dagcbor_store.specs.Ends.{Quiet};
 ghost use Rattle.dagcbor_store.specs.Stored.{IsAddedTo, IsKeptBy, StaysSame};
 ghost use Rattle.dagstore_lines.specs.Blocks.{SaysCount, IsGotBlock, Has};
 ghost use Rattle.dagstore_lines.specs.Changes.{name_as, SaysPut, ListsOthers, SaysRemoved};
-ghost use Rattle.dagstore_lines.specs.Checks.{SaysCheck};
+ghost use Rattle.dagstore_lines.specs.Lacking.{SaysStoreChecked};
 ghost use Rattle.dagstore_lines.specs.Names.{IsListedLine, SaysNames};
 ghost use Rattle.dagstore_lines.specs.Refusals.{ExitsSo};
-ghost use Rattle.dagstore_lines.specs.Roots.{SaysRoots, ExportsMeant, CollectsMeant, KeepsMeant, HasAddedRoots, AddsToRoots, DropsSome, SaysDropped};
+ghost use Rattle.dagstore_lines.specs.Roots.{SaysRoots, ExportsMeant, CollectsMeant, KeepsMeant, HasAddedRoots, AddsToRoots, DropsRoots, SaysDropped};
 ghost use Rattle.dagstore_lines.specs.Said.{StoreFails, SaysAll};
 ghost use Rattle.dagstore_lines.specs.Trees.{SaysTree};
 ghost use Rattle.dagstore_lines.specs.Ways.{IsAnswerIn, WayFails};
@@ -19,8 +19,8 @@ ghost use Rattle.dagstore_lines.specs.declared.fault.Fault.{Fault};
 use crate::at::write_at;
 use crate::block::{count_blocks, get_block, has_block};
 use crate::change::{collect_meant, put_block, remove_blocks};
-use crate::check::check_blocks;
 use crate::export::{export_meant, write_tree};
+use crate::lacking::check_store;
 use crate::list::list_blocks;
 use crate::progress::Progress;
 use crate::refusal::end;
@@ -56,11 +56,11 @@ pub fn answer_check<S: Store, W: Write, V: Write, E: Write>(
 ) -> u8
     ensures answers { (ended : Result Bool Fault)
         × ExitsSo ended result (V.contents errors.old) (V.contents errors.new)
-        × SaysCheck (S.Store.view store.old) (W.contents output.old) ended (S.Store.view store.new)
+        × SaysStoreChecked (S.Store.view store.old) (W.contents output.old) ended (S.Store.view store.new)
         (W.contents output.new) }
     ensures quiet { Quiet S.Store store.old store.new }
 {
-    end(check_blocks(alloc, store, output, progress), errors)
+    end(check_store(alloc, store, output, progress), errors)
 }
 
 /// `count`: answers the status.
@@ -267,7 +267,7 @@ pub fn answer_drop_roots<S: Store, W: Write, V: Write>(
         × SaysDropped S.Store names.now store.old (W.contents output.old) (V.contents errors.old) ended
         store.new (W.contents output.new) heard × ExitsSo ended result heard (V.contents errors.new) }
     ensures crash { (db : _) → S.Store.recovers store.new db → S.Store.recovers store.old db
-        ⊎ (IsClean (S.Store.view store.new) → DropsSome names.now (S.Store.view store.old).trees db) }
+        ⊎ (IsClean (S.Store.view store.new) → DropsRoots names.now (S.Store.view store.old).trees db) }
     ensures kept { IsKeptBy S.Store store.old store.new }
 {
     let ended = drop_roots(alloc, store, names, output, errors);

@@ -1,27 +1,26 @@
 //! `put`, `remove` and `gc`: blocks that are kept and taken out.
 
-ghost use Rattle.std.specs.Prelude.{◌≡◌, ◌⊎◌, IfOk, IfErr, MatchResult};
+ghost use Rattle.std.specs.Prelude.{◌≡◌, ◌⊎◌, OnOk, IfOk, IfErr, MatchResult};
 ghost use Rattle.sqlite_trees.specs.View.{IsClean};
-ghost use Rattle.dagcbor_heads.specs.Written.{AppendsFront};
 ghost use Rattle.dagcbor_store.specs.Collecting.{KeepsReachable};
 ghost use Rattle.dagcbor_store.specs.Ends.{Quiet};
-ghost use Rattle.dagcbor_store.specs.Stored.{IsKeptBy, IsAddedTo, FailsByStore};
+ghost use Rattle.dagcbor_store.specs.Stored.{IsKeptBy, IsAddedTo, ListsName, FailsByStore};
+ghost use Rattle.ipld_links.specs.Reaching.{NoneTwice};
 ghost use Rattle.ipld_links.specs.Sound.{IsSound};
-ghost use Rattle.dagstore_lines.specs.Changes.{IsUnfit, SaysText, name_as, cid_line, SaysPut, name_lines, SaysCollected, ListsOthers, RemovesNames, Removes, SaysTaken, SaysRemoved};
-ghost use Rattle.dagstore_lines.specs.Lines.{removed_line};
+ghost use Rattle.dagstore_lines.specs.Changes.{IsUnfit, SaysText, name_as, cid_line, SaysPut, SaysCollected, ListsOthers, Changes, Splits, Removes, SaysRemoved};
 ghost use Rattle.dagstore_lines.specs.Roots.{CollectsMeant, KeepsMeant};
 
-use crate::block::NO_BLOCK;
 use crate::export::tell_wrong;
 use crate::fault::Fault;
-use crate::refusal::write_name;
 use crate::roots::{NO_ROOTS, meant_roots};
-use block_lines::{line_of, named_line};
+use crate::taken::{Taken, give_up, say_removed, say_taken};
+use block_lines::named_line;
 use dagcbor_cli::{ToolError, write_all};
+use dagcbor_resolve::each_once;
 use dagcbor_store::{BlockStore, Store, StoreRefusal};
 use ipld_links::{SHA2_256, check_block, name_of_block};
 use ipld_tree::Cid;
-use std::alloc::{AllocError, Global};
+use std::alloc::Global;
 use std::io::Write;
 
 /// The name of the block: a CID of version 1, of this codec, by its SHA-256.
@@ -76,77 +75,52 @@ pub fn put_block<S: Store, W: Write>(
     }
 }
 
-/// The line of how many names were taken out.
-fn removed_line(alloc: Global, count: u64) -> Result<Vec<u8>, AllocError>
-    ensures { IfOk result (λ v. v.items ≡ removed_line count) }
-{
-    let count = format!(in alloc; "{count}")?;
-    line_of(alloc, b"removed ", count.as_bytes(), b"")
-}
-
-/// Writes how many names were taken out.
-fn say_removed<W: Write>(alloc: Global, count: u64, output: &mut W) -> Result<(), ToolError>
-    ensures { SaysText (removed_line count) (W.contents output.old) result (W.contents output.new) }
-{
-    let line = removed_line(alloc, count)?;
-    write_all(output, &line)
-}
-
-/// Takes out what is listed under the names. How many were listed, each when its turn came.
-fn take_each<S: Store>(store: &mut BlockStore<S>, names: &[Cid]) -> Result<u64, StoreRefusal>
-    ensures ok { IfOk result (λ count. IsClean (S.Store.view store.new)
-        → RemovesNames (S.Store.view store.old) (S.Store.view store.new) names.now count) }
+/// Takes out what is listed under the names, of which none is given twice.
+fn take_each<S: Store>(
+    alloc: Global,
+    store: &mut BlockStore<S>,
+    names: &[Cid],
+) -> Result<Taken, StoreRefusal>
+    requires { NoneTwice names.now }
+    ensures ok { OnOk result (IsClean (S.Store.view store.new)
+        → Changes (ListsOthers names.now) (S.Store.view store.old) (S.Store.view store.new)) }
+    ensures splits { IfOk result (λ taken. IsClean (S.Store.view store.new)
+        → Splits (ListsName (S.Store.view store.old)) names.now taken) }
     ensures refused { IfErr result (FailsByStore S.Store ⊥ store.old store.new) }
     ensures quiet { Quiet S.Store store.old store.new }
 {
-    let mut count: u64 = 0;
+    let mut taken = Taken::new(alloc);
     for name in names {
-        let taken = store.remove(name)?;
-        count += u64::from(taken);
+        let was_there = store.remove(name)?;
+        if taken.note(name, was_there).is_err() {
+            return Err(give_up(store));
+        }
     }
-    Ok(count)
+    Ok(taken)
 }
 
-/// Takes out what is listed under the names, and commits that. How many were listed.
-fn take_out<S: Store>(store: &mut BlockStore<S>, names: &[Cid]) -> Result<u64, StoreRefusal>
+/// Takes out what is listed under the names, and commits that. A name given twice counts once.
+fn take_out<S: Store>(
+    alloc: Global,
+    store: &mut BlockStore<S>,
+    names: &[Cid],
+) -> Result<Taken, StoreRefusal>
     ensures ok { IfOk result (Removes S.Store names.now store.old store.new) }
     ensures refused { IfErr result (FailsByStore S.Store ⊥ store.old store.new) }
     ensures crash { (db : _) → S.Store.recovers store.new db → S.Store.recovers store.old db
         ⊎ (IsClean (S.Store.view store.new) → ListsOthers names.now (S.Store.view store.old).trees db) }
     ensures kept { IsKeptBy S.Store store.old store.new }
 {
-    let count = take_each(store, names)?;
+    let Ok(once) = each_once(alloc, names) else {
+        return Err(give_up(store));
+    };
+    let taken = take_each(alloc, store, &once)?;
     store.commit()?;
-    Ok(count)
+    Ok(taken)
 }
 
-/// Writes how many names were taken out, and tells the other line where that are fewer than were
-/// given. Whether all were.
-pub fn say_taken<W: Write, V: Write>(
-    alloc: Global,
-    count: u64,
-    given: u64,
-    none: &[u8],
-    output: &mut W,
-    errors: &mut V,
-) -> Result<bool, Fault>
-    ensures { SaysTaken none.now count given (W.contents output.old) (V.contents errors.old) result
-        (W.contents output.new) (V.contents errors.new) }
-{
-    if let Err(error) = say_removed(alloc, count, output) {
-        return Err(Fault::Tool(error));
-    }
-    if count == given {
-        return Ok(true);
-    }
-    match write_all(errors, none) {
-        Ok(()) => Ok(false),
-        Err(error) => Err(Fault::Tool(error)),
-    }
-}
-
-/// Takes out the blocks under the names, and writes how many. Whether each was listed; else that is
-/// told.
+/// Takes out the blocks under the names, and writes how many. Whether each was listed; else a line of
+/// each that was not is told. A name given twice counts once.
 pub fn remove_blocks<S: Store, W: Write, V: Write>(
     alloc: Global,
     store: &mut BlockStore<S>,
@@ -160,33 +134,21 @@ pub fn remove_blocks<S: Store, W: Write, V: Write>(
         ⊎ (IsClean (S.Store.view store.new) → ListsOthers names.now (S.Store.view store.old).trees db) }
     ensures kept { IsKeptBy S.Store store.old store.new }
 {
-    match take_out(store, names) {
-        Ok(count) => say_taken(alloc, count, names.len() as u64, NO_BLOCK, output, errors),
+    match take_out(alloc, store, names) {
+        Ok(taken) => say_taken(alloc, &taken, b" no block", output, errors),
         Err(refusal) => Err(Fault::Store(refusal)),
     }
 }
 
-/// Tells of the name of a damaged block. A fault in telling it is not told.
-#[tactic(auto, using(crate::proofs::Sending::nothing_told))]
-fn tell_name<V: Write>(refusal: &StoreRefusal, errors: &mut V)
-    ensures { AppendsFront (V.contents errors.old) (V.contents errors.new) (name_lines refusal.now) }
-{
-    if let StoreRefusal::Damaged(name) = refusal {
-        let _ = write_name(errors, name);
-    }
-}
-
-/// Keeps what links lead to from the roots, and writes how many names were taken out. Where a block
-/// is damaged, tells of its name.
-pub fn collect_blocks<S: Store, W: Write, V: Write>(
+/// Keeps what links lead to from the roots, and writes how many names were taken out.
+pub fn collect_blocks<S: Store, W: Write>(
     alloc: Global,
     store: &mut BlockStore<S>,
     roots: &[Cid],
     output: &mut W,
-    errors: &mut V,
 ) -> Result<bool, Fault>
-    ensures says { SaysCollected S.Store roots.now store.old (W.contents output.old) (V.contents errors.old)
-        result store.new (W.contents output.new) (V.contents errors.new) }
+    ensures says { SaysCollected S.Store roots.now store.old (W.contents output.old) result
+        store.new (W.contents output.new) }
     ensures crash { (db : _) → S.Store.recovers store.new db → S.Store.recovers store.old db
         ⊎ (IsClean (S.Store.view store.new) → KeepsReachable (S.Store.view store.old) roots.now db) }
     ensures kept { IsKeptBy S.Store store.old store.new }
@@ -196,10 +158,7 @@ pub fn collect_blocks<S: Store, W: Write, V: Write>(
             Ok(()) => Ok(true),
             Err(error) => Err(Fault::Tool(error)),
         },
-        Err(refusal) => {
-            tell_name(&refusal, errors);
-            Err(Fault::Store(refusal))
-        }
+        Err(refusal) => Err(Fault::Store(refusal)),
     }
 }
 
@@ -225,7 +184,7 @@ pub fn collect_meant<S: Store, W: Write, V: Write>(
             if roots.is_empty() {
                 return tell_wrong(NO_ROOTS, errors);
             }
-            collect_blocks(alloc, store, &roots, output, errors)
+            collect_blocks(alloc, store, &roots, output)
         }
         Err(refusal) => Err(Fault::Store(refusal)),
     }

@@ -6,20 +6,35 @@ ghost use Rattle.dagcbor_store.specs.Ends.{Quiet};
 ghost use Rattle.dagcbor_store.specs.Stored.{StaysSame, ListsName, HoldsOnly, IsNamedBy};
 ghost use Rattle.dagstore_lines.specs.Said.{StoreFails};
 ghost use Rattle.dagstore_lines.specs.Names.{SaysNames, SaysNext};
-ghost use Rattle.dagstore_lines.specs.Checks.{IsCheckedLine, SaysCheck, AddsUnlistedLinks, AddsOfNext, IsMissing, SaysKeys};
+ghost use Rattle.dagstore_lines.specs.Checks.{is_linked, IsCheckedLine, SaysCheck, AddsUnlistedLinks, AddsOfNext, IsMissing, SaysKeys};
 
 use crate::fault::Fault;
 use crate::line::damaged_said;
 use crate::progress::Progress;
 use block_lines::{Said, missing_line, say, verdict_line};
 use dagcbor_cli::ToolError;
-use dagcbor_items::check_slice;
 use dagcbor_store::{BlockStore, Store, StoreRefusal};
-use ipld_links::{Verdict, is_dag_cbor};
+use ipld_links::{Verdict, verdict_on};
 use ipld_tree::Cid;
 use std::alloc::{AllocError, Global};
 use std::collections::BTreeSet;
 use std::io::Write;
+
+/// Whether a verdict is that bytes are a block whose links are read.
+fn is_linked(verdict: &Verdict) -> bool
+    ensures { result ≡ is_linked verdict.now }
+{
+    match verdict {
+        Verdict::Block(_) => true,
+        Verdict::Node => true,
+        Verdict::Refused(_) => false,
+        Verdict::NoNode(_) => false,
+        Verdict::NotRead => false,
+        Verdict::LinksNotRead => false,
+        Verdict::OtherBytes => false,
+        Verdict::Unverified => false,
+    }
+}
 
 /// The line of the verdict on the block, which the name names, and which alone is stored under it. Its
 /// links that lead to nothing are put into the set.
@@ -31,7 +46,7 @@ fn judged_said<S: Store>(
     missing: &mut BTreeSet<Cid>,
 ) -> Result<Said, Fault>
     ensures said { IfOk result (λ p. IsNamedBy name.now block.now
-        → (IsClean (S.Store.view store.new) → HoldsOnly (S.Store.view store.old) name.now block.now × ListsName (S.Store.view store.old) name.now)
+        → (IsClean (S.Store.view store.new) → HoldsOnly (S.Store.view store.old) name.now block.now)
         → IsCheckedLine (S.Store.view store.old) (S.Store.view store.new) name.now p.1 p.0.items) }
     ensures missing { OnOk result (IsNamedBy name.now block.now → IsClean (S.Store.view store.new)
         → HoldsOnly (S.Store.view store.old) name.now block.now
@@ -40,16 +55,11 @@ fn judged_said<S: Store>(
     ensures fault { IfErr result (StoreFails S.Store store.old store.new) }
     ensures quiet { Quiet S.Store store.old store.new }
 {
-    if !is_dag_cbor(name) {
-        return Ok(verdict_line(alloc, name, &Verdict::NotRead)?);
+    let verdict = verdict_on(name.codec(), block);
+    if is_linked(&verdict) {
+        store.add_lost(name.codec(), block, missing)?;
     }
-    match check_slice(block) {
-        Ok(kind) => {
-            store.add_lost(block, missing)?;
-            Ok(verdict_line(alloc, name, &Verdict::Block(kind))?)
-        }
-        Err(_) => Ok(damaged_said(alloc, name)?),
-    }
+    Ok(verdict_line(alloc, name, &verdict)?)
 }
 
 /// The line of the name, under which something is listed. Links of the block under it that lead to

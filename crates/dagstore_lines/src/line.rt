@@ -8,11 +8,11 @@ use cid_text::cid_text;
 use ipld_tree::Cid;
 use std::alloc::{AllocError, Global};
 
-/// The line of a name under which nothing is stored that it names.
+/// The line of a name under which other bytes are stored than it names.
 pub fn damaged_said(alloc: Global, name: &Cid) -> Result<Said, AllocError>
     ensures line { IfOk result (λ p. p.0.items ≡ damaged_line name.now) }
     ensures well { IfOk result (λ p. p.1 ≡ false) }
 {
-    let line = line_of(alloc, &cid_text(name), b" damaged", b"")?;
+    let line = line_of(alloc, &cid_text(name), b" other bytes", b"")?;
     Ok((line, false))
 }

@@ -4,9 +4,10 @@ ghost use Rattle.std.specs.Prelude.{◌≡◌, ◌++◌, codes, decimal, MatchOp
 ghost use Rattle.cid_text.specs.Texts.{cid_text};
 ghost use Rattle.dagcbor_cli.specs.Writing.{WritesFront};
 ghost use Rattle.dagcbor_heads.specs.Written.{AppendsFront};
-ghost use Rattle.dagstore_lines.specs.Refusals.{disk_text, unsound_text, refusal_text, refusal_status, tool_text, dagstore_line, status_of, TellsRunFault};
+ghost use Rattle.dagstore_lines.specs.Refusals.{disk_text, unsound_text, refusal_text, refusal_status, state_lines, refusal_lines, tool_text, dagstore_line, status_of, TellsRunFault};
 
 use crate::fault::Fault;
+use block_lines::{pb_cause_name, verdict_words};
 use cid_text::cid_text;
 use dagcbor_cli::{ToolError, write_all};
 use dagcbor_items::variant_name;
@@ -52,6 +53,13 @@ fn unsound_words(cause: &Unsound) -> Told
                 Some(*place),
             )
         }
+        Unsound::NoNode(error) => {
+            (
+                "the block is no DAG-PB: ",
+                pb_cause_name(&error.cause),
+                Some(error.place),
+            )
+        }
     }
 }
 
@@ -69,6 +77,8 @@ fn refusal_words(refusal: &StoreRefusal) -> Told
                 None,
             )
         }
+        StoreRefusal::LinksUnread(_, _) => ("the links of a block cannot be read", "", None),
+        StoreRefusal::NoBlock(_) => ("a root has no block", "", None),
         StoreRefusal::NoNumber => ("no number is left for a row", "", None),
         StoreRefusal::TooLong => ("the block is too long for a row", "", None),
         StoreRefusal::NotAStore => ("the file is no store of blocks", "", None),
@@ -95,6 +105,8 @@ pub fn refusal_status(refusal: &StoreRefusal) -> u8
     match refusal {
         StoreRefusal::Unsound(_) => 1,
         StoreRefusal::Damaged(_) => 1,
+        StoreRefusal::LinksUnread(_, _) => 1,
+        StoreRefusal::NoBlock(_) => 1,
         StoreRefusal::NoNumber => 2,
         StoreRefusal::TooLong => 1,
         StoreRefusal::NotAStore => 1,
@@ -171,13 +183,51 @@ pub fn write_name<V: Write>(errors: &mut V, name: &Cid) -> Result<(), ToolError>
     write_all(errors, b"\n")
 }
 
+/// Writes the line of a name and of a state, in two texts.
+fn write_named<V: Write>(
+    errors: &mut V,
+    name: &Cid,
+    first: &str,
+    second: &str,
+) -> Result<(), ToolError>
+    ensures { WritesFront (V.contents errors.old) (V.contents errors.new) result
+        (dagstore_line (cid_text name.now ++ (first.now ++ second.now))) }
+{
+    write_both(errors, b"dagstore: ", &cid_text(name))?;
+    write_both(errors, first.as_bytes(), second.as_bytes())?;
+    write_all(errors, b"\n")
+}
+
+/// Writes the name and the state of the block of which a refusal is, in the words of `check`.
+fn write_state<V: Write>(refusal: &StoreRefusal, errors: &mut V) -> Result<(), ToolError>
+    ensures { WritesFront (V.contents errors.old) (V.contents errors.new) result (state_lines refusal.now) }
+{
+    match refusal {
+        StoreRefusal::Damaged(name) => write_named(errors, name, " other bytes", ""),
+        StoreRefusal::LinksUnread(name, verdict) => {
+            let (first, second) = verdict_words(verdict);
+            write_named(errors, name, first, second)
+        }
+        StoreRefusal::NoBlock(name) => write_named(errors, name, " missing", ""),
+        _ => Ok(()),
+    }
+}
+
+/// Writes the lines of a refusal: of its block, if it is of one, and why the store refused.
+fn write_lines<V: Write>(refusal: &StoreRefusal, errors: &mut V) -> Result<(), ToolError>
+    ensures { WritesFront (V.contents errors.old) (V.contents errors.new) result (refusal_lines refusal.now) }
+{
+    write_state(refusal, errors)?;
+    write_refusal(refusal, errors)
+}
+
 /// Tells the refusal, and answers its status. A fault in telling it is not told.
 pub fn tell_refusal<W: Write>(refusal: &StoreRefusal, errors: &mut W) -> u8
     ensures status { result ≡ refusal_status refusal.now }
     ensures told { AppendsFront (W.contents errors.old) (W.contents errors.new)
-        (dagstore_line (refusal_text refusal.now)) }
+        (refusal_lines refusal.now) }
 {
-    let _ = write_refusal(refusal, errors);
+    let _ = write_lines(refusal, errors);
     refusal_status(refusal)
 }
 

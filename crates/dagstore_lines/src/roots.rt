@@ -1,38 +1,25 @@
 //! `roots`, `add-root` and `drop-root`: the roots that a store keeps, and those that are meant.
 
-ghost use Rattle.std.specs.Prelude.{◌≡◌, ◌⊎◌, IfOk, OnOk, IfErr, flat_map};
+ghost use Rattle.std.specs.Prelude.{◌⊎◌, IfOk, OnOk, IfErr};
 ghost use Rattle.sqlite_trees.specs.View.{IsClean};
 ghost use Rattle.dagcbor_store.specs.Ends.{Quiet};
 ghost use Rattle.dagcbor_store.specs.Stored.{IsKeptBy, StaysSame, FailsByStore};
-ghost use Rattle.dagstore_lines.specs.Changes.{cid_line};
-ghost use Rattle.dagstore_lines.specs.Roots.{SaysRoots, AreMeant, RootsUnread, Changes, Commits, HasAddedRoots, AddsToRoots, DropsRoots, DropsSome, SaysDropped};
+ghost use Rattle.ipld_links.specs.Reaching.{NoneTwice};
+ghost use Rattle.dagstore_lines.specs.Changes.{Changes};
+ghost use Rattle.dagstore_lines.specs.Roots.{SaysRoots, AreMeant, RootsUnread, HasAddedRoots, AddsToRoots, DropsRoots, SplitsRoots, Drops, SaysDropped};
 ghost use Rattle.dagstore_lines.specs.Said.{StoreFails};
 
-use crate::change::say_taken;
 use crate::fault::Fault;
-use block_lines::{named_line, say};
+use crate::taken::{Taken, give_up, lines_of, say_taken};
+use block_lines::say;
+use dagcbor_resolve::each_once;
 use dagcbor_store::{BlockStore, Store, StoreRefusal};
 use ipld_tree::Cid;
-use std::alloc::{AllocError, Global};
+use std::alloc::Global;
 use std::io::Write;
-
-/// What is told where a name is no root.
-pub const NO_ROOT: &[u8] = b"dagstore: no root has the name\n";
 
 /// What is told where no root is given, and none is stored.
 pub const NO_ROOTS: &[u8] = b"dagstore: no roots are stored; name some, or add-root\n";
-
-/// The lines of the names.
-fn lines_of(alloc: Global, names: &[Cid]) -> Result<Vec<u8>, AllocError>
-    ensures { IfOk result (λ v. v.items ≡ flat_map cid_line names.now) }
-{
-    let mut lines = Vec::new(alloc);
-    for name in names {
-        let line = named_line(alloc, b"", name)?;
-        lines.extend_from_slice(&line)?;
-    }
-    Ok(lines)
-}
 
 /// Writes the roots, a line each, in their order.
 pub fn list_roots<S: Store, W: Write>(
@@ -47,7 +34,7 @@ pub fn list_roots<S: Store, W: Write>(
     ensures quiet { Quiet S.Store store.old store.new }
 {
     let names = store.roots()?;
-    let lines = lines_of(alloc, &names)?;
+    let lines = lines_of(alloc, &names, b"")?;
     let well = say((lines, true), output)?;
     Ok(well)
 }
@@ -90,37 +77,52 @@ pub fn add_roots<S: Store>(store: &mut BlockStore<S>, names: &[Cid]) -> Result<b
     }
 }
 
-/// Takes the names out of the roots. How many were roots, each when its turn came.
-fn drop_each<S: Store>(store: &mut BlockStore<S>, names: &[Cid]) -> Result<u64, StoreRefusal>
-    ensures ok { IfOk result (λ count. IsClean (S.Store.view store.new)
-        → Changes (DropsRoots names.now count) (S.Store.view store.old) (S.Store.view store.new)) }
+/// Takes the names out of the roots, of which none is given twice.
+fn drop_each<S: Store>(
+    alloc: Global,
+    store: &mut BlockStore<S>,
+    names: &[Cid],
+) -> Result<Taken, StoreRefusal>
+    requires { NoneTwice names.now }
+    ensures ok { OnOk result (IsClean (S.Store.view store.new)
+        → Changes (DropsRoots names.now) (S.Store.view store.old) (S.Store.view store.new)) }
+    ensures splits { IfOk result (λ taken. IsClean (S.Store.view store.new)
+        → SplitsRoots (S.Store.view store.old) names.now taken) }
     ensures refused { IfErr result (FailsByStore S.Store ⊥ store.old store.new) }
     ensures quiet { Quiet S.Store store.old store.new }
 {
-    let mut count: u64 = 0;
+    let mut taken = Taken::new(alloc);
     for name in names {
-        let taken = store.remove_root(name)?;
-        count += u64::from(taken);
+        let was_there = store.remove_root(name)?;
+        if taken.note(name, was_there).is_err() {
+            return Err(give_up(store));
+        }
     }
-    Ok(count)
+    Ok(taken)
 }
 
-/// Takes the names out of the roots, and commits that. How many were roots.
-fn drop_out<S: Store>(store: &mut BlockStore<S>, names: &[Cid]) -> Result<u64, StoreRefusal>
-    ensures ok { IfOk result (λ count. IsClean (S.Store.view store.new)
-        → Commits (DropsRoots names.now count) (S.Store.view store.old) (S.Store.view store.new)) }
+/// Takes the names out of the roots, and commits that. A name given twice counts once.
+fn drop_out<S: Store>(
+    alloc: Global,
+    store: &mut BlockStore<S>,
+    names: &[Cid],
+) -> Result<Taken, StoreRefusal>
+    ensures ok { IfOk result (Drops S.Store names.now store.old store.new) }
     ensures refused { IfErr result (FailsByStore S.Store ⊥ store.old store.new) }
     ensures crash { (db : _) → S.Store.recovers store.new db → S.Store.recovers store.old db
-        ⊎ (IsClean (S.Store.view store.new) → DropsSome names.now (S.Store.view store.old).trees db) }
+        ⊎ (IsClean (S.Store.view store.new) → DropsRoots names.now (S.Store.view store.old).trees db) }
     ensures kept { IsKeptBy S.Store store.old store.new }
 {
-    let count = drop_each(store, names)?;
+    let Ok(once) = each_once(alloc, names) else {
+        return Err(give_up(store));
+    };
+    let taken = drop_each(alloc, store, &once)?;
     store.commit()?;
-    Ok(count)
+    Ok(taken)
 }
 
-/// Takes the names out of the roots, and writes how many were roots. Whether each was; else that is
-/// told.
+/// Takes the names out of the roots, and writes how many were roots. Whether each was; else a line of
+/// each that was not is told. A name given twice counts once.
 pub fn drop_roots<S: Store, W: Write, V: Write>(
     alloc: Global,
     store: &mut BlockStore<S>,
@@ -131,11 +133,11 @@ pub fn drop_roots<S: Store, W: Write, V: Write>(
     ensures says { SaysDropped S.Store names.now store.old (W.contents output.old)
         (V.contents errors.old) result store.new (W.contents output.new) (V.contents errors.new) }
     ensures crash { (db : _) → S.Store.recovers store.new db → S.Store.recovers store.old db
-        ⊎ (IsClean (S.Store.view store.new) → DropsSome names.now (S.Store.view store.old).trees db) }
+        ⊎ (IsClean (S.Store.view store.new) → DropsRoots names.now (S.Store.view store.old).trees db) }
     ensures kept { IsKeptBy S.Store store.old store.new }
 {
-    match drop_out(store, names) {
-        Ok(count) => say_taken(alloc, count, names.len() as u64, NO_ROOT, output, errors),
+    match drop_out(alloc, store, names) {
+        Ok(taken) => say_taken(alloc, &taken, b" no root", output, errors),
         Err(refusal) => Err(Fault::Store(refusal)),
     }
 }

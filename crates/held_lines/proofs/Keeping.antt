@@ -13,7 +13,6 @@ use Rattle.dagcbor_car.specs.Versions.{IsFile}
 use Rattle.dagcbor_car.specs.declared.error.CarError.{CarError}
 use Rattle.ipld_links.specs.Sets.{Among}
 use Rattle.ipld_links.specs.Verdicts.{IsVerified}
-use Rattle.ipld_links.specs.Sound.{IsSound}
 use Rattle.ipld_links.specs.Reaching.{Stored, stored_in, IsThere}
 use Rattle.ipld_links.proofs.Members.{at_same, same_at, among_push, push_among}
 use Rattle.block_lines.specs.Lines.{refused_line}
@@ -51,16 +50,13 @@ stores_none kept blocks none = record {
     nothing : {b : List ℕ} → None ≡ Some b → ⊥
     nothing e = cc e
 
-sound_named : (s : Section) → IsSound s → IsVerified s
-sound_named s sound = inl (sound.by_sha256, sound.digest)
-
 good_named : (kept : Kept) (s : Section) → IsBest kept s → IsVerified s
 good_named which.All s good = good
-good_named which.Sound s good = sound_named s good
+good_named which.Verified s good = good.1
 
 good_kept : (kept : Kept) (s : Section) → IsBest kept s → IsKeptSection kept s
 good_kept which.All s good = tt
-good_kept which.Sound s good = good
+good_kept which.Verified s good = good
 
 module _ (kept : Kept) (old new : Stored) (name : CidParts) (block : List ℕ) (sections : List Section) (h : Stores kept sections old) where
   -- the section's bytes are put under its name
@@ -131,7 +127,7 @@ module _ (kept : Kept) (old : BTreeMap CidParts (Vec ℕ Global)) (name : CidPar
 
   -- where no bytes stood there, no section had those that the name says
   none_named : (k : Kept) (sections : List Section) → Stores k sections (stored_in old) → before ≡ None → IsKeptSection k (name, block) → (t : Section) → Among t sections → IsVerified t → t.0 ≡ name → IsVerified (name, block)
-  none_named which.Sound sections h free is t m good e = sound_named (name, block) is
+  none_named which.Verified sections h free is t m good e = is.1
   none_named which.All sections h free is t m good e =
       let none : stored_in old t.0 ≡ None = ap (stored_in old) e ∙ was_stored ∙ ap (option_map (λ (w : Vec ℕ Global). w.items)) free in
       absurd (let clash : true ≡ false = sym (h.all t m tt) ∙ ap is_some none in cc clash)
@@ -152,7 +148,7 @@ module _ (kept : Kept) (old : BTreeMap CidParts (Vec ℕ Global)) (name : CidPar
   -- what stood there is as good
   as_named : (k : Kept) (sections : List Section) → Stores k sections (stored_in old) → (IsBest k (name, block) → ⊥) → IsVerified (name, block) → (b : List ℕ) → stored_in old name ≡ Some b → IsVerified (name, b)
   as_named which.All sections h other is b e = absurd (other is)
-  as_named which.Sound sections h other is b e = sound_named (name, b) (h.some name b e).1
+  as_named which.Verified sections h other is b e = (h.some name b e).1.1
 
   pub kept_there : (new : BTreeMap CidParts (Vec ℕ Global)) → PutsBack name (Some v) old new → StaysInPlace kept before (name, block) → (sections : List Section) → Stores kept sections (stored_in old) → Stores kept (sections ++ (name, block) ∷ []) (stored_in new)
   kept_there new put stays sections h = stores_put kept (stored_in old) (stored_in new) name block sections h

@@ -9,7 +9,6 @@ use Rattle.dagcbor_items.specs.Walks.{forms}
 use Rattle.dagcbor_car.specs.Car.{Section}
 use Rattle.dagcbor_car.specs.Each.{SinkTakes}
 use Rattle.ipld_links.specs.Verdicts.{IsVerified}
-use Rattle.ipld_links.specs.Sound.{IsSound}
 use Rattle.dagcbor_car.specs.Sources.{RefusesStart, RefusesSection}
 use Rattle.dagcbor_car.specs.Versions.{IsFile}
 use Rattle.ipld_links.specs.Sets.{Among}
@@ -37,10 +36,10 @@ TellsFault IsSo b told = (e : CarError Infallible) × IsFileFault IsSo e b × (t
 
 -- ---- what is held
 
--- which sections are kept: each, or the sound ones
+-- which sections are kept: each, or those whose bytes are the ones that the name says, by SHA-256
 abbrev pub IsKeptSection : Kept → Section → Type 0
 IsKeptSection which.All s = ⊤
-IsKeptSection which.Sound s = IsSound s
+IsKeptSection which.Verified s = (s.0.hash_code ≡ 0x12) × IsVerified s
 
 -- under each name of a section that is kept stand the bytes of such a section: those that the name
 -- says, where a section has them; under no other name stand any
@@ -63,7 +62,7 @@ HoldsFile kept b held = MatchResult held
 -- no section is better than this one
 abbrev pub IsBest : Kept → Section → Type 0
 IsBest which.All s = IsVerified s
-IsBest which.Sound s = IsSound s
+IsBest which.Verified s = (s.0.hash_code ≡ 0x12) × IsVerified s
 
 -- a section stays in the place of what stood under its name: none is better; or the same bytes
 -- stood there; or none did, and it is kept

@@ -9,7 +9,7 @@ ghost use Rattle.held_lines.specs.Holding.{KeepsNext, HoldsFile};
 use crate::take::{Ended, take_input};
 use dagcbor_car::{Section, SectionSink};
 use dagcbor_cli::ToolError;
-use ipld_links::{Verdict, check_block, stored_bytes, verify};
+use ipld_links::{SHA2_256, Verdict, stored_bytes, verify};
 use ipld_tree::Cid;
 use std::alloc::{AllocError, Global};
 use std::collections::BTreeMap;
@@ -20,8 +20,8 @@ use std::io::BufRead;
 pub enum Kept {
     /// Each, whatever its bytes: who reads a block judges it.
     All,
-    /// Those that are sound.
-    Sound,
+    /// Those whose bytes are the ones that the name says, by SHA-256.
+    Verified,
 }
 
 /// The blocks of a file, each under its name.
@@ -65,7 +65,7 @@ fn is_good(kept: Kept, section: &Section<'_>) -> bool
 {
     match kept {
         Kept::All => is_named(section),
-        Kept::Sound => check_block(&section.cid, section.block).is_ok(),
+        Kept::Verified => section.cid.hash_code() == SHA2_256 && is_named(section),
     }
 }
 

@@ -6,3 +6,5 @@ pub mod Rows
 pub mod Within
 pub mod Reaching
 pub mod Colliding
+pub mod Linking
+pub mod Judging

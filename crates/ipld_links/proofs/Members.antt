@@ -1,8 +1,9 @@
 -- Members of lists, and of sets of CIDs.
-use Rattle.std.proofs.Common.{◌≡◌, ◌⊎◌, inl, inr, ℕ, List, [], ◌∷◌, ◌++◌, map, Bool, true, false, ◌||◌, cond, Ordering, Less, Equal, Greater, refl, sym, ap, ◌∙◌, subst, nat_cmp, is_eq}
+use Rattle.std.proofs.Common.{◌≡◌, ◌≢◌, ◌⊎◌, Result, Ok, Err, OnErr, ◌<◌, length, arith, inl, inr, ℕ, List, [], ◌∷◌, ◌++◌, map, Bool, true, false, ◌||◌, cond, Ordering, Less, Equal, Greater, refl, sym, ap, ◌∙◌, subst, nat_cmp, is_eq}
 use Rattle.std.specs.Ordering.{ordering_then, ordering_reverse}
 use Rattle.std.specs.Cmp.Lexicographic.{slice_cmp}
 use Rattle.std.specs.List.{list_any}
+use Rattle.std.specs.List.Sorted.{IsStrictlySortedBy}
 use Rattle.std.specs.BTreeMap.{is_at}
 use Rattle.std.specs.BTreeSet as set
 use Rattle.std.proofs.lemmas.Cmp.{nat_cmp_total, nat_list_cmp_total}
@@ -19,6 +20,26 @@ use Rattle.ipld_links.specs.Sets.{Among, members, AddsCid, RemovesCid}
 use Rattle.ipld_links.specs.declared.cid_set.CidSet.{CidSet}
 
 -- ---- lists
+
+-- a list with a place in it is not empty
+pub some_left : {X : Type 0} (xs : List X) (i : ℕ) → i < length xs → xs ≢ []
+some_left [] i lt is = omega (arith, lt)
+some_left (x ∷ xs) i lt is = absurd (cc is)
+
+pub none_of : {X : Type 0} (xs : List X) → length xs ≡ 0 → xs ≡ []
+none_of [] none = refl
+none_of (x ∷ xs) none = absurd (omega (arith, none))
+
+-- a refusal comes only where there are some
+pub some_of : {X A E : Type 0} (xs : List X) (r : Result A E) → (length xs ≡ 0 → ⊥) → OnErr r (xs ≢ [])
+some_of xs (Ok v) some = tt
+some_of [] (Err e) some = absurd (some refl)
+some_of (x ∷ xs) (Err e) some = λ none. cc none
+
+pub none_in_order : (xs : List CidParts) → xs ≡ [] → IsStrictlySortedBy cid_cmp xs
+unfolding IsStrictlySortedBy
+none_in_order [] none = tt
+none_in_order (x ∷ xs) none = absurd (cc none)
 
 pub among_push : {X : Type 0} (x : X) (xs : List X) (y : X) → Among x (xs ++ y ∷ []) → Among x xs ⊎ (x ≡ y)
 among_push x [] y (inl e) = inr e

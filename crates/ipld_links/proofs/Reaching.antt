@@ -1,23 +1,21 @@
 -- The walk along links.
-use Rattle.std.proofs.Common.{◌≡◌, ◌⊎◌, inl, inr, ℕ, zero, suc, List, [], ◌∷◌, ◌++◌, reverse, Bool, true, false, cond, refl, sym, ap, ◌∙◌, subst, ◌↔◌, Option, None, Some, is_some, option_map, Result, Ok, Err, IfOk, OnOk, Vec, Global, BTreeSet}
+use Rattle.std.proofs.Common.{◌≡◌, ◌⊎◌, inl, inr, ℕ, zero, suc, List, [], ◌∷◌, ◌++◌, reverse, Bool, true, false, cond, refl, sym, ap, ◌∙◌, subst, ◌↔◌, Option, None, Some, MatchOption, is_some, option_map, Result, Ok, Err, IfOk, OnOk, Vec, Global, BTreeSet}
 use Rattle.std.specs.List.{AllByRecursion}
 use Rattle.std.specs.BTreeMap.{is_at}
 use Rattle.std.specs.BTreeSet as set
 use Rattle.std.proofs.lemmas.Grind.{reverse_onto}
 use Rattle.ipld_tree.specs.Cid.{CidParts, AreCidParts, cid_bytes, cid_cmp}
-use Rattle.ipld_tree.specs.Tree.{Tree, links_of}
 use Rattle.ipld_tree.proofs.Cids.{cid_unique}
-use Rattle.ipld_tree.proofs.Fronts.{front_unique}
-use Rattle.dagcbor_items.specs.Slices.{IsBlock, AreFirstLinks}
 use Rattle.dagcbor_items.specs.Walks.{forms}
-use Rattle.dagcbor_items.proofs.SliceReads.{whole_front}
 use Rattle.ipld_links.specs.Names.{IsInline}
-use Rattle.ipld_links.specs.Blocks.{HasBlock}
-use Rattle.ipld_links.specs.Verdicts.{IsDagCbor}
+use Rattle.ipld_links.specs.Blocks.{HasLinks, HasKnownLinks}
+use Rattle.ipld_links.specs.Verdicts.{HidesLinks}
+use Rattle.ipld_links.specs.declared.verdict.Verdict.{Verdict}
 use Rattle.ipld_links.specs.Sets.{Among}
 use Rattle.ipld_links.specs.declared.reach.Walk.{Walk}
-use Rattle.ipld_links.specs.Reaching.{Stored, IsThere, IsLost, AreBytesOf, NamesTree, LeadsTo, IsStepsFrom, LeadsFar, NoneTwice, Lists, ListsReachable, ListsLost, Covers, IsWalked, Visits, AreLinksOf, PushesAll, Sees, Sorts, SortsOut}
-use Rattle.ipld_links.proofs.Members.{at_same, same_at, any_among, among_any, among_push, push_among, among_append, append_among, among_map, map_among, whole_block}
+use Rattle.ipld_links.specs.Reaching.{Stored, IsThere, IsLost, AreBytesOf, NamesLinks, LeadsTo, IsStepsFrom, LeadsFar, NoneTwice, Lists, ListsReachable, ListsLost, Covers, IsWalked, Visits, AreLinksOf, PushesAll, Sees, SeesAlso, Sorts, SortsOut, KnowsLinks, HidesLinksUnder, WalksAt}
+use Rattle.ipld_links.proofs.Rows.{one_links}
+use Rattle.ipld_links.proofs.Members.{at_same, same_at, any_among, among_any, among_push, push_among, among_append, append_among, among_map, map_among}
 
 -- ---- lists
 
@@ -43,10 +41,6 @@ all_among P (y ∷ ys) x h (inr m) = all_among P ys x h.1 m
 
 -- ---- the links of one block
 
-pub links_found : {E : Type 0} (r : Result (Vec CidParts Global) E) (b : List ℕ) → HasBlock b → IfOk r (λ v. AreFirstLinks b (forms v.items)) → IfOk r (λ v. AreLinksOf (IsBlock b) v.items)
-links_found (Err e) b has f = tt
-links_found (Ok v) b has f = inl (f.0, whole_block b f.1 f.0 has f.2, f.4)
-
 -- the bytes under a name are the same
 one_bytes : (stored : Stored) (name : CidParts) (b c : List ℕ) → AreBytesOf stored name b → AreBytesOf stored name c → b ≡ c
 one_bytes stored name b c (inl h) (inl k) = cc (sym h ∙ k)
@@ -54,22 +48,32 @@ one_bytes stored name b c (inl h) (inr k) = let clash : Some b ≡ None = sym h 
 one_bytes stored name b c (inr h) (inl k) = let clash : Some c ≡ None = sym k ∙ h.0 in absurd (cc clash)
 one_bytes stored name b c (inr h) (inr k) = sym h.2 ∙ k.2
 
-pub links_inside : {E : Type 0} (r : Result (Vec CidParts Global) E) (stored : Stored) (name : CidParts) → IsDagCbor name → stored name ≡ None → IfOk r (λ v. AreLinksOf (λ t. IsInline name × IsBlock name.digest t) v.items) → IfOk r (λ v. AreLinksOf (NamesTree stored name) v.items)
-links_inside (Err e) stored name d free links = tt
-links_inside (Ok v) stored name d free (inl h) = inl (h.0, (d, (name.digest, inr (free, h.1.0, refl), h.1.1)), h.2)
-links_inside (Ok v) stored name d free (inr n) = inr (
+pub links_inside : {E : Type 0} (r : Result (Vec CidParts Global) E) (stored : Stored) (name : CidParts) → stored name ≡ None → IfOk r (λ v. AreLinksOf (λ all. IsInline name × HasLinks name.codec name.digest all) v.items) → IfOk r (λ v. AreLinksOf (NamesLinks stored name) v.items)
+links_inside (Err e) stored name free links = tt
+links_inside (Ok v) stored name free (inl h) = inl (name.digest, inr (free, h.0, refl), h.1)
+links_inside (Ok v) stored name free (inr n) = inr (
   n.0,
-  λ t k. elim k.1.1 [
-    | inl s ↦ (let clash : None ≡ Some k.1.0 = sym free ∙ s in absurd (cc clash))
-    | inr s ↦ n.1 t (s.1, subst (λ x. IsBlock x t) (sym s.2) k.1.2)
+  λ all k. elim k.1 [
+    | inl s ↦ (let clash : None ≡ Some k.0 = sym free ∙ s in absurd (cc clash))
+    | inr s ↦ n.1 all (s.1, subst (λ x. HasLinks name.codec x all) (sym s.2) k.2)
   ],
 )
 
--- the block under a name is one
-one_tree : (stored : Stored) (name : CidParts) (t u : Tree) → NamesTree stored name t → NamesTree stored name u → t ≡ u
-one_tree stored name t u h k =
-    let block = subst (λ x. IsBlock x t) (one_bytes stored name h.1.0 k.1.0 h.1.1 k.1.1) h.1.2 in
-    (front_unique k.1.0 [] [] t u (whole_front block.0) (whole_front k.1.2.0)).0
+pub inline_links : {E : Type 0} (r : Result (Vec CidParts Global) E) (name : CidParts) → IsInline name → IfOk r (λ v. AreLinksOf (HasLinks name.codec name.digest) v.items) → IfOk r (λ v. AreLinksOf (λ all. IsInline name × HasLinks name.codec name.digest all) v.items)
+inline_links (Err e) name i h = tt
+inline_links (Ok v) name i (inl h) = inl (i, h)
+inline_links (Ok v) name i (inr n) = inr (n.0, λ all k. n.1 all k.1)
+
+pub named_links : {E : Type 0} (r : Result (Vec CidParts Global) E) (stored : Stored) (name : CidParts) (b : List ℕ) → stored name ≡ Some b → IfOk r (λ v. AreLinksOf (HasLinks name.codec b) v.items) → IfOk r (λ v. AreLinksOf (NamesLinks stored name) v.items)
+named_links (Err e) stored name b at h = tt
+named_links (Ok v) stored name b at (inl h) = inl (b, inl at, h)
+named_links (Ok v) stored name b at (inr n) = inr (n.0, λ all k. n.1 all (subst (λ x. HasLinks name.codec x all) (one_bytes stored name k.0 b k.1 (inl at)) k.2))
+
+-- the links under a name are these
+one_named : (stored : Stored) (name : CidParts) (ls ms : List (List ℕ)) → NamesLinks stored name ls → NamesLinks stored name ms → ls ≡ ms
+one_named stored name ls ms h k =
+    let block = subst (λ x. HasLinks name.codec x ls) (one_bytes stored name h.0 k.0 h.1 k.1) h.2 in
+    one_links name.codec k.0 ls ms block k.2
 
 -- ---- one name
 
@@ -140,7 +144,7 @@ lists_push P name seen more listed new sees fresh is put h = record {
 }
 
 module _ (stored : Stored) (root name : CidParts) (block : Option (List ℕ)) (at : stored name ≡ block) (seen waiting found lost : List CidParts) (fresh : Among name seen → ⊥) (h : IsWalked stored root seen (waiting ++ name ∷ []) found lost)
-    (more later finds loses links : List CidParts) (sees : (q : CidParts) → Among q more ↔ (Among q seen ⊎ (q ≡ name))) (pushes : PushesAll (reverse links) waiting later) (listed : AreLinksOf (NamesTree stored name) links) where
+    (more later finds loses links : List CidParts) (sees : (q : CidParts) → Among q more ↔ (Among q seen ⊎ (q ≡ name))) (pushes : PushesAll (reverse links) waiting later) (listed : AreLinksOf (NamesLinks stored name) links) where
   here : Covers seen (waiting ++ name ∷ []) name
   here = inr (push_among name waiting name (inr refl))
 
@@ -156,15 +160,15 @@ module _ (stored : Stored) (root name : CidParts) (block : Option (List ℕ)) (a
 
   leads : (q : CidParts) → Among q (reverse links) → LeadsTo stored name q
   leads q m = elim listed [
-    | inl t ↦ (valid_link q m, (t.0, t.1, subst (Among (cid_bytes q)) t.2 (among_map cid_bytes q links (reverse_among q links m))))
+    | inl t ↦ (valid_link q m, (forms links, t, among_map cid_bytes q links (reverse_among q links m)))
     | inr n ↦ absurd (subst (Among q) n.0 (reverse_among q links m))
   ]
 
   linked : (r : CidParts) → LeadsTo stored name r → Among r (reverse links)
   linked r l = elim listed [
     | inl t ↦
-        let tree : l.1.0 ≡ t.0 = one_tree stored name l.1.0 t.0 l.1.1 t.1 in
-        let k = map_among cid_bytes (cid_bytes r) links (subst (Among (cid_bytes r)) (ap links_of tree ∙ sym t.2) l.1.2) in
+        let same : l.1.0 ≡ forms links = one_named stored name l.1.0 (forms links) l.1.1 t in
+        let k = map_among cid_bytes (cid_bytes r) links (subst (Among (cid_bytes r)) same l.1.2) in
         let m = among_reverse k.0 links k.1 in
         subst (λ x. Among x (reverse links)) (sym (cid_unique r k.0 l.0 (valid_link k.0 m) k.2)) m
     | inr n ↦ absurd (n.1 l.1.0 l.1.1)
@@ -236,13 +240,14 @@ module _ (stored : Stored) (root name : CidParts) (block : Option (List ℕ)) (a
 
 -- ---- the end
 
-pub walk_over : (stored : Stored) (root : CidParts) (seen waiting found lost : List CidParts) → waiting ≡ [] → IsWalked stored root seen waiting found lost → ListsReachable stored root found × ListsLost stored root lost
+pub walk_over : (stored : Stored) (root : CidParts) (seen waiting found lost : List CidParts) → waiting ≡ [] → IsWalked stored root seen waiting found lost → ListsReachable stored root found × ListsLost stored root lost × ((q : CidParts) → LeadsFar stored root q → Among q seen)
 walk_over stored root seen waiting found lost none h = (
   record {
     lists = all_listed (IsThere stored) found h.finds;
     first = λ k. elim h.first [ inl b ↦ absurd (cc (sym none ∙ b.1)) | inr f ↦ f k ];
   },
   all_listed (IsLost stored) lost h.loses,
+  λ q far. by far.0 q far.1,
 )
   where
     covered : (q : CidParts) → Covers seen waiting q → Among q seen
@@ -266,14 +271,14 @@ none_found stored root gone = record {
   first = λ k. let clash : true ≡ false = sym k ∙ ap is_some gone.0 in absurd (cc clash);
 }
   where
-    no_tree : (t : Tree) → NamesTree stored root t → ⊥
-    no_tree t h = elim h.1.1 [
-      | inl s ↦ (let clash : None ≡ Some h.1.0 = sym gone.0 ∙ s in absurd (cc clash))
+    no_links : (all : List (List ℕ)) → NamesLinks stored root all → ⊥
+    no_links all h = elim h.1 [
+      | inl s ↦ (let clash : None ≡ Some h.0 = sym gone.0 ∙ s in absurd (cc clash))
       | inr s ↦ gone.1 s.1
     ]
 
     by : (n : ℕ) (q r : CidParts) → IsStepsFrom stored root n q → LeadsTo stored q r → ⊥
-    by zero q r e l = no_tree l.1.0 (subst (λ x. NamesTree stored x l.1.0) e l.1.1)
+    by zero q r e l = no_links l.1.0 (subst (λ x. NamesLinks stored x l.1.0) e l.1.1)
     by (suc n) q r s l = by n s.0 q s.1 s.2
 
     elsewhere : (n : ℕ) (q : CidParts) → IsStepsFrom stored root n q → IsThere stored q → ⊥
@@ -291,7 +296,7 @@ module _ (name : CidParts) (block : Option (List ℕ)) (old seen mid : Walk) (la
   abbrev visited_walk : Walk
   visited_walk = record { alloc = mid.alloc; seen = mid.seen; waiting = later; found = mid.found; lost = mid.lost }
 
-  visited_name : ((stored : Stored) → stored name ≡ block → AreLinksOf (NamesTree stored name) links) → Sees name old seen → SortsOut name (is_some block) seen mid → PushesAll (reverse links) mid.waiting.items later.items → Visits name block old visited_walk
+  visited_name : ((stored : Stored) → stored name ≡ block → AreLinksOf (NamesLinks stored name) links) → Sees name old seen → SortsOut name (is_some block) seen mid → PushesAll (reverse links) mid.waiting.items later.items → Visits name block old visited_walk
   visited_name listed sees sorted pushes stored root at h =
       let waits : mid.waiting.items ≡ old.waiting.items = ap (λ (v : Vec CidParts Global). v.items) (sorted.waiting ∙ sees.waiting) in
       walk_far stored root name block at old.seen.keys old.waiting.items old.found.items old.lost.items h.0 h.1 mid.seen.keys later.items mid.found.items mid.lost.items links
@@ -300,11 +305,36 @@ module _ (name : CidParts) (block : Option (List ℕ)) (old seen mid : Walk) (la
       (listed stored at)
       (subst (λ (v : Vec CidParts Global). Sorts name (is_some block) v.items old.lost.items mid.found.items mid.lost.items) sees.found (subst (λ (v : Vec CidParts Global). Sorts name (is_some block) seen.found.items v.items mid.found.items mid.lost.items) sees.lost sorted.sorts))
 
-  pub visited : {E : Type 0} (r : Result (Unit {0}) E) (turned : List CidParts) (b : Bool) → ((stored : Stored) → stored name ≡ block → AreLinksOf (NamesTree stored name) links) → Sees name old seen → b ≡ is_some block → SortsOut name b seen mid → turned ≡ reverse links
+  pub visited : {E : Type 0} (r : Result (Unit {0}) E) (turned : List CidParts) (b : Bool) → ((stored : Stored) → stored name ≡ block → AreLinksOf (NamesLinks stored name) links) → Sees name old seen → b ≡ is_some block → SortsOut name b seen mid → turned ≡ reverse links
       → OnOk r (PushesAll turned mid.waiting.items later.items) → OnOk r (Visits name block old visited_walk)
   visited (Err e) turned b listed sees is sorted turns pushes = tt
   visited (Ok x) turned b listed sees is sorted turns pushes =
       visited_name listed sees (subst (λ y. SortsOut name y seen mid) is sorted) (subst (λ ls. PushesAll ls mid.waiting.items later.items) turns pushes)
 
+  pub visited_seen : {E : Type 0} (r : Result (Unit {0}) E) (b : Bool) → Sees name old seen → SortsOut name b seen mid → OnOk r (SeesAlso name old visited_walk)
+  visited_seen (Err e) b sees sorted = tt
+  visited_seen (Ok x) b sees sorted = subst (λ (s : BTreeSet CidParts). (q : CidParts) → Among q s.keys ↔ (Among q old.seen.keys ⊎ (q ≡ name))) (sym sorted.seen) sees.seen
+
 pub is_there_now : {X Y : Type 0} (f : X → Y) (o : Option X) (b : Bool) → b ≡ is_some o → b ≡ is_some (option_map f o)
 is_there_now f o b e = e ∙ sym (map_some f o)
+
+-- ---- names whose links are known
+
+pub known_bytes : (o : Option Verdict) (stored : Stored) (name : CidParts) (b : List ℕ) → stored name ≡ Some b → MatchOption o (HasKnownLinks name.codec b) (HidesLinks name.codec b) → MatchOption o (KnowsLinks stored name) (HidesLinksUnder stored name)
+known_bytes None stored name b at h = λ c is. subst (HasKnownLinks name.codec) (one_bytes stored name b c (inl at) is) h
+known_bytes (Some v) stored name b at h = (b, inl at, h)
+
+pub known_inside : (o : Option Verdict) (stored : Stored) (name : CidParts) → stored name ≡ None → IsInline name → MatchOption o (HasKnownLinks name.codec name.digest) (HidesLinks name.codec name.digest) → MatchOption o (KnowsLinks stored name) (HidesLinksUnder stored name)
+known_inside None stored name free i h = λ c is. subst (HasKnownLinks name.codec) (one_bytes stored name name.digest c (inr (free, i, refl)) is) h
+known_inside (Some v) stored name free i h = (name.digest, inr (free, i, refl), h)
+
+pub nothing_known : (stored : Stored) (name : CidParts) → stored name ≡ None → (IsInline name → ⊥) → KnowsLinks stored name
+nothing_known stored name free other b (inl s) = let clash : None ≡ Some b = sym free ∙ s in absurd (cc clash)
+nothing_known stored name free other b (inr s) = absurd (other s.1)
+
+-- what holds of the names seen holds of one more
+pub all_seen : (P : CidParts → Type 0) (name : CidParts) (old new : Walk) → ((q : CidParts) → Among q old.seen.keys → P q) → P name → SeesAlso name old new → (q : CidParts) → Among q new.seen.keys → P q
+all_seen P name old new h is sees q m = elim ((sees q).0 m) [ inl o ↦ h q o | inr e ↦ subst P (sym e) is ]
+
+pub leads_next : (stored : Stored) (root name : CidParts) (walk : Walk) → WalksAt stored root name walk → LeadsFar stored root name
+leads_next stored root name walk at = at.1.stepped name (inr (push_among name walk.waiting.items name (inr refl)))

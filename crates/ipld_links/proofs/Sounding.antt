@@ -8,6 +8,7 @@ use Rattle.dagcbor_heads.specs.declared.error.DecodeError.TheVariants as unread
 use Rattle.ipld_tree.specs.Tree.{Tree}
 use Rattle.dagcbor_items.specs.Slices.{IsBlock, SliceRefused}
 use Rattle.dagcbor_items.specs.Stops.{StandsAt}
+use Rattle.dag_pb.specs.declared.error.PbError.{PbError}
 use Rattle.ipld_links.specs.Names.{IsBySha256, block_name}
 use Rattle.ipld_links.specs.Blocks.{NamedBlock}
 use Rattle.ipld_links.specs.Blocks.{HasBlock}
@@ -15,7 +16,7 @@ use Rattle.ipld_links.specs.Verdicts.{IsVerified, IsVerdict}
 use Rattle.ipld_links.specs.Sound.{IsSound, IsUnsound}
 use Rattle.ipld_links.specs.declared.sound.Unsound.{Unsound}
 use Rattle.ipld_links.specs.declared.sound.Unsound.TheVariants as unsound
-use Rattle.ipld_links.specs.declared.verdict.Verdict.TheVariants.{Block, Refused, OtherBytes, NotRead}
+use Rattle.ipld_links.specs.declared.verdict.Verdict.TheVariants.{Block, Refused, Node, NoNode, OtherBytes, NotRead, LinksNotRead}
 
 -- a name by SHA-256 is not by the identity
 by_sha256 : (s : NamedBlock) → s.0.hash_code ≡ 0x12 → IsVerified s → IsBySha256 s.0 × (s.0.digest ≡ sha256 s.1)
@@ -24,17 +25,26 @@ by_sha256 s by (inr h) = absurd (omega (arith, by, h.0))
 
 -- what the verdict says of a block under a name by SHA-256 that is kept
 pub sound_read : (s : NamedBlock) (kind : _) → s.0.hash_code ≡ 0x12 → IsVerdict s (Block kind) → IsSound s
-sound_read s kind by h = let v = by_sha256 s by h.0 in record { by_sha256 = v.0; digest = v.1; read = λ dag. (h.2.0, h.2.1) }
+sound_read s kind by h = let v = by_sha256 s by h.0 in record { by_sha256 = v.0; digest = v.1; read = λ dag. (h.1.1.0, h.1.1.1); node = λ pb. absurd (omega (arith, pb, h.1.0)) }
 
 pub sound_unread : (s : NamedBlock) → s.0.hash_code ≡ 0x12 → IsVerdict s NotRead → IsSound s
-sound_unread s by h = let v = by_sha256 s by h.0 in record { by_sha256 = v.0; digest = v.1; read = λ dag. absurd (h.1 dag) }
+sound_unread s by h = let v = by_sha256 s by h.0 in record { by_sha256 = v.0; digest = v.1; read = λ dag. absurd (omega (arith, h.1, dag)); node = λ pb. absurd (omega (arith, h.1, pb)) }
+
+pub sound_unknown : (s : NamedBlock) → s.0.hash_code ≡ 0x12 → IsVerdict s LinksNotRead → IsSound s
+sound_unknown s by h = let v = by_sha256 s by h.0 in record { by_sha256 = v.0; digest = v.1; read = λ dag. absurd (h.1.1 (inl dag)); node = λ pb. absurd (h.1.1 (inr pb)) }
+
+pub sound_node : (s : NamedBlock) → s.0.hash_code ≡ 0x12 → IsVerdict s Node → IsSound s
+sound_node s by h = let v = by_sha256 s by h.0 in record { by_sha256 = v.0; digest = v.1; read = λ dag. absurd (omega (arith, dag, h.1.0)); node = λ pb. h.1.1 }
+
+pub unsound_node : (s : NamedBlock) (e : PbError) → s.0.hash_code ≡ 0x12 → IsVerdict s (NoNode e) → IsUnsound s (unsound.NoNode e)
+unsound_node s e by h = let v = by_sha256 s by h.0 in (v.0, v.1, h.1.0, h.1.1)
 
 -- and of one that is not: it is judged again for its place
 pub sound_after : (s : NamedBlock) (e : DecodeError Infallible) (t : Tree) → s.0.hash_code ≡ 0x12 → IsVerdict s (Refused e) → IsBlock s.1 t → IsSound s
-sound_after s e t by h b = let v = by_sha256 s by h.0 in record { by_sha256 = v.0; digest = v.1; read = λ dag. (t, b) }
+sound_after s e t by h b = let v = by_sha256 s by h.0 in record { by_sha256 = v.0; digest = v.1; read = λ dag. (t, b); node = λ pb. absurd (omega (arith, pb, h.1.0)) }
 
 pub unsound_refused : (s : NamedBlock) (said e : DecodeError Infallible) (place : ℕ) → s.0.hash_code ≡ 0x12 → IsVerdict s (Refused said) → SliceRefused e s.1 → (e ≡ unread.OutOfMemory → ⊥) → StandsAt e s.1 place → IsUnsound s (unsound.NoBlock e place)
-unsound_refused s said e place by h r n k = let v = by_sha256 s by h.0 in (v.0, v.1, h.1, r, n, k)
+unsound_refused s said e place by h r n k = let v = by_sha256 s by h.0 in (v.0, v.1, h.1.0, r, n, k)
 
 pub unsound_bytes : (s : NamedBlock) → s.0.hash_code ≡ 0x12 → IsVerdict s OtherBytes → IsUnsound s unsound.OtherBytes
 unsound_bytes s by (inl h, not) = (h, λ e. not (inl (h, e)))
@@ -55,7 +65,8 @@ pub never_unsound : (s : NamedBlock) (e : Unsound) → IsSound s → IsUnsound s
 never_unsound s unsound.OtherHash h r = r h.by_sha256
 never_unsound s unsound.OtherBytes h r = r.1 h.digest
 never_unsound s (unsound.NoBlock e place) h r = let block = h.read r.2 in no_block e s.1 r.3 r.4 block.0 block.1
+never_unsound s (unsound.NoNode e) h r = r.3.0 (h.node r.2)
 
 -- a block of DAG-CBOR is sound under its own name
 pub sound_own : (b : List ℕ) → HasBlock b → IsSound (block_name b, b)
-sound_own b h = record { by_sha256 = (refl, length-sha256 b); digest = refl; read = λ dag. h }
+sound_own b h = record { by_sha256 = (refl, length-sha256 b); digest = refl; read = λ dag. h; node = λ pb. absurd (omega (arith, pb)) }

@@ -1,25 +1,26 @@
 -- Links within links.
-use Rattle.std.proofs.Common.{◌≡◌, ◌⊎◌, inl, inr, ℕ, ◌+◌, ◌<◌, ◌≤◌, zero, suc, Bool, true, false, List, [], ◌∷◌, ◌++◌, length, length-append, get_or, take, refl, sym, ap, ◌∙◌, subst, arith, add-one, ◌≢◌, ◌↔◌, Result, Ok, Err, is_err, OnOk, if◌then◌else◌, ◌==◌, take-suc}
+use Rattle.std.proofs.Common.{◌≡◌, ◌⊎◌, inl, inr, map, IsTrue, ℕ, ◌+◌, ◌<◌, ◌≤◌, zero, suc, Bool, true, false, List, [], ◌∷◌, ◌++◌, length, length-append, get_or, take, refl, sym, ap, ◌∙◌, subst, arith, add-one, ◌≢◌, ◌↔◌, Result, Ok, Err, is_err, OnOk, if◌then◌else◌, ◌==◌, take-suc}
 use Rattle.std.specs.List.{AllByRecursion}
 use Rattle.std.proofs.Math.Seq.{take-length}
 use Rattle.ipld_tree.specs.Cid.{varint, CidParts, AreCidParts, IsCid, cid_bytes}
 use Rattle.ipld_tree.specs.Tree.{Tree, null, boolean, integer, text, bytes, list, mapping, link, Items, no_items, item, Entries, no_entries, entry, IsTree, AreItems, AreEntries, links_of, items_links, entries_links}
 use Rattle.ipld_tree.proofs.Cids.{cid_unique}
-use Rattle.ipld_tree.proofs.Fronts.{front_unique}
 use Rattle.dagcbor_items.specs.Walks.{forms, AreLinksIn, HasLinkIn}
-use Rattle.dagcbor_items.specs.Slices.{IsBlock, AreFirstLinks}
+use Rattle.dagcbor_items.specs.Slices.{AreFirstLinks}
 use Rattle.dagcbor_items.proofs.LinksIn.{item_links_in}
-use Rattle.dagcbor_items.proofs.SliceReads.{whole_front}
 use Rattle.ipld_links.specs.Names.{IsInline}
-use Rattle.ipld_links.specs.Verdicts.{IsDagCbor}
-use Rattle.ipld_links.specs.Blocks.{HasBlock}
+use Rattle.dag_pb.specs.Node.{LinkParts}
+use Rattle.dag_pb.specs.Reads.{links_in}
+use Rattle.dag_pb.proofs.Rows.{row_links}
+use Rattle.dag_pb.proofs.Reading.{row_of_node}
+use Rattle.ipld_links.specs.Blocks.{HasLinks, IsBlockOf}
 use Rattle.ipld_links.specs.Sets.{Among, members}
 use Rattle.ipld_links.specs.Held.{IsHeldName, HoldsNone}
-use Rattle.ipld_links.specs.Within.{IsInlineForm, IsLinkWithin, IsReached, IsReachedName, AddsUnheld, AddsReached, AddsAll, AreFirstNames, AddsLinks}
+use Rattle.ipld_links.specs.Within.{IsInlineForm, IsLinkWithin, IsReached, IsReachedName, AddsUnheld, AddsReached, AddsAll, AreFirstNames, AddsLinks, AreNamesOf}
 use Rattle.ipld_links.specs.declared.cid_set.CidSet.{CidSet}
 use Rattle.ipld_links.specs.declared.held.HeldNames.{HeldNames}
-use Rattle.ipld_links.specs.Rows.{HoldsLinks}
-use Rattle.ipld_links.proofs.Rows.{forms_push, LinksSoFar, none_so_far, one_so_far, all_so_far}
+use Rattle.ipld_links.specs.Rows.{HoldsLinksAs}
+use Rattle.ipld_links.proofs.Rows.{one_links, forms_push, LinksSoFar, none_so_far, one_so_far, all_so_far}
 use Rattle.ipld_links.proofs.Members.{among_append, append_among}
 
 -- ---- links are CIDs
@@ -44,13 +45,24 @@ mutual
   entries_are_cids no_entries form p h = absurd h
   entries_are_cids (entry k t es) form p h = elim (among_append form (links_of t) (entries_links es) h) [ inl m ↦ links_are_cids t form p.1 m | inr m ↦ entries_are_cids es form p.3 m ]
 
+all_map : {X : Type 0} (P : List ℕ → Type 0) (f : X → List ℕ) (xs : List X) (form : List ℕ) → AllByRecursion (λ x. P (f x)) xs → Among form (map f xs) → P form
+all_map P f [] form h m = absurd m
+all_map P f (x ∷ xs) form h (inl e) = subst P (sym e) h.0
+all_map P f (x ∷ xs) form h (inr m) = all_map P f xs form h.1 m
+
+pub block_links_are_cids : (codec : ℕ) (b : List ℕ) (links : List (List ℕ)) (form : List ℕ) → HasLinks codec b links → Among form links → IsCid form
+block_links_are_cids codec b links form (inl (c, (t, block, e))) m = links_are_cids t form block.0.well_formed (subst (Among form) e m)
+block_links_are_cids codec b links form (inr (c, (node, h, e))) m =
+    let k = row_of_node b node h in
+    all_map IsCid (λ (l : LinkParts). cid_bytes l.hash) (links_in k.0) form (row_links b k.0 [] k.1 IsCid (λ d valid. (d, valid, refl))) (subst (Among form) (e ∙ k.2) m)
+
 within_cid : (n : ℕ) (start form : List ℕ) → IsCid start → IsLinkWithin n start form → IsCid form
 within_cid zero start form c e = subst IsCid (sym e) c
-within_cid (suc n) start form c w = within_cid n w.1 form (links_are_cids w.0 w.1 w.2.5.0.well_formed w.3) w.4
+within_cid (suc n) start form c w = within_cid n w.1 form (block_links_are_cids w.2.0.codec w.2.0.digest w.0 w.1 w.2.4 w.3) w.4
 
--- what is reached from the links of a tree is a CID
-pub reached_cid : (t : Tree) (form : List ℕ) → IsTree t → IsReached form (links_of t) → IsCid form
-reached_cid t form p r = within_cid r.1 r.0 form (links_are_cids t r.0 p r.2) r.3
+-- what is reached from the links of a block is a CID
+pub reached_cid : (codec : ℕ) (b : List ℕ) (links : List (List ℕ)) (form : List ℕ) → HasLinks codec b links → IsReached form links → IsCid form
+reached_cid codec b links form h r = within_cid r.1 r.0 form (block_links_are_cids codec b links r.0 h r.2) r.3
 
 -- what is reached from CIDs is one
 pub reached_of_cids : (cs : List CidParts) (form : List ℕ) → AllByRecursion AreCidParts cs → IsReached form (forms cs) → IsCid form
@@ -87,35 +99,43 @@ pub plain_added : {E : Type 0} (r : Result (Unit {0}) E) (c : CidParts) (held : 
 plain_added (Err e) c held old new none a = tt
 plain_added (Ok u) c held old new none a = ((a.0, tt), λ q. plain_one c held old new none a q)
 
--- a name that holds no block of DAG-CBOR
-no_reach : (c q : CidParts) → AreCidParts c → IsInline c → ((t : Tree) → IsDagCbor c → IsBlock c.digest t → ⊥) → AreCidParts q → (IsInline q → ⊥) → IsReached (cid_bytes q) (cid_bytes c ∷ []) → ⊥
+-- a name that holds no block
+no_reach : (c q : CidParts) → AreCidParts c → IsInline c → ((links : List (List ℕ)) → HasLinks c.codec c.digest links → ⊥) → AreCidParts q → (IsInline q → ⊥) → IsReached (cid_bytes q) (cid_bytes c ∷ []) → ⊥
 no_reach c q p i none r other (start, zero, inl at, w) = other (subst IsInline (sym (own q c r p (w ∙ at))) i)
 no_reach c q p i none r other (start, suc n, inl at, w) =
     let same = own w.2.0 c w.2.1 p (sym w.2.2 ∙ at) in
-    none w.0 (subst IsDagCbor same w.2.4) (subst (λ (d : CidParts). IsBlock d.digest w.0) same w.2.5)
+    none w.0 (subst (λ (d : CidParts). HasLinks d.codec d.digest w.0) same w.2.4)
 no_reach c q p i none r other (start, n, inr m, w) = m
 
-pub none_added : (c : CidParts) (held : HeldNames) (s : CidSet) → AreCidParts c → IsInline c → ((t : Tree) → IsDagCbor c → IsBlock c.digest t → ⊥) → AddsAll (c ∷ []) held s s
+pub none_added : (c : CidParts) (held : HeldNames) (s : CidSet) → AreCidParts c → IsInline c → ((links : List (List ℕ)) → HasLinks c.codec c.digest links → ⊥) → AddsAll (c ∷ []) held s s
 none_added c held s p i none = ((p, tt), λ q. (inl, λ h. elim h [ inl o ↦ o | inr (r, free) ↦ absurd (no_reach c q p i none r.0 r.1 r.2) ]))
 
+pub not_block_of : (c : CidParts) (codec : ℕ) (b : List ℕ) (r : Bool) → codec ≡ c.codec → b ≡ c.digest → r ≡ false → IsTrue r ↔ IsBlockOf codec b → (links : List (List ℕ)) → HasLinks c.codec c.digest links → ⊥
+not_block_of c codec b r d e f i links h =
+    let there : HasLinks codec b links = subst (λ n. HasLinks n b links) (sym d) (subst (λ x. HasLinks c.codec x links) (sym e) h) in
+    by r f (i.1 (links, there))
+  where
+    by : (r : Bool) → r ≡ false → IsTrue r → ⊥
+    by true f t = absurd (cc f)
+    by false f t = absurd (cc t)
+
 -- a name that holds a block
-inner_reach : (c q : CidParts) (t : Tree) → AreCidParts c → IsInline c → IsBlock c.digest t → AreCidParts q → (IsInline q → ⊥) → IsReached (cid_bytes q) (cid_bytes c ∷ []) → IsReached (cid_bytes q) (links_of t)
+inner_reach : (c q : CidParts) (links : List (List ℕ)) → AreCidParts c → IsInline c → HasLinks c.codec c.digest links → AreCidParts q → (IsInline q → ⊥) → IsReached (cid_bytes q) (cid_bytes c ∷ []) → IsReached (cid_bytes q) links
 inner_reach c q t p i block r other (start, zero, inl at, w) = absurd (other (subst IsInline (sym (own q c r p (w ∙ at))) i))
 inner_reach c q t p i block r other (start, suc n, inl at, w) =
     let same = own w.2.0 c w.2.1 p (sym w.2.2 ∙ at) in
-    let inside = subst (λ (d : CidParts). IsBlock d.digest w.0) same w.2.5 in
-    let tree : w.0 ≡ t = (front_unique c.digest [] [] w.0 t (whole_front inside.0) (whole_front block.0)).0 in
-    (w.1, n, subst (λ u. Among w.1 (links_of u)) tree w.3, w.4)
+    let inside = subst (λ (d : CidParts). HasLinks d.codec d.digest w.0) same w.2.4 in
+    (w.1, n, subst (Among w.1) (one_links c.codec c.digest w.0 t inside block) w.3, w.4)
 inner_reach c q t p i block r other (start, n, inr m, w) = absurd m
 
-pub inner_added : {E : Type 0} (r : Result (Unit {0}) E) (c : CidParts) (held : HeldNames) (old new : CidSet) → AreCidParts c → IsInline c → IsDagCbor c → AddsLinks c.digest held old r new → OnOk r (AddsAll (c ∷ []) held old new)
-inner_added (Err e) c held old new p i d h = tt
-inner_added (Ok u) c held old new p i d (t, block, h) = (
+pub inner_added : {E : Type 0} (r : Result (Unit {0}) E) (c : CidParts) (held : HeldNames) (old new : CidSet) → AreCidParts c → IsInline c → AddsLinks c.codec c.digest held old r new → OnOk r (AddsAll (c ∷ []) held old new)
+inner_added (Err e) c held old new p i h = tt
+inner_added (Ok u) c held old new p i (t, block, h) = (
   (p, tt),
   λ q. (
     λ m. elim ((h q).0 m) [
       | inl o ↦ inl o
-      | inr (r, free) ↦ inr ((r.0, r.1, (cid_bytes c, suc r.2.1, inl refl, (t, r.2.0, (c, p, refl, i, d, block), r.2.2, r.2.3))), free)
+      | inr (r, free) ↦ inr ((r.0, r.1, (cid_bytes c, suc r.2.1, inl refl, (t, r.2.0, (c, p, refl, i, block), r.2.2, r.2.3))), free)
     ],
     λ k. elim k [ inl o ↦ (h q).1 (inl o) | inr (r, free) ↦ (h q).1 (inr ((r.0, r.1, inner_reach c q t p i block r.0 r.1 r.2), free)) ],
   ),
@@ -171,21 +191,21 @@ all_done cids i held old new all h = subst (λ cs. AddsAll cs held old new) (ap 
 -- ---- the links of a block
 
 -- these links before what is left of a block were added
-abbrev pub Adding : List ℕ → HeldNames → CidSet → CidSet → List ℕ → Type 0
-Adding b held old now rest = (found : List CidParts) × LinksSoFar b found rest × AddsAll found held old now
+abbrev pub Adding : ℕ → List ℕ → HeldNames → CidSet → CidSet → List ℕ → Type 0
+Adding codec b held old now rest = (found : List CidParts) × LinksSoFar codec b found rest × AddsAll found held old now
 
-pub none_adding : (b : List ℕ) (held : HeldNames) (s : CidSet) → HasBlock b → Adding b held s s b
-none_adding b held s has = ([], none_so_far b has, (tt, added_none held s))
+pub none_adding : (codec : ℕ) (b : List ℕ) (held : HeldNames) (s : CidSet) → IsBlockOf codec b → Adding codec b held s s b
+none_adding codec b held s has = ([], none_so_far codec b has, (tt, added_none held s))
 
-pub one_adding : (b rest behind : List ℕ) (c : CidParts) (held : HeldNames) (old mid new : CidSet) (a : Adding b held old mid rest) → ((more : List (List ℕ)) × (a.1.more ≡ cid_bytes c ∷ more) × HoldsLinks behind more) → length (cid_bytes c) + length behind < length rest → AddsAll (c ∷ []) held mid new → Adding b held old new behind
-one_adding b rest behind c held old mid new a next shorter added = (
+pub one_adding : (codec : ℕ) (b rest behind : List ℕ) (c : CidParts) (held : HeldNames) (old mid new : CidSet) (a : Adding codec b held old mid rest) → ((more : List (List ℕ)) × (a.1.more ≡ cid_bytes c ∷ more) × HoldsLinksAs codec behind more) → length (cid_bytes c) + length behind < length rest → AddsAll (c ∷ []) held mid new → Adding codec b held old new behind
+one_adding codec b rest behind c held old mid new a next shorter added = (
   a.0 ++ c ∷ [],
-  one_so_far b a.0 c rest behind a.1 next shorter,
+  one_so_far codec b a.0 c rest behind a.1 next shorter,
   both_added a.0 c held old mid new a.2 added,
 )
 
-pub all_adding : (b rest : List ℕ) (held : HeldNames) (old new : CidSet) (a : Adding b held old new rest) → a.1.more ≡ [] → (t : Tree) × IsBlock b t × AddsReached (links_of t) held old new
-all_adding b rest held old new a none = (a.1.tree, a.1.block, subst (λ ls. AddsReached ls held old new) (all_so_far b a.0 rest a.1 none) a.2.1)
+pub all_adding : (codec : ℕ) (b rest : List ℕ) (held : HeldNames) (old new : CidSet) (a : Adding codec b held old new rest) → a.1.more ≡ [] → (links : List (List ℕ)) × HasLinks codec b links × AddsReached links held old new
+all_adding codec b rest held old new a none = (a.1.links, a.1.block, subst (λ ls. AddsReached ls held old new) (all_so_far codec b a.0 rest a.1 none) a.2.1)
 
 -- ---- measures
 
@@ -212,6 +232,12 @@ first_names b (Err e) cids items held start new free none first wrong h is = abs
 first_names b (Ok u) cids items held start new free none first right h is =
     let reached = reached_only held start new (links_of first.0) free none (subst (λ ls. AddsReached ls held start new) first.4 h.1) in
     (first.0, first.1, first.2, first.3, λ q. subst (λ ms. Among q ms ↔ IsReachedName q (links_of first.0)) (sym is) (reached q))
+
+-- the names that are reached from the links of a block
+pub names_of : (codec : ℕ) (b : List ℕ) (items : List CidParts) (held : HeldNames) (start new : CidSet) → HoldsNone held → members start ≡ [] → ((links : List (List ℕ)) × HasLinks codec b links × AddsReached links held start new) → items ≡ members new → AreNamesOf codec b items
+names_of codec b items held start new free none h is =
+    let reached = reached_only held start new h.0 free none h.2 in
+    (h.0, h.1, λ q. subst (λ ms. Among q ms ↔ IsReachedName q h.0) (sym is) (reached q))
 
 -- the links that are read stand in the bytes
 pub some_link : (b : List ℕ) (cids : List CidParts) → AreFirstLinks b (forms cids) → cids ≢ [] → HasLinkIn b

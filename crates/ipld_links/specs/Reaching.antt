@@ -4,11 +4,11 @@ use Rattle.std.specs.List.{AllByRecursion}
 use Rattle.std.specs.BTreeMap.{BTreeMap, get}
 use Rattle.std.specs.declared.alloc.Global.{Global}
 use Rattle.ipld_tree.specs.Cid.{CidParts, AreCidParts, cid_bytes, cid_cmp}
-use Rattle.ipld_tree.specs.Tree.{Tree, links_of}
-use Rattle.dagcbor_items.specs.Slices.{IsBlock}
 use Rattle.dagcbor_items.specs.Walks.{forms}
 use Rattle.ipld_links.specs.Names.{IsInline}
-use Rattle.ipld_links.specs.Verdicts.{IsDagCbor}
+use Rattle.ipld_links.specs.Blocks.{HasLinks, HasKnownLinks}
+use Rattle.ipld_links.specs.Verdicts.{HidesLinks}
+use Rattle.ipld_links.specs.declared.verdict.Verdict.{Verdict}
 use Rattle.ipld_links.specs.Sets.{Among}
 use Rattle.ipld_links.specs.declared.reach.Walk.{Walk}
 
@@ -33,15 +33,23 @@ abbrev pub AreBytesOf : Stored → CidParts → List ℕ → Type 0
 AreBytesOf stored name b = (stored name ≡ Some b)
     ⊎ ((stored name ≡ None) × IsInline name × (name.digest ≡ b))
 
--- the name is of DAG-CBOR, and the bytes under it are the block of the tree
-abbrev pub NamesTree : Stored → CidParts → Tree → Type 0
-NamesTree stored name t = IsDagCbor name
-    × ((b : List ℕ) × AreBytesOf stored name b × IsBlock b t)
+-- it is known what links the bytes under the name have, if there are any
+abbrev pub KnowsLinks : Stored → CidParts → Type 0
+KnowsLinks stored name = (b : List ℕ) → AreBytesOf stored name b → HasKnownLinks name.codec b
+
+-- the verdict on the bytes under the name, of which it is not known what links they have
+abbrev pub HidesLinksUnder : Stored → CidParts → Verdict → Type 0
+HidesLinksUnder stored name verdict = (b : List ℕ) × AreBytesOf stored name b
+    × HidesLinks name.codec b verdict
+
+-- the bytes under the name are a block that has these links
+abbrev pub NamesLinks : Stored → CidParts → List (List ℕ) → Type 0
+NamesLinks stored name links = (b : List ℕ) × AreBytesOf stored name b × HasLinks name.codec b links
 
 -- a link in the block under the first name is the second
 abbrev pub LeadsTo : Stored → CidParts → CidParts → Type 0
 LeadsTo stored name next = AreCidParts next
-    × ((t : Tree) × NamesTree stored name t × Among (cid_bytes next) (links_of t))
+    × ((links : List (List ℕ)) × NamesLinks stored name links × Among (cid_bytes next) links)
 
 -- so many links lead from the root to the name
 abbrev pub IsStepsFrom : Stored → CidParts → ℕ → CidParts → Type 0
@@ -76,6 +84,17 @@ pub record ListsReachable (stored : Stored) (root : CidParts) (names : List CidP
 abbrev pub ListsLost : Stored → CidParts → List CidParts → Type 0
 ListsLost stored root names = Lists (λ q. IsLost stored q × LeadsFar stored root q) names
 
+-- what links lead to from the root: the names of the stored blocks, and those that are lost; and of
+-- each it is known what links it has
+pub record ReachesKnown (stored : Stored) (root : CidParts) (found lost : List CidParts) : Type 0 where
+  pub reachable : ListsReachable stored root found
+  pub lacking : ListsLost stored root lost
+  pub known : (q : CidParts) → LeadsFar stored root q → KnowsLinks stored q
+
+-- links lead to the name from the root, and what links it has is not known, by this verdict
+abbrev pub IsHiddenFrom : Stored → CidParts → CidParts × Verdict → Type 0
+IsHiddenFrom stored root p = LeadsFar stored root p.0 × HidesLinksUnder stored p.0 p.1
+
 -- ---- the walk
 
 -- the name was seen, or waits
@@ -107,10 +126,12 @@ WalksAt stored root name walk = ¬ Among name walk.seen.keys
     × IsWalked stored root walk.seen.keys (walk.waiting.items ++ name ∷ []) walk.found.items
     walk.lost.items
 
--- the walk is over: it found the names of the stored blocks that links lead to, and lost the others
+-- the walk is over: it saw each name that links lead to, found those of the stored blocks, and lost the
+-- others
 abbrev pub IsWalkOver : Stored → CidParts → Walk → Type 0
 IsWalkOver stored root walk = ListsReachable stored root walk.found.items
     × ListsLost stored root walk.lost.items
+    × ((q : CidParts) → LeadsFar stored root q → Among q walk.seen.keys)
 
 -- the next name is to be visited, or the walk is over
 abbrev pub GoesOn : Walk → Option CidParts → Walk → Type 0
@@ -122,12 +143,16 @@ abbrev pub Visits : CidParts → Option (List ℕ) → Walk → Walk → Type 0
 Visits name block old new = (stored : Stored) (root : CidParts) → stored name ≡ block
     → WalksAt stored root name old → Walks stored root new
 
+-- of the names seen, this is one more
+abbrev pub SeesAlso : CidParts → Walk → Walk → Type 0
+SeesAlso name old new = (q : CidParts) → Among q new.seen.keys ↔ (Among q old.seen.keys ⊎ (q ≡ name))
+
 -- ---- its steps
 
 -- the links of the block that is so, as they stand; none where there is no such block
-abbrev pub AreLinksOf : (Tree → Type 0) → List CidParts → Type 0
-AreLinksOf IsSo links = ((t : Tree) × IsSo t × (forms links ≡ links_of t))
-    ⊎ ((links ≡ []) × ((t : Tree) → ¬ IsSo t))
+abbrev pub AreLinksOf : (List (List ℕ) → Type 0) → List CidParts → Type 0
+AreLinksOf IsSo links = IsSo (forms links)
+    ⊎ ((links ≡ []) × ((all : List (List ℕ)) → ¬ IsSo all))
 
 -- the links are CIDs, and stand behind what the list had
 abbrev pub PushesAll : List CidParts → List CidParts → List CidParts → Type 0
@@ -136,7 +161,7 @@ PushesAll links old new = AllByRecursion AreCidParts links × (new ≡ old ++ li
 -- the name is one of those that were seen
 pub record Sees (name : CidParts) (old new : Walk) : Type 0 where
   pub valid : AreCidParts name
-  pub seen : (q : CidParts) → Among q new.seen.keys ↔ (Among q old.seen.keys ⊎ (q ≡ name))
+  pub seen : SeesAlso name old new
   pub waiting : new.waiting ≡ old.waiting
   pub found : new.found ≡ old.found
   pub lost : new.lost ≡ old.lost

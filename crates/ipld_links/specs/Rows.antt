@@ -1,8 +1,11 @@
 -- The links of items in a row.
-use Rattle.std.specs.Prelude.{◌≡◌, ℕ, List}
+use Rattle.std.specs.Prelude.{◌≡◌, ◌⊎◌, ℕ, List, [], map}
 use Rattle.std.specs.List.{AllByRecursion, flat_map}
+use Rattle.ipld_tree.specs.Cid.{cid_bytes}
 use Rattle.ipld_tree.specs.Tree.{Tree, IsTree, links_of}
 use Rattle.ipld_tree.specs.Spelling.{IsSpellable, spelling}
+use Rattle.dag_pb.specs.Node.{Field, BeginsWithFields}
+use Rattle.dag_pb.specs.Reads.{links_in}
 
 -- the bytes are the spellings of items in a row, and these are the binary forms of their links, in
 -- their order
@@ -11,3 +14,14 @@ pub record HoldsLinks (b : List ℕ) (links : List (List ℕ)) : Type 0 where
   pub whole : AllByRecursion (λ t. IsTree t × IsSpellable t) trees
   pub is : b ≡ flat_map spelling trees
   pub are : links ≡ flat_map links_of trees
+
+-- the bytes are fields of a node in a row, and these are the binary forms that their links have
+pub record HoldsFieldLinks (b : List ℕ) (links : List (List ℕ)) : Type 0 where
+  pub fields : List Field
+  pub row : BeginsWithFields b fields []
+  pub are : links ≡ map (λ link. cid_bytes link.hash) (links_in fields)
+
+-- the bytes are what stands in a row in blocks of the codec, and these are the links there
+abbrev pub HoldsLinksAs : ℕ → List ℕ → List (List ℕ) → Type 0
+HoldsLinksAs codec b links = ((codec ≡ 0x71) × HoldsLinks b links)
+    ⊎ ((codec ≡ 0x70) × HoldsFieldLinks b links)

@@ -4,19 +4,22 @@ use Rattle.sha2.specs.Sha256.{sha256}
 use Rattle.dagcbor_heads.specs.declared.error.DecodeError.TheVariants as unread
 use Rattle.dagcbor_items.specs.Slices.{SliceRefused}
 use Rattle.dagcbor_items.specs.Stops.{StandsAt}
+use Rattle.dag_pb.specs.Node.{HasNode}
+use Rattle.dag_pb.specs.Causes.{IsNoNode}
 use Rattle.ipld_links.specs.Names.{IsBySha256}
 use Rattle.ipld_links.specs.Blocks.{NamedBlock}
 use Rattle.ipld_links.specs.Blocks.{HasBlock}
-use Rattle.ipld_links.specs.Verdicts.{IsDagCbor}
+use Rattle.ipld_links.specs.Verdicts.{IsDagCbor, IsDagPb}
 use Rattle.ipld_links.specs.declared.sound.Unsound.{Unsound}
-use Rattle.ipld_links.specs.declared.sound.Unsound.TheVariants.{OtherHash, OtherBytes, NoBlock}
+use Rattle.ipld_links.specs.declared.sound.Unsound.TheVariants.{OtherHash, OtherBytes, NoBlock, NoNode}
 
--- the name is by SHA-256, and the bytes are those that it names; where it says that they are DAG-CBOR,
--- they are a block of it
+-- the name is by SHA-256, and the bytes are those that it names; where it says that they are DAG-CBOR
+-- or DAG-PB, they are a block of it
 pub record IsSound (s : NamedBlock) : Type 0 where
   pub by_sha256 : IsBySha256 s.0
   pub digest : s.0.digest ≡ sha256 s.1
   pub read : IsDagCbor s.0 → HasBlock s.1
+  pub node : IsDagPb s.0 → HasNode s.1
 
 -- why bytes are not sound under a name; of bytes that are no block, and at which byte
 abbrev pub IsUnsound : NamedBlock → Unsound → Type 0
@@ -24,3 +27,4 @@ IsUnsound s OtherHash = ¬ IsBySha256 s.0
 IsUnsound s OtherBytes = IsBySha256 s.0 × (s.0.digest ≢ sha256 s.1)
 IsUnsound s (NoBlock e place) = IsBySha256 s.0 × (s.0.digest ≡ sha256 s.1) × IsDagCbor s.0
     × SliceRefused e s.1 × (e ≢ unread.OutOfMemory) × StandsAt e s.1 place
+IsUnsound s (NoNode e) = IsBySha256 s.0 × (s.0.digest ≡ sha256 s.1) × IsDagPb s.0 × IsNoNode s.1 e

@@ -1,15 +1,17 @@
 -- What is said of a block under a name.
-use Rattle.std.specs.Prelude.{◌≡◌, ◌≢◌, ◌⊎◌}
+use Rattle.std.specs.Prelude.{◌≡◌, ◌≢◌, ◌⊎◌, ℕ, List}
 use Rattle.sha2.specs.Sha256.{sha256}
 use Rattle.dagcbor_heads.specs.declared.error.DecodeError.TheVariants as unread
 use Rattle.ipld_tree.specs.Cid.{CidParts}
 use Rattle.ipld_tree.specs.Tree.{Tree}
 use Rattle.dagcbor_items.specs.Slices.{IsBlock, SliceRefused}
 use Rattle.dagcbor_items.specs.TreeKinds.{kind_of}
+use Rattle.dag_pb.specs.Node.{HasNode}
+use Rattle.dag_pb.specs.Causes.{IsNoNode}
 use Rattle.ipld_links.specs.Names.{IsBySha256, IsInline}
-use Rattle.ipld_links.specs.Blocks.{NamedBlock}
+use Rattle.ipld_links.specs.Blocks.{NamedBlock, IsReadCodec, HasKnownLinks}
 use Rattle.ipld_links.specs.declared.verdict.Verdict.{Verdict}
-use Rattle.ipld_links.specs.declared.verdict.Verdict.TheVariants.{Block, Refused, OtherBytes, NotRead, Unverified}
+use Rattle.ipld_links.specs.declared.verdict.Verdict.TheVariants.{Block, Refused, Node, NoNode, NotRead, LinksNotRead, OtherBytes, Unverified}
 
 -- the bytes are those that the name names: their SHA-256 is its digest, or they are its digest
 abbrev pub IsVerified : NamedBlock → Type 0
@@ -23,12 +25,26 @@ IsTestable c = IsBySha256 c ⊎ IsInline c
 abbrev pub IsDagCbor : CidParts → Type 0
 IsDagCbor c = c.codec ≡ 0x71
 
+-- the name says that the bytes are DAG-PB (multicodec table)
+abbrev pub IsDagPb : CidParts → Type 0
+IsDagPb c = c.codec ≡ 0x70
+
+-- what a verdict says of bytes as a block of the codec (multicodec table)
+abbrev pub IsVerdictOn : ℕ → List ℕ → Verdict → Type 0
+IsVerdictOn codec b (Block kind) = (codec ≡ 0x71) × ((t : Tree) × IsBlock b t × (kind ≡ kind_of t))
+IsVerdictOn codec b (Refused e) = (codec ≡ 0x71) × SliceRefused e b × (e ≢ unread.OutOfMemory)
+IsVerdictOn codec b Node = (codec ≡ 0x70) × HasNode b
+IsVerdictOn codec b (NoNode e) = (codec ≡ 0x70) × IsNoNode b e
+IsVerdictOn codec b NotRead = codec ≡ 0x55
+IsVerdictOn codec b LinksNotRead = (codec ≢ 0x55) × ¬ IsReadCodec codec
+IsVerdictOn codec b _ = ⊥
+
 -- One verdict holds of a block under a name.
 abbrev pub IsVerdict : NamedBlock → Verdict → Type 0
-IsVerdict s (Block kind) = IsVerified s × IsDagCbor s.0
-    × ((t : Tree) × IsBlock s.1 t × (kind ≡ kind_of t))
-IsVerdict s (Refused e) = IsVerified s × IsDagCbor s.0 × SliceRefused e s.1
-    × (e ≢ unread.OutOfMemory)
 IsVerdict s OtherBytes = IsTestable s.0 × ¬ IsVerified s
-IsVerdict s NotRead = IsVerified s × ¬ IsDagCbor s.0
 IsVerdict s Unverified = ¬ IsTestable s.0
+IsVerdict s verdict = IsVerified s × IsVerdictOn s.0.codec s.1 verdict
+
+-- the verdict on bytes as a block of the codec, of which it is not known what links they have
+abbrev pub HidesLinks : ℕ → List ℕ → Verdict → Type 0
+HidesLinks codec b verdict = IsVerdictOn codec b verdict × ¬ HasKnownLinks codec b

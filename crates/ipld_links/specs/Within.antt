@@ -6,9 +6,8 @@ use Rattle.ipld_tree.specs.Tree.{Tree, any_need, links_of}
 use Rattle.ipld_tree.specs.Spelling.{IsFront}
 use Rattle.std.specs.List.{AllByRecursion}
 use Rattle.dagcbor_items.specs.Walks.{forms}
-use Rattle.dagcbor_items.specs.Slices.{IsBlock}
+use Rattle.ipld_links.specs.Blocks.{HasLinks}
 use Rattle.ipld_links.specs.Names.{IsInline}
-use Rattle.ipld_links.specs.Verdicts.{IsDagCbor}
 use Rattle.ipld_links.specs.Sets.{Among, members}
 use Rattle.ipld_links.specs.Held.{IsHeldName}
 use Rattle.ipld_links.specs.declared.cid_set.CidSet.{CidSet}
@@ -18,17 +17,17 @@ use Rattle.ipld_links.specs.declared.held.HeldNames.{HeldNames}
 abbrev pub IsInlineForm : List ℕ → Type 0
 IsInlineForm form = (c : CidParts) × AreCidParts c × (form ≡ cid_bytes c) × IsInline c
 
--- the link's name holds this block of DAG-CBOR itself
-abbrev pub HoldsBlock : List ℕ → Tree → Type 0
-HoldsBlock link t = (c : CidParts) × AreCidParts c × (link ≡ cid_bytes c) × IsInline c
-    × IsDagCbor c × IsBlock c.digest t
+-- the link's name holds a block itself, which has these links
+abbrev pub HoldsBlock : List ℕ → List (List ℕ) → Type 0
+HoldsBlock link links = (c : CidParts) × AreCidParts c × (link ≡ cid_bytes c) × IsInline c
+    × HasLinks c.codec c.digest links
 
 -- the binary form is the link's own; or that of a link in the block which the name holds itself,
 -- or in the block which the name of such a link holds, and so on, so many blocks deep
 abbrev pub IsLinkWithin : ℕ → List ℕ → List ℕ → Type 0
 IsLinkWithin zero link form = form ≡ link
-IsLinkWithin (suc n) link form = (t : Tree) × (inner : List ℕ) × HoldsBlock link t
-    × Among inner (links_of t) × IsLinkWithin n inner form
+IsLinkWithin (suc n) link form = (links : List (List ℕ)) × (inner : List ℕ) × HoldsBlock link links
+    × Among inner links × IsLinkWithin n inner form
 
 -- the binary form is that of one of the links, or of one within them
 abbrev pub IsReached : List ℕ → List (List ℕ) → Type 0
@@ -65,7 +64,11 @@ AreFirstNames b names = (t : Tree) × (rest : List ℕ) × IsFront b t rest
     × (any_need t ≤ default_steps) × ListsReached names (links_of t)
 
 -- the names that are reached from the links of a block and are not held joined those before
-abbrev pub AddsLinks : {E : Type 0} → List ℕ → HeldNames → CidSet → Result (Unit {0}) E → CidSet
+abbrev pub AddsLinks : {E : Type 0} → ℕ → List ℕ → HeldNames → CidSet → Result (Unit {0}) E → CidSet
     → Type 0
-AddsLinks b held old result new = OnOk result
-    ((t : Tree) × IsBlock b t × AddsReached (links_of t) held old new)
+AddsLinks codec b held old result new = OnOk result
+    ((links : List (List ℕ)) × HasLinks codec b links × AddsReached links held old new)
+
+-- these are the names that are reached from the links of the block
+abbrev pub AreNamesOf : ℕ → List ℕ → List CidParts → Type 0
+AreNamesOf codec b names = (links : List (List ℕ)) × HasLinks codec b links × ListsReached names links

@@ -1,16 +1,16 @@
 //! Sets of CIDs.
 
-ghost use Rattle.std.specs.Prelude.{◌≡◌, ◌↔◌, [], ◌∷◌, IfOk, OnOk, Some, IsTrue};
+ghost use Rattle.std.specs.Prelude.{◌≡◌, ◌≢◌, ◌↔◌, [], ◌∷◌, IfOk, OnOk, OnErr, Some, IsTrue};
 ghost use Rattle.std.specs.List.Sorted.{IsStrictlySortedBy};
 ghost use Rattle.ipld_tree.specs.Cid.{cid_cmp};
-ghost use Rattle.ipld_links.specs.Blocks.{HasBlock};
+ghost use Rattle.ipld_links.specs.Blocks.{IsBlockOf};
 ghost use Rattle.ipld_links.specs.Sets.{Among, members, AddsCid, RemovesCid};
 ghost use Rattle.ipld_links.specs.Within.{AddsUnheld, AddsAll, AddsLinks};
 
+use crate::block::is_block_of;
 use crate::held::HeldNames;
 use crate::links::next_link;
-use crate::name::{DAG_CBOR, IDENTITY};
-use dagcbor_items::check_slice;
+use crate::name::IDENTITY;
 use ipld_tree::Cid;
 use std::alloc::{AllocError, Global};
 use std::collections::BTreeSet;
@@ -50,12 +50,17 @@ impl CidSet {
 
     /// Adds the links of a block, and those within them, that are not held.
     #[cycle(links)]
-    pub fn add_links(&mut self, block: &[u8], held: &HeldNames) -> Result<(), AllocError>
-        requires { HasBlock block.now }
-        ensures { AddsLinks block.now held.now self.old result self.new }
+    pub fn add_links(
+        &mut self,
+        codec: u64,
+        block: &[u8],
+        held: &HeldNames,
+    ) -> Result<(), AllocError>
+        requires { IsBlockOf codec block.now }
+        ensures { AddsLinks codec block.now held.now self.old result self.new }
     {
         let mut rest = block;
-        while let Some(found) = next_link(rest) {
+        while let Some(found) = next_link(codec, rest) {
             self.add_link(&found.0, held)?;
             rest = found.1;
         }
@@ -64,7 +69,8 @@ impl CidSet {
 
     /// Adds the links, and those within them, that are not held.
     pub fn add_all(&mut self, links: &[Cid], held: &HeldNames) -> Result<(), AllocError>
-        ensures { OnOk result (AddsAll links.now held.now self.old self.new) }
+        ensures added { OnOk result (AddsAll links.now held.now self.old self.new) }
+        ensures memory { OnErr result (links.now ≢ []) }
     {
         for link in links {
             self.add_link(link, held)?;
@@ -82,13 +88,10 @@ impl CidSet {
         if link.hash_code() != IDENTITY {
             return self.add_unheld(link, held);
         }
-        if link.codec() != DAG_CBOR {
+        if !is_block_of(link.codec(), link.digest()) {
             return Ok(());
         }
-        match check_slice(link.digest()) {
-            Ok(_kind) => self.add_links(link.digest(), held),
-            Err(_) => Ok(()),
-        }
+        self.add_links(link.codec(), link.digest(), held)
     }
 
     /// Takes the CID out, if it has it.
@@ -112,6 +115,18 @@ impl CidSet {
 
     /// The members, in their order.
     pub fn into_vec(self, alloc: Global) -> Result<Vec<Cid>, AllocError>
+        ensures sorted { IfOk result (λ v. IsStrictlySortedBy cid_cmp v.items) }
+        ensures all { IfOk result (λ v. v.items ≡ members self) }
+        ensures memory { OnErr result (members self ≢ []) }
+    {
+        if self.cids.is_empty() {
+            return Ok(Vec::new(alloc));
+        }
+        self.list_members(alloc)
+    }
+
+    /// What `into_vec` answers, of whatever members.
+    fn list_members(self, alloc: Global) -> Result<Vec<Cid>, AllocError>
         ensures sorted { IfOk result (λ v. IsStrictlySortedBy cid_cmp v.items) }
         ensures all { IfOk result (λ v. v.items ≡ members self) }
     {

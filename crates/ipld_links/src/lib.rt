@@ -1,6 +1,7 @@
 //! Names of blocks, what is said of a block under a name, and where links lead.
 #![tactic(auto)]
 
+mod block;
 mod cid_set;
 mod held;
 mod links;
@@ -10,10 +11,12 @@ mod reach;
 mod sound;
 mod verdict;
 
+pub use block::{is_block_of, is_item, is_node, is_read_codec};
 pub use cid_set::CidSet;
 pub use held::HeldNames;
-pub use name::{DAG_CBOR, IDENTITY, SHA2_256, name_of_block};
-pub use names::names_from_slice;
-pub use reach::{Reached, Walk, reach_from, stored_bytes};
+pub use links::links_of_block;
+pub use name::{DAG_CBOR, DAG_PB, IDENTITY, RAW, SHA2_256, name_of_block};
+pub use names::{names_from_slice, names_of_block};
+pub use reach::{Reached, Walk, hidden_under, reach_from, reach_known, stored_bytes};
 pub use sound::{Unsound, check_block, is_dag_cbor};
-pub use verdict::{Verdict, verify};
+pub use verdict::{Verdict, hidden_links, verdict_on, verify};

@@ -9,6 +9,12 @@ use sha2::{Digest, Sha256};
 /// The code of DAG-CBOR among the codes of formats (the multicodec table).
 pub const DAG_CBOR: u64 = 0x71;
 
+/// The code of DAG-PB among the codes of formats (the multicodec table).
+pub const DAG_PB: u64 = 0x70;
+
+/// The code of raw bytes among the codes of formats (the multicodec table).
+pub const RAW: u64 = 0x55;
+
 /// The code of SHA-256 among the codes of hash functions (the multicodec table).
 pub const SHA2_256: u64 = 0x12;
 

@@ -4,14 +4,15 @@ ghost use Rattle.std.specs.Prelude.{IfOk, IfErr};
 ghost use Rattle.std.specs.List.Sorted.{IsStrictlySortedBy};
 ghost use Rattle.ipld_tree.specs.Cid.{cid_cmp};
 ghost use Rattle.dagcbor_items.specs.Slices.{LinksRefused};
-ghost use Rattle.ipld_links.specs.Within.{AreFirstNames};
+ghost use Rattle.ipld_links.specs.Within.{AreFirstNames, AreNamesOf};
+ghost use Rattle.ipld_links.specs.Blocks.{IsBlockOf};
 
 use crate::cid_set::CidSet;
 use crate::held::HeldNames;
 use dagcbor_heads::DecodeError;
 use dagcbor_items::links_from_slice;
 use ipld_tree::Cid;
-use std::alloc::Global;
+use std::alloc::{AllocError, Global};
 use std::convert::Infallible;
 
 /// The names that the links of the first item of the bytes lead to, each once, in their order. A
@@ -34,4 +35,15 @@ pub fn names_from_slice(alloc: Global, bytes: &[u8]) -> Result<Vec<Cid>, DecodeE
         Ok(list) => Ok(list),
         Err(_) => Err(DecodeError::OutOfMemory),
     }
+}
+
+/// The names that the links of the block of the codec lead to, as `names_from_slice` answers them.
+pub fn names_of_block(alloc: Global, codec: u64, block: &[u8]) -> Result<Vec<Cid>, AllocError>
+    requires { IsBlockOf codec block.now }
+    ensures names { IfOk result (λ v. AreNamesOf codec block.now v.items) }
+    ensures order { IfOk result (λ v. IsStrictlySortedBy cid_cmp v.items) }
+{
+    let mut names = CidSet::new(alloc);
+    names.add_links(codec, block, &HeldNames::new(alloc))?;
+    names.into_vec(alloc)
 }

@@ -1,17 +1,18 @@
 //! A walk along links, whatever the blocks are stored in.
 
-ghost use Rattle.std.specs.Prelude.{◌≡◌, option_map, is_some, IfOk, OnOk, OnErr};
+ghost use Rattle.std.specs.Prelude.{◌≡◌, [], None, option_map, is_some, IfOk, OnOk, MatchOption, MatchResult};
 ghost use Rattle.ipld_tree.specs.Cid.{CidParts, AreCidParts};
-ghost use Rattle.dagcbor_items.specs.Slices.{IsBlock, AreFirstLinks};
-ghost use Rattle.dagcbor_items.specs.Walks.{forms};
+ghost use Rattle.ipld_links.specs.Blocks.{HasLinks};
 ghost use Rattle.ipld_links.specs.Names.{IsInline};
-ghost use Rattle.ipld_links.specs.Reaching.{Stored, NamesTree, Walks, GoesOn, Visits, AreLinksOf};
-ghost use Rattle.ipld_links.specs.Reaching.{PushesAll, Sees, SortsOut, stored_in};
+ghost use Rattle.ipld_links.specs.Reaching.{Stored, NamesLinks, Walks, GoesOn, Visits, AreLinksOf};
+ghost use Rattle.ipld_links.specs.Reaching.{PushesAll, Sees, SeesAlso, SortsOut, stored_in};
 ghost use Rattle.ipld_links.specs.Reaching.{ListsReachable, ListsLost};
+ghost use Rattle.ipld_links.specs.Reaching.{KnowsLinks, HidesLinksUnder, ReachesKnown, IsHiddenFrom};
 
+use crate::block::is_block_of;
 use crate::links::links_of_block;
-use crate::name::{DAG_CBOR, IDENTITY};
-use dagcbor_items::check_slice;
+use crate::name::IDENTITY;
+use crate::verdict::{Verdict, hidden_links};
 use ipld_tree::Cid;
 use std::alloc::{AllocError, Global};
 use std::collections::{BTreeMap, BTreeSet};
@@ -43,40 +44,61 @@ pub struct Reached {
     pub lost: Vec<Cid>,
 }
 
-/// The links of the block that the bytes are, if they are one.
-#[tactic(auto, using(crate::proofs::Reaching::links_found, crate::proofs::Sounding::no_block))]
-fn links_in(alloc: Global, bytes: &[u8]) -> Result<Vec<Cid>, AllocError>
-    ensures { IfOk result (λ v. AreLinksOf (IsBlock bytes.now) v.items) }
+/// The links of the block of the codec that the bytes are, if they are one.
+fn links_in(alloc: Global, codec: u64, bytes: &[u8]) -> Result<Vec<Cid>, AllocError>
+    ensures { IfOk result (λ v. AreLinksOf (HasLinks codec bytes.now) v.items) }
 {
-    match check_slice(bytes) {
-        Ok(_kind) => links_of_block(alloc, bytes),
-        Err(_) => Ok(Vec::new(alloc)),
+    if is_block_of(codec, bytes) {
+        links_of_block(alloc, codec, bytes)
+    } else {
+        Ok(Vec::new(alloc))
     }
 }
 
 /// The links of the block under the name, of which these bytes are stored.
 fn links_under(alloc: Global, name: &Cid, stored: Option<&[u8]>) -> Result<Vec<Cid>, AllocError>
     ensures { (all : Stored) → all name.now ≡ option_map (λ b. b.now) stored.entry
-        → IfOk result (λ v. AreLinksOf (NamesTree all name.now) v.items) }
+        → IfOk result (λ v. AreLinksOf (NamesLinks all name.now) v.items) }
 {
-    if name.codec() != DAG_CBOR {
-        return Ok(Vec::new(alloc));
-    }
     match stored {
-        Some(bytes) => links_in(alloc, bytes),
+        Some(bytes) => links_in(alloc, name.codec(), bytes),
         None => links_in_name(alloc, name),
     }
 }
 
-/// The links of the block of DAG-CBOR that the name holds itself, if it holds one.
+/// The links of the block that the name holds itself, if it holds one.
 fn links_in_name(alloc: Global, name: &Cid) -> Result<Vec<Cid>, AllocError>
     ensures { IfOk result
-        (λ v. AreLinksOf (λ t. IsInline name.now × IsBlock name.now.digest t) v.items) }
+        (λ v. AreLinksOf (λ all. IsInline name.now × HasLinks name.now.codec name.now.digest all)
+        v.items) }
 {
     if name.hash_code() != IDENTITY {
         return Ok(Vec::new(alloc));
     }
-    links_in(alloc, name.digest())
+    links_in(alloc, name.codec(), name.digest())
+}
+
+/// The verdict on the bytes under the name, of which these are stored, if it is not known what links
+/// they have. None where that is known, or where there are no bytes.
+pub fn hidden_under(name: &Cid, stored: Option<&[u8]>) -> Option<Verdict>
+    ensures { (all : Stored) → all name.now ≡ option_map (λ b. b.now) stored.entry
+        → MatchOption result (KnowsLinks all name.now) (HidesLinksUnder all name.now) }
+{
+    match stored {
+        Some(bytes) => hidden_links(name.codec(), bytes),
+        None => hidden_in_name(name),
+    }
+}
+
+/// The verdict on the block that the name holds itself, if it holds one.
+fn hidden_in_name(name: &Cid) -> Option<Verdict>
+    ensures { (all : Stored) → all name.now ≡ None
+        → MatchOption result (KnowsLinks all name.now) (HidesLinksUnder all name.now) }
+{
+    if name.hash_code() != IDENTITY {
+        return None;
+    }
+    hidden_links(name.codec(), name.digest())
 }
 
 /// Pushes the links.
@@ -94,7 +116,8 @@ fn push_all(list: &mut Vec<Cid>, links: &[Cid]) -> Result<(), AllocError>
 impl Walk {
     /// A walk from the root.
     pub fn new(alloc: Global, root: &Cid) -> Result<Walk, AllocError>
-        ensures { IfOk result (λ walk. (stored : Stored) → Walks stored root.now walk) }
+        ensures walks { IfOk result (λ walk. (stored : Stored) → Walks stored root.now walk) }
+        ensures unseen { IfOk result (λ walk. walk.seen.keys ≡ []) }
     {
         // What is known of a CID comes with its version.
         let _version = root.version();
@@ -126,8 +149,9 @@ impl Walk {
     /// Visits the name that `next` answered, under which these bytes are stored. After a refusal
     /// nothing is known of the walk.
     pub fn visit(&mut self, name: Cid, stored: Option<&[u8]>) -> Result<(), AllocError>
-        ensures { OnOk result
+        ensures visits { OnOk result
             (Visits name (option_map (λ b. b.now) stored.entry) self.old self.new) }
+        ensures sees { OnOk result (SeesAlso name self.old self.new) }
     {
         let mut links = links_under(self.alloc, &name, stored)?;
         self.see(name)?;
@@ -195,6 +219,32 @@ pub fn reach_from(
             return Ok(walk.into_reached());
         };
         walk.visit(name, stored_bytes(blocks, &name))?;
+    }
+    Err(AllocError)
+}
+
+/// Where a walk from the root leads within the map; or the first name on the way of which it is not
+/// known what links it has, and the verdict on the bytes under it.
+pub fn reach_known(
+    alloc: Global,
+    blocks: &BTreeMap<Cid, Vec<u8>>,
+    root: &Cid,
+) -> Result<Result<Reached, (Cid, Verdict)>, AllocError>
+    ensures { IfOk result (λ reached. MatchResult reached
+        (λ r. ReachesKnown (stored_in blocks.now) root.now r.found.items r.lost.items)
+        (IsHiddenFrom (stored_in blocks.now) root.now)) }
+{
+    let mut walk = Walk::new(alloc, root)?;
+    // Each turn takes memory for a name that was not seen, of which no memory holds as many.
+    for _count in 0..u64::MAX {
+        let Some(name) = walk.next() else {
+            return Ok(Ok(walk.into_reached()));
+        };
+        let stored = stored_bytes(blocks, &name);
+        if let Some(verdict) = hidden_under(&name, stored) {
+            return Ok(Err((name, verdict)));
+        }
+        walk.visit(name, stored)?;
     }
     Err(AllocError)
 }

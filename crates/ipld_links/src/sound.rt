@@ -6,6 +6,7 @@ ghost use Rattle.ipld_links.specs.Sound.{IsSound, IsUnsound};
 
 use crate::name::{DAG_CBOR, SHA2_256};
 use crate::verdict::{Verdict, verify};
+use dag_pb::PbError;
 use dagcbor_heads::DecodeError;
 use dagcbor_items::judge_slice;
 use ipld_tree::Cid;
@@ -26,11 +27,16 @@ pub enum Unsound {
     /// length.
     #[error("the block is no DAG-CBOR: {0} at byte {1}")]
     NoBlock(DecodeError<Infallible>, usize),
+    /// The block is the one that is named, of the codec DAG-PB, and is no node of it, for this cause and
+    /// at this byte.
+    #[error("the block is no DAG-PB: {0}")]
+    NoNode(PbError),
 }
 
 /// Whether a store keeps the block under the name: its digest must be the SHA-256 of the block, of
-/// 32 bytes, and where its codec is DAG-CBOR, the block must be one that is read within 256 steps.
-#[tactic(auto, using(crate::proofs::Sounding::sound_read, crate::proofs::Sounding::sound_unread, crate::proofs::Sounding::sound_after, crate::proofs::Sounding::unsound_refused, crate::proofs::Sounding::unsound_bytes))]
+/// 32 bytes, and where its codec is DAG-CBOR, the block must be one that is read within 256 steps; where
+/// it is DAG-PB, a node.
+#[tactic(auto, using(crate::proofs::Sounding::sound_read, crate::proofs::Sounding::sound_unread, crate::proofs::Sounding::sound_unknown, crate::proofs::Sounding::sound_node, crate::proofs::Sounding::unsound_node, crate::proofs::Sounding::sound_after, crate::proofs::Sounding::unsound_refused, crate::proofs::Sounding::unsound_bytes))]
 pub fn check_block(name: &Cid, block: &[u8]) -> Result<(), Unsound>
     ensures { MatchResult result (λ _. IsSound (name.now, block.now))
         (IsUnsound (name.now, block.now)) }
@@ -40,7 +46,10 @@ pub fn check_block(name: &Cid, block: &[u8]) -> Result<(), Unsound>
     }
     match verify(name, block) {
         Verdict::Block(_) => Ok(()),
+        Verdict::Node => Ok(()),
         Verdict::NotRead => Ok(()),
+        Verdict::LinksNotRead => Ok(()),
+        Verdict::NoNode(error) => Err(Unsound::NoNode(error)),
         Verdict::Refused(_cause) => match judge_slice(block) {
             Ok(_kind) => Ok(()),
             Err(refused) => Err(Unsound::NoBlock(refused.cause, refused.place)),
@@ -50,7 +59,7 @@ pub fn check_block(name: &Cid, block: &[u8]) -> Result<(), Unsound>
     }
 }
 
-/// Whether the name is of the codec DAG-CBOR, by which links are followed.
+/// Whether the name is of the codec DAG-CBOR, of which values are read.
 pub fn is_dag_cbor(name: &Cid) -> bool
     ensures { MatchBool result (IsDagCbor name.now) (¬ IsDagCbor name.now) }
 {

@@ -121,7 +121,7 @@ impl Cid {
         out.try_extend_from_slice(self.digest()).unwrap();
     }
 
-    /// Appends what stands before the digest.
+    /// Appends the bytes before the digest.
     #[tactic(auto, using(crate::proofs::Cids::varint_length, crate::proofs::Cids::one_byte))]
     fn push_front(&self, out: &mut ArrayVec<u8, 86>)
         requires { out.old.items ≡ [] }
@@ -158,7 +158,7 @@ impl TryFrom<&[u8]> for Cid {
     }
 }
 
-/// Puts zeros behind the digest.
+/// Puts zeros after the digest.
 fn from_parts(version: u8, codec: u64, hash_code: u64, digest: &[u8]) -> Cid
     requires { AreCidParts (cid_parts version codec hash_code digest.now) }
     ensures { result ≡ cid_parts version codec hash_code digest.now }
@@ -174,7 +174,7 @@ fn from_parts(version: u8, codec: u64, hash_code: u64, digest: &[u8]) -> Cid
     }
 }
 
-/// Reads what stands behind the first byte of version 1.
+/// Reads the bytes after the first byte of version 1.
 fn read_version_1(behind: &[u8]) -> Result<Cid, CidError>
     ensures { ReadsBinaryCid (0x01 ∷ behind.now) result }
 {
@@ -191,7 +191,7 @@ fn read_version_1(behind: &[u8]) -> Result<Cid, CidError>
     }
 }
 
-/// The varint at the front, and the bytes behind it.
+/// The varint at the front, and the bytes after it.
 pub fn split_varint(bytes: &[u8]) -> Result<(u64, &[u8]), CidError>
     ensures { MatchResult result
         (λ p. (p.0 < 2 ^ 64) × (bytes.now ≡ varint p.0 ++ p.1.now))
@@ -212,8 +212,8 @@ pub fn split_varint(bytes: &[u8]) -> Result<(u64, &[u8]), CidError>
     Err(CidError::Truncated)
 }
 
-/// Whether no varint has the group at this place: a zero behind other groups is not the shortest
-/// form, and of the tenth group only the lowest bit is below 2^64.
+/// Whether no varint has this group at this place. A zero after other groups is not the shortest
+/// form, and only the lowest bit of the tenth group is below 2^64.
 fn is_misplaced(group: u8, place: usize) -> bool
     ensures { IsTrue result ↔ ((group ≡ 0) × (0 < place) ⊎ (place ≡ 9) × (group ≢ 1)) }
 {

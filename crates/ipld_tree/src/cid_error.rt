@@ -8,7 +8,7 @@ pub enum CidError {
     /// The first byte is not 01, and the whole is not version 0.
     #[error("the version of the CID is neither 0 nor 1")]
     InvalidVersion,
-    /// The codec, the hash code or the digest's length is no varint in shortest form below 2^64.
+    /// The codec, the hash code or the digest's length is not a varint in shortest form below 2^64.
     #[error("a number of the CID is not in shortest form or too large")]
     InvalidVarint,
     /// The digest has more than 64 bytes.
@@ -17,7 +17,7 @@ pub enum CidError {
     /// There are no bytes, or they end inside a field.
     #[error("the CID is cut short")]
     Truncated,
-    /// Bytes stand behind the digest.
+    /// Bytes come after the digest.
     #[error("bytes stand behind the CID")]
     TrailingBytes,
 }

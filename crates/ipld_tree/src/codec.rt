@@ -17,16 +17,16 @@ pub trait Codec<'de, T> {
 
     ghost CODE: { ℕ };
 
-    /// What bytes of the format stand for.
+    /// What bytes of the format mean.
     ghost Data: { Type 0 };
 
-    /// What a value holds, wherever it lies in memory.
+    /// What a value holds, wherever it is in memory.
     ghost View: { Type 0 };
 
     /// These bytes, all of them, are an encoding of the data: for writing and for reading.
     ghost is_encoding: { List ℕ → Data → Type 0 };
 
-    /// The data of a value. None where it has none.
+    /// The data of a value, or none.
     ghost data_of: { T → Option Data };
 
     ghost meaning: { T → View };
@@ -34,20 +34,19 @@ pub trait Codec<'de, T> {
     /// The data is read as a value that holds this.
     ghost is_read: { Data → View → Type 0 };
 
-    /// The error says nothing of the value or of the bytes, as want of memory, or a fault of the
-    /// device.
+    /// The error says nothing of the value or the bytes: want of memory, or a fault of the device.
     ghost is_excuse: { Self.Error → Type 0 };
 
-    /// Reads the value whose encoding the source's bytes are, all of them.
+    /// Reads the value whose encoding is all of the source's bytes.
     fn decode<R: BufRead + Drop>(alloc: Global, reader: R) -> Result<T, Self::Error>
         ensures answers { Decodes is_encoding is_read meaning is_excuse
             (R.remaining reader) result };
 
-    /// Reads the value whose encoding the bytes are, all of them.
+    /// Reads the value whose encoding is all of the bytes.
     fn decode_from_slice(alloc: Global, bytes: &[u8]) -> Result<T, Self::Error>
         ensures answers { Decodes is_encoding is_read meaning is_excuse (Some bytes.now) result };
 
-    /// Appends the value's encoding to what the device holds, or a beginning of it.
+    /// Appends the value's encoding, or a beginning of it, to what the device holds.
     fn encode<W: Write>(alloc: Global, writer: &mut W, value: &T) -> Result<(), Self::Error>
         ensures answers { Encodes is_encoding is_excuse (data_of value.now)
             (W.contents writer.old) result (W.contents writer.new) };

@@ -25,7 +25,7 @@ pub enum Ipld {
 }
 
 impl Ipld {
-    /// The steps that an untyped read of the tree takes, `u64::MAX` where they are more.
+    /// The steps that an untyped read of the tree takes, or `u64::MAX` if there are more.
     #[cycle(depth_need)]
     pub fn depth_need(&self) -> u64
         ensures { result ≡ min (any_need (tree_of self.now)) (2 ^ 64 - 1) }

@@ -10,27 +10,27 @@ pub fn spelling_unique()
     ensures { SpellingsAreUnique }
 {}
 
-/// Key order: entries of different keys are in the order of bytes as their keys are in theirs.
+/// Key order: entries with different keys have the same order, by their bytes, as their keys.
 pub fn key_order()
     ensures { SpelledKeysKeepTheirOrder }
 {}
 
-/// Two values are equal exactly where their trees are.
+/// Two values are equal exactly if their trees are.
 pub fn equality()
     ensures { EqualityIsOfTrees }
 {}
 
-/// What is spelled is the spelling of a spellable tree, and nothing else.
+/// The bytes that are spelled are the spelling of a spellable tree, and nothing else.
 pub fn spelled_is_the_spelling()
     ensures { SpelledIsTheSpelling }
 {}
 
-/// Two CIDs are equal exactly where their binary forms are.
+/// Two CIDs are equal exactly if their binary forms are.
 pub fn cid_equality()
     ensures { CidEqualityIsOfBytes }
 {}
 
-/// At most one fault stands in bytes, and none in a CID. What `Cid::try_from` refuses has one.
+/// Bytes have at most one fault, and a CID has none. Bytes that `Cid::try_from` refuses have one.
 pub fn cid_faults()
     ensures { CidFaultsAreUnique }
 {}

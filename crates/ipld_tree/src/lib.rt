@@ -1,6 +1,6 @@
 //! The data of DAG-CBOR: what a tree is, the one spelling that it has, and trees as values.
 //!
-//! 128 lists in each other, the innermost empty, take 256 steps to read (`src/tests/cids_and_trees.rt` of `tests_types`):
+//! 128 nested lists, the innermost empty, take 256 steps to read:
 //!
 //! ```rust
 //! let tree = lists(rt.alloc(), 128)?;

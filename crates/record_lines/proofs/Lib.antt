@@ -1,3 +1,4 @@
 pub mod Telling
 pub mod Reading
 pub mod Wording
+pub mod Spelled

@@ -1,5 +1,5 @@
 -- What is said of a repository's records.
-use Rattle.std.proofs.Common.{◌≡◌, inl, inr, ℕ, List, [], ◌∷◌, length, ◌≤◌, ◌<◌, arith, Bool, sym, ap, refl, ◌∙◌, subst, get_or, Result, Ok, Err, IfOk}
+use Rattle.std.proofs.Common.{◌≡◌, inl, inr, ℕ, List, [], ◌∷◌, Bool, sym, refl, ◌∙◌, subst, Result, Ok, Err, IfOk}
 use Rattle.ipld_tree.specs.Cid.{CidParts}
 use Rattle.ipld_links.specs.Blocks.{NamedBlock}
 use Rattle.ipld_links.specs.Reaching.{Stored}
@@ -12,7 +12,7 @@ use Rattle.atproto_mst.specs.declared.entries.MstEntry.{MstEntry}
 use Rattle.atproto_mst.specs.declared.repo_error.RepoError.{RepoError}
 use Rattle.atproto_mst.specs.declared.repo_error.RepoError.TheVariants.{OutOfMemory}
 use Rattle.record_lines.specs.Words.{IsOfRepo, repo_line}
-use Rattle.record_lines.specs.Repositories.{OfOneRoot, IsUnread}
+use Rattle.record_lines.specs.Repositories.{OfFirstRoot, IsUnread}
 use Rattle.record_lines.specs.Records.{IsToldAlone, IsRecordAt}
 
 -- what holds of an answer holds of it in other words
@@ -25,18 +25,11 @@ told_as line text well out told is h = (h.0, h.1, h.2 ∙ is)
 
 -- ---- roots
 
-pub one_root : {X : Type 0} (xs : List X) (a : X) → 1 ≤ length xs → length xs < 2 → a ≡ get_or xs 0 a → xs ≡ a ∷ []
-one_root [] a least most is = absurd (omega (arith, least))
-one_root (x ∷ []) a least most is = ap (λ y. y ∷ []) (sym is)
-one_root (x ∷ y ∷ xs) a least most is = absurd (omega (arith, most))
+pub of_first : (IsSo : CidParts → Type 0) (IsNone : Type 0) (roots : List CidParts) (root : CidParts) (others : List CidParts) → roots ≡ root ∷ others → IsSo root → OfFirstRoot IsSo IsNone roots
+of_first IsSo IsNone roots root others is h = subst (OfFirstRoot IsSo IsNone) (sym is) h
 
-pub of_one : (IsSo : CidParts → Type 0) (IsOther : ℕ → Type 0) (roots : List CidParts) (root : CidParts) → roots ≡ root ∷ [] → IsSo root → OfOneRoot IsSo IsOther roots
-of_one IsSo IsOther roots root is h = subst (OfOneRoot IsSo IsOther) (sym is) h
-
-pub of_others : (IsSo : CidParts → Type 0) (IsOther : ℕ → Type 0) (roots : List CidParts) → (length roots ≡ 1 → ⊥) → IsOther (length roots) → OfOneRoot IsSo IsOther roots
-of_others IsSo IsOther [] other h = h
-of_others IsSo IsOther (root ∷ []) other h = absurd (other refl)
-of_others IsSo IsOther (root ∷ more ∷ roots) other h = h
+pub of_none : (IsSo : CidParts → Type 0) (IsNone : Type 0) (roots : List CidParts) → roots ≡ [] → IsNone → OfFirstRoot IsSo IsNone roots
+of_none IsSo IsNone roots none h = subst (OfFirstRoot IsSo IsNone) (sym none) h
 
 -- ---- refusals
 
@@ -60,5 +53,8 @@ pub tested : (s : NamedBlock) (v : Verdict) → IsVerdict s v → (v ≡ verdict
 tested s (verdicts.Block kind) h other none = h.0
 tested s (verdicts.Refused e) h other none = h.0
 tested s verdicts.NotRead h other none = h.0
+tested s verdicts.LinksNotRead h other none = h.0
+tested s verdicts.Node h other none = h.0
+tested s (verdicts.NoNode e) h other none = h.0
 tested s verdicts.OtherBytes h other none = absurd (other refl)
 tested s verdicts.Unverified h other none = absurd (none refl)

@@ -1,10 +1,10 @@
 -- The text of a key is one word, and is that of no other.
-use Rattle.std.proofs.Common.{◌≡◌, ℕ, zero, suc, ◌/◌, ◌%◌, ◌<◌, ◌≤◌, ◌==◌, nat_lt, List, [], ◌∷◌, ◌++◌, Bool, true, false, length, refl, sym, ap, ap₂, ◌∙◌, arith, slice_index, codes, if◌then◌else◌, ltb-true}
+use Rattle.std.proofs.Common.{◌≡◌, ℕ, zero, suc, ◌/◌, ◌%◌, ◌<◌, ◌≤◌, ◌==◌, nat_lt, List, [], ◌∷◌, ◌++◌, Bool, true, false, length, refl, sym, ap, ap₂, ◌∙◌, arith, slice_index, codes, if◌then◌else◌, ltb-true, inl, inr}
 use Rattle.std.specs.Prelude.{⊤}
 use Rattle.std.specs.List.{AllByRecursion}
 use Rattle.std.proofs.lemmas.Bool.{ltb-false, or_parts}
 use Rattle.record_lines.specs.Keys.{upper_digit, is_spelled, key_byte, key_text}
-use Rattle.record_lines.specs.Laws.{IsWord, KeysAreWords, KeyTextsDiffer}
+use Rattle.record_lines.specs.Laws.{KeysAreNamed, IsWord, KeysAreWords, KeyTextsDiffer}
 
 -- ---- digits
 
@@ -33,7 +33,7 @@ digits_word = ((omega arith, omega arith), ((omega arith, omega arith), ((omega 
 digit_word : (n : ℕ) → n < 16 → (0x21 ≤ upper_digit n) × (upper_digit n ≤ 0x7e)
 digit_word n l = at_index (λ b. (0x21 ≤ b) × (b ≤ 0x7e)) (codes "0123456789ABCDEF") digits_word n l
 
-same_digit : (n m : ℕ) → n < 16 → m < 16 → upper_digit n ≡ upper_digit m → n ≡ m
+pub same_digit : (n m : ℕ) → n < 16 → m < 16 → upper_digit n ≡ upper_digit m → n ≡ m
 same_digit n m l k e = by (nat_lt n m) refl (nat_lt m n) refl
   where
     by : (s : Bool) → nat_lt n m ≡ s → (t : Bool) → nat_lt m n ≡ t → n ≡ m
@@ -48,7 +48,7 @@ joined [] b h k = k
 joined (x ∷ a) b h k = (h.0, joined a b h.1 k)
 
 -- a byte that stands for itself
-plain : (b : ℕ) → is_spelled b ≡ false → (0x21 ≤ b) × ((b ≤ 0x7e) × ((b == 0x25) ≡ false))
+pub plain : (b : ℕ) → is_spelled b ≡ false → (0x21 ≤ b) × ((b ≤ 0x7e) × ((b == 0x25) ≡ false))
 plain b e =
     let k = or_parts _ _ e in
     let m = or_parts _ _ k.1 in
@@ -70,7 +70,7 @@ keys_are_words (b ∷ key) h = joined (key_byte b) (key_text key) (byte_word b h
 abbrev spelled : ℕ → List ℕ
 spelled b = 0x25 ∷ upper_digit (b / 16) ∷ upper_digit (b % 16) ∷ []
 
-not_nothing : (c : ℕ) (rest : List ℕ) → [] ≡ key_byte c ++ rest → ⊥
+pub not_nothing : (c : ℕ) (rest : List ℕ) → [] ≡ key_byte c ++ rest → ⊥
 not_nothing c rest e = by (is_spelled c) e
   where
     by : (t : Bool) → [] ≡ (if t then spelled c else c ∷ []) ++ rest → ⊥
@@ -105,3 +105,7 @@ keys_differ (b ∷ key) (c ∷ other) h k e = by (keys_differ key other h.1 k.1)
         let d : b ≡ c = cc e in
         let r : key_text key ≡ key_text other = cc e in
         ap₂ (λ x xs. x ∷ xs) d (next r)
+
+pub keys_named : KeysAreNamed
+keys_named key other h (inl (k, is)) = keys_differ other key k h (sym is)
+keys_named key other h (inr (none, is)) = absurd (none key h refl)

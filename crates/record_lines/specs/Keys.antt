@@ -1,5 +1,6 @@
 -- Keys as they stand in lines.
-use Rattle.std.specs.Prelude.{ℕ, ◌/◌, ◌%◌, ◌==◌, ◌||◌, nat_lt, Bool, List, [], ◌∷◌, codes, slice_index, flat_map, if◌then◌else◌}
+use Rattle.std.specs.Prelude.{◌≡◌, ◌≢◌, ◌⊎◌, ℕ, ◌/◌, ◌%◌, ◌==◌, ◌||◌, nat_lt, Bool, List, [], ◌∷◌, codes, slice_index, flat_map, if◌then◌else◌}
+use Rattle.cid_text.specs.Alphabets.{AreBytes}
 
 -- a digit of base 16, in upper case
 abbrev pub upper_digit : ℕ → ℕ
@@ -15,3 +16,9 @@ key_byte b = if is_spelled b then 0x25 ∷ upper_digit (b / 16) ∷ upper_digit 
 
 abbrev pub key_text : List ℕ → List ℕ
 key_text key = flat_map key_byte key
+
+-- The key that a word names: the one whose text it is, as `records` prints it; or the word itself,
+-- where it is the text of none.
+abbrev pub IsNamedBy : List ℕ → List ℕ → Type 0
+IsNamedBy word key = (AreBytes key × (word ≡ key_text key))
+    ⊎ (((k : List ℕ) → AreBytes k → word ≢ key_text k) × (key ≡ word))

@@ -2,7 +2,7 @@
 use Rattle.std.specs.Prelude.{◌≡◌, ℕ, ◌<◌, ◌≤◌, List}
 use Rattle.std.specs.List.{AllByRecursion}
 use Rattle.cid_text.specs.Alphabets.{AreBytes}
-use Rattle.record_lines.specs.Keys.{key_text}
+use Rattle.record_lines.specs.Keys.{key_text, IsNamedBy}
 
 -- no byte is among them that could end a word, or a line
 abbrev pub IsWord : List ℕ → Type 0
@@ -15,3 +15,7 @@ KeysAreWords = (key : List ℕ) → AreBytes key → IsWord (key_text key)
 -- and it is the text of no other
 abbrev pub KeyTextsDiffer : Type 0
 KeyTextsDiffer = (key other : List ℕ) → AreBytes key → AreBytes other → key_text key ≡ key_text other → key ≡ other
+
+-- The text of a key names that key.
+abbrev pub KeysAreNamed : Type 0
+KeysAreNamed = (key other : List ℕ) → AreBytes key → IsNamedBy (key_text key) other → other ≡ key

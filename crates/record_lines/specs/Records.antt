@@ -3,7 +3,7 @@ use Rattle.std.specs.Prelude.{◌≡◌, ◌⊎◌, ℕ, List, [], ◌∷◌, �
 use Rattle.ipld_tree.specs.Cid.{CidParts}
 use Rattle.cid_text.specs.Texts.{cid_text}
 use Rattle.ipld_links.specs.Reaching.{Stored}
-use Rattle.ipld_links.specs.Verdicts.{IsVerified, IsVerdict}
+use Rattle.ipld_links.specs.Verdicts.{IsVerified, IsDagCbor, IsVerdict}
 use Rattle.ipld_links.specs.declared.verdict.Verdict.{Verdict}
 use Rattle.atproto_mst.specs.Keys.{Entry}
 use Rattle.atproto_mst.specs.Entries.{entries}
@@ -17,9 +17,9 @@ use Rattle.atproto_mst.specs.declared.repo_error.RepoError.{RepoError}
 use Rattle.block_lines.specs.Lines.{line, missing_line, verdict_line}
 use Rattle.block_lines.specs.Shown.{IsShown}
 use Rattle.held_lines.specs.Holding.{TellsFault}
-use Rattle.record_lines.specs.Keys.{key_text}
-use Rattle.record_lines.specs.Words.{IsOfTree, IsOfRepo, tree_line, repo_line, roots_line, no_record_line}
-use Rattle.record_lines.specs.Repositories.{IsFileHeld, OfOneRoot, IsRepoFile, IsNoRepoFile}
+use Rattle.record_lines.specs.Keys.{key_text, IsNamedBy}
+use Rattle.record_lines.specs.Words.{IsOfTree, IsOfRepo, tree_line, repo_line, no_root_line, no_record_line, other_codec_line}
+use Rattle.record_lines.specs.Repositories.{IsFileHeld, OfFirstRoot, IsRepoFile, IsNoRepoFile}
 
 -- nothing is said, and this is told
 abbrev pub IsToldAlone : List ℕ → Bool → List ℕ → List ℕ → Type 0
@@ -40,10 +40,15 @@ IsRecords b well out told = ((c : Commit) × (records : List MstEntry) × IsRepo
 
 -- ---- one record
 
--- of the bytes under a record's name: what is shown of them, where they are those that it names; else
--- the verdict on them
+-- of the bytes that a record's name names: what is shown of them, where it says that they are
+-- DAG-CBOR; else which codec it says
+abbrev pub AreVerifiedSaid : CidParts → List ℕ → Bool → List ℕ → List ℕ → Type 0
+AreVerifiedSaid name b well out told = (IsDagCbor name × IsShown b well out told)
+    ⊎ ((¬ IsDagCbor name) × IsToldAlone (other_codec_line name) well out told)
+
+-- of the bytes under a record's name: that of those which it names; of others the verdict on them
 abbrev pub AreBytesSaid : CidParts → List ℕ → Bool → List ℕ → List ℕ → Type 0
-AreBytesSaid name b well out told = (IsVerified (name, b) × IsShown b well out told)
+AreBytesSaid name b well out told = (IsVerified (name, b) × AreVerifiedSaid name b well out told)
     ⊎ ((¬ IsVerified (name, b)) × ((v : Verdict) × IsVerdict (name, b) v
     × IsToldAlone (verdict_line ((name, b), v)) well out told))
 
@@ -68,15 +73,15 @@ IsRecordAt stored key root well out told = ((c : Commit) × IsStoredCommit store
     ⊎ (((c : Commit) → ¬ IsStoredCommit stored root c) × ((e : RepoError) × CommitRefused stored root e
     × IsOfRepo e × IsToldAlone (repo_line root e) well out told))
 
--- of the key in the tree of the commit that the one root names; or how many roots there are
+-- of the key in the tree of the commit that the first root names; or that there is no root
 abbrev pub IsRecordOf : List ℕ → Stored → List CidParts → Bool → List ℕ → List ℕ → Type 0
 IsRecordOf key stored roots well out told =
-    OfOneRoot (λ root. IsRecordAt stored key root well out told)
-    (λ n. IsToldAlone (roots_line n) well out told) roots
+    OfFirstRoot (λ root. IsRecordAt stored key root well out told)
+    (IsToldAlone no_root_line well out told) roots
 
--- what `record` says of a file: that of its roots and its sections; or nothing, and a line that tells
--- why the bytes are no file
+-- what `record` says of a file: that of the key which the word names, of the file's roots and its
+-- sections; or nothing, and a line that tells why the bytes are no file
 abbrev pub IsRecord : List ℕ → List ℕ → Bool → List ℕ → List ℕ → Type 0
-IsRecord key b well out told = ((roots : List CidParts) × (stored : Stored) × IsFileHeld b roots stored
-    × IsRecordOf key stored roots well out told)
+IsRecord word b well out told = ((key : List ℕ) × (roots : List CidParts) × (stored : Stored)
+    × IsNamedBy word key × IsFileHeld b roots stored × IsRecordOf key stored roots well out told)
     ⊎ ((line : List ℕ) × TellsFault (λ sections. ⊤) b line × IsToldAlone line well out told)

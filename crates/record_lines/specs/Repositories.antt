@@ -1,5 +1,5 @@
 -- The repository that a file is.
-use Rattle.std.specs.Prelude.{◌≡◌, ◌⊎◌, ℕ, List, [], ◌∷◌, length, ⊤}
+use Rattle.std.specs.Prelude.{◌≡◌, ◌⊎◌, ℕ, List, [], ◌∷◌, ⊤}
 use Rattle.ipld_tree.specs.Cid.{CidParts}
 use Rattle.dagcbor_items.specs.Walks.{forms}
 use Rattle.dagcbor_car.specs.Car.{Section}
@@ -11,22 +11,22 @@ use Rattle.atproto_mst.specs.declared.entries.MstEntry.{MstEntry}
 use Rattle.atproto_mst.specs.declared.repo_error.RepoError.{RepoError}
 use Rattle.held_lines.specs.Holding.{Stores, TellsFault}
 use Rattle.held_lines.specs.declared.holding.Kept.TheVariants as which
-use Rattle.record_lines.specs.Words.{IsOfRepo, repo_line, roots_line}
+use Rattle.record_lines.specs.Words.{IsOfRepo, repo_line, no_root_line}
 
 -- the bytes are a file of these roots, whose sections are stored so
 abbrev pub IsFileHeld : List ℕ → List CidParts → Stored → Type 0
 IsFileHeld b roots stored = (sections : List Section) × IsFile b (forms roots) sections
     × Stores which.All sections stored
 
--- this is so of the one root; or there is none, or several, of which that is so
-abbrev pub OfOneRoot : (CidParts → Type 0) → (ℕ → Type 0) → List CidParts → Type 0
-OfOneRoot IsSo IsOther (root ∷ []) = IsSo root
-OfOneRoot IsSo IsOther roots = IsOther (length roots)
+-- this is so of the first root, whatever the others are; or there is no root, and that is so
+abbrev pub OfFirstRoot : (CidParts → Type 0) → Type 0 → List CidParts → Type 0
+OfFirstRoot IsSo IsNone (root ∷ others) = IsSo root
+OfFirstRoot IsSo IsNone [] = IsNone
 
--- the bytes are a file whose one root is the commit of a whole repository, of these records
+-- the bytes are a file whose first root is the commit of a whole repository, of these records
 abbrev pub IsRepoFile : List ℕ → Commit → List MstEntry → Type 0
-IsRepoFile b c records = (root : CidParts) × (stored : Stored) × IsFileHeld b (root ∷ []) stored
-    × IsRepo stored root c records
+IsRepoFile b c records = (root : CidParts) × (others : List CidParts) × (stored : Stored)
+    × IsFileHeld b (root ∷ others) stored × IsRepo stored root c records
 
 -- the repository whose commit has this name is not stored whole, and the line tells why
 abbrev pub IsUnread : Stored → CidParts → List ℕ → Type 0
@@ -34,11 +34,11 @@ IsUnread stored root line =
     ((c : Commit) (records : List MstEntry) → ¬ IsRepo stored root c records)
     × ((e : RepoError) × RepoRefused stored root e × IsOfRepo e × (line ≡ repo_line root e))
 
--- the repository of the one root is not stored whole, and the line tells why; or there are more roots
--- or none, and it tells how many
+-- the repository of the first root is not stored whole, and the line tells why; or there is no root,
+-- and it tells that
 abbrev pub IsUnreadOf : Stored → List CidParts → List ℕ → Type 0
 IsUnreadOf stored roots line =
-    OfOneRoot (λ root. IsUnread stored root line) (λ n. line ≡ roots_line n) roots
+    OfFirstRoot (λ root. IsUnread stored root line) (line ≡ no_root_line) roots
 
 -- the bytes are no file of a whole repository, and the line tells why
 abbrev pub IsNoRepoFile : List ℕ → List ℕ → Type 0

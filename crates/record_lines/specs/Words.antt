@@ -2,7 +2,11 @@
 use Rattle.std.specs.Prelude.{ℕ, List, [], ◌++◌, codes, decimal, ⊤}
 use Rattle.ipld_tree.specs.Cid.{CidParts}
 use Rattle.cid_text.specs.Texts.{cid_text}
+use Rattle.dagcbor_heads.specs.Names.{name_bytes}
+use Rattle.dagcbor_heads.specs.declared.error.DecodeError.{DecodeError}
+use Rattle.dagcbor_heads.specs.declared.error.DecodeError.TheVariants as refusals
 use Rattle.dagcbor_items.specs.PrintedNames.{variant_name}
+use Rattle.block_lines.specs.Codecs.{codec_text}
 use Rattle.block_lines.specs.Lines.{line, missing_line}
 use Rattle.atproto_mst.specs.declared.error.MstError.{MstError}
 use Rattle.atproto_mst.specs.declared.error.MstError.TheVariants as unread
@@ -35,20 +39,29 @@ tree_line (unread.NoNode name) = name_fault_line name (codes " is no node")
 tree_line (unread.TooDeep name) = name_fault_line name (codes " stands below 129 nodes")
 tree_line unread.OtherTree = line (codes "the nodes are not those of the tree of their entries")
 
+-- why a block is no commit: the message, such as `missing field`; or else the name of the refusal
+abbrev pub cause_text : {E : Type 0} → DecodeError E → List ℕ
+cause_text (refusals.Msg message) = name_bytes message
+cause_text e = variant_name e
+
 -- of a repository whose commit has this name
 abbrev pub repo_line : CidParts → RepoError → List ℕ
 repo_line name error.OutOfMemory = []
 repo_line name error.Missing = missing_line name
 repo_line name error.OtherBytes = name_fault_line name (codes " other bytes")
-repo_line name (error.NoCommit e) = name_fault_line name (codes " is no commit: " ++ variant_name e)
+repo_line name (error.NoCommit e) = name_fault_line name (codes " is no commit: " ++ cause_text e)
 repo_line name (error.OtherVersion n) =
     name_fault_line name (codes " is a commit of version " ++ decimal n)
 repo_line name (error.Tree e) = tree_line e
 
--- of a file of so many roots, which are not one
-abbrev pub roots_line : ℕ → List ℕ
-roots_line n = line (codes "the file has no commit: it has " ++ (decimal n ++ codes " roots"))
+-- of a file without a root
+abbrev pub no_root_line : List ℕ
+no_root_line = line (codes "the file has no commit: it has no root")
 
 -- of a tree that has no record of the key
 abbrev pub no_record_line : List ℕ
 no_record_line = line (codes "no record has the key")
+
+-- of a record whose name says another codec than DAG-CBOR
+abbrev pub other_codec_line : CidParts → List ℕ
+other_codec_line name = name_fault_line name (codes " is " ++ (codec_text name.codec ++ codes ", not dag-cbor"))

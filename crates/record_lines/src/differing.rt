@@ -123,7 +123,7 @@ fn changes_between<R: BufRead, S: BufRead>(
 }
 
 /// Writes a line for each key whose records differ between two files, each the whole repository of
-/// its one root, in the order of keys: `added <key> <CID>`, `removed <key> <CID>`, or
+/// its first root, in the order of keys: `added <key> <CID>`, `removed <key> <CID>`, or
 /// `changed <key> <CID before> <CID after>`. Or writes nothing, and tells why one of them is no such
 /// file, behind `old: ` or `new: `, the old one first. Whether both are. The blocks of one file are
 /// in memory at a time.

@@ -1,9 +1,10 @@
 //! Keys as they stand in lines.
 
-ghost use Rattle.std.specs.Prelude.{◌≡◌, ◌++◌, ◌<◌, OnOk};
-ghost use Rattle.record_lines.specs.Keys.{upper_digit, is_spelled, key_byte, key_text};
+ghost use Rattle.std.specs.Prelude.{◌≡◌, ◌++◌, ◌<◌, ◌≤◌, List, ℕ, length, IfOk, OnOk};
+ghost use Rattle.cid_text.specs.Alphabets.{AreBytes};
+ghost use Rattle.record_lines.specs.Keys.{upper_digit, is_spelled, key_byte, key_text, IsNamedBy};
 
-use std::alloc::AllocError;
+use std::alloc::{AllocError, Global};
 
 /// A digit of base 16.
 fn upper_digit(value: u8) -> u8
@@ -40,4 +41,67 @@ pub(crate) fn push_key(key: &[u8], out: &mut Vec<u8>) -> Result<(), AllocError>
         push_byte(byte, out)?;
     }
     Ok(())
+}
+
+/// What the digit of base 16 stands for; of another byte nothing is said.
+fn digit_value(byte: u8) -> u8
+    ensures bound { result < 16 }
+    ensures value { (n : ℕ) → n < 16 → byte ≡ upper_digit n → result ≡ n }
+{
+    for value in 0..16 {
+        if upper_digit(value) == byte {
+            return value;
+        }
+    }
+    0
+}
+
+/// The first byte of the key whose text this is, and how many bytes spell it.
+fn front_byte(text: &[u8]) -> (u8, usize)
+    requires { 1 ≤ length text.now }
+    ensures bound { (1 ≤ result.1) × (result.1 ≤ length text.now) }
+    ensures value { (b : ℕ) (more : List ℕ) → b < 256 → text.now ≡ key_byte b ++ more
+        → (result.0 ≡ b) × (result.1 ≡ length (key_byte b)) }
+{
+    if text.len() < 3 || text[0] != b'%' {
+        return (text[0], 1);
+    }
+    (16 * digit_value(text[1]) + digit_value(text[2]), 3)
+}
+
+/// The key whose text this is; of what is the text of none nothing is said.
+fn key_of_text(alloc: Global, text: &[u8]) -> Result<Vec<u8>, AllocError>
+    ensures { (key : List ℕ) → AreBytes key → text.now ≡ key_text key
+        → IfOk result (λ v. v.items ≡ key) }
+{
+    let mut key = Vec::new(alloc);
+    let mut at = 0;
+    while at < text.len() {
+        let (byte, length) = front_byte(&text[at..]);
+        key.push(byte)?;
+        at += length;
+    }
+    Ok(key)
+}
+
+/// Any bytes are below 256: for the proof alone.
+fn are_bytes(bytes: &[u8])
+    ensures { AreBytes bytes.now }
+{
+    let _bytes = bytes;
+}
+
+/// The key that a word names: the one whose text it is, or else the word itself.
+pub(crate) fn named_key(alloc: Global, word: &[u8]) -> Result<Vec<u8>, AllocError>
+    ensures { IfOk result (λ v. IsNamedBy word.now v.items) }
+{
+    let key = key_of_text(alloc, word)?;
+    are_bytes(&key);
+    let mut text = Vec::new(alloc);
+    push_key(&key, &mut text)?;
+    if text.as_slice() == word {
+        Ok(key)
+    } else {
+        word.to_vec(alloc)
+    }
 }

@@ -1,6 +1,6 @@
 //! Laws of the definitions, each the contract of a function that does nothing.
 
-ghost use Rattle.record_lines.specs.Laws.{KeysAreWords, KeyTextsDiffer};
+ghost use Rattle.record_lines.specs.Laws.{KeysAreWords, KeyTextsDiffer, KeysAreNamed};
 
 /// The text of a key is one word, so that no key can end its line.
 #[tactic(auto, using(crate::proofs::Wording::keys_are_words))]
@@ -12,4 +12,10 @@ pub fn keys_are_words()
 #[tactic(auto, using(crate::proofs::Wording::keys_differ))]
 pub fn keys_differ()
     ensures { KeyTextsDiffer }
+{}
+
+/// The text of a key names that key.
+#[tactic(auto, using(crate::proofs::Wording::keys_named))]
+pub fn keys_are_named()
+    ensures { KeysAreNamed }
 {}

@@ -3,11 +3,12 @@
 ghost use Rattle.std.specs.Prelude.{List, ℕ, IfOk, IfSome};
 ghost use Rattle.ipld_links.specs.Reaching.{stored_in};
 ghost use Rattle.block_lines.specs.Lines.{verdict_line, SaysBoth};
-ghost use Rattle.record_lines.specs.Records.{IsToldAlone, AreBytesSaid, IsBlockSaid};
+ghost use Rattle.record_lines.specs.Records.{IsToldAlone, AreVerifiedSaid, AreBytesSaid, IsBlockSaid};
 ghost use Rattle.record_lines.specs.Records.{IsSaidOfKey, IsRecordAt, IsRecordOf, IsRecord};
 
-use crate::repository::one_root;
-use crate::words::{repo_line, told_alone, tree_line};
+use crate::key::named_key;
+use crate::repository::first_root;
+use crate::words::{other_codec_line, repo_line, told_alone, tree_line};
 use atproto_mst::{find_record, stored_commit};
 use block_lines::{Answer, line_of, missing_line, say_both, shown, verdict_line};
 use dagcbor_cli::ToolError;
@@ -17,6 +18,9 @@ use ipld_tree::Cid;
 use std::alloc::{AllocError, Global};
 use std::collections::BTreeMap;
 use std::io::{BufRead, Write};
+
+/// The codec of records (multicodec table).
+const DAG_CBOR: u64 = 0x71;
 
 /// What is told of a record's name, under which there are other bytes than it says.
 fn verdict_told(alloc: Global, name: &Cid, verdict: &Verdict) -> Result<Answer, AllocError>
@@ -37,8 +41,21 @@ fn bytes_said(alloc: Global, name: &Cid, bytes: &[u8]) -> Result<Answer, AllocEr
     match &verdict {
         Verdict::OtherBytes => verdict_told(alloc, name, &verdict),
         Verdict::Unverified => verdict_told(alloc, name, &verdict),
-        _ => shown(alloc, bytes),
+        _ => verified_said(alloc, name, bytes),
     }
+}
+
+/// What is said of the bytes that a record's name names: what is shown of them, where it says that
+/// they are DAG-CBOR; else which codec it says.
+fn verified_said(alloc: Global, name: &Cid, bytes: &[u8]) -> Result<Answer, AllocError>
+    ensures { IfOk result
+        (λ p. AreVerifiedSaid name.now bytes.now p.0.1 p.0.0.items p.1.items) }
+{
+    if name.codec() == DAG_CBOR {
+        return shown(alloc, bytes);
+    }
+    let line = other_codec_line(alloc, name)?;
+    Ok(told_alone(alloc, line))
 }
 
 /// What is said of a record's name.
@@ -103,7 +120,7 @@ fn record_at(
     }
 }
 
-/// What is said of the key in the tree of the commit that the one root names.
+/// What is said of the key in the tree of the commit that the first root names.
 fn record_of(
     alloc: Global,
     roots: &[Cid],
@@ -113,20 +130,21 @@ fn record_of(
     ensures { IfOk result
         (λ p. IsRecordOf key.now (stored_in blocks.now) roots.now p.0.1 p.0.0.items p.1.items) }
 {
-    match one_root(alloc, roots)? {
+    match first_root(alloc, roots)? {
         Ok(root) => record_at(alloc, blocks, &root, key),
         Err(line) => Ok(told_alone(alloc, line)),
     }
 }
 
-/// What is said of the key in the file that the input is.
-fn record_in<R: BufRead>(alloc: Global, key: &[u8], input: &mut R) -> Result<Answer, ToolError>
+/// What is said of the key that the word names, in the file that the input is.
+fn record_in<R: BufRead>(alloc: Global, word: &[u8], input: &mut R) -> Result<Answer, ToolError>
     ensures { IfSome (R.remaining input.old)
-        (λ b. IfOk result (λ p. IsRecord key.now b p.0.1 p.0.0.items p.1.items)) }
+        (λ b. IfOk result (λ p. IsRecord word.now b p.0.1 p.0.0.items p.1.items)) }
 {
     match held_of(alloc, Kept::All, input) {
         Ok(Ok(held)) => {
-            let answer = record_of(alloc, &held.roots, &held.blocks, key)?;
+            let key = named_key(alloc, word)?;
+            let answer = record_of(alloc, &held.roots, &held.blocks, &key)?;
             Ok(answer)
         }
         Ok(Err(line)) => Ok(told_alone(alloc, line)),
@@ -134,21 +152,23 @@ fn record_in<R: BufRead>(alloc: Global, key: &[u8], input: &mut R) -> Result<Ans
     }
 }
 
-/// Writes the data of the record of the key, in the tree of the commit that the file's one root
-/// names, or tells why there is none. Whether there is one. The commit, the nodes on the way to the
-/// key and the record need be there, and no others. The blocks of the input are in memory.
+/// Writes the data of the record of the key, in the tree of the commit that the file's first root
+/// names, or tells why there is none. Whether there is one. The word is the key as `records` prints
+/// it, with `%20` for a space; a word that is no key's text is the key itself. The commit, the nodes
+/// on the way to the key and the record need be there, and no others. The blocks of the input are in
+/// memory.
 pub fn write_record<R: BufRead, W: Write, V: Write>(
     alloc: Global,
-    key: &str,
+    word: &str,
     input: &mut R,
     output: &mut W,
     errors: &mut V,
 ) -> Result<bool, ToolError>
     ensures { IfSome (R.remaining input.old) (λ b.
-        SaysBoth (IsRecord key.now b) (W.contents output.old) (V.contents errors.old) result
+        SaysBoth (IsRecord word.now b) (W.contents output.old) (V.contents errors.old) result
         (W.contents output.new) (V.contents errors.new)) }
 {
-    match record_in(alloc, key.as_bytes(), input) {
+    match record_in(alloc, word.as_bytes(), input) {
         Ok((said, told)) => say_both(said, &told, output, errors),
         Err(fault) => Err(fault),
     }

@@ -1,13 +1,13 @@
 //! The repository that a file is.
 
-ghost use Rattle.std.specs.Prelude.{◌≡◌, ◌≢◌, ◌∷◌, [], length, IfOk, IfSome, MatchResult};
+ghost use Rattle.std.specs.Prelude.{◌≡◌, ◌∷◌, [], List, IfOk, IfSome, MatchResult};
 ghost use Rattle.ipld_tree.specs.Cid.{CidParts};
 ghost use Rattle.ipld_links.specs.Reaching.{stored_in};
 ghost use Rattle.atproto_mst.specs.Repos.{IsRepo};
-ghost use Rattle.record_lines.specs.Words.{roots_line};
+ghost use Rattle.record_lines.specs.Words.{no_root_line};
 ghost use Rattle.record_lines.specs.Repositories.{IsUnread, IsUnreadOf, IsRepoFile, IsNoRepoFile};
 
-use crate::words::{repo_line, roots_line};
+use crate::words::{no_root_line, repo_line};
 use atproto_mst::{Repo, read_repo};
 use dagcbor_cli::ToolError;
 use held_lines::{Kept, held_of};
@@ -19,15 +19,16 @@ use std::io::BufRead;
 /// A repository, or the line that tells why there is none.
 pub type RepoFound = Result<Repo, Vec<u8>>;
 
-/// The one root, or the line that tells how many there are.
-pub(crate) fn one_root(alloc: Global, roots: &[Cid]) -> Result<Result<Cid, Vec<u8>>, AllocError>
-    ensures { IfOk result (λ r. MatchResult r (λ root. roots.now ≡ root ∷ [])
-        (λ line. (length roots.now ≢ 1) × (line.items ≡ roots_line (length roots.now)))) }
+/// The first root, or the line that tells that there is none.
+pub(crate) fn first_root(alloc: Global, roots: &[Cid]) -> Result<Result<Cid, Vec<u8>>, AllocError>
+    ensures { IfOk result (λ r. MatchResult r
+        (λ root. (others : List CidParts) × (roots.now ≡ root ∷ others))
+        (λ line. (roots.now ≡ []) × (line.items ≡ no_root_line))) }
 {
-    match roots {
-        [root] => Ok(Ok(*root)),
-        _ => {
-            let line = roots_line(alloc, roots.len())?;
+    match roots.first() {
+        Some(root) => Ok(Ok(*root)),
+        None => {
+            let line = no_root_line(alloc)?;
             Ok(Err(line))
         }
     }
@@ -52,18 +53,18 @@ fn repo_at(
     }
 }
 
-/// The repository whose commit the one root names.
+/// The repository whose commit the first root names.
 fn repo_of(
     alloc: Global,
     roots: &[Cid],
     blocks: &BTreeMap<Cid, Vec<u8>>,
 ) -> Result<RepoFound, AllocError>
     ensures { IfOk result (λ r. MatchResult r
-        (λ repo. (root : CidParts) × (roots.now ≡ root ∷ [])
+        (λ repo. (root : CidParts) × (others : List CidParts) × (roots.now ≡ root ∷ others)
         × IsRepo (stored_in blocks.now) root repo.commit repo.records.items)
         (λ line. IsUnreadOf (stored_in blocks.now) roots.now line.items)) }
 {
-    match one_root(alloc, roots)? {
+    match first_root(alloc, roots)? {
         Ok(root) => repo_at(alloc, blocks, &root),
         Err(line) => Ok(Err(line)),
     }

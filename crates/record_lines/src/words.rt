@@ -1,15 +1,19 @@
 //! Why a repository is not read, in a line.
 
-ghost use Rattle.std.specs.Prelude.{◌≡◌, ◌++◌, codes, decimal, IfOk};
-ghost use Rattle.record_lines.specs.Words.{IsOfTree, IsOfRepo, name_fault_line, tree_line, repo_line, roots_line};
+ghost use Rattle.std.specs.Prelude.{◌≡◌, ◌++◌, codes, decimal, string_bytes, IfOk};
+ghost use Rattle.block_lines.specs.Codecs.{codec_text};
+ghost use Rattle.record_lines.specs.Words.{IsOfTree, IsOfRepo, name_fault_line, tree_line, repo_line};
+ghost use Rattle.record_lines.specs.Words.{cause_text, no_root_line, other_codec_line};
 ghost use Rattle.record_lines.specs.Records.{IsToldAlone};
 
 use atproto_mst::{MstError, RepoError};
-use block_lines::{Answer, line_of, missing_line};
+use block_lines::{Answer, codec_name, line_of, missing_line};
 use cid_text::cid_text;
+use dagcbor_heads::DecodeError;
 use dagcbor_items::variant_name;
 use ipld_tree::Cid;
 use std::alloc::{AllocError, Global};
+use std::convert::Infallible;
 
 /// Nothing that is said, and this line, which is told.
 pub fn told_alone(alloc: Global, line: Vec<u8>) -> Answer
@@ -58,6 +62,16 @@ fn version_line(alloc: Global, name: &Cid, version: u8) -> Result<Vec<u8>, Alloc
     name_fault_line(alloc, name, words.as_bytes())
 }
 
+/// What tells why a block is no commit: the message, or else the name of the refusal.
+fn cause_text(cause: &DecodeError<Infallible>) -> &str
+    ensures { result.now ≡ cause_text cause.now }
+{
+    match cause {
+        DecodeError::Msg(message) => message.as_str(),
+        _ => variant_name(cause),
+    }
+}
+
 /// Why the repository is not read whose commit has this name. Want of memory is none of the causes.
 pub fn repo_line(alloc: Global, name: &Cid, error: &RepoError) -> Result<Vec<u8>, AllocError>
     ensures { IfOk result (λ v. IsOfRepo error.now × (v.items ≡ repo_line name.now error.now)) }
@@ -67,7 +81,7 @@ pub fn repo_line(alloc: Global, name: &Cid, error: &RepoError) -> Result<Vec<u8>
         RepoError::Missing => missing_line(alloc, name),
         RepoError::OtherBytes => name_fault_line(alloc, name, b" other bytes"),
         RepoError::NoCommit(cause) => {
-            let cause = variant_name(cause);
+            let cause = cause_text(cause);
             line_of(alloc, &cid_text(name), b" is no commit: ", cause.as_bytes())
         }
         RepoError::OtherVersion(version) => version_line(alloc, name, *version),
@@ -75,11 +89,29 @@ pub fn repo_line(alloc: Global, name: &Cid, error: &RepoError) -> Result<Vec<u8>
     }
 }
 
-/// That a file of so many roots has no commit.
-pub fn roots_line(alloc: Global, count: usize) -> Result<Vec<u8>, AllocError>
-    ensures { IfOk result (λ v. v.items ≡ roots_line count) }
+/// That a file without a root has no commit.
+pub fn no_root_line(alloc: Global) -> Result<Vec<u8>, AllocError>
+    ensures { IfOk result (λ v. v.items ≡ no_root_line) }
 {
-    let number = format!(in alloc; "{}", count)?;
-    let words = b"the file has no commit: it has ";
-    line_of(alloc, words, number.as_bytes(), b" roots")
+    let words = b"the file has no commit: it has no root";
+    line_of(alloc, words, b"", b"")
+}
+
+/// A codec in words.
+fn codec_text(alloc: Global, codec: u64) -> Result<String, AllocError>
+    ensures { IfOk result (λ text. string_bytes text ≡ codec_text codec) }
+{
+    match codec_name(codec) {
+        Some(name) => format!(in alloc; "{name}"),
+        None => format!(in alloc; "codec 0x{:x}", codec),
+    }
+}
+
+/// That a record's name says another codec than DAG-CBOR.
+pub fn other_codec_line(alloc: Global, name: &Cid) -> Result<Vec<u8>, AllocError>
+    ensures { IfOk result (λ v. v.items ≡ other_codec_line name.now) }
+{
+    let codec = codec_text(alloc, name.codec())?;
+    let words = format!(in alloc; " is {codec}, not dag-cbor")?;
+    name_fault_line(alloc, name, words.as_bytes())
 }

@@ -1,6 +1,7 @@
 -- What DAG-CBOR is as a codec: bytes are tied to trees by their spelling.
 use Rattle.std.proofs.Common.{sym, ◌∙◌, ap}
-use Rattle.std.specs.Prelude.{◌≡◌, ◌⊎◌, ℕ, ◌≤◌, List, [], Option, Some, IfSome, IfErr, Result, Err, Bool, ⊤, Vec}
+use Rattle.std.specs.Prelude.{◌≡◌, ◌⊎◌, ℕ, ◌≤◌, List, [], Option, Some, IfSome, IfErr, Result, Ok, Err, MatchResult, Bool, false, ⊤, Vec}
+use Rattle.std.specs.declared.convert.Infallible.{Infallible}
 use Rattle.std.specs.declared.alloc.Global.{Global}
 use Rattle.dagcbor_heads.specs.declared.error.DecodeError.{DecodeError}
 use Rattle.dagcbor_heads.specs.declared.error.DecodeError.TheVariants as unread
@@ -13,6 +14,8 @@ use Rattle.ipld_tree.proofs.Fronts.{front_unique}
 use Rattle.dagcbor_items.proofs.SliceReads.{whole_front}
 use Rattle.dagcbor_write.specs.Answers.{HasNoSpelling, GrewByFront, IsWriteExcuse, OnMessage}
 use Rattle.dagcbor_heads.specs.Written.{WantsMemoryOnlyIf}
+use Rattle.dagcbor_read.specs.Deserializers.{DeState}
+use Rattle.dagcbor_read.specs.Parts.{HandsWholeOn}
 use Rattle.dagcbor_read.specs.Whole.{HoldsNoValue, IsReadExcuse, OfWhole}
 use Rattle.std.specs.declared.io.Error.{Error}
 use Rattle.dagcbor_items.specs.Slices.{AreFirstLinks, LinksRefused}
@@ -89,6 +92,23 @@ NotDecodedFromSlice shape b _ = ⊥
 abbrev pub DecodeFromSliceRefused : {T V : Type 0} → Shape Tree V → List ℕ → Result T CodecError
     → Type 0
 DecodeFromSliceRefused shape b result = IfErr result (NotDecodedFromSlice shape b)
+
+-- what the type's own read of a source answers is handed on
+abbrev pub HandsDecodedOn : {T : Type 0}
+    → (DeState → Result T (DecodeError Error) → DeState → Type 0) → Option (List ℕ)
+    → Result T CodecError → Type 0
+HandsDecodedOn answers left result = MatchResult result
+    (λ v. HandsWholeOn answers left default_steps false (Ok v))
+    (IsDecodeIo (λ e. HandsWholeOn answers left default_steps false (Err e)))
+
+-- so is what its read of a slice answers, where a refusal says the same
+abbrev pub HandsSliceDecodedOn : {T : Type 0}
+    → (DeState → Result T (DecodeError Infallible) → DeState → Type 0) → List ℕ
+    → Result T CodecError → Type 0
+HandsSliceDecodedOn answers b result = MatchResult result
+    (λ v. HandsWholeOn answers (Some b) default_steps false (Ok v))
+    (IsDecodeIo (λ e. (told : DecodeError Infallible) × AreAlike told e
+    × HandsWholeOn answers (Some b) default_steps false (Err told)))
 
 -- why a value is not sent to a device, and what went out
 abbrev pub NotEncoded : Option Tree → Option (List ℕ) → Option (List ℕ) → CodecError → Type 0

@@ -53,3 +53,4 @@ pub use Rattle.dagcbor_read.specs.Streams
 -- of this crate
 pub mod RoundTrips
 pub mod Codec
+pub mod ByHand

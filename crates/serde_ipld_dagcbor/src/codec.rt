@@ -13,6 +13,7 @@ ghost use Rattle.serde_ipld_dagcbor.specs.Codec.{DecodeFromSliceRefused, IsDecod
 ghost use Rattle.serde_ipld_dagcbor.specs.Codec.{spellings_are_unique, trees_have_one_spelling};
 ghost use Rattle.serde_ipld_dagcbor.specs.Codec.{bytes_have_one_list};
 ghost use Rattle.serde_ipld_dagcbor.specs.Codec.{EncodeLacksMemoryIf, EncodeTells};
+ghost use Rattle.serde_ipld_dagcbor.specs.Codec.{HandsDecodedOn, HandsSliceDecodedOn};
 
 use crate::DAG_CBOR_CODE;
 use crate::error::CodecError;
@@ -26,7 +27,7 @@ use std::convert::Infallible;
 use std::io;
 use std::io::{BufRead, Write};
 
-/// The refusal of a slice, as that of a source.
+/// The refusal of a slice, as one of a source.
 fn of_no_device(error: DecodeError<Infallible>) -> DecodeError<io::Error>
     ensures { AreAlike error result }
 {
@@ -100,6 +101,7 @@ impl<'de, T: DeserializeOwned<'de> + Serialize> Codec<'de, T> for DagCborCodec {
             (IsDecodeIo (λ e. IfSome (R.remaining reader)
             (λ b. IsForBehind T.shape default_steps b e))) }
         ensures memory { IfErr result (IsDecodeIo (LacksMemoryIf (T.shape.memory false))) }
+        ensures handed { HandsDecodedOn T.answers (R.remaining reader) result }
     {
         match from_reader(alloc, reader) {
             Ok(value) => Ok(value),
@@ -113,6 +115,7 @@ impl<'de, T: DeserializeOwned<'de> + Serialize> Codec<'de, T> for DagCborCodec {
         ensures exact { DecodeFromSliceRefused T.shape bytes.now result }
         ensures behind { IfErr result (IsDecodeIo (IsForBehind T.shape default_steps bytes.now)) }
         ensures memory { IfErr result (IsDecodeIo (LacksMemoryIf (T.shape.memory false))) }
+        ensures handed { HandsSliceDecodedOn T.answers bytes.now result }
     {
         match from_slice_owned(alloc, bytes) {
             Ok(back) => Ok(back),

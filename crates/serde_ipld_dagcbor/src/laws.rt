@@ -12,25 +12,25 @@ pub use ipld_tree::laws::{
     cid_equality, cid_faults, equality, key_order, spelled_is_the_spelling, spelling_unique,
 };
 
-/// Bytes that `from_slice_with_depth` reads as an `Ipld`, at any budget, `to_vec` writes again. So
-/// it is of `from_slice`, whose budget is 256 steps.
+/// If `from_slice_with_depth` reads bytes as an `Ipld`, at any budget, `to_vec` writes the same
+/// bytes again. The same holds of `from_slice`, whose budget is 256 steps.
 pub fn read_then_written()
     ensures { ReadThenWritten }
 {}
 
-/// A value of any type whose tree is the one that it was read from is written as the bytes that it
-/// was read from. Not each is: `Some(None)` is null, which is read as `None`.
+/// A value of any type is written as the bytes that it was read from, if its tree is the one that
+/// it was read from. Not each tree is: `Some(None)` is null, which is read as `None`.
 pub fn typed_read_then_written<'de, T: Deserialize<'de> + Serialize>()
     ensures { TypedReadThenWritten T.meaning T.shape T.tree }
 {}
 
-/// What `to_vec` writes of an `Ipld`, `from_slice_with_depth` reads back, at any budget that is not
-/// below its need: `from_slice` where that is at most 256.
+/// `from_slice_with_depth` reads back what `to_vec` writes of an `Ipld`, at any budget that is not
+/// below its need. So does `from_slice`, if the need is at most 256.
 pub fn written_then_read()
     ensures { WrittenThenRead }
 {}
 
-/// What `to_vec` writes of a value of any type is read as what its tree shows to the type.
+/// What `to_vec` writes of a value of any type is read back as what its tree shows to the type.
 pub fn typed_written_then_read<'de, T: Deserialize<'de> + Serialize>()
     ensures { TypedWrittenThenRead T.meaning T.shape T.tree }
 {}

@@ -1,7 +1,7 @@
 //! DAG-CBOR, read and written with proofs: the names of the crate `serde_ipld_dagcbor`.
 //!
-//! docs/CALLING.md has recipes. This one is a test, in `crates/uses/src/tests/recipes.rt`; `agree`
-//! and `is_told` are the tests' own, and fail where the answer is another:
+//! docs/CALLING.md has recipes. This one is a test, in `crates/tests_uses/src/tests/recipes.rt`.
+//! `agree` and `is_told` belong to the tests, and fail if the answer differs:
 //!
 //! ```rust
 //! let block = to_vec(alloc, &(-300i16, "a"))?;

@@ -3,7 +3,7 @@
 
 use crate::changes::{are_told, change_one};
 use crate::tests::{Kept, agree, is_named, numbered_all};
-use atproto_mst::{MstEntry, MstError, diff, write_mst};
+use atproto_mst::{MstEntry, MstError, diff, read_mst, write_mst};
 use ipld_links::name_of_block;
 use ipld_tree::Cid;
 use std::alloc::{AllocError, Global};
@@ -167,6 +167,13 @@ fn is_refused(
     }
 }
 
+fn is_unread(alloc: Global, blocks: &Blocks, root: &Cid, wanted: MstError) -> Result<(), Fail> {
+    match &read_mst(alloc, blocks, root) {
+        Err(error) => agree(*error, wanted),
+        Ok(_) => Err(Fail::from("a fault was not told")),
+    }
+}
+
 /// The entries after these changes.
 fn changed(alloc: Global, rows: &[(u32, Option<u32>, Option<u32>)]) -> Result<Vec<MstEntry>, Fail> {
     let mut all = numbered_all(alloc, 200, 11)?;
@@ -243,6 +250,51 @@ fn twice(alloc: Global, below: &Option<Cid>) -> Result<Vec<u8>, AllocError> {
     out.extend_from_slice(b"\x61\x6c")?;
     push_link(alloc, below, &mut out)?;
     Ok(out)
+}
+
+/// A node without keys, over this node.
+fn keyless(alloc: Global, below: &Option<Cid>) -> Result<Vec<u8>, AllocError> {
+    let mut out = Vec::new(alloc);
+    out.extend_from_slice(b"\xa2\x61\x65\x80\x61\x6c")?;
+    push_link(alloc, below, &mut out)?;
+    Ok(out)
+}
+
+/// The nodes of a chain without keys under a root of one key, which links to it on both sides; and
+/// the root.
+fn chained(alloc: Global, count: u32) -> Result<(Blocks, Cid), Fail> {
+    let mut blocks = BTreeMap::new(alloc);
+    let mut below = None;
+    for _node in 0..count {
+        let block = keyless(alloc, &below)?;
+        let name = name_of_block(&block);
+        blocks.insert(name, block)?;
+        below = Some(name);
+    }
+    let block = twice(alloc, &below)?;
+    let root = name_of_block(&block);
+    blocks.insert(root, block)?;
+    Ok((blocks, root))
+}
+
+/// How many nodes are in a chain. The root has a key of layer 8.
+const CHAINS: &[u32] = &[1, 2, 8, 9, 128];
+
+#[test]
+fn chains_without_keys_are_told(rt: HostRuntime) -> Result<(), Fail> {
+    let alloc = rt.alloc();
+    let (empty, none) = tree_of(alloc, &[])?;
+    for &count in CHAINS {
+        let (mut blocks, root) = chained(alloc, count)?;
+        blocks.insert(none, keyless(alloc, &None)?)?;
+        is_unread(alloc, &blocks, &root, MstError::OtherTree)?;
+        is_refused(alloc, &blocks, &root, &none, MstError::OtherTree)?;
+        is_refused(alloc, &blocks, &none, &root, MstError::OtherTree)?;
+    }
+    let (mut blocks, root) = chained(alloc, 129)?;
+    put_all(empty.blocks, &mut blocks)?;
+    let deepest = name_of_block(&keyless(alloc, &None)?);
+    is_unread(alloc, &blocks, &root, MstError::TooDeep(deepest))
 }
 
 #[test]

@@ -66,7 +66,7 @@ impl<'de> Variants<'de> for Color {
 
     ghost shape = { color_variants };
 
-    #[tactic(auto, using(dagcbor_read::proofs::NamedVariants::held_refused))]
+    #[tactic(auto, using(serde_ipld_dagcbor::specs::ByHand::held_refused))]
     fn read_variant<R: Read>(
         alloc: Global,
         name: &str,

@@ -35,6 +35,8 @@ from ._native import read_car
 from ._paths import MissingBlock, find, resolve
 from ._repo import Repository, read_repo
 
+__version__ = "0.1.0"
+
 __all__ = [
     "CID",
     "CarCheck",

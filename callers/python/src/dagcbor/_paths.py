@@ -55,11 +55,12 @@ class MissingBlock(LookupError):
         self.cid = cid
 
 
-def _block_of(get: Callable[[CID], Buffer | None], cid: CID) -> Buffer:
-    """The block of the name, verified. A name by the identity holds it itself."""
-    block = cid.digest if cid.hash_code == IDENTITY else get(cid)
-    if block is None:
+def _block_of(get: Callable[[CID], Buffer | None], cid: CID) -> bytes:
+    """The block of the name, verified, in bytes that nobody writes. A name by the identity holds it itself."""
+    held = cid.digest if cid.hash_code == IDENTITY else get(cid)
+    if held is None:
         raise MissingBlock(cid)
+    block = _native.to_bytes(held)
     if _native.name(block) != cid:
         if not verify(cid, block):
             raise _native.refusal(OTHER_BYTES)

@@ -1,12 +1,13 @@
 //! The items of a list, or the entries of a map, one at a time.
 
 ghost use Rattle.std.specs.Prelude.{◌≡◌, ◌↔◌, ◌+◌, ◌<◌, ◌≤◌, true, false, Some, IfOk, IfErr};
-ghost use Rattle.std.specs.Prelude.{IfSome, MatchBool};
+ghost use Rattle.std.specs.Prelude.{IfSome, MatchBool, length};
 ghost use Rattle.std.specs.Cow.{cow_str_bytes, IsBorrowedStr};
 ghost use Rattle.dagcbor_heads.specs.Reading.{with_steps};
 ghost use Rattle.dagcbor_heads.specs.Looking.{Looks};
 ghost use Rattle.dagcbor_read.specs.Deserializers.{de_state, Call, AreOut, Over};
 ghost use Rattle.dagcbor_items.specs.Entries.{HasName};
+ghost use Rattle.dagcbor_items.specs.Majors.{LacksForString};
 ghost use Rattle.dagcbor_items.specs.TypedReads.{Reads};
 ghost use Rattle.dagcbor_items.specs.AnsweredVariants.{OfKey};
 ghost use Rattle.dagcbor_read.specs.Values.{ReadsPart};
@@ -18,8 +19,8 @@ use dagcbor_items::take_name;
 use std::alloc::{AllocError, Global};
 use std::borrow::CowStr;
 
-/// A list or map that was begun, and what is left of it. It holds no `Deserializer`: each call is
-/// given the one on which it was begun. Dropped before its end, the rest stays unread, and its
+/// A list or map that was begun, and what is left of it. It holds no `Deserializer`: pass each call
+/// the one on which it was begun. If it is dropped before its end, the rest stays unread, and its
 /// steps stay spent.
 #[derive(Drop)]
 pub struct Accessor<'de> {
@@ -33,13 +34,15 @@ pub struct Accessor<'de> {
     ghost within: { left ≤ announced },
 }
 
-/// A copy of the key, with no memory where it is lent.
+/// A copy of the key. It takes memory only for some bytes that are not lent.
 pub(crate) fn copied<'de>(alloc: Global, key: &CowStr<'de>) -> Result<CowStr<'de>, AllocError>
     ensures same { IfOk result (λ c. cow_str_bytes c ≡ cow_str_bytes key.now) }
     ensures lent { IfErr result (λ _. ¬ IsBorrowedStr key.now) }
+    ensures some { IfErr result (λ _. 0 < length (cow_str_bytes key.now)) }
 {
     Ok(match key {
         CowStr::Borrowed(text) => CowStr::Borrowed(text),
+        CowStr::Owned(text) if text.len() == 0 => CowStr::Owned(String::new(alloc)),
         CowStr::Owned(text) => CowStr::Owned(String::from_str(alloc, text.as_str())?),
     })
 }
@@ -86,7 +89,7 @@ impl<'de> Accessor<'de> {
         self.is_map
     }
 
-    /// Whether the value of the key before it is to be read now.
+    /// Whether the value of the last key is to be read now.
     pub fn owes_value(&self) -> bool
         ensures { result ≡ (accessor_state self.now).owes_value }
     {
@@ -100,7 +103,7 @@ impl<'de> Accessor<'de> {
         Some(self.left)
     }
 
-    /// The next item of a list, where one is left.
+    /// The next item of a list, if one is left.
     #[inline(always)]
     pub fn next_element<T: Deserialize<'de>, R: Read>(
         &mut self,
@@ -125,7 +128,7 @@ impl<'de> Accessor<'de> {
         Ok(Some(element))
     }
 
-    /// The next key of a map, where one is left: lent where the input lends.
+    /// The next key of a map, if one is left: lent if the input lends.
     pub fn next_key<R: Read>(
         &mut self,
         alloc: Global,
@@ -140,6 +143,7 @@ impl<'de> Accessor<'de> {
         ensures lent { IfOk result
             (λ o. IfSome o (λ k. IsBorrowedStr k
             ↔ ((de_state R.reading de.old).input.lends ≡ true))) }
+        ensures memory { IfErr result (LacksForString 3 (de_state R.reading de.old).input.left) }
         ensures variant { IfErr result OfKey }
         ensures looked { 0 < (accessor_state self.old).left
             → Looks 3 (de_state R.reading de.old).input result (de_state R.reading de.new).input }
@@ -153,7 +157,7 @@ impl<'de> Accessor<'de> {
         Ok(Some(key))
     }
 
-    /// Takes the next key, where it is this name and a slice has it whole.
+    /// Takes the next key, if it is this name and a slice has it whole.
     #[inline(always)]
     pub(crate) fn take_name<R: Read>(&mut self, name: &str, de: &mut Deserializer<'de, R>) -> bool
         requires some { 0 < (accessor_state self.old).left }
@@ -187,8 +191,8 @@ impl<'de> Accessor<'de> {
         self.owes_value = true;
     }
 
-    /// Reads the next key, and keeps it alone: `last_key` lends it then. One of the names takes no
-    /// memory where it is at hand.
+    /// Reads the next key, and only keeps it: `last_key` then lends it. One of the names takes no
+    /// memory if it is at hand.
     #[cold]
     #[inline(never)]
     pub(crate) fn keep_key<R: Read>(
@@ -203,6 +207,7 @@ impl<'de> Accessor<'de> {
         ensures key { Over R.reading
             (Call (KeepsKey (accessor_state self.old).last (accessor_state self.new).last)) de.old
             result de.new }
+        ensures memory { IfErr result (LacksForString 3 (de_state R.reading de.old).input.left) }
     {
         let key = de.read_key(alloc, names, &self.last)?;
         self.note_key(key);
@@ -236,7 +241,7 @@ impl<'de> Accessor<'de> {
         Ok(value)
     }
 
-    /// The value of the key before it was read in another way.
+    /// The value of the last key was read in another way.
     pub(crate) fn note_value(&mut self)
         ensures { accessor_state self.new ≡ with_value (accessor_state self.old) }
     {

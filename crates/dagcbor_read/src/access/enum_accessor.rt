@@ -18,7 +18,7 @@ use dagcbor_heads::{DecodeError, Read, ReadResult, peek_one, pull_one, spend_ste
 use std::alloc::Global;
 use std::borrow::CowStr;
 
-/// An enum that was begun. It holds no `Deserializer`: each call is given the one on which it was
+/// An enum that was begun. It holds no `Deserializer`: pass each call the one on which it was
 /// begun. It is used once.
 #[derive(Drop)]
 pub struct EnumAccessor {
@@ -96,7 +96,8 @@ impl EnumAccessor {
         Ok((name, self))
     }
 
-    /// After a variant's name alone, nothing is read. Else `Mismatch` with the enum's first byte.
+    /// After a variant's name alone, reads nothing. Else it is `Mismatch` with the enum's first
+    /// byte.
     pub fn unit_variant<'de, R: Read>(self, de: &mut Deserializer<'de, R>) -> ReadResult<(), R>
         requires { AreOut (enum_state self).steps (de_state R.reading de.old) }
         ensures { Over R.reading (Call (EndsUnit (enum_state self))) de.old result de.new }
@@ -129,7 +130,7 @@ impl EnumAccessor {
         Ok(part)
     }
 
-    /// The list of what the variant holds, whose length is not looked at. Its end gives all steps
+    /// Begins the list that the variant holds. Its length is not looked at. Its end gives all steps
     /// back. Takes no memory.
     #[tactic(auto, using(crate::proofs::Entering::byte_begin))]
     pub fn tuple_variant<'de, R: Read>(
@@ -147,8 +148,8 @@ impl EnumAccessor {
         de.begin_items("tuple", 4, self.steps)
     }
 
-    /// The map of what the variant holds, whose fields' names are not looked at. Its end gives all
-    /// steps back. Takes no memory.
+    /// Begins the map that the variant holds. The names of its fields are not looked at. Its end
+    /// gives all steps back. Takes no memory.
     #[tactic(auto, using(crate::proofs::Entering::byte_begin))]
     pub fn struct_variant<'de, R: Read>(
         self,
@@ -171,7 +172,7 @@ impl EnumAccessor {
         DecodeError::mismatch("enum", self.first)
     }
 
-    /// Goes on only where the enum is a map.
+    /// Goes on only if the enum is a map.
     #[tactic(auto, using(crate::proofs::Entering::other_byte))]
     fn enter_map<'de, R: Read>(&self, de: &mut Deserializer<'de, R>) -> ReadResult<(), R>
         ensures form { Over R.reading

@@ -7,7 +7,7 @@ ghost use Rattle.dagcbor_items.specs.Looks.{LooksAtAny};
 ghost use Rattle.dagcbor_items.specs.LeafReads.{ReadsIgnored};
 ghost use Rattle.dagcbor_items.specs.AnsweredVariants.{OfItem};
 ghost use Rattle.dagcbor_read.specs.Parts.{ReadsOnce, FillsAs, RefusesFurther, RefusesEntry};
-ghost use Rattle.dagcbor_read.specs.Parts.{RefusesFieldsAs, IfRefused};
+ghost use Rattle.dagcbor_read.specs.Parts.{RefusesFieldsAs, IfRefused, RefusesEntries};
 ghost use Rattle.dagcbor_heads.specs.declared.error.DecodeError.{DecodeError};
 ghost use Rattle.dagcbor_read.specs.Deserializers.{DeState, de_state, StaysFailed, Over};
 ghost use Rattle.dagcbor_read.specs.Values.{ReadsValue, RefusesToBegin};
@@ -35,18 +35,18 @@ pub trait Fields<'de>: Sized + Drop {
     /// Before anything was read.
     ghost unread: { State };
 
-    /// What the value of a key makes of it, where the fields have these names.
+    /// What the value of a key makes of it, if the fields have these names.
     ghost shape: { List (List ℕ) → FieldShape State };
 
-    /// What the fields hold, wherever it lies in memory.
+    /// What the fields hold, wherever that is in memory.
     ghost View: { Type 0 };
 
     ghost meaning: { Self → View };
 
-    /// Once all was read. None where a field is missing.
+    /// What was read, once all was, or none if a field is missing.
     ghost finish: { State → Option View };
 
-    /// How the value of a key is refused, beside the law.
+    /// How the value of a key is refused, in addition to the law.
     ghost refuses: { {E : Type 0} → DeState → DecodeError E → DeState → Type 0 } = { λ old e new. ⊤ };
 
     /// The places before anything was read.
@@ -70,8 +70,8 @@ pub trait Fields<'de>: Sized + Drop {
         ensures refuses { IfErr result
             (λ e. Self.refuses (de_state R.reading de.old) e (de_state R.reading de.new)) };
 
-    /// Reads the next entry and its value, where its key is one of the names and a slice has it
-    /// whole. Why the value was refused goes into `refusal`, which is none. It may read nothing.
+    /// Reads the next entry and its value, if its key is one of the names and a slice has it whole.
+    /// A refusal of the value goes into `refusal`, which is none before. It may read nothing.
     fn read_named<R: Read>(
         places: &mut Self::Places,
         alloc: Global,
@@ -90,7 +90,7 @@ pub trait Fields<'de>: Sized + Drop {
             (λ e. RefusesFurther Self.refuses (de_state R.reading de.old) e
             (de_state R.reading de.new)) };
 
-    /// What the places make once all was read. None where a field is missing.
+    /// What the places make once all was read, or none if a field is missing.
     fn finish(places: Self::Places) -> Option<Self>
         ensures { option_map meaning result ≡ finish (state places) };
 }
@@ -113,7 +113,8 @@ fn read_by_key<'de, F: Fields<'de>, R: Read>(
         (accessor_state entries.old) (de_state R.reading de.old) result (F.state places.new)
         (accessor_state entries.new) (de_state R.reading de.new) }
     ensures refuses { IfErr result
-        (λ e. RefusesEntry F.refuses (de_state R.reading de.old) e (de_state R.reading de.new)) }
+        (λ e. RefusesEntry F.refuses (accessor_state entries.old).last (de_state R.reading de.old) e
+        (de_state R.reading de.new)) }
 {
     entries.keep_key(alloc, names, de)?;
     F::read_field(places, alloc, names, entries.last_key(), de)?;
@@ -136,7 +137,7 @@ pub(crate) fn read_entries_left<'de, F: Fields<'de>, R: Read>(
     ensures entries { Over R.reading
         (ReadsEntriesLeft F.state (F.shape (texts names.now)) F.unread
         (accessor_state entries.entry)) de.old result de.new }
-    ensures refuses { IfErr result (λ e. RefusesFurther (RefusesEntry F.refuses)
+    ensures refuses { IfErr result (λ e. RefusesEntries F.refuses (accessor_state entries.entry)
         (de_state R.reading de.old) e (de_state R.reading de.new)) }
 {
     let mut places = F::unread(alloc);
@@ -155,7 +156,7 @@ pub(crate) fn read_entries_left<'de, F: Fields<'de>, R: Read>(
     Ok(places)
 }
 
-/// Reads the entries of a map, whatever their order: what they make, before it is finished.
+/// Reads the entries of a map, in any order: what they make, before it is finished.
 pub fn read_fields<'de, F: Fields<'de>, R: Read>(
     alloc: Global,
     de: &mut Deserializer<'de, R>,

@@ -1,4 +1,4 @@
-//! Groups of fields, which stand in a row before others: a field, or two groups.
+//! Groups of fields, which come before others in a row: a field, or two groups.
 
 ghost use Rattle.std.specs.Prelude.{◌≡◌, ◌<◌, ℕ, List, [], Option, None, Some, option_map, Err, IfErr};
 ghost use Rattle.std.specs.Prelude.{IfSome, IsSomeAnd, MatchOption, false, ⊤};
@@ -31,13 +31,13 @@ use std::alloc::Global;
 #[derive(Drop)]
 pub struct Required<T>(pub T);
 
-/// A field that may be absent. A null in its place is read as any other value of its type, where an
-/// `Option` in a row of fields takes it for an absent one.
+/// A field that may be absent. A null in its place is read as any other value of its type. An
+/// `Option` in a row of fields takes a null for an absent field.
 #[derive(Debug, Drop)]
 pub struct Omissible<T>(pub Option<T>);
 
-/// A group of fields, which stands in a row before others: a field (`Required`, `Option`,
-/// `Omissible`), or two groups, the second behind the first. What a row holds and shows is flat by
+/// A group of fields, which comes before others in a row: a field (`Required`, `Option`,
+/// `Omissible`), or two groups, the second after the first. What a row holds and shows is flat by
 /// computation, however its fields are grouped: `((a, b), (c, ()))` is as `(a, (b, (c, ())))`.
 pub trait FieldGroup<'de>: Sized + Drop {
     /// What was read of it so far.
@@ -50,22 +50,22 @@ pub trait FieldGroup<'de>: Sized + Drop {
     /// Before anything was read.
     ghost own_unread: { OwnState };
 
-    /// What the value of a key makes of it, where the row has these names from here on; none where the
-    /// key is none of its own.
+    /// What the value of a key makes of it, if the row has these names from here on; none if the
+    /// key is not one of its own.
     ghost own_shape: { OwnShape OwnState };
 
-    /// The names behind its own.
+    /// The names after its own.
     ghost behind: { List (List ℕ) → List (List ℕ) };
 
-    /// What it holds, wherever it lies in memory.
+    /// What it holds, wherever it is in memory.
     ghost OwnView: { Type 0 };
 
     ghost own_meaning: { Self → OwnView };
 
-    /// Once all was read. None where a field is missing.
+    /// What was read, once all was, or none if a field is missing.
     ghost own_finish: { OwnState → Option OwnView };
 
-    /// What it holds together with what stands behind it.
+    /// What it holds together with what comes after it.
     ghost Held: { Type 0 → Type 0 };
 
     ghost held: { HeldBefore Held OwnState };
@@ -74,7 +74,7 @@ pub trait FieldGroup<'de>: Sized + Drop {
 
     ghost joins: { JoinsShape OwnState Held held shape_before behind own_shape };
 
-    /// What it shows together with what stands behind it.
+    /// What it shows together with what comes after it.
     ghost Shows: { Type 0 → Type 0 };
 
     ghost shows: { HeldBefore Shows OwnView };
@@ -83,17 +83,17 @@ pub trait FieldGroup<'de>: Sized + Drop {
 
     ghost finishes: { JoinsFinish OwnState OwnView Held Shows held shows own_finish finish_before };
 
-    /// How the value of one of its keys is refused, beside the law.
+    /// How the value of one of its keys is refused, in addition to the law.
     ghost own_refuses: { {E : Type 0} → DeState → DecodeError E → DeState → Type 0 };
 
     fn unread_own(alloc: Global) -> Self::Own
         ensures { own_state result ≡ own_unread };
 
-    /// The names behind its own.
+    /// The names after its own.
     fn skip_names<'n, 'm>(names: &'n [&'m str]) -> &'n [&'m str]
         ensures { texts result.now ≡ behind (texts names.now) };
 
-    /// Reads the value of the key, where it is one of its own. A refusal leaves what was read before.
+    /// Reads the value of the key, if it is one of its own. A refusal leaves what was read before.
     fn read_own<R: Read>(
         own: &mut Self::Own,
         alloc: Global,
@@ -112,8 +112,8 @@ pub trait FieldGroup<'de>: Sized + Drop {
         ensures refuses { IfSome result (λ r. IfErr r
             (λ e. Self.own_refuses (de_state R.reading de.old) e (de_state R.reading de.new))) };
 
-    /// Reads the next entry and its value, where its key is one of its own names and a slice has it
-    /// whole. Why the value was refused goes into `refusal`, which is none.
+    /// Reads the next entry and its value, if its key is one of its own names and a slice has it
+    /// whole. A refusal of the value goes into `refusal`, which is none before.
     fn read_own_named<R: Read>(
         own: &mut Self::Own,
         alloc: Global,
@@ -132,12 +132,12 @@ pub trait FieldGroup<'de>: Sized + Drop {
             (λ e. RefusesFurther Self.own_refuses (de_state R.reading de.old) e
             (de_state R.reading de.new)) };
 
-    /// What was read, once all was. None where a field is missing.
+    /// What was read, once all was, or none if a field is missing.
     fn finish_own(own: Self::Own) -> Option<Self>
         ensures { option_map own_meaning result ≡ own_finish (own_state own) };
 }
 
-/// The names behind the first.
+/// The names after the first.
 #[inline(always)]
 fn skip_first<'n, 'm>(names: &'n [&'m str]) -> &'n [&'m str]
     ensures { texts result.now ≡ behind_first (texts names.now) }
@@ -148,7 +148,7 @@ fn skip_first<'n, 'm>(names: &'n [&'m str]) -> &'n [&'m str]
     others
 }
 
-/// Reads the value of the key into the place of a field, where the key is the first name.
+/// Reads the value of the key into the place of a field, if the key is the first name.
 #[inline(always)]
 fn read_first<'de, T: Deserialize<'de>, R: Read>(
     own: &mut Option<T>,
@@ -205,8 +205,8 @@ fn read_named_value<'de, T: Deserialize<'de>, R: Read>(
     }
 }
 
-/// Reads the next entry into the place of a field, where its key is the first name and a slice has
-/// it whole.
+/// Reads the next entry into the place of a field, if its key is the first name and a slice has it
+/// whole.
 #[inline(always)]
 fn read_first_named<'de, T: Deserialize<'de>, R: Read>(
     own: &mut Option<T>,
@@ -388,7 +388,7 @@ impl<'de, T: Deserialize<'de>> FieldGroup<'de> for Option<T> {
     }
 }
 
-/// A field that may be absent, and is null where its type has a null.
+/// A field that may be absent, and is null only if its type has a null.
 impl<'de, T: Deserialize<'de>> FieldGroup<'de> for Omissible<T> {
     type Own = Option<T>;
 
@@ -464,7 +464,7 @@ impl<'de, T: Deserialize<'de>> FieldGroup<'de> for Omissible<T> {
     }
 }
 
-/// Two groups, the second behind the first.
+/// Two groups, the second after the first.
 impl<'de, A: FieldGroup<'de>, B: FieldGroup<'de>> FieldGroup<'de> for (A, B) {
     type Own = (A::Own, B::Own);
 

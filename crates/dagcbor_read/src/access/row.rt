@@ -29,7 +29,7 @@ pub trait Row<'de>: Sized + Drop {
     /// What the items show.
     ghost shape: { Shape Items View };
 
-    /// Where the parts lie, of an input that lends or of one that does not.
+    /// Where the parts are in memory, for an input that lends and for one that does not.
     ghost lies: { Bool → Self → Type 0 };
 
     /// How the items are refused, beside the law.
@@ -122,7 +122,7 @@ impl<'de, T: Deserialize<'de>, L: Row<'de>> Row<'de> for (T, L) {
     }
 }
 
-/// An item that may be absent, where none stands behind it.
+/// An item that may be absent, if none comes after it.
 #[derive(Debug, Drop)]
 pub struct OmissibleItem<T, L>(pub Option<T>, pub L);
 
@@ -166,8 +166,8 @@ pub(crate) fn read_rest<'de, L: Row<'de>, R: Read>(
     ensures rest { Over R.reading
         (ReadsRest L.meaning L.shape (accessor_state items.entry)) de.old result de.new }
     ensures lies { IfOk result (L.lies (de_state R.reading de.old).input.lends) }
-    ensures refuses { IfErr result (λ e. RefusesRest L.refuses (de_state R.reading de.old) e
-        (de_state R.reading de.new)) }
+    ensures refuses { IfErr result (λ e. RefusesRest L.refuses (accessor_state items.entry)
+        (de_state R.reading de.old) e (de_state R.reading de.new)) }
 {
     let mut items = items;
     let row = L::read_row(alloc, &mut items, de)?;
@@ -175,7 +175,7 @@ pub(crate) fn read_rest<'de, L: Row<'de>, R: Read>(
     Ok(row)
 }
 
-/// Reads a tuple whose parts the items of a list make: as many as there are. The length is not
+/// Reads a tuple whose parts are the items of a list, as many as there are. The length is not
 /// looked at.
 pub fn read_tuple<'de, L: Row<'de>, R: Read>(
     alloc: Global,

@@ -10,11 +10,12 @@ ghost use Rattle.dagcbor_items.specs.AnsweredVariants.{OfItem};
 ghost use Rattle.dagcbor_read.specs.Deserializers.{de_state, StaysFailed, AreOut, Over};
 ghost use Rattle.dagcbor_read.specs.Values.{ReadsValue, RefusesToBegin};
 ghost use Rattle.dagcbor_read.specs.Accessors.{HasHeadOf, BeginsItems};
-ghost use Rattle.dagcbor_read.specs.Enums.{enum_state, BeginsHeld, ReadsFieldsHeld};
-ghost use Rattle.dagcbor_read.specs.Collections.{struct_of};
+ghost use Rattle.dagcbor_read.specs.Enums.{enum_state, BeginsHeld, ReadsFieldsHeld, TakesHeld};
+ghost use Rattle.dagcbor_read.specs.Collections.{struct_of, fields_of};
 ghost use Rattle.dagcbor_read.specs.Structs.{texts, no_places, no_other_places};
 ghost use Rattle.dagcbor_read.specs.Parts.{ReadsOnce, RefusesFieldsAs, RefusesHeldFields};
-ghost use Rattle.dagcbor_read.specs.Parts.{IfRefused, IsMissingField, IsUnknownField};
+ghost use Rattle.dagcbor_read.specs.Parts.{IfRefused, LacksField, IsUnknownField};
+ghost use Rattle.dagcbor_items.specs.TypedReads.{TakesFront};
 
 use crate::access::accessor::Accessor;
 use crate::access::enum_accessor::EnumAccessor;
@@ -23,8 +24,8 @@ use crate::deserializer::Deserializer;
 use dagcbor_heads::{DecodeError, Read, ReadResult};
 use std::alloc::Global;
 
-/// No other field: any other key is refused. In the place of `()`, which skips the values of other
-/// keys.
+/// No other field: any other key is refused. Use it in place of `()`, which skips the values of
+/// other keys.
 #[derive(Clone, Copy, Debug, PartialEq, Eq)]
 pub struct Closed;
 
@@ -156,7 +157,8 @@ pub fn read_struct<'de, F: Fields<'de>, R: Read>(
     ensures failed { Over R.reading StaysFailed de.old result de.new }
     ensures refuses { Over R.reading
         (IfRefused (λ old e new. RefusesFieldsAs F.refuses name.now old e new
-        ⊎ IsMissingField e new)) de.old result de.new }
+        ⊎ LacksField (TakesFront (fields_of (F.shape (texts names.now)) F.unread)) F.finish old e
+        new)) de.old result de.new }
 {
     let entries = de.deserialize_struct(name, names)?;
     let places = read_entries_left::<F, R>(alloc, names, entries, de)?;
@@ -180,7 +182,8 @@ pub fn read_struct_variant<'de, F: Fields<'de>, R: Read>(
     ensures failed { Over R.reading StaysFailed de.old result de.new }
     ensures refuses { Over R.reading
         (IfRefused (λ old e new. RefusesHeldFields F.refuses (enum_state variant) old e new
-        ⊎ IsMissingField e new)) de.old result de.new }
+        ⊎ LacksField (TakesHeld (fields_of (F.shape (texts names.now)) F.unread)
+        (enum_state variant)) F.finish old e new)) de.old result de.new }
 {
     let entries = variant.struct_variant(names, de)?;
     let places = read_entries_left::<F, R>(alloc, names, entries, de)?;

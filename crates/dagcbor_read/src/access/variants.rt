@@ -15,7 +15,7 @@ use std::alloc::Global;
 
 /// An enum that is read through a match on its variant's name.
 pub trait Variants<'de>: Sized + Drop {
-    /// What a value holds, wherever it lies in memory.
+    /// What a value holds, wherever it is in memory.
     ghost View: { Type 0 };
 
     ghost meaning: { Self → View };

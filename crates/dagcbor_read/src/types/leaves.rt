@@ -1,5 +1,4 @@
-//! The types of leaves. Those of texts and bytes that have no memory of their own are lent by the
-//! input.
+//! The types of leaves. The input lends texts and bytes of types that have no memory of their own.
 
 ghost use Rattle.std.specs.Prelude.{◌≡◌, ◌↔◌, refl, ◌^◌, ℕ, ℤ, List, Bool, true, string_bytes};
 ghost use Rattle.std.specs.Prelude.{codes};
@@ -9,7 +8,7 @@ ghost use Rattle.dagcbor_items.specs.LeafReads.{ReadsNull, ReadsBool, ReadsUnsig
 ghost use Rattle.dagcbor_items.specs.LeafReads.{ReadsU128, ReadsI128, ReadsChar, ReadsStr};
 ghost use Rattle.dagcbor_items.specs.LeafReads.{ReadsOwnedText, ReadsByteSlice, ReadsOwnedBytes};
 ghost use Rattle.dagcbor_items.specs.Links.{ReadsLink};
-ghost use Rattle.dagcbor_read.specs.Parts.{ReadsOnce, ReadsAs, ReadsLent};
+ghost use Rattle.dagcbor_read.specs.Parts.{ReadsOnce, ReadsStringOnce, ReadsAs, ReadsLent};
 ghost use Rattle.std.specs.Cow.{cow_str_bytes, IsBorrowedStr, cow_slice_items, IsBorrowedSlice};
 ghost use Rattle.ipld_tree.specs.Cid.{cid_bytes};
 ghost use Rattle.dagcbor_items.specs.Shapes.{view_null, view_bool, view_unsigned, view_signed};
@@ -317,7 +316,7 @@ impl Shown for char {
 }
 
 impl<'de> Deserialize<'de> for char {
-    ghost answers = { ReadsOnce ReadsChar (Looks 3) OfChar };
+    ghost answers = { ReadsStringOnce 3 ReadsChar (Looks 3) OfChar };
 
     fn deserialize<R: Read>(alloc: Global, de: &mut Deserializer<'de, R>) -> ReadResult<Self, R> {
         de.deserialize_char(alloc)
@@ -337,7 +336,7 @@ impl Shown for &str {
 }
 
 impl<'de> Deserialize<'de> for &'de str {
-    ghost answers = { ReadsLent (λ s. s.now) cow_str_bytes IsBorrowedStr (codes "string") (ReadsOnce (ReadsStr (codes "string")) (Looks 3) OfText) };
+    ghost answers = { ReadsLent (λ s. s.now) cow_str_bytes IsBorrowedStr (codes "string") (ReadsStringOnce 3 (ReadsStr (codes "string")) (Looks 3) OfText) };
 
     fn deserialize<R: Read>(alloc: Global, de: &mut Deserializer<'de, R>) -> ReadResult<Self, R> {
         match de.deserialize_str(alloc)? {
@@ -349,7 +348,7 @@ impl<'de> Deserialize<'de> for &'de str {
     }
 }
 
-/// Lent where the input lends, and so not `DeserializeOwned`.
+/// Lent if the input lends, and so not `DeserializeOwned`.
 impl Shown for CowStr<'_> {
     ghost View = { List ℕ };
 
@@ -361,7 +360,7 @@ impl Shown for CowStr<'_> {
 impl<'de> Deserialize<'de> for CowStr<'de> {
     ghost lies = { λ lends s. IsBorrowedStr s ↔ (lends ≡ true) };
 
-    ghost answers = { ReadsOnce (ReadsStr (codes "string")) (Looks 3) OfText };
+    ghost answers = { ReadsStringOnce 3 (ReadsStr (codes "string")) (Looks 3) OfText };
 
     fn deserialize<R: Read>(alloc: Global, de: &mut Deserializer<'de, R>) -> ReadResult<Self, R> {
         de.deserialize_str(alloc)
@@ -377,7 +376,7 @@ impl Shown for String {
 }
 
 impl<'de> Deserialize<'de> for String {
-    ghost answers = { ReadsOnce ReadsOwnedText (Looks 3) OfText };
+    ghost answers = { ReadsStringOnce 3 ReadsOwnedText (Looks 3) OfText };
 
     fn deserialize<R: Read>(alloc: Global, de: &mut Deserializer<'de, R>) -> ReadResult<Self, R> {
         de.deserialize_string(alloc)
@@ -397,7 +396,7 @@ impl Shown for Bytes {
 }
 
 impl<'de> Deserialize<'de> for Bytes {
-    ghost answers = { ReadsAs (λ b. b.0) (ReadsOnce ReadsOwnedBytes (Looks 3) OfHead) };
+    ghost answers = { ReadsAs (λ b. b.0) (ReadsStringOnce 2 ReadsOwnedBytes (Looks 3) OfHead) };
 
     fn deserialize<R: Read>(alloc: Global, de: &mut Deserializer<'de, R>) -> ReadResult<Self, R> {
         Ok(Bytes(de.deserialize_byte_buf(alloc)?))
@@ -417,7 +416,7 @@ impl Shown for ByteSlice<'_> {
 }
 
 impl<'de> Deserialize<'de> for ByteSlice<'de> {
-    ghost answers = { ReadsLent (λ s. s.0.now) cow_slice_items IsBorrowedSlice (codes "bytes") (ReadsOnce ReadsByteSlice (Looks 3) OfHead) };
+    ghost answers = { ReadsLent (λ s. s.0.now) cow_slice_items IsBorrowedSlice (codes "bytes") (ReadsStringOnce 2 ReadsByteSlice (Looks 3) OfHead) };
 
     fn deserialize<R: Read>(alloc: Global, de: &mut Deserializer<'de, R>) -> ReadResult<Self, R> {
         match de.deserialize_bytes(alloc)? {

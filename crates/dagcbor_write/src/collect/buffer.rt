@@ -10,10 +10,10 @@ use std::alloc::Global;
 use std::marker::Model;
 use std::mem;
 
-/// The room that bytes take at first, so that a short value does not make them grow step by step.
+/// The room that the bytes get at first, so that they do not grow step by step for a short value.
 pub(crate) const FIRST_ROOM: usize = 128;
 
-/// Writes the value's spelling behind the bytes. A value that has none is refused with `refusal`.
+/// Appends the value's spelling to the bytes. A value that has none is refused with `refusal`.
 /// After a refusal the bytes are as before.
 pub(crate) fn append<T: Serialize, E>(
     alloc: Global,
@@ -44,7 +44,7 @@ pub(crate) fn append<T: Serialize, E>(
     }
 }
 
-/// Values that wait, spelled one behind the other, and their number.
+/// Values that wait, spelled one after the other, and their number.
 #[derive(Drop)]
 pub struct Buffer {
     bytes: Vec<u8>,
@@ -81,7 +81,7 @@ impl Buffer {
         self.count
     }
 
-    /// Writes a value behind the others. After a refusal the others wait as before.
+    /// Writes a value after the others. After a refusal the others wait as before.
     pub(crate) fn gather<T: Serialize, E>(
         &mut self,
         alloc: Global,

@@ -23,7 +23,7 @@ use crate::serializer::Serializer;
 use dagcbor_heads::{EncodeError, Write, WriteResult};
 use std::alloc::Global;
 
-/// What a map with two equal keys is refused with.
+/// The message for a map with two equal keys.
 pub(crate) const REPEATED_KEY: &str = "Map keys must be unique";
 
 /// Takes the entries of a map. They go out at its end, in key order.
@@ -46,7 +46,7 @@ impl<W, G: Drop> Drop for CollectMap<'_, W, G> {
 }
 
 impl<W: Write> Serializer<W> {
-    /// Begins a map, of which nothing goes out before its end. The length is not looked at.
+    /// Begins a map. Nothing goes out before its end. The length is not looked at.
     pub fn serialize_map(&mut self, alloc: Global, _len: Option<usize>) -> CollectMap<'_, W>
         ensures same_reference { SameLoan self.entry (map_lent result) }
         ensures unchanged { (map_lent result).now ≡ self.old }
@@ -109,7 +109,7 @@ impl<W: Write> Serializer<W> {
         })
     }
 
-    /// Writes the entries in key order, behind the head if that is not out yet.
+    /// Writes the entries in key order, after the head if that is not out yet.
     fn push_map(&mut self, mut state: Gathered) -> WriteResult<(), W>
         ensures written { (given : List Pair) → AreSpellingsOf given state.entries
             → Writes (map_rest (is_some state.announced) given)
@@ -139,7 +139,7 @@ impl<W: Write> Serializer<W> {
         }
     }
 
-    /// Writes the entries as they stand, behind the head if that is not out yet.
+    /// Writes the entries in their present order, after the head if that is not out yet.
     fn push_entries(&mut self, state: &Gathered) -> WriteResult<(), W>
         ensures written { Writes
             (head_rest (is_some state.now.announced) (length state.now.entries)
@@ -170,8 +170,9 @@ impl<W: Write> CollectMap<'_, W> {
         self.state.is_complete()
     }
 
-    /// Takes a key, whose value comes next. Refused with `Msg("Map key cannot be serialized.")`
-    /// where it has no spelling, with `Msg("Map keys must be strings")` where it is no text.
+    /// Takes a key, whose value comes next. It is refused with
+    /// `Msg("Map key cannot be serialized.")` if it has no spelling, and with
+    /// `Msg("Map keys must be strings")` if it is not a text.
     pub fn serialize_key<K: Serialize>(&mut self, key: &K) -> WriteResult<(), W>
         requires { (map_state self.old).key ≡ None }
         ensures nothing_written { WritesNothing self.old self.new }
@@ -183,8 +184,8 @@ impl<W: Write> CollectMap<'_, W> {
         self.state.take_key(self.alloc, key)
     }
 
-    /// Takes the value of the key before it. Refused with `Msg("Struct value cannot be
-    /// serialized.")` where it has no spelling.
+    /// Takes the value of the last key. It is refused with
+    /// `Msg("Struct value cannot be serialized.")` if it has no spelling.
     pub fn serialize_value<V: Serialize>(&mut self, value: &V) -> WriteResult<(), W>
         requires { IsSome (map_state self.old).key }
         ensures nothing_written { WritesNothing self.old self.new }

@@ -1,4 +1,4 @@
-//! The collector of a list whose number of items may come last.
+//! The collector of a list whose number of items may be known only at its end.
 
 ghost use Rattle.std.specs.Prelude.{◌≡◌, IfOk, IfErr, IsOk, OnOk};
 ghost use Rattle.std.specs.Prelude.{IfSome, IsSome, IsNone, IsOkAnd, Some, ◌||◌};
@@ -21,8 +21,8 @@ use std::alloc::Global;
 /// What an item that waits is refused with.
 const BAD_ELEMENT: &str = "List element cannot be serialized";
 
-/// What a list was given before its end: of items whose number was announced how many are still to
-/// come, else the items, which wait for their number.
+/// What a list has before its end. If the number of items was announced: how many are still to
+/// come. Else: the items, which wait for their number.
 #[derive(Drop)]
 pub enum ListState {
     Announced(usize),
@@ -49,8 +49,8 @@ impl<W, I: Drop> Drop for CollectSeq<'_, W, I> {
 }
 
 impl<W: Write> Serializer<W> {
-    /// Begins a list. Where the number of its items is known, its head goes out at once. Else the
-    /// items wait in memory until the list ends, and nothing can go wrong here.
+    /// Begins a list. If the number of its items is known, its head goes out at once. Else the
+    /// items wait in memory until the list ends, and nothing can fail here.
     pub fn serialize_seq(
         &mut self,
         alloc: Global,
@@ -79,7 +79,7 @@ impl<W: Write> Serializer<W> {
         })
     }
 
-    /// Writes the items that waited, behind their number.
+    /// Writes the items that waited, after their number.
     fn push_waiting(&mut self, buffer: &Buffer) -> WriteResult<(), W>
         ensures written { Writes (spelled_head 4 buffer.now.count ++? Some buffer.now.bytes)
             (W.written self.old) (W.written self.new) result }
@@ -91,7 +91,7 @@ impl<W: Write> Serializer<W> {
 }
 
 impl<W: Write> CollectSeq<'_, W> {
-    /// How many of the announced items are still to come. `None` where no number was announced.
+    /// How many of the announced items are still to come. `None` if no number was announced.
     pub fn left(&self) -> Option<usize>
         ensures { result ≡ elements_left (list_state self.now) }
     {
@@ -101,7 +101,7 @@ impl<W: Write> CollectSeq<'_, W> {
         }
     }
 
-    /// Takes the next item. One that waits and has no spelling is refused with
+    /// Takes the next item. If it is to wait and has no spelling, it is refused with
     /// `Msg("List element cannot be serialized")`.
     pub fn serialize_element<T: Serialize>(&mut self, value: &T) -> WriteResult<(), W>
         requires { HasRoom (list_state self.old) }
@@ -124,8 +124,8 @@ impl<W: Write> CollectSeq<'_, W> {
         }
     }
 
-    /// Ends the list: the items that waited go out behind their number. Where the number was
-    /// announced nothing is left to write, and nothing can go wrong.
+    /// Ends the list: the items that waited go out after their number. If the number was announced,
+    /// nothing is left to write, and nothing can fail.
     pub fn end(self) -> WriteResult<(), W>
         requires { IsComplete (list_state self) }
         ensures written { Writes (waiting_text (list_state self.entry))

@@ -15,16 +15,16 @@ use dagcbor_heads::EncodeError;
 use std::alloc::Global;
 use std::marker::Model;
 
-/// What a key without a spelling is refused with.
+/// The message for a key without a spelling.
 pub(crate) const BAD_KEY: &str = "Map key cannot be serialized.";
 
 /// What a key that is no text is refused with.
 pub(crate) const NO_TEXT: &str = "Map keys must be strings";
 
-/// What a value without a spelling is refused with.
+/// The message for a value without a spelling.
 pub(crate) const BAD_VALUE: &str = "Struct value cannot be serialized.";
 
-/// Where an entry stands: its key from `start` to `key_end`, its value from there to `end`.
+/// The place of an entry: its key from `start` to `key_end`, its value from there to `end`.
 #[derive(Clone, Copy, Default, Drop)]
 pub struct Span {
     pub start: usize,
@@ -32,9 +32,8 @@ pub struct Span {
     pub end: usize,
 }
 
-/// The entries that a map was given, encoded in one buffer. A key that waits for its value begins
-/// at `key`, and ends the buffer. What stands in no span, as a key whose value was refused, does
-/// not count.
+/// The entries of a map, encoded in one buffer. A key that waits for its value begins at `key`, and
+/// ends the buffer. Bytes outside all spans do not count, as a key whose value was refused.
 #[derive(Drop)]
 pub struct Gathered {
     bytes: Vec<u8>,
@@ -135,8 +134,8 @@ impl Gathered {
         }
     }
 
-    /// Takes the value of the key before it. After a refusal the key is gone, and the entries are
-    /// as before.
+    /// Takes the value of the last key. After a refusal the key is gone, and the entries are as
+    /// before.
     pub(crate) fn take_value<V: Serialize, E>(
         &mut self,
         alloc: Global,
@@ -167,7 +166,7 @@ impl Gathered {
         Ok(())
     }
 
-    /// Puts the entries into order, and says whether no key repeats.
+    /// Sorts the entries, and says whether no key is repeated.
     pub(crate) fn put_in_order(&mut self) -> bool
         ensures announced { self.new.announced ≡ self.old.announced }
         ensures order { PutsInOrder self.old.entries self.new.entries result }
@@ -206,7 +205,7 @@ pub fn entry_bytes<'a>(bytes: &'a [u8], spans: &[Span], i: usize) -> &'a [u8]
     range(bytes, span.start, span.end)
 }
 
-/// Whether no key is that of the entry before it.
+/// Whether no entry has the key of the one before it.
 fn keys_differ(bytes: &[u8], spans: &[Span]) -> bool
     ensures { KeysDiffer (map (entry_at bytes.now) spans.now) result }
 {
@@ -218,8 +217,8 @@ fn keys_differ(bytes: &[u8], spans: &[Span]) -> bool
     true
 }
 
-/// Puts entries into the order of their bytes, and says whether no key repeats. Entries of
-/// different keys stand in this order as the keys do in key order.
+/// Sorts entries by their bytes, and says whether no key is repeated. For different keys this is
+/// key order.
 pub fn put_in_order(bytes: &[u8], spans: &mut [Span]) -> bool
     ensures order { All (IsWithin (length bytes.now)) spans.old
         → PutsInOrder (map (entry_at bytes.now) spans.old)

@@ -1,4 +1,4 @@
-//! The entries of a map that is at hand: its keys, spelled in one buffer, each with its value.
+//! The entries of a map in memory: its keys, spelled in one buffer, each with its value.
 
 ghost use Rattle.std.specs.Prelude.{◌≡◌, ◌<◌, ◌++◌, List, [], length, map, IfOk, OnOk, IfErr};
 ghost use Rattle.std.specs.Prelude.{slice_index_or, codes, ℕ, Option};
@@ -24,7 +24,7 @@ use std::alloc::{AllocError, Global};
 use std::convert::Infallible;
 use std::marker::Model;
 
-/// A key, which stands in the buffer from `start` to `end`, and its value.
+/// A key, which is in the buffer from `start` to `end`, and its value.
 #[derive_where(Clone, Copy)]
 pub(crate) struct KeySpan<'a, V> {
     start: usize,
@@ -32,7 +32,7 @@ pub(crate) struct KeySpan<'a, V> {
     value: &'a V,
 }
 
-/// Entries of a map. A key stands in the buffer, spelled; its value is where the map has it.
+/// Entries of a map. A key is in the buffer, spelled; its value is where the map has it.
 #[derive(Drop)]
 pub(crate) struct Keyed<'a, V> {
     keys: Serializer<BufWriter>,
@@ -115,8 +115,8 @@ impl<'a, V> Keyed<'a, V> {
         Ok(())
     }
 
-    /// Puts the entries into the order of the bytes of their keys, which is key order, and says
-    /// whether no key repeats.
+    /// Sorts the entries by the bytes of their keys, which is key order, and says whether no key is
+    /// repeated.
     pub(crate) fn put_in_order(&mut self) -> bool
         ensures { PutsKeysInOrder self.old self.new result }
     {
@@ -127,7 +127,7 @@ impl<'a, V> Keyed<'a, V> {
         self.keys_differ()
     }
 
-    /// Whether no key is that of the entry before it.
+    /// Whether no entry has the key of the one before it.
     fn keys_differ(&self) -> bool
         ensures { KeysDiffer self.now result }
     {
@@ -141,7 +141,7 @@ impl<'a, V> Keyed<'a, V> {
 }
 
 impl<V: Serialize> Keyed<'_, V> {
-    /// Writes the entries as they stand, behind their number.
+    /// Writes the entries in their present order, after their number.
     #[tactic(auto, using(crate::proofs::Messages::none_as))]
     pub(crate) fn write<W: Write>(
         &self,
@@ -153,6 +153,7 @@ impl<V: Serialize> Keyed<'_, V> {
             (W.written ser.old) (W.written ser.new) result }
         ensures well_formed { OnOk result (AreTrees (value_trees V.tree self.now)) }
         ensures message { IfErr result (OnMessage (RefusesKeyedValue V.tree self.now)) }
+        ensures memory { WantsMemoryOnlyIf (V.takes_memory || W.takes_memory) result }
     {
         ser.push_head(5, self.len())?;
         for i in 0..self.len() {
@@ -164,7 +165,7 @@ impl<V: Serialize> Keyed<'_, V> {
     }
 }
 
-/// Spells a key behind the others. One that has no spelling is refused.
+/// Appends a key to the others, spelled. A key without a spelling is refused.
 fn spell_key<K: Serialize, E>(
     alloc: Global,
     keys: &mut Serializer<BufWriter>,
@@ -180,7 +181,7 @@ fn spell_key<K: Serialize, E>(
     }
 }
 
-/// Why a map is refused whose key was refused so.
+/// The refusal of a map whose key was refused so.
 #[cold]
 #[inline(never)]
 fn refused_key<E>(error: EncodeError<Infallible>) -> EncodeError<E>
@@ -194,7 +195,8 @@ fn refused_key<E>(error: EncodeError<Infallible>) -> EncodeError<E>
     }
 }
 
-/// Appends a value of a map. One that has no spelling is refused as such, whatever is wrong in it.
+/// Appends a value of a map. A value without a spelling is refused as such, whatever is wrong in
+/// it.
 #[inline(always)]
 pub(crate) fn write_value<V: Serialize, W: Write>(
     alloc: Global,
@@ -213,7 +215,7 @@ pub(crate) fn write_value<V: Serialize, W: Write>(
     }
 }
 
-/// Why a map is refused whose value was refused so.
+/// The refusal of a map whose value was refused so.
 #[cold]
 #[inline(never)]
 fn refused_value<E>(error: EncodeError<E>) -> EncodeError<E>

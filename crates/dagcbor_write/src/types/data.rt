@@ -34,7 +34,7 @@ impl Serialize for Ipld {
     }
 }
 
-/// Appends a leaf, where the writer has room for it. Else, and for a list or a map, it appends
+/// Appends a leaf, if the writer has room for it. Else, and for a list or a map, it appends
 /// nothing, and answers false.
 #[inline(always)]
 fn leaf_at_once<W: Write>(value: &Ipld, ser: &mut Serializer<W>) -> bool
@@ -54,7 +54,8 @@ fn leaf_at_once<W: Write>(value: &Ipld, ser: &mut Serializer<W>) -> bool
     }
 }
 
-/// Appends data of any kind. Apart, so that a leaf that finds room has no part in what this answers.
+/// Appends data of any kind. This is a separate function, so that a leaf for which there is room
+/// does not handle its result.
 #[cycle(serialize)]
 #[inline(never)]
 fn push_data<W: Write>(value: &Ipld, alloc: Global, ser: &mut Serializer<W>) -> WriteResult<(), W>

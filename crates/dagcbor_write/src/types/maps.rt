@@ -1,13 +1,13 @@
 //! Maps, sorted and hashed.
 
-ghost use Rattle.std.specs.Prelude.{List, OnOk, IfSome, IfErr, map, true, ◌||◌};
+ghost use Rattle.std.specs.Prelude.{◌≡◌, List, OnOk, IfSome, IfErr, map, true, ◌||◌};
 ghost use Rattle.std.specs.Iterator.{IsFinite};
 ghost use Rattle.dagcbor_heads.specs.Written.{Writes, WantsMemoryOnlyIf};
 ghost use Rattle.ipld_tree.specs.Tree.{IsTree, entries_tree};
 ghost use Rattle.ipld_tree.specs.Spelled.{spelled_tree};
 ghost use Rattle.dagcbor_write.specs.Trees.{Pair};
 ghost use Rattle.dagcbor_write.specs.Maps.{ShowsPairs, RefusesMap, RefusesEntries};
-ghost use Rattle.dagcbor_write.specs.Answers.{OnMessage};
+ghost use Rattle.dagcbor_write.specs.Answers.{OnMessage, LacksBefore};
 
 use crate::collect::collect_map::REPEATED_KEY;
 use crate::collect::keyed::Keyed;
@@ -18,9 +18,9 @@ use std::alloc::Global;
 use std::collections::{BTreeMap, HashMap};
 use std::hash::Hash;
 
-/// Appends the map of the entries that an iterator has left, in key order. `count` is how many they
-/// are, for speed alone. Nothing goes out before each key is spelled; then each value goes straight
-/// to the writer.
+/// Appends the map of the entries that an iterator has left, in key order. `count` is their number,
+/// for speed only. Nothing goes out before each key is spelled. Then each value goes straight to
+/// the writer.
 fn write_entries<
     'a,
     K: Serialize + 'a,
@@ -40,6 +40,7 @@ fn write_entries<
     ensures message { (rest : I → List Pair)
         → ShowsPairs I.next_gives (λ e. (K.tree e.0.now, V.tree e.1.now)) rest
         → IfErr result (OnMessage (RefusesMap ser.old ser.new (rest entries))) }
+    ensures memory { LacksBefore (V.takes_memory || W.takes_memory) (ser.new ≡ ser.old) result }
 {
     let Ok(mut keyed) = Keyed::with_room(alloc, count) else {
         return Err(EncodeError::OutOfMemory);
@@ -60,8 +61,9 @@ impl<K: Ord + Serialize, V: Serialize> Serialize for BTreeMap<K, V> {
 
     ghost message = { λ m. RefusesEntries (map (λ e. (K.tree e.0, V.tree e.1)) m.entries) };
 
-    /// Its message is that of what has no spelling: a key, a key that is there twice, or a value. Where
-    /// it is of the keys, nothing went out.
+    /// Its message is that of the part without a spelling: a key, a repeated key, or a value. If it
+    /// is that of a key, nothing went out. Nor did it if memory is wanting, unless the values or the
+    /// writer take some.
     fn serialize<W: Write>(&self, alloc: Global, ser: &mut Serializer<W>) -> WriteResult<(), W>
         ensures written { Writes (spelled_tree (entries_tree
             (map (λ e. (K.tree e.0, V.tree e.1)) self.now.entries)))
@@ -69,6 +71,7 @@ impl<K: Ord + Serialize, V: Serialize> Serialize for BTreeMap<K, V> {
         ensures well_formed { OnOk result (IfSome (entries_tree
             (map (λ e. (K.tree e.0, V.tree e.1)) self.now.entries)) IsTree) }
         ensures memory { WantsMemoryOnlyIf (true || W.takes_memory) result }
+        ensures lacks { LacksBefore (V.takes_memory || W.takes_memory) (ser.new ≡ ser.old) result }
         ensures message { IfErr result (OnMessage (RefusesMap ser.old ser.new
             (map (λ e. (K.tree e.0, V.tree e.1)) self.now.entries))) }
         ensures told { IfErr result (OnMessage (RefusesEntries
@@ -85,8 +88,9 @@ impl<K: Eq + Hash + Serialize, V: Serialize> Serialize for HashMap<K, V> {
 
     ghost message = { λ m. RefusesEntries (map (λ e. (K.tree e.0, V.tree e.1)) m.entries) };
 
-    /// Its message is that of what has no spelling: a key, a key that is there twice, or a value. Where
-    /// it is of the keys, nothing went out.
+    /// Its message is that of the part without a spelling: a key, a repeated key, or a value. If it
+    /// is that of a key, nothing went out. Nor did it if memory is wanting, unless the values or the
+    /// writer take some.
     fn serialize<W: Write>(&self, alloc: Global, ser: &mut Serializer<W>) -> WriteResult<(), W>
         ensures written { Writes (spelled_tree (entries_tree
             (map (λ e. (K.tree e.0, V.tree e.1)) self.now.entries)))
@@ -94,6 +98,7 @@ impl<K: Eq + Hash + Serialize, V: Serialize> Serialize for HashMap<K, V> {
         ensures well_formed { OnOk result (IfSome (entries_tree
             (map (λ e. (K.tree e.0, V.tree e.1)) self.now.entries)) IsTree) }
         ensures memory { WantsMemoryOnlyIf (true || W.takes_memory) result }
+        ensures lacks { LacksBefore (V.takes_memory || W.takes_memory) (ser.new ≡ ser.old) result }
         ensures message { IfErr result (OnMessage (RefusesMap ser.old ser.new
             (map (λ e. (K.tree e.0, V.tree e.1)) self.now.entries))) }
         ensures told { IfErr result (OnMessage (RefusesEntries

@@ -1,8 +1,8 @@
-//! Maps whose keys are texts: the keys are written as they stand, and spelled nowhere else.
+//! Maps whose keys are texts: the keys are written from where they are, and spelled nowhere else.
 
 ghost use Rattle.std.specs.Prelude.{◌≡◌, Option, IsPermutation, OnOk, IfOk, IfErr, IfSome, IsTrue};
-ghost use Rattle.std.specs.Prelude.{codes};
-ghost use Rattle.dagcbor_heads.specs.Written.{Writes};
+ghost use Rattle.std.specs.Prelude.{codes, ◌||◌};
+ghost use Rattle.dagcbor_heads.specs.Written.{Writes, WantsMemoryOnlyIf};
 ghost use Rattle.ipld_tree.specs.Tree.{Tree, IsTree, entries_tree};
 ghost use Rattle.ipld_tree.specs.Spelled.{spelled_tree};
 ghost use Rattle.dagcbor_write.specs.Answers.{IsMessage};
@@ -78,7 +78,7 @@ fn list_entries<V>(
     Ok(row)
 }
 
-/// Whether each key stands behind the one before it.
+/// Whether each key comes after the one before it.
 fn keys_rise<V>(row: &[TextEntry<'_, V>]) -> bool
     ensures { IsTrue result → (tree : V → Option Tree) → Rises (text_pairs tree row.now) }
 {
@@ -109,6 +109,7 @@ fn write_row<V: Serialize, W: Write>(
     ensures well_formed { OnOk result
         (IfSome (entries_tree (text_pairs V.tree row.now)) IsTree) }
     ensures message { IfErr result (IsMessage (codes "Struct value cannot be serialized.")) }
+    ensures memory { WantsMemoryOnlyIf (V.takes_memory || W.takes_memory) result }
 {
     ser.push_head(5, row.len())?;
     for entry in row {

@@ -52,8 +52,11 @@ impl VerdictSink for Letters {
         let letter = match verdict {
             Verdict::Block(_) => b'B',
             Verdict::Refused(_) => b'R',
+            Verdict::Node => b'P',
+            Verdict::NoNode(_) => b'Q',
             Verdict::OtherBytes => b'O',
             Verdict::NotRead => b'N',
+            Verdict::LinksNotRead => b'L',
             Verdict::Unverified => b'U',
         };
         match self.letters.push(letter) {

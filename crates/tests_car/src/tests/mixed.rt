@@ -25,9 +25,13 @@ const NODE: &[u8] =
 const FIVE: &[u8] =
     b"\x01\x71\x12\x20\xe7\x7b\x9a\x9a\xe9\xe3\x0b\x0d\xbd\xb6\xf5\x10\xa2\x64\xef\x9d\xe7\x81\x50\x1d\x7b\x6b\x92\xae\x89\xeb\x05\x9c\x5a\xb7\x43\xdb";
 
-/// "foo" under a name of version 0.
+/// The name of "bar", which is not held.
+const BAR: &[u8] =
+    b"\x01\x55\x12\x20\xfc\xde\x2b\x2e\xdb\xa5\x6b\xf4\x08\x60\x1f\xb7\x21\xfe\x9b\x5c\x33\x8d\x10\xee\x42\x9e\xa0\x4f\xae\x55\x11\xb6\x8f\xbf\x8f\xb9";
+
+/// The name of version 0 of a node whose data is "foo".
 const OLD: &[u8] =
-    b"\x12\x20\x2c\x26\xb4\x6b\x68\xff\xc6\x8f\xf9\x9b\x45\x3c\x1d\x30\x41\x34\x13\x42\x2d\x70\x64\x83\xbf\xa0\xf9\x8a\x5e\x88\x62\x66\xe7\xae";
+    b"\x12\x20\x22\x3b\x40\x72\x1d\xf0\x08\x89\xcc\x40\xf7\xca\x79\x54\xa5\x24\x7c\xed\x4a\x9d\xfd\xda\x64\x97\xf3\x20\x46\xc9\x61\x85\xbd\xac";
 
 /// The name in a section, which has a length of so many bytes.
 fn name_in(section: &[u8], length: usize) -> Result<Cid, Fail> {
@@ -70,14 +74,15 @@ fn links_lead_to_blocks_of_each_codec(rt: HostRuntime) -> Result<(), Fail> {
     let root = name_in(PARENT, 2)?;
     let raw = name_in(RAW, 1)?;
     let node = name_in(NODE, 1)?;
+    let bar = Cid::try_from(BAR)?;
     let five = Cid::try_from(FIVE)?;
-    lacks(&blocks, &[five])?;
+    lacks(&blocks, &[bar, five])?;
     agree(
         blocks.reachable(&root)?.as_slice(),
         [root, raw, node].as_slice(),
     )?;
     agree(blocks.remove(&raw), true)?;
-    lacks(&blocks, &[raw, five])?;
+    lacks(&blocks, &[raw, bar, five])?;
     agree(blocks.reachable(&root)?.as_slice(), [root, node].as_slice())
 }
 
@@ -86,12 +91,12 @@ fn a_name_of_version_0_is_kept(rt: HostRuntime) -> Result<(), Fail> {
     let alloc = rt.alloc();
     let mut blocks = Blocks::new(alloc);
     let name = Cid::try_from(OLD)?;
-    is_told(alloc, &blocks.put_block(&name, b"foo"), "Ok(())")?;
+    is_told(alloc, &blocks.put_block(&name, b"\x0a\x03foo"), "Ok(())")?;
     is_told(
         alloc,
         &blocks.put_block(&name, b"bar"),
         "Err(Unsound(OtherBytes))",
     )?;
-    agree(blocks.get_block(&name), Some(b"foo".as_slice()))?;
+    agree(blocks.get_block(&name), Some(b"\x0a\x03foo".as_slice()))?;
     gives::<Vec<u8>>(alloc, &blocks, &name, "Err(OtherCodec)")
 }

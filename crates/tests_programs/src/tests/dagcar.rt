@@ -137,13 +137,13 @@ const CUT: &[u8] = b"refused Truncated\n";
 
 /// What `check --summary` ends with.
 const GOOD_COUNTS: &[u8] =
-    b"sections 3\nok 2\nnot read 1\nrefused 0\nother bytes 0\nnot verified 0\nmissing 0\n";
+    b"sections 3\nok 2\nnot read 1\nlinks not read 0\nrefused 0\nother bytes 0\nnot verified 0\nmissing 0\n";
 
 const MIXED_COUNTS: &[u8] =
-    b"sections 5\nok 2\nnot read 0\nrefused 1\nother bytes 1\nnot verified 1\nmissing 1\n";
+    b"sections 5\nok 2\nnot read 0\nlinks not read 0\nrefused 1\nother bytes 1\nnot verified 1\nmissing 1\n";
 
 const CODECS_COUNTS: &[u8] =
-    b"sections 1\nok 1\nnot read 0\nrefused 0\nother bytes 0\nnot verified 0\nmissing 9\n";
+    b"sections 1\nok 1\nnot read 0\nlinks not read 0\nrefused 0\nother bytes 0\nnot verified 0\nmissing 9\n";
 
 /// Fails where `check --summary` ends with another status, writes other lines than these and those, or
 /// tells of other places.

@@ -1,4 +1,4 @@
-//! The first example of the README, word for word: a type that derives.
+//! A type that derives. The example in the README quotes lines of this test.
 
 use super::is_refused;
 use dagcbor_serde::{from_slice, to_vec};

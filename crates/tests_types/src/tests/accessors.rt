@@ -1,11 +1,11 @@
-//! A `Deserializer` after a refusal, and the parts of a list and a map one by one.
+//! A `Deserializer` after a refusal, and the parts of a list, a map and an enum one by one.
 
-use serde_ipld_dagcbor::{DecodeError, Deserializer, SliceReader};
+use serde_ipld_dagcbor::{DecodeError, Deserializer, EnumAccessor, SliceReader};
 use std::alloc::Global;
 use std::borrow::CowStr;
 use std::convert::Infallible;
 use std::test::Fail;
-use tests_shared::is_told;
+use tests_shared::{agree, is_told};
 
 #[test]
 fn a_refusal_of_a_typed_read_lasts(rt: HostRuntime) -> Result<(), Fail> {
@@ -78,4 +78,41 @@ fn items_and_entries_one_by_one(rt: HostRuntime) -> Result<(), Fail> {
         &(entry, de.end()),
         "(Ok((true, true, 1)), Ok(()))",
     )
+}
+
+#[test]
+fn an_enum_begins_with_a_text_or_with_a1(rt: HostRuntime) -> Result<(), Fail> {
+    let alloc = rt.alloc();
+    let mut de = Deserializer::from_slice(b"\xa1\x61B\x01");
+    let (name, variant) = EnumAccessor::enum_(&mut de)?.variant(alloc, &mut de)?;
+    agree(name.as_str(), "B")?;
+    let part: u8 = variant.newtype_variant(alloc, &mut de)?;
+    is_told(alloc, &(part, de.end()), "(1, Ok(()))")?;
+    // The text is left, and is read as the name. No step is spent: none is there.
+    let mut de = Deserializer::from_slice_reader(SliceReader::with_depth(b"\x61A", 0));
+    let (name, variant) = EnumAccessor::enum_(&mut de)?.variant(alloc, &mut de)?;
+    agree(name.as_str(), "A")?;
+    is_told(
+        alloc,
+        &(variant.unit_variant(&mut de), de.end()),
+        "(Ok(()), Ok(()))",
+    )?;
+    for (bytes, told) in [
+        (
+            b"\xa2".as_slice(),
+            r#"Some(Mismatch { name: "enum", found: 162 })"#,
+        ),
+        (
+            b"\x01".as_slice(),
+            r#"Some(Mismatch { name: "enum", found: 1 })"#,
+        ),
+        (
+            b"".as_slice(),
+            r#"Some(Eof { name: "enum", expect: Small(1) })"#,
+        ),
+    ] {
+        let mut de = Deserializer::from_slice(bytes);
+        is_told(alloc, &EnumAccessor::enum_(&mut de).err(), told)?;
+    }
+    Ok(())
 }

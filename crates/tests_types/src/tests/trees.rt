@@ -134,3 +134,28 @@ fn what_is_beyond_the_steps_is_refused(rt: HostRuntime) -> Result<(), Fail> {
     let bytes = nested(alloc, b"\x81", 128, b"\x00")?;
     agree(from_slice::<Vec<Ipld>>(alloc, &bytes).is_ok(), true)
 }
+
+/// Blocks, and the steps that reading them as an `Ipld` takes.
+const NEEDS: &[(&[u8], u64)] = &[
+    (b"\xf6", 1),
+    (b"\x80", 2),
+    (b"\xa0", 2),
+    (b"\x81\x00", 3),
+    (b"\x82\x00\x81\x80", 6),
+    (b"\xa2\x61a\x81\x00\x61b\x00", 5),
+];
+
+#[test]
+fn a_tree_is_cloned_and_says_its_need(rt: HostRuntime) -> Result<(), Fail> {
+    let alloc = rt.alloc();
+    let other = Ipld::Integer(1);
+    for (bytes, need) in NEEDS {
+        let tree: Ipld = from_slice(alloc, bytes)?;
+        let copy = tree.try_clone(alloc)?;
+        agree(
+            (copy == tree, copy == other, copy.depth_need()),
+            (true, false, *need),
+        )?;
+    }
+    Ok(())
+}

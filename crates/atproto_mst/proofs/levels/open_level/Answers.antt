@@ -20,7 +20,7 @@ returns-in_err-open_entry c =
 pub loop-held-preserved : goal.loop-held-preserved
 loop-held-preserved c = record {
   opened = level_next (stored_in c.args.blocks.now) (members c.args.dropped.now) c.loop-held.yielded c.in-Some.held (row_items [] (node_told c.in_ok-node.node).rows)
-      (held_items c.loop-held.opened.items) (held_items c.open_entry.new.opened.items) c.loop-held.invariant.opened c.in_ok-open_entry.ensures;
+      (held_items c.loop-held.below.items) (held_items c.open_entry.new.below.items) c.loop-held.invariant.opened c.in_ok-open_entry.ensures;
   all = c.loop-held.invariant.all ∙ ap (λ l. c.loop-held.yielded ++ l) c.in-Some.ensures.steps.0
       ∙ sym (append_assoc c.loop-held.yielded (c.in-Some.held ∷ []) c.next.new.self.rest.items);
 }

@@ -33,8 +33,8 @@ gather-returns-clause-fits t c =
     below_decided (stored_in c.args.blocks.now) c.args.name.now c.args.above c.saturating_sub.result (node_told c.in_ok-node.node) c.is_lower-is_node.result c.in_ok-fits.fits
     (c.in_ok-fits.fits && c.is_lower-is_node.result) c.in_ok-node.ensures (omega (arith, c.saturating_sub.ensures)) c.is_lower-is_node.ensures c.in_ok-fits.ensures.fits (both c.in_ok-fits.fits c.is_lower-is_node.result)
 
-pub gather_below-returns-in-None-clause-walked : goal.gather_below-returns-in-None-clause-walked
-gather_below-returns-in-None-clause-walked t c = gathers_no_link (WalksTree c.args.layers (stored_in c.args.blocks.now)) c.args.link.now c.in-None.is c.args.found.now
+pub gather_below-returns-in_default-clause-walked : goal.gather_below-returns-in_default-clause-walked
+gather_below-returns-in_default-clause-walked t c = gathers_no_link (WalksTree c.args.layers (stored_in c.args.blocks.now)) c.args.link.now c.in_default.is c.args.found.now
 
 pub gather_node-returns-in_err-rows-clause-stopped :
     goal.gather_node-returns-in_err-rows-clause-stopped

@@ -4,13 +4,13 @@ use Rattle.ipld_links.specs.Reaching.{stored_in}
 use Rattle.atproto_mst.specs.Nodes.{node_told}
 use Rattle.atproto_mst.specs.Walks.{most_layers}
 use Rattle.atproto_mst.proofs.Gathering.{no_node}
-use Rattle.atproto_mst.proofs.Listings.{refused_by, stops_for_memory, stops_at_root, read_root, other_root, refused_root, found_root}
+use Rattle.atproto_mst.proofs.Listings.{refused_by, no_root, stops_for_memory, stops_at_root, read_root, other_root, refused_root, found_root}
 use Rattle.atproto_mst.proofs.read.read_mst.Goals as goal
 
 pub returns-in_err-node-clause-refused : goal.returns-in_err-node-clause-refused
 returns-in_err-node-clause-refused c =
     let p = err_from_is_err_and c.from_residual.result c.from_residual.ensures.1 in
-    rw (p.1, p.2) (refused_by (stored_in c.args.blocks.now) c.args.root.now c.in_err-node.field-0.0 (no_node (stored_in c.args.blocks.now) c.args.root.now 128 most_layers refl [] c.in_err-node.field-0.0 c.in_err-node.ensures))
+    rw (p.1, p.2) (no_root (stored_in c.args.blocks.now) c.args.root.now c.in_err-node.field-0.0 c.in_err-node.ensures)
 
 pub returns-in_err-node-clause-whole : goal.returns-in_err-node-clause-whole
 returns-in_err-node-clause-whole c es h =
@@ -20,7 +20,7 @@ returns-in_err-node-clause-whole c es h =
 pub returns-in_err-is_root-clause-refused : goal.returns-in_err-is_root-clause-refused
 returns-in_err-is_root-clause-refused c =
     let p = err_from_is_err_and c.from_residual-in_err-is_root.result c.from_residual-in_err-is_root.ensures.1 in
-    rw (p.1, p.2) (refused_by (stored_in c.args.blocks.now) c.args.root.now c.in_err-is_root.field-0.0
+    rw (p.1, p.2) (refused_by (stored_in c.args.blocks.now) c.args.root.now c.in_err-is_root.field-0.0 (node_told c.in_ok-node.node) c.in_ok-node.ensures
     (stops_at_root (stored_in c.args.blocks.now) c.args.root.now (node_told c.in_ok-node.node) c.in_ok-node.ensures c.new-found.result c.new-found.ensures.items c.in_err-is_root.field-0.0 c.in_err-is_root.ensures.stopped))
 
 pub returns-in_err-is_root-clause-whole : goal.returns-in_err-is_root-clause-whole

@@ -1,19 +1,15 @@
-use Rattle.std.proofs.Common.{◌≡◌, [], refl, ap, ◌∙◌, subst, ◌↔◌, IsTrue, flat_map}
+use Rattle.std.proofs.Common.{inl, inr, false, refl, [], ◌∙◌}
 use Rattle.ipld_links.specs.Reaching.{stored_in}
-use Rattle.block_lines.specs.Lines.{missing_line}
-use Rattle.dagcar_lines.proofs.Finding.{tree_broken, told_broken}
+use Rattle.dagcar_lines.specs.Finding.{IsTreeFound, IsTreeOf}
+use Rattle.block_lines.proofs.Saying.{both_said, both_of}
 use Rattle.dagcar_lines.proofs.tree.say_tree.Goals as goal
 
-pub returns-in_err-send_tree : goal.returns-in_err-send_tree
-returns-in_err-send_tree g c =
-    tree_broken (stored_in c.args.blocks.now) c.args.root.now c.in_ok-found.field-0.found.items c.deref-2.result.now c.in_ok-found.field-0.lost.items c.in_ok-told.whole c.in_ok-told.told.items c.in_ok-told.told.items c.deref-2.ensures.value c.in_ok-found.ensures.reachable c.in_ok-found.ensures.lost
-    (c.in_ok-told.ensures.lines ∙ ap (λ l. flat_map missing_line l) c.deref.ensures.value) refl (subst (λ l. IsTrue c.in_ok-told.whole ↔ (l ≡ [])) c.deref.ensures.value c.in_ok-told.ensures.well)
-    (g.W.Write.contents c.args.output.now) (g.V.Write.contents c.args.errors.now) (g.W.Write.contents c.send_tree.new.output) c.from_residual-in_err-send_tree.result c.in_err-send_tree.field-0.0 c.from_residual-in_err-send_tree.ensures.1 c.in_err-send_tree.ensures
+pub returns-in-Ok : goal.returns-in-Ok
+returns-in-Ok g c =
+    both_of (IsTreeFound (stored_in c.args.blocks.now) c.args.root.now) (IsTreeOf (stored_in c.args.blocks.now) c.args.root.now) (g.W.Write.contents c.args.output.now) (g.V.Write.contents c.args.errors.now) c.say_reached.result _ _ (λ well said told t. inl t)
+    (c.say_reached.ensures (rw c.in-Ok.is at c.in_ok-reached.ensures))
 
-pub returns-in_err-write_all : goal.returns-in_err-write_all
-returns-in_err-write_all g c =
-    let w = c.in_err-write_all.ensures.written in
-    told_broken (stored_in c.args.blocks.now) c.args.root.now c.in_ok-found.field-0.found.items c.deref-2.result.now c.in_ok-found.field-0.lost.items c.in_ok-told.whole c.in_ok-told.told.items c.deref-3.result.now c.deref-2.ensures.value c.in_ok-found.ensures.reachable c.in_ok-found.ensures.lost
-    (c.in_ok-told.ensures.lines ∙ ap (λ l. flat_map missing_line l) c.deref.ensures.value) c.deref-3.ensures.value (subst (λ l. IsTrue c.in_ok-told.whole ↔ (l ≡ [])) c.deref.ensures.value c.in_ok-told.ensures.well)
-    (g.W.Write.contents c.args.output.now) (g.V.Write.contents c.args.errors.now) (g.W.Write.contents c.send_tree.new.output) (g.V.Write.contents c.write_all.new.writer) c.from_residual-in_err-write_all.result c.in_err-write_all.field-0.0 c.from_residual-in_err-write_all.ensures.1 c.in_err-write_all.ensures.fault c.in_ok-send_tree.ensures
-    (w.0, w.1, w.2, w.3)
+pub returns-in_ok-line-in-Err : goal.returns-in_ok-line-in-Err
+returns-in_ok-line-in-Err g c =
+    both_said (IsTreeOf (stored_in c.args.blocks.now) c.args.root.now) c.new.result.items c.deref.result.now false _ _ c.say_both.result _ _
+    (inr (refl, c.new.ensures.items, (c.in-Err.hidden, rw c.in-Err.is at c.in_ok-reached.ensures, c.deref.ensures.value ∙ c.in_ok-line-in-Err.ensures.line []))) c.say_both.ensures

@@ -10,7 +10,7 @@ use Rattle.ipld_tree.specs.declared.ipld.Ipld.{the_lemmas}
 use Rattle.dagcbor_items.proofs.Fronts.{byte_refused}
 use Rattle.dagcbor_items.proofs.Leaves.{indefinite_refused}
 use Rattle.dagcbor_items.proofs.Steps.{no_step_left, stepped_refused, more_lacks}
-use Rattle.dagcbor_items.proofs.Lists.{list_refused, list_as_tree, next_refused, one_item_read, map_placed, map_appended, item_taken}
+use Rattle.dagcbor_items.proofs.Lists.{list_refused, list_as_tree, next_refused, one_item_read, map_placed, map_pushed, item_taken}
 use Rattle.dagcbor_items.proofs.Maps as maps
 use Rattle.dagcbor_items.proofs.Entering.{enters}
 use Rattle.dagcbor_items.proofs.Pushes.{ordered_push, pushed_as}
@@ -75,7 +75,7 @@ read_items-returns-in_err-read_into-clause-items g t c =
 
 pub read_items-loop-index-preserved-in-Some : goal.read_items-loop-index-preserved-in-Some
 read_items-loop-index-preserved-in-Some g t c =
-    let pushed = map_appended tree_of c.push_item.result _ _ _ c.if-is_err.ensures.value c.push_item.ensures in
+    let pushed = map_pushed tree_of c.push.result _ _ _ c.if-is_err.ensures.value c.push.ensures.items in
     record {
       read = one_item_read _ _ pushed (omega arith) c.loop-index.invariant.read (item_taken _ _ _ _ (search (rules, the_lemmas)) c.in-Some.ensures.taken);
       looked = some_both c.loop-index.invariant.looked (some_taken c.in-Some.ensures.looked);
@@ -83,7 +83,7 @@ read_items-loop-index-preserved-in-Some g t c =
 
 pub read_items-loop-index-preserved : goal.read_items-loop-index-preserved
 read_items-loop-index-preserved g t c =
-    let placed = map_placed tree_of c.push.result _ _ _ _ _ c.if-is_err-3.ensures.value c.push.ensures.items (omega (arith, c.len-last.ensures)) in
+    let placed = map_placed tree_of c.push-in-loop-index.result _ _ _ _ _ c.if-is_err-3.ensures.value c.push-in-loop-index.ensures.items (omega (arith, c.len-last.ensures)) in
     record {
       read = one_item_read _ _ placed (omega arith) c.loop-index.invariant.read (rw c.in_default.ensures.taken at c.in_ok-read_into-2.ensures.item);
       looked = some_both c.loop-index.invariant.looked (some_taken (rw c.in_default.ensures.taken at c.in_ok-read_into-2.ensures.looked));

@@ -1,38 +1,45 @@
-use Rattle.std.proofs.Common.{rules, ◌≡◌, false, Ok, ap, ◌∙◌}
+use Rattle.std.proofs.Common.{rules, arith, ◌≡◌, ◌+◌, false, Ok, ap}
 use Rattle.std.proofs.lemmas.Result.{err_from_is_err_and, IfErr-weaker}
 use Rattle.dagcbor_lines.specs.Answers.{IsAnswer}
-use Rattle.dagcbor_lines.proofs.Answering.{all_answered, answered_none, answered_next, answered_some, answered_so_far, answered_whole, end_told, last_broken, last_written, ok_then, err_then, written_next}
+use Rattle.dagcbor_lines.proofs.Answering.{all_answered, answered_none, answered_next, answered_some, answered_so_far, answered_whole, end_told, last_broken, last_written, may_end, ok_then, err_then, written_next}
 use Rattle.dagcbor_lines.proofs.run.run_lines.Goals as goal
 
-pub loop-init : goal.loop-init
-loop-init g c = answered_none _ _ _ _ c.new.ensures.items
+pub loop-fills-init : goal.loop-fills-init
+loop-fills-init g c = record { few = omega arith; answered = answered_none _ _ _ _ c.new.ensures.items }
 
-pub loop-preserved : goal.loop-preserved
-loop-preserved g c = answered_next _ _ _ _ _ _ _ c.loop.invariant c.in_ok-more.ensures.answered
+pub loop-fills-preserved : goal.loop-fills-preserved
+loop-fills-preserved g c =
+    let k = c.in_ok-more.ensures.answered in
+    record {
+      few = c.in_ok-more.ensures.most;
+      answered = answered_next c.loop-fills.buffers.lines k.0 c.answer_fill.new.buffers.lines (IsAnswer c.args.command) _ _ _ _ _ _ k.1 c.loop-fills.invariant.answered k.2;
+    }
 
 pub returns-in_err-more : goal.returns-in_err-more
 returns-in_err-more g c =
     let p = err_from_is_err_and c.from_residual.result c.from_residual.ensures.1 in
-    rw p.1 (record {
+    rw (p.1, p.2) (record {
       answered = tt;
-      broken = answered_some _ _ _ _ _ _ _ c.loop.invariant c.in_err-more.ensures.broken;
-      whole = λ other. written_next _ _ _ _ _ _ c.loop.invariant (c.in_err-more.ensures.whole (λ e. other (p.2 ∙ e)));
+      broken = answered_some c.loop-fills.buffers.lines _ _ _ _ _ _ _ c.loop-fills.invariant.answered c.in_err-more.ensures.broken;
+      whole = λ other. let w = c.in_err-more.ensures.whole other in (c.loop-fills.buffers.lines + w.0, w.1, written_next c.loop-fills.buffers.lines w.0 _ _ _ _ _ _ c.loop-fills.invariant.answered w.2);
     })
 
 pub returns-then-not-more : goal.returns-then-not-more
 returns-then-not-more g c =
     let none : c.in_ok-more.more ≡ false = search rules in
-    let so_far = answered_next (IsAnswer c.args.command) _ _ _ _ _ _ c.loop.invariant c.in_ok-more.ensures.answered in
-    let end = end_told (IsAnswer c.args.command) _ _ _ _ _ _ c.loop.invariant (c.in_ok-more.ensures.end (ap Ok none)) in
+    let k = c.in_ok-more.ensures.answered in
+    let now = c.answer_fill.new.buffers.lines in
+    let so_far = answered_next c.loop-fills.buffers.lines k.0 now (IsAnswer c.args.command) _ _ _ _ _ _ k.1 c.loop-fills.invariant.answered k.2 in
+    let end = end_told c.loop-fills.buffers.lines (IsAnswer c.args.command) _ _ _ _ _ _ c.loop-fills.invariant.answered (c.in_ok-more.ensures.end (ap Ok none)) in
     record {
-      answered = ok_then c.answer_last.result c.answer_last.ensures.answered (λ last. all_answered _ _ _ _ _ _ _ so_far end last);
-      broken = err_then c.answer_last.result c.answer_last.ensures.broken (λ begun. last_broken _ _ _ _ _ _ _ c.answer_fill.new.buffers.one_line so_far end begun);
-      whole = IfErr-weaker c.answer_last.result _ _ (λ e whole other. last_written _ _ _ _ _ _ _ so_far end (whole other)) c.answer_last.ensures.whole;
+      answered = ok_then c.answer_last.result c.answer_last.ensures.answered (λ last. all_answered now _ _ _ _ _ _ _ so_far end last);
+      broken = err_then c.answer_last.result c.answer_last.ensures.broken (λ begun. last_broken now _ _ _ _ _ _ _ c.answer_fill.new.buffers.one_line so_far end begun);
+      whole = IfErr-weaker c.answer_last.result _ _ (λ e whole other. (now + 0, may_end (now + 0) e (omega (arith, c.in_ok-more.ensures.most)), last_written now 0 _ _ _ _ _ _ _ so_far end (whole other))) c.answer_last.ensures.whole;
     }
 
 pub returns : goal.returns
 returns g c = record {
   answered = tt;
-  broken = answered_so_far _ _ _ _ _ _ c.loop.buffers.one_line c.loop.invariant;
-  whole = λ _. answered_whole _ _ _ _ _ c.loop.invariant;
+  broken = answered_so_far c.loop-fills.buffers.lines _ _ _ _ _ _ c.loop-fills.buffers.one_line c.loop-fills.invariant.answered;
+  whole = λ _. (c.loop-fills.buffers.lines, tt, answered_whole c.loop-fills.buffers.lines _ _ _ _ _ c.loop-fills.invariant.answered);
 }

@@ -13,7 +13,7 @@ returns-in_err-read_named_key-clause-value g c = λ sound.
     let T = c.args.tag.now in
     let C = c.args.content.now in
     let S = g.V.Enveloped.shape in
-    let first = at_first_key T C S g.row.R-Error.Denot _ _ _ _ c.in_ok-entries.ensures.begun in
+    let first = at_first_key T C S g.row.R-Error.Denot _ _ _ c.in_ok-entries.ensures.begun in
     as_refusal _ _ _ _ c.from_residual-in_err-read_named_key.ensures.1 (tag_refused T C S _ _ _ first c.in_err-read_named_key.ensures.key)
 
 pub returns-in_err-name-clause-value : goal.returns-in_err-name-clause-value
@@ -21,7 +21,7 @@ returns-in_err-name-clause-value g c = λ sound.
     let T = c.args.tag.now in
     let C = c.args.content.now in
     let S = g.V.Enveloped.shape in
-    let first = at_first_key T C S g.row.R-Error.Denot _ _ _ _ c.in_ok-entries.ensures.begun in
+    let first = at_first_key T C S g.row.R-Error.Denot _ _ _ c.in_ok-entries.ensures.begun in
     let told = at_told T C S g.row.R-Error.Denot first c.in_ok-read_named_key.ensures.key in
     as_refusal _ _ _ _ c.from_residual-in_err-name.ensures.1 (name_refused T C S _ cow_str_bytes _ _ told c.in_err-name.ensures.value)
 
@@ -30,7 +30,7 @@ returns-in_err-read_named_key-2-clause-value g c = λ sound.
     let T = c.args.tag.now in
     let C = c.args.content.now in
     let S = g.V.Enveloped.shape in
-    let first = at_first_key T C S g.row.R-Error.Denot _ _ _ _ c.in_ok-entries.ensures.begun in
+    let first = at_first_key T C S g.row.R-Error.Denot _ _ _ c.in_ok-entries.ensures.begun in
     let told = at_told T C S g.row.R-Error.Denot first c.in_ok-read_named_key.ensures.key in
     let second = at_second_key T C S g.row.R-Error.Denot cow_str_bytes _ told c.in_ok-name.ensures.value c.in_ok-name.ensures.after in
     as_refusal _ _ _ _ c.from_residual-in_err-read_named_key-2.ensures.1 (content_refused T C S _ _ _ second c.in_err-read_named_key-2.ensures.key)
@@ -40,7 +40,7 @@ returns-in_err-value-clause-value g c = λ sound.
     let T = c.args.tag.now in
     let C = c.args.content.now in
     let S = g.V.Enveloped.shape in
-    let first = at_first_key T C S g.row.R-Error.Denot _ _ _ _ c.in_ok-entries.ensures.begun in
+    let first = at_first_key T C S g.row.R-Error.Denot _ _ _ c.in_ok-entries.ensures.begun in
     let told = at_told T C S g.row.R-Error.Denot first c.in_ok-read_named_key.ensures.key in
     let second = at_second_key T C S g.row.R-Error.Denot cow_str_bytes _ told c.in_ok-name.ensures.value c.in_ok-name.ensures.after in
     let held = at_held T C S g.row.R-Error.Denot second c.in_ok-read_named_key-2.ensures.key in
@@ -51,7 +51,7 @@ returns-in_err-end-clause-value g c = λ sound.
     let T = c.args.tag.now in
     let C = c.args.content.now in
     let S = g.V.Enveloped.shape in
-    let first = at_first_key T C S g.row.R-Error.Denot _ _ _ _ c.in_ok-entries.ensures.begun in
+    let first = at_first_key T C S g.row.R-Error.Denot _ _ _ c.in_ok-entries.ensures.begun in
     let told = at_told T C S g.row.R-Error.Denot first c.in_ok-read_named_key.ensures.key in
     let second = at_second_key T C S g.row.R-Error.Denot cow_str_bytes _ told c.in_ok-name.ensures.value c.in_ok-name.ensures.after in
     let held = at_held T C S g.row.R-Error.Denot second c.in_ok-read_named_key-2.ensures.key in
@@ -62,7 +62,7 @@ returns-clause-value g c = λ sound.
     let T = c.args.tag.now in
     let C = c.args.content.now in
     let S = g.V.Enveloped.shape in
-    let first = at_first_key T C S g.row.R-Error.Denot _ _ _ _ c.in_ok-entries.ensures.begun in
+    let first = at_first_key T C S g.row.R-Error.Denot _ _ _ c.in_ok-entries.ensures.begun in
     let told = at_told T C S g.row.R-Error.Denot first c.in_ok-read_named_key.ensures.key in
     let second = at_second_key T C S g.row.R-Error.Denot cow_str_bytes _ told c.in_ok-name.ensures.value c.in_ok-name.ensures.after in
     let held = at_held T C S g.row.R-Error.Denot second c.in_ok-read_named_key-2.ensures.key in
@@ -77,7 +77,7 @@ returns-in_err-read_named_key-clause-refuses g c = λ sound.
     let T = c.args.tag.now in
     let C = c.args.content.now in
     let S = g.V.Enveloped.shape in
-    let first = at_first_key T C S g.row.R-Error.Denot _ _ _ _ c.in_ok-entries.ensures.begun in
+    let first = at_first_key T C S g.row.R-Error.Denot _ _ _ c.in_ok-entries.ensures.begun in
     on_refusal _ _ _ c.from_residual-in_err-read_named_key.ensures.1 (tag_told T C S g.V.Enveloped.refuses first c.in_err-read_named_key.ensures.refuses)
 
 pub returns-in_err-name-clause-refuses : goal.returns-in_err-name-clause-refuses
@@ -85,7 +85,7 @@ returns-in_err-name-clause-refuses g c = λ sound.
     let T = c.args.tag.now in
     let C = c.args.content.now in
     let S = g.V.Enveloped.shape in
-    let first = at_first_key T C S g.row.R-Error.Denot _ _ _ _ c.in_ok-entries.ensures.begun in
+    let first = at_first_key T C S g.row.R-Error.Denot _ _ _ c.in_ok-entries.ensures.begun in
     let told = at_told T C S g.row.R-Error.Denot first c.in_ok-read_named_key.ensures.key in
     on_refusal _ _ _ c.from_residual-in_err-name.ensures.1 (name_told T C S g.V.Enveloped.refuses told (c.in_err-name.ensures.answers told.sound))
 
@@ -94,7 +94,7 @@ returns-in_err-read_named_key-2-clause-refuses g c = λ sound.
     let T = c.args.tag.now in
     let C = c.args.content.now in
     let S = g.V.Enveloped.shape in
-    let first = at_first_key T C S g.row.R-Error.Denot _ _ _ _ c.in_ok-entries.ensures.begun in
+    let first = at_first_key T C S g.row.R-Error.Denot _ _ _ c.in_ok-entries.ensures.begun in
     let told = at_told T C S g.row.R-Error.Denot first c.in_ok-read_named_key.ensures.key in
     let second = at_second_key T C S g.row.R-Error.Denot cow_str_bytes _ told c.in_ok-name.ensures.value c.in_ok-name.ensures.after in
     on_refusal _ _ _ c.from_residual-in_err-read_named_key-2.ensures.1 (content_told T C S g.V.Enveloped.refuses second c.in_err-read_named_key-2.ensures.refuses)
@@ -104,7 +104,7 @@ returns-in_err-value-clause-refuses g c = λ sound.
     let T = c.args.tag.now in
     let C = c.args.content.now in
     let S = g.V.Enveloped.shape in
-    let first = at_first_key T C S g.row.R-Error.Denot _ _ _ _ c.in_ok-entries.ensures.begun in
+    let first = at_first_key T C S g.row.R-Error.Denot _ _ _ c.in_ok-entries.ensures.begun in
     let told = at_told T C S g.row.R-Error.Denot first c.in_ok-read_named_key.ensures.key in
     let second = at_second_key T C S g.row.R-Error.Denot cow_str_bytes _ told c.in_ok-name.ensures.value c.in_ok-name.ensures.after in
     let held = at_held T C S g.row.R-Error.Denot second c.in_ok-read_named_key-2.ensures.key in
@@ -115,8 +115,8 @@ returns-in_err-end-clause-refuses g c = λ sound.
     let T = c.args.tag.now in
     let C = c.args.content.now in
     let S = g.V.Enveloped.shape in
-    let first = at_first_key T C S g.row.R-Error.Denot _ _ _ _ c.in_ok-entries.ensures.begun in
+    let first = at_first_key T C S g.row.R-Error.Denot _ _ _ c.in_ok-entries.ensures.begun in
     let told = at_told T C S g.row.R-Error.Denot first c.in_ok-read_named_key.ensures.key in
     let second = at_second_key T C S g.row.R-Error.Denot cow_str_bytes _ told c.in_ok-name.ensures.value c.in_ok-name.ensures.after in
     let held = at_held T C S g.row.R-Error.Denot second c.in_ok-read_named_key-2.ensures.key in
-    on_refusal _ _ _ c.from_residual-in_err-end.ensures.1 (unread_told T C S g.V.Enveloped.refuses g.V.Enveloped.meaning _ (accessor_state c.read_content.new.entries) _ held c.in_ok-value.ensures.value c.in_err-end.ensures)
+    on_refusal _ _ _ c.from_residual-in_err-end.ensures.1 (unread_told T C S g.V.Enveloped.refuses g.V.Enveloped.meaning _ (accessor_state c.read_content.new.entries) _ held c.in_ok-value.ensures.value c.in_ok-value.ensures.after c.in_err-end.ensures)

@@ -15,15 +15,15 @@ returns-clause-key g c =
     absurd (cc (c.if-eq.ensures, yes))))
 
 pub returns-in_err-key-clause-refuses : goal.returns-in_err-key-clause-refuses
-returns-in_err-key-clause-refuses g c = on_refusal _ _ _ c.from_residual.ensures.1 (inl (c.in_err-key.ensures.key, c.in_err-key.ensures.looked, c.in_err-key.ensures.variant))
+returns-in_err-key-clause-refuses g c = on_refusal _ _ _ c.from_residual.ensures.1 (inl (c.in_err-key.ensures.key, c.in_err-key.ensures.looked, c.in_err-key.ensures.variant, c.in_err-key.ensures.memory))
 
 pub returns-in_default-clause-refuses : goal.returns-in_default-clause-refuses
-returns-in_default-clause-refuses g c = inr (c.in_ok-key.field-0, (c.in_ok-key.ensures.key, c.in_ok-key.ensures.looked, tt), subst (λ o. IsOtherKey c.args.name.now o c.custom.result) (sym c.in_default.is) (says c.custom.ensures))
+returns-in_default-clause-refuses g c = inr (c.in_ok-key.field-0, (c.in_ok-key.ensures.key, c.in_ok-key.ensures.looked, tt, tt), subst (λ o. IsOtherKey c.args.name.now o c.custom.result) (sym c.in_default.is) (says c.custom.ensures))
 
 pub returns-clause-refuses : goal.returns-clause-refuses
 returns-clause-refuses g c = inr (
   c.in_ok-key.field-0,
-  (c.in_ok-key.ensures.key, c.in_ok-key.ensures.looked, tt),
+  (c.in_ok-key.ensures.key, c.in_ok-key.ensures.looked, tt, tt),
   subst (λ o. IsOtherKey c.args.name.now o c.custom-else-eq.result) (sym c.in-Some.is) (
     says c.custom-else-eq.ensures,
     λ e.

@@ -1,4 +1,4 @@
-use Rattle.std.proofs.Common.{inl, inr, arith, rules}
+use Rattle.std.proofs.Common.{inl, inr, refl, arith, rules}
 use Rattle.sqlite_trees.specs.View.{IsClean}
 use Rattle.dagstore_lines.proofs.Rooting.{meant_later, keeps_then, collects_from}
 use Rattle.dagstore_lines.proofs.change.collect_meant.Goals as goal
@@ -12,7 +12,8 @@ returns-else-is_empty-clause-says g c =
       c.in-Ok.roots.items,
       search rules,
       meant_later old mid new c.args.given.items c.in-Ok.roots.items (λ clean. omega (arith, c.collect_blocks.ensures.kept.clean)) c.in-Ok.ensures.ok,
-      collects_from g.S.Store c.args.store.now c.meant_roots.new.store c.collect_blocks.new.store c.meant_roots.ensures.quiet c.in-Ok.ensures.same (λ clean. omega (arith, c.collect_blocks.ensures.kept.clean)) c.in-Ok.roots.items _ _ _ _ c.collect_blocks.result (rw c.deref.ensures.value at c.collect_blocks.ensures.says),
+      collects_from g.S.Store c.args.store.now c.meant_roots.new.store c.collect_blocks.new.store c.meant_roots.ensures.quiet c.in-Ok.ensures.same c.in-Ok.roots.items _ _ c.collect_blocks.result (λ clean. omega (arith, c.collect_blocks.ensures.kept.clean)) (rw c.deref.ensures.value at c.collect_blocks.ensures.says),
+      refl,
     ))
 
 pub returns-else-is_empty-clause-crash : goal.returns-else-is_empty-clause-crash

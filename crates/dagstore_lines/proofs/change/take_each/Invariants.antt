@@ -1,10 +1,14 @@
 use Rattle.std.proofs.Common.{take, ◌≤◌}
 use Rattle.sqlite_trees.specs.View.{IsClean}
 use Rattle.dagcbor_store.specs.Ends.{Quiet}
-use Rattle.dagstore_lines.specs.Changes.{RemovesNames}
+use Rattle.dagcbor_store.specs.Stored.{ListsName}
+use Rattle.dagstore_lines.specs.Changes.{Changes, ListsOthers, Splits}
+use Rattle.dagstore_lines.proofs.Removing.{AreValid}
 use Rattle.dagstore_lines.proofs.change.take_each.Given as goal
 
 abbrev pub invariant-loop-name : goal.invariant-loop-name
 invariant-loop-name g l = Quiet g.S.Store l.fn.store l.store
-    × (IsClean (g.S.Store.view l.store) → RemovesNames (g.S.Store.view l.fn.store) (g.S.Store.view l.store) (take l.name-index l.names) l.count)
-    × (l.count ≤ l.name-index)
+    × (IsClean (g.S.Store.view l.store) → Changes (ListsOthers (take l.name-index l.names)) (g.S.Store.view l.fn.store) (g.S.Store.view l.store))
+    × (IsClean (g.S.Store.view l.store) → Splits (ListsName (g.S.Store.view l.fn.store)) (take l.name-index l.names) l.taken)
+    × AreValid (take l.name-index l.names)
+    × (l.taken.count ≤ l.name-index)

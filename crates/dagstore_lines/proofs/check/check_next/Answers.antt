@@ -1,8 +1,9 @@
 use Rattle.std.proofs.Common.{arith, sym, subst}
 use Rattle.std.proofs.lemmas.Result.{err_from_is_err_and}
 use Rattle.sqlite_trees.specs.View.{IsClean}
+use Rattle.dagstore_lines.specs.Names.{IsNextLine}
 use Rattle.dagstore_lines.specs.Checks.{IsCheckedLine}
-use Rattle.dagstore_lines.proofs.Telling.{said_of_next, line_broken}
+use Rattle.dagstore_lines.proofs.Telling.{said_of_next, line_broken, nothing_out}
 use Rattle.dagstore_lines.proofs.Missing.{checked_stays, next_missing}
 use Rattle.dagstore_lines.proofs.check.check_next.Goals as goal
 
@@ -37,3 +38,8 @@ returns-clause-missing g c =
     let new = g.S.Store.view c.checked_said.new.store in
     let was : IsClean new → IsClean mid = λ clean. omega (arith, c.checked_said.ensures.quiet.clean) in
     next_missing (g.S.Store.view c.args.store.now) mid new c.args.last c.in-Some.name c.args.missing.now c.checked_said.new.missing was c.in_ok-name.ensures.same (rw c.in-Some.is at c.in_ok-name.ensures.next) c.in_ok-said.ensures.missing
+
+pub returns-in_err-said-clause-says : goal.returns-in_err-said-clause-says
+returns-in_err-said-clause-says g c =
+    let p = err_from_is_err_and c.from_residual-in_err-said.result c.from_residual-in_err-said.ensures.1 in
+    rw (p.1, p.2) (nothing_out (IsNextLine IsCheckedLine (g.S.Store.view c.args.store.now) c.args.last (g.S.Store.view c.checked_said.new.store)) (g.W.Write.contents c.args.output.now) c.in_err-said.field-0.0)

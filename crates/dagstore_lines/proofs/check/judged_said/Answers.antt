@@ -1,26 +1,30 @@
-use Rattle.dagstore_lines.proofs.Missing.{unread_checked, block_checked, damaged_checked, none_sound_refused, adds_block, adds_refused}
+use Rattle.std.proofs.Common.{inl, sym, ◌∙◌, subst}
+use Rattle.sqlite_trees.specs.View.{IsClean}
+use Rattle.ipld_links.specs.Blocks.{IsBlockOf}
+use Rattle.ipld_links.specs.Verdicts.{IsVerdictOn}
+use Rattle.dagcbor_store.specs.Lost.{AddsLost}
+use Rattle.dagstore_lines.specs.Checks.{AddsUnlistedLinks}
+use Rattle.dagstore_lines.proofs.Missing.{linked_by, unlinked_by, adds_block, adds_refused}
 use Rattle.dagstore_lines.proofs.check.judged_said.Goals as goal
+use Rattle.dagstore_lines.proofs.check.judged_said.Goals.{then-is_linked+in_ok-add_lost, else-is_linked}
 
-pub returns-then-not-is_dag_cbor-clause-said : goal.returns-then-not-is_dag_cbor-clause-said
-returns-then-not-is_dag_cbor-clause-said g c = λ named given.
-    unread_checked (g.S.Store.view c.args.store.now) (g.S.Store.view c.args.store.now) c.args.name.now c.args.block.now c.in_ok-verdict_line.field-0.0.items c.in_ok-verdict_line.field-0.1 c.in_ok-verdict_line.ensures.well (c.in_ok-verdict_line.ensures.line c.args.block.now) named
-    (rw c.if-not-is_dag_cbor.true at c.is_dag_cbor.ensures) (λ clean. (given clean).0)
+pub add_lost-requires : goal.add_lost-requires
+add_lost-requires g c =
+    subst (λ n. IsBlockOf n c.args.block.now) (c.codec.ensures ∙ sym c.codec-then-is_linked.ensures) (linked_by c.codec.result c.args.block.now c.verdict_on-verdict.result c.verdict_on-verdict.ensures (sym c.is_linked.ensures ∙ c.if-is_linked.true))
 
-pub returns-in_ok-verdict_line-in-Ok-clause-said : goal.returns-in_ok-verdict_line-in-Ok-clause-said
-returns-in_ok-verdict_line-in-Ok-clause-said g c = λ named given.
-    block_checked (g.S.Store.view c.args.store.now) (g.S.Store.view c.add_lost.new.self) c.args.name.now c.args.block.now c.in_ok-verdict_line-in-Ok.field-0.0.items c.in-Ok.kind c.in_ok-verdict_line-in-Ok.field-0.1 c.in_ok-verdict_line-in-Ok.ensures.well
-    (c.in_ok-verdict_line-in-Ok.ensures.line c.args.block.now) named (rw c.if-not-is_dag_cbor.false at c.is_dag_cbor.ensures) c.in-Ok.ensures.kind (λ clean. (given clean).0)
+pub returns-clause-said : goal.returns-clause-said
+returns-clause-said g c = λ named given.
+    inl (c.args.block.now, c.verdict_on-verdict.result, named, subst (λ n. IsVerdictOn n c.args.block.now c.verdict_on-verdict.result) c.codec.ensures c.verdict_on-verdict.ensures, given, c.in_ok-verdict_line.ensures.well, c.in_ok-verdict_line.ensures.line c.args.block.now)
 
-pub returns-in_ok-verdict_line-in-Ok-clause-missing : goal.returns-in_ok-verdict_line-in-Ok-clause-missing
-returns-in_ok-verdict_line-in-Ok-clause-missing g c = λ named clean only.
-    adds_block (g.S.Store.view c.args.store.now) c.args.name.now c.args.block.now c.args.missing.now c.add_lost.new.lost (rw c.if-not-is_dag_cbor.false at c.is_dag_cbor.ensures) only named (c.in_ok-add_lost-in-Ok.ensures.ok clean)
-
-pub returns-in_ok-damaged_said-in-Err-clause-said : goal.returns-in_ok-damaged_said-in-Err-clause-said
-returns-in_ok-damaged_said-in-Err-clause-said g c = λ named given.
+pub returns-clause-missing : goal.returns-clause-missing
+returns-clause-missing g c = λ named clean only.
     let v = g.S.Store.view c.args.store.now in
-    damaged_checked v v c.args.name.now c.in_ok-damaged_said-in-Err.field-0.0.items c.in_ok-damaged_said-in-Err.field-0.1 c.in_ok-damaged_said-in-Err.ensures.well c.in_ok-damaged_said-in-Err.ensures.line (λ clean.
-    none_sound_refused v c.args.name.now c.args.block.now c.in-Err.field-0 (given clean).1 (given clean).0 (rw c.if-not-is_dag_cbor.false at c.is_dag_cbor.ensures) c.in-Err.ensures.refused c.in-Err.ensures.memory)
-
-pub returns-in_ok-damaged_said-in-Err-clause-missing : goal.returns-in_ok-damaged_said-in-Err-clause-missing
-returns-in_ok-damaged_said-in-Err-clause-missing g c = λ named clean only.
-    adds_refused (g.S.Store.view c.args.store.now) c.args.name.now c.args.block.now c.in-Err.field-0 c.args.missing.now only c.in-Err.ensures.refused c.in-Err.ensures.memory
+    let name = c.args.name.now in
+    let block = c.args.block.now in
+    let old = c.args.missing.now in
+    elim c.if-is_linked.branch [
+      | then-is_linked+in_ok-add_lost w ↦ subst (AddsUnlistedLinks v name old) (sym w.missing-is)
+          (adds_block v name block old w.add_lost.new.lost only named (subst (λ n. AddsLost v n block old w.add_lost.new.lost) w.codec-then-is_linked.ensures (w.in_ok-add_lost.ensures.ok (subst (λ s. IsClean (g.S.Store.view s)) w.store-is clean))))
+      | else-is_linked w ↦ subst (AddsUnlistedLinks v name old) (sym w.missing-is)
+          (adds_refused v name block old only (λ k. unlinked_by c.codec.result block c.verdict_on-verdict.result c.verdict_on-verdict.ensures (sym c.is_linked.ensures ∙ w.if-is_linked.false) (subst (λ n. IsBlockOf n block) (sym c.codec.ensures) k)))
+    ]

@@ -1,8 +1,8 @@
 use Rattle.std.proofs.Common.{arith, sym, subst}
 use Rattle.std.proofs.lemmas.Result.{err_from_is_err_and}
 use Rattle.sqlite_trees.specs.View.{IsClean}
-use Rattle.dagstore_lines.specs.Names.{IsListedLine}
-use Rattle.dagstore_lines.proofs.Telling.{listed_stays, said_of_next, line_broken}
+use Rattle.dagstore_lines.specs.Names.{IsListedLine, IsNextLine}
+use Rattle.dagstore_lines.proofs.Telling.{listed_stays, said_of_next, line_broken, nothing_out}
 use Rattle.dagstore_lines.proofs.list.list_next.Goals as goal
 
 pub returns-in_err-well-clause-says : goal.returns-in_err-well-clause-says
@@ -29,3 +29,8 @@ returns-clause-says g c =
       (λ clean. next (was clean)),
       c.in_ok-well.ensures.1,
     )
+
+pub returns-in_err-said-clause-says : goal.returns-in_err-said-clause-says
+returns-in_err-said-clause-says g c =
+    let p = err_from_is_err_and c.from_residual-in_err-said.result c.from_residual-in_err-said.ensures.1 in
+    rw (p.1, p.2) (nothing_out (IsNextLine IsListedLine (g.S.Store.view c.args.store.now) c.args.last (g.S.Store.view c.listed_said.new.store)) (g.W.Write.contents c.args.output.now) c.in_err-said.field-0.0)

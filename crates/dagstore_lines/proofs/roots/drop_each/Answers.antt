@@ -1,36 +1,52 @@
-use Rattle.std.proofs.Common.{arith, ◌+◌, ◌≤◌, subst, sym, take}
+use Rattle.std.proofs.Common.{arith, subst}
 use Rattle.std.proofs.lemmas.Result.{err_from_is_err_and}
 use Rattle.sqlite_trees.specs.View.{IsClean}
 use Rattle.dagcbor_store.proofs.Adding.{quiet_itself, quiet_then}
-use Rattle.dagcbor_store.proofs.Sweeping.{one_at_most, fails_swept}
-use Rattle.dagstore_lines.specs.Roots.{Changes, DropsRoots}
-use Rattle.dagstore_lines.proofs.Rooting.{none_dropped, drops_next, drops_all}
+use Rattle.dagcbor_store.proofs.Rooting.{on_ok}
+use Rattle.dagcbor_store.proofs.Sweeping.{fails_swept}
+use Rattle.ipld_links.specs.Sets.{Among}
+use Rattle.dagstore_lines.specs.Changes.{Changes}
+use Rattle.dagstore_lines.specs.Roots.{DropsRoots, SplitsRoots}
+use Rattle.dagstore_lines.proofs.Removing.{whole, splits_none, counts_up}
+use Rattle.dagstore_lines.proofs.Rooting.{none_dropped, drops_next, roots_split}
 use Rattle.dagstore_lines.proofs.roots.drop_each.Goals as goal
 
 pub loop-name-init : goal.loop-name-init
-loop-name-init g c = (quiet_itself g.S.Store c.args.store.now, λ clean. none_dropped (g.S.Store.view c.args.store.now), omega arith)
+loop-name-init g c = (
+  quiet_itself g.S.Store c.args.store.now,
+  λ clean. none_dropped (g.S.Store.view c.args.store.now),
+  λ clean roots has. splits_none (λ x. Among x roots) c.new-taken.result c.new-taken.ensures.count c.new-taken.ensures.others,
+  omega (arith, c.new-taken.ensures.count),
+)
 
 pub loop-name-preserved : goal.loop-name-preserved
 loop-name-preserved g c =
-    let one : c.from-count.result ≤ 1 = subst (λ n. n ≤ 1) (sym c.from-count.ensures) (one_at_most c.in_ok-taken.taken) in (
-      quiet_then g.S.Store c.args.store.now c.loop-name.store c.remove_root.new.self c.loop-name.invariant.0 c.remove_root.ensures.quiet,
+    let h = c.loop-name.invariant in
+    let old = g.S.Store.view c.args.store.now in
+    let mid = g.S.Store.view c.loop-name.store in
+    let new = g.S.Store.view c.remove_root.new.self in
+    let names = c.args.names.now in
+    let i = c.loop-name.name-index in
+    let name = c.name-item.result in
+    let within = c.loop-name-test.true in
+    let is = c.name-item.is in
+    let noted = on_ok c.note.result _ c.if-is_err.ensures.value c.note.ensures.notes in (
+      quiet_then g.S.Store c.args.store.now c.loop-name.store c.remove_root.new.self h.0 c.remove_root.ensures.quiet,
+      λ clean. drops_next old mid new names i name c.in_ok-was_there.was_there within is (h.1 (omega (arith, c.remove_root.ensures.quiet.clean))) (c.in_ok-was_there.ensures.ok clean),
       λ clean.
-          let mid : IsClean (g.S.Store.view c.loop-name.store) = omega (arith, c.remove_root.ensures.quiet.clean) in
-          let v = g.S.Store.view c.args.store.now in
-          let new = g.S.Store.view c.remove_root.new.self in
-          subst (λ n. Changes (DropsRoots (take (c.loop-name.name-index + 1) c.args.names.now) (c.loop-name.count + n)) v new) (sym c.from-count.ensures)
-          (drops_next v (g.S.Store.view c.loop-name.store) new c.args.names.now c.loop-name.name-index c.loop-name.count c.name-item.result c.in_ok-taken.taken c.loop-name-test.true c.name-item.is (c.loop-name.invariant.1 mid) (c.in_ok-taken.ensures.ok clean)),
-      omega (arith, one, c.loop-name.invariant.2),
+          let was : IsClean mid = omega (arith, c.remove_root.ensures.quiet.clean) in
+          roots_split old mid new names i name c.in_ok-was_there.was_there c.loop-name.taken c.note.new.self within is c.requires (h.1 was) (c.in_ok-was_there.ensures.ok clean) noted (h.2 was),
+      counts_up name c.in_ok-was_there.was_there c.loop-name.taken c.note.new.self i noted h.3,
     )
 
 pub returns-clause-ok : goal.returns-clause-ok
-returns-clause-ok g c clean = drops_all (g.S.Store.view c.args.store.now) (g.S.Store.view c.loop-name.store) c.args.names.now c.loop-name.name-index c.loop-name.count (omega arith) (omega arith) (c.loop-name.invariant.1 clean)
+returns-clause-ok g c clean = subst (λ ns. Changes (DropsRoots ns) (g.S.Store.view c.args.store.now) (g.S.Store.view c.loop-name.store)) (whole c.args.names.now c.loop-name.name-index (omega arith) (omega arith)) (c.loop-name.invariant.1 clean)
 
-pub returns-in_err-taken-clause-refused : goal.returns-in_err-taken-clause-refused
-returns-in_err-taken-clause-refused g c =
+pub returns-clause-splits : goal.returns-clause-splits
+returns-clause-splits g c clean = subst (λ ns. SplitsRoots (g.S.Store.view c.args.store.now) ns c.loop-name.taken) (whole c.args.names.now c.loop-name.name-index (omega arith) (omega arith)) (c.loop-name.invariant.2 clean)
+
+pub returns-in_err-was_there-clause-refused : goal.returns-in_err-was_there-clause-refused
+returns-in_err-was_there-clause-refused g c =
     let p = err_from_is_err_and c.from_residual.result c.from_residual.ensures.1 in
-    rw (p.1, p.2) (fails_swept g.S.Store c.args.store.now c.loop-name.store c.remove_root.new.self c.in_err-taken.field-0.0 c.loop-name.invariant.0 (λ clean. omega (arith, c.remove_root.ensures.quiet.clean))
-    (λ clean. let w = c.loop-name.invariant.1 clean in (w.committed, w.is_open, w.broken)) c.in_err-taken.ensures.refused)
-
-pub returns-in_err-taken-clause-quiet : goal.returns-in_err-taken-clause-quiet
-returns-in_err-taken-clause-quiet g c = quiet_then g.S.Store c.args.store.now c.loop-name.store c.remove_root.new.self c.loop-name.invariant.0 c.remove_root.ensures.quiet
+    rw (p.1, p.2) (fails_swept g.S.Store c.args.store.now c.loop-name.store c.remove_root.new.self c.in_err-was_there.field-0.0 c.loop-name.invariant.0 (λ clean. omega (arith, c.remove_root.ensures.quiet.clean))
+    (λ clean. let w = c.loop-name.invariant.1 clean in (w.committed, w.is_open, w.broken)) c.in_err-was_there.ensures.refused)

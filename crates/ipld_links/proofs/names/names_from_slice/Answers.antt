@@ -6,7 +6,7 @@ use Rattle.ipld_links.proofs.Within.{first_names, some_link}
 use Rattle.ipld_links.proofs.names.names_from_slice.Goals as goal
 
 pub returns-in-Ok-clause-names : goal.returns-in-Ok-clause-names
-returns-in-Ok-clause-names c = first_names c.args.bytes.now c.add_all.result c.in_ok-links.links.items c.in-Ok.list.items c.new.result c.new-names.result c.add_all.new.self c.new.ensures c.new-names.ensures c.in_ok-links.ensures.links c.if-is_err.ensures.value (rw c.deref.ensures.value at c.add_all.ensures) c.in-Ok.ensures.all
+returns-in-Ok-clause-names c = first_names c.args.bytes.now c.add_all.result c.in_ok-links.links.items c.in-Ok.list.items c.new.result c.new-names.result c.add_all.new.self c.new.ensures c.new-names.ensures c.in_ok-links.ensures.links c.if-is_err.ensures.value (rw c.deref.ensures.value at c.add_all.ensures.added) c.in-Ok.ensures.all
 
 pub returns-then-is_err-clause-refused : goal.returns-then-is_err-clause-refused
 returns-then-is_err-clause-refused c = some_link c.args.bytes.now c.in_ok-links.links.items c.in_ok-links.ensures.links (λ e. cc (c.if-is_empty.ensures ∙ ap (λ n. n == 0) (c.in_ok-links.links.ok.0 ∙ ap length e)))

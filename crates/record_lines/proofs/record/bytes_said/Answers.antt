@@ -15,4 +15,4 @@ returns-in-Unverified c =
     if_ok c.verdict_told-in-Unverified.result (c.verdict_told-in-Unverified.ensures c.args.bytes.now) (λ p h. inr (never_tested (c.args.name.now, c.args.bytes.now) is, (c.verify-verdict.result, c.verify-verdict.ensures, h)))
 
 pub returns-in_default : goal.returns-in_default
-returns-in_default c = if_ok c.shown.result c.shown.ensures (λ p h. inl (tested (c.args.name.now, c.args.bytes.now) c.verify-verdict.result c.verify-verdict.ensures c.in_default.not-OtherBytes c.in_default.not-Unverified, h))
+returns-in_default c = if_ok c.verified_said.result c.verified_said.ensures (λ p h. inl (tested (c.args.name.now, c.args.bytes.now) c.verify-verdict.result c.verify-verdict.ensures c.in_default.not-OtherBytes c.in_default.not-Unverified, h))

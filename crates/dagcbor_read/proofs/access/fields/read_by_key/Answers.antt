@@ -46,7 +46,7 @@ returns-clause-entry g c =
     }
 
 pub returns-in_err-keep_key-clause-refuses : goal.returns-in_err-keep_key-clause-refuses
-returns-in_err-keep_key-clause-refuses g c = on_refusal _ _ _ c.from_residual.ensures.1 (inl ((accessor_state c.args.entries.now).last, (accessor_state c.keep_key.new.self).last, c.in_err-keep_key.ensures.key))
+returns-in_err-keep_key-clause-refuses g c = on_refusal _ _ _ c.from_residual.ensures.1 (inl (((accessor_state c.keep_key.new.self).last, c.in_err-keep_key.ensures.key), c.in_err-keep_key.ensures.memory))
 
 pub returns-in_err-read_field-clause-refuses : goal.returns-in_err-read_field-clause-refuses
 returns-in_err-read_field-clause-refuses g c =

@@ -1,12 +1,11 @@
 use Rattle.std.proofs.Common.{◌≡◌, take}
 use Rattle.sqlite_trees.specs.View.{IsClean}
 use Rattle.block_trees.specs.Ends.{Quiet}
-use Rattle.dagcbor_store.specs.Roots.{AreRootsAdded}
-use Rattle.dagcbor_store.proofs.ManyRoots.{IsBegun}
+use Rattle.dagcbor_store.specs.Roots.{AreRootsAdded, KnowsRoots}
 use Rattle.dagcbor_store.proofs.store.BlockStore.add_roots.Given as goal
 
 abbrev pub invariant-loop-name : goal.invariant-loop-name
 invariant-loop-name g l = Quiet g.S.Store l.fn.self l.self
     × (IsClean (g.S.Store.view l.self) → AreRootsAdded (g.S.Store.view l.fn.self) (g.S.Store.view l.self) (take l.name-index l.names))
     × ((g.S.Store.view l.self).shape ≡ (g.S.Store.view l.fn.self).shape)
-    × IsBegun g.S.Store (take l.name-index l.names) l.fn.self l.self
+    × (IsClean (g.S.Store.view l.self) → KnowsRoots (g.S.Store.view l.self) l.known)

@@ -1,5 +1,8 @@
 use Rattle.std.proofs.Common.{arith, sym, subst, [], ◌∷◌, ◌++◌}
+use Rattle.std.proofs.lemmas.Result.{err_from_is_err_and}
 use Rattle.sqlite_trees.specs.View.{IsClean}
+use Rattle.dagcbor_store.specs.Lost.{AtListed}
+use Rattle.dagcbor_store.proofs.Marking.{stops_after, listed_same}
 use Rattle.dagcbor_store.proofs.Adding.{quiet_itself, quiet_then}
 use Rattle.dagcbor_store.proofs.Unlisted.{LostOf, lost_none, lost_push, adds_same, lists_lost}
 use Rattle.dagcbor_store.proofs.Walking.{same_itself, same_then, walked_none, walked_more, next_same, holds_same, none_same}
@@ -38,3 +41,9 @@ loop-count-preserved g c = (
         ),
       ),
 )
+
+pub returns-in_err-name-clause-refused : goal.returns-in_err-name-clause-refused
+returns-in_err-name-clause-refused g c =
+    let p = err_from_is_err_and c.from_residual.result c.from_residual.ensures.1 in
+    rw (p.1, p.2) (stops_after g.S.Store AtListed AtListed c.args.self.now c.loop-count.self c.add_links.new.self c.in_err-name.field-0.0 c.loop-count.invariant.0 (λ clean. (c.loop-count.invariant.1 clean).0)
+    (λ clean n A B f h. (f h.0, listed_same (g.S.Store.view c.args.self.now) (g.S.Store.view c.loop-count.self) n (c.loop-count.invariant.1 clean).0 h.1)) (λ clean. omega (arith, c.add_links.ensures.quiet.clean)) c.in_err-name.ensures.refused)

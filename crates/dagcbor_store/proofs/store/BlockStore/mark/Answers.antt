@@ -4,7 +4,8 @@ use Rattle.sqlite_trees.specs.View.{IsClean}
 use Rattle.dagcbor_store.proofs.Adding.{quiet_itself, quiet_then}
 use Rattle.dagcbor_store.proofs.Walking.{same_itself, same_then}
 use Rattle.dagcbor_store.proofs.Unlisted.{item_among}
-use Rattle.dagcbor_store.proofs.Marking.{marks_none, marks_next, marks_all, more_same, mark_collect}
+use Rattle.dagcbor_store.proofs.Marking.{marks_none, marks_next, marks_all, more_same, marked_rooted, stops_after}
+use Rattle.dagcbor_store.specs.Collecting.{AtMarked, AtRooted}
 use Rattle.dagcbor_store.proofs.store.BlockStore.mark.Goals as goal
 
 pub loop-root-init : goal.loop-root-init
@@ -30,8 +31,10 @@ loop-root-preserved g c = (
 pub returns-in_err-mark_from-clause-refused : goal.returns-in_err-mark_from-clause-refused
 returns-in_err-mark_from-clause-refused g c =
     let p = err_from_is_err_and c.from_residual.result c.from_residual.ensures.1 in
-    rw (p.1, p.2) (mark_collect g.S.Store c.args.roots.now (take c.loop-root.root-index c.args.roots.now) c.root-item.result c.loop-root.kept c.args.self.now c.loop-root.self c.mark_from.new.self c.in_err-mark_from.field-0.0
-    (item_among c.args.roots.now c.loop-root.root-index c.root-item.result c.loop-root-test.true c.root-item.is) c.loop-root.invariant.0 c.loop-root.invariant.1 c.mark_from.ensures.quiet c.in_err-mark_from.ensures.refused)
+    rw (p.1, p.2) (stops_after g.S.Store (AtMarked c.root-item.result c.loop-root.kept) (AtRooted c.args.roots.now) c.args.self.now c.loop-root.self c.mark_from.new.self c.in_err-mark_from.field-0.0 c.loop-root.invariant.0 (λ clean. (c.loop-root.invariant.1 clean).0)
+    (λ clean. let w = c.loop-root.invariant.1 clean in
+    marked_rooted (g.S.Store.view c.args.self.now) (g.S.Store.view c.loop-root.self) c.args.roots.now (take c.loop-root.root-index c.args.roots.now) c.root-item.result c.loop-root.kept (item_among c.args.roots.now c.loop-root.root-index c.root-item.result c.loop-root-test.true c.root-item.is) w.0 w.1)
+    (λ clean. omega (arith, c.mark_from.ensures.quiet.clean)) c.in_err-mark_from.ensures.refused)
 
 pub returns-clause-ok : goal.returns-clause-ok
 returns-clause-ok g c clean = marks_all (g.S.Store.view c.args.self.now) c.args.roots.now c.loop-root.root-index c.loop-root.kept (omega arith) (omega arith) (c.loop-root.invariant.1 clean).1

@@ -15,7 +15,7 @@ pub invariant_of-self-in-Ok-Some-Ok : goal.invariant_of-self-in-Ok-Some-Ok
 invariant_of-self-in-Ok-Some-Ok g c = ready_ended g.S.Store c.self.inside.store c.first_from.new.store c.self.invariant c.in-Ok-Some-Ok.ensures.ends
 
 pub invariant_of-self-in-Err : goal.invariant_of-self-in-Err
-invariant_of-self-in-Err g c = ready_failed g.S.Store c.self.inside.store c.undo-in-Err.new.store c.first_from.new.store c.self.invariant c.in-Err.ensures.ends c.undo-in-Err.ensures.undone c.undo-in-Err.ensures.quiet
+invariant_of-self-in-Err g c = ready_failed g.S.Store c.self.inside.store c.undo.new.store c.first_from.new.store c.self.invariant c.in-Err.ensures.ends c.undo.ensures.undone c.undo.ensures.quiet
 
 pub returns-in-Ok-None-clause-next : goal.returns-in-Ok-None-clause-next
 returns-in-Ok-None-clause-next g c clean =
@@ -33,6 +33,6 @@ returns-in-Ok-Some-Ok-clause-next g c clean =
     subst (λ s. GivesNextName (g.S.Store.view s) c.args.last (Some c.in-Ok-Some-Ok.name)) c.self.view_is (next_some (old.trees name_tree) c.args.last c.in-Ok-Some-Ok.name (found keyed.1.0))
 
 pub returns-in-Ok-Some-Err-clause-refused : goal.returns-in-Ok-Some-Err-clause-refused
-returns-in-Ok-Some-Err-clause-refused g c = fails_never g.S.Store ⊥ c.args.self.now c.undo.new.store stored.Broken c.undo.result c.undo.ensures.told (search rules) (λ clean.
-    let mid : IsClean (g.S.Store.view c.first_from.new.store) = omega (arith, c.undo.ensures.quiet.clean) in
+returns-in-Ok-Some-Err-clause-refused g c = fails_never g.S.Store ⊥ c.args.self.now c.disown.new.store stored.Broken c.disown.result c.disown.ensures.told (search rules) (λ clean.
+    let mid : IsClean (g.S.Store.view c.first_from.new.store) = omega (arith, c.disown.ensures.quiet.clean) in
     (rw (c.in-Ok-Some-Err.field-0-is, c.in-Ok-Some-Err.field-0-0-is) at (c.in-Ok-Some-Err.ensures.ok mid)) (keyed_ended g.S.Store c.self.inside.store c.first_from.new.store (g.met.S.Store.broken_if_shut c.self.inside.store) c.self.invariant c.in-Ok-Some-Err.ensures.ends mid).1.0)

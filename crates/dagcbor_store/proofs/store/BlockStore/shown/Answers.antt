@@ -6,4 +6,4 @@ pub returns-then-contains-clause-ok : goal.returns-then-contains-clause-ok
 returns-then-contains-clause-ok g c clean = shown_in (g.S.Store.view c.args.self.now) c.args.kept.now c.args.name.now c.new.result.items c.new.ensures.items (sym c.contains.ensures ∙ c.if-contains.true)
 
 pub returns-clause-ok : goal.returns-clause-ok
-returns-clause-ok g c = shown_else c.get_sound.result _ (g.S.Store.view c.args.self.now) c.args.kept.now c.args.name.now (sym c.contains.ensures ∙ c.if-contains.false) c.get_sound.ensures.ok
+returns-clause-ok g c = shown_else c.get_known.result _ (g.S.Store.view c.args.self.now) c.args.kept.now c.args.name.now (sym c.contains.ensures ∙ c.if-contains.false) c.get_known.ensures.ok

@@ -3,7 +3,7 @@ use Rattle.ipld_links.proofs.Within.{Adding}
 use Rattle.ipld_links.proofs.cid_set.CidSet.+links.Given as goal
 
 abbrev pub invariant-add_links-loop-found : goal.invariant-add_links-loop-found
-invariant-add_links-loop-found l = Adding l.block l.held l.fn.self l.self l.rest
+invariant-add_links-loop-found l = Adding l.codec l.block l.held l.fn.self l.self l.rest
 
 abbrev pub decreases-add_links-loop-found : goal.decreases-add_links-loop-found
 decreases-add_links-loop-found l = length l.rest

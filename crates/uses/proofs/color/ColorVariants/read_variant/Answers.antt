@@ -1,8 +1,7 @@
 use Rattle.std.proofs.Common.{ℕ, refl, false, ◌≡◌, true, codes}
-use Rattle.dagcbor_heads.proofs.Refusing.{as_refusal}
+use Rattle.serde_ipld_dagcbor.specs.ByHand.{as_refusal, held_refused}
 use Rattle.serde_ipld_dagcbor.specs.Deserializers.{de_state}
 use Rattle.serde_ipld_dagcbor.specs.Enums.{enum_state}
-use Rattle.dagcbor_read.proofs.NamedVariants.{held_refused}
 use Rattle.uses.specs.Color.{color_variants, two_numbers}
 use Rattle.uses.specs.declared.color.Color.TheVariants.{Alpha}
 use Rattle.uses.proofs.color.ColorVariants.read_variant.Goals as goal

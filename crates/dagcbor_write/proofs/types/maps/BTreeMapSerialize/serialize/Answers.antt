@@ -10,6 +10,7 @@ returns g c =
       written = rw c.iter.ensures.rest at c.write_entries.ensures.written _ shows;
       well_formed = rw c.iter.ensures.rest at c.write_entries.ensures.well_formed _ shows;
       memory = may_want _;
+      lacks = c.write_entries.ensures.memory;
       message = rw c.iter.ensures.rest at c.write_entries.ensures.message _ shows;
       told = entries_told _ _ _ _ (rw c.iter.ensures.rest at c.write_entries.ensures.message _ shows);
     }

@@ -1,8 +1,6 @@
 use Rattle.std.proofs.Common.{◌^◌, refl, sym, ◌∙◌, rules, Some, codes}
 use Rattle.dagcbor_read.specs.Shapes.{view_unsigned, leaf}
-use Rattle.dagcbor_read.proofs.EntryLoops.{map_begun, map_key_refused, at_value, map_value_refused, value_read, skip_refused, value_skipped, map_ended}
-use Rattle.dagcbor_read.proofs.FieldPlaces.{other_name}
-use Rattle.dagcbor_read.proofs.Finishing.{handed_on, value_finished, value_unfinished}
+use Rattle.serde_ipld_dagcbor.specs.ByHand.{map_begun, map_key_refused, at_value, map_value_refused, value_read, skip_refused, value_skipped, map_ended, other_name, handed_on, value_finished, value_unfinished}
 use Rattle.tests_types.specs.One.{one_fields}
 use Rattle.tests_types.proofs.tests.by_hand.one_by_loop.read_one_by_loop.Goals as goal
 use Rattle.tests_types.proofs.tests.by_hand.one_by_loop.read_one_by_loop.Goals.{in-a+in_ok-next_value-in-a, in_default-as_str+in_ok-next_value-in_default-as_str}

@@ -1,7 +1,7 @@
 use Rattle.std.proofs.Common.{option_map}
 use Rattle.dagcbor_read.specs.Accessors.{accessor_state}
 use Rattle.dagcbor_read.specs.Deserializers.{de_state}
-use Rattle.dagcbor_read.proofs.EntryLoops.{MapSoFar}
+use Rattle.serde_ipld_dagcbor.specs.ByHand.{MapSoFar}
 use Rattle.tests_types.specs.One.{one_fields}
 use Rattle.tests_types.proofs.tests.by_hand.one_by_loop.read_one_by_loop.Given as goal
 

@@ -1,9 +1,7 @@
 use Rattle.std.proofs.Common.{rules, ℕ, List, ap, [], ◌∷◌, Some, None, pos, codes, refl, lit<}
-use Rattle.dagcbor_heads.proofs.Writing.{exit_part}
+use Rattle.serde_ipld_dagcbor.specs.ByHand.{exit_part, begin_entries, next_entry, exit_field, end_struct, begin_struct_variant}
 use Rattle.ipld_tree.specs.Tree.{integer}
 use Rattle.dagcbor_write.specs.Trees.{Pair, field}
-use Rattle.dagcbor_write.proofs.Fields.{begin_entries, next_entry, exit_field, end_struct}
-use Rattle.dagcbor_write.proofs.Enums.{begin_struct_variant}
 use Rattle.tests_types.proofs.tests.by_hand.second.serialize_data.Goals as goal
 
 abbrev fields : ℕ → ℕ → ℕ → List Pair

@@ -1,7 +1,6 @@
 use Rattle.std.proofs.Common.{rules, ℕ, Bool, List, Option, [], ◌∷◌, Some, pos, codes}
-use Rattle.dagcbor_heads.proofs.Writing.{next_part, exit_part, all_written, Writes_at, Writes_ok}
+use Rattle.serde_ipld_dagcbor.specs.ByHand.{next_part, exit_part, all_written, Writes_at, Writes_ok, begin_tuple_variant}
 use Rattle.ipld_tree.specs.Tree.{Tree, boolean, integer}
-use Rattle.dagcbor_write.proofs.Enums.{begin_tuple_variant}
 use Rattle.tests_types.proofs.tests.by_hand.data_enum.DataEnumSerialize.serialize.Goals as goal
 
 abbrev parts : Bool → ℕ → List (Option Tree)

@@ -5,7 +5,7 @@ use Rattle.ipld_tree.specs.declared.cid.Cid.{Cid}
 use Rattle.ipld_tree.specs.declared.ipld.Ipld.{Ipld, the_lemmas}
 use Rattle.ipld_tree.specs.declared.ipld.Ipld as ipld
 use Rattle.tests_types.specs.Kinded.{view_kinded}
-use Rattle.dagcbor_read.proofs.Finishing.{value_unfinished}
+use Rattle.serde_ipld_dagcbor.specs.ByHand.{value_unfinished}
 use Rattle.tests_types.proofs.tests.by_hand.kinded.KindedDeserialize.deserialize.Goals as goal
 
 -- a tree of another kind shows nothing

@@ -1,9 +1,8 @@
 use Rattle.std.proofs.Common.{rules, List, ap, [], ◌∷◌, Some, None, codes, refl, lit<}
-use Rattle.dagcbor_heads.proofs.Writing.{exit_part}
+use Rattle.serde_ipld_dagcbor.specs.ByHand.{exit_part, begin_struct, begin_entries, next_entry, exit_field, end_struct}
 use Rattle.ipld_tree.specs.Tree.{boolean, link}
 use Rattle.ipld_tree.specs.Cid.{cid_bytes}
 use Rattle.dagcbor_write.specs.Trees.{Pair, field}
-use Rattle.dagcbor_write.proofs.Fields.{begin_struct, begin_entries, next_entry, exit_field, end_struct}
 use Rattle.tests_types.specs.declared.tests.by_hand.my_struct.MyStruct.{MyStruct}
 use Rattle.tests_types.proofs.tests.by_hand.my_struct.MyStructSerialize.serialize.Goals as goal
 

@@ -1,6 +1,5 @@
 use Rattle.std.proofs.Common.{refl, ◌∙◌}
-use Rattle.dagcbor_read.proofs.FieldPlaces.{other_name}
-use Rattle.dagcbor_read.proofs.Finishing.{handed_on, value_unfinished}
+use Rattle.serde_ipld_dagcbor.specs.ByHand.{other_name, handed_on, value_unfinished}
 use Rattle.tests_types.proofs.tests.by_hand.tagged.CidInInternallyTaggedEnumDeserialize.deserialize.Goals as goal
 
 pub returns-in_err-fields-clause-value : goal.returns-in_err-fields-clause-value

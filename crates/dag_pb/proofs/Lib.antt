@@ -1,0 +1,6 @@
+pub mod Varints
+pub mod Stopping
+pub mod Fields
+pub mod Rows
+pub mod Orders
+pub mod Reading

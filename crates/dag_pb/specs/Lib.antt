@@ -1,0 +1,5 @@
+pub mod Varint
+pub mod Node
+pub mod Causes
+pub mod Reads
+pub mod Orders

@@ -1,0 +1,109 @@
+-- The blocks of DAG-PB (DAG-PB specification): messages of protocol buffers, read as strictly as it
+-- wants of decoders.
+use Rattle.std.specs.Prelude.{◌≡◌, ◌⊎◌, ℕ, List, [], ◌∷◌, ◌++◌, Option, None, Some, length, map}
+use Rattle.ipld_tree.specs.Cid.{CidParts, AreCidParts, cid_bytes}
+use Rattle.dag_pb.specs.Varint.{BeginsWithVarint}
+
+-- ---- fields
+
+-- the bytes begin with a field of bytes: a tag, which is eight times the field's number and two, how
+-- many bytes there are, and these; and the rest follows
+abbrev pub BeginsWithBytes : ℕ → List ℕ → List ℕ → List ℕ → Type 0
+BeginsWithBytes tag b inner rest = (behind : List ℕ) × BeginsWithVarint b tag behind
+    × BeginsWithVarint behind (length inner) (inner ++ rest)
+
+-- the same, or no such field
+abbrev pub MayBeginWithBytes : ℕ → List ℕ → Option (List ℕ) → List ℕ → Type 0
+MayBeginWithBytes tag b None rest = b ≡ rest
+MayBeginWithBytes tag b (Some inner) rest = BeginsWithBytes tag b inner rest
+
+-- the bytes are a field of a number: a tag, which is eight times the field's number, and the number;
+-- or there is no such field
+abbrev pub MayBeNumber : ℕ → List ℕ → Option ℕ → Type 0
+MayBeNumber tag b None = b ≡ []
+MayBeNumber tag b (Some n) = (behind : List ℕ) × BeginsWithVarint b tag behind
+    × BeginsWithVarint behind n []
+
+-- ---- links
+
+-- a link: the name of the block that it leads to, its own name, and the size of all that is below it
+pub record LinkParts : Type 0 where
+  pub hash : CidParts
+  pub name : Option (List ℕ)
+  pub tsize : Option ℕ
+
+-- the bytes are what stands behind the CID: the field 2 of the name and 3 of the size, each of which may
+-- be left out
+abbrev pub IsLinkEnd : List ℕ → Option (List ℕ) → Option ℕ → Type 0
+IsLinkEnd b name tsize = (behind : List ℕ) × MayBeginWithBytes 0x12 b name behind
+    × MayBeNumber 0x18 behind tsize
+
+-- the bytes are the message of a link: the field 1 of the CID, the name and the size, in this order,
+-- each once, and nothing else
+pub record IsLink (b : List ℕ) (link : LinkParts) : Type 0 where
+  pub behind : List ℕ
+  pub valid : AreCidParts link.hash
+  pub hash : BeginsWithBytes 0x0a b (cid_bytes link.hash) behind
+  pub ends : IsLinkEnd behind link.name link.tsize
+
+-- ---- nodes
+
+-- a node: its links, and its data, which may be left out
+pub record NodeParts : Type 0 where
+  pub links : List LinkParts
+  pub «data» : Option (List ℕ)
+
+-- a field of a node
+pub data Field : Type 0 where
+  link_field : LinkParts → Field
+  data_field : List ℕ → Field
+
+-- the bytes begin with the field, 2 of a link and 1 of the data, and the rest follows
+abbrev pub BeginsWithField : List ℕ → Field → List ℕ → Type 0
+BeginsWithField b (link_field link) rest = (message : List ℕ) × BeginsWithBytes 0x12 b message rest
+    × IsLink message link
+BeginsWithField b (data_field inner) rest = BeginsWithBytes 0x0a b inner rest
+
+-- the bytes begin with these fields, and the rest follows
+abbrev pub BeginsWithFields : List ℕ → List Field → List ℕ → Type 0
+BeginsWithFields b [] rest = b ≡ rest
+BeginsWithFields b (field ∷ more) rest = (behind : List ℕ) × BeginsWithField b field behind
+    × BeginsWithFields behind more rest
+
+abbrev pub data_fields : Option (List ℕ) → List Field
+data_fields None = []
+data_fields (Some inner) = data_field inner ∷ []
+
+-- the fields are the links and then the data, as they are written; or, as in old blocks, the data and
+-- then the links
+abbrev pub AreFieldsOf : List Field → NodeParts → Type 0
+AreFieldsOf fields node =
+    (fields ≡ map link_field node.links ++ data_fields node.«data»)
+    ⊎ (fields ≡ data_fields node.«data» ++ map link_field node.links)
+
+-- the bytes are a block of DAG-PB, of this node. Its links stand in any order of their names
+abbrev pub IsNode : List ℕ → NodeParts → Type 0
+IsNode b node = (fields : List Field) × BeginsWithFields b fields [] × AreFieldsOf fields node
+
+-- the bytes are a block of DAG-PB
+abbrev pub HasNode : List ℕ → Type 0
+HasNode b = (node : NodeParts) × IsNode b node
+
+-- the names that the links of a node lead to, in their binary form
+abbrev pub node_links : NodeParts → List (List ℕ)
+node_links node = map (λ link. cid_bytes link.hash) node.links
+
+-- ---- what does not stand there
+
+-- no field of bytes with this tag stands first
+abbrev pub BeginsNoBytes : ℕ → List ℕ → Type 0
+BeginsNoBytes tag b = (inner rest : List ℕ) → ¬ BeginsWithBytes tag b inner rest
+
+-- no field stands first
+abbrev pub BeginsNoField : List ℕ → Type 0
+BeginsNoField b = (field : Field) (rest : List ℕ) → ¬ BeginsWithField b field rest
+
+-- behind a name which stands first, these bytes are left
+abbrev pub HasOneEnd : List ℕ → List ℕ → Type 0
+HasOneEnd b behind = (name : Option (List ℕ)) (tsize : Option ℕ) (rest : List ℕ)
+    → MayBeginWithBytes 0x12 b name rest → MayBeNumber 0x18 rest tsize → rest ≡ behind

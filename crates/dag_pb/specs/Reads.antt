@@ -1,0 +1,25 @@
+-- What the code has of links and fields.
+use Rattle.std.specs.Prelude.{List, [], ◌∷◌, option_map}
+use Rattle.dag_pb.specs.Node.{LinkParts, Field, link_field, data_field}
+use Rattle.dag_pb.specs.declared.link.PbLink.{PbLink}
+use Rattle.dag_pb.specs.declared.field.PbField.{PbField}
+use Rattle.dag_pb.specs.declared.field.PbField.TheVariants.{Link, Data}
+
+-- what the link holds
+abbrev pub link_of : PbLink → LinkParts
+link_of link = record {
+  hash = link.hash;
+  name = option_map (λ bytes. bytes.now) link.name;
+  tsize = link.tsize;
+}
+
+-- what the field holds
+abbrev pub field_of : PbField → Field
+field_of (Link link) = link_field (link_of link)
+field_of (Data inner) = data_field inner.now
+
+-- the links among the fields
+abbrev pub links_in : List Field → List LinkParts
+links_in [] = []
+links_in (link_field link ∷ more) = link ∷ links_in more
+links_in (data_field inner ∷ more) = links_in more

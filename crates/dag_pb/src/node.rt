@@ -1,0 +1,105 @@
+//! The judge of blocks, and the walk over their links.
+
+ghost use Rattle.std.specs.Prelude.{◌≡◌, ◌+◌, ◌∷◌, [], ◌<◌, List, length, MatchResult, MatchOption, IfSome, OnOk, OnErr};
+ghost use Rattle.ipld_tree.specs.Cid.{cid_bytes};
+ghost use Rattle.dag_pb.specs.Node.{Field, HasNode, BeginsWithFields};
+ghost use Rattle.dag_pb.specs.Orders.{order_after, field_tag};
+ghost use Rattle.dag_pb.specs.Causes.{IsNoNode, StopsIn};
+ghost use Rattle.dag_pb.specs.Reads.{link_of, field_of, links_in};
+
+use crate::error::{PbCause, PbError};
+use crate::field::{DATA, LINK, PbField, split_field};
+use crate::link::PbLink;
+use crate::stop::Stop;
+
+/// Which fields stood before.
+#[derive(Copy, Clone, Debug)]
+enum Order {
+    Nothing,
+    Links,
+    DataFirst,
+    DataLast,
+}
+
+impl Order {
+    /// With this field behind them. None where it can't stand there.
+    fn after(self, field: &PbField<'_>) -> Option<Order>
+        ensures { result ≡ order_after self (field_of field.now) }
+    {
+        match (self, field) {
+            (Order::Nothing, PbField::Data(_)) => Some(Order::DataFirst),
+            (Order::Nothing, PbField::Link(_)) => Some(Order::Links),
+            (Order::Links, PbField::Data(_)) => Some(Order::DataLast),
+            (Order::Links, PbField::Link(_)) => Some(Order::Links),
+            (Order::DataFirst, PbField::Link(_)) => Some(Order::DataFirst),
+            _ => None,
+        }
+    }
+}
+
+/// Whether the bytes are a block of DAG-PB.
+pub fn check_node(block: &[u8]) -> Result<(), PbError>
+    ensures { MatchResult result (λ _. HasNode block.now) (λ e. IsNoNode block.now e) }
+{
+    match stop_in(block) {
+        None => Ok(()),
+        Some(stop) => Err(PbError {
+            cause: stop.cause,
+            place: block.len() - stop.left,
+        }),
+    }
+}
+
+/// Where the bytes stop being one.
+fn stop_in(block: &[u8]) -> Option<Stop>
+    ensures { MatchOption result (HasNode block.now)
+        (λ stop. ¬ HasNode block.now × StopsIn block.now stop) }
+{
+    let mut order = Order::Nothing;
+    let mut rest = block;
+    while !rest.is_empty() {
+        let (field, behind) = match split_field(rest) {
+            Ok(found) => found,
+            Err(stop) => return Some(stop),
+        };
+        let Some(next) = order.after(&field) else {
+            return Some(Stop::before(PbCause::UnexpectedField(tag_of(&field)), rest));
+        };
+        order = next;
+        rest = behind;
+    }
+    None
+}
+
+/// The tag of the field.
+fn tag_of(field: &PbField<'_>) -> u64
+    ensures { result ≡ field_tag (field_of field.now) }
+{
+    match field {
+        PbField::Link(_) => LINK,
+        PbField::Data(_) => DATA,
+    }
+}
+
+/// The first link of fields in a row, and the fields behind it.
+pub fn next_link(fields: &[u8]) -> Option<(PbLink<'_>, &[u8])>
+    requires { (row : List Field) × BeginsWithFields fields.now row [] }
+    ensures link { (row : List Field) → BeginsWithFields fields.now row []
+        → MatchOption result (links_in row ≡ [])
+        (λ p. (more : List Field) × BeginsWithFields p.1.now more []
+        × (links_in row ≡ link_of p.0 ∷ links_in more)) }
+    ensures shorter { IfSome result
+        (λ p. length (cid_bytes p.0.hash) + length p.1.now < length fields.now) }
+{
+    let mut rest = fields;
+    while !rest.is_empty() {
+        let Ok((field, behind)) = split_field(rest) else {
+            unreachable!()
+        };
+        if let PbField::Link(link) = field {
+            return Some((link, behind));
+        }
+        rest = behind;
+    }
+    None
+}

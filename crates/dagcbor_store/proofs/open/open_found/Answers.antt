@@ -1,0 +1,19 @@
+use Rattle.std.proofs.Common.{sym, ◌∙◌, subst}
+use Rattle.sqlite_pool.specs.Stored.{Recovers}
+use Rattle.sqlite_store.specs.Unopened.{image}
+use Rattle.dagcbor_store.specs.Left.{store_objects, ListsObjects, IsStoreFile}
+use Rattle.dagcbor_store.proofs.open.open_found.Goals as goal
+
+pub open_listed-requires-clause-ours : goal.open_listed-requires-clause-ours
+open_listed-requires-clause-ours g c at clean lists =
+    let new = c.read_catalog.new.self in
+    let e = c.in-Ok.ensures in
+    let listed = e.ok clean in
+    let held = c.requires.ours at (e.honest clean) in
+    let size = (e.kept clean).size in
+    record {
+      pages = listed.pages;
+      found = subst (λ n. Recovers n (image new) listed.pages) (sym size) listed.again;
+      ours = subst (λ n. IsStoreFile n listed.pages) (sym size) (held.left _ listed.pages held.names listed.found (subst (ListsObjects store_objects) (c.as_slice.ensures.value ∙ listed.lists) lists));
+      schema = e.schema ∙ c.requires.schema;
+    }

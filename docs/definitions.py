@@ -28,8 +28,11 @@ READ_BY_PARTS = [
                "shape", "meaning", "finish"]),
 ]
 
-# A sentence of the claim, and the calls or types whose contracts say it.
+# A sentence of the claim, and the calls or types whose contracts say it; after a call, the one clause of it that does.
 SENTENCES = [
+    ("A slice decodes as one function says",
+     ["dagcbor_decode/src/slices.rt fn check_slice decoded", "dagcbor_decode/src/slices.rt fn judge_slice decoded",
+      "dagcbor_decode/src/links.rt fn links_from_slice"]),
     ("`to_vec` answers the one spelling of the value's tree", ["dagcbor_write/src/whole.rt fn to_vec"]),
     ("`from_slice` reads exactly the spellings that the type accepts", ["dagcbor_read/src/whole.rt fn from_slice"]),
     ("No two trees share a spelling, and none begins another's", ["ipld_tree/src/laws.rt fn spelling_unique"]),
@@ -40,8 +43,9 @@ SENTENCES = [
      ["dagcbor_read/src/source.rt fn from_reader", "dagcbor_read/src/source.rt fn from_reader_once"]),
     ("A stream gives the values one by one, and then at most one refusal", ["dagcbor_read/src/laws.rt fn streams_exact"]),
     ("`to_writer` appends the same spelling to a device", ["dagcbor_write/src/whole.rt fn to_writer"]),
-    ("`check_slice` and `links_from_slice` judge a block",
-     ["dagcbor_items/src/slices.rt fn check_slice", "dagcbor_items/src/slices.rt fn links_from_slice"]),
+    ("What `check_slice` accepts is the spelling of a tree", ["dagcbor_decode/src/slices.rt fn check_slice kind"]),
+    ("`any_from_slice`, and `links_from_slice` of `dagcbor_items`, refuse for a cause that stands",
+     ["dagcbor_items/src/slices.rt fn any_from_slice", "dagcbor_items/src/slices.rt fn links_from_slice"]),
     ("`find_slice` answers the item to which a path leads", ["dagcbor_paths/src/find.rt fn find_slice"]),
     ("The tree of a struct and of an enum that is written",
      ["dagcbor_write/src/structs.rt fn write_struct", "dagcbor_write/src/structs.rt fn write_struct_variant",
@@ -145,14 +149,17 @@ def reach(words, imports, own, found):
 
 def contract_words(call):
     """The words of a call's clauses, or of a ghost member in these files, with the imports there."""
-    where, kind, name = call.split()
+    where, kind, name, *clauses = call.split()
     for path in sorted((ROOT / "crates").glob(where)):
         text = path.read_text(encoding="utf-8")
         imports = imports_of(text.split("\n"))
         if kind == "fn":
             start = re.search(rf"\bfn {name}\b", text).start()
             body = re.search(r"^\s*\{", text[start:], re.M)
-            yield WORD.findall(text[start:start + body.start()]), imports, 0
+            head = text[start:start + body.start()]
+            for clause in clauses:
+                head = re.search(rf"^\s*ensures {clause} \{{.*?(?=^\s*ensures |\Z)", head, re.M | re.S)[0]
+            yield WORD.findall(head), imports, 0
         else:
             for match in re.finditer(rf"ghost {name} = \{{(.*?)\}};", text, re.S):
                 yield WORD.findall(match.group(1)), imports, match.group(0).count("\n") + 1

@@ -41,7 +41,8 @@ FLOORS = [
     (20, 12, 860, 38, "serde_ipld_dagcbor", "the names of all floors, the codec, the laws"),
     (20, 60, 420, 238, "dagcbor_read", "types that are read"),
     (460, 60, 420, 402, "dagcbor_write", "types that are written"),
-    (20, 308, 420, 154, "dagcbor_items", "data without types"),
+    (20, 308, 267, 154, "dagcbor_items", "data without types"),
+    (295, 308, 145, 154, "dagcbor_decode", ""),
     (20, 472, 860, 214, "dagcbor_heads", "heads, readers and writers"),
 ]
 # The rooms: x, y, width, height, the calls, and the files of the floor's crate.
@@ -49,10 +50,11 @@ ROOMS = [
     (36, 92, 388, 46, "from_slice   from_reader   a stream", "whole.rt, source.rt, stream.rt", "dagcbor_read"),
     (36, 162, 388, 46, "Deserialize: each type", "types/", "dagcbor_read"),
     (36, 232, 388, 46, "Deserializer; lists, maps, enums", "deserializer.rt, access/", "dagcbor_read"),
-    (36, 340, 122, 46, "read_any", "a tree: any.rt", "dagcbor_items"),
-    (169, 340, 122, 46, "walk_any", "links: walk.rt", "dagcbor_items"),
-    (302, 340, 122, 108, "judge_item", "a slice: judge.rt", "dagcbor_items"),
-    (36, 402, 255, 46, "pull_bool, .._str, read_key", "simple.rt, strings.rt, key.rt, link.rt", "dagcbor_items"),
+    (36, 340, 114, 46, "read_any", "a tree: any.rt", "dagcbor_items"),
+    (161, 340, 114, 46, "walk_any", "links: walk.rt", "dagcbor_items"),
+    (36, 402, 239, 46, "pull_bool, .._str, read_key", "simple.rt, strings.rt, key.rt, link.rt", "dagcbor_items"),
+    (307, 340, 121, 46, "judge_slice", "slices.rt, links.rt", "dagcbor_decode"),
+    (307, 402, 121, 46, "judge_item", "judge.rt, part.rt", "dagcbor_decode"),
     (36, 504, 388, 46, "peek_one   pull_head   pull_payload", "pull.rt; of a slice front.rt", "dagcbor_heads"),
     (36, 566, 388, 46, "Input: a slice, which lends, or a reader", "input.rt", "dagcbor_heads"),
     (36, 628, 388, 46, "SliceReader  IoReader  IoRefReader  yours", "read.rt, io_read.rt, io_ref_read.rt, window.rt", "dagcbor_heads"),
@@ -65,7 +67,7 @@ ROOMS = [
 # The arrows: x, from y, to y, what goes there, and how high that stands.
 ARROWS = [
     (230, 696, 674, "", 0), (230, 628, 612, "", 0), (230, 566, 550, "", 0), (230, 504, 448, "heads and payloads", 493),
-    (385, 504, 448, "", 0), (97, 402, 386, "", 0), (230, 402, 386, "", 0),
+    (385, 504, 448, "", 0), (385, 402, 386, "", 0), (97, 402, 386, "", 0), (230, 402, 386, "", 0),
     (230, 340, 278, "items, within the steps", 293), (230, 232, 208, "what has failed stays so", 224), (230, 162, 138, "values", 154),
     (670, 138, 216, "values", 181), (670, 262, 340, "items; maps in key order", 305), (670, 386, 504, "heads and payloads", 430),
     (670, 550, 628, "bytes, appended", 593), (670, 674, 696, "", 0),
@@ -116,7 +118,8 @@ def strangers():
 
 def lost_files():
     """The sources that the page names and nobody has."""
-    there = {path.name for top in ("crates", "callers", "faults", "bench", "docs", "schemas") for path in (ROOT / top).rglob("*.*")}
+    tops = ("crates", "callers", "conformance", "faults", "bench", "docs", "schemas")
+    there = {path.name for top in tops for path in (ROOT / top).rglob("*.*")}
     for name in re.findall(r"`[\w/]*?(\w+\.(?:rt|antt|c|h|py|rs|go))`", PAGE.read_text(encoding="utf-8")):
         if name not in there:
             yield f"docs/DESIGN.md: {name}"

@@ -4,7 +4,7 @@ use Rattle.std.specs.Prelude.{if◌then◌else◌, nat_lt, ◌==◌}
 use Rattle.std.specs.List.{AllByRecursion}
 use Rattle.std.proofs.lemmas.Bool.{eqb-true}
 use Rattle.std.proofs.lemmas.List.{length-drop}
-use Rattle.dagcbor_items.proofs.Judging.{plain_text}
+use Rattle.dagcbor_decode.proofs.Fronts.{plain_text}
 use Rattle.sha2.proofs.Facts256.{length-sha256}
 use Rattle.ipld_tree.specs.Cid.{CidParts, AreCidParts, cid_bytes}
 use Rattle.ipld_tree.specs.Tree.{IsTree, AreItems, items_of}

@@ -7,7 +7,7 @@ use Rattle.dagcbor_car.specs.Told.{Told}
 use Rattle.dagcbor_car.specs.declared.error.CarError.{CarError}
 use Rattle.ipld_links.specs.declared.verdict.Verdict.{Verdict}
 use Rattle.ipld_links.specs.declared.verdict.Verdict.TheVariants as verdicts
-use Rattle.dagcbor_items.specs.PrintedNames.{kind_name, variant_name}
+use Rattle.dagcbor_decode.specs.PrintedNames.{kind_name, variant_name}
 use Rattle.ipld_tree.specs.Cid.{CidParts}
 use Rattle.block_lines.specs.Codecs.{codec_text}
 use Rattle.block_lines.specs.Names.{cid_fault_name, fault_name, pb_cause_name}

@@ -5,9 +5,9 @@ use Rattle.dagcbor_heads.specs.declared.error.DecodeError.{DecodeError}
 use Rattle.dagcbor_heads.specs.declared.error.DecodeError.TheVariants as unread
 use Rattle.ipld_tree.specs.Tree.{Tree}
 use Rattle.dag_json.specs.DagJson.{dag_json, has_reserved_key}
-use Rattle.dagcbor_items.specs.Slices.{IsBlock, SliceRefused}
-use Rattle.dagcbor_items.specs.Stops.{StandsAt}
-use Rattle.dagcbor_items.specs.PrintedNames.{variant_name}
+use Rattle.dagcbor_decode.specs.Verdicts.{IsRefusedAt}
+use Rattle.dagcbor_decode.specs.Blocks.{IsBlock}
+use Rattle.dagcbor_decode.specs.PrintedNames.{variant_name}
 use Rattle.block_lines.specs.Lines.{line}
 
 -- of bytes that are no block, and by which byte
@@ -21,8 +21,7 @@ reserved_line = line (codes "dagcar: a map with the key / looks like a link or l
 
 -- what is said of bytes that are no block, and what is told: by which byte they are none
 abbrev pub IsSaidOfNoBlock : List ℕ → Bool → List ℕ → List ℕ → Type 0
-IsSaidOfNoBlock b well out told = (e : DecodeError Infallible) × (place : ℕ) × SliceRefused e b
-    × (e ≢ unread.OutOfMemory) × StandsAt e b place × (well ≡ false)
+IsSaidOfNoBlock b well out told = (e : DecodeError Infallible) × (place : ℕ) × IsRefusedAt b e place × (well ≡ false)
     × (out ≡ line (codes "refused " ++ variant_name e)) × (told ≡ fault_place_line e place)
 
 -- what `show` says of bytes: the data of the block as DAG-JSON, or why they are none; and what it

@@ -1,7 +1,7 @@
 //! The data of a block as DAG-JSON, or why bytes are no block.
 
 ghost use Rattle.std.specs.Prelude.{◌≡◌, ◌++◌, [], codes, true, false, IfOk, if◌then◌else◌};
-ghost use Rattle.dagcbor_items.specs.PrintedNames.{variant_name};
+ghost use Rattle.dagcbor_decode.specs.PrintedNames.{variant_name};
 ghost use Rattle.ipld_tree.specs.Ipld.{tree_of};
 ghost use Rattle.dag_json.specs.DagJson.{dag_json, has_reserved_key};
 ghost use Rattle.block_lines.specs.Lines.{line, SaysBoth};
@@ -10,7 +10,8 @@ ghost use Rattle.block_lines.specs.Shown.{fault_place_line, reserved_line, IsSho
 use crate::line::{Said, line_of, say_both};
 use dag_json::{dag_json, has_reserved_key};
 use dagcbor_cli::ToolError;
-use dagcbor_items::{Refused, any_from_slice, judge_slice, variant_name};
+use dagcbor_decode::{Refused, judge_slice, variant_name};
+use dagcbor_items::any_from_slice;
 use ipld_tree::Ipld;
 use std::alloc::{AllocError, Global};
 use std::io::Write;

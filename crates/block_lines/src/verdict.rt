@@ -6,7 +6,7 @@ ghost use Rattle.block_lines.specs.Lines.{verdict_text, is_well, verdict_line};
 use crate::line::{Said, line_of};
 use crate::names::pb_cause_name;
 use cid_text::cid_text;
-use dagcbor_items::{kind_name, variant_name};
+use dagcbor_decode::{kind_name, variant_name};
 use ipld_links::Verdict;
 use ipld_tree::Cid;
 use std::alloc::{AllocError, Global};

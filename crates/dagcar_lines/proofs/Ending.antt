@@ -2,7 +2,7 @@
 use Rattle.std.proofs.Common.{inl, inr, ℕ, List, Bool, subst, Some}
 use Rattle.ipld_tree.specs.Cid.{CidParts}
 use Rattle.ipld_links.specs.Reaching.{Stored}
-use Rattle.ipld_links.proofs.Sounding.{no_block}
+use Rattle.dagcbor_decode.proofs.Laws.{refused_no_block, refused_for}
 use Rattle.dagcbor_resolve.specs.Laws.{Leads, GivesItem}
 use Rattle.dagcbor_resolve.proofs.Binding.{block_unique}
 use Rattle.dagcbor_resolve.specs.declared.resolution.End.{End}
@@ -16,4 +16,4 @@ shown_at bytes_of stored root path end a h well said told (inl k) =
     inl (l.0, k.0, subst (λ u. Leads l.0 stored root path (Some u)) (block_unique (bytes_of a) l.1 k.0 l.3 k.1) l.2, k.2, k.3, k.4)
 shown_at bytes_of stored root path end a h well said told (inr k) =
     let l = item_led bytes_of stored root path end a h in
-    absurd (no_block _ _ k.2 k.3 l.1 l.3)
+    absurd (refused_no_block (bytes_of a) k.0 l.1 (refused_for (bytes_of a) k.0 k.1 k.2) l.3)

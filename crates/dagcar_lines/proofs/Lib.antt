@@ -4,3 +4,4 @@ pub mod Running
 pub mod Ending
 pub mod Proving
 pub mod Finding
+pub mod RefusedPlaces

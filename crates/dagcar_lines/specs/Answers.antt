@@ -9,9 +9,9 @@ use Rattle.ipld_tree.specs.Cid.{CidParts}
 use Rattle.cid_text.specs.Texts.{cid_text}
 use Rattle.dag_json.specs.Reading.{ReadsJson}
 use Rattle.dag_json.specs.declared.error.DagJsonError.{DagJsonError}
-use Rattle.dagcbor_items.specs.Slices.{IsBlock}
-use Rattle.dagcbor_items.specs.Stops.{StandsAt}
-use Rattle.dagcbor_items.specs.TreeKinds.{kind_of}
+use Rattle.dagcbor_decode.specs.Verdicts.{IsRefusedAt}
+use Rattle.dagcbor_decode.specs.Blocks.{IsBlock}
+use Rattle.dagcbor_decode.specs.TreeKinds.{kind_of}
 use Rattle.dagcbor_car.specs.Car.{Section}
 use Rattle.ipld_links.specs.Names.{block_name}
 use Rattle.ipld_links.specs.Blocks.{HasBlock}
@@ -19,7 +19,7 @@ use Rattle.ipld_links.specs.Verdicts.{IsVerdict}
 use Rattle.dagcbor_car.specs.Checks.{ListsMissingInFile}
 use Rattle.ipld_links.specs.declared.verdict.Verdict.{Verdict}
 use Rattle.ipld_links.specs.declared.verdict.Verdict.TheVariants.{Refused}
-use Rattle.dagcbor_items.specs.PrintedNames.{kind_name}
+use Rattle.dagcbor_decode.specs.PrintedNames.{kind_name}
 use Rattle.block_lines.specs.Lines.{line, verdict_line, listed_line, missing_line, root_line, is_well, SaysToDevice, SaysBoth}
 use Rattle.block_lines.specs.Shown.{IsSaidOfNoBlock, IsShown}
 use Rattle.dagcar_lines.specs.Lines.{cause_line, section_place_line}
@@ -45,7 +45,7 @@ IsVerdictLine s well text = (v : Verdict) × IsVerdict s v × (well ≡ is_well 
 
 -- what is told of a section: of one whose block is refused, by which byte
 abbrev pub TellsPlace : Section → List ℕ → Type 0
-TellsPlace s told = ((e : DecodeError Infallible) × (place : ℕ) × IsVerdict s (Refused e) × StandsAt e s.1 place
+TellsPlace s told = ((e : DecodeError Infallible) × (place : ℕ) × IsVerdict s (Refused e) × IsRefusedAt s.1 e place
     × (told ≡ section_place_line s.0 e place))
     ⊎ (((e : DecodeError Infallible) → ¬ IsVerdict s (Refused e)) × (told ≡ []))
 

@@ -10,7 +10,7 @@ use crate::answer::Answering;
 use block_lines::{Answer, line_of, no_block_answer, shown};
 use cid_text::cid_text;
 use dagcbor_cli::ToolError;
-use dagcbor_items::{judge_slice, kind_name};
+use dagcbor_decode::{judge_slice, kind_name};
 use ipld_links::name_of_block;
 use ipld_tree::Cid;
 use std::alloc::{AllocError, Global};

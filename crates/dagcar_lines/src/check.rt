@@ -13,7 +13,7 @@ use crate::walk::Teller;
 use block_lines::{Answer, Said, fault_place_line, missing_lines, verdict_line};
 use cid_text::cid_text;
 use dagcbor_car::{CarCheck, Section};
-use dagcbor_items::{Refused, judge_slice};
+use dagcbor_decode::{Refused, judge_slice};
 use ipld_links::Verdict;
 use ipld_tree::Cid;
 use std::alloc::{AllocError, Global};

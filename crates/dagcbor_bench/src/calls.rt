@@ -2,7 +2,7 @@
 
 ghost use Rattle.std.specs.Prelude.{◌≡◌, ◌≤◌, Bool, true, false};
 ghost use Rattle.serde_ipld_dagcbor.specs.Tree.{Tree};
-ghost use Rattle.serde_ipld_dagcbor.specs.Slices.{IsBlock};
+ghost use Rattle.dagcbor_decode.specs.Blocks.{IsBlock};
 
 use crate::bag::Bag;
 use crate::declared::Declared;
@@ -35,12 +35,20 @@ fn repeated<F: Fn() -> bool>(times: u64, call: F) -> u64
     count
 }
 
+/// Whether the bytes are a block.
+fn is_block(block: &[u8]) -> bool
+    ensures block { (t : Tree) → IsBlock block.now t → result ≡ true }
+    ensures other { ((t : Tree) → ¬ IsBlock block.now t) → result ≡ false }
+{
+    check_slice(block).is_ok()
+}
+
 /// Judges the block, so many times.
 fn judges(block: &[u8], times: u64) -> u64
     ensures block { (t : Tree) → IsBlock block.now t → result ≡ times }
     ensures other { ((t : Tree) → ¬ IsBlock block.now t) → result ≡ 0 }
 {
-    repeated(times, || check_slice(block).is_ok())
+    repeated(times, || is_block(block))
 }
 
 /// Reads a value of the type from the block, so many times.

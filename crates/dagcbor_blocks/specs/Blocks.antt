@@ -12,7 +12,8 @@ use Rattle.serde_ipld_dagcbor.specs.Cid.{CidParts, cid_bytes, cid_cmp}
 use Rattle.serde_ipld_dagcbor.specs.Tree.{Tree, any_need}
 use Rattle.serde_ipld_dagcbor.specs.Spelling.{IsSpellable, spelling}
 use Rattle.serde_ipld_dagcbor.specs.Shapes.{Shape}
-use Rattle.serde_ipld_dagcbor.specs.Slices.{IsBlock, LinksRefused}
+use Rattle.dagcbor_decode.specs.Blocks.{IsBlock}
+use Rattle.serde_ipld_dagcbor.specs.Slices.{LinksRefused}
 use Rattle.serde_ipld_dagcbor.specs.Whole.{IsWhole}
 use Rattle.serde_ipld_dagcbor.specs.Walks.{forms}
 use Rattle.serde_ipld_dagcbor.specs.EncodeError.{EncodeError}

@@ -1,19 +1,20 @@
 -- The tokens of a block of fewer than 2 ^ 32 bytes have parts of 32 bits.
-use Rattle.std.proofs.Common.{◌≡◌, ℕ, zero, suc, ◌+◌, ◌*◌, ◌^◌, ◌<◌, ◌≤◌, ◌%◌, ◌&&◌, pos, negsuc, Bool, true, false, List, [], ◌∷◌, ◌++◌, length, map, if◌then◌else◌, nat_lt, MatchBool, IsAscii, Result, refl, sym, ap, ap₂, ◌∙◌, arith, length-append, mod-eq_of_lt, lt-ltb, le-ltb}
-use Rattle.std.specs.declared.convert.Infallible.{Infallible}
+use Rattle.std.proofs.Common.{◌≡◌, ℕ, zero, suc, ◌+◌, ◌*◌, ◌^◌, ◌<◌, ◌≤◌, ◌%◌, ◌&&◌, pos, negsuc, Bool, true, false, List, [], ◌∷◌, ◌++◌, length, map, if◌then◌else◌, nat_lt, MatchBool, IsAscii, refl, sym, ap, ap₂, ◌∙◌, arith, length-append, mod-eq_of_lt, lt-ltb, le-ltb}
 use Rattle.std.proofs.lemmas.List.{map-append}
 use Rattle.std.proofs.lemmas.Simd.{map-map}
 use Rattle.std.specs.Int.{w16, w32, w64, to_be_bytes}
 use Rattle.std.specs.Str.{IsNotAscii}
 use Rattle.dagcbor_heads.specs.Head.{head}
-use Rattle.dagcbor_heads.specs.declared.error.DecodeError.{DecodeError}
 use Rattle.ipld_tree.specs.Tree.{Tree, null, boolean, integer, text, bytes, list, mapping, link, Items, no_items, item, Entries, no_entries, entry}
 use Rattle.ipld_tree.specs.Spelling.{item_count, entry_count, text_spelling, spelling, items_spelling, entries_spelling, IsSpelling}
-use Rattle.dagcbor_items.specs.declared.kind.Kind.{Kind}
-use Rattle.dagcbor_calls.specs.Tapes.{token, text_token, tokens_of, items_tokens, entries_tokens, tape_of, PutsTapeOf}
-use Rattle.dagcbor_calls.specs.CompactTapes.{are_ascii, is_integer_kind, compact, compact_tape_of, wrapped, wrapped_as}
+use Rattle.dagcbor_decode.specs.Decode.{Decoded, got, refused, decode}
+use Rattle.dagcbor_decode.specs.TreeKinds.{kind_of}
+use Rattle.dagcbor_decode.proofs.HeadLaws.{AreBytes}
+use Rattle.dagcbor_decode.proofs.Sound.{block_got}
+use Rattle.dagcbor_calls.specs.Codes.{kind_code}
+use Rattle.dagcbor_calls.specs.Tapes.{token, text_token, tokens_of, items_tokens, entries_tokens, tape_of, with_tokens, decoded_tape}
+use Rattle.dagcbor_calls.specs.CompactTapes.{are_ascii, is_integer_kind, compact, compact_tape_of, compact_tape_answer, wrapped, wrapped_as}
 use Rattle.dagcbor_calls.specs.declared.compact.CompactToken.{CompactToken}
-use Rattle.dagcbor_calls.proofs.Tapes.{tape_put}
 
 -- ---- ASCII
 
@@ -130,5 +131,10 @@ mutual
 compact_made : (b : List ℕ) (t : Tree) → IsSpelling b t → length b < 2 ^ 32 → map (λ k. compact b (wrapped k)) (tape_of t) ≡ compact_tape_of b t
 compact_made b t s few = sym (map-map (compact b) wrapped (tape_of t)) ∙ ap (map (compact b)) (tokens_fit 0 t (omega (arith, few, ap length s.is)))
 
-pub compact_put : (b : List ℕ) (old new : List CompactToken) (needed : ℕ) (r : Result Kind (DecodeError Infallible)) → length b < 2 ^ 32 → PutsTapeOf (λ t. map (λ k. compact b (wrapped k)) (tape_of t)) b old new needed r → PutsTapeOf (compact_tape_of b) b old new needed r
-compact_put b old new needed r few h = tape_put (λ t. map (λ k. compact b (wrapped k)) (tape_of t)) (compact_tape_of b) b old new needed r (λ t is. compact_made b t is.0 few) h
+-- what is put of bytes that are fewer is their compact tape
+pub compact_decoded : (b : List ℕ) (old : List CompactToken) → AreBytes b → length b < 2 ^ 32 → decoded_tape (λ t. map (λ k. compact b (wrapped k)) (tape_of t)) (decode b) old ≡ compact_tape_answer b old
+compact_decoded b old each few = by (decode b) refl ∙ sym (ap (λ (o : Bool). if o then decoded_tape (compact_tape_of b) (decode b) old else (negsuc 20, 0, old)) (lt-ltb (length b) (2 ^ 32) few))
+  where
+    by : (q : Decoded Tree) → decode b ≡ q → decoded_tape (λ t. map (λ k. compact b (wrapped k)) (tape_of t)) q old ≡ decoded_tape (compact_tape_of b) q old
+    by (got t rest) is = ap (λ ts. (kind_code (kind_of t), length ts, with_tokens ts old)) (compact_made b t (block_got b t rest each is).0 few)
+    by (refused why left) is = refl

@@ -1,14 +1,14 @@
 -- What is answered of a path, of what was found.
-use Rattle.std.proofs.Common.{◌≢◌, inl, inr, ℕ, ℤ, ◌+◌, ◌≤◌, List, ◌++◌, length, length-append, arith, sym, ap, ◌∙◌, subst, Option, None, Some, Result, Ok, Err, IfOk, IfErr, IfSome}
+use Rattle.std.proofs.Common.{inl, inr, ℕ, ℤ, ◌+◌, ◌≤◌, List, ◌++◌, length, length-append, arith, sym, ap, ◌∙◌, subst, Option, None, Some, Result, Ok, Err, IfOk, IfErr, IfSome}
 use Rattle.std.specs.Prelude.{IsUtf8}
 use Rattle.std.specs.declared.convert.Infallible.{Infallible}
 use Rattle.dagcbor_heads.specs.declared.error.DecodeError.{DecodeError}
-use Rattle.dagcbor_heads.specs.declared.error.DecodeError.TheVariants.{OutOfMemory}
-use Rattle.dagcbor_items.specs.Slices.{SliceRefused}
+use Rattle.dagcbor_decode.specs.Verdicts.{IsRefusedFor}
 use Rattle.dagcbor_paths.specs.Finding.{StandAt, FindsItemIn}
 use Rattle.dagcbor_paths.specs.declared.find.Item.{Item}
 use Rattle.dagcbor_calls.specs.Codes.{kind_code}
 use Rattle.dagcbor_calls.specs.Finds.{Places, TellsFound, IsFoundAnswer}
+use Rattle.dagcbor_calls.proofs.Decoding.{refused_as}
 
 -- ---- where the item stands
 
@@ -23,8 +23,8 @@ ends_within b part place s = omega (arith, ap length s.2, length-append s.0 (par
 -- ---- the answer
 
 -- bytes that are a text, by what was found
-pub found_answer : (b text : List ℕ) (path : List (List ℕ)) (r : Result (Option Item) (DecodeError Infallible)) (old new : Places) (code : ℤ) → IsUtf8 text → IfOk r (FindsItemIn b path) → IfErr r (λ e. SliceRefused e b) → IfErr r (λ e. e ≢ OutOfMemory) → TellsFound r old new code → IsFoundAnswer b text path old new code
-found_answer b text path (Ok (Some item)) old new code is k refused memory told = inl (
+pub found_answer : (b text : List ℕ) (path : List (List ℕ)) (r : Result (Option Item) (DecodeError Infallible)) (old new : Places) (code : ℤ) → IsUtf8 text → IfOk r (FindsItemIn b path) → IfErr r (λ e. IsRefusedFor b e) → TellsFound r old new code → IsFoundAnswer b text path old new code
+found_answer b text path (Ok (Some item)) old new code is k refused told = inl (
   is,
   record {
     tree = k.0;
@@ -38,5 +38,5 @@ found_answer b text path (Ok (Some item)) old new code is k refused memory told 
     told = told.1 ∙ ap kind_code k.4.kind;
   },
 )
-found_answer b text path (Ok None) old new code is k refused memory told = inr (told.0, inl (is, inl (k, told.1)))
-found_answer b text path (Err e) old new code is k refused memory told = inr (told.0, inl (is, inr (e, refused, memory, told.1)))
+found_answer b text path (Ok None) old new code is k refused told = inr (told.0, inl (is, inl (k, told.1)))
+found_answer b text path (Err e) old new code is k refused told = inr (told.0, inl (is, inr (refused_as b e code told.1 refused)))

@@ -6,7 +6,8 @@ use Rattle.dagcbor_heads.specs.declared.error.DecodeError.TheVariants.{Read, Req
 use Rattle.ipld_tree.specs.Tree.{Tree, links_of}
 use Rattle.ipld_tree.specs.Spelling.{IsFront, IsSpelling}
 use Rattle.ipld_tree.proofs.Fronts.{front_unique}
-use Rattle.dagcbor_items.specs.Slices.{IsBlock, LinksRefused}
+use Rattle.dagcbor_decode.specs.Blocks.{IsBlock}
+use Rattle.dagcbor_items.specs.Slices.{LinksRefused}
 use Rattle.dagcbor_items.proofs.SliceReads.{whole_front}
 use Rattle.dagcbor_car.specs.Car.{header_tree, header_bytes}
 use Rattle.dagcbor_car.specs.Splits.{SplitsHeader}

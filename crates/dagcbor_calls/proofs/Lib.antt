@@ -9,3 +9,5 @@ pub mod Naming
 pub mod Standing
 pub mod HeaderRoots
 pub mod Finding
+pub mod Placing
+pub mod Decoding

@@ -1,19 +1,15 @@
 -- Tokens, one by one from the front of bytes.
-use Rattle.std.proofs.Common.{◌≡◌, ◌⊎◌, inl, inr, ℕ, suc, ◌+◌, ◌-◌, ◌<◌, ◌≤◌, pos, negsuc, List, [], ◌∷◌, ◌++◌, length, get_or, drop, set, true, false, refl, sym, ap, ap₂, ◌∙◌, subst, arith, append_assoc, append-nil, length-append, map, Option, Some, None, Result, Ok, Err, drop-cons}
-use Rattle.std.specs.declared.convert.Infallible.{Infallible}
+use Rattle.std.proofs.Common.{◌≡◌, ◌⊎◌, inl, inr, ℕ, suc, ◌+◌, ◌-◌, ◌<◌, ◌≤◌, pos, negsuc, List, [], ◌∷◌, ◌++◌, length, get_or, drop, set, true, false, refl, sym, ap, ap₂, ◌∙◌, subst, arith, append_assoc, append-nil, length-append, map, Option, Some, None, drop-cons}
 use Rattle.std.proofs.lemmas.List.{map-append, length-map}
 use Rattle.std.proofs.Math.Seq.{drop-append_seam, set-append_seam}
 use Rattle.dagcbor_heads.specs.Head.{head}
 use Rattle.dagcbor_heads.specs.Splits.{SplitsHead}
-use Rattle.dagcbor_heads.specs.declared.error.DecodeError.{DecodeError}
 use Rattle.dagcbor_heads.proofs.Heads.{head_first}
 use Rattle.ipld_tree.specs.Tree.{Tree, null, boolean, integer, text, bytes, list, mapping, link, Items, no_items, item, Entries, no_entries, entry, AreItems, AreEntries}
 use Rattle.ipld_tree.specs.Spelling.{item_count, entry_count, AreSpellableItems, AreSpellableEntries, text_spelling, bytes_spelling, spelling, items_spelling, entries_spelling, IsSpelling, AreFronts}
 use Rattle.ipld_tree.proofs.Unique.{major, argument, payload}
 use Rattle.ipld_tree.proofs.Fronts.{by_head, item_opened, is_bytes, is_text, is_list, is_mapping, is_link, is_simple}
-use Rattle.dagcbor_items.specs.declared.kind.Kind.{Kind}
-use Rattle.dagcbor_items.specs.Slices.{IsBlock}
-use Rattle.dagcbor_calls.specs.Tapes.{token, token_at, text_token, tokens_of, items_tokens, entries_tokens, tape_of, with_tokens, PutsTapeOf, SplitsToken, SplitsTokenIfThere, BeginsWithZeroAnd, SplitsLinkIfThere}
+use Rattle.dagcbor_calls.specs.Tapes.{token, token_at, text_token, tokens_of, items_tokens, entries_tokens, tape_of, SplitsToken, SplitsTokenIfThere, BeginsWithZeroAnd, SplitsLinkIfThere}
 use Rattle.dagcbor_calls.specs.Standing.{IsSimpleToken, StandsTaggedIfThere}
 use Rattle.dagcbor_calls.specs.declared.tape.Token.{Token}
 
@@ -379,11 +375,3 @@ all_told made whole t now old after count none s = by s.more s.fronts s.told
         let is : tape_of t ≡ s.done = e ∙ append-nil s.done in
         let size : count ≡ length (tape_of t) = sym s.counted ∙ ap length (sym is) in
         (size, λ room. s.stands (omega (arith, size, room)) ∙ ap₂ (λ x n. map made x ++ drop n old) (sym is) size)
-
--- ---- tapes of tokens
-
--- one that is the other on blocks
-pub tape_put : {T : Type 0} (tape other : Tree → List T) (b : List ℕ) (old new : List T) (needed : ℕ) (r : Result Kind (DecodeError Infallible)) → ((t : Tree) → IsBlock b t → tape t ≡ other t) → PutsTapeOf tape b old new needed r → PutsTapeOf other b old new needed r
-tape_put tape other b old new needed (Ok kind) same (t, is, of, counted, few, stands) =
-    (t, is, of, counted ∙ ap length (same t is), few, stands ∙ ap (λ x. with_tokens x old) (same t is))
-tape_put tape other b old new needed (Err e) same h = h

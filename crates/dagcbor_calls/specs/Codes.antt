@@ -1,9 +1,12 @@
 -- The numbers that callers in other languages are told.
-use Rattle.std.specs.Prelude.{ℤ, pos, negsuc, Result, Ok, Err}
+use Rattle.std.specs.Prelude.{ℕ, ℤ, pos, negsuc, List, Result, Ok, Err}
 use Rattle.dagcbor_heads.specs.declared.error.DecodeError.{DecodeError}
 use Rattle.dagcbor_heads.specs.declared.error.DecodeError.TheVariants as refusals
-use Rattle.dagcbor_items.specs.declared.kind.Kind.{Kind}
-use Rattle.dagcbor_items.specs.declared.kind.Kind.TheVariants as kinds
+use Rattle.ipld_tree.specs.Tree.{Tree}
+use Rattle.dagcbor_decode.specs.Decode.{Decoded, Why, got, refused, eof, mismatch, unsupported, non_minimal, indefinite_size, require_utf8, msg, unordered_key, depth_overflow, trailing_data, decode}
+use Rattle.dagcbor_decode.specs.TreeKinds.{kind_of}
+use Rattle.dagcbor_decode.specs.declared.kind.Kind.{Kind}
+use Rattle.dagcbor_decode.specs.declared.kind.Kind.TheVariants as kinds
 use Rattle.cid_text.specs.declared.error.CidTextError.{CidTextError}
 use Rattle.cid_text.specs.declared.error.CidTextError.TheVariants as texts
 use Rattle.dagcbor_car.specs.declared.error.CarError.{CarError}
@@ -22,7 +25,29 @@ kind_code kinds.List = pos 5
 kind_code kinds.Map = pos 6
 kind_code kinds.Link = pos 7
 
--- the number of a refusal's variant, below 0; `negsuc n` is - 1 - n
+-- the number of why bytes are refused, below 0; `negsuc n` is - 1 - n
+abbrev pub why_code : Why → ℤ
+why_code (msg message) = negsuc 0
+why_code (eof name expect) = negsuc 2
+why_code (mismatch name found) = negsuc 3
+why_code (unsupported name found) = negsuc 4
+why_code (require_utf8 name) = negsuc 7
+why_code (depth_overflow name) = negsuc 11
+why_code trailing_data = negsuc 13
+why_code indefinite_size = negsuc 14
+why_code (non_minimal name found) = negsuc 15
+why_code unordered_key = negsuc 16
+
+-- the number of what is decoded: that of its kind, or that of why it is refused
+abbrev pub decoded_code : Decoded Tree → ℤ
+decoded_code (got t rest) = kind_code (kind_of t)
+decoded_code (refused why left) = why_code why
+
+-- what is answered of bytes, as a number
+abbrev pub check_code : List ℕ → ℤ
+check_code b = decoded_code (decode b)
+
+-- the number of a refusal's variant: where it says why bytes are refused (`why_of`), that of why
 abbrev pub refusal_code : {E : Type 0} → DecodeError E → ℤ
 refusal_code (refusals.Msg message) = negsuc 0
 refusal_code (refusals.Read e) = negsuc 1

@@ -1,11 +1,8 @@
 -- The tape of a block in tokens of three numbers below 2 ^ 32.
-use Rattle.std.specs.Prelude.{◌≡◌, ◌⊎◌, ℕ, ◌/◌, ◌%◌, ◌^◌, ◌<◌, ◌≤◌, ◌||◌, ◌&&◌, ◌==◌, ℤ, negsuc, Bool, true, List, [], ◌∷◌, length, map, take, drop, if◌then◌else◌, nat_lt, Result}
-use Rattle.std.specs.declared.convert.Infallible.{Infallible}
-use Rattle.dagcbor_heads.specs.declared.error.DecodeError.{DecodeError}
+use Rattle.std.specs.Prelude.{ℕ, ◌/◌, ◌%◌, ◌^◌, ◌||◌, ◌&&◌, ◌==◌, ℤ, negsuc, Bool, true, List, [], ◌∷◌, length, map, take, drop, if◌then◌else◌, nat_lt}
 use Rattle.ipld_tree.specs.Tree.{Tree}
-use Rattle.dagcbor_items.specs.declared.kind.Kind.{Kind}
-use Rattle.dagcbor_calls.specs.Codes.{answer_code}
-use Rattle.dagcbor_calls.specs.Tapes.{token, tape_of, PutsTapeOf}
+use Rattle.dagcbor_decode.specs.Decode.{decode}
+use Rattle.dagcbor_calls.specs.Tapes.{token, tape_of, decoded_tape}
 use Rattle.dagcbor_calls.specs.declared.tape.Token.{Token}
 use Rattle.dagcbor_calls.specs.declared.compact.CompactToken.{CompactToken}
 
@@ -37,13 +34,10 @@ compact b t = if is_integer_kind t.kind
 abbrev pub compact_tape_of : List ℕ → Tree → List CompactToken
 compact_tape_of b t = map (compact b) (tape_of t)
 
--- the compact tape of fewer than 2 ^ 32 bytes, put as a tape is; of more bytes -21, and nothing is
--- needed, and nothing changed
-abbrev pub IsCompactTapeAnswer : List ℕ → List CompactToken → List CompactToken → ℕ → ℤ → Type 0
-IsCompactTapeAnswer b old new needed code =
-    ((length b < 2 ^ 32) × ((r : Result Kind (DecodeError Infallible))
-    × PutsTapeOf (compact_tape_of b) b old new needed r × (code ≡ answer_code r)))
-    ⊎ ((2 ^ 32 ≤ length b) × (code ≡ negsuc 20) × (needed ≡ 0) × (new ≡ old))
+-- the compact tape of fewer than 2 ^ 32 bytes; of as many or more -21, no token, and the tape stays
+abbrev pub compact_tape_answer : List ℕ → List CompactToken → ℤ × ℕ × List CompactToken
+compact_tape_answer b old = if nat_lt (length b) (2 ^ 32)
+    then decoded_tape (compact_tape_of b) (decode b) old else (negsuc 20, 0, old)
 
 -- ---- parts
 

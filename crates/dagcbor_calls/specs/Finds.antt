@@ -1,15 +1,15 @@
 -- What callers in other languages are answered of a path.
-use Rattle.std.specs.Prelude.{◌≡◌, ◌≢◌, ◌⊎◌, ℕ, ◌+◌, ℤ, negsuc, List, [], ◌∷◌, ◌++◌, length, IsUtf8, Option, None, Some, Result, Ok, Err}
+use Rattle.std.specs.Prelude.{◌≡◌, ◌⊎◌, ℕ, ◌+◌, ℤ, negsuc, List, [], ◌∷◌, ◌++◌, length, IsUtf8, Option, None, Some, Result, Ok, Err}
 use Rattle.std.specs.declared.convert.Infallible.{Infallible}
 use Rattle.dagcbor_heads.specs.declared.error.DecodeError.{DecodeError}
-use Rattle.dagcbor_heads.specs.declared.error.DecodeError.TheVariants.{OutOfMemory}
 use Rattle.ipld_tree.specs.Tree.{Tree}
-use Rattle.dagcbor_items.specs.Slices.{IsBlock, SliceRefused}
-use Rattle.dagcbor_items.specs.TreeKinds.{kind_of}
+use Rattle.dagcbor_decode.specs.Decode.{Why, refused, decode}
+use Rattle.dagcbor_decode.specs.Blocks.{IsBlock}
+use Rattle.dagcbor_decode.specs.TreeKinds.{kind_of}
 use Rattle.dagcbor_paths.specs.Paths.{segments, At}
 use Rattle.dagcbor_paths.specs.Finding.{StandAt, LeadsInto, EndsWay}
 use Rattle.dagcbor_paths.specs.declared.find.Item.{Item}
-use Rattle.dagcbor_calls.specs.Codes.{kind_code, refusal_code}
+use Rattle.dagcbor_calls.specs.Codes.{kind_code, why_code, refusal_code}
 
 -- where an item stands in a block: where it begins, and where it ends
 abbrev pub Places : Type 0
@@ -32,10 +32,10 @@ pub record IsFoundAt (b : List ℕ) (path : List (List ℕ)) (places : Places) (
 abbrev pub IsNotFound : List ℕ → List (List ℕ) → ℤ → Type 0
 IsNotFound b path code = ((t : Tree) × IsBlock b t × ((u : Tree) → ¬ At path t u)) × (code ≡ negsuc 35)
 
--- the bytes are no block: the number of a refusal whose cause stands, never want of memory
+-- the bytes are no block: the number of why
 abbrev pub IsRefusedAs : List ℕ → ℤ → Type 0
-IsRefusedAs b code = (e : DecodeError Infallible) × SliceRefused e b × (e ≢ OutOfMemory)
-    × (code ≡ refusal_code e)
+IsRefusedAs b code = (why : Why) × (left : ℕ) × (decode b ≡ refused why left)
+    × (code ≡ why_code why)
 
 -- the bytes are no text, -37
 abbrev pub IsNoText : List ℕ → ℤ → Type 0

@@ -6,8 +6,8 @@ use Rattle.dagcbor_heads.specs.declared.error.DecodeError.{DecodeError}
 use Rattle.dagcbor_heads.specs.declared.error.DecodeError.TheVariants.{OutOfMemory}
 use Rattle.ipld_tree.specs.Tree.{Tree, any_need, links_of}
 use Rattle.ipld_tree.specs.Spelling.{IsFront}
-use Rattle.dagcbor_items.specs.declared.kind.Kind.{Kind}
-use Rattle.dagcbor_items.specs.TreeKinds.{kind_of}
+use Rattle.dagcbor_decode.specs.declared.kind.Kind.{Kind}
+use Rattle.dagcbor_decode.specs.TreeKinds.{kind_of}
 use Rattle.dagcbor_items.specs.Slices.{LinksRefused}
 use Rattle.dagcbor_calls.specs.declared.links.PackedLinks.{PackedLinks}
 

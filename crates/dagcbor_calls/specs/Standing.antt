@@ -1,16 +1,11 @@
 -- The tokens that stand in bytes, one behind the other from the front, whether these are a block or
 -- not.
-use Rattle.std.specs.Prelude.{◌≡◌, ◌≢◌, ◌⊎◌, ℕ, suc, ◌-◌, ◌^◌, ◌<◌, ◌≤◌, List, [], ◌∷◌, ◌++◌, length, map, take, drop, Option, Result, MatchResult, MatchOption}
-use Rattle.std.specs.declared.convert.Infallible.{Infallible}
+use Rattle.std.specs.Prelude.{◌≡◌, ◌⊎◌, ℕ, suc, ◌-◌, ◌^◌, ◌<◌, ◌≤◌, List, [], ◌∷◌, ◌++◌, length, map, take, drop, Option, MatchOption}
 use Rattle.dagcbor_heads.specs.Head.{head}
-use Rattle.dagcbor_heads.specs.declared.error.DecodeError.{DecodeError}
-use Rattle.dagcbor_heads.specs.declared.error.DecodeError.TheVariants.{OutOfMemory}
 use Rattle.ipld_tree.specs.Tree.{Tree}
-use Rattle.dagcbor_items.specs.declared.kind.Kind.{Kind}
-use Rattle.dagcbor_items.specs.TreeKinds.{kind_of}
-use Rattle.dagcbor_items.specs.Slices.{IsBlock, SliceRefused}
-use Rattle.dagcbor_items.specs.Stops.{StandsAt}
-use Rattle.dagcbor_calls.specs.Tapes.{token, tape_of, with_tokens}
+use Rattle.dagcbor_decode.specs.Decode.{Decoded, got, refused}
+use Rattle.dagcbor_decode.specs.Verdicts.{place_of}
+use Rattle.dagcbor_calls.specs.Tapes.{token, tape_of}
 use Rattle.dagcbor_calls.specs.declared.tape.Token.{Token}
 
 -- a token of this kind and number has this head, and so many bytes of payload behind it
@@ -46,14 +41,15 @@ AreTokensOf whole b (t ∷ ts) = (rest : List ℕ) × StandsToken whole b t rest
 abbrev pub AreTokens : List ℕ → List Token → Type 0
 AreTokens b tokens = AreTokensOf (length b) b tokens
 
--- The tokens of any bytes are counted, and put at the front of the tape where there is room for them
--- all: of a block its own, and its end is the place; of other bytes those before the place of the
--- refusal, which is never want of memory.
-abbrev pub PutsFrontTape : List ℕ → List Token → List Token → ℕ → ℕ
-    → Result Kind (DecodeError Infallible) → Type 0
-PutsFrontTape b old new needed place result = MatchResult result
-    (λ kind. (t : Tree) × IsBlock b t × (kind ≡ kind_of t) × (needed ≡ length (tape_of t)) × (needed ≤ length b) × (new ≡ with_tokens (tape_of t) old) × (place ≡ length b))
-    (λ e. SliceRefused e b × (e ≢ OutOfMemory) × StandsAt e b place × ((tokens : List Token) × AreTokens (take place b) tokens × (needed ≡ length tokens) × (new ≡ with_tokens tokens old)))
+-- where reading ends: after a block, and of refused bytes at the place of the refusal
+abbrev pub end_of : List ℕ → Decoded Tree → ℕ
+end_of b (got t rest) = length b
+end_of b (refused why left) = place_of b why left
+
+-- the tokens before that end: of a block its tape, and of refused bytes those that stand whole
+abbrev pub AreFrontTokens : List ℕ → Decoded Tree → List Token → Type 0
+AreFrontTokens b (got t rest) tokens = tokens ≡ tape_of t
+AreFrontTokens b (refused why left) tokens = AreTokens (take (place_of b why left) b) tokens
 
 -- ---- parts
 

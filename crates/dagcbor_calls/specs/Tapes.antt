@@ -1,14 +1,11 @@
 -- The tokens of an item: its heads in the order of its spelling, from which a caller builds values.
-use Rattle.std.specs.Prelude.{◌≡◌, ◌≢◌, ℕ, ◌+◌, ◌-◌, ◌<◌, ◌≤◌, ℤ, pos, negsuc, Bool, true, false, List, [], ◌∷◌, ◌++◌, length, map, drop, if◌then◌else◌, nat_lt, Option, Result, MatchResult, MatchOption}
-use Rattle.std.specs.declared.convert.Infallible.{Infallible}
+use Rattle.std.specs.Prelude.{◌≡◌, ℕ, ◌+◌, ◌-◌, ◌<◌, ◌≤◌, ℤ, pos, negsuc, Bool, true, false, List, [], ◌∷◌, ◌++◌, length, map, drop, if◌then◌else◌, nat_lt, Option, MatchOption}
 use Rattle.dagcbor_heads.specs.Head.{head}
-use Rattle.dagcbor_heads.specs.declared.error.DecodeError.{DecodeError}
-use Rattle.dagcbor_heads.specs.declared.error.DecodeError.TheVariants.{OutOfMemory}
 use Rattle.ipld_tree.specs.Tree.{Tree, null, boolean, integer, text, bytes, list, mapping, link, Items, no_items, item, Entries, no_entries, entry}
 use Rattle.ipld_tree.specs.Spelling.{item_count, entry_count, text_spelling, spelling, IsSpelling, IsFront, AreFronts}
-use Rattle.dagcbor_items.specs.declared.kind.Kind.{Kind}
-use Rattle.dagcbor_items.specs.TreeKinds.{kind_of}
-use Rattle.dagcbor_items.specs.Slices.{IsBlock, SliceRefused}
+use Rattle.dagcbor_decode.specs.Decode.{Decoded, got, refused}
+use Rattle.dagcbor_decode.specs.TreeKinds.{kind_of}
+use Rattle.dagcbor_calls.specs.Codes.{kind_code, why_code}
 use Rattle.dagcbor_calls.specs.declared.tape.Token.{Token}
 
 -- a token of these parts
@@ -96,15 +93,9 @@ abbrev pub PutsTokens : {T : Type 0} → (Token → T) → List ℕ → List T �
 PutsTokens made b old new count = (t : Tree) → IsSpelling b t → (count ≡ length (tape_of t))
     × (length (tape_of t) ≤ length old → new ≡ map made (tape_of t) ++ drop (length (tape_of t)) old)
 
--- A tape of this sort of a slice is counted, and put at the front of the tape where there is room for
--- it all, exactly where the slice is a block; it is never longer than the slice; and no refusal
--- changes anything, or is for want of memory.
-abbrev pub PutsTapeOf : {T : Type 0} → (Tree → List T) → List ℕ → List T → List T → ℕ → Result Kind (DecodeError Infallible) → Type 0
-PutsTapeOf tape b old new needed result = MatchResult result
-    (λ kind. (t : Tree) × IsBlock b t × (kind ≡ kind_of t) × (needed ≡ length (tape t)) × (needed ≤ length b) × (new ≡ with_tokens (tape t) old))
-    (λ e. SliceRefused e b × (e ≢ OutOfMemory) × (needed ≡ 0) × (new ≡ old))
-
--- The tape of its tokens is counted, and put at the front, exactly where the slice is a block.
-abbrev pub PutsTape : List ℕ → List Token → List Token → ℕ → Result Kind (DecodeError Infallible)
-    → Type 0
-PutsTape b old new needed result = PutsTapeOf tape_of b old new needed result
+-- What is answered of what is decoded: its number, how many tokens it has, and the tape with them
+-- at its front, where there is room for them all; of refused bytes none, and the tape as it was.
+abbrev pub decoded_tape : {T : Type 0} → (Tree → List T) → Decoded Tree → List T → ℤ × ℕ × List T
+decoded_tape tape (got t rest) old =
+    (kind_code (kind_of t), length (tape t), with_tokens (tape t) old)
+decoded_tape tape (refused why left) old = (why_code why, 0, old)

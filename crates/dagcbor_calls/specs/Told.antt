@@ -1,5 +1,5 @@
 -- What a tape tells: its heads and their payloads, one behind the other.
-use Rattle.std.specs.Prelude.{◌≡◌, ℕ, suc, ◌+◌, ◌-◌, ◌^◌, ◌<◌, ◌≤◌, min, List, [], ◌∷◌, ◌++◌, length, take, drop, Option, Some, None, if◌then◌else◌, nat_eq, nat_lt, option_map, option_and_then, MatchOption}
+use Rattle.std.specs.Prelude.{◌≡◌, ℕ, suc, ◌+◌, ◌-◌, ◌^◌, ◌≤◌, min, List, [], ◌∷◌, ◌++◌, length, take, drop, Option, Some, None, if◌then◌else◌, nat_eq, nat_lt, option_map, option_and_then, MatchOption}
 use Rattle.dagcbor_heads.specs.Head.{head}
 use Rattle.ipld_tree.specs.Tree.{Tree}
 use Rattle.ipld_tree.specs.Spelling.{spelling}
@@ -66,10 +66,6 @@ PutsAt s at old new end = (end ≡ at + length s) × (new ≡ put_at at s old)
 -- what is told was put there
 abbrev pub PutsToldAt : Option (List ℕ) → ℕ → List ℕ → List ℕ → ℕ → Type 0
 PutsToldAt told at old new end = (s : List ℕ) → told ≡ Some s → PutsAt s at old new end
-
--- the memory has room for the bytes, of which there are fewer than 2^64 - 1
-abbrev pub FitsInto : List ℕ → List ℕ → Type 0
-FitsInto s old = (length s ≤ length old) × (length s < 2 ^ 64 - 1)
 
 -- how many bytes the tape tells, as far as that is counted
 abbrev pub CountsTold : List ℕ → List Token → Option ℕ → Type 0

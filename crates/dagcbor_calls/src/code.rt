@@ -2,10 +2,11 @@
 
 ghost use Rattle.std.specs.Prelude.{◌≡◌};
 ghost use Rattle.dagcbor_calls.specs.Codes.{kind_code, refusal_code, answer_code, fault_code};
+ghost use Rattle.dagcbor_calls.specs.Codes.{check_code};
 
 use dagcbor_car::CarError;
+use dagcbor_decode::{Kind, check_slice};
 use dagcbor_heads::DecodeError;
-use dagcbor_items::Kind;
 
 /// What is answered where there is no room.
 pub(crate) const NO_ROOM: i32 = -21;
@@ -64,6 +65,13 @@ pub fn refusal_code<E>(refusal: &DecodeError<E>) -> i32
         DecodeError::OutOfMemory => -18,
         DecodeError::Failed => -19,
     }
+}
+
+/// The number of the kind of a block, from 0; below 0 that of the refusal.
+pub fn check(bytes: &[u8]) -> i32
+    ensures { result ≡ check_code bytes.now }
+{
+    code_of(&check_slice(bytes))
 }
 
 /// The number of the cause for which no section, no header or no file of version 1 stands.

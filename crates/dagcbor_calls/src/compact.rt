@@ -1,10 +1,10 @@
 //! The tokens of a block in three numbers of 32 bits each.
 
-ghost use Rattle.std.specs.Prelude.{◌≡◌, ◌/◌, ◌%◌, ◌^◌, take, drop};
+ghost use Rattle.std.specs.Prelude.{◌≡◌, ◌/◌, ◌%◌, ◌^◌, ◌≤◌, length, take, drop};
 ghost use Rattle.dagcbor_calls.specs.CompactTapes.{are_ascii, compact, compact_kind, wrapped};
-ghost use Rattle.dagcbor_calls.specs.CompactTapes.{IsCompactTapeAnswer};
+ghost use Rattle.dagcbor_calls.specs.CompactTapes.{compact_tape_answer};
 
-use crate::code::{NO_ROOM, code_of};
+use crate::code::NO_ROOM;
 use crate::tape::{INTEGER, NEGATIVE, STRING, TapeEntry, Token, put_entries};
 
 /// A token in 12 bytes: of an integer `number` and `place` are the low and the high half of its
@@ -82,13 +82,13 @@ impl TapeEntry for CompactToken {
 
 /// The compact tape of a block of fewer than 2^32 bytes, as `put_tape` puts a tape; of more bytes
 /// -21.
-#[tactic(auto, using(crate::proofs::CompactTokens::compact_put))]
 pub fn put_compact_tape(bytes: &[u8], tape: &mut [CompactToken], needed: &mut usize) -> i32
-    ensures { IsCompactTapeAnswer bytes.now tape.old tape.new needed.new result }
+    ensures answer { (result, needed.new, tape.new) ≡ compact_tape_answer bytes.now tape.old }
+    ensures few { needed.new ≤ length bytes.now }
 {
     if bytes.len() >= TOO_MANY {
         *needed = 0;
         return NO_ROOM;
     }
-    code_of(&put_entries(bytes, tape, needed))
+    put_entries(bytes, tape, needed)
 }

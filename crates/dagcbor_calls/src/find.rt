@@ -44,7 +44,7 @@ fn put_item(
 
 /// The number of the kind of the item to which the path leads in the block, and where it begins and
 /// ends; or why there is none, and then both stay.
-#[tactic(auto, using(crate::proofs::Finding::found_answer, crate::proofs::Finding::stands_in))]
+#[tactic(auto, using(crate::proofs::Finding::stands_in))]
 pub fn put_found(block: &[u8], path: &[u8], place: &mut usize, end: &mut usize) -> i32
     ensures { IsFindAnswer block.now path.now (place.old, end.old) (place.new, end.new) result }
 {
@@ -56,7 +56,7 @@ pub fn put_found(block: &[u8], path: &[u8], place: &mut usize, end: &mut usize) 
 
 /// The number of the kind of the item to which one segment leads in the block, taken whole, and where
 /// that begins and ends; or why there is none, and then both stay.
-#[tactic(auto, using(crate::proofs::Finding::found_answer, crate::proofs::Finding::stands_in))]
+#[tactic(auto, using(crate::proofs::Finding::stands_in))]
 pub fn put_part(block: &[u8], segment: &[u8], place: &mut usize, end: &mut usize) -> i32
     ensures { IsPartAnswer block.now segment.now (place.old, end.old) (place.new, end.new) result }
 {

@@ -11,8 +11,9 @@ ghost use Rattle.dagcbor_calls.specs.TapeJudging.{IsLeafTold, TellsMore, TellsBl
 
 use crate::tape::Token;
 use crate::told::{head_length, headed_length, link_length, payload_at, simple_length};
+use dagcbor_decode::{is_cid, is_text};
 use dagcbor_heads::DEFAULT_STEPS;
-use dagcbor_items::{follows, is_cid, is_text};
+use dagcbor_items::follows;
 
 /// The text that a token is told with, where its payload is one.
 #[inline(always)]

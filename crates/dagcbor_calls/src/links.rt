@@ -4,8 +4,9 @@ ghost use Rattle.std.specs.Prelude.{◌≡◌, false};
 ghost use Rattle.dagcbor_calls.specs.Packed.{HoldsPacked, PacksBytes, put_at, Fills, PutsLinks};
 
 use arrayvec::ArrayVec;
+use dagcbor_decode::Kind;
 use dagcbor_heads::DecodeError;
-use dagcbor_items::{Kind, LinkSink, walk_slice};
+use dagcbor_items::{LinkSink, walk_slice};
 use ipld_tree::Cid;
 use std::alloc::AllocError;
 use std::convert::Infallible;

@@ -1,17 +1,17 @@
 //! The bytes that a tape tells, and whether they are a block.
 
-ghost use Rattle.std.specs.Prelude.{◌≡◌, ◌+◌, ◌≤◌, length, take, Some, List, ℕ};
+ghost use Rattle.std.specs.Prelude.{◌≡◌, ◌+◌, ◌≤◌, length, Some, List, ℕ};
 ghost use Rattle.dagcbor_heads.specs.Head.{head};
 ghost use Rattle.dagcbor_calls.specs.Told.{payload_at, string_told, link_told, token_bytes};
 ghost use Rattle.dagcbor_calls.specs.Told.{tape_told, PutsAt, PutsToldAt, HasRoomAt, HasRoomFor};
 ghost use Rattle.dagcbor_calls.specs.Told.{FillsTold};
-ghost use Rattle.dagcbor_calls.specs.Answers.{IsCheckAnswer, IsSpellAnswer};
+ghost use Rattle.dagcbor_calls.specs.Answers.{spell_answer};
 
-use crate::code::{NO_ROOM, code_of, kind_code};
+use crate::code::{NO_ROOM, check, kind_code};
 use crate::judge::block_length;
 use crate::tape::Token;
 use crate::told::told_length;
-use dagcbor_items::{check_slice, kind_of_front};
+use dagcbor_decode::kind_of_front;
 
 /// Puts the bytes at the place: the place behind them.
 #[inline(always)]
@@ -118,20 +118,12 @@ fn fill(bytes: &[u8], tape: &[Token], out: &mut [u8])
     }
 }
 
-/// The number of the answer to whether the front of so many bytes is a block.
-fn code_of_front(out: &[u8], count: usize) -> i32
-    requires { count ≤ length out.now }
-    ensures { IsCheckAnswer (take count out.now) result }
-{
-    code_of(&check_slice(&out[..count]))
-}
-
 /// What is answered of a tape with a token that is none.
 const NO_TOKEN: i32 = -20;
 
 /// Puts what the tape tells at the front of `out`, where there is room for it, and judges it.
 pub fn spell_tape(bytes: &[u8], tape: &[Token], out: &mut [u8], needed: &mut usize) -> i32
-    ensures { IsSpellAnswer bytes.now tape.now out.old out.new needed.new result }
+    ensures { (result, needed.new, out.new) ≡ spell_answer bytes.now tape.now out.old }
 {
     if let Some(count) = block_length(bytes, tape, out.len()) {
         *needed = count;
@@ -145,7 +137,7 @@ pub fn spell_tape(bytes: &[u8], tape: &[Token], out: &mut [u8], needed: &mut usi
 #[cold]
 #[inline(never)]
 fn spell_slowly(bytes: &[u8], tape: &[Token], out: &mut [u8], needed: &mut usize) -> i32
-    ensures { IsSpellAnswer bytes.now tape.now out.old out.new needed.new result }
+    ensures { (result, needed.new, out.new) ≡ spell_answer bytes.now tape.now out.old }
 {
     *needed = 0;
     let Some(count) = told_length(bytes, tape) else {
@@ -156,5 +148,5 @@ fn spell_slowly(bytes: &[u8], tape: &[Token], out: &mut [u8], needed: &mut usize
         return NO_ROOM;
     }
     fill(bytes, tape, out);
-    code_of_front(out, count)
+    check(&out[..count])
 }

@@ -4,16 +4,18 @@ ghost use Rattle.std.specs.Prelude.{◌≡◌, ◌-◌, ◌<◌, ◌≤◌, ℕ,
 ghost use Rattle.std.specs.Prelude.{MatchOption};
 ghost use Rattle.ipld_tree.specs.Tree.{Tree};
 ghost use Rattle.ipld_tree.specs.Spelling.{IsSpelling};
+ghost use Rattle.dagcbor_decode.specs.Decode.{decode};
 ghost use Rattle.dagcbor_calls.specs.Tapes.{token, SplitsTokenIfThere, SplitsLinkIfThere};
-ghost use Rattle.dagcbor_calls.specs.Tapes.{PutsTokens, PutsTapeOf, PutsTape, tape_of, with_tokens};
+ghost use Rattle.dagcbor_calls.specs.Tapes.{PutsTokens, decoded_tape, tape_of, with_tokens};
 ghost use Rattle.dagcbor_calls.specs.Standing.{IsSimpleToken, StandsLinkIfThere};
 ghost use Rattle.dagcbor_calls.specs.Standing.{StandsTaggedIfThere, StandsTokenIfThere, AreTokens};
-ghost use Rattle.dagcbor_calls.specs.Standing.{PutsStanding, PutsFrontTape};
+ghost use Rattle.dagcbor_calls.specs.Standing.{PutsStanding};
+ghost use Rattle.dagcbor_calls.specs.Answers.{tape_answer, IsTokensAnswer};
 ghost use Rattle.dagcbor_calls.specs.declared.tape.Token.{Token};
 
-use dagcbor_heads::{DecodeError, split_head};
-use dagcbor_items::{Kind, check_slice, judge_slice};
-use std::convert::Infallible;
+use crate::code::{kind_code, refusal_code};
+use dagcbor_decode::{check_slice, judge_slice};
+use dagcbor_heads::split_head;
 
 /// A head of a block: its kind, its number, and the place behind it.
 #[repr(C)]
@@ -206,54 +208,52 @@ fn put_whole<T: TapeEntry>(bytes: &[u8], tape: &mut [T]) -> usize
     put_tokens(bytes, tape)
 }
 
-/// The kind of a block, whose tokens are counted, and what is made of them put at the front of the
-/// tape where there is room for it all.
-pub(crate) fn put_entries<T: TapeEntry>(
-    bytes: &[u8],
-    tape: &mut [T],
-    needed: &mut usize,
-) -> Result<Kind, DecodeError<Infallible>>
-    ensures { PutsTapeOf (λ t. map (T.made bytes.now) (tape_of t)) bytes.now tape.old tape.new
-        needed.new result }
+/// The number of the kind of a block, whose tokens are counted, and what is made of them put at the
+/// front of the tape where there is room for it all; below 0 that of the refusal.
+pub(crate) fn put_entries<T: TapeEntry>(bytes: &[u8], tape: &mut [T], needed: &mut usize) -> i32
+    ensures answer { (result, needed.new, tape.new)
+        ≡ decoded_tape (λ t. map (T.made bytes.now) (tape_of t)) (decode bytes.now) tape.old }
+    ensures few { needed.new ≤ length bytes.now }
 {
     *needed = 0;
-    let kind = check_slice(bytes)?;
-    *needed = put_whole(bytes, tape);
-    Ok(kind)
+    match check_slice(bytes) {
+        Ok(kind) => {
+            *needed = put_whole(bytes, tape);
+            kind_code(kind)
+        }
+        Err(refusal) => refusal_code(&refusal),
+    }
 }
 
-/// The kind of a block, whose tokens are counted, and put at the front of the tape where there is room
-/// for them all.
-pub fn put_tape(
-    bytes: &[u8],
-    tape: &mut [Token],
-    needed: &mut usize,
-) -> Result<Kind, DecodeError<Infallible>>
-    ensures { PutsTape bytes.now tape.old tape.new needed.new result }
+/// The number of the kind of a block, whose tokens are counted, and put at the front of the tape
+/// where there is room for them all; below 0 that of the refusal.
+pub fn put_tape(bytes: &[u8], tape: &mut [Token], needed: &mut usize) -> i32
+    ensures answer { (result, needed.new, tape.new) ≡ tape_answer bytes.now tape.old }
+    ensures few { needed.new ≤ length bytes.now }
 {
     put_entries(bytes, tape, needed)
 }
 
-/// The kind of a block, whose tokens are counted and put as by `put_tape`; of bytes that are refused,
-/// the tokens before the place of the fault are.
+/// The number of the kind of a block, whose tokens are counted and put as by `put_tape`; of refused
+/// bytes that of the refusal, and the tokens before its place are.
 pub fn put_front_tape(
     bytes: &[u8],
     tape: &mut [Token],
     needed: &mut usize,
     place: &mut usize,
-) -> Result<Kind, DecodeError<Infallible>>
-    ensures { PutsFrontTape bytes.now tape.old tape.new needed.new place.new result }
+) -> i32
+    ensures { IsTokensAnswer bytes.now tape.old tape.new needed.new place.new result }
 {
     match judge_slice(bytes) {
         Ok(kind) => {
             *place = bytes.len();
             *needed = put_whole(bytes, tape);
-            Ok(kind)
+            kind_code(kind)
         }
         Err(refused) => {
             *place = refused.place;
             *needed = put_whole(&bytes[..refused.place], tape);
-            Err(refused.cause)
+            refusal_code(&refused.cause)
         }
     }
 }

@@ -8,7 +8,7 @@ use Rattle.ipld_tree.specs.Tree.{Tree, list, link, items_of}
 use Rattle.ipld_tree.specs.Spelling.{spelling, items_spelling, item_count, IsFront, AreFronts, IsSpelling}
 use Rattle.ipld_tree.proofs.Unique.{split_at_length}
 use Rattle.ipld_tree.proofs.Fronts.{by_head, front_unique, list_opened, list_closed, item_opened, item_closed, items_after}
-use Rattle.dagcbor_items.proofs.Judging.{plain_text}
+use Rattle.dagcbor_decode.proofs.Fronts.{plain_text}
 use Rattle.dagcbor_car.specs.Car.{header_tree}
 use Rattle.std.specs.declared.convert.Infallible.{Infallible}
 use Rattle.dagcbor_car.specs.Splits.{AreLinkFronts, CountFault}

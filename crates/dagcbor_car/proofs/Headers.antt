@@ -5,7 +5,8 @@ use Rattle.ipld_tree.specs.Tree.{Tree, integer, list, link, items_of, all_some, 
 use Rattle.ipld_tree.specs.Spelling.{spelling, IsSpelling}
 use Rattle.ipld_tree.proofs.Fronts.{front_unique}
 use Rattle.dagcbor_items.specs.Walks.{forms}
-use Rattle.dagcbor_items.specs.Slices.{IsBlock, AreFirstLinks}
+use Rattle.dagcbor_decode.specs.Blocks.{IsBlock}
+use Rattle.dagcbor_items.specs.Slices.{AreFirstLinks}
 use Rattle.dagcbor_items.proofs.SliceReads.{whole_front}
 use Rattle.dagcbor_write.specs.Trees.{field}
 use Rattle.dagcbor_write.specs.Answers.{AreSpellingOf}
@@ -13,7 +14,7 @@ use Rattle.dagcbor_car.specs.Car.{counted, header_tree}
 use Rattle.dagcbor_car.specs.Splits.{SplitsCounted, CountFault, IsNoHeader, SplitsHeader, BeginsNoHeader, HeaderRefused}
 use Rattle.dagcbor_car.specs.declared.error.CarError.{CarError}
 use Rattle.dagcbor_car.specs.declared.error.CarError.TheVariants.{Truncated, InvalidLength, NoBlock, OtherHeader, OutOfMemory}
-use Rattle.ipld_links.proofs.Sounding.{no_block}
+use Rattle.dagcbor_decode.proofs.Laws.{refused_no_block}
 use Rattle.dagcbor_car.proofs.Cars.{counted_unique, links_of_header}
 use Rattle.dagcbor_car.proofs.Counts.{no_counted}
 
@@ -74,7 +75,7 @@ no_header_here : (b inner rest : List ℕ) → SplitsCounted b inner rest → ((
 no_header_here b inner rest h none roots more k = none roots (inner_of b inner rest more roots h k)
 
 pub not_read : {E : Type 0} (e : CarError E) (b inner rest : List ℕ) → SplitsCounted b inner rest → IsNoHeader e inner → HeaderRefused e b
-not_read (NoBlock e) b inner rest h r = (no_header_here b inner rest h (λ roots s. no_block e inner r.0 r.1 (header_tree roots) (header_block inner roots s)), (inner, rest, h, r.0, r.1))
+not_read (NoBlock e) b inner rest h r = (no_header_here b inner rest h (λ roots s. refused_no_block inner e (header_tree roots) r (header_block inner roots s)), (inner, rest, h, r))
 not_read OtherHeader b inner rest h r = (no_header_here b inner rest h r.1, (inner, rest, h, r.0))
 not_read OutOfMemory b inner rest h r = (inner, rest, h, r)
 not_read _ b inner rest h r = absurd r

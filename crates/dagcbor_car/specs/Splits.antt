@@ -7,7 +7,7 @@ use Rattle.ipld_tree.specs.CidFault.{IsCutVarint, IsNoVarint, IsFault}
 use Rattle.ipld_tree.specs.declared.cid_error.CidError.{CidError}
 use Rattle.ipld_tree.specs.Tree.{link, items_of}
 use Rattle.ipld_tree.specs.Spelling.{IsSpelling, AreFronts}
-use Rattle.dagcbor_items.specs.Slices.{SliceRefused}
+use Rattle.dagcbor_decode.specs.Verdicts.{IsRefusedFor}
 use Rattle.dagcbor_items.specs.Walks.{forms}
 use Rattle.ipld_links.specs.Blocks.{HasBlock}
 use Rattle.dagcbor_car.specs.Car.{counted, Section, section_bytes, IsSection, header_tree, header_bytes, IsHeader}
@@ -76,7 +76,7 @@ CountsBlock b = (inner rest : List ℕ) × SplitsCounted b inner rest × HasBloc
 
 -- why the bytes are no header; or memory is wanted, for a block
 abbrev pub IsNoHeader : {E : Type 0} → CarError E → List ℕ → Type 0
-IsNoHeader (NoBlock e) b = SliceRefused e b × (e ≢ unread.OutOfMemory)
+IsNoHeader (NoBlock e) b = IsRefusedFor b e
 IsNoHeader OtherHeader b = HasBlock b × ((roots : List (List ℕ)) → ¬ IsSpelling b (header_tree roots))
 IsNoHeader OutOfMemory b = HasBlock b
 IsNoHeader _ b = ⊥
@@ -87,8 +87,7 @@ ReadsHeader b result = MatchResult result (λ v. IsSpelling b (header_tree (form
 
 -- why no header stands first
 abbrev pub HeaderFault : {E : Type 0} → CarError E → List ℕ → Type 0
-HeaderFault (NoBlock e) b = (inner rest : List ℕ) × SplitsCounted b inner rest × SliceRefused e inner
-    × (e ≢ unread.OutOfMemory)
+HeaderFault (NoBlock e) b = (inner rest : List ℕ) × SplitsCounted b inner rest × IsRefusedFor inner e
 HeaderFault OtherHeader b = CountsBlock b
 HeaderFault e b = CountFault e b
 

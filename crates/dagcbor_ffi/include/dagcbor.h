@@ -84,7 +84,8 @@ enum dagcbor_refusal {
                                       dagcbor_compact_tape: 2^32 bytes or more */
 };
 
-/* The kind, from 0, exactly where the bytes are a block; else, below 0, a refusal whose cause stands in them. */
+/* The kind, from 0, exactly where the bytes are a block; else, below 0, the refusal: there is one, the one that `decode`
+   tells (docs/GRAMMAR.md). */
 int32_t dagcbor_check(const uint8_t *bytes, size_t length);
 
 /* As dagcbor_check. *needed becomes the number of the block's tokens, in the order of the block: at most `length`.

@@ -5,12 +5,13 @@
 //! `docs/OTHER_LANGUAGES.md` what a caller owes.
 #![tactic(auto)]
 
-ghost use Rattle.std.specs.Prelude.{◌≡◌};
+ghost use Rattle.std.specs.Prelude.{◌≡◌, ◌≤◌, length};
 ghost use Rattle.ipld_tree.specs.Cid.{cid_bytes};
 ghost use Rattle.ipld_links.specs.Names.{block_name};
-ghost use Rattle.dagcbor_calls.specs.Answers.{IsCheckAnswer, IsLinksAnswer, IsTapeAnswer};
-ghost use Rattle.dagcbor_calls.specs.Answers.{IsSpellAnswer, IsTokensAnswer};
-ghost use Rattle.dagcbor_calls.specs.CompactTapes.{IsCompactTapeAnswer};
+ghost use Rattle.dagcbor_calls.specs.Codes.{check_code};
+ghost use Rattle.dagcbor_calls.specs.Answers.{tape_answer, spell_answer};
+ghost use Rattle.dagcbor_calls.specs.Answers.{IsLinksAnswer, IsTokensAnswer};
+ghost use Rattle.dagcbor_calls.specs.CompactTapes.{compact_tape_answer};
 ghost use Rattle.dagcbor_calls.specs.Headers.{IsHeaderAnswer};
 ghost use Rattle.dagcbor_calls.specs.Sections.{IsSectionAnswer, IsVerifyAnswer};
 ghost use Rattle.dagcbor_calls.specs.Spans.{IsSpanAnswer};
@@ -18,18 +19,17 @@ ghost use Rattle.dagcbor_calls.specs.Finds.{IsFindAnswer, IsPartAnswer, IsFollow
 ghost use Rattle.dagcbor_calls.specs.CidTexts.{IsCidTextAnswer, IsCidFromTextAnswer};
 
 use dagcbor_calls::{
-    CompactToken, Token, code_of, judge_named, judge_section, name_of, put_cid_of_text,
+    CompactToken, Token, check, code_of, judge_named, judge_section, name_of, put_cid_of_text,
     put_cid_text, put_compact_tape, put_followed, put_found, put_front_tape, put_header, put_links,
     put_part, put_span, put_tape, spell_tape,
 };
-use dagcbor_items::check_slice;
 
 /// The number of the kind of a block, from 0; below 0 that of the refusal.
 #[unsafe(no_mangle)]
 pub extern "C" fn dagcbor_check(bytes: &[u8]) -> i32
-    ensures { IsCheckAnswer bytes.now result }
+    ensures { result ≡ check_code bytes.now }
 {
-    code_of(&check_slice(bytes))
+    check(bytes)
 }
 
 /// The number of the kind of the first item, from 0; below 0 that of the refusal. What follows the
@@ -48,9 +48,10 @@ pub extern "C" fn dagcbor_links(bytes: &[u8], out: &mut [u8], needed: &mut usize
 /// for them all they are put at its front, and else it stays.
 #[unsafe(no_mangle)]
 pub extern "C" fn dagcbor_tape(bytes: &[u8], tape: &mut [Token], needed: &mut usize) -> i32
-    ensures { IsTapeAnswer bytes.now tape.old tape.new needed.new result }
+    ensures answer { (result, needed.new, tape.new) ≡ tape_answer bytes.now tape.old }
+    ensures few { needed.new ≤ length bytes.now }
 {
-    code_of(&put_tape(bytes, tape, needed))
+    put_tape(bytes, tape, needed)
 }
 
 /// What `dagcbor_tape` does, in tokens of 12 bytes: of an integer `number` and `place` are the low and the
@@ -62,7 +63,8 @@ pub extern "C" fn dagcbor_compact_tape(
     tape: &mut [CompactToken],
     needed: &mut usize,
 ) -> i32
-    ensures { IsCompactTapeAnswer bytes.now tape.old tape.new needed.new result }
+    ensures answer { (result, needed.new, tape.new) ≡ compact_tape_answer bytes.now tape.old }
+    ensures few { needed.new ≤ length bytes.now }
 {
     put_compact_tape(bytes, tape, needed)
 }
@@ -81,7 +83,7 @@ pub extern "C" fn dagcbor_tokens(
 ) -> i32
     ensures { IsTokensAnswer bytes.now tape.old tape.new needed.new place.new result }
 {
-    code_of(&put_front_tape(bytes, tape, needed, place))
+    put_front_tape(bytes, tape, needed, place)
 }
 
 /// Puts the bytes that a tape tells at the front of `out`, where there is room for them, and judges
@@ -94,7 +96,7 @@ pub extern "C" fn dagcbor_spell(
     out: &mut [u8],
     needed: &mut usize,
 ) -> i32
-    ensures { IsSpellAnswer bytes.now tape.now out.old out.new needed.new result }
+    ensures { (result, needed.new, out.new) ≡ spell_answer bytes.now tape.now out.old }
 {
     spell_tape(bytes, tape, out, needed)
 }

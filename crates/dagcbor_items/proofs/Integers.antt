@@ -1,18 +1,18 @@
 -- Reading numbers.
-use Rattle.std.proofs.Common.{◌≡◌, inl, inr, ℕ, zero, suc, ◌+◌, ◌*◌, ◌/◌, ◌^◌, ◌<◌, ◌≤◌, ℤ, pos, negsuc, List, [], ◌∷◌, ◌++◌, true, refl, sym, ap, ◌∙◌, subst, arith, zero-le, ◌⊎◌, Some, None, Option, is_some, Result, Ok, Err}
+use Rattle.std.proofs.Common.{◌≡◌, inl, inr, ℕ, zero, suc, ◌+◌, ◌*◌, ◌^◌, ◌<◌, ◌≤◌, ℤ, pos, negsuc, List, [], ◌∷◌, ◌++◌, true, refl, sym, ap, ◌∙◌, subst, arith, zero-le, ◌⊎◌, Some, None, Option, is_some, Result, Ok, Err}
 use Rattle.std.proofs.lemmas.Int.{ints, to_z-of_z}
 use Rattle.std.proofs.lemmas.Bool.Decides.{nat_tests}
 use mir.Syntax.{w128}
 use mir.Val.{SFits, to_z, of_z}
 use Rattle.dagcbor_heads.specs.Head.{head}
 use Rattle.dagcbor_heads.specs.Names.{Names}
-use Rattle.dagcbor_heads.specs.Reading.{Reading, Stays}
-use Rattle.dagcbor_heads.specs.Fronts.{HasByte, ShowsByte, StartsWith, TakesHead}
+use Rattle.dagcbor_heads.specs.Reading.{Reading}
+use Rattle.dagcbor_heads.specs.Fronts.{HasByte, ShowsByte}
 use Rattle.dagcbor_heads.specs.Causes.{ByteCause, IsEndNamed}
 use Rattle.dagcbor_heads.specs.Refusals.{RefusesPlainly}
 use Rattle.dagcbor_heads.specs.declared.name.Name.{Name}
 use Rattle.dagcbor_heads.specs.declared.error.DecodeError.{DecodeError}
-use Rattle.dagcbor_heads.specs.declared.error.DecodeError.TheVariants.{Eof, CastOverflow, Mismatch, Unsupported}
+use Rattle.dagcbor_heads.specs.declared.error.DecodeError.TheVariants.{Eof, CastOverflow, Unsupported}
 use Rattle.dagcbor_heads.proofs.Heads.{head_first}
 use Rattle.dagcbor_heads.proofs.Taking.{stays, stays_both}
 use Rattle.dagcbor_heads.proofs.Refusing.{passed_on, byte_in_head, end_named}
@@ -25,7 +25,7 @@ use Rattle.dagcbor_items.specs.Shapes.{within, natural_below, number_of, view_nu
 use Rattle.dagcbor_items.specs.LeafCauses.{BeginsNoBig, MajorCause, IsOutside, BigCause}
 use Rattle.dagcbor_items.specs.Majors.{HasMajor, TakesMajor}
 use Rattle.dagcbor_items.proofs.Fronts.{front_byte}
-use Rattle.dagcbor_items.proofs.HeadMajors.{has_major, no_byte_begins, other_kind}
+use Rattle.dagcbor_items.proofs.HeadMajors.{has_major, no_byte_begins}
 
 -- only a number shows one
 is_number : {V : Type 0} (accepted : ℤ → Option V) (t : Tree) → is_some (view_number accepted t) ≡ true → (n : ℤ) × (t ≡ integer n)
@@ -104,10 +104,6 @@ natural_is_not bound zero n (inl some) = absurd (omega (arith, some))
 natural_is_not bound zero n (inr most) = grind (arith, ints, nat_tests)
 natural_is_not bound (suc k) n other = refl
 
--- the head of a number
-pub number_head : {old new : Reading} {kind n first : ℕ} → TakesHead old kind n first new → kind ≤ 1 → TakesMajor 0 1 old kind n new
-number_head h few = record { lowest = zero-le; highest = few; argument_fits = h.argument_fits; takes = h.takes }
-
 pub natural_taken : {old new : Reading} {kind n : ℕ} (bound : ℕ) → TakesMajor 0 1 old kind n new → kind ≤ 0 → n < bound → TakesFront (leaf (view_number (natural_below bound))) old n new
 natural_taken {old} {new} {kind} {n} bound h none few = number_narrowed (natural_below bound) _ _ (natural_is bound kind n none few) (number_taken h)
 
@@ -118,11 +114,6 @@ no_natural E name {old} {new} {kind} {n} bound kept named h other = outside E (n
 pub natural_refused : {E : Type 0} (name : List ℕ) (bound : ℕ) (old new : Reading) (e : DecodeError E) → RefusesPlainly (HasMajor 0 1 old) (MajorCause name 0 1) old e new
     → RefusesPlainly (HasFront (leaf (view_number (natural_below bound))) old) (Narrowed (natural_below bound) (MajorCause name 0 1) name) old e new
 natural_refused name bound old new e r = narrow_refused (natural_below bound) (MajorCause name 0 1) name old new e (number_refused name old new e r)
-
--- another item stands there
-pub other_item : (E : Type 0) (name : List ℕ) {old new : Reading} {first : ℕ} (bound : ℕ) (kept : Name) → Names kept name → StartsWith old first → Stays old new → 1 < first / 32
-    → RefusesPlainly {E = E} (HasFront (leaf (view_number (natural_below bound))) old) (Narrowed (natural_below bound) (MajorCause name 0 1) name) old (Mismatch kept first) new
-other_item E name {old} {new} {first} bound kept named starts same other = natural_refused {E = E} name bound old new (Mismatch kept first) (other_kind E name 0 1 kept named starts same (λ a b. omega (arith, b, other)))
 
 -- ---- numbers of any size
 

@@ -6,7 +6,6 @@ pub mod Steps
 pub mod LinksIn
 pub mod Walking
 pub mod Judging
-pub mod Stopping
 pub mod Rows
 pub mod Skipping
 pub mod Lists
@@ -24,12 +23,7 @@ pub mod Characters
 pub mod StringItems
 pub mod Examples
 pub mod Looks
-pub mod KindBytes
 pub mod SliceReads
 pub mod Lent
 pub mod Names
-pub mod Ends
-pub mod StopPlaces
 pub mod Progress
-pub mod CutLeaves
-pub mod SoundSoFar

@@ -9,9 +9,11 @@ use Rattle.ipld_tree.specs.Tree.{Tree, null, boolean, integer, text, bytes, list
 use Rattle.ipld_tree.specs.Spelling.{IsSpellable, item_count, entry_count, items_spelling, entries_spelling, IsFront, AreFronts, AreEntryFronts}
 use Rattle.ipld_tree.proofs.Unique.{major, argument, payload, argument_fits}
 use Rattle.ipld_tree.proofs.Fronts.{front_head, major_le, item_opened, item_closed, entry_opened}
-use Rattle.dagcbor_items.specs.Skips.{is_string, part_count, PassesHead, PassesHeads, EndByHeads, FindsBehindItems}
-use Rattle.dagcbor_items.proofs.Judging.{head_opened}
-use Rattle.dagcbor_items.proofs.Ends.{head_some}
+use Rattle.dagcbor_decode.specs.Rows.{is_string}
+use Rattle.dagcbor_items.specs.Skips.{part_count, PassesHead, PassesHeads, EndByHeads, FindsBehindItems}
+use Rattle.dagcbor_decode.proofs.Fronts.{head_opened}
+use Rattle.dagcbor_heads.proofs.Heads.{head_first}
+use Rattle.dagcbor_decode.proofs.Rows.{token_shorter}
 
 -- so many items, and what follows them
 abbrev pub IsRow : List ℕ → ℕ → List ℕ → Type 0
@@ -87,7 +89,8 @@ head_passed b c r m n more some h (item t ts, e, f) =
 front_some : (b rest : List ℕ) (t : Tree) → IsFront b t rest → length rest < length b
 front_some b rest t f =
     let e = front_head f in
-    omega (arith, head_some (major t) (argument t) (argument_fits t f.spellable), ap length e, length-append (head (major t) (argument t)) (payload t ++ rest), length-append (payload t) rest)
+    let h = head_first (major t) (argument t) (argument_fits t f.spellable) in
+    omega (arith, ap length h.3, ap length e, length-append (head (major t) (argument t)) (payload t ++ rest), length-append (payload t) rest)
 
 row_some : (b rest : List ℕ) (ts : Items) → AreFronts b ts rest → item_count ts ≤ length b
 row_some b rest no_items h = omega arith
@@ -96,14 +99,6 @@ row_some b rest (item t ts) h =
     omega (arith, row_some (items_spelling ts ++ rest) rest ts o.1, front_some b (items_spelling ts ++ rest) t o.0)
 
 -- ---- by heads
-
--- what is behind a token is shorter
-pub token_shorter : (b c r : List ℕ) (m n : ℕ) → SplitsHead b m n c → r ≡ (if is_string m then drop n c else c) → length r < length b
-token_shorter b c r m n h e = omega (arith, ap length e, by (is_string m), ap length h.2, length-append (head m n) c, head_some m n h.1)
-  where
-    by : (x : Bool) → length (if x then drop n c else c) ≤ length c
-    by true = omega (arith, ap length (take-append-drop n c), length-append (take n c) (drop n c))
-    by false = omega arith
 
 -- of what a head passes nothing is free but the head
 abbrev pub IsPassed : (m n : ℕ) → List ℕ → (parts : ℕ) → List ℕ → Type 0

@@ -1,11 +1,10 @@
 -- Slices that are read as one item, or whose first item is.
-use Rattle.std.proofs.Common.{◌≡◌, ◌≢◌, ◌++◌, append-nil, inl, inr, ℕ, ◌+◌, ◌<◌, Bool, true, List, [], ◌∷◌, length, refl, sym, ap, ◌∙◌, subst, arith, Option, Some, Result, Ok, Err, MatchResult, IfOk, IfErr, Vec, Global}
+use Rattle.std.proofs.Common.{◌≡◌, ◌≢◌, ◌++◌, append-nil, inl, inr, ℕ, ◌+◌, ◌<◌, Bool, true, List, [], length, refl, sym, ap, ◌∙◌, subst, arith, Option, Some, Result, Ok, Err, MatchResult, IfOk, IfErr, Vec, Global}
 use Rattle.std.specs.declared.convert.Infallible.{Infallible}
 use Rattle.dagcbor_heads.specs.Reading.{Reading}
 use Rattle.dagcbor_heads.specs.Fronts.{FindsEnd, ShowsByte}
 use Rattle.dagcbor_heads.specs.Causes.{HeadCause}
 use Rattle.dagcbor_heads.specs.Refusals.{RefusesOrLacksMemory, Refuses}
-use Rattle.dagcbor_heads.specs.declared.name.Name.{Name}
 use Rattle.dagcbor_heads.specs.declared.error.DecodeError.{DecodeError}
 use Rattle.dagcbor_heads.specs.declared.error.DecodeError.TheVariants.{Read, RequireBorrowed, OutOfMemory, Failed, TrailingData, DepthOverflow, UnorderedKey}
 use Rattle.ipld_tree.specs.Cid.{CidParts}
@@ -19,8 +18,8 @@ use Rattle.dagcbor_items.specs.LinkCauses.{IsOtherByte, CidCause, LinkCause}
 use Rattle.dagcbor_items.specs.LeafCauses.{IsOtherKind, IsCut, IsGarbled}
 use Rattle.dagcbor_items.specs.Untyped.{HasItem, TakesItem}
 use Rattle.dagcbor_items.specs.Walks.{Sink, forms, WalkLacks, HasLinkIn, HandsLinks, RefusesWalk, GathersLinks}
-use Rattle.dagcbor_items.specs.Judging.{SplitsItem}
-use Rattle.dagcbor_items.specs.Slices.{IsBlock, SliceRefused, PullsEnd, AreFirstLinks, LinksRefused, RefusesFirst}
+use Rattle.dagcbor_decode.specs.Blocks.{IsBlock}
+use Rattle.dagcbor_items.specs.Slices.{SliceRefused, PullsEnd, AreFirstLinks, LinksRefused, RefusesFirst}
 use Rattle.dagcbor_items.proofs.Places.{at_steps}
 
 -- ---- both sides of a call
@@ -109,18 +108,6 @@ no_cause {E} e b none h = elim h.5 [
 no_trailing : (E : Type 0) → IsCauseless {E = E} TrailingData
 no_trailing E = record { deep = λ l b x. x; head = λ b x. x; kind = λ n l h b x. x; cut = λ n k b x. x; garbled = λ n b x. x; simple = λ b x. x; byte = λ n o w b x. x; cid = λ b x. x; key = λ is. absurd (cc is) }
 
-pub no_trailing_cause : (b : List ℕ) → CauseInside {E = Infallible} 256 TrailingData b → ⊥
-no_trailing_cause b h = no_cause {E = Infallible} TrailingData b (no_trailing Infallible) h
-
-no_lack : (E : Type 0) → IsCauseless {E = E} OutOfMemory
-no_lack E = record { deep = λ l b x. x; head = λ b x. x; kind = λ n l h b x. x; cut = λ n k b x. x; garbled = λ n b x. x; simple = λ b x. x; byte = λ n o w b x. x; cid = λ b x. x; key = λ is. absurd (cc is) }
-
-no_loan : (E : Type 0) (n : Name) → IsCauseless {E = E} (RequireBorrowed n)
-no_loan E n = record { deep = λ l b x. x; head = λ b x. x; kind = λ n l h b x. x; cut = λ n k b x. x; garbled = λ n b x. x; simple = λ b x. x; byte = λ n o w b x. x; cid = λ b x. x; key = λ is. absurd (cc is) }
-
-no_failure : (E : Type 0) → IsCauseless {E = E} Failed
-no_failure E = record { deep = λ l b x. x; head = λ b x. x; kind = λ n l h b x. x; cut = λ n k b x. x; garbled = λ n b x. x; simple = λ b x. x; byte = λ n o w b x. x; cid = λ b x. x; key = λ is. absurd (cc is) }
-
 pub slice_refused : (e : DecodeError Infallible) (old new : Reading) (b : List ℕ) → old.left ≡ Some b → old.steps ≡ 256 → RefusesOrLacksMemory (HasItem 0 old) (CauseInside (old.steps + 0)) old e new → SliceRefused e b
 slice_refused (Read x) old new b l s r = elim x [ ]
 slice_refused OutOfMemory old new b l s r = tt
@@ -141,28 +128,6 @@ pub end_refused : (b : List ℕ) (start mid end : Reading) (t : Tree) (e : Decod
 end_refused b start mid end t TrailingData l steps a h = (trailing b t h.0 l steps a h.1, λ same. absurd (cc same))
 end_refused b start mid end t (Read x) l steps a h = elim x [ ]
 end_refused b start mid end t _ l steps a h = absurd h
-
--- an item whose rest has no byte is the whole
-pub judged_whole : (b rest : List ℕ) → length rest ≡ 0 → (k : SplitsItem b 256 rest) → IsBlock b k.0
-judged_whole b rest none k = (record { well_formed = k.1.well_formed; spellable = k.1.spellable; is = k.1.is ∙ ap (λ x. spelling k.0 ++ x) (empty rest none) ∙ append-nil (spelling k.0) }, k.2)
-  where
-    empty : (x : List ℕ) → length x ≡ 0 → x ≡ []
-    empty [] e = refl
-    empty (y ∷ ys) e = absurd (omega (arith, e))
-
--- an item with bytes behind it is not the whole
-pub judged_trailing : (b rest : List ℕ) → 0 < length rest → SplitsItem b 256 rest
-    → SliceRefused TrailingData b × (◌≢◌ {A = DecodeError Infallible} TrailingData OutOfMemory)
-judged_trailing b rest some k = ((no_block b rest k.0 k.1 some, (k.0, rest, k.1, k.2, some)), λ same. absurd (cc same))
-
--- no item stands there, and the cause does
-pub judged_refused : (e : DecodeError Infallible) (b : List ℕ) → ¬ ((rest : List ℕ) × SplitsItem b 256 rest) → CauseInside 256 e b → SliceRefused e b × (e ≢ OutOfMemory)
-judged_refused (Read x) b none h = elim x [ ]
-judged_refused OutOfMemory b none h = absurd (no_cause {E = Infallible} OutOfMemory b (no_lack Infallible) h)
-judged_refused (RequireBorrowed n) b none h = absurd (no_cause {E = Infallible} (RequireBorrowed n) b (no_loan Infallible n) h)
-judged_refused Failed b none h = absurd (no_cause {E = Infallible} Failed b (no_failure Infallible) h)
-judged_refused TrailingData b none h = absurd (no_cause {E = Infallible} TrailingData b (no_trailing Infallible) h)
-judged_refused e b none h = ((λ t k. none ([], (t, whole_front k.0, k.1)), h), λ same. absurd (cc same))
 
 -- ---- its first item
 

@@ -27,9 +27,5 @@ pub mod LeafCauses
 pub mod Majors
 pub mod AnsweredVariants
 pub mod LeafReads
-pub mod TreeKinds
 pub mod Skips
 pub mod Slices
-pub mod PrintedNames
-pub mod Stops
-pub mod Prefixes

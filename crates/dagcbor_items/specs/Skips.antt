@@ -1,11 +1,8 @@
 -- Where items end that stand one behind the other, told by their heads alone.
-use Rattle.std.specs.Prelude.{◌≡◌, ◌==◌, ◌||◌, ◌*◌, ◌+◌, ◌-◌, ◌<◌, ◌≤◌, ℕ, zero, suc, Bool, IsTrue}
+use Rattle.std.specs.Prelude.{◌≡◌, ◌==◌, ◌*◌, ◌+◌, ◌-◌, ◌<◌, ◌≤◌, ℕ, zero, suc, IsTrue}
 use Rattle.std.specs.Prelude.{List, length, drop, Option, MatchOption, if◌then◌else◌}
 use Rattle.dagcbor_heads.specs.Splits.{SplitsHead}
-
--- whether a head of this major type is one of a string
-abbrev pub is_string : ℕ → Bool
-is_string major = (major == 2) || (major == 3)
+use Rattle.dagcbor_decode.specs.Rows.{is_string}
 
 -- how many items follow a head as parts of its item: those of a list, the keys and values of a map,
 -- and the byte string behind the tag of a link (RFC 8949, section 3.1)

@@ -6,17 +6,14 @@ use Rattle.dagcbor_heads.specs.Fronts.{FindsEnd, ShowsByte}
 use Rattle.dagcbor_heads.specs.declared.error.DecodeError.{DecodeError}
 use Rattle.dagcbor_heads.specs.declared.error.DecodeError.TheVariants.{Read, RequireBorrowed, OutOfMemory, Failed, TrailingData}
 use Rattle.ipld_tree.specs.Tree.{Tree, any_need, links_of}
-use Rattle.ipld_tree.specs.Spelling.{IsFront, IsSpelling}
+use Rattle.ipld_tree.specs.Spelling.{IsFront}
+use Rattle.dagcbor_decode.specs.Blocks.{IsBlock}
+use Rattle.dagcbor_decode.specs.TreeKinds.{kind_of}
+use Rattle.dagcbor_decode.specs.declared.kind.Kind.{Kind}
 use Rattle.dagcbor_items.specs.ItemCauses.{CauseInside}
-use Rattle.dagcbor_items.specs.TreeKinds.{kind_of}
 use Rattle.dagcbor_items.specs.Walks.{Sink, Finds, HandsLinks, HasLinkIn}
-use Rattle.dagcbor_items.specs.declared.kind.Kind.{Kind}
 
 -- ---- the whole slice
-
--- the bytes are the spelling of a tree that is read within `default_steps`
-abbrev pub IsBlock : List ℕ → Tree → Type 0
-IsBlock b t = IsSpelling b t × (any_need t ≤ default_steps)
 
 -- the cause of a refusal of the whole: an item stands there with bytes behind it, or the item's own
 -- cause stands

@@ -2,7 +2,8 @@
 
 ghost use Rattle.std.specs.Prelude.{◌≡◌, ◌<◌, ◌≤◌, ◌^◌, length, drop, MatchOption, IsTrue};
 ghost use Rattle.std.specs.Prelude.{if◌then◌else◌};
-ghost use Rattle.dagcbor_items.specs.Skips.{is_string, part_count, FindsBehindItems};
+ghost use Rattle.dagcbor_decode.specs.Rows.{is_string};
+ghost use Rattle.dagcbor_items.specs.Skips.{part_count, FindsBehindItems};
 
 use dagcbor_heads::split_head;
 

@@ -3,7 +3,7 @@
 
 ghost use Rattle.std.specs.Prelude.{◌≡◌, IsUtf8, MatchOption};
 
-use crate::judge::{SHORT, is_plain};
+use dagcbor_decode::is_short_ascii;
 use simdutf8::basic;
 use std::str::{from_utf8, from_utf8_unchecked};
 
@@ -11,12 +11,11 @@ use std::str::{from_utf8, from_utf8_unchecked};
 const STEP: usize = 64;
 
 /// The bytes as a text.
-#[tactic(auto, using(crate::proofs::Judging::plain_text))]
 pub(crate) fn as_text(bytes: &[u8]) -> Option<&str>
     ensures { MatchOption result (¬ IsUtf8 bytes.now)
         (λ s. (s.now ≡ bytes.now) × IsUtf8 bytes.now) }
 {
-    if bytes.len() < SHORT && is_plain(bytes) {
+    if is_short_ascii(bytes) {
         return Some(unsafe { from_utf8_unchecked(bytes) });
     }
     if bytes.len() < STEP {

@@ -4,28 +4,28 @@ use Rattle.std.proofs.Math.Seq.{take-append_seam, take-length}
 use Rattle.std.proofs.lemmas.List.{map-append}
 use Rattle.hex.specs.Hex.{encode_lower}
 use Rattle.ipld_tree.specs.Cid.{CidParts, cid_bytes}
-use Rattle.dagcbor_lines.specs.Answers.{behind_spaces}
+use Rattle.dagcbor_lines.specs.Answers.{after_spaces}
 
-behind_next : (forms : List (List ℕ)) (form : List ℕ) → behind_spaces (forms ++ form ∷ []) ≡ behind_spaces forms ++ 32 ∷ encode_lower form
-behind_next [] form = append-nil (32 ∷ encode_lower form)
-behind_next (first ∷ forms) form =
-    ap (λ (s : List ℕ). (32 ∷ encode_lower first) ++ s) (behind_next forms form)
-    ∙ sym (append_assoc (32 ∷ encode_lower first) (behind_spaces forms) (32 ∷ encode_lower form))
+after_next : (forms : List (List ℕ)) (form : List ℕ) → after_spaces (forms ++ form ∷ []) ≡ after_spaces forms ++ 32 ∷ encode_lower form
+after_next [] form = append-nil (32 ∷ encode_lower form)
+after_next (first ∷ forms) form =
+    ap (λ (s : List ℕ). (32 ∷ encode_lower first) ++ s) (after_next forms form)
+    ∙ sym (append_assoc (32 ∷ encode_lower first) (after_spaces forms) (32 ∷ encode_lower form))
 
 -- one more link stands behind those before it
-pub link_behind : (links : List CidParts) (i : ℕ) (link : CidParts) (first old spaced new : List ℕ) → i < length links → link ≡ get_or links i link
-    → old ≡ first ++ behind_spaces (map cid_bytes (take i links)) → spaced ≡ old ++ 32 ∷ [] → new ≡ spaced ++ encode_lower (cid_bytes link)
-    → new ≡ first ++ behind_spaces (map cid_bytes (take (i + 1) links))
-link_behind links i link first old spaced new within is so_far space digits =
+pub link_after : (links : List CidParts) (i : ℕ) (link : CidParts) (first old spaced new : List ℕ) → i < length links → link ≡ get_or links i link
+    → old ≡ first ++ after_spaces (map cid_bytes (take i links)) → spaced ≡ old ++ 32 ∷ [] → new ≡ spaced ++ encode_lower (cid_bytes link)
+    → new ≡ first ++ after_spaces (map cid_bytes (take (i + 1) links))
+link_after links i link first old spaced new within is so_far space digits =
     let form = cid_bytes link in
     let done = map cid_bytes (take i links) in
     let more : take (i + 1) links ≡ take i links ++ link ∷ [] =
     ap (λ n. take n links) (add-one i) ∙ take-suc links i link within ∙ ap (λ y. take i links ++ y ∷ []) (sym is) in
     let forms : map cid_bytes (take (i + 1) links) ≡ done ++ form ∷ [] = ap (λ ls. map cid_bytes ls) more ∙ map-append cid_bytes (take i links) (link ∷ []) in
     digits ∙ ap (λ (s : List ℕ). s ++ encode_lower form) (space ∙ ap (λ (s : List ℕ). s ++ 32 ∷ []) so_far)
-    ∙ append_assoc (first ++ behind_spaces done) (32 ∷ []) (encode_lower form)
-    ∙ append_assoc first (behind_spaces done) (32 ∷ encode_lower form)
-    ∙ ap (λ (s : List ℕ). first ++ s) (sym (ap behind_spaces forms ∙ behind_next done form))
+    ∙ append_assoc (first ++ after_spaces done) (32 ∷ []) (encode_lower form)
+    ∙ append_assoc first (after_spaces done) (32 ∷ encode_lower form)
+    ∙ ap (λ (s : List ℕ). first ++ s) (sym (ap after_spaces forms ∙ after_next done form))
 
 -- a front is kept
 pub kept_front : (before behind : List ℕ) {now : List ℕ} → now ≡ before ++ behind → take (length before) now ≡ before
@@ -44,12 +44,12 @@ kept_before_space before first behind so_far space same =
     kept_before before first (behind ++ 32 ∷ []) (same ∙ space ∙ ap (λ (s : List ℕ). s ++ 32 ∷ []) so_far ∙ append_assoc (before ++ first) behind (32 ∷ []))
 
 -- behind the last link the line ends
-pub links_ended : (links : List CidParts) (i : ℕ) (before first old new : List ℕ) → length links ≤ i → old ≡ (before ++ first) ++ behind_spaces (map cid_bytes (take i links)) → new ≡ old ++ 10 ∷ []
-    → new ≡ before ++ ((first ++ behind_spaces (map cid_bytes links)) ++ 10 ∷ [])
+pub links_ended : (links : List CidParts) (i : ℕ) (before first old new : List ℕ) → length links ≤ i → old ≡ (before ++ first) ++ after_spaces (map cid_bytes (take i links)) → new ≡ old ++ 10 ∷ []
+    → new ≡ before ++ ((first ++ after_spaces (map cid_bytes links)) ++ 10 ∷ [])
 links_ended links i before first old new none so_far ended =
     let all : take i links ≡ links = take_all i links none in
-    let behind = behind_spaces (map cid_bytes links) in
-    ended ∙ ap (λ (s : List ℕ). s ++ 10 ∷ []) (so_far ∙ ap (λ ls. (before ++ first) ++ behind_spaces (map cid_bytes ls)) all ∙ append_assoc before first behind)
+    let behind = after_spaces (map cid_bytes links) in
+    ended ∙ ap (λ (s : List ℕ). s ++ 10 ∷ []) (so_far ∙ ap (λ ls. (before ++ first) ++ after_spaces (map cid_bytes ls)) all ∙ append_assoc before first behind)
     ∙ append_assoc before (first ++ behind) (10 ∷ [])
 
 -- after a refusal nothing is said of what an answer would be

@@ -1,19 +1,18 @@
 //! What the program says of a line.
 
-ghost use Rattle.std.specs.Prelude.{◌≡◌, ◌≢◌, ◌++◌, ◌∷◌, [], ℕ, List, map, codes, OnOk, OnErr};
-ghost use Rattle.std.specs.Prelude.{IfOk, IfErr, IsTrue, MatchResult, false};
+ghost use Rattle.std.specs.Prelude.{◌≡◌, ◌++◌, ◌∷◌, [], ℕ, List, map, codes, OnOk, OnErr};
+ghost use Rattle.std.specs.Prelude.{IfOk, IfErr, IsTrue, MatchResult, false, if◌then◌else◌};
 ghost use Rattle.std.specs.Io.{StartsWith};
 ghost use Rattle.hex.specs.Hex.{decode_of, encode_lower};
 ghost use Rattle.ipld_tree.specs.Cid.{cid_bytes};
-ghost use Rattle.dagcbor_items.specs.PrintedNames.{variant_name};
-ghost use Rattle.dagcbor_lines.specs.Answers.{links_text, IsCheckSaid};
-ghost use Rattle.dagcbor_lines.specs.Answers.{IsLinkLine, IsSaid, IsSaidOfText, IsAnswer, AppendsLine};
-ghost use Rattle.dagcbor_lines.specs.Answers.{PushesLine};
+ghost use Rattle.dagcbor_decode.specs.PrintedNames.{variant_name};
+ghost use Rattle.dagcbor_lines.specs.Answers.{check_line, links_line, links_text, said, answer_to};
+ghost use Rattle.dagcbor_lines.specs.Answers.{AppendsLine, PushesLine};
 
 use crate::command::Command;
 use dagcbor_cli::ToolError;
+use dagcbor_decode::{check_slice, kind_name, links_from_slice, variant_name};
 use dagcbor_heads::DecodeError;
-use dagcbor_items::{check_slice, kind_name, links_from_slice, variant_name};
 use ipld_tree::Cid;
 use std::alloc::{AllocError, Global};
 use std::convert::Infallible;
@@ -22,7 +21,7 @@ use std::convert::Infallible;
 fn push_sentence(out: &mut Vec<u8>, word: &str, name: &str) -> Result<(), AllocError>
     ensures kept { StartsWith out.new.items out.old.items }
     ensures written { OnOk result
-        (out.new.items ≡ out.old.items ++ ((word.now ++ name.now) ++ 10 ∷ [])) }
+        (AppendsLine (word.now ++ name.now) out.old.items out.new.items) }
 {
     out.extend_from_slice(word.as_bytes())?;
     out.extend_from_slice(name.as_bytes())?;
@@ -30,21 +29,17 @@ fn push_sentence(out: &mut Vec<u8>, word: &str, name: &str) -> Result<(), AllocE
     Ok(())
 }
 
-/// Appends what is said of a refusal. Want of memory is none, and ends the run.
+/// Appends what is said of a refusal.
 fn push_refusal(out: &mut Vec<u8>, refusal: &DecodeError<Infallible>) -> Result<(), ToolError>
-    ensures { PushesLine (λ said. (refusal.now ≢ DecodeError.OutOfMemory)
-        × (said ≡ codes "refused " ++ variant_name refusal.now)) out.old.items out.new.items
-        result }
+    ensures { PushesLine (codes "refused " ++ variant_name refusal.now) out.old.items
+        out.new.items result }
 {
-    match refusal {
-        DecodeError::OutOfMemory => Err(ToolError::OutOfMemory),
-        _ => Ok(push_sentence(out, "refused ", variant_name(refusal))?),
-    }
+    Ok(push_sentence(out, "refused ", variant_name(refusal))?)
 }
 
 /// Appends what `check` says of a block.
 fn push_verdict(out: &mut Vec<u8>, block: &[u8]) -> Result<(), ToolError>
-    ensures { PushesLine (IsCheckSaid block.now) out.old.items out.new.items result }
+    ensures { PushesLine (check_line block.now) out.old.items out.new.items result }
 {
     match check_slice(block) {
         Ok(kind) => Ok(push_sentence(out, "ok ", kind_name(kind))?),
@@ -94,13 +89,16 @@ fn push_links_line(alloc: Global, out: &mut Vec<u8>, links: &[Cid]) -> Result<()
     }
 }
 
-/// Appends what `links` says of a block.
+/// Appends what `links` says of a block. Want of memory ends the run.
 fn push_link_line(alloc: Global, out: &mut Vec<u8>, block: &[u8]) -> Result<(), ToolError>
-    ensures { PushesLine (IsLinkLine block.now) out.old.items out.new.items result }
+    ensures { PushesLine (links_line block.now) out.old.items out.new.items result }
 {
     match links_from_slice(alloc, block) {
         Ok(links) => Ok(push_links_line(alloc, out, &links)?),
-        Err(refusal) => push_refusal(out, &refusal),
+        Err(refusal) => match refusal {
+            DecodeError::OutOfMemory => Err(ToolError::OutOfMemory),
+            _ => push_refusal(out, &refusal),
+        },
     }
 }
 
@@ -111,7 +109,7 @@ fn push_said(
     block: &[u8],
     out: &mut Vec<u8>,
 ) -> Result<(), ToolError>
-    ensures { PushesLine (IsSaid command block.now) out.old.items out.new.items result }
+    ensures { PushesLine (said command block.now) out.old.items out.new.items result }
 {
     match command {
         Command::Check => push_verdict(out, block),
@@ -132,16 +130,17 @@ fn decode_line(line: &[u8], block: &mut Vec<u8>) -> Result<bool, AllocError>
 fn push_said_of(
     alloc: Global,
     command: Command,
-    block: Option<&[u8]>,
+    is_text: bool,
+    block: &[u8],
     out: &mut Vec<u8>,
 ) -> Result<(), ToolError>
-    ensures { PushesLine (IsSaidOfText (λ b. b.now) command block.entry) out.old.items out.new.items
-        result }
+    ensures { PushesLine (if is_text then said command block.now else codes "refused hex")
+        out.old.items out.new.items result }
 {
-    match block {
-        Some(block) => push_said(alloc, command, block, out),
-        None => Ok(push_sentence(out, "refused ", "hex")?),
+    if is_text {
+        return push_said(alloc, command, block, out);
     }
+    Ok(push_sentence(out, "refused ", "hex")?)
 }
 
 /// Appends what is said of a line, or nothing where memory lacks. The block is room for its bytes.
@@ -153,13 +152,13 @@ pub fn push_answer(
     out: &mut Vec<u8>,
 ) -> Result<(), ToolError>
     ensures written { OnOk result
-        (AppendsLine (IsAnswer command line.now) out.old.items out.new.items) }
+        (AppendsLine (answer_to command line.now) out.old.items out.new.items) }
     ensures same { OnErr result (out.new.items ≡ out.old.items) }
     ensures memory { IfErr result (λ e. e ≡ ToolError.OutOfMemory) }
 {
     let before = out.len();
     let is_text = decode_line(line, block)?;
-    let pushed = push_said_of(alloc, command, is_text.then_some(block.as_slice()), out);
+    let pushed = push_said_of(alloc, command, is_text, block, out);
     if pushed.is_err() {
         out.truncate(before);
     }

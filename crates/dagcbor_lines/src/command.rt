@@ -2,7 +2,7 @@
 
 ghost use Rattle.std.specs.Prelude.{◌≡◌, ◌≢◌, ◌⊎◌, map, string_bytes, IfSome, MatchOption};
 ghost use Rattle.std.specs.Prelude.{MatchResult};
-ghost use Rattle.dagcbor_lines.specs.Answers.{IsAnswer, AnswersAll, AnswersSome};
+ghost use Rattle.dagcbor_lines.specs.Answers.{AnswersAll, AnswersSome};
 ghost use Rattle.dagcbor_lines.specs.Commands.{command_name, IsCommand};
 
 use crate::run::run_lines;
@@ -74,12 +74,12 @@ pub fn run_command<R: BufRead, W: Write, V: Write>(
         → (result ≡ 0) ⊎ (result ≡ 1) }
     ensures answered { (c : Command) → IsCommand (map string_bytes args.now) c → result ≡ 0
         → IfSome (R.remaining input.old) (λ bytes.
-        AnswersAll (IsAnswer c) bytes (R.remaining input.new)
+        AnswersAll c bytes (R.remaining input.new)
         (W.contents output.old) (W.contents output.new)) }
     ensures quiet { result ≡ 0 → errors.new ≡ errors.old }
     ensures broken { (c : Command) → IsCommand (map string_bytes args.now) c → result ≡ 1
         → IfSome (R.remaining input.old) (λ bytes.
-        AnswersSome (IsAnswer c) bytes (R.remaining input.new)
+        AnswersSome c bytes (R.remaining input.new)
         (W.contents output.old) (W.contents output.new)) }
 {
     let Some(command) = command_of(args) else {

@@ -2,11 +2,11 @@
 //! fill in one piece.
 
 ghost use Rattle.std.specs.Prelude.{◌≡◌, ◌≢◌, ◌++◌, ◌+◌, ◌-◌, ◌^◌, ◌<◌, if◌then◌else◌, [], ℕ, List, All, IfSome, IfErr, false};
-ghost use Rattle.std.specs.Prelude.{OnOk, OnErr};
-ghost use Rattle.std.specs.Io.KnownBytes.{prepend_known, IsAtEnd};
+ghost use Rattle.std.specs.Prelude.{OnOk, OnErr, length};
+ghost use Rattle.std.specs.Io.KnownBytes.{prepend_known, Appends, IsAtEnd};
 ghost use Rattle.std.specs.Str.Lines.{lines, strip_carriage_return};
-ghost use Rattle.dagcbor_lines.specs.Answers.{IsAnswer, AppendsLine, AppendsAnswers, HasAnswered};
-ghost use Rattle.dagcbor_lines.specs.Answers.{WritesAnswers, WritesBeginning, WritesWhole};
+ghost use Rattle.dagcbor_lines.specs.Answers.{answer_to, answers, AppendsLine, AppendsAnswers};
+ghost use Rattle.dagcbor_lines.specs.Answers.{HasAnswered, WritesBeginning, WritesWhole};
 ghost use Rattle.dagcbor_lines.specs.Answers.{BreaksOff, RunsLines, MayEndBehind, most_lines};
 
 use crate::answer::push_answer;
@@ -39,7 +39,7 @@ fn answer_line(
 ) -> Result<(), ToolError>
     requires { All (λ b. b ≢ 10) end.now }
     ensures written { OnOk result (AppendsLine
-        (IsAnswer command (strip_carriage_return (buffers.old.partial.items ++ end.now)))
+        (answer_to command (strip_carriage_return (buffers.old.partial.items ++ end.now)))
         buffers.old.out.items buffers.new.out.items) }
     ensures emptied { OnOk result (buffers.new.partial.items ≡ []) }
     ensures same { OnErr result (buffers.new.out.items ≡ buffers.old.out.items) }
@@ -66,11 +66,13 @@ fn answer_shown(
     buffers: &mut Buffers,
 ) -> Result<(), ToolError>
     requires { buffers.old.lines < most_lines }
-    ensures answered { OnOk result ((count : ℕ) × (buffers.new.lines ≡ buffers.old.lines + count)
-        × AppendsAnswers (IsAnswer command) count (buffers.old.partial.items ++ shown.now)
+    ensures answered { OnOk result ((done : List (List ℕ))
+        × (buffers.new.lines ≡ buffers.old.lines + length done)
+        × AppendsAnswers command done (buffers.old.partial.items ++ shown.now)
         buffers.new.partial.items buffers.old.out.items buffers.new.out.items) }
-    ensures some { (count : ℕ) × (left : List ℕ) × (buffers.new.lines ≡ buffers.old.lines + count)
-        × AppendsAnswers (IsAnswer command) count (buffers.old.partial.items ++ shown.now)
+    ensures some { (done : List (List ℕ)) × (left : List ℕ)
+        × (buffers.new.lines ≡ buffers.old.lines + length done)
+        × AppendsAnswers command done (buffers.old.partial.items ++ shown.now)
         left buffers.old.out.items buffers.new.out.items }
     ensures most { OnOk result (buffers.new.lines < most_lines) }
     ensures cause { IfErr result (MayEndBehind buffers.new.lines) }
@@ -101,7 +103,7 @@ fn answer_fill<R: BufRead, W: Write>(
     requires { buffers.old.lines < most_lines }
     ensures answered { OnOk result ((count : ℕ) × (buffers.new.lines ≡ buffers.old.lines + count)
         × IfSome (prepend_known buffers.old.partial.items (R.remaining reader.old)) (λ input.
-        HasAnswered (IsAnswer command) count input
+        HasAnswered command count input
         (prepend_known buffers.new.partial.items (R.remaining reader.new))
         (W.contents writer.old) (W.contents writer.new))) }
     ensures most { OnOk result (buffers.new.lines < most_lines) }
@@ -109,12 +111,12 @@ fn answer_fill<R: BufRead, W: Write>(
         → IfSome (R.remaining reader.old) (λ _. IsAtEnd (R.remaining reader.new)) }
     ensures broken { OnErr result
         (IfSome (prepend_known buffers.old.partial.items (R.remaining reader.old)) (λ input.
-        BreaksOff (IsAnswer command) input (R.remaining reader.new)
+        BreaksOff command input (R.remaining reader.new)
         (W.contents writer.old) (W.contents writer.new))) }
     ensures whole { IfErr result (λ e. e ≢ ToolError.Output
         → (count : ℕ) × MayEndBehind (buffers.old.lines + count) e
         × IfSome (prepend_known buffers.old.partial.items (R.remaining reader.old)) (λ input.
-        WritesWhole (IsAnswer command) count input (W.contents writer.old) (W.contents writer.new))) }
+        WritesWhole command count input (W.contents writer.old) (W.contents writer.new))) }
 {
     let Ok(shown) = reader.fill_buf() else {
         return Err(ToolError::Input);
@@ -132,19 +134,19 @@ fn answer_fill<R: BufRead, W: Write>(
 }
 
 /// Answers the line that is held at the end of the input, if one is.
+#[tactic(auto, using(crate::proofs::Answering::nothing_written))]
 fn answer_last<W: Write>(
     alloc: Global,
     command: Command,
     writer: &mut W,
     buffers: &mut Buffers,
 ) -> Result<(), ToolError>
-    ensures answered { OnOk result (WritesAnswers (IsAnswer command)
+    ensures answered { OnOk result (Appends (W.contents writer.old) (W.contents writer.new)
+        (answers command (lines buffers.old.partial.items))) }
+    ensures broken { OnErr result (WritesBeginning command
         (lines buffers.old.partial.items) (W.contents writer.old) (W.contents writer.new)) }
-    ensures broken { OnErr result (WritesBeginning (IsAnswer command)
-        (lines buffers.old.partial.items) (W.contents writer.old) (W.contents writer.new)) }
-    ensures whole { IfErr result (λ e. e ≢ ToolError.Output
-        → WritesWhole (IsAnswer command) 0 buffers.old.partial.items
-        (W.contents writer.old) (W.contents writer.new)) }
+    ensures nothing { IfErr result (λ e. e ≢ ToolError.Output
+        → Appends (W.contents writer.old) (W.contents writer.new) []) }
 {
     if buffers.partial.is_empty() {
         return Ok(());

@@ -10,10 +10,10 @@ use Rattle.ipld_tree.specs.Tree.{Tree, text, list, mapping, Items, any_need, ite
 use Rattle.ipld_tree.specs.Spelling.{item_count, IsFront, AreFronts}
 use Rattle.ipld_tree.proofs.Unique.{major}
 use Rattle.ipld_tree.proofs.Fronts.{is_list, is_mapping, list_opened, map_opened}
-use Rattle.dagcbor_items.specs.Judging.{SplitsPayload}
+use Rattle.dagcbor_decode.specs.Fronts.{SplitsPayload}
 use Rattle.dagcbor_items.specs.Skips.{FindsBehindItems}
 use Rattle.dagcbor_items.proofs.Skipping.{items_found, ends_within}
-use Rattle.dagcbor_items.proofs.Judging.{head_opened, no_front, text_opened, too_few}
+use Rattle.dagcbor_decode.proofs.Fronts.{head_opened, no_front, text_opened, too_few}
 use Rattle.dagcbor_paths.specs.Paths.{IsItemAt, IsPart}
 use Rattle.dagcbor_paths.specs.Parts.{EndsWith, GivesPart, FindsItem, FindsValue, FindsPart}
 use Rattle.dagcbor_paths.proofs.Items.{index_below, item_begins, some_items}

@@ -16,9 +16,9 @@ use Rattle.ipld_tree.proofs.Fronts.{front_unique, front_first}
 use Rattle.dagcbor_items.specs.Links.{ReadsLink}
 use Rattle.dagcbor_items.specs.LinkCauses.{LinkCause}
 use Rattle.dagcbor_items.specs.Shapes.{view_link}
-use Rattle.dagcbor_items.specs.Slices.{IsBlock}
-use Rattle.dagcbor_items.specs.TreeKinds.{kind_of, IsKindAt}
-use Rattle.dagcbor_items.specs.declared.kind.Kind.{Kind}
+use Rattle.dagcbor_decode.specs.Blocks.{IsBlock}
+use Rattle.dagcbor_decode.specs.TreeKinds.{kind_of, IsKindAt}
+use Rattle.dagcbor_decode.specs.declared.kind.Kind.{Kind}
 use Rattle.dagcbor_items.proofs.SliceReads.{whole_front}
 use Rattle.dagcbor_paths.specs.Paths.{segments, At}
 use Rattle.dagcbor_paths.specs.Parts.{BeginsWithTree, EndsWith, FindsPart}

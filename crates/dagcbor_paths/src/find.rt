@@ -3,7 +3,8 @@
 ghost use Rattle.std.specs.Prelude.{◌≡◌, ◌≢◌, map, Some, IfOk, IfErr, IfSome};
 ghost use Rattle.dagcbor_heads.specs.declared.error.DecodeError.TheVariants.{OutOfMemory};
 ghost use Rattle.ipld_tree.specs.Tree.{Tree};
-ghost use Rattle.dagcbor_items.specs.Slices.{IsBlock, SliceRefused};
+ghost use Rattle.dagcbor_decode.specs.Blocks.{IsBlock};
+ghost use Rattle.dagcbor_decode.specs.Verdicts.{IsRefusedFor};
 ghost use Rattle.dagcbor_paths.specs.Paths.{segments};
 ghost use Rattle.dagcbor_paths.specs.Parts.{EndsWith};
 ghost use Rattle.dagcbor_paths.specs.Finding.{FindsAlong, FollowsPath, TellsItem, TellsLink, AnswersEnd};
@@ -11,8 +12,9 @@ ghost use Rattle.dagcbor_paths.specs.Finding.{FindsItemIn, IsFoundIn, StopsInBlo
 
 use crate::parts::part_at;
 use crate::segments::next_segment;
+use dagcbor_decode::{Kind, check_slice, kind_at};
 use dagcbor_heads::{DecodeError, SliceReader};
-use dagcbor_items::{Kind, behind_item, check_slice, kind_at, pull_link};
+use dagcbor_items::{behind_item, pull_link};
 use ipld_tree::Cid;
 use std::convert::Infallible;
 
@@ -134,8 +136,7 @@ pub fn find_in_block<'b, 'p>(
     path: &'p str,
 ) -> Result<Found<'b, 'p>, DecodeError<Infallible>>
     ensures found { IfOk result (IsFoundIn block.now (segments path.now)) }
-    ensures refused { IfErr result (λ e. SliceRefused e block.now) }
-    ensures memory { IfErr result (λ e. e ≢ OutOfMemory) }
+    ensures refused { IfErr result (λ e. IsRefusedFor block.now e) }
 {
     check_slice(block)?;
     Ok(find_judged(block, path))
@@ -155,8 +156,7 @@ pub fn find_slice<'b>(
     path: &str,
 ) -> Result<Option<Item<'b>>, DecodeError<Infallible>>
     ensures found { IfOk result (FindsItemIn block.now (segments path.now)) }
-    ensures refused { IfErr result (λ e. SliceRefused e block.now) }
-    ensures memory { IfErr result (λ e. e ≢ OutOfMemory) }
+    ensures refused { IfErr result (λ e. IsRefusedFor block.now e) }
 {
     check_slice(block)?;
     let (at, left) = follow(block, path);
@@ -181,8 +181,7 @@ pub fn find_segments<'b>(
     segments: &[&str],
 ) -> Result<Option<Item<'b>>, DecodeError<Infallible>>
     ensures found { IfOk result (FindsItemIn block.now (map (λ s. s.now) segments.now)) }
-    ensures refused { IfErr result (λ e. SliceRefused e block.now) }
-    ensures memory { IfErr result (λ e. e ≢ OutOfMemory) }
+    ensures refused { IfErr result (λ e. IsRefusedFor block.now e) }
 {
     check_slice(block)?;
     match part_along(block, segments) {
@@ -198,8 +197,7 @@ pub fn follow_slice<'b, 'p>(
     path: &'p str,
 ) -> Result<Stop<'b, 'p>, DecodeError<Infallible>>
     ensures stops { IfOk result (StopsInBlock block.now path.now) }
-    ensures refused { IfErr result (λ e. SliceRefused e block.now) }
-    ensures memory { IfErr result (λ e. e ≢ OutOfMemory) }
+    ensures refused { IfErr result (λ e. IsRefusedFor block.now e) }
 {
     check_slice(block)?;
     let (at, left) = follow(block, path);

@@ -3,8 +3,8 @@ use Rattle.std.proofs.Common.{ℕ, subst}
 use Rattle.dagcbor_heads.specs.Reading.{Reading}
 use Rattle.dagcbor_heads.specs.Fronts.{ShowsByte}
 use Rattle.ipld_tree.specs.Spelling.{IsFront}
-use Rattle.dagcbor_items.specs.TreeKinds.{IsKindAt}
-use Rattle.dagcbor_items.specs.declared.kind.Kind.{Kind}
+use Rattle.dagcbor_decode.specs.TreeKinds.{IsKindAt}
+use Rattle.dagcbor_decode.specs.declared.kind.Kind.{Kind}
 use Rattle.dagcbor_read.specs.Kinds.{ShowsKind}
 
 -- the byte that is shown tells the kind of each item that stands there

@@ -6,8 +6,8 @@ use Rattle.dagcbor_heads.specs.Causes.{ByteCause, IsEndNamed}
 use Rattle.dagcbor_heads.specs.Refusals.{RefusesPlainly}
 use Rattle.dagcbor_heads.specs.declared.error.DecodeError.{DecodeError}
 use Rattle.dagcbor_heads.specs.declared.error.DecodeError.TheVariants.{Failed}
-use Rattle.dagcbor_items.specs.TreeKinds.{IsKindOfFront}
-use Rattle.dagcbor_items.specs.declared.kind.Kind.{Kind}
+use Rattle.dagcbor_decode.specs.TreeKinds.{IsKindOfFront}
+use Rattle.dagcbor_decode.specs.declared.kind.Kind.{Kind}
 
 -- an item that stands at the front is of this kind, and stays there
 pub record ShowsKind (old : Reading) (kind : Kind) (new : Reading) : Type 0 where

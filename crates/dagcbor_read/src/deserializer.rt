@@ -34,12 +34,13 @@ use crate::access::accessor::{Accessor, copied};
 use crate::access::enum_accessor::{EnumAccessor, spend_form};
 use crate::deserialize::Deserialize;
 use crate::stream::StreamDeserializer;
+use dagcbor_decode::{Kind, kind_at};
 use dagcbor_heads::{
     DecodeError, Input, Name, Read, ReadResult, SliceReader, is_at_end, peek_one, pull_one,
     spend_step,
 };
 use dagcbor_items::{
-    Kind, gather_links, kind_at, pull_bool, pull_char, pull_i128, pull_link, pull_major, pull_null,
+    gather_links, pull_bool, pull_char, pull_i128, pull_link, pull_major, pull_null,
     pull_owned_bytes, pull_owned_text, pull_signed, pull_slice, pull_str, pull_u128, pull_unsigned,
     read_any, read_key, skip_any, take_link, take_one_of,
 };

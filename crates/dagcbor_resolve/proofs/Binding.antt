@@ -4,7 +4,7 @@ use Rattle.ipld_tree.specs.Cid.{CidParts, cid_bytes}
 use Rattle.ipld_tree.specs.Tree.{Tree, link}
 use Rattle.ipld_tree.proofs.Cids.{cid_unique}
 use Rattle.ipld_tree.proofs.Fronts.{front_unique}
-use Rattle.dagcbor_items.specs.Slices.{IsBlock}
+use Rattle.dagcbor_decode.specs.Blocks.{IsBlock}
 use Rattle.dagcbor_items.proofs.SliceReads.{whole_front}
 use Rattle.dagcbor_paths.specs.Paths.{IsPart, At}
 use Rattle.dagcbor_paths.specs.Finding.{LeadsInto, HasNoPart}

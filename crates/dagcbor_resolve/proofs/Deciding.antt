@@ -3,7 +3,7 @@ use Rattle.std.proofs.Common.{◌≡◌, ◌↔◌, inl, inr, arith, ℕ, zero, 
 use Rattle.ipld_tree.specs.Cid.{CidParts, cid_bytes}
 use Rattle.ipld_tree.specs.Tree.{Tree, link}
 use Rattle.ipld_tree.proofs.Cids.{cid_unique}
-use Rattle.dagcbor_items.specs.Slices.{IsBlock}
+use Rattle.dagcbor_decode.specs.Blocks.{IsBlock}
 use Rattle.dagcbor_paths.specs.Paths.{segments}
 use Rattle.dagcbor_paths.specs.Finding.{LeadsInto}
 use Rattle.dagcbor_paths.proofs.Ends.{no_part_of_link}
@@ -11,7 +11,7 @@ use Rattle.ipld_links.specs.Reaching.{Stored, AreBytesOf}
 use Rattle.ipld_links.specs.Verdicts.{IsVerified, IsVerdict}
 use Rattle.ipld_links.specs.declared.verdict.Verdict.{Verdict}
 use Rattle.ipld_links.specs.declared.verdict.Verdict.TheVariants.{Block, Refused, Node, NoNode, OtherBytes, NotRead, LinksNotRead, Unverified}
-use Rattle.ipld_links.proofs.Sounding.{no_block}
+use Rattle.dagcbor_decode.proofs.Laws.{refused_no_block}
 use Rattle.dagcbor_resolve.specs.Resolving.{AreNamed, LeadsOn, IsNoBlock, EndsAs, ResolvesIn, IsEndlessAfter, GoesOver}
 use Rattle.dagcbor_resolve.specs.Laws.{LeadsInBlock, Leads, AgreeOn, WaysDecideEnds, WaysDecideItems}
 use Rattle.dagcbor_resolve.specs.declared.resolution.End.{End}
@@ -39,7 +39,7 @@ led_no_further s name next path left found x h k g =
 no_block_goes_on : (s : Stored) (name next : CidParts) (path left : List (List ℕ)) (v : Verdict) (b : List ℕ) → AreBytesOf s name b → IsVerdict (name, b) v → IsNoBlock v → LeadsOn s name path next left → ⊥
 no_block_goes_on s name next path left (Block kind) b h v none g = none
 no_block_goes_on s name next path left (Refused e) b h v none g =
-    no_block e b v.1.1 v.1.2 g.1.1 (subst (λ z. IsBlock z g.1.1) (bytes_unique s name g.1.0 b g.1.2.0 h) g.1.3.block)
+    refused_no_block b e g.1.1 v.1.1 (subst (λ z. IsBlock z g.1.1) (bytes_unique s name g.1.0 b g.1.2.0 h) g.1.3.block)
 no_block_goes_on s name next path left OtherBytes b h v none g = v.1 (subst (λ z. IsVerified (name, z)) (bytes_unique s name g.1.0 b g.1.2.0 h) g.1.2.1)
 no_block_goes_on s name next path left NotRead b h v none g = absurd (omega (arith, v.1, g.1.2.2))
 no_block_goes_on s name next path left LinksNotRead b h v none g = v.1.1 (inl g.1.2.2)

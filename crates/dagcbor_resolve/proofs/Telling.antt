@@ -5,8 +5,8 @@ use Rattle.std.proofs.lemmas.List.{take-append-drop}
 use Rattle.ipld_tree.specs.Cid.{CidParts}
 use Rattle.ipld_tree.specs.Tree.{Tree}
 use Rattle.ipld_tree.proofs.Unique.{split_at_length}
-use Rattle.dagcbor_items.specs.Slices.{IsBlock}
-use Rattle.dagcbor_items.specs.declared.kind.Kind.{Kind}
+use Rattle.dagcbor_decode.specs.Blocks.{IsBlock}
+use Rattle.dagcbor_decode.specs.declared.kind.Kind.{Kind}
 use Rattle.dagcbor_paths.specs.Paths.{segments}
 use Rattle.dagcbor_paths.specs.Finding.{StandAt}
 use Rattle.ipld_links.specs.Reaching.{Stored, AreBytesOf}

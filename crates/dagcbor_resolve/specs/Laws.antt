@@ -2,7 +2,7 @@
 use Rattle.std.specs.Prelude.{◌≡◌, ◌≢◌, ◌⊎◌, ◌↔◌, ℕ, zero, suc, List, Option, None, Some, MatchOption, ⊤}
 use Rattle.ipld_tree.specs.Cid.{CidParts}
 use Rattle.ipld_tree.specs.Tree.{Tree, link}
-use Rattle.dagcbor_items.specs.Slices.{IsBlock}
+use Rattle.dagcbor_decode.specs.Blocks.{IsBlock}
 use Rattle.dagcbor_paths.specs.Paths.{At}
 use Rattle.dagcbor_paths.specs.Finding.{LeadsInto, HasNoPart}
 use Rattle.ipld_links.specs.Collisions.{Collides}

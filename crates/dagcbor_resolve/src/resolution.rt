@@ -4,12 +4,12 @@ ghost use Rattle.std.specs.Prelude.{◌≡◌, List, ℕ, option_map};
 ghost use Rattle.ipld_tree.specs.Cid.{CidParts};
 ghost use Rattle.dagcbor_paths.specs.Paths.{segments};
 ghost use Rattle.ipld_tree.specs.Tree.{Tree};
-ghost use Rattle.dagcbor_items.specs.Slices.{IsBlock};
+ghost use Rattle.dagcbor_decode.specs.Blocks.{IsBlock};
 ghost use Rattle.ipld_links.specs.Reaching.{Stored, AreBytesOf, stored_in};
 ghost use Rattle.dagcbor_resolve.specs.Laws.{GivesItem};
 ghost use Rattle.dagcbor_resolve.specs.Resolving.{AreNamed, IsStep, FindsBytes, Resolves};
 
-use dagcbor_items::Kind;
+use dagcbor_decode::Kind;
 use dagcbor_paths::{Found, Item, find_judged};
 use ipld_links::{IDENTITY, Verdict, stored_bytes, verify};
 use ipld_tree::Cid;

@@ -12,12 +12,12 @@ use Rattle.ipld_tree.specs.Tree.{Tree, null}
 use Rattle.ipld_tree.specs.Spelling.{IsFront}
 use Rattle.ipld_tree.proofs.Unique.{major}
 use Rattle.ipld_tree.proofs.Fronts.{front_first}
-use Rattle.dagcbor_items.specs.declared.kind.Kind.TheVariants as kinds
+use Rattle.dagcbor_decode.specs.declared.kind.Kind.TheVariants as kinds
 use Rattle.dagcbor_schema.specs.Kinds.{KindShapes, view_by_kind, need_by_kind, by_kind}
 use Rattle.dagcbor_schema.specs.declared.by_kind.ByKind.{ByKind}
 use Rattle.dagcbor_schema.specs.declared.by_kind.ByKind.TheVariants as told
-use Rattle.dagcbor_items.specs.TreeKinds.{kind_of}
-use Rattle.dagcbor_items.specs.declared.kind.Kind.{Kind}
+use Rattle.dagcbor_decode.specs.TreeKinds.{kind_of}
+use Rattle.dagcbor_decode.specs.declared.kind.Kind.{Kind}
 use Rattle.dagcbor_items.specs.Shapes.{Shape}
 use Rattle.dagcbor_items.specs.TypedReads.{RefusesRead, HasFront, TakesFront, Anything}
 use Rattle.dagcbor_read.specs.Deserializers.{DeState, Call}

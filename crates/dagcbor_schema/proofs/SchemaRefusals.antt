@@ -8,7 +8,7 @@ use Rattle.ipld_tree.specs.Spelling.{spelling}
 use Rattle.dagcbor_items.specs.AnsweredVariants.{OfText}
 use Rattle.dagcbor_items.specs.LeafReads.{ReadsStr}
 use Rattle.dagcbor_items.specs.Untyped.{TakesItem}
-use Rattle.dagcbor_items.specs.declared.kind.Kind.{Kind}
+use Rattle.dagcbor_decode.specs.declared.kind.Kind.{Kind}
 use Rattle.dagcbor_read.specs.Accessors.{AccessorState, EndsItems, LeavesUnread, with_key, with_value}
 use Rattle.dagcbor_read.specs.Deserializers.{DeState, Call}
 use Rattle.dagcbor_read.specs.EnumViews.{EnumShape, part_of}

@@ -8,8 +8,8 @@ use Rattle.dagcbor_heads.specs.declared.error.DecodeError.{DecodeError}
 use Rattle.dagcbor_items.specs.AnsweredVariants.{OfText, OfKey}
 use Rattle.dagcbor_items.specs.LeafReads.{ReadsStr}
 use Rattle.dagcbor_items.specs.Majors.{LacksForString}
-use Rattle.dagcbor_items.specs.declared.kind.Kind.{Kind}
-use Rattle.dagcbor_items.specs.declared.kind.Kind.TheVariants as kinds
+use Rattle.dagcbor_decode.specs.declared.kind.Kind.{Kind}
+use Rattle.dagcbor_decode.specs.declared.kind.Kind.TheVariants as kinds
 use Rattle.dagcbor_read.specs.Accessors.{AccessorState, BeginsItems, ReadsNextKey}
 use Rattle.dagcbor_read.specs.Deserializers.{DeState, Call}
 use Rattle.dagcbor_read.specs.Kinds.{PeeksKind, OfPeek}

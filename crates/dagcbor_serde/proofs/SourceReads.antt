@@ -9,7 +9,7 @@ use Rattle.ipld_tree.specs.Tree.{Tree, any_need}
 use Rattle.ipld_tree.specs.Spelling.{IsFront}
 use Rattle.dagcbor_items.specs.AnsweredVariants.{OfItem}
 use Rattle.dagcbor_items.specs.ItemCauses.{CauseInside}
-use Rattle.dagcbor_items.specs.Slices.{IsBlock}
+use Rattle.dagcbor_decode.specs.Blocks.{IsBlock}
 use Rattle.dagcbor_items.specs.Untyped.{HasItem, TakesItem}
 use Rattle.dagcbor_items.proofs.Places.{at_steps}
 use Rattle.dagcbor_items.proofs.SliceReads.{whole_front, trailing}

@@ -5,7 +5,8 @@ use Rattle.serde.specs.Event.{Log}
 use Rattle.ipld_tree.specs.Tree.{Tree}
 use Rattle.ipld_tree.specs.Spelling.{IsSpelling}
 use Rattle.dagcbor_heads.specs.declared.error.DecodeError.TheVariants.{OutOfMemory}
-use Rattle.dagcbor_items.specs.Slices.{IsBlock, SliceRefused}
+use Rattle.dagcbor_decode.specs.Verdicts.{IsRefusedFor}
+use Rattle.dagcbor_decode.specs.Blocks.{IsBlock}
 use Rattle.dagcbor_serde.specs.Building.{events_tree}
 use Rattle.dagcbor_serde.specs.declared.error.Error.{Error}
 use Rattle.dagcbor_serde.specs.declared.error.Error.TheVariants.{NoBlock, Misfit}
@@ -17,7 +18,7 @@ IsBlockOfLog log b = IsSomeAnd log (λ es. IsSomeAnd (events_tree es) (λ t. IsS
 -- the bytes are no block, for this cause; or they are one, and the type does not accept it, as was
 -- found at this place in them
 abbrev pub IsRefused : Error Infallible → List ℕ → Type 0
-IsRefused (NoBlock e) b = SliceRefused e b × (e ≢ OutOfMemory)
+IsRefused (NoBlock e) b = IsRefusedFor b e
 IsRefused (Misfit m at) b = ((t : Tree) × IsBlock b t) × (at ≤ length b)
 
 -- the type does not accept the block, as was found at a place in it

@@ -2,14 +2,14 @@
 
 ghost use Rattle.std.specs.Prelude.{◌≡◌, ◌≤◌, ℕ, List, [], Some, length, IfOk, IfErr, OnOk};
 ghost use Rattle.serde.specs.Event.{Log};
-ghost use Rattle.dagcbor_items.specs.Slices.{IsBlock};
+ghost use Rattle.dagcbor_decode.specs.Blocks.{IsBlock};
 ghost use Rattle.ipld_tree.specs.Tree.{Tree};
 ghost use Rattle.dagcbor_serde.specs.Blocks.{IsBlockOfLog, IsRefused, IsMisfitIn};
 
 use crate::block::Block;
 use crate::error::{Error, Misfit, WriteError};
 use crate::writer::Writer;
-use dagcbor_items::check_slice;
+use dagcbor_decode::check_slice;
 use serde::{Deserialize, DeserializeOwned, Deserializer, Serialize};
 use std::alloc::Global;
 use std::convert::Infallible;

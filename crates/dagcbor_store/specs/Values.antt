@@ -11,7 +11,7 @@ use Rattle.ipld_tree.specs.Cid.{CidParts}
 use Rattle.ipld_tree.specs.Tree.{Tree}
 use Rattle.ipld_tree.specs.Spelling.{spelling}
 use Rattle.dagcbor_items.specs.Shapes.{Shape}
-use Rattle.dagcbor_items.specs.Slices.{IsBlock}
+use Rattle.dagcbor_decode.specs.Blocks.{IsBlock}
 use Rattle.dagcbor_write.specs.Answers.{HasNoSpelling}
 use Rattle.dagcbor_read.specs.Whole.{IsWhole, HoldsNoValue, OfWhole, LacksMemoryIf}
 use Rattle.ipld_links.specs.Names.{block_name}

@@ -10,7 +10,6 @@ use Rattle.ipld_tree.specs.Cid.{CidParts, AreCidParts, cid_bytes, cid_cmp}
 use Rattle.ipld_tree.proofs.Cids.{cid_unique}
 use Rattle.ipld_tree.specs.Tree.{links_of}
 use Rattle.dagcbor_items.specs.Walks.{forms}
-use Rattle.dagcbor_items.specs.Slices.{SliceRefused}
 use Rattle.ipld_links.specs.Sets.{Among}
 use Rattle.dag_pb.specs.Node.{node_links}
 use Rattle.ipld_links.specs.Blocks.{IsBlockOf}
@@ -19,7 +18,8 @@ use Rattle.ipld_links.specs.Verdicts.{IsVerdictOn}
 use Rattle.ipld_links.specs.declared.verdict.Verdict.{Verdict}
 use Rattle.ipld_links.specs.declared.verdict.Verdict.TheVariants as verdicts
 use Rattle.ipld_links.specs.Within.{IsReached}
-use Rattle.ipld_links.proofs.Sounding.{no_block}
+use Rattle.dagcbor_decode.specs.Verdicts.{IsRefusedFor}
+use Rattle.dagcbor_decode.proofs.Laws.{refused_no_block}
 use Rattle.ipld_links.proofs.Within.{reached_cid, not_inline}
 use Rattle.ipld_links.proofs.Members.{among_push, push_among, among_map, map_among}
 use Rattle.dagcbor_store.specs.Rows.{name_tree, IsListed, IsStored}
@@ -63,8 +63,8 @@ lists_there old mid c same h = subst (λ (t : Trees). IsListed (t name_tree) (ci
 holds_there : (old mid : View) (c : CidParts) (b : List ℕ) → IsSame old mid → HoldsOnly old c b → HoldsOnly mid c b
 holds_there old mid c b same h = subst (λ (t : Trees). IsStored t (cid_bytes c) b × ((d : List ℕ) → IsStored t (cid_bytes c) d → d ≡ b)) (sym same.trees) h
 
-no_item_of : (codec : ℕ) (b : List ℕ) (e : DecodeError Infallible) → codec ≡ 0x71 → SliceRefused e b → (e ≡ unread.OutOfMemory → ⊥) → IsBlockOf codec b → ⊥
-no_item_of codec b e is refused not h = let k = item_of codec b h is in no_block e b refused not k.0 k.1
+no_item_of : (codec : ℕ) (b : List ℕ) (e : DecodeError Infallible) → codec ≡ 0x71 → IsRefusedFor b e → IsBlockOf codec b → ⊥
+no_item_of codec b e is refused h = let k = item_of codec b h is in refused_no_block b e k.0 refused k.1
 
 no_raw : (codec : ℕ) (b : List ℕ) → codec ≡ 0x55 → IsBlockOf codec b → ⊥
 no_raw codec b is (links, inl h) = absurd (omega (arith, is, h.0))
@@ -83,7 +83,7 @@ linked_by codec b verdicts.Unverified h t = absurd h
 pub unlinked_by : (codec : ℕ) (b : List ℕ) (v : Verdict) → IsVerdictOn codec b v → is_linked v ≡ false → IsBlockOf codec b → ⊥
 unlinked_by codec b (verdicts.Block kind) h f k = absurd (cc f)
 unlinked_by codec b verdicts.Node h f k = absurd (cc f)
-unlinked_by codec b (verdicts.Refused e) h f k = no_item_of codec b e h.0 h.1 h.2 k
+unlinked_by codec b (verdicts.Refused e) h f k = no_item_of codec b e h.0 h.1 k
 unlinked_by codec b (verdicts.NoNode e) h f k = h.1.0 (node_of codec b k h.0)
 unlinked_by codec b verdicts.NotRead h f k = no_raw codec b h k
 unlinked_by codec b verdicts.LinksNotRead h f k = h.1 (linked_read codec b k.0 k.1)

@@ -3,7 +3,7 @@ use Rattle.std.specs.Prelude.{◌≡◌, ℕ, List, [], ◌∷◌, ◌++◌, cod
 use Rattle.sqlite_trees.specs.declared.error.StoreError.{StoreError}
 use Rattle.sqlite_trees.specs.declared.error.StoreError.TheVariants as disk
 use Rattle.dagcbor_heads.specs.Written.{AppendsFront}
-use Rattle.dagcbor_items.specs.PrintedNames.{variant_name}
+use Rattle.dagcbor_decode.specs.PrintedNames.{variant_name}
 use Rattle.ipld_links.specs.declared.sound.Unsound.{Unsound}
 use Rattle.ipld_links.specs.declared.sound.Unsound.TheVariants as unsound
 use Rattle.dagcbor_cli.specs.declared.fault.ToolError.{ToolError}

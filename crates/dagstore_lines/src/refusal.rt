@@ -10,7 +10,7 @@ use crate::fault::Fault;
 use block_lines::{pb_cause_name, verdict_words};
 use cid_text::cid_text;
 use dagcbor_cli::{ToolError, write_all};
-use dagcbor_items::variant_name;
+use dagcbor_decode::variant_name;
 use dagcbor_store::{StoreRefusal, Unsound};
 use ipld_tree::Cid;
 use itoa::Buffer;

@@ -2,7 +2,7 @@
 use Rattle.std.proofs.Common.{◌≡◌, inl, inr, ℕ, List, refl, arith}
 use Rattle.std.specs.declared.convert.Infallible.{Infallible}
 use Rattle.dagcbor_heads.specs.declared.error.DecodeError.{DecodeError}
-use Rattle.dagcbor_items.specs.declared.kind.Kind.{Kind}
+use Rattle.dagcbor_decode.specs.declared.kind.Kind.{Kind}
 use Rattle.ipld_tree.specs.Tree.{links_of}
 use Rattle.dag_pb.specs.Node.{HasNode, node_links}
 use Rattle.dag_pb.specs.declared.error.PbError.{PbError}
@@ -12,7 +12,7 @@ use Rattle.ipld_links.specs.Names.{IsBySha256}
 use Rattle.ipld_links.specs.Sound.{IsSound}
 use Rattle.ipld_links.specs.Verdicts.{IsVerdict}
 use Rattle.ipld_links.specs.declared.verdict.Verdict.TheVariants.{Block, Refused, Node, NoNode, NotRead, LinksNotRead}
-use Rattle.ipld_links.proofs.Sounding.{no_block}
+use Rattle.dagcbor_decode.proofs.Laws.{refused_no_block}
 
 pub item_linked : (s : NamedBlock) (kind : Kind) → IsVerdict s (Block kind) → IsBlockOf s.0.codec s.1
 item_linked s kind h = (links_of h.1.1.0, inl (h.1.0, (h.1.1.0, h.1.1.1, refl)))
@@ -25,7 +25,7 @@ abbrev pub IsUnlinked : NamedBlock → Type 0
 IsUnlinked s = (links : List (List ℕ)) → HasLinks s.0.codec s.1 links → ⊥
 
 pub refused_unlinked : (s : NamedBlock) (e : DecodeError Infallible) → IsVerdict s (Refused e) → IsUnlinked s
-refused_unlinked s e h links (inl (c, (t, b, f))) = no_block e s.1 h.1.1 h.1.2 t b
+refused_unlinked s e h links (inl (c, (t, b, f))) = refused_no_block s.1 e t h.1.1 b
 refused_unlinked s e h links (inr (c, k)) = absurd (omega (arith, h.1.0, c))
 
 pub no_node_unlinked : (s : NamedBlock) (e : PbError) → IsVerdict s (NoNode e) → IsUnlinked s

@@ -13,7 +13,7 @@ use Rattle.ipld_tree.specs.Tree.{Tree}
 use Rattle.ipld_tree.specs.Spelling.{IsFront}
 use Rattle.ipld_tree.proofs.Fronts.{front_unique}
 use Rattle.dagcbor_items.specs.Walks.{forms}
-use Rattle.dagcbor_items.specs.Slices.{IsBlock}
+use Rattle.dagcbor_decode.specs.Blocks.{IsBlock}
 use Rattle.dagcbor_items.proofs.SliceReads.{whole_front}
 use Rattle.ipld_links.specs.Blocks.{HasBlock}
 use Rattle.ipld_links.specs.Sets.{Among, members, AddsCid, RemovesCid}

@@ -4,10 +4,10 @@ use Rattle.std.specs.declared.convert.Infallible.{Infallible}
 use Rattle.sha2.specs.Sha256.{sha256}
 use Rattle.sha2.proofs.Facts256.{length-sha256}
 use Rattle.dagcbor_heads.specs.declared.error.DecodeError.{DecodeError}
-use Rattle.dagcbor_heads.specs.declared.error.DecodeError.TheVariants as unread
 use Rattle.ipld_tree.specs.Tree.{Tree}
-use Rattle.dagcbor_items.specs.Slices.{IsBlock, SliceRefused}
-use Rattle.dagcbor_items.specs.Stops.{StandsAt}
+use Rattle.dagcbor_decode.specs.Blocks.{IsBlock}
+use Rattle.dagcbor_decode.specs.Verdicts.{IsRefusedAt}
+use Rattle.dagcbor_decode.proofs.Laws.{refused_no_block, refused_for}
 use Rattle.dag_pb.specs.declared.error.PbError.{PbError}
 use Rattle.ipld_links.specs.Names.{IsBySha256, block_name}
 use Rattle.ipld_links.specs.Blocks.{NamedBlock}
@@ -43,8 +43,8 @@ unsound_node s e by h = let v = by_sha256 s by h.0 in (v.0, v.1, h.1.0, h.1.1)
 pub sound_after : (s : NamedBlock) (e : DecodeError Infallible) (t : Tree) → s.0.hash_code ≡ 0x12 → IsVerdict s (Refused e) → IsBlock s.1 t → IsSound s
 sound_after s e t by h b = let v = by_sha256 s by h.0 in record { by_sha256 = v.0; digest = v.1; read = λ dag. (t, b); node = λ pb. absurd (omega (arith, pb, h.1.0)) }
 
-pub unsound_refused : (s : NamedBlock) (said e : DecodeError Infallible) (place : ℕ) → s.0.hash_code ≡ 0x12 → IsVerdict s (Refused said) → SliceRefused e s.1 → (e ≡ unread.OutOfMemory → ⊥) → StandsAt e s.1 place → IsUnsound s (unsound.NoBlock e place)
-unsound_refused s said e place by h r n k = let v = by_sha256 s by h.0 in (v.0, v.1, h.1.0, r, n, k)
+pub unsound_refused : (s : NamedBlock) (said e : DecodeError Infallible) (place : ℕ) → s.0.hash_code ≡ 0x12 → IsVerdict s (Refused said) → IsRefusedAt s.1 e place → IsUnsound s (unsound.NoBlock e place)
+unsound_refused s said e place by h r = let v = by_sha256 s by h.0 in (v.0, v.1, h.1.0, r)
 
 pub unsound_bytes : (s : NamedBlock) → s.0.hash_code ≡ 0x12 → IsVerdict s OtherBytes → IsUnsound s unsound.OtherBytes
 unsound_bytes s by (inl h, not) = (h, λ e. not (inl (h, e)))
@@ -52,19 +52,11 @@ unsound_bytes s by (inr h, not) = absurd (omega (arith, by, h))
 
 -- ---- what holds of both
 
--- what is refused without want of memory is no block
-pub no_block : (e : DecodeError Infallible) (b : List ℕ) → SliceRefused e b → (e ≡ unread.OutOfMemory → ⊥) → (t : Tree) → IsBlock b t → ⊥
-no_block (unread.Read e) b r n t h = r
-no_block unread.OutOfMemory b r n t h = n refl
-no_block (unread.RequireBorrowed name) b r n t h = r
-no_block unread.Failed b r n t h = r
-no_block e b r n t h = r.0 t h
-
 -- a sound block is not refused
 pub never_unsound : (s : NamedBlock) (e : Unsound) → IsSound s → IsUnsound s e → ⊥
 never_unsound s unsound.OtherHash h r = r h.by_sha256
 never_unsound s unsound.OtherBytes h r = r.1 h.digest
-never_unsound s (unsound.NoBlock e place) h r = let block = h.read r.2 in no_block e s.1 r.3 r.4 block.0 block.1
+never_unsound s (unsound.NoBlock e place) h r = let block = h.read r.2 in refused_no_block s.1 e block.0 (refused_for s.1 e place r.3) block.1
 never_unsound s (unsound.NoNode e) h r = r.3.0 (h.node r.2)
 
 -- a block of DAG-CBOR is sound under its own name

@@ -2,7 +2,7 @@
 use Rattle.std.specs.Prelude.{◌≡◌, ◌⊎◌, ℕ, List}
 use Rattle.ipld_tree.specs.Cid.{CidParts}
 use Rattle.ipld_tree.specs.Tree.{Tree, links_of}
-use Rattle.dagcbor_items.specs.Slices.{IsBlock}
+use Rattle.dagcbor_decode.specs.Blocks.{IsBlock}
 use Rattle.dag_pb.specs.Node.{NodeParts, IsNode, node_links}
 
 -- a name, and the bytes under it, which need not be those that it names

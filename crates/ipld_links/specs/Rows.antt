@@ -1,19 +1,9 @@
 -- The links of items in a row.
 use Rattle.std.specs.Prelude.{◌≡◌, ◌⊎◌, ℕ, List, [], map}
-use Rattle.std.specs.List.{AllByRecursion, flat_map}
 use Rattle.ipld_tree.specs.Cid.{cid_bytes}
-use Rattle.ipld_tree.specs.Tree.{Tree, IsTree, links_of}
-use Rattle.ipld_tree.specs.Spelling.{IsSpellable, spelling}
+use Rattle.dagcbor_decode.specs.Rows.{HoldsLinks}
 use Rattle.dag_pb.specs.Node.{Field, BeginsWithFields}
 use Rattle.dag_pb.specs.Reads.{links_in}
-
--- the bytes are the spellings of items in a row, and these are the binary forms of their links, in
--- their order
-pub record HoldsLinks (b : List ℕ) (links : List (List ℕ)) : Type 0 where
-  pub trees : List Tree
-  pub whole : AllByRecursion (λ t. IsTree t × IsSpellable t) trees
-  pub is : b ≡ flat_map spelling trees
-  pub are : links ≡ flat_map links_of trees
 
 -- the bytes are fields of a node in a row, and these are the binary forms that their links have
 pub record HoldsFieldLinks (b : List ℕ) (links : List (List ℕ)) : Type 0 where

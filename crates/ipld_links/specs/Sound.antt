@@ -1,9 +1,7 @@
 -- Which blocks a store keeps under their names.
 use Rattle.std.specs.Prelude.{◌≡◌, ◌≢◌}
 use Rattle.sha2.specs.Sha256.{sha256}
-use Rattle.dagcbor_heads.specs.declared.error.DecodeError.TheVariants as unread
-use Rattle.dagcbor_items.specs.Slices.{SliceRefused}
-use Rattle.dagcbor_items.specs.Stops.{StandsAt}
+use Rattle.dagcbor_decode.specs.Verdicts.{IsRefusedAt}
 use Rattle.dag_pb.specs.Node.{HasNode}
 use Rattle.dag_pb.specs.Causes.{IsNoNode}
 use Rattle.ipld_links.specs.Names.{IsBySha256}
@@ -26,5 +24,5 @@ abbrev pub IsUnsound : NamedBlock → Unsound → Type 0
 IsUnsound s OtherHash = ¬ IsBySha256 s.0
 IsUnsound s OtherBytes = IsBySha256 s.0 × (s.0.digest ≢ sha256 s.1)
 IsUnsound s (NoBlock e place) = IsBySha256 s.0 × (s.0.digest ≡ sha256 s.1) × IsDagCbor s.0
-    × SliceRefused e s.1 × (e ≢ unread.OutOfMemory) × StandsAt e s.1 place
+    × IsRefusedAt s.1 e place
 IsUnsound s (NoNode e) = IsBySha256 s.0 × (s.0.digest ≡ sha256 s.1) × IsDagPb s.0 × IsNoNode s.1 e

@@ -1,11 +1,11 @@
 -- What is said of a block under a name.
 use Rattle.std.specs.Prelude.{◌≡◌, ◌≢◌, ◌⊎◌, ℕ, List}
 use Rattle.sha2.specs.Sha256.{sha256}
-use Rattle.dagcbor_heads.specs.declared.error.DecodeError.TheVariants as unread
 use Rattle.ipld_tree.specs.Cid.{CidParts}
 use Rattle.ipld_tree.specs.Tree.{Tree}
-use Rattle.dagcbor_items.specs.Slices.{IsBlock, SliceRefused}
-use Rattle.dagcbor_items.specs.TreeKinds.{kind_of}
+use Rattle.dagcbor_decode.specs.Verdicts.{IsRefusedFor}
+use Rattle.dagcbor_decode.specs.Blocks.{IsBlock}
+use Rattle.dagcbor_decode.specs.TreeKinds.{kind_of}
 use Rattle.dag_pb.specs.Node.{HasNode}
 use Rattle.dag_pb.specs.Causes.{IsNoNode}
 use Rattle.ipld_links.specs.Names.{IsBySha256, IsInline}
@@ -32,7 +32,7 @@ IsDagPb c = c.codec ≡ 0x70
 -- what a verdict says of bytes as a block of the codec (multicodec table)
 abbrev pub IsVerdictOn : ℕ → List ℕ → Verdict → Type 0
 IsVerdictOn codec b (Block kind) = (codec ≡ 0x71) × ((t : Tree) × IsBlock b t × (kind ≡ kind_of t))
-IsVerdictOn codec b (Refused e) = (codec ≡ 0x71) × SliceRefused e b × (e ≢ unread.OutOfMemory)
+IsVerdictOn codec b (Refused e) = (codec ≡ 0x71) × IsRefusedFor b e
 IsVerdictOn codec b Node = (codec ≡ 0x70) × HasNode b
 IsVerdictOn codec b (NoNode e) = (codec ≡ 0x70) × IsNoNode b e
 IsVerdictOn codec b NotRead = codec ≡ 0x55

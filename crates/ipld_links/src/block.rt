@@ -6,7 +6,7 @@ ghost use Rattle.ipld_links.specs.Blocks.{HasBlock, IsBlockOf, IsReadCodec};
 
 use crate::name::{DAG_CBOR, DAG_PB};
 use dag_pb::check_node;
-use dagcbor_items::check_slice;
+use dagcbor_decode::check_slice;
 
 /// Whether the bytes are a block of DAG-CBOR.
 pub fn is_item(bytes: &[u8]) -> bool

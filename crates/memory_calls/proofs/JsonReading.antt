@@ -3,7 +3,7 @@ use Rattle.std.proofs.Common.{◌≡◌, inl, inr, ℕ, ◌≤◌, Bool, true, f
 use Rattle.dagcbor_heads.specs.Reading.{default_steps}
 use Rattle.ipld_tree.specs.Tree.{Tree, any_need}
 use Rattle.ipld_tree.specs.Spelling.{IsSpelling}
-use Rattle.dagcbor_items.specs.Slices.{IsBlock}
+use Rattle.dagcbor_decode.specs.Blocks.{IsBlock}
 use Rattle.dag_json.specs.Reading.{Read, within_steps, ReadsWhole, ReadsJson}
 use Rattle.dag_json.specs.declared.error.DagJsonError.{DagJsonError}
 use Rattle.dag_json.specs.declared.error.DagJsonError.TheVariants.{TooDeep}

@@ -5,8 +5,9 @@ use Rattle.std.specs.declared.convert.Infallible.{Infallible}
 use Rattle.dagcbor_heads.specs.declared.error.DecodeError.{DecodeError}
 use Rattle.dagcbor_heads.specs.declared.error.DecodeError.TheVariants.{OutOfMemory}
 use Rattle.ipld_tree.specs.Tree.{Tree}
-use Rattle.dagcbor_items.specs.TreeKinds.{kind_of}
-use Rattle.dagcbor_items.specs.Slices.{IsBlock, SliceRefused}
+use Rattle.dagcbor_decode.specs.Verdicts.{IsRefusedFor}
+use Rattle.dagcbor_decode.specs.TreeKinds.{kind_of}
+use Rattle.dagcbor_decode.specs.Blocks.{IsBlock}
 use Rattle.dag_json.specs.DagJson.{dag_json, has_reserved_key}
 use Rattle.dag_json.specs.Reading.{ReadsJson}
 use Rattle.dag_json.specs.declared.error.DagJsonError.{DagJsonError}
@@ -37,11 +38,11 @@ IsDataAnswer t old new needed code =
     ⊎ (((has_reserved_key t ≡ true) × (code ≡ json_code texts.ReservedKey) × PutsNone old new needed)
     ⊎ WantsMemory old new needed code)
 
--- that of the block; or the number of a refusal whose cause stands, never want of memory
+-- that of the block; or the number of its refusal, never want of memory
 abbrev pub IsToJsonAnswer : List ℕ → List ℕ → List ℕ → ℕ → ℤ → Type 0
 IsToJsonAnswer b old new needed code =
     ((t : Tree) × IsBlock b t × IsDataAnswer t old new needed code)
-    ⊎ ((e : DecodeError Infallible) × SliceRefused e b × (e ≢ OutOfMemory)
+    ⊎ ((e : DecodeError Infallible) × IsRefusedFor b e
     × (code ≡ refusal_code e) × PutsNone old new needed)
 
 -- the block of the data that the text is is put, and the place is the text's end; or it is none, and

@@ -3,7 +3,7 @@
 ghost use Rattle.std.specs.Prelude.{◌≡◌, IfOk};
 ghost use Rattle.ipld_tree.specs.Ipld.{tree_of};
 ghost use Rattle.ipld_tree.specs.Spelling.{IsSpelling};
-ghost use Rattle.dagcbor_items.specs.TreeKinds.{kind_of};
+ghost use Rattle.dagcbor_decode.specs.TreeKinds.{kind_of};
 ghost use Rattle.dagcbor_calls.specs.Codes.{kind_code};
 ghost use Rattle.dagcbor_calls.specs.CidTexts.{IsPutText};
 ghost use Rattle.memory_calls.specs.JsonAnswers.{json_code, IsDataAnswer, IsToJsonAnswer};
@@ -12,7 +12,8 @@ ghost use Rattle.memory_calls.specs.JsonAnswers.{IsFromJsonAnswer};
 use crate::call::NO_MEMORY;
 use dag_json::{DagJsonError, dag_json, data_from_json, has_reserved_key};
 use dagcbor_calls::{kind_code, put_front, refusal_code};
-use dagcbor_items::{Kind, any_from_slice, check_slice};
+use dagcbor_decode::{Kind, check_slice};
+use dagcbor_items::any_from_slice;
 use dagcbor_write::to_vec;
 use ipld_tree::Ipld;
 use std::alloc::{AllocError, Global};

@@ -4,7 +4,7 @@ use Rattle.std.specs.Io.KnownBytes.{Appends}
 use Rattle.std.proofs.KnownBytes.{Appends-nil}
 use Rattle.ipld_tree.specs.Cid.{CidParts}
 use Rattle.ipld_tree.specs.Tree.{Tree}
-use Rattle.dagcbor_items.specs.Slices.{IsBlock}
+use Rattle.dagcbor_decode.specs.Blocks.{IsBlock}
 use Rattle.ipld_links.specs.Reaching.{Stored}
 use Rattle.dagcbor_resolve.specs.Resolving.{Resolves}
 use Rattle.dagcbor_resolve.specs.Laws.{Leads, GivesItem}

@@ -36,8 +36,8 @@ pub use Rattle.dagcbor_items.specs.Links
 pub use Rattle.dagcbor_items.specs.Walks
 pub use Rattle.dagcbor_items.specs.Shapes
 pub use Rattle.dagcbor_items.specs.TypedReads
-pub use Rattle.dagcbor_items.specs.TreeKinds
-pub use Rattle.dagcbor_items.specs.declared.kind.Kind
+pub use Rattle.dagcbor_decode.specs.TreeKinds
+pub use Rattle.dagcbor_decode.specs.declared.kind.Kind
 pub use Rattle.dagcbor_items.specs.Slices
 pub use Rattle.dagcbor_read.specs.Deserializers
 pub use Rattle.dagcbor_read.specs.Values

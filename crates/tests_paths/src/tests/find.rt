@@ -1,6 +1,6 @@
 //! Rows are of a walk over decoded data that was written apart, in Python.
 
-use dagcbor_items::Kind;
+use dagcbor_decode::Kind;
 use dagcbor_paths::find_slice;
 use std::test::Fail;
 use tests_shared::agree;

@@ -1,7 +1,7 @@
 //! Lists of segments, each taken whole. Places are counted by hand in the bytes.
 
 use super::find::Place;
-use dagcbor_items::Kind;
+use dagcbor_decode::Kind;
 use dagcbor_paths::find_segments;
 use std::test::Fail;
 use tests_shared::agree;

@@ -1,7 +1,8 @@
-use Rattle.std.proofs.Common.{rules, w32, ◌≡◌, ◌<◌, ◌≤◌, ◌-◌, ◌^◌, min, inl, length, drop, sym, ap, ◌∙◌, subst, arith}
+use Rattle.std.proofs.Common.{rules, w32, ◌≡◌, ◌≤◌, ◌-◌, ◌^◌, min, length, drop, sym, ap, ◌∙◌, arith}
 use Rattle.std.proofs.lemmas.Int.{to_z-of_z}
-use Rattle.dagcbor_calls.specs.Answers.{IsSpellAnswerOf, IsSpellAnswer}
-use Rattle.dagcbor_calls.specs.Codes.{kind_code}
+use Rattle.dagcbor_decode.proofs.Complete.{block_reads}
+use Rattle.dagcbor_calls.specs.Codes.{kind_code, decoded_code}
+use Rattle.dagcbor_calls.proofs.Decoding.{told_put}
 use Rattle.dagcbor_calls.proofs.JudgedTapes.{block_in_front}
 use Rattle.dagcbor_calls.proofs.spell.spell_tape.Goals as goal
 
@@ -11,11 +12,9 @@ returns-in-Some c =
     let s = k.1.0 in
     let old = c.args.out.now in
     let room : length s ≤ length old = omega (arith, k.0, k.1.2) in
-    let small : length s < 2 ^ 64 - 1 = omega (arith, room) in
+    let count : c.in-Some.count ≡ min (length s) (2 ^ 64 - 1) = omega (arith, k.1.2, room) in
     let filled = c.fill.ensures s k.1.1 room in
     let block = k.1.3 in
-    let code = c.kind_code.result in
-    let kind = c.kind_code.ensures ∙ ap kind_code (c.kind_of_front.ensures block.0 (drop (length s) old) (block_in_front s (drop (length s) old) c.fill.new.out block.0 filled block.1)) in
-    let count : c.in-Some.count ≡ min (length s) (2 ^ 64 - 1) = omega (arith, k.1.2, small) in
-    let told = subst (λ o. IsSpellAnswerOf o old c.fill.new.out c.in-Some.count code) (sym k.1.1) (count, inl ((room, small), filled, inl (block.0, block.1, kind))) in
-    subst (λ z. IsSpellAnswer c.args.bytes.now c.args.tape.now old c.fill.new.out c.in-Some.count z) (sym (to_z-of_z w32 code (search rules))) told
+    let kind = c.kind_of_front.ensures block.0 (drop (length s) old) (block_in_front s (drop (length s) old) c.fill.new.out block.0 filled block.1) in
+    let code = to_z-of_z w32 c.kind_code.result (search rules) ∙ c.kind_code.ensures ∙ ap kind_code kind ∙ sym (ap decoded_code (block_reads s block.0 block.1.0 block.1.1)) in
+    told_put c.args.bytes.now c.args.tape.now s old c.fill.new.out c.in-Some.count _ k.1.1 room count code filled

@@ -1,6 +1,6 @@
 use Rattle.std.proofs.Common.{◌≡◌, inl, inr, length, ap, refl, arith, length-drop}
 use Rattle.ipld_tree.proofs.Fronts.{item_opened}
-use Rattle.dagcbor_items.proofs.Judging.{no_front}
+use Rattle.dagcbor_decode.proofs.Fronts.{no_front}
 use Rattle.dagcbor_calls.proofs.Tapes.{exactly, natural_token, negative_token, bytes_token, text_tokens, list_token, map_token, payload_there, simple_token_is, no_simple_token, tagged_tokens}
 use Rattle.dagcbor_calls.proofs.Standing.{no_head_no_token, no_payload_no_token, no_simple_no_token, natural_stands, negative_stands, bytes_stand, text_stands, list_stands, map_stands, simple_stands, tagged_stands}
 use Rattle.dagcbor_calls.proofs.tape.split_token.Goals as goal

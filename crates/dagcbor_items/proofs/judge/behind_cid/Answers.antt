@@ -1,4 +1,7 @@
-use Rattle.dagcbor_items.proofs.Judging.{no_front, no_cid_of, no_cid_payload, no_zero_byte, no_zero_at_front, no_cid_there, cid_passed}
+use Rattle.std.proofs.Common.{sym, ◌∙◌}
+use Rattle.dagcbor_decode.proofs.CidTest.{cid_tested}
+use Rattle.dagcbor_decode.proofs.Fronts.{no_front, cid_passed}
+use Rattle.dagcbor_items.proofs.Judging.{no_cid_of, no_cid_payload, no_zero_byte, no_zero_at_front, no_cid_there}
 use Rattle.dagcbor_items.proofs.judge.behind_cid.Goals as goal
 
 pub returns-in_err-major : goal.returns-in_err-major
@@ -17,7 +20,7 @@ pub returns-then-zero-ne0 : goal.returns-then-zero-ne0
 returns-then-zero-ne0 c = no_zero_at_front _ _ _ c.in_ok-major.behind.now _ _ _ (rw c.if-major-ne2.false at c.in_ok-major.ensures) c.in_ok-payload.ensures c.in_ok-zero.ensures.cases.0 c.if-zero-ne0.true
 
 pub returns-then-not-is_cid : goal.returns-then-not-is_cid
-returns-then-not-is_cid c = no_cid_there _ _ _ c.in_ok-major.behind.now _ _ _ (rw c.if-major-ne2.false at c.in_ok-major.ensures) c.in_ok-payload.ensures c.in_ok-zero.ensures.cases.0 (λ valid. cc (c.is_cid.ensures.1 valid, c.if-not-is_cid.true))
+returns-then-not-is_cid c = no_cid_there _ _ _ c.in_ok-major.behind.now _ _ _ (rw c.if-major-ne2.false at c.in_ok-major.ensures) c.in_ok-payload.ensures c.in_ok-zero.ensures.cases.0 (λ valid. cc ((cid_tested _).1 valid, c.is_cid.ensures, c.if-not-is_cid.true))
 
 pub returns : goal.returns
-returns c = (_, cid_passed _ _ c.in_ok-major.behind.now _ _ _ (rw c.if-major-ne2.false at c.in_ok-major.ensures) c.in_ok-payload.ensures (rw c.if-zero-ne0.false at c.in_ok-zero.ensures.cases.0) (c.is_cid.ensures.0 c.if-not-is_cid.false))
+returns c = (_, cid_passed _ _ c.in_ok-major.behind.now _ _ _ (rw c.if-major-ne2.false at c.in_ok-major.ensures) c.in_ok-payload.ensures (rw c.if-zero-ne0.false at c.in_ok-zero.ensures.cases.0) ((cid_tested _).0 (sym c.is_cid.ensures ∙ c.if-not-is_cid.false)))

@@ -1,5 +1,6 @@
 use Rattle.std.proofs.Common.{refl, arith}
-use Rattle.dagcbor_items.proofs.Judging.{no_bytes, no_text, natural_passed, negative_passed, bytes_passed, text_passed, link_judged, simple_judged}
+use Rattle.dagcbor_decode.proofs.Fronts.{natural_passed, negative_passed, bytes_passed, text_passed}
+use Rattle.dagcbor_items.proofs.Judging.{no_bytes, no_text, link_judged, simple_judged}
 use Rattle.dagcbor_items.proofs.judge.behind_leaf.Goals as goal
 
 pub returns-in_err-_payload-in-2 : goal.returns-in_err-_payload-in-2

@@ -1,4 +1,5 @@
-use Rattle.dagcbor_items.proofs.Judging.{no_front, no_link_head, link_found}
+use Rattle.dagcbor_decode.proofs.Fronts.{no_front}
+use Rattle.dagcbor_items.proofs.Judging.{no_link_head, link_found}
 use Rattle.dagcbor_items.proofs.judge.behind_link.Goals as goal
 
 pub returns-in_err-major : goal.returns-in_err-major

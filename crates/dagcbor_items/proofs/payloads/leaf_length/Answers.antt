@@ -1,5 +1,5 @@
 use Rattle.std.proofs.Common.{sym, ◌∙◌, arith}
-use Rattle.dagcbor_items.proofs.Judging.{head_opened}
+use Rattle.dagcbor_decode.proofs.Fronts.{head_opened}
 use Rattle.dagcbor_items.proofs.Lent.{front_within}
 use Rattle.dagcbor_items.proofs.Walking.{no_links}
 use Rattle.dagcbor_items.proofs.payloads.leaf_length.Goals as goal

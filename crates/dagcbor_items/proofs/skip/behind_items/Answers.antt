@@ -1,5 +1,6 @@
 use Rattle.std.proofs.Common.{Bor, List, ℕ, length, ◌<◌, ◌^◌, arith, rules}
-use Rattle.dagcbor_items.proofs.Skipping.{none_skipped, no_head_found, no_string_found, too_many_found, one_skipped, all_skipped, token_shorter}
+use Rattle.dagcbor_decode.proofs.Rows.{token_shorter}
+use Rattle.dagcbor_items.proofs.Skipping.{none_skipped, no_head_found, no_string_found, too_many_found, one_skipped, all_skipped}
 use Rattle.dagcbor_items.proofs.skip.behind_items.Goals as goal
 
 pub loop-more-init : goal.loop-more-init

@@ -1,12 +1,12 @@
 use Rattle.std.proofs.Common.{◌∙◌, map, take}
 use Rattle.hex.specs.Hex.{encode_lower}
 use Rattle.ipld_tree.specs.Cid.{cid_bytes}
-use Rattle.dagcbor_lines.specs.Answers.{behind_spaces}
-use Rattle.dagcbor_lines.proofs.LinkLines.{link_behind, links_ended, all_kept, kept_front, kept_before, kept_before_space, no_answer}
+use Rattle.dagcbor_lines.specs.Answers.{after_spaces}
+use Rattle.dagcbor_lines.proofs.LinkLines.{link_after, links_ended, all_kept, kept_front, kept_before, kept_before_space, no_answer}
 use Rattle.dagcbor_lines.proofs.answer.push_links.Goals as goal
 
 pub loop-link-preserved : goal.loop-link-preserved
-loop-link-preserved c = link_behind _ _ c.link-item.result _ _ _ _ c.loop-link-test.true c.link-item.is c.loop-link.invariant c.in_ok-push.ensures.items c.in_ok-push_link-2.ensures.written
+loop-link-preserved c = link_after _ _ c.link-item.result _ _ _ _ c.loop-link-test.true c.link-item.is c.loop-link.invariant c.in_ok-push.ensures.items c.in_ok-push_link-2.ensures.written
 
 pub returns-clause-kept : goal.returns-clause-kept
 returns-clause-kept c = kept_front c.args.out.now.items _ (links_ended c.args.others.now c.loop-link.link-index c.args.out.now.items (encode_lower (cid_bytes c.args.first.now)) _ _ c.loop-link-test.false c.loop-link.invariant c.in_ok-push-2.ensures.items)
@@ -25,6 +25,6 @@ returns-in_err-push_link c = record { kept = all_kept c.args.out.now.items c.in_
 
 pub returns-in_err-push_link-2 : goal.returns-in_err-push_link-2
 returns-in_err-push_link-2 c = record {
-  kept = kept_before_space c.args.out.now.items (encode_lower (cid_bytes c.args.first.now)) (behind_spaces (map cid_bytes (take c.loop-link.link-index c.args.others.now))) c.loop-link.invariant c.in_ok-push.ensures.items c.in_err-push_link-2.ensures.same;
+  kept = kept_before_space c.args.out.now.items (encode_lower (cid_bytes c.args.first.now)) (after_spaces (map cid_bytes (take c.loop-link.link-index c.args.others.now))) c.loop-link.invariant c.in_ok-push.ensures.items c.in_err-push_link-2.ensures.same;
   written = no_answer _ _ c.from_residual-in_err-push_link-2.ensures.0;
 }

@@ -1,6 +1,6 @@
-use Rattle.std.proofs.Common.{rules, arith, ◌≡◌, ◌++◌, ◌∷◌, ◌-◌, ◌+◌, ℕ, List, [], length, take, drop, length-drop, length-take, refl, sym, subst}
+use Rattle.std.proofs.Common.{rules, arith, ◌++◌, ◌∷◌, ◌-◌, ◌+◌, ℕ, List, [], length, take, drop, length-drop, length-take, length-append, refl, sym, subst}
 use Rattle.std.specs.Str.Lines.{strip_carriage_return}
-use Rattle.dagcbor_lines.specs.Answers.{IsAnswer, AppendsAnswers, BeginsWithLines}
+use Rattle.dagcbor_lines.specs.Answers.{AppendsAnswers, BeginsWithLines}
 use Rattle.dagcbor_lines.proofs.Answering.{appends_next}
 use Rattle.dagcbor_lines.proofs.Lines.{begins_line}
 use Rattle.dagcbor_lines.proofs.run.answer_shown.Goals as goal
@@ -10,7 +10,7 @@ returns-in_err-answer_line-clause-some c =
     let left = c.loop-at.buffers.partial.items ++ c.loop-at.rest.now in
     let text = c.args.buffers.now.partial.items ++ c.args.shown.now in
     let h = c.loop-at.invariant.answered in
-    (h.0, left, omega (arith, h.1, c.in_err-answer_line.ensures.lines), subst (λ (s : List ℕ). AppendsAnswers (IsAnswer c.args.command) h.0 text left c.args.buffers.now.out.items s) (sym c.in_err-answer_line.ensures.same) h.2)
+    (h.0, left, omega (arith, h.1, c.in_err-answer_line.ensures.lines), subst (λ (s : List ℕ). AppendsAnswers c.args.command h.0 text left c.args.buffers.now.out.items s) (sym c.in_err-answer_line.ensures.same) h.2)
 
 pub loop-at-preserved : goal.loop-at-preserved
 loop-at-preserved c =
@@ -26,7 +26,7 @@ loop-at-preserved c =
     record {
       shorter = omega (arith, c.loop-at.invariant.shorter, length-take (length rest - (at + 1)) (drop (at + 1) rest), length-drop (at + 1) rest);
       few = search rules;
-      answered = (h.0 + 1, omega (arith, h.1, c.in_ok-answer_line.ensures.lines), appends_next (IsAnswer c.args.command) (c.args.buffers.now.partial.items ++ c.args.shown.now) (partial ++ rest) (c.answer_line.new.buffers.partial.items ++ behind) line _ _ _ h.2 next c.in_ok-answer_line.ensures.written);
+      answered = (h.0 ++ line ∷ [], omega (arith, h.1, c.in_ok-answer_line.ensures.lines, length-append h.0 (line ∷ [])), appends_next c.args.command h.0 (c.args.buffers.now.partial.items ++ c.args.shown.now) (partial ++ rest) (c.answer_line.new.buffers.partial.items ++ behind) line _ _ _ h.2 next c.in_ok-answer_line.ensures.written);
     }
 
 pub returns-then-buffers-clause-some : goal.returns-then-buffers-clause-some
@@ -40,4 +40,4 @@ returns-then-buffers-clause-some c =
     let h = c.loop-at.invariant.answered in
     let next = subst (λ (s : List ℕ). BeginsWithLines (partial ++ rest) (line ∷ []) (s ++ behind)) (sym c.in_ok-answer_line.ensures.emptied)
     (begins_line partial rest behind at c.loop-at.buffers.one_line found.2 found.0 found.1 refl) in
-    (h.0 + 1, c.answer_line.new.buffers.partial.items ++ behind, omega (arith, h.1, c.in_ok-answer_line.ensures.lines), appends_next (IsAnswer c.args.command) (c.args.buffers.now.partial.items ++ c.args.shown.now) (partial ++ rest) (c.answer_line.new.buffers.partial.items ++ behind) line _ _ _ h.2 next c.in_ok-answer_line.ensures.written)
+    (h.0 ++ line ∷ [], c.answer_line.new.buffers.partial.items ++ behind, omega (arith, h.1, c.in_ok-answer_line.ensures.lines, length-append h.0 (line ∷ [])), appends_next c.args.command h.0 (c.args.buffers.now.partial.items ++ c.args.shown.now) (partial ++ rest) (c.answer_line.new.buffers.partial.items ++ behind) line _ _ _ h.2 next c.in_ok-answer_line.ensures.written)

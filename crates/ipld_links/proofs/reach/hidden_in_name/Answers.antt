@@ -1,4 +1,4 @@
-use Rattle.std.proofs.Common.{◌≡◌, ◌∙◌, sym, subst, MatchOption}
+use Rattle.std.proofs.Common.{◌∙◌, sym, subst, MatchOption}
 use Rattle.ipld_links.specs.Blocks.{HasKnownLinks}
 use Rattle.ipld_links.specs.Names.{IsInline}
 use Rattle.ipld_links.specs.Verdicts.{HidesLinks}

@@ -1,5 +1,4 @@
 use Rattle.std.proofs.Common.{sym, subst}
-use Rattle.ipld_tree.specs.Cid.{CidParts}
 use Rattle.ipld_links.specs.Sets.{Among}
 use Rattle.ipld_links.specs.Reaching.{ListsReachable, ListsLost, KnowsLinks, stored_in}
 use Rattle.ipld_links.proofs.Reaching.{all_seen, leads_next}

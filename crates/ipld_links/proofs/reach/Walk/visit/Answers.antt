@@ -1,6 +1,4 @@
-use Rattle.std.proofs.Common.{◌∙◌, sym, subst, BTreeSet, ◌↔◌, ◌≡◌, ◌⊎◌, option_map}
-use Rattle.ipld_tree.specs.Cid.{CidParts}
-use Rattle.ipld_links.specs.Sets.{Among}
+use Rattle.std.proofs.Common.{◌∙◌, option_map}
 use Rattle.ipld_links.proofs.Reaching.{visited, visited_seen, is_there_now}
 use Rattle.ipld_links.proofs.reach.Walk.visit.Goals as goal
 

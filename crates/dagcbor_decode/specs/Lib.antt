@@ -1,0 +1,9 @@
+pub mod Decode
+pub mod CidTest
+pub mod TreeKinds
+pub mod Verdicts
+pub mod PrintedNames
+pub mod Told
+pub mod Fronts
+pub mod Rows
+pub mod Blocks

@@ -1,0 +1,17 @@
+-- The links of items in a row.
+use Rattle.std.specs.Prelude.{◌≡◌, ◌==◌, ◌||◌, ℕ, Bool, List}
+use Rattle.std.specs.List.{AllByRecursion, flat_map}
+use Rattle.ipld_tree.specs.Tree.{Tree, IsTree, links_of}
+use Rattle.ipld_tree.specs.Spelling.{IsSpellable, spelling}
+
+-- whether a head of this major type is one of a string
+abbrev pub is_string : ℕ → Bool
+is_string major = (major == 2) || (major == 3)
+
+-- the bytes are the spellings of items in a row, and these are the binary forms of their links, in
+-- their order
+pub record HoldsLinks (b : List ℕ) (links : List (List ℕ)) : Type 0 where
+  pub trees : List Tree
+  pub whole : AllByRecursion (λ t. IsTree t × IsSpellable t) trees
+  pub is : b ≡ flat_map spelling trees
+  pub are : links ≡ flat_map links_of trees

@@ -1,0 +1,106 @@
+//! The links of an item that was judged. Nothing of it is tested again.
+
+ghost use Rattle.std.specs.Prelude.{◌≡◌, ◌<◌, ◌≤◌, ◌+◌, List, ℕ, [], ◌∷◌, length, drop, map, IsTrue};
+ghost use Rattle.std.specs.Prelude.{IfSome, IfOk, IfErr, ◌≢◌, MatchOption, if◌then◌else◌};
+ghost use Rattle.ipld_tree.specs.Cid.{cid_bytes};
+ghost use Rattle.dagcbor_decode.specs.Decode.{decode_first};
+ghost use Rattle.dagcbor_decode.specs.Fronts.{SplitsCid};
+ghost use Rattle.dagcbor_decode.specs.Rows.{HoldsLinks, is_string};
+ghost use Rattle.dagcbor_decode.specs.Verdicts.{AnswersLinks};
+
+use crate::cause::Stop;
+use crate::judge::judge_item;
+use dagcbor_heads::{DEFAULT_STEPS, DecodeError, split_head};
+use ipld_tree::Cid;
+use std::alloc::{AllocError, Global};
+use std::convert::Infallible;
+
+/// The CID after the tag of links, and the bytes after it.
+fn split_link(bytes: &[u8]) -> (Cid, &[u8])
+    requires { (cid : List ℕ) × (rest : List ℕ) × SplitsCid bytes.now cid rest }
+    ensures { SplitsCid bytes.now (cid_bytes result.0) result.1.now }
+{
+    let Some((_major, count, more)) = split_head(bytes) else {
+        unreachable!()
+    };
+    let (payload, rest) = more.split_at(count as usize);
+    let Some((_zero, form)) = payload.split_first() else {
+        unreachable!()
+    };
+    let Ok(cid) = Cid::try_from(form) else {
+        unreachable!()
+    };
+    (cid, rest)
+}
+
+/// The bytes after the string of a head, if it is one of a string.
+#[inline(always)]
+fn after_string(major: u8, argument: u64, more: &[u8]) -> &[u8]
+    requires { IsTrue (is_string major) → argument ≤ length more.now }
+    ensures { result.now ≡ (if is_string major then drop argument more.now else more.now) }
+{
+    if major == 2 || major == 3 {
+        return more.split_at(argument as usize).1;
+    }
+    more
+}
+
+/// The first link of items in a row, and the bytes after it. Of lists and maps only the heads are
+/// looked at, as their parts follow them.
+pub fn next_link(items: &[u8]) -> Option<(Cid, &[u8])>
+    requires { (links : List (List ℕ)) × HoldsLinks items.now links }
+    ensures link { (links : List (List ℕ)) → HoldsLinks items.now links
+        → MatchOption result (links ≡ [])
+        (λ p. (more : List (List ℕ)) × (links ≡ cid_bytes p.0 ∷ more) × HoldsLinks p.1.now more) }
+    ensures shorter { IfSome result
+        (λ p. length (cid_bytes p.0) + length p.1.now < length items.now) }
+{
+    let mut rest = items;
+    while let Some((major, argument, more)) = split_head(rest) {
+        if major == 6 {
+            return Some(split_link(more));
+        }
+        rest = after_string(major, argument, more);
+    }
+    None
+}
+
+/// The links of items in a row, which are refused for want of memory alone.
+pub fn links_of_items(alloc: Global, items: &[u8]) -> Result<Vec<Cid>, AllocError>
+    requires { (links : List (List ℕ)) × HoldsLinks items.now links }
+    ensures links { (links : List (List ℕ)) → HoldsLinks items.now links
+        → IfOk result (λ v. map cid_bytes v.items ≡ links) }
+    ensures memory { (links : List (List ℕ)) → HoldsLinks items.now links
+        → IfErr result (λ _. links ≢ []) }
+{
+    let mut links = Vec::new(alloc);
+    let mut rest = items;
+    while let Some(found) = next_link(rest) {
+        links.push(found.0)?;
+        rest = found.1;
+    }
+    Ok(links)
+}
+
+/// The links of the first item of the bytes. What follows it is not looked at.
+///
+/// ```rust
+/// let links = links_from_slice(alloc, link)?;
+/// let Some(first) = links.first() else {
+///     return Err(Fail::new("no link"));
+/// };
+/// agree(first.to_bytes(alloc)?.as_slice(), &link[5..])
+/// ```
+pub fn links_from_slice(alloc: Global, bytes: &[u8]) -> Result<Vec<Cid>, DecodeError<Infallible>>
+    ensures { AnswersLinks (decode_first bytes.now) result }
+{
+    let mut stop = Stop::new();
+    let Some(rest) = judge_item(DEFAULT_STEPS, bytes, &mut stop) else {
+        return Err(stop.cause.refusal());
+    };
+    let item = bytes.split_at(bytes.len() - rest.len()).0;
+    match links_of_items(alloc, item) {
+        Ok(links) => Ok(links),
+        Err(_) => Err(DecodeError::OutOfMemory),
+    }
+}

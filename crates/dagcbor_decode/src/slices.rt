@@ -1,0 +1,83 @@
+//! Whether a slice is a block, of which kind, and why not, and where.
+
+ghost use Rattle.std.specs.Prelude.{◌≡◌, Err, IfOk};
+ghost use Rattle.ipld_tree.specs.Tree.{Tree};
+ghost use Rattle.dagcbor_decode.specs.Blocks.{IsBlock};
+ghost use Rattle.dagcbor_decode.specs.Decode.{decode, refused};
+ghost use Rattle.dagcbor_decode.specs.TreeKinds.{kind_of};
+ghost use Rattle.dagcbor_decode.specs.Verdicts.{answer, answered, judged, verdict};
+ghost use Rattle.dagcbor_decode.specs.Told.{why};
+
+use crate::cause::{Cause, Stop};
+use crate::judge::judge_item;
+use crate::kind::{Kind, kind_of_front};
+use dagcbor_heads::{DEFAULT_STEPS, DecodeError};
+use std::convert::Infallible;
+
+/// Why bytes are not a block, and where. Of the bytes before `place` only missing bytes are told; with
+/// the next byte the cause stands.
+#[derive(Debug, Drop)]
+pub struct Refused {
+    pub cause: DecodeError<Infallible>,
+    pub place: usize,
+}
+
+/// The kind of the data whose spelling is these bytes. Nothing is built, and no memory is taken.
+///
+/// ```rust
+/// agree(check_slice(b"\x82\x39\x01\x2b\x61a")?, Kind::List)?;
+/// is_told(alloc, &check_slice(b"\x01\x02"), "Err(TrailingData)")?;
+/// ```
+pub fn check_slice(bytes: &[u8]) -> Result<Kind, DecodeError<Infallible>>
+    ensures decoded { answered result ≡ answer (decode bytes.now) }
+    ensures kind { IfOk result (λ kind. (t : Tree) × IsBlock bytes.now t × (kind ≡ kind_of t)) }
+{
+    match judge_slice(bytes) {
+        Ok(kind) => Ok(kind),
+        Err(refused) => Err(refused.cause),
+    }
+}
+
+/// The kind of a block, as `check_slice` answers it, or why the bytes are not a block, and where.
+///
+/// ```rust
+/// let Err(refused) = judge_slice(b"\x82\x01\x18\x17") else {
+///     return Err(Fail::new("a block"));
+/// };
+/// agree(refused.place, 3)
+/// ```
+#[inline]
+pub fn judge_slice(bytes: &[u8]) -> Result<Kind, Refused>
+    ensures decoded { judged result ≡ verdict bytes.now (decode bytes.now) }
+    ensures kind { IfOk result (λ kind. (t : Tree) × IsBlock bytes.now t × (kind ≡ kind_of t)) }
+{
+    let mut stop = Stop::new();
+    let Some(rest) = judge_item(DEFAULT_STEPS, bytes, &mut stop) else {
+        return Err(refused_at(bytes, stop));
+    };
+    match rest.split_first() {
+        None => Ok(kind_of_front(bytes)),
+        Some((_first, more)) => Err(refused_at(
+            bytes,
+            Stop {
+                cause: Cause::TrailingData,
+                left: more.len(),
+            },
+        )),
+    }
+}
+
+/// The refusal of bytes at which the judge stops.
+fn refused_at(bytes: &[u8], stop: Stop) -> Refused
+    ensures { judged (Err result) ≡ verdict bytes.now (refused (why stop.cause) stop.left) }
+{
+    let seen = bytes.len().saturating_sub(stop.left);
+    let place = match stop.cause {
+        Cause::Eof(_, _) => bytes.len(),
+        _ => seen.saturating_sub(1),
+    };
+    Refused {
+        cause: stop.cause.refusal(),
+        place,
+    }
+}

@@ -1,0 +1,49 @@
+//! Whether bytes are a text. Short ones are first checked for ASCII.
+
+ghost use Rattle.std.specs.Prelude.{◌≡◌, ◌↔◌, IsTrue, IsUtf8};
+ghost use Rattle.std.specs.List.{list_all};
+ghost use Rattle.std.specs.Char.{is_ascii};
+ghost use Rattle.std.specs.Str.{is_utf8};
+
+use std::str::from_utf8;
+
+/// Texts below this length are first looked at byte by byte.
+const SHORT: usize = 32;
+
+/// Whether all of the bytes are ASCII.
+#[inline(always)]
+fn is_plain(bytes: &[u8]) -> bool
+    ensures { result ≡ list_all is_ascii bytes.now }
+{
+    bytes.iter().all(|byte| byte.is_ascii())
+}
+
+#[inline(never)]
+fn is_any_text(bytes: &[u8]) -> bool
+    ensures { IsTrue result ↔ IsUtf8 bytes.now }
+{
+    // Of few bytes the other call takes four times as long.
+    if bytes.len() < SHORT {
+        return from_utf8(bytes).is_ok();
+    }
+    simdutf8::is_utf8(bytes)
+}
+
+/// Whether the bytes are few, and all ASCII.
+#[inline(always)]
+pub fn is_short_ascii(bytes: &[u8]) -> bool
+    ensures { IsTrue result → IsUtf8 bytes.now }
+{
+    bytes.len() < SHORT && is_plain(bytes)
+}
+
+/// Whether the bytes are a text.
+#[inline(always)]
+pub fn is_text(bytes: &[u8]) -> bool
+    ensures { result ≡ is_utf8 bytes.now }
+{
+    if is_short_ascii(bytes) {
+        return true;
+    }
+    is_any_text(bytes)
+}

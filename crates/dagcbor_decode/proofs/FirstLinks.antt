@@ -9,6 +9,7 @@ use Rattle.dagcbor_decode.specs.Rows.{HoldsLinks}
 use Rattle.dagcbor_decode.specs.Told.{skim}
 use Rattle.dagcbor_decode.specs.Verdicts.{linked, why_of, AnswersLinks}
 use Rattle.dagcbor_decode.proofs.HeadLaws.{AreBytes}
+use Rattle.dagcbor_decode.proofs.Parts.{unskimmed}
 use Rattle.dagcbor_decode.proofs.Sound.{any_got}
 use Rattle.dagcbor_decode.proofs.Rows.{first_row}
 
@@ -18,10 +19,6 @@ pub record IsFirst (b rest : List ℕ) : Type 0 where
   pub is : decode_first b ≡ got tree rest
   pub shorter : length rest ≤ length b
   pub row : HoldsLinks (take (length b - length rest) b) (links_of tree)
-
-unskimmed : (q : Decoded Tree) (rest : List ℕ) → skim q ≡ got tt rest → (t : Tree) × (q ≡ got t rest)
-unskimmed (got t r) rest e = let same : r ≡ rest = cc e in (t, ap (got t) same)
-unskimmed (refused why left) rest e = absurd (cc e)
 
 pub first_is : (b rest : List ℕ) → AreBytes b → skim (decode_first b) ≡ got tt rest → IsFirst b rest
 first_is b rest bytes e =

@@ -11,6 +11,7 @@ use Rattle.dagcbor_heads.specs.declared.error.DecodeError.{DecodeError}
 use Rattle.dagcbor_heads.specs.declared.error.DecodeError.TheVariants.{OutOfMemory}
 use Rattle.dagcbor_decode.specs.TreeKinds.{kind_of}
 use Rattle.dagcbor_decode.specs.declared.kind.Kind.{Kind}
+use Rattle.dagcbor_decode.specs.Told.{kind_told}
 use Rattle.dagcbor_decode.specs.Verdicts.{answer, verdict, why_of, IsRefusedFor, IsRefusedAt}
 use Rattle.dagcbor_decode.proofs.HeadLaws.{AreBytes}
 use Rattle.dagcbor_decode.proofs.Sound.{block_got}
@@ -22,10 +23,10 @@ pub decodes_blocks : (b : List ℕ) (t : Tree) → AreBytes b → (decode b ≡ 
 decodes_blocks b t bytes = (λ e. let h = block_got b t [] bytes e in (h.0, h.1), λ h. block_reads b t h.0 h.1)
 
 -- of a block the kind is answered
-pub kind_judged : (b : List ℕ) (kind : Kind) → AreBytes b → Ok kind ≡ verdict b (decode b) → (t : Tree) × IsBlock b t × (kind ≡ kind_of t)
+pub kind_judged : (b : List ℕ) (kind : Kind) → AreBytes b → Ok kind ≡ kind_told (decode b) → (t : Tree) × IsBlock b t × (kind ≡ kind_of t)
 kind_judged b kind bytes e = by (decode b) refl e
   where
-    by : (q : Decoded Tree) → decode b ≡ q → Ok kind ≡ verdict b q → (t : Tree) × IsBlock b t × (kind ≡ kind_of t)
+    by : (q : Decoded Tree) → decode b ≡ q → Ok kind ≡ kind_told q → (t : Tree) × IsBlock b t × (kind ≡ kind_of t)
     by (got t rest) is e = let h = block_got b t rest bytes is in (t, (h.0, h.1), cc e)
     by (refused why left) is e = absurd (cc e)
 

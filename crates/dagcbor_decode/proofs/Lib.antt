@@ -7,6 +7,9 @@ pub mod Seen
 pub mod Laws
 pub mod Parts
 pub mod Fronts
+pub mod Absent
+pub mod Refusing
+pub mod Left
 pub mod Standing
 pub mod Named
 pub mod FrontKinds

@@ -117,7 +117,7 @@ integer_got name major first b f u rest r m g e =
     got_in (IsLeafFront (first ∷ b)) (f h.0) u h.1 rest h.3
     (subst (λ x. IsLeafFront x (f h.0) h.1) (sym (k.1 ∙ ap (λ x. head x h.0 ++ h.1) m)) (g h.0 h.1 k.0))
 
-leaf_got : (first : ℕ) (b : List ℕ) (u : Tree) (rest : List ℕ) → AreBytes b → leaf_of first b ≡ got u rest → IsLeafFront (first ∷ b) u rest
+pub leaf_got : (first : ℕ) (b : List ℕ) (u : Tree) (rest : List ℕ) → AreBytes b → leaf_of first b ≡ got u rest → IsLeafFront (first ∷ b) u rest
 leaf_got first b u rest r e = elim (eqb_tells (first / 32) 0) [
   | inl h0 ↦ integer_got (codes "u64") 0 first b (λ n. integer (pos n)) u rest r h0.1 (λ n mid fits. (record { well_formed = tt; spellable = fits; is = refl }, omega arith)) (rw h0.0 at e)
   | inr h0 ↦ elim (eqb_tells (first / 32) 1) [
@@ -151,7 +151,7 @@ IsSound any steps = (b : List ℕ) (u : Tree) (rest : List ℕ) → AreBytes b �
 bytes_after : (b rest : List ℕ) (u : Tree) → IsFront b u rest → AreBytes b → AreBytes rest
 bytes_after b rest u h r = bytes_behind (spelling u) rest (subst AreBytes h.is r)
 
-items_got : (any : List ℕ → Decoded Tree) (steps : ℕ) → IsSound any steps → (count : ℕ) (b : List ℕ) (us : Items) (rest : List ℕ) → AreBytes b → items_of any count b ≡ got us rest
+pub items_got : (any : List ℕ → Decoded Tree) (steps : ℕ) → IsSound any steps → (count : ℕ) (b : List ℕ) (us : Items) (rest : List ℕ) → AreBytes b → items_of any count b ≡ got us rest
     → (item_count us ≡ count) × AreFronts b us rest × (items_need us ≤ steps)
 items_got any steps sound zero b us rest r e =
     got_in (λ us rest. (item_count us ≡ 0) × AreFronts b us rest × (items_need us ≤ steps)) no_items us b rest e (refl, record { well_formed = tt; spellable = tt; is = refl }, omega arith)
@@ -179,7 +179,7 @@ none_first (Some k) = tt
 abbrev pub IsRead : (steps count : ℕ) → Option (List ℕ) → List ℕ → Entries → List ℕ → Type 0
 IsRead steps count previous b es rest = (entry_count es ≡ count) × AreEntryFronts b es rest × (entries_need es ≤ steps) × ComesFirst previous es
 
-entries_got : (any : List ℕ → Decoded Tree) (steps : ℕ) → IsSound any steps → (count : ℕ) (previous : Option (List ℕ)) (b : List ℕ) (es : Entries) (rest : List ℕ) → AreBytes b → entries_of any count previous b ≡ got es rest
+pub entries_got : (any : List ℕ → Decoded Tree) (steps : ℕ) → IsSound any steps → (count : ℕ) (previous : Option (List ℕ)) (b : List ℕ) (es : Entries) (rest : List ℕ) → AreBytes b → entries_of any count previous b ≡ got es rest
     → IsRead steps count previous b es rest
 entries_got any steps sound zero previous b es rest r e =
     got_in (λ es rest. IsRead steps 0 previous b es rest) no_entries es b rest e (refl, record { well_formed = tt; spellable = tt; is = refl }, omega arith, none_first previous)

@@ -1,11 +1,10 @@
 -- What stands there is read.
-use Rattle.std.proofs.Common.{◌≡◌, ◌≢◌, inl, inr, ℕ, suc, zero, ◌-◌, ◌≤◌, ◌/◌, ◌%◌, ◌==◌, List, ◌∷◌, refl, sym, ap, ◌∙◌, arith, Option, None, codes, true, false}
-use Rattle.std.proofs.lemmas.Bool.Decides.{eqb_tells}
+use Rattle.std.proofs.Common.{◌≡◌, ℕ, suc, zero, ◌-◌, ◌≤◌, List, ap, ◌∙◌, arith, Option, None, codes, true}
 use Rattle.dagcbor_heads.specs.Splits.{SplitsHead}
 use Rattle.ipld_tree.specs.Tree.{list, mapping, text}
 use Rattle.ipld_tree.specs.Spelling.{IsFront}
 use Rattle.dagcbor_decode.specs.Fronts.{SplitsLeaf}
-use Rattle.dagcbor_decode.specs.Decode.{got, after, key_of, follows, items_of, entries_of, item_of, list_of, map_of, leaf_of}
+use Rattle.dagcbor_decode.specs.Decode.{got, after, key_of, follows, items_of, entries_of, item_of, list_of, map_of}
 use Rattle.dagcbor_decode.specs.Told.{skim}
 use Rattle.dagcbor_decode.proofs.Parts.{skim_got}
 use Rattle.dagcbor_decode.proofs.Complete.{any_reads, key_front, led, item_list, item_map}
@@ -37,11 +36,3 @@ map_read (suc (suc steps)) n b c h k =
     ∙ ap (λ x. after x (λ n rest. after (entries_of (item_of steps) n None rest) (λ es. got (mapping es)))) (r (codes "map"))))
     ∙ skim_got (entries_of (item_of steps) n None c) mapping
     ∙ ap (λ s. skim (entries_of (item_of s) n None c)) e
-
--- what is no list and no map is read as a leaf
-pub leaf_asked : (steps first : ℕ) (b more : List ℕ) → steps ≢ 0 → b ≡ first ∷ more → first % 32 ≢ 31 → first / 32 ≢ 4 → first / 32 ≢ 5 → leaf_of first more ≡ item_of steps b
-leaf_asked zero first b more some is i n4 n5 = absurd (some refl)
-leaf_asked (suc steps) first b more some is i n4 n5 = sym (ap (item_of (suc steps)) is ∙ rw (other (first % 32) 31 i, other (first / 32) 4 n4, other (first / 32) 5 n5) refl)
-  where
-    other : (m n : ℕ) → m ≢ n → (m == n) ≡ false
-    other m n h = elim (eqb_tells m n) [ inl a ↦ absurd (h a.1) | inr a ↦ a.0 ]

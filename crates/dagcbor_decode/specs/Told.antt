@@ -1,13 +1,17 @@
 -- What the parts of the judge answer, in the words of `Decode.antt`. No public contract names it.
-use Rattle.std.specs.Prelude.{ℕ, List, Option, Some, None, Result, Ok, Err, codes}
+use Rattle.std.specs.Prelude.{ℕ, zero, suc, ◌/◌, ◌%◌, ◌==◌, List, [], ◌∷◌, length, Option, Some, None, Result, Ok, Err, codes, if◌then◌else◌}
+use Rattle.std.specs.Bool.{⊤}
 use Rattle.std.specs.Borrow.{Bor}
 use Rattle.dagcbor_heads.specs.Lengths.{len_of}
-use Rattle.dagcbor_decode.specs.Decode.{Decoded, Why, got, refused, eof, mismatch, unsupported, non_minimal, indefinite_size, require_utf8, msg, unordered_key, depth_overflow, trailing_data}
+use Rattle.ipld_tree.specs.Tree.{Tree}
+use Rattle.dagcbor_decode.specs.Decode.{Decoded, Why, got, refused, eof, mismatch, unsupported, non_minimal, indefinite_size, require_utf8, msg, unordered_key, depth_overflow, trailing_data, argument_of, leaf_of}
+use Rattle.dagcbor_decode.specs.TreeKinds.{kind_of}
 use Rattle.dagcbor_decode.specs.declared.cause.Label.{Label}
 use Rattle.dagcbor_decode.specs.declared.cause.Label.TheVariants as label
 use Rattle.dagcbor_decode.specs.declared.cause.Cause.{Cause}
 use Rattle.dagcbor_decode.specs.declared.cause.Cause.TheVariants as cause
 use Rattle.dagcbor_decode.specs.declared.cause.Stop.{Stop}
+use Rattle.dagcbor_decode.specs.declared.kind.Kind.{Kind}
 
 abbrev pub name : Label → List ℕ
 name label.Any = codes "any"
@@ -54,7 +58,42 @@ abbrev pub rest_or : Option (Bor (List ℕ)) → Stop → Decoded (Unit {0})
 rest_or (Some rest) s = got tt rest.now
 rest_or None s = refused (why s.cause) s.left
 
--- a string that is read, or that stop
-abbrev pub key_or : Option (Bor (List ℕ) × Bor (List ℕ)) → Stop → Decoded (List ℕ)
-key_or (Some p) s = got p.0.now p.1.now
-key_or None s = refused (why s.cause) s.left
+-- how many bytes are left after what is read
+abbrev pub left_of : {A : Type 0} → Decoded A → Result ℕ (Why × ℕ)
+left_of (got a rest) = Ok (length rest)
+left_of (refused why left) = Err (why, left)
+
+-- how many, or that stop
+abbrev pub left_or : Option ℕ → Stop → Result ℕ (Why × ℕ)
+left_or (Some left) s = Ok left
+left_or None s = Err (why s.cause, s.left)
+
+-- the kind of what is decoded, or why nothing is
+abbrev pub kind_told : Decoded Tree → Result Kind (Why × ℕ)
+kind_told (got t rest) = Ok (kind_of t)
+kind_told (refused why left) = Err (why, left)
+
+-- a kind, or that stop
+abbrev pub kind_or : Option Kind → Stop → Result Kind (Why × ℕ)
+kind_or (Some kind) s = Ok kind
+kind_or None s = Err (why s.cause, s.left)
+
+-- nothing is read
+abbrev pub IsRefused : {A : Type 0} → Decoded A → Type 0
+IsRefused (got a rest) = ⊥
+IsRefused (refused why left) = ⊤
+
+-- the number of items or entries, if steps are left for them
+abbrev pub count_of : List ℕ → ℕ → ℕ → List ℕ → Decoded ℕ
+count_of name zero first b = refused (depth_overflow name) (length b)
+count_of name (suc steps) first b = argument_of name first b
+
+-- an item without what is in it: a leaf, or the head of a list or a map
+abbrev pub front_of : ℕ → List ℕ → Decoded (Unit {0})
+front_of zero b = refused (depth_overflow (codes "any")) (length b)
+front_of (suc steps) [] = refused (eof (codes "any") (len_of 1)) 0
+front_of (suc steps) (first ∷ b) =
+    if first % 32 == 31 then refused indefinite_size (length b)
+    else if first / 32 == 4 then skim (count_of (codes "array") steps first b)
+    else if first / 32 == 5 then skim (count_of (codes "map") steps first b)
+    else skim (leaf_of first b)

@@ -87,6 +87,8 @@ impl Label {
 
 impl Cause {
     /// The refusal for this.
+    #[cold]
+    #[inline(never)]
     pub(crate) fn refusal(self) -> DecodeError<Infallible>
         ensures { why_of result ≡ Some (why self) }
     {

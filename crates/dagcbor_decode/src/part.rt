@@ -3,7 +3,7 @@
 
 ghost use Rattle.std.specs.Prelude.{◌≡◌, ◌^◌, option_map, length};
 ghost use Rattle.std.specs.Int.{w8, w16, w32, w64};
-ghost use Rattle.dagcbor_decode.specs.Told.{told, rest_of, skim, name};
+ghost use Rattle.dagcbor_decode.specs.Told.{told, rest_of, skim, name, count_of, front_of};
 ghost use Rattle.dagcbor_decode.specs.Decode.{payload, at_least, number, argument_of, string_of};
 ghost use Rattle.dagcbor_decode.specs.Decode.{text_of, follows, key_of, zero_and_cid};
 ghost use Rattle.dagcbor_decode.specs.Decode.{cid_bytes_of, cid_of, tag_of, link_of, simple_of, leaf_of};
@@ -107,7 +107,7 @@ fn eight(label: Label, first: u8, bytes: &[u8]) -> Result<(u64, &[u8]), Stop>
 
 /// The argument of the head that begins with this byte.
 #[inline(always)]
-pub(crate) fn argument_of(label: Label, first: u8, bytes: &[u8]) -> Result<(u64, &[u8]), Stop>
+fn argument_of(label: Label, first: u8, bytes: &[u8]) -> Result<(u64, &[u8]), Stop>
     ensures { told (λ n. n) result ≡ argument_of (name label) first bytes.now }
 {
     match first % 32 {
@@ -151,7 +151,7 @@ fn text_of(label: Label, first: u8, bytes: &[u8]) -> Result<(&[u8], &[u8]), Stop
 
 /// Whether the key may come after the one before it.
 #[inline(always)]
-pub(crate) fn follows(previous: &Option<&[u8]>, key: &[u8]) -> bool
+pub fn follows(previous: &Option<&[u8]>, key: &[u8]) -> bool
     ensures { result ≡ follows (option_map (λ s. s.now) previous.now) key.now }
 {
     match previous {
@@ -320,7 +320,7 @@ fn characters_of(first: u8, bytes: &[u8]) -> Result<&[u8], Stop>
 }
 
 #[inline(always)]
-pub(crate) fn leaf_of(first: u8, bytes: &[u8]) -> Result<&[u8], Stop>
+fn leaf_of(first: u8, bytes: &[u8]) -> Result<&[u8], Stop>
     ensures { rest_of result ≡ skim (leaf_of first bytes.now) }
 {
     match first / 32 {
@@ -330,5 +330,51 @@ pub(crate) fn leaf_of(first: u8, bytes: &[u8]) -> Result<&[u8], Stop>
         3 => characters_of(first, bytes),
         6 => link_of(first, bytes),
         _ => simple_of(first, bytes),
+    }
+}
+
+/// The bytes after the head of a list or a map, if steps are left for what is in it.
+#[inline(always)]
+fn count_of(label: Label, steps: usize, first: u8, bytes: &[u8]) -> Result<&[u8], Stop>
+    ensures { rest_of result ≡ skim (count_of (name label) steps first bytes.now) }
+{
+    if steps == 0 {
+        return Err(Stop {
+            cause: Cause::DepthOverflow(label),
+            left: bytes.len(),
+        });
+    }
+    number_of(label, first, bytes)
+}
+
+/// The bytes after an item that has no others in it, or after the head of a list or a map.
+pub(crate) fn front_of(steps: usize, bytes: &[u8]) -> Result<&[u8], Stop>
+    ensures { rest_of result ≡ front_of steps bytes.now }
+{
+    if steps == 0 {
+        return Err(Stop {
+            cause: Cause::DepthOverflow(Label::Any),
+            left: bytes.len(),
+        });
+    }
+    let Some((first, more)) = bytes.split_first() else {
+        return Err(Stop {
+            cause: Cause::Eof(Label::Any, 1),
+            left: 0,
+        });
+    };
+    if *first % 32 == 31 {
+        return Err(Stop {
+            cause: Cause::IndefiniteSize,
+            left: more.len(),
+        });
+    }
+    let major = *first / 32;
+    if major == 4 {
+        count_of(Label::Array, steps - 1, *first, more)
+    } else if major == 5 {
+        count_of(Label::Map, steps - 1, *first, more)
+    } else {
+        leaf_of(*first, more)
     }
 }

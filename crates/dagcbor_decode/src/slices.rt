@@ -6,7 +6,7 @@ ghost use Rattle.dagcbor_decode.specs.Blocks.{IsBlock};
 ghost use Rattle.dagcbor_decode.specs.Decode.{decode, refused};
 ghost use Rattle.dagcbor_decode.specs.TreeKinds.{kind_of};
 ghost use Rattle.dagcbor_decode.specs.Verdicts.{answer, answered, judged, verdict};
-ghost use Rattle.dagcbor_decode.specs.Told.{why};
+ghost use Rattle.dagcbor_decode.specs.Told.{why, kind_or, kind_told};
 
 use crate::cause::{Cause, Stop};
 use crate::judge::judge_item;
@@ -32,9 +32,10 @@ pub fn check_slice(bytes: &[u8]) -> Result<Kind, DecodeError<Infallible>>
     ensures decoded { answered result ≡ answer (decode bytes.now) }
     ensures kind { IfOk result (λ kind. (t : Tree) × IsBlock bytes.now t × (kind ≡ kind_of t)) }
 {
-    match judge_slice(bytes) {
-        Ok(kind) => Ok(kind),
-        Err(refused) => Err(refused.cause),
+    let mut stop = Stop::new();
+    match judge_block(bytes, &mut stop) {
+        Some(kind) => Ok(kind),
+        None => Err(stop.cause.refusal()),
     }
 }
 
@@ -52,19 +53,27 @@ pub fn judge_slice(bytes: &[u8]) -> Result<Kind, Refused>
     ensures kind { IfOk result (λ kind. (t : Tree) × IsBlock bytes.now t × (kind ≡ kind_of t)) }
 {
     let mut stop = Stop::new();
-    let Some(rest) = judge_item(DEFAULT_STEPS, bytes, &mut stop) else {
-        return Err(refused_at(bytes, stop));
-    };
-    match rest.split_first() {
-        None => Ok(kind_of_front(bytes)),
-        Some((_first, more)) => Err(refused_at(
-            bytes,
-            Stop {
-                cause: Cause::TrailingData,
-                left: more.len(),
-            },
-        )),
+    match judge_block(bytes, &mut stop) {
+        Some(kind) => Ok(kind),
+        None => Err(refused_at(bytes, stop)),
     }
+}
+
+/// The kind of a block. Its callers have room for a refusal, which is cleared at each call; so it is
+/// a function apart.
+#[inline(never)]
+fn judge_block(bytes: &[u8], stop: &mut Stop) -> Option<Kind>
+    ensures { kind_or result stop.new ≡ kind_told (decode bytes.now) }
+{
+    let rest = judge_item(DEFAULT_STEPS, bytes, stop)?;
+    let Some((_first, more)) = rest.split_first() else {
+        return Some(kind_of_front(bytes));
+    };
+    *stop = Stop {
+        cause: Cause::TrailingData,
+        left: more.len(),
+    };
+    None
 }
 
 /// The refusal of bytes at which the judge stops.

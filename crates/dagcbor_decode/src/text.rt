@@ -1,6 +1,6 @@
 //! Whether bytes are a text. Short ones are first checked for ASCII.
 
-ghost use Rattle.std.specs.Prelude.{◌≡◌, ◌↔◌, IsTrue, IsUtf8};
+ghost use Rattle.std.specs.Prelude.{◌≡◌, ◌↔◌, ◌&&◌, IsTrue, IsUtf8, length, nat_lt};
 ghost use Rattle.std.specs.List.{list_all};
 ghost use Rattle.std.specs.Char.{is_ascii};
 ghost use Rattle.std.specs.Str.{is_utf8};
@@ -29,10 +29,11 @@ fn is_any_text(bytes: &[u8]) -> bool
     simdutf8::is_utf8(bytes)
 }
 
-/// Whether the bytes are few, and all ASCII.
+/// Whether the bytes are fewer than 32, and all ASCII.
 #[inline(always)]
 pub fn is_short_ascii(bytes: &[u8]) -> bool
-    ensures { IsTrue result → IsUtf8 bytes.now }
+    ensures exact { result ≡ (nat_lt (length bytes.now) 32 && list_all is_ascii bytes.now) }
+    ensures text { IsTrue result → IsUtf8 bytes.now }
 {
     bytes.len() < SHORT && is_plain(bytes)
 }

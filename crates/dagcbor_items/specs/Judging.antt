@@ -1,5 +1,5 @@
 -- What stands at the front of bytes that are all there, and the rest that follows it.
-use Rattle.std.specs.Prelude.{◌≡◌, ℕ, ◌≤◌, List, length, Option, MatchOption}
+use Rattle.std.specs.Prelude.{◌≡◌, ℕ, ◌≤◌, List, Option}
 use Rattle.ipld_tree.specs.Tree.{Tree, text, Items, Entries, any_need, items_need, entries_need}
 use Rattle.ipld_tree.specs.Spelling.{item_count, entry_count, IsFront, AreFronts, AreEntryFronts}
 use Rattle.dagcbor_items.specs.Places.{Follows}
@@ -25,13 +25,3 @@ SplitsItems b count steps rest = (ts : Items) × (item_count ts ≡ count) × Ar
 abbrev pub SplitsEntries : List ℕ → ℕ → ℕ → List ℕ → Type 0
 SplitsEntries b count steps rest = (es : Entries) × (entry_count es ≡ count) × AreEntryFronts b es rest
     × (entries_need es ≤ steps)
-
--- the rest of which this holds, exactly where there is one
-abbrev pub GivesRest : {A : Type 0} → (A → List ℕ) → (List ℕ → Type 0) → Option A → Type 0
-GivesRest bytes_of IsRest result = MatchOption result (¬ ((rest : List ℕ) × IsRest rest))
-    (λ a. IsRest (bytes_of a))
-
--- the length of that rest
-abbrev pub GivesLeft : (List ℕ → Type 0) → Option ℕ → Type 0
-GivesLeft IsRest result = MatchOption result (¬ ((rest : List ℕ) × IsRest rest))
-    (λ left. (rest : List ℕ) × (length rest ≡ left) × IsRest rest)

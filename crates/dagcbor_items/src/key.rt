@@ -13,7 +13,7 @@ ghost use Rattle.dagcbor_items.specs.Shapes.{view_text, leaf};
 ghost use Rattle.dagcbor_items.specs.TypedReads.{TakesFront};
 ghost use Rattle.dagcbor_items.specs.AnsweredVariants.{OfKey};
 
-use crate::judge;
+use crate::order;
 use crate::strings::{no_text, pull_str};
 use crate::utf8::as_text;
 use dagcbor_heads::{DecodeError, Input, Read, ReadResult};
@@ -26,7 +26,7 @@ fn follows(previous: &Option<CowStr<'_>>, key: &str) -> bool
     ensures { IsTrue result ↔ Follows (option_map cow_str_bytes previous.now) key.now }
 {
     let before = previous.as_ref().map(|before| before.as_str().as_bytes());
-    judge::follows(&before, key.as_bytes())
+    order::follows(&before, key.as_bytes())
 }
 
 /// The bytes as a key, if it may come after the one before it.

@@ -10,12 +10,12 @@
 
 mod any;
 mod enter;
-mod judge;
 mod key;
 mod leaf;
 mod link;
 mod majors;
 mod numbers;
+mod order;
 mod payloads;
 mod simple;
 mod sink;
@@ -26,11 +26,12 @@ mod utf8;
 mod walk;
 
 pub use any::read_any;
-pub use judge::{behind_link, follows};
+pub use dagcbor_decode::behind_link;
 pub use key::{is_name, no_key, read_key, take_key, take_name, take_one_of};
 pub use link::{pull_link, take_link};
 pub use majors::pull_major;
 pub use numbers::{pull_i128, pull_signed, pull_u128, pull_unsigned};
+pub use order::follows;
 pub use payloads::PayloadReader;
 pub use simple::{pull_bool, pull_null};
 pub use sink::{LinkSink, NoLinks};

@@ -15,8 +15,8 @@ ghost use Rattle.dagcbor_items.specs.Untyped.{ReadsLeaf, StartsWithMajor};
 ghost use Rattle.dagcbor_items.specs.Links.{HasWanted, ReadsCid, ReadsLink, IsZeroAndCid};
 ghost use Rattle.dagcbor_items.specs.AnsweredVariants.{OfByte, OfItem, OfLink};
 
-use crate::judge::split_payload;
 use arrayvec::ArrayVec;
+use dagcbor_decode::split_payload;
 use dagcbor_heads::{
     DecodeError, Input, Read, ReadResult, peek_one, pull_head_argument, pull_one,
     pull_short_payload, split_head,

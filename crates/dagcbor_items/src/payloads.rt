@@ -14,11 +14,12 @@ ghost use Rattle.dagcbor_items.specs.LeafReads.{ReadsTextAs};
 ghost use Rattle.dagcbor_items.specs.AnsweredVariants.{OfKey, OfHead, OfText};
 ghost use Rattle.dagcbor_items.specs.Untyped.{SkipsEnteredItem, StartsWithMajor, TakesItem};
 
-use crate::judge::{behind_leaf, follows};
 use crate::key::read_key;
 use crate::majors::peek_major;
+use crate::order::follows;
 use crate::strings::{no_text, pull_peeked_slice, pull_peeked_str};
 use crate::utf8::as_text;
+use dagcbor_decode::behind_leaf;
 use dagcbor_heads::{
     DecodeError, Input, Len, Name, Read, ReadResult, SliceReader, pull_head, split_head,
 };

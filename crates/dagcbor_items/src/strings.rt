@@ -19,9 +19,9 @@ ghost use Rattle.dagcbor_items.specs.LeafReads.{ReadsStr, ReadsOwnedText, ReadsC
 ghost use Rattle.dagcbor_items.specs.LeafReads.{ReadsByteSlice, ReadsOwnedBytes};
 ghost use Rattle.dagcbor_items.specs.AnsweredVariants.{OfChar, OfHead, OfText};
 
-use crate::judge::split_payload;
 use crate::majors::peek_major;
 use crate::utf8::as_text;
+use dagcbor_decode::split_payload;
 use dagcbor_heads::{
     DecodeError, Input, Name, Read, ReadResult, pull_head, pull_payload, split_head,
 };

@@ -1,7 +1,7 @@
 use Rattle.std.proofs.Common.{sym, ◌∙◌, subst, IsUtf8}
 use Rattle.std.proofs.lemmas.Str.{IsUtf8-from_is_utf8, is_utf8-from_IsUtf8}
-use Rattle.dagcbor_items.proofs.Judging.{one_payload}
-use Rattle.dagcbor_items.proofs.judge.split_text.Goals as goal
+use Rattle.dagcbor_decode.proofs.Absent.{one_payload}
+use Rattle.dagcbor_decode.proofs.front.split_text.Goals as goal
 
 pub returns-then-not-is_text : goal.returns-then-not-is_text
 returns-then-not-is_text c (s, rest, p) =

@@ -1,7 +1,7 @@
 use Rattle.std.proofs.Common.{refl, arith}
 use Rattle.dagcbor_decode.proofs.Fronts.{natural_passed, negative_passed, bytes_passed, text_passed}
-use Rattle.dagcbor_items.proofs.Judging.{no_bytes, no_text, link_judged, simple_judged}
-use Rattle.dagcbor_items.proofs.judge.behind_leaf.Goals as goal
+use Rattle.dagcbor_decode.proofs.Absent.{no_leaf_of_parts, no_bytes, no_text, link_judged, simple_judged}
+use Rattle.dagcbor_decode.proofs.front.behind_leaf.Goals as goal
 
 pub returns-in_err-_payload-in-2 : goal.returns-in_err-_payload-in-2
 returns-in_err-_payload-in-2 c b h = rw c.from_residual.ensures (λ k. no_bytes _ _ _ _ k.1.0 (rw c.in-2.is at h) c.in_err-_payload-in-2.ensures k.1.1)
@@ -28,4 +28,4 @@ pub returns-in-7 : goal.returns-in-7
 returns-in-7 c b h = simple_judged (λ x. x.now) _ _ _ c.behind_simple.result (rw c.in-7.is at h) c.behind_simple.ensures
 
 pub returns-in_default : goal.returns-in_default
-returns-in_default c b h k = omega (arith, h.0, c.requires.no_list, c.requires.no_map)
+returns-in_default c b h = no_leaf_of_parts _ _ b c.args.more.now h (omega (arith, h.0)) (omega (arith, h.0))

@@ -1,21 +1,19 @@
-//! What stands at the front of bytes that are all there: leaves, and what comes after them.
+//! What stands at the front of bytes that are all there, and the bytes after it: payloads, keys,
+//! links, and items that have no others in them. `None` says that nothing of the kind stands there.
 
-ghost use Rattle.std.specs.Prelude.{◌≡◌, ◌≢◌, ◌<◌, ◌≤◌, length, List, ℕ, IsTrue, ◌↔◌};
-ghost use Rattle.std.specs.Prelude.{MatchOption, option_map};
+ghost use Rattle.std.specs.Prelude.{◌≡◌, ◌<◌, ◌≤◌, length, List, ℕ, MatchOption};
 ghost use Rattle.dagcbor_heads.specs.Splits.{SplitsHead};
-ghost use Rattle.ipld_tree.specs.Tree.{link};
+ghost use Rattle.ipld_tree.specs.Tree.{text, link};
 ghost use Rattle.ipld_tree.specs.Spelling.{IsFront};
 ghost use Rattle.dagcbor_decode.specs.Fronts.{SplitsPayload, SplitsText, SplitsCid, SplitsLeaf};
-ghost use Rattle.dagcbor_items.specs.Judging.{GivesRest};
-ghost use Rattle.dagcbor_items.specs.Places.{Follows};
 
-use dagcbor_decode::{is_cid, is_text};
+use crate::cid::is_cid;
+use crate::text::is_text;
 use dagcbor_heads::split_head;
-use ipld_tree::comes_before;
 
 /// The next n bytes, and the bytes after them.
 #[inline(always)]
-pub(crate) fn split_payload(bytes: &[u8], n: u64) -> Option<(&[u8], &[u8])>
+pub fn split_payload(bytes: &[u8], n: u64) -> Option<(&[u8], &[u8])>
     ensures { MatchOption result (length bytes.now < n)
         (λ p. SplitsPayload bytes.now n p.0.now p.1.now) }
 {
@@ -39,15 +37,18 @@ fn split_text(bytes: &[u8], n: u64) -> Option<(&[u8], &[u8])>
     Some((payload, rest))
 }
 
-/// Whether the key may come after the one before it.
+/// The bytes of a key, and the bytes after it.
 #[inline(always)]
-pub fn follows(previous: &Option<&[u8]>, key: &[u8]) -> bool
-    ensures { IsTrue result ↔ Follows (option_map (λ s. s.now) previous.now) key.now }
+pub(crate) fn split_key(bytes: &[u8]) -> Option<(&[u8], &[u8])>
+    ensures { MatchOption result
+        (¬ ((key : List ℕ) × (rest : List ℕ) × IsFront bytes.now (text key) rest))
+        (λ p. IsFront bytes.now (text p.0.now) p.1.now) }
 {
-    match previous {
-        None => true,
-        Some(before) => comes_before(before, key),
+    let (major, count, more) = split_head(bytes)?;
+    if major != 3 {
+        return None;
     }
+    split_text(more, count)
 }
 
 /// The bytes after a byte string of a zero and a CID.
@@ -57,11 +58,11 @@ fn behind_cid(bytes: &[u8]) -> Option<&[u8]>
         (¬ ((cid : List ℕ) × (rest : List ℕ) × SplitsCid bytes.now cid rest))
         (λ rest. (cid : List ℕ) × SplitsCid bytes.now cid rest.now) }
 {
-    let (major, count, behind) = split_head(bytes)?;
+    let (major, count, more) = split_head(bytes)?;
     if major != 2 {
         return None;
     }
-    let (payload, rest) = split_payload(behind, count)?;
+    let (payload, rest) = split_payload(more, count)?;
     let (zero, cid) = payload.split_first()?;
     if *zero != 0 {
         return None;
@@ -91,11 +92,11 @@ pub fn behind_link(bytes: &[u8]) -> Option<&[u8]>
         (¬ ((cid : List ℕ) × (rest : List ℕ) × IsFront bytes.now (link cid) rest))
         (λ rest. (cid : List ℕ) × IsFront bytes.now (link cid) rest.now) }
 {
-    let (major, number, behind) = split_head(bytes)?;
+    let (major, number, more) = split_head(bytes)?;
     if major != 6 {
         return None;
     }
-    behind_tag(number, behind)
+    behind_tag(number, more)
 }
 
 /// The bytes after a simple value, if it is one of data: false, true or null.
@@ -113,27 +114,26 @@ fn behind_simple(value: u64, bytes: &[u8]) -> Option<&[u8]>
     Some(bytes)
 }
 
-/// The bytes after an item that holds no others, whose head was split off.
+/// The bytes after an item whose head was split off, if it can have no others in it: it is no list and
+/// no map.
 #[inline(always)]
-pub(crate) fn behind_leaf(major: u8, argument: u64, behind: &[u8]) -> Option<&[u8]>
-    requires no_list { major ≢ 4 }
-    requires no_map { major ≢ 5 }
-    ensures { (b : List ℕ) → SplitsHead b major argument behind.now →
-        GivesRest (λ rest. rest.now) (SplitsLeaf b) result }
+pub fn behind_leaf(major: u8, argument: u64, more: &[u8]) -> Option<&[u8]>
+    ensures { (b : List ℕ) → SplitsHead b major argument more.now → MatchOption result
+        (¬ ((rest : List ℕ) × SplitsLeaf b rest)) (λ rest. SplitsLeaf b rest.now) }
 {
     match major {
-        0 => Some(behind),
-        1 => Some(behind),
+        0 => Some(more),
+        1 => Some(more),
         2 => {
-            let (_payload, rest) = split_payload(behind, argument)?;
+            let (_payload, rest) = split_payload(more, argument)?;
             Some(rest)
         }
         3 => {
-            let (_text, rest) = split_text(behind, argument)?;
+            let (_text, rest) = split_text(more, argument)?;
             Some(rest)
         }
-        6 => behind_tag(argument, behind),
-        7 => behind_simple(argument, behind),
+        6 => behind_tag(argument, more),
+        7 => behind_simple(argument, more),
         _ => None,
     }
 }

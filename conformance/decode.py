@@ -21,6 +21,7 @@ msg = lambda message: ("msg", message)
 unordered_key = ("unordered_key",)
 depth_overflow = lambda name: ("depth_overflow", name)
 trailing_data = ("trailing_data",)
+cast_overflow = lambda name: ("cast_overflow", name)
 # data Decoded
 got = lambda a, rest: ("got", a, rest)
 refused = lambda why, left: ("refused", why, left)

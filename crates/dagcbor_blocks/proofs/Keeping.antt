@@ -18,9 +18,12 @@ use Rattle.serde_ipld_dagcbor.specs.Spelling.{IsSpelling}
 use Rattle.serde_ipld_dagcbor.specs.Answers.{AreSpellingOf}
 use Rattle.serde_ipld_dagcbor.specs.Shapes.{Shape}
 use Rattle.serde_ipld_dagcbor.specs.Whole.{HoldsNoValue, OfWhole, LacksMemoryIf}
-use Rattle.serde_ipld_dagcbor.specs.Slices.{AreFirstLinks, LinksRefused}
 use Rattle.serde_ipld_dagcbor.specs.GrammarLaws.{SpellingsAreUnique}
 use Rattle.ipld_links.specs.Names.{block_name}
+use Rattle.dagcbor_decode.specs.Blocks.{AreFirstLinks}
+use Rattle.dagcbor_decode.specs.Decode.{decode_first}
+use Rattle.dagcbor_decode.specs.Verdicts.{AnswersLinks}
+use Rattle.dagcbor_decode.proofs.FirstLinks.{links_not_refused, told_of_none}
 use Rattle.dagcbor_blocks.specs.Errors.{TellsOfDecoding}
 use Rattle.ipld_links.specs.Sound.{IsSound}
 use Rattle.ipld_links.proofs.Sounding.{sound_own}
@@ -141,15 +144,15 @@ need_of b t h n = by_contradiction
     by_contradiction : 256 < any_need t
     by_contradiction = omega (arith, λ (le : any_need t ≤ 256). n (links_of t) (t, [], whole_front h, le, refl))
 
-exceeds : (b : List ℕ) (e : DecodeError Infallible) → LinksRefused e b → (e ≡ unread.OutOfMemory → ⊥) → ((links : List (List ℕ)) → AreFirstLinks b links → ⊥) → (t : Tree) → IsSpelling b t → ExceedsSteps e t
-exceeds b e r other none t s = (need_of b t s none, other, subst (LinksRefused e) s.is r)
+exceeds : (b : List ℕ) (e : DecodeError Infallible) → AnswersLinks (decode_first b) (Err e) → (e ≡ unread.OutOfMemory → ⊥) → (t : Tree) → IsSpelling b t → ExceedsSteps e t
+exceeds b e r other t s = (need_of b t s (λ links. links_not_refused b e links r other), other, subst (λ x. AnswersLinks (decode_first x) (Err e)) s.is r)
 
-pub not_checked : (b : List ℕ) (e : DecodeError Infallible) (told : BlockError) → LinksRefused e b → TellsOfDecoding e told → DepthRefused b told
-not_checked b (unread.Read e) told r h = absurd r
+pub not_checked : (b : List ℕ) (e : DecodeError Infallible) (told : BlockError) → AnswersLinks (decode_first b) (Err e) → TellsOfDecoding e told → DepthRefused b told
+not_checked b (unread.Read e) told r h = elim e [ ]
 not_checked b unread.OutOfMemory told r h = subst (DepthRefused b) (sym h) tt
-not_checked b (unread.RequireBorrowed n) told r h = absurd r
-not_checked b unread.Failed told r h = absurd r
-not_checked b _ told r h = subst (DepthRefused b) (sym h) (exceeds b _ r (λ same. cc) r.0)
+not_checked b (unread.RequireBorrowed n) told r h = absurd (told_of_none {E = Infallible} (decode_first b) (unread.RequireBorrowed n) refl r)
+not_checked b unread.Failed told r h = absurd (told_of_none {E = Infallible} (decode_first b) unread.Failed refl r)
+not_checked b _ told r h = subst (DepthRefused b) (sym h) (exceeds b _ r (λ same. cc))
 
 -- ---- putting
 

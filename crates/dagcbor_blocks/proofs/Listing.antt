@@ -1,28 +1,19 @@
 -- The links in held blocks that name no held block.
 use Rattle.std.proofs.Common.{◌≡◌, ◌⊎◌, inl, inr, ℕ, List, [], ◌∷◌, ◌++◌, Bool, true, false, cond, refl, sym, ap, ◌∙◌, subst, append_assoc, append-nil, ◌↔◌, Option, None, Some, Vec, Global, BTreeMap}
-use Rattle.std.specs.declared.convert.Infallible.{Infallible}
 use Rattle.std.specs.List.{AllByRecursion}
 use Rattle.std.specs.Map.{lookup}
 use Rattle.std.specs.BTreeMap.{is_at, get}
-use mathlib.Core.List.{is_set as List-set}
-use Rattle.std.proofs.Math.Nat.{ℕ_set}
-use Rattle.std.proofs.Math.Logic.{∥∥₁_elim}
 use Rattle.std.proofs.lemmas.Grind.{not_there}
-use Rattle.serde_ipld_dagcbor.specs.DecodeError.{DecodeError}
-use Rattle.serde_ipld_dagcbor.specs.DecodeError.TheVariants as unread
 use Rattle.serde_ipld_dagcbor.specs.Cid.{CidParts, AreCidParts, cid_bytes, cid_cmp}
 use Rattle.serde_ipld_dagcbor.specs.Walks.{forms}
 use Rattle.serde_ipld_dagcbor.specs.GrammarLaws.{CidEqualityIsOfBytes}
 use Rattle.ipld_links.specs.Blocks.{HasLinks, IsBlockOf}
 use Rattle.ipld_links.proofs.Rows.{one_links}
-use Rattle.dagcbor_blocks.specs.Errors.{TellsOfDecoding}
 use Rattle.dagcbor_blocks.specs.Sound.{IsSoundEntry}
 use Rattle.ipld_links.specs.Sets.{Among, members}
 use Rattle.ipld_links.specs.declared.cid_set.CidSet.{CidSet}
 use Rattle.dagcbor_blocks.specs.Blocks.{IsHeldLink, NamesNoneHeld}
 use Rattle.dagcbor_blocks.specs.Steps.{IsUnheld}
-use Rattle.dagcbor_blocks.specs.declared.error.BlockError.{BlockError}
-use Rattle.dagcbor_blocks.specs.declared.error.BlockError.TheVariants.{OutOfMemory}
 use Rattle.dagcbor_blocks.proofs.Unique.{cid_unique}
 use Rattle.dagcbor_blocks.proofs.Keeping.{BlockEntry, shown}
 use Rattle.dagcbor_blocks.proofs.Members.{all_among, found_among}

@@ -1,5 +1,5 @@
 -- What a store of blocks holds, and what its calls answer.
-use Rattle.std.specs.Prelude.{◌≡◌, ◌≢◌, ◌↔◌, ◌⊎◌, [], ◌∷◌, ℕ, ◌<◌, List, map, Option, None, Some, IfSome, IsSomeAnd, Result, MatchResult, Vec, ⊤, true}
+use Rattle.std.specs.Prelude.{◌≡◌, ◌≢◌, ◌↔◌, ◌⊎◌, [], ◌∷◌, ℕ, ◌<◌, List, map, Option, None, Some, IfSome, IsSomeAnd, Result, MatchResult, Vec, ⊤, true, Err}
 use Rattle.std.specs.List.Sorted.{IsStrictlySortedBy}
 use Rattle.std.specs.Map.{lookup}
 use Rattle.std.specs.BTreeMap.{is_at}
@@ -13,7 +13,8 @@ use Rattle.serde_ipld_dagcbor.specs.Tree.{Tree, any_need}
 use Rattle.serde_ipld_dagcbor.specs.Spelling.{IsSpellable, spelling}
 use Rattle.serde_ipld_dagcbor.specs.Shapes.{Shape}
 use Rattle.dagcbor_decode.specs.Blocks.{IsBlock}
-use Rattle.serde_ipld_dagcbor.specs.Slices.{LinksRefused}
+use Rattle.dagcbor_decode.specs.Decode.{decode_first}
+use Rattle.dagcbor_decode.specs.Verdicts.{AnswersLinks}
 use Rattle.serde_ipld_dagcbor.specs.Whole.{IsWhole}
 use Rattle.serde_ipld_dagcbor.specs.Walks.{forms}
 use Rattle.serde_ipld_dagcbor.specs.EncodeError.{EncodeError}
@@ -63,7 +64,7 @@ IsRefusalOfBytes _ = ⊤
 -- the tree needs more than 256 steps, and the cause of this refusal stands in its spelling
 abbrev pub ExceedsSteps : DecodeError Infallible → Tree → Type 0
 ExceedsSteps e t = (default_steps < any_need t) × (e ≢ unread.OutOfMemory)
-    × LinksRefused e (spelling t)
+    × AnswersLinks (decode_first (spelling t)) (Err e)
 
 -- other bytes than these are held under the name
 abbrev pub HoldsOther : CidParts → List ℕ → Held → Type 0

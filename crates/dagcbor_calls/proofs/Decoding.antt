@@ -6,7 +6,7 @@ use Rattle.dagcbor_heads.specs.declared.error.DecodeError.{DecodeError}
 use Rattle.dagcbor_heads.specs.declared.error.DecodeError.TheVariants as refusals
 use Rattle.std.specs.declared.convert.Infallible.{Infallible}
 use Rattle.dagcbor_heads.specs.Names.{name_bytes}
-use Rattle.dagcbor_decode.specs.Decode.{Decoded, Why, got, refused, eof, mismatch, unsupported, non_minimal, indefinite_size, require_utf8, msg, unordered_key, depth_overflow, trailing_data, decode}
+use Rattle.dagcbor_decode.specs.Decode.{Decoded, Why, got, refused, eof, mismatch, unsupported, non_minimal, indefinite_size, require_utf8, msg, unordered_key, depth_overflow, trailing_data, cast_overflow, decode}
 use Rattle.dagcbor_decode.specs.Blocks.{IsBlock}
 use Rattle.dagcbor_decode.specs.Verdicts.{why_of, answer, answered, judged, verdict, IsRefusedFor}
 use Rattle.dagcbor_decode.specs.TreeKinds.{kind_of}
@@ -39,7 +39,7 @@ why_told (refusals.Read e) why h = absurd (cc h)
 why_told (refusals.RequireLength name found) why h = absurd (cc h)
 why_told (refusals.RequireBorrowed name) why h = absurd (cc h)
 why_told (refusals.LengthOverflow name found) why h = absurd (cc h)
-why_told (refusals.CastOverflow name) why h = absurd (cc h)
+why_told (refusals.CastOverflow name) why h = ap why_code {x = cast_overflow (name_bytes name)} {y = why} (cc h)
 why_told (refusals.ArithmeticOverflow name ty) why h = absurd (cc h)
 why_told (refusals.LengthMismatch name expect value) why h = absurd (cc h)
 why_told refusals.OutOfMemory why h = absurd (cc h)

@@ -3,6 +3,8 @@ use Rattle.std.proofs.Common.{◌≡◌, ℕ, suc, ◌≤◌, List, [], ◌∷�
 use Rattle.dagcbor_heads.specs.Head.{head}
 use Rattle.ipld_tree.specs.Tree.{Tree, null, boolean, integer, text, bytes, list, mapping, link, Items, no_items, item, Entries, no_entries, entry, links_of, items_links, entries_links}
 use Rattle.ipld_tree.specs.Spelling.{spelling, items_spelling, entries_spelling, text_spelling, item_count, entry_count, IsFront}
+use Rattle.std.specs.List.{flat_map}
+use Rattle.dagcbor_decode.specs.Rows.{HoldsLinks}
 use Rattle.dagcbor_calls.specs.Packed.{packed_cids, packed_links}
 
 packed_both : (links more : List (List ℕ)) → packed_cids (links ++ more) ≡ packed_cids links ++ packed_cids more
@@ -42,6 +44,14 @@ mutual
   entries_fit no_entries = omega arith
   entries_fit (entry k t es) = behind_fits (links_of t ++ entries_links es) (text_spelling k) (spelling t ++ entries_spelling es)
       (both_fit (links_of t) (entries_links es) (spelling t) (entries_spelling es) (links_fit t) (entries_fit es))
+
+-- packed links of items in a row need no more bytes than these
+pub row_fits : (items : List ℕ) (links : List (List ℕ)) → HoldsLinks items links → length (packed_cids links) ≤ length items
+row_fits items links h = omega (arith, trees_fit h.trees, ap (λ ls. length (packed_cids ls)) h.are, ap length h.is)
+  where
+    trees_fit : (ts : List Tree) → length (packed_cids (flat_map links_of ts)) ≤ length (flat_map spelling ts)
+    trees_fit [] = omega arith
+    trees_fit (t ∷ ts) = both_fit (links_of t) (flat_map links_of ts) (spelling t) (flat_map spelling ts) (links_fit t) (trees_fit ts)
 
 -- packed links need no more bytes than those that their item begins
 pub packed_fits : (b rest : List ℕ) (t : Tree) → IsFront b t rest → length (packed_links t) ≤ length b

@@ -1,15 +1,8 @@
 -- What callers in other languages are answered.
-use Rattle.std.specs.Prelude.{◌≡◌, ◌≢◌, ◌⊎◌, ℕ, ◌-◌, ◌^◌, ◌≤◌, min, ℤ, negsuc, List, length, Option, None, Some}
-use Rattle.std.specs.declared.convert.Infallible.{Infallible}
-use Rattle.dagcbor_heads.specs.Reading.{default_steps}
-use Rattle.dagcbor_heads.specs.declared.error.DecodeError.{DecodeError}
-use Rattle.dagcbor_heads.specs.declared.error.DecodeError.TheVariants.{OutOfMemory}
-use Rattle.ipld_tree.specs.Tree.{Tree, any_need}
-use Rattle.ipld_tree.specs.Spelling.{IsFront}
-use Rattle.dagcbor_decode.specs.Decode.{decode}
-use Rattle.dagcbor_decode.specs.TreeKinds.{kind_of}
-use Rattle.dagcbor_items.specs.Slices.{LinksRefused}
-use Rattle.dagcbor_calls.specs.Codes.{kind_code, refusal_code, check_code}
+use Rattle.std.specs.Prelude.{◌≡◌, ℕ, ◌-◌, ◌^◌, ◌≤◌, min, ℤ, negsuc, List, [], length, Option, None, Some}
+use Rattle.ipld_tree.specs.Tree.{Tree}
+use Rattle.dagcbor_decode.specs.Decode.{Decoded, got, refused, decode, decode_first}
+use Rattle.dagcbor_calls.specs.Codes.{check_code, decoded_code}
 use Rattle.dagcbor_calls.specs.Packed.{packed_links, with_front}
 use Rattle.dagcbor_calls.specs.CidTexts.{room_code}
 use Rattle.dagcbor_calls.specs.Tapes.{tape_of, with_tokens, decoded_tape}
@@ -17,14 +10,16 @@ use Rattle.dagcbor_calls.specs.Told.{tape_told}
 use Rattle.dagcbor_calls.specs.Standing.{AreFrontTokens, end_of}
 use Rattle.dagcbor_calls.specs.declared.tape.Token.{Token}
 
--- the number of the kind of the item that stands first within `default_steps`, and how many bytes
--- its packed links need, which stand at the front of the memory where there is room for them all,
--- and else nothing changed there; or the number of a refusal whose cause stands, never want of
--- memory, and then nothing is needed, and nothing changed
-abbrev pub IsLinksAnswer : List ℕ → List ℕ → List ℕ → ℕ → ℤ → Type 0
-IsLinksAnswer b old new needed code =
-    ((t : Tree) × (rest : List ℕ) × IsFront b t rest × (any_need t ≤ default_steps) × (code ≡ kind_code (kind_of t)) × (needed ≡ length (packed_links t)) × (new ≡ with_front (packed_links t) old))
-    ⊎ ((e : DecodeError Infallible) × LinksRefused e b × (e ≢ OutOfMemory) × (code ≡ refusal_code e) × (needed ≡ 0) × (new ≡ old))
+-- the packed links of what is decoded
+abbrev pub packed_of : Decoded Tree → List ℕ
+packed_of (got t rest) = packed_links t
+packed_of (refused why left) = []
+
+-- of the links of the first item: the number, how many bytes they need, packed, and the memory after the
+-- call
+abbrev pub links_answer : List ℕ → List ℕ → ℤ × ℕ × List ℕ
+links_answer b old =
+    (decoded_code (decode_first b), length (packed_of (decode_first b)), with_front (packed_of (decode_first b)) old)
 
 -- of a tape: the number, how many tokens are needed, and the tape after the call
 abbrev pub tape_answer : List ℕ → List Token → ℤ × ℕ × List Token

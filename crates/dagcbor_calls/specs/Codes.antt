@@ -3,7 +3,7 @@ use Rattle.std.specs.Prelude.{ℕ, ℤ, pos, negsuc, List, Result, Ok, Err}
 use Rattle.dagcbor_heads.specs.declared.error.DecodeError.{DecodeError}
 use Rattle.dagcbor_heads.specs.declared.error.DecodeError.TheVariants as refusals
 use Rattle.ipld_tree.specs.Tree.{Tree}
-use Rattle.dagcbor_decode.specs.Decode.{Decoded, Why, got, refused, eof, mismatch, unsupported, non_minimal, indefinite_size, require_utf8, msg, unordered_key, depth_overflow, trailing_data, decode}
+use Rattle.dagcbor_decode.specs.Decode.{Decoded, Why, got, refused, eof, mismatch, unsupported, non_minimal, indefinite_size, require_utf8, msg, unordered_key, depth_overflow, trailing_data, cast_overflow, decode}
 use Rattle.dagcbor_decode.specs.TreeKinds.{kind_of}
 use Rattle.dagcbor_decode.specs.declared.kind.Kind.{Kind}
 use Rattle.dagcbor_decode.specs.declared.kind.Kind.TheVariants as kinds
@@ -32,6 +32,7 @@ why_code (eof name expect) = negsuc 2
 why_code (mismatch name found) = negsuc 3
 why_code (unsupported name found) = negsuc 4
 why_code (require_utf8 name) = negsuc 7
+why_code (cast_overflow name) = negsuc 9
 why_code (depth_overflow name) = negsuc 11
 why_code trailing_data = negsuc 13
 why_code indefinite_size = negsuc 14

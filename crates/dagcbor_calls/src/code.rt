@@ -15,7 +15,7 @@ pub(crate) const NO_ROOM: i32 = -21;
 pub(crate) const NO_CID: i32 = -26;
 
 /// The number of an answer.
-pub fn code_of<E>(answer: &Result<Kind, DecodeError<E>>) -> i32
+fn code_of<E>(answer: &Result<Kind, DecodeError<E>>) -> i32
     ensures { result ≡ answer_code answer.now }
 {
     match answer {

@@ -25,13 +25,11 @@ pub fn put_header(bytes: &[u8], out: &mut [u8], needed: &mut usize, behind: &mut
 {
     *needed = 0;
     match judge_header(bytes) {
-        Ok((block, rest)) => match put_links(block, out, needed) {
-            Ok(_kind) => {
-                *behind = bytes.len() - rest.len();
-                0
-            }
-            Err(_) => unreachable!(),
-        },
+        Ok((block, rest)) => {
+            put_links(block, out, needed);
+            *behind = bytes.len() - rest.len();
+            0
+        }
         Err(fault) => header_code(&fault),
     }
 }

@@ -18,7 +18,7 @@ mod tape;
 mod told;
 
 pub use cid::{put_cid_of_text, put_cid_text, put_front};
-pub use code::{check, code_of, kind_code, refusal_code};
+pub use code::{check, kind_code, refusal_code};
 pub use compact::{CompactToken, put_compact_tape};
 pub use find::{put_followed, put_found, put_part};
 pub use header::put_header;

@@ -1,26 +1,26 @@
 //! The links of an item, packed: each a byte of its CID's length, and the CID.
 
-ghost use Rattle.std.specs.Prelude.{◌≡◌, false};
-ghost use Rattle.dagcbor_calls.specs.Packed.{HoldsPacked, PacksBytes, put_at, Fills, PutsLinks};
+ghost use Rattle.std.specs.Prelude.{◌≡◌, ◌∷◌, [], List, ℕ};
+ghost use Rattle.ipld_tree.specs.Cid.{cid_bytes};
+ghost use Rattle.dagcbor_decode.specs.Rows.{HoldsLinks};
+ghost use Rattle.dagcbor_calls.specs.Packed.{PacksBytes, PacksCid, Packs, put_at};
+ghost use Rattle.dagcbor_calls.specs.Answers.{links_answer};
 
+use crate::code::{kind_code, refusal_code};
 use arrayvec::ArrayVec;
-use dagcbor_decode::Kind;
-use dagcbor_heads::DecodeError;
-use dagcbor_items::{LinkSink, walk_slice};
+use dagcbor_decode::{first_item, kind_of_front, next_link};
 use ipld_tree::Cid;
-use std::alloc::AllocError;
-use std::convert::Infallible;
 
 /// Memory that is lent for packed links, and how many bytes they need. What has no room in it is
 /// counted alone.
 #[derive(Drop)]
-pub(crate) struct PackedLinks<'a> {
-    pub(crate) out: &'a mut [u8],
-    pub(crate) needed: usize,
+struct PackedLinks<'a> {
+    out: &'a mut [u8],
+    needed: usize,
 }
 
 impl<'a> PackedLinks<'a> {
-    pub(crate) fn new(out: &'a mut [u8]) -> PackedLinks<'a>
+    fn new(out: &'a mut [u8]) -> PackedLinks<'a>
         ensures reference { result.out.ghost_name ≡ out.entry.ghost_name }
         ensures bytes { result.out.now ≡ out.old }
         ensures needed { result.needed ≡ 0 }
@@ -28,24 +28,22 @@ impl<'a> PackedLinks<'a> {
         PackedLinks { out, needed: 0 }
     }
 
-    /// Puts the bytes behind those before, and counts them.
-    pub(crate) fn put(&mut self, bytes: &[u8])
+    /// Puts the bytes after those before, and counts them.
+    fn put(&mut self, bytes: &[u8])
         ensures { PacksBytes bytes.now self.old self.new }
     {
         put_at(self.out, self.needed, bytes);
         self.needed = self.needed.saturating_add(bytes.len());
     }
-}
 
-impl LinkSink for PackedLinks<'_> {
-    ghost sink = { record { holds = HoldsPacked; takes_memory = false } };
-
-    fn take(&mut self, cid: Cid) -> Result<(), AllocError> {
+    /// Puts a byte of the CID's length, and the CID.
+    fn put_cid(&mut self, cid: Cid)
+        ensures { PacksCid (cid_bytes cid) self.old self.new }
+    {
         let mut form = ArrayVec::new();
         cid.write_bytes(&mut form);
         self.put(&[form.len() as u8]);
         self.put(&form);
-        Ok(())
     }
 }
 
@@ -58,33 +56,37 @@ fn put_at(out: &mut [u8], at: usize, bytes: &[u8])
     }
 }
 
-/// Puts the links of the first item at the front of `out`, where there is room for them all.
-fn fill(bytes: &[u8], out: &mut [u8]) -> Result<Kind, DecodeError<Infallible>>
-    ensures { Fills bytes.now out.old out.new result }
+/// Puts the links of items in a row at the front of `out`, packed, where there is room for them all;
+/// and how many bytes they need.
+fn pack(items: &[u8], out: &mut [u8]) -> usize
+    requires { (links : List (List ℕ)) × HoldsLinks items.now links }
+    ensures { Packs items.now out.old out.new result }
 {
     let mut packed = PackedLinks::new(out);
-    let kind = walk_slice(bytes, &mut packed)?;
+    let mut rest = items;
+    while let Some(found) = next_link(rest) {
+        packed.put_cid(found.0);
+        rest = found.1;
+    }
     // No effect at run time. The proof reads what `out` holds from this use.
     let _ = packed.out.len();
-    Ok(kind)
+    packed.needed
 }
 
-/// The kind of the first item, whose links are counted, and put into `out` where there is room for
-/// them all.
-pub fn put_links(
-    bytes: &[u8],
-    out: &mut [u8],
-    needed: &mut usize,
-) -> Result<Kind, DecodeError<Infallible>>
-    ensures { PutsLinks bytes.now out.old out.new needed.new result }
+/// The number of the kind of the first item, whose links are counted, and put at the front of `out`,
+/// packed, where there is room for them all; or that of the refusal.
+pub fn put_links(bytes: &[u8], out: &mut [u8], needed: &mut usize) -> i32
+    ensures { (result, needed.new, out.new) ≡ links_answer bytes.now out.old }
 {
     *needed = 0;
-    let mut none = [0; 0];
-    let mut counted = PackedLinks::new(&mut none);
-    let kind = walk_slice(bytes, &mut counted)?;
-    *needed = counted.needed;
-    if counted.needed <= out.len() {
-        fill(bytes, out)?;
+    match first_item(bytes) {
+        Ok(item) => {
+            *needed = pack(item, &mut [0; 0]);
+            if *needed <= out.len() {
+                pack(item, out);
+            }
+            kind_code(kind_of_front(item))
+        }
+        Err(refusal) => refusal_code(&refusal),
     }
-    Ok(kind)
 }

@@ -6,7 +6,7 @@ use Rattle.ipld_tree.specs.Spelling.{spelling, IsSpelling}
 use Rattle.ipld_tree.proofs.Fronts.{front_unique}
 use Rattle.dagcbor_items.specs.Walks.{forms}
 use Rattle.dagcbor_decode.specs.Blocks.{IsBlock}
-use Rattle.dagcbor_items.specs.Slices.{AreFirstLinks}
+use Rattle.dagcbor_decode.specs.Blocks.{AreFirstLinks}
 use Rattle.dagcbor_items.proofs.SliceReads.{whole_front}
 use Rattle.dagcbor_write.specs.Trees.{field}
 use Rattle.dagcbor_write.specs.Answers.{AreSpellingOf}

@@ -28,7 +28,7 @@ led steps major n behind v fits f =
 string_front : (name : List ℕ) (first : ℕ) (more s rest : List ℕ) → ((name : List ℕ) → argument_of name first more ≡ got (length s) (s ++ rest)) → string_of name first more ≡ got s rest
 string_front name first more s rest r = ap (λ x. after x (payload name)) (r name) ∙ payload_front name (length s) s rest refl
 
-text_front : (name : List ℕ) (first : ℕ) (more s rest : List ℕ) → IsUtf8 s → ((name : List ℕ) → argument_of name first more ≡ got (length s) (s ++ rest)) → text_of name first more ≡ got s rest
+pub text_front : (name : List ℕ) (first : ℕ) (more s rest : List ℕ) → IsUtf8 s → ((name : List ℕ) → argument_of name first more ≡ got (length s) (s ++ rest)) → text_of name first more ≡ got s rest
 text_front name first more s rest w r =
     let yes : is_utf8 s ≡ true = is_utf8-from_IsUtf8 s w in
     ap (λ x. after x (utf8_of name)) (string_front name first more s rest r) ∙ rw yes refl

@@ -12,6 +12,7 @@ pub mod Refusing
 pub mod Left
 pub mod Standing
 pub mod Named
+pub mod Refusals
 pub mod FrontKinds
 pub mod Rows
 pub mod FirstLinks

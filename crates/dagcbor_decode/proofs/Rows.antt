@@ -1,5 +1,5 @@
 -- The links of items in a row.
-use Rattle.std.proofs.Common.{◌≡◌, ◌≢◌, ℕ, ◌+◌, ◌<◌, ◌≤◌, List, [], ◌∷◌, ◌++◌, length, length-append, append_assoc, append-nil, drop, take, refl, IsTrue, Bool, true, false, map, ◌-◌, if◌then◌else◌, pos, negsuc, sym, ap, ◌∙◌, subst, arith, flat_map, take-append-drop}
+use Rattle.std.proofs.Common.{◌≡◌, ◌≢◌, ℕ, ◌+◌, ◌<◌, ◌≤◌, List, [], ◌∷◌, ◌++◌, length, length-append, append_assoc, append-nil, drop, take, refl, IsTrue, Bool, true, false, map, if◌then◌else◌, pos, negsuc, sym, ap, ◌∙◌, subst, arith, flat_map, take-append-drop}
 use Rattle.std.specs.List.{AllByRecursion}
 use Rattle.std.proofs.Math.Seq.{drop-append_seam, take-append_seam}
 use Rattle.std.proofs.lemmas.List.Concat.{flat_map-append}
@@ -206,13 +206,3 @@ not_none b found c rest after s next links h none =
     by : (front : List (List ℕ)) → [] ≡ front ++ (cid_bytes c ∷ (next (s.left links h).0 (s.left links h).2).0) → ⊥
     by [] e = absurd (cc e)
     by (x ∷ front) e = absurd (cc e)
-
--- ---- the first item
-
-pub first_row : (b : List ℕ) (t : Tree) (rest : List ℕ) → IsFront b t rest → HoldsLinks (take (length b - length rest) b) (links_of t)
-first_row b t rest f = record {
-  trees = t ∷ [];
-  whole = ((f.well_formed, f.spellable), tt);
-  is = ap (λ n. take n b) {x = length b - length rest} {y = length (spelling t)} (omega (arith, ap length f.is, length-append (spelling t) rest)) ∙ ap (take (length (spelling t))) f.is ∙ take-append_seam (spelling t) rest ∙ sym (append-nil (spelling t));
-  are = sym (append-nil (links_of t));
-}

@@ -23,6 +23,8 @@ pub data Why : Type 0 where
   unordered_key : Why
   depth_overflow : List ℕ → Why
   trailing_data : Why
+  -- of a number that a type does not have
+  cast_overflow : List ℕ → Why
 
 pub data Decoded (A : Type 0) : Type 0 where
   got : A → List ℕ → Decoded A

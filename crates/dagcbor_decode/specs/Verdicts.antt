@@ -3,10 +3,10 @@ use Rattle.std.specs.Prelude.{◌≡◌, ◌≢◌, ℕ, ◌-◌, List, [], leng
 use Rattle.std.specs.declared.alloc.Global.{Global}
 use Rattle.dagcbor_heads.specs.Names.{name_bytes}
 use Rattle.dagcbor_heads.specs.declared.error.DecodeError.{DecodeError}
-use Rattle.dagcbor_heads.specs.declared.error.DecodeError.TheVariants.{Msg, Eof, Mismatch, Unsupported, RequireUtf8, DepthOverflow, TrailingData, IndefiniteSize, NonMinimal, UnorderedKey, OutOfMemory}
+use Rattle.dagcbor_heads.specs.declared.error.DecodeError.TheVariants.{Msg, Eof, Mismatch, Unsupported, RequireUtf8, DepthOverflow, TrailingData, IndefiniteSize, NonMinimal, UnorderedKey, CastOverflow, OutOfMemory}
 use Rattle.ipld_tree.specs.Cid.{CidParts, cid_bytes}
 use Rattle.ipld_tree.specs.Tree.{Tree, links_of}
-use Rattle.dagcbor_decode.specs.Decode.{Decoded, Why, got, refused, eof, mismatch, unsupported, non_minimal, indefinite_size, require_utf8, msg, unordered_key, depth_overflow, trailing_data, decode}
+use Rattle.dagcbor_decode.specs.Decode.{Decoded, Why, got, refused, eof, mismatch, unsupported, non_minimal, indefinite_size, require_utf8, msg, unordered_key, depth_overflow, trailing_data, cast_overflow, decode}
 use Rattle.dagcbor_decode.specs.TreeKinds.{kind_of}
 use Rattle.dagcbor_decode.specs.declared.kind.Kind.{Kind}
 use Rattle.dagcbor_decode.specs.declared.slices.Refused.{Refused}
@@ -23,7 +23,13 @@ why_of (Msg message) = Some (msg (name_bytes message))
 why_of UnorderedKey = Some unordered_key
 why_of (DepthOverflow name) = Some (depth_overflow (name_bytes name))
 why_of TrailingData = Some trailing_data
+why_of (CastOverflow name) = Some (cast_overflow (name_bytes name))
 why_of _ = None
+
+-- nothing is read, for what the refusal says
+abbrev pub IsRefusal : {A E : Type 0} → Decoded A → DecodeError E → Type 0
+IsRefusal (got a rest) e = ⊥
+IsRefusal (refused why left) e = why_of e ≡ Some why
 
 -- the place of a refusal: after all the bytes where some are missing, else the last byte that was
 -- looked at

@@ -20,7 +20,7 @@ mod text;
 pub use cid::is_cid;
 pub use front::{behind_leaf, behind_link, split_payload};
 pub use kind::{Kind, kind_at, kind_of_front};
-pub use links::{links_from_slice, links_of_items, next_link};
+pub use links::{first_item, links_from_slice, links_of_items, next_link};
 pub use part::follows;
 pub use printed_names::{kind_name, variant_name};
 pub use slices::{Refused, check_slice, judge_slice};

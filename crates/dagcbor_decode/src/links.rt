@@ -1,12 +1,13 @@
 //! The links of an item that was judged. Nothing of it is tested again.
 
 ghost use Rattle.std.specs.Prelude.{◌≡◌, ◌<◌, ◌≤◌, ◌+◌, List, ℕ, [], ◌∷◌, length, drop, map, IsTrue};
-ghost use Rattle.std.specs.Prelude.{IfSome, IfOk, IfErr, ◌≢◌, MatchOption, if◌then◌else◌};
+ghost use Rattle.std.specs.Prelude.{IfSome, IfOk, IfErr, ◌≢◌, MatchOption, MatchResult, if◌then◌else◌};
 ghost use Rattle.ipld_tree.specs.Cid.{cid_bytes};
 ghost use Rattle.dagcbor_decode.specs.Decode.{decode_first};
 ghost use Rattle.dagcbor_decode.specs.Fronts.{SplitsCid};
-ghost use Rattle.dagcbor_decode.specs.Rows.{HoldsLinks, is_string};
-ghost use Rattle.dagcbor_decode.specs.Verdicts.{AnswersLinks};
+ghost use Rattle.dagcbor_decode.specs.Rows.{HoldsLinks, IsFirstItem, is_string};
+ghost use Rattle.dagcbor_decode.specs.Blocks.{AreFirstLinks};
+ghost use Rattle.dagcbor_decode.specs.Verdicts.{AnswersLinks, IsRefusal};
 
 use crate::cause::Stop;
 use crate::judge::judge_item;
@@ -82,6 +83,18 @@ pub fn links_of_items(alloc: Global, items: &[u8]) -> Result<Vec<Cid>, AllocErro
     Ok(links)
 }
 
+/// The bytes of the first item. What follows it is not looked at.
+pub fn first_item(bytes: &[u8]) -> Result<&[u8], DecodeError<Infallible>>
+    ensures { MatchResult result (λ item. IsFirstItem bytes.now item.now)
+        (λ e. IsRefusal (decode_first bytes.now) e) }
+{
+    let mut stop = Stop::new();
+    let Some(rest) = judge_item(DEFAULT_STEPS, bytes, &mut stop) else {
+        return Err(stop.cause.refusal());
+    };
+    Ok(bytes.split_at(bytes.len() - rest.len()).0)
+}
+
 /// The links of the first item of the bytes. What follows it is not looked at.
 ///
 /// ```rust
@@ -92,13 +105,10 @@ pub fn links_of_items(alloc: Global, items: &[u8]) -> Result<Vec<Cid>, AllocErro
 /// agree(first.to_bytes(alloc)?.as_slice(), &link[5..])
 /// ```
 pub fn links_from_slice(alloc: Global, bytes: &[u8]) -> Result<Vec<Cid>, DecodeError<Infallible>>
-    ensures { AnswersLinks (decode_first bytes.now) result }
+    ensures decoded { AnswersLinks (decode_first bytes.now) result }
+    ensures links { IfOk result (λ v. AreFirstLinks bytes.now (map cid_bytes v.items)) }
 {
-    let mut stop = Stop::new();
-    let Some(rest) = judge_item(DEFAULT_STEPS, bytes, &mut stop) else {
-        return Err(stop.cause.refusal());
-    };
-    let item = bytes.split_at(bytes.len() - rest.len()).0;
+    let item = first_item(bytes)?;
     match links_of_items(alloc, item) {
         Ok(links) => Ok(links),
         Err(_) => Err(DecodeError::OutOfMemory),

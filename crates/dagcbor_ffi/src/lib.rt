@@ -10,7 +10,7 @@ ghost use Rattle.ipld_tree.specs.Cid.{cid_bytes};
 ghost use Rattle.ipld_links.specs.Names.{block_name};
 ghost use Rattle.dagcbor_calls.specs.Codes.{check_code};
 ghost use Rattle.dagcbor_calls.specs.Answers.{tape_answer, spell_answer};
-ghost use Rattle.dagcbor_calls.specs.Answers.{IsLinksAnswer, IsTokensAnswer};
+ghost use Rattle.dagcbor_calls.specs.Answers.{links_answer, IsTokensAnswer};
 ghost use Rattle.dagcbor_calls.specs.CompactTapes.{compact_tape_answer};
 ghost use Rattle.dagcbor_calls.specs.Headers.{IsHeaderAnswer};
 ghost use Rattle.dagcbor_calls.specs.Sections.{IsSectionAnswer, IsVerifyAnswer};
@@ -19,9 +19,9 @@ ghost use Rattle.dagcbor_calls.specs.Finds.{IsFindAnswer, IsPartAnswer, IsFollow
 ghost use Rattle.dagcbor_calls.specs.CidTexts.{IsCidTextAnswer, IsCidFromTextAnswer};
 
 use dagcbor_calls::{
-    CompactToken, Token, check, code_of, judge_named, judge_section, name_of, put_cid_of_text,
-    put_cid_text, put_compact_tape, put_followed, put_found, put_front_tape, put_header, put_links,
-    put_part, put_span, put_tape, spell_tape,
+    CompactToken, Token, check, judge_named, judge_section, name_of, put_cid_of_text, put_cid_text,
+    put_compact_tape, put_followed, put_found, put_front_tape, put_header, put_links, put_part,
+    put_span, put_tape, spell_tape,
 };
 
 /// The number of the kind of a block, from 0; below 0 that of the refusal.
@@ -38,9 +38,9 @@ pub extern "C" fn dagcbor_check(bytes: &[u8]) -> i32
 /// it stays.
 #[unsafe(no_mangle)]
 pub extern "C" fn dagcbor_links(bytes: &[u8], out: &mut [u8], needed: &mut usize) -> i32
-    ensures { IsLinksAnswer bytes.now out.old out.new needed.new result }
+    ensures { (result, needed.new, out.new) ≡ links_answer bytes.now out.old }
 {
-    code_of(&put_links(bytes, out, needed))
+    put_links(bytes, out, needed)
 }
 
 /// The number of the kind of a block, from 0; below 0 that of the refusal. `needed` becomes the number

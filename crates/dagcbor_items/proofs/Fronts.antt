@@ -1,26 +1,29 @@
 -- What the bytes at the front say of the tree that stands there.
-use Rattle.std.proofs.Common.{◌≡◌, inl, ℕ, suc, ◌+◌, ◌*◌, ◌/◌, ◌^◌, ◌<◌, ◌≤◌, List, ◌∷◌, ◌++◌, sym, ap, ◌∙◌, subst, arith, [], length, refl, length-append, Some, codes}
+use Rattle.std.proofs.lemmas.Bool.Decides.{eqb_tells}
+use Rattle.std.proofs.Common.{◌≡◌, inl, inr, ℕ, zero, suc, ◌+◌, ◌*◌, ◌/◌, ◌^◌, ◌<◌, ◌≤◌, List, ◌∷◌, ◌++◌, sym, ap, ◌∙◌, subst, arith, [], length, refl, length-append, Some, codes}
 use Rattle.dagcbor_heads.specs.Head.{head}
 use Rattle.dagcbor_heads.specs.Reading.{Reading, Stays}
 use Rattle.dagcbor_heads.specs.Fronts.{HasByte, HasHead, StartsWith, TakesHead}
 use Rattle.dagcbor_heads.specs.Causes.{ByteCause, HeadCause, IsEndNamed, IsNamed}
-use Rattle.dagcbor_heads.specs.Names.{Names}
 use Rattle.dagcbor_heads.specs.Refusals.{RefusesPlainly, Refuses}
 use Rattle.dagcbor_heads.specs.declared.error.DecodeError.{DecodeError}
 use Rattle.dagcbor_heads.specs.declared.error.DecodeError.TheVariants.{Eof}
 use Rattle.dagcbor_heads.proofs.Heads.{head_first}
 use Rattle.dagcbor_heads.proofs.Taking.{stays}
-use Rattle.dagcbor_heads.proofs.Refusing.{passed_on, byte_in_head}
+use Rattle.dagcbor_heads.proofs.Refusing.{passed_on}
 use Rattle.ipld_tree.specs.Tree.{Tree}
 use Rattle.ipld_tree.specs.Spelling.{IsFront, spelling}
 use Rattle.ipld_tree.proofs.Unique.{major, argument, payload, argument_fits}
 use Rattle.ipld_tree.proofs.Fronts.{front_head, front_first, front_nonempty, major_le}
-use Rattle.dagcbor_items.specs.FirstBytes.{BeginsFrom}
-use Rattle.dagcbor_items.specs.ItemCauses.{CauseInside, item_name, major_name}
-use Rattle.dagcbor_items.proofs.Places.{cause_here}
+use Rattle.dagcbor_decode.specs.Decode.{argument_of, item_of}
+use Rattle.dagcbor_decode.specs.Verdicts.{IsRefusal}
+use Rattle.dagcbor_decode.proofs.Refusals.{ended, head_refused, kept_short}
+use Rattle.dagcbor_items.specs.Leaves.{number_name}
+use Rattle.dagcbor_items.specs.ReadCauses.{ItemCause}
+use Rattle.dagcbor_items.proofs.ItemRefusals.{at_steps, natural_head, negative_head}
 use Rattle.dagcbor_items.specs.Shapes.{Shape}
 use Rattle.dagcbor_items.specs.TypedReads.{HasFront}
-use Rattle.dagcbor_items.specs.Untyped.{HasItem, TakesItem, StartsWithMajor}
+use Rattle.dagcbor_items.specs.Untyped.{HasItem, TakesItem, StartsWithMajor, StartsDefinite}
 
 -- ---- the major type at the front
 
@@ -41,6 +44,9 @@ major_of_front b rest t expected h f = major_of_head b (payload t ++ rest) (majo
 pub major_at : (r : Reading) (first m : ℕ) → StartsWith r first → first / 32 ≡ m → StartsWithMajor r m
 major_at r first m h e b l = (first, (h b l).0, (h b l).1, e)
 
+pub definite : (r : Reading) {m : ℕ} → StartsDefinite r m → StartsWithMajor r m
+definite r h b l = let s = h b l in (s.0, s.1, s.2, s.3)
+
 -- a tree takes a byte at least
 pub shorter : (b rest : List ℕ) (t : Tree) → IsFront b t rest → length rest < length b
 shorter b rest t f = by (spelling t) refl
@@ -50,13 +56,6 @@ shorter b rest t f = by (spelling t) refl
     by (x ∷ s) e = omega (arith, ap length (f.is ∙ ap (λ y. y ++ rest) e), length-append (x ∷ s) rest)
 
 -- ---- what is refused where no byte or no head stands
-
--- the first byte is of a major type up to 5
-begins_major : (r : Reading) (m : ℕ) → m ≤ 5 → StartsWithMajor r m → (b : List ℕ) → r.left ≡ Some b → BeginsFrom 0 5 b
-begins_major r m few starts b l first more is =
-    let s = starts b l in
-    let same : first ≡ s.0 = cc (is, s.2) in
-    (omega arith, omega (arith, few, same, s.3))
 
 pub front_head_stands : {V : Type 0} {shape : Shape Tree V} {r : Reading} → HasFront shape r → HasHead r
 front_head_stands h = record {
@@ -71,32 +70,36 @@ front_head_stands h = record {
 pub front_byte : {V : Type 0} {shape : Shape Tree V} {r : Reading} → HasFront shape r → HasByte r
 front_byte h = let f = front_first h.bytes h.rest h.tree h.front in record { byte = 32 * major h.tree + f.0; rest = f.1; left = h.left ∙ ap Some f.3 }
 
--- the name of what begins with a byte of the major type
-pub item_named : (b : List ℕ) (m : ℕ) → MajorAt b m → item_name b ≡ major_name m
-item_named b m h = ap item_name h.2 ∙ ap major_name h.3
+-- what begins with no head, after its first byte
+pub no_argument : {E : Type 0} (name : List ℕ) (e : DecodeError E) (first : ℕ) (b more : List ℕ) → length name ≤ 31 → b ≡ first ∷ more → IsNamed name e → HeadCause e b → IsRefusal (argument_of name first more) e
+no_argument {E} name e first b more short is named h = head_refused name name e (first ∷ more) (kept_short name short) named (subst (HeadCause {E = E} e) is h)
 
-pub head_refused : {E : Type 0} (lacks : Type 0) (spent m : ℕ) (old new : Reading) (e : DecodeError E) → m ≤ 5 → StartsWithMajor old m → IsNamed (major_name m) e → RefusesPlainly (HasHead old) HeadCause old e new → Refuses (record { could = HasItem (suc spent) old; lacks = lacks; borrows = ⊥; stands = CauseInside (old.steps + suc spent) }) old e new
-head_refused lacks spent m old new e few starts named r =
-    passed_on HeadCause (CauseInside (old.steps + suc spent)) old old new e (stays old) front_head_stands (λ x. absurd x) (λ x. x)
-    (λ b l. (b, l, λ h. cause_here _ e b (omega arith) (inl (h, inl (begins_major old m few starts b l), subst (λ x. IsNamed x e) (sym (item_named b m (starts b l))) named)))) r
+number_head : {E : Type 0} (steps : ℕ) (name : List ℕ) (e : DecodeError E) (first : ℕ) (b more : List ℕ) → 0 < steps → b ≡ first ∷ more → first / 32 ≤ 1 → name ≡ number_name (first / 32) → IsNamed name e → HeadCause e b → ItemCause steps e b
+number_head {E} steps name e first b more some is few called named h = elim (eqb_tells (first / 32) 0) [
+  | inl a ↦ let u : name ≡ codes "u64" = called ∙ rw a.0 refl in natural_head steps e first b more some is a.1 (no_argument (codes "u64") e first b more (omega arith) is (subst (λ x. IsNamed x e) u named) h)
+  | inr a ↦ let u : name ≡ codes "any" = called ∙ rw a.0 refl in negative_head steps e first b more some is (one (first / 32) few a.1) (no_argument (codes "any") e first b more (omega arith) is (subst (λ x. IsNamed x e) u named) h)
+]
+  where
+    one : (n : ℕ) → n ≤ 1 → (n ≡ 0 → ⊥) → n ≡ 1
+    one zero few other = absurd (other refl)
+    one (suc zero) few other = refl
+    one (suc (suc n)) few other = absurd (omega (arith, few))
 
 -- behind the first byte of a number
-pub number_head_refused : {E : Type 0} (lacks : Type 0) {name : List ℕ} (old new : Reading) (e : DecodeError E) (first : ℕ) → StartsWith old first → first / 32 ≤ 1 → name ≡ major_name (first / 32) → IsNamed name e → RefusesPlainly (HasHead old) HeadCause old e new
-    → Refuses (record { could = HasItem 1 old; lacks = lacks; borrows = ⊥; stands = CauseInside (old.steps + 1) }) old e new
-number_head_refused lacks old new e first starts few called named r =
-    head_refused lacks 0 (first / 32) old new e (omega (arith, few)) (major_at old first (first / 32) starts refl) (subst (λ x. IsNamed x e) called named) r
+pub number_head_refused : {E : Type 0} (lacks : Type 0) {name : List ℕ} (old new : Reading) (e : DecodeError E) (first : ℕ) → StartsWith old first → first / 32 ≤ 1 → name ≡ number_name (first / 32) → IsNamed name e → RefusesPlainly (HasHead old) HeadCause old e new
+    → Refuses (record { could = HasItem 1 old; lacks = lacks; borrows = ⊥; stands = ItemCause (old.steps + 1) }) old e new
+number_head_refused lacks {name} old new e first starts few called named r =
+    passed_on HeadCause (ItemCause (old.steps + 1)) old old new e (stays old) front_head_stands (λ x. absurd x) (λ x. x)
+    (λ b l. let s = starts b l in (b, l, number_head _ name e first b s.0 (omega arith) s.1 few called named)) r
 
-pub byte_refused : {E : Type 0} (lacks : Type 0) (spent : ℕ) (old new : Reading) (e : DecodeError E) → IsEndNamed (codes "any") e → RefusesPlainly (HasByte old) ByteCause old e new → Refuses (record { could = HasItem (suc spent) old; lacks = lacks; borrows = ⊥; stands = CauseInside (old.steps + suc spent) }) old e new
+pub byte_refused : {E : Type 0} (lacks : Type 0) (spent : ℕ) (old new : Reading) (e : DecodeError E) → IsEndNamed (codes "any") e → RefusesPlainly (HasByte old) ByteCause old e new → Refuses (record { could = HasItem (suc spent) old; lacks = lacks; borrows = ⊥; stands = ItemCause (old.steps + suc spent) }) old e new
 byte_refused lacks spent old new e named r =
-    passed_on ByteCause (CauseInside (old.steps + suc spent)) old old new e (stays old) front_byte (λ x. absurd x) (λ x. x) (λ b l. (b, l, λ h. cause_here _ e b (omega arith) (inl (byte_in_head e b h, inl (none e b h), end_of_item e b h named)))) r
+    passed_on ByteCause (ItemCause (old.steps + suc spent)) old old new e (stays old) front_byte (λ x. absurd x) (λ x. x)
+    (λ b l. (b, l, λ h. at_steps e b (suc (old.steps + spent)) _ (omega arith) (none e b named h))) r
   where
-    none : {E : Type 0} (e : DecodeError E) (b : List ℕ) → ByteCause e b → BeginsFrom 0 5 b
-    none (Eof n expect) b h = λ first more is. absurd (cc (is, h.1))
-    none _ b h = absurd h
-
-    end_of_item : {E : Type 0} (e : DecodeError E) (b : List ℕ) → ByteCause e b → IsEndNamed (codes "any") e → IsNamed (item_name b) e
-    end_of_item (Eof n expect) b h named = subst (λ x. Names n (item_name x)) (sym h.1) named
-    end_of_item _ b h named = absurd h
+    none : {E : Type 0} (e : DecodeError E) (b : List ℕ) → IsEndNamed (codes "any") e → ByteCause e b → ItemCause (suc (old.steps + spent)) e b
+    none {E} (Eof n x) b named h = ended E (codes "any") (codes "any") n x 1 _ 0 (kept_short (codes "any") (omega arith)) named h.0 (ap (item_of (suc (old.steps + spent))) h.1)
+    none _ b named h = absurd h
 
 -- ---- a head of a known major type
 

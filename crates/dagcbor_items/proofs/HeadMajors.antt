@@ -1,5 +1,5 @@
 -- Heads of some major types.
-use Rattle.std.proofs.Common.{◌≡◌, inl, inr, ℕ, ◌+◌, ◌*◌, ◌/◌, ◌<◌, ◌≤◌, List, ◌∷◌, ◌++◌, refl, sym, ap, ◌∙◌, subst, arith, Some}
+use Rattle.std.proofs.Common.{◌≡◌, ℕ, ◌+◌, ◌*◌, ◌/◌, ◌<◌, ◌≤◌, List, ◌∷◌, ◌++◌, refl, sym, ap, ◌∙◌, subst, arith, Some}
 use Rattle.dagcbor_heads.specs.Head.{head}
 use Rattle.dagcbor_heads.specs.Names.{Names}
 use Rattle.dagcbor_heads.specs.Reading.{Reading, Stays}
@@ -8,16 +8,16 @@ use Rattle.dagcbor_heads.specs.Causes.{ByteCause, HeadCause, IsEndNamed, IsNamed
 use Rattle.dagcbor_heads.specs.Refusals.{RefusesPlainly}
 use Rattle.dagcbor_heads.specs.declared.name.Name.{Name}
 use Rattle.dagcbor_heads.specs.declared.error.DecodeError.{DecodeError}
-use Rattle.dagcbor_heads.specs.declared.error.DecodeError.TheVariants.{Eof, Mismatch}
+use Rattle.dagcbor_heads.specs.declared.error.DecodeError.TheVariants.{Mismatch}
 use Rattle.dagcbor_heads.proofs.Heads.{head_first}
 use Rattle.dagcbor_heads.proofs.Taking.{stays, stays_both}
-use Rattle.dagcbor_heads.proofs.Refusing.{passed_on, byte_in_head, end_named}
+use Rattle.dagcbor_heads.proofs.Refusing.{passed_on}
 use Rattle.ipld_tree.specs.Tree.{Tree}
 use Rattle.ipld_tree.proofs.Unique.{major, argument, payload, argument_fits}
 use Rattle.ipld_tree.proofs.Fronts.{front_head}
 use Rattle.dagcbor_items.specs.TypedReads.{HasFront, TakesFront}
-use Rattle.dagcbor_items.specs.FirstBytes.{BeginsFrom}
-use Rattle.dagcbor_items.specs.LeafCauses.{MajorCause}
+use Rattle.dagcbor_items.proofs.LeafRefusals.{major_byte, major_head, major_other}
+use Rattle.dagcbor_items.specs.ReadCauses.{MajorCause}
 use Rattle.dagcbor_items.specs.Majors.{HasMajor, TakesMajor}
 use Rattle.dagcbor_items.specs.Untyped.{StartsWithMajor}
 use Rattle.dagcbor_items.proofs.Fronts.{head_of, major_at}
@@ -46,14 +46,9 @@ kind_first h = let f = head_first h.major h.argument h.argument_fits in (f.0, f.
 kind_byte : {low high : ℕ} {r : Reading} → HasMajor low high r → HasByte r
 kind_byte h = let f = kind_first h in record { byte = 32 * h.major + f.0; rest = f.1; left = h.left ∙ ap Some f.3 }
 
--- there is no byte to begin with
-pub no_byte_begins : {E : Type 0} (low high : ℕ) (e : DecodeError E) (b : List ℕ) → ByteCause e b → BeginsFrom low high b
-no_byte_begins low high (Eof n expect) b h = λ first more is. absurd (cc (is, h.1))
-no_byte_begins low high _ b h = absurd h
-
 pub kind_byte_refused : {E : Type 0} (name : List ℕ) (low high : ℕ) (old new : Reading) (e : DecodeError E) → IsEndNamed name e → RefusesPlainly (HasByte old) ByteCause old e new
     → RefusesPlainly (HasMajor low high old) (MajorCause name low high) old e new
-kind_byte_refused name low high old new e named r = passed_on ByteCause (MajorCause name low high) old old new e (stays old) kind_byte (λ x. x) (λ x. x) (λ b l. (b, l, λ h. inl (byte_in_head e b h, end_named name e named, no_byte_begins low high e b h))) r
+kind_byte_refused name low high old new e named r = passed_on ByteCause (MajorCause name low high) old old new e (stays old) kind_byte (λ x. x) (λ x. x) (λ b l. (b, l, major_byte name low high e b named)) r
 
 -- a first byte of another major type
 pub other_kind : (E : Type 0) (name : List ℕ) (low high : ℕ) {old new : Reading} {first : ℕ}
@@ -68,7 +63,7 @@ other_kind E name low high {old} {new} {first} kept named starts same other = (
       let is : first ∷ s.0 ≡ (32 * k.major + f.0) ∷ f.1 = sym s.1 ∙ f.3 in
       let equal : first ≡ 32 * k.major + f.0 = cc in
       other (omega (arith, equal, f.2, k.lowest)) (omega (arith, equal, f.2, k.highest)),
-  λ b l. let s = starts b l in inr (named, (s.0, s.1, other)),
+  λ b l. let s = starts b l in major_other E name low high kept first b s.0 s.1 other named,
 )
 
 -- the head behind the byte that was shown
@@ -78,13 +73,7 @@ kind_head few h k = record { major = k.major; argument = k.argument; rest = k.re
 pub kind_head_refused : {E : Type 0} (name : List ℕ) (low high : ℕ) {old mid : Reading} {first : ℕ} (new : Reading) (e : DecodeError E) → high < 8 → low ≤ first / 32 → first / 32 ≤ high → IsNamed name e → ShowsByte old first mid → RefusesPlainly (HasHead mid) HeadCause mid e new
     → RefusesPlainly (HasMajor low high old) (MajorCause name low high) old e new
 kind_head_refused name low high {old} {mid} {first} new e few least most named h r =
-    passed_on HeadCause (MajorCause name low high) old mid new e h.same (kind_head few h) (λ x. x) (λ x. x) (λ b l. (b, h.kept b l, λ c. inl (c, named, begins b l))) r
-  where
-    begins : (b : List ℕ) → old.left ≡ Some b → BeginsFrom low high b
-    begins b l = λ byte more is.
-        let s = h.starts b l in
-        let same : byte ≡ first = cc (is, s.1) in
-        (omega (arith, same, least), omega (arith, same, most))
+    passed_on HeadCause (MajorCause name low high) old mid new e h.same (kind_head few h) (λ x. x) (λ x. x) (λ b l. let s = h.starts b l in (b, h.kept b l, major_head name low high e first b s.0 s.1 least most named)) r
 
 pub kind_taken : {low high : ℕ} {old mid new : Reading} {first kind n also : ℕ} → ShowsByte old first mid → low ≤ first / 32 → first / 32 ≤ high → TakesHead mid kind n also new → TakesMajor low high old (first / 32) n new
 kind_taken {low} {high} {old} {mid} {new} {first} h least most t =

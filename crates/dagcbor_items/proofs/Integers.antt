@@ -1,11 +1,11 @@
 -- Reading numbers.
-use Rattle.std.proofs.Common.{◌≡◌, inl, inr, ℕ, zero, suc, ◌+◌, ◌*◌, ◌^◌, ◌<◌, ◌≤◌, ℤ, pos, negsuc, List, [], ◌∷◌, ◌++◌, true, refl, sym, ap, ◌∙◌, subst, arith, zero-le, ◌⊎◌, Some, None, Option, is_some, Result, Ok, Err}
+use Rattle.std.proofs.Common.{◌≡◌, inl, inr, ℕ, zero, suc, ◌+◌, ◌*◌, ◌^◌, ◌<◌, ◌≤◌, ℤ, pos, negsuc, List, [], ◌∷◌, ◌++◌, length, ◌==◌, true, false, refl, sym, ap, ◌∙◌, subst, arith, zero-le, ◌⊎◌, Some, None, Option, is_some, Result, Ok, Err}
 use Rattle.std.proofs.lemmas.Int.{ints, to_z-of_z}
-use Rattle.std.proofs.lemmas.Bool.Decides.{nat_tests}
+use Rattle.std.proofs.lemmas.Bool.Decides.{nat_tests, eqb_tells}
 use mir.Syntax.{w128}
 use mir.Val.{SFits, to_z, of_z}
 use Rattle.dagcbor_heads.specs.Head.{head}
-use Rattle.dagcbor_heads.specs.Names.{Names}
+use Rattle.dagcbor_heads.specs.Names.{Names, name_bytes}
 use Rattle.dagcbor_heads.specs.Reading.{Reading}
 use Rattle.dagcbor_heads.specs.Fronts.{HasByte, ShowsByte}
 use Rattle.dagcbor_heads.specs.Causes.{ByteCause, IsEndNamed}
@@ -15,17 +15,22 @@ use Rattle.dagcbor_heads.specs.declared.error.DecodeError.{DecodeError}
 use Rattle.dagcbor_heads.specs.declared.error.DecodeError.TheVariants.{Eof, CastOverflow, Unsupported}
 use Rattle.dagcbor_heads.proofs.Heads.{head_first}
 use Rattle.dagcbor_heads.proofs.Taking.{stays, stays_both}
-use Rattle.dagcbor_heads.proofs.Refusing.{passed_on, byte_in_head, end_named}
+use Rattle.dagcbor_heads.proofs.Refusing.{passed_on}
 use Rattle.ipld_tree.specs.Tree.{Tree, integer}
 use Rattle.ipld_tree.specs.Spelling.{IsFront}
 use Rattle.ipld_tree.proofs.Unique.{major, integer_major}
 use Rattle.ipld_tree.proofs.Fronts.{front_unique}
 use Rattle.dagcbor_items.specs.TypedReads.{HasFront, TakesFront, Reads}
 use Rattle.dagcbor_items.specs.Shapes.{within, natural_below, number_of, view_number, leaf}
-use Rattle.dagcbor_items.specs.LeafCauses.{BeginsNoBig, MajorCause, IsOutside, BigCause}
+use Rattle.dagcbor_decode.specs.Decode.{got, refused, unsupported, cast_overflow}
+use Rattle.dagcbor_decode.specs.Verdicts.{IsRefusal}
+use Rattle.dagcbor_decode.proofs.Refusals.{refused_after, refused_then, refused_as, named_as, ended}
+use Rattle.dagcbor_items.specs.Leaves.{head_at, in_range, big_head_at}
+use Rattle.dagcbor_items.specs.ReadCauses.{MajorCause, NumberCause, BigCause, BigNumberCause}
+use Rattle.dagcbor_items.proofs.LeafRefusals.{head_stands}
 use Rattle.dagcbor_items.specs.Majors.{HasMajor, TakesMajor}
 use Rattle.dagcbor_items.proofs.Fronts.{front_byte}
-use Rattle.dagcbor_items.proofs.HeadMajors.{has_major, no_byte_begins}
+use Rattle.dagcbor_items.proofs.HeadMajors.{has_major}
 
 -- only a number shows one
 is_number : {V : Type 0} (accepted : ℤ → Option V) (t : Tree) → is_some (view_number accepted t) ≡ true → (n : ℤ) × (t ≡ integer n)
@@ -74,24 +79,82 @@ number_narrowed accepted {old} {new} n v e h = record {
   same = h.same;
 }
 
--- the causes where not each number is accepted
-abbrev pub Narrowed : {V E : Type 0} → (ℤ → Option V) → (DecodeError E → List ℕ → Type 0) → List ℕ → DecodeError E → List ℕ → Type 0
-Narrowed accepted stands name e b = stands e b ⊎ IsOutside name accepted e b
+-- what refuses a head refuses what is made of it
+module _ {V E : Type 0} (accepted : ℤ → Option V) (name : List ℕ) where
+  number_cause : (e : DecodeError E) (b : List ℕ) → MajorCause name 0 1 e b → NumberCause name accepted e b
+  number_cause e b h = λ kept k. refused_after (head_at kept 0 1 b) (λ h. in_range kept (accepted (number_of h.0 h.1))) e (h kept k)
 
-pub narrow_refused : {V E : Type 0} (accepted : ℤ → Option V) (stands : DecodeError E → List ℕ → Type 0) (name : List ℕ) (old new : Reading) (e : DecodeError E) → RefusesPlainly (HasFront (leaf (view_number Some)) old) stands old e new
-    → RefusesPlainly (HasFront (leaf (view_number accepted)) old) (Narrowed accepted stands name) old e new
-narrow_refused accepted stands name old new e r = passed_on stands (Narrowed accepted stands name) old old new e (stays old) (some_number accepted) (λ x. x) (λ x. x) (λ b l. (b, l, λ h. inl h)) r
+  big_number_cause : (e : DecodeError E) (b : List ℕ) → BigCause name e b → BigNumberCause name accepted e b
+  big_number_cause e b h = λ kept k. refused_after (big_head_at kept b) (λ h. in_range kept (accepted (number_of h.0 h.1))) e (h kept k)
 
-pub outside : (E : Type 0) {V : Type 0} (accepted : ℤ → Option V) (stands : DecodeError E → List ℕ → Type 0) (name : List ℕ) {old new : Reading} (n : ℤ) (kept : Name) → accepted n ≡ None → Names kept name → TakesFront (leaf (view_number Some)) old n new
-    → RefusesPlainly {E = E} (HasFront (leaf (view_number accepted)) old) (Narrowed accepted stands name) old (CastOverflow kept) new
-outside E accepted stands name {old} {new} n kept none named h = (
+  narrow_refused : (stands more : DecodeError E → List ℕ → Type 0) (old new : Reading) (e : DecodeError E) → ((e : DecodeError E) (b : List ℕ) → stands e b → more e b) → RefusesPlainly (HasFront (leaf (view_number Some)) old) stands old e new
+      → RefusesPlainly (HasFront (leaf (view_number accepted)) old) more old e new
+  narrow_refused stands more old new e wider r = passed_on stands more old old new e (stays old) (some_number accepted) (λ x. x) (λ x. x) (λ b l. (b, l, wider e b)) r
+
+-- the head of a number is read, of whatever size
+pub number_head_read : (kept : List ℕ) (n : ℤ) (b rest : List ℕ) → IsFront b (integer n) rest → (h : ℕ × ℕ) × (number_of h.0 h.1 ≡ n) × (h.0 ≤ 1) × (h.1 < 2 ^ 64) × (b ≡ head h.0 h.1 ++ rest)
+number_head_read kept (pos n) b rest f = ((0, n), refl, omega arith, f.spellable, f.is)
+number_head_read kept (negsuc n) b rest f = ((1, n), refl, omega arith, f.spellable, f.is)
+
+none_there : (E : Type 0) {V : Type 0} (kept : List ℕ) (name : Name) (o : Option V) (rest : List ℕ) → o ≡ None → name_bytes name ≡ kept → IsRefusal {E = E} (in_range kept o rest) (CastOverflow name)
+none_there E kept name o rest none is = subst (λ x. IsRefusal {E = E} (in_range kept x rest) (CastOverflow name)) (sym none) (ap (λ s. Some (cast_overflow s)) is)
+
+number_outside : (E : Type 0) {V : Type 0} (accepted : ℤ → Option V) (name : List ℕ) (kept : Name) (n : ℤ) (b rest : List ℕ) → accepted n ≡ None → Names kept name → IsFront b (integer n) rest → NumberCause {E = E} name accepted (CastOverflow kept) b
+number_outside E accepted name kept n b rest none named f = λ said k.
+    let h = number_head_read said n b rest f in
+    refused_then {E = E} (head_at said 0 1 b) (λ h. in_range said (accepted (number_of h.0 h.1))) h.0 rest (CastOverflow kept) (head_stands said 0 1 h.0.0 h.0.1 b rest h.3 (omega arith) h.2 h.4)
+    (none_there E said kept (accepted (number_of h.0.0 h.0.1)) rest (ap accepted h.1 ∙ none) (named_as k named))
+
+-- no tag of a bignum begins a head of a number
+no_big : (kept : List ℕ) (b : List ℕ) → ((first : ℕ) (more : List ℕ) → b ≡ first ∷ more → (first ≡ 0xc2) ⊎ (first ≡ 0xc3) → ⊥) → big_head_at kept b ≡ head_at kept 0 1 b
+no_big kept [] other = refl
+no_big kept (first ∷ more) other = rw (differs 0xc2 (λ e. other first more refl (inl e)), differs 0xc3 (λ e. other first more refl (inr e))) refl
+  where
+    differs : (n : ℕ) → (first ≡ n → ⊥) → (first == n) ≡ false
+    differs n h = elim (eqb_tells first n) [ inl a ↦ absurd (h a.1) | inr a ↦ a.0 ]
+
+-- where the head of a number stands, no such tag does
+pub big_head_stands : (kept : List ℕ) (m n : ℕ) (b rest : List ℕ) → n < 2 ^ 64 → m ≤ 1 → b ≡ head m n ++ rest → big_head_at kept b ≡ got (m, n) rest
+big_head_stands kept m n b rest fits few is = no_big kept b starts ∙ head_stands kept 0 1 m n b rest fits (omega arith) few is
+  where
+    starts : (first : ℕ) (more : List ℕ) → b ≡ first ∷ more → (first ≡ 0xc2) ⊎ (first ≡ 0xc3) → ⊥
+    starts first more e which =
+        let f = head_first m n fits in
+        let same : first ∷ more ≡ (32 * m + f.0) ∷ (f.1 ++ rest) = sym e ∙ is ∙ ap (λ s. s ++ rest) f.3 in
+        let byte : first ≡ 32 * m + f.0 = cc same in
+        elim which [ inl x ↦ omega (arith, x, byte, f.2, few) | inr x ↦ omega (arith, x, byte, f.2, few) ]
+
+big_number_outside : (E : Type 0) {V : Type 0} (accepted : ℤ → Option V) (name : List ℕ) (kept : Name) (n : ℤ) (b rest : List ℕ) → accepted n ≡ None → Names kept name → IsFront b (integer n) rest → BigNumberCause {E = E} name accepted (CastOverflow kept) b
+big_number_outside E accepted name kept n b rest none named f = λ said k.
+    let h = number_head_read said n b rest f in
+    refused_then {E = E} (big_head_at said b) (λ h. in_range said (accepted (number_of h.0 h.1))) h.0 rest (CastOverflow kept) (big_head_stands said h.0.0 h.0.1 b rest h.3 h.2 h.4)
+    (none_there E said kept (accepted (number_of h.0.0 h.0.1)) rest (ap accepted h.1 ∙ none) (named_as k named))
+
+outside : (E : Type 0) {V : Type 0} (accepted : ℤ → Option V) (stands : DecodeError E → List ℕ → Type 0) {old new : Reading} (n : ℤ) (kept : Name) → accepted n ≡ None → ((b rest : List ℕ) → IsFront b (integer n) rest → stands (CastOverflow kept) b) → TakesFront (leaf (view_number Some)) old n new
+    → RefusesPlainly {E = E} (HasFront (leaf (view_number accepted)) old) stands old (CastOverflow kept) new
+outside E accepted stands {old} {new} n kept none cause h = (
   h.same.faults,
   λ i. let k = h.taken i.bytes i.left in
       let same = (front_unique i.bytes i.rest k.1 i.tree k.0 i.front k.2).0 ∙ all_numbers k.0 n k.3 in
       let shown : is_some (accepted n) ≡ true = ap (λ t. is_some (view_number accepted t)) (sym same) ∙ i.accepted in
       absurd (cc (shown, none)),
-  λ b l. let k = h.taken b l in inr (named, (n, k.1, subst (λ t. IsFront b t k.1) (all_numbers k.0 n k.3) k.2, none)),
+  λ b l. let k = h.taken b l in cause b k.1 (subst (λ t. IsFront b t k.1) (all_numbers k.0 n k.3) k.2),
 )
+
+-- not each number is accepted
+module _ {V E : Type 0} (accepted : ℤ → Option V) (name : List ℕ) where
+  pub number_not_read : (old new : Reading) (e : DecodeError E) → RefusesPlainly (HasFront (leaf (view_number Some)) old) (MajorCause name 0 1) old e new → RefusesPlainly (HasFront (leaf (view_number accepted)) old) (NumberCause name accepted) old e new
+  number_not_read old new e r = narrow_refused accepted name (MajorCause name 0 1) (NumberCause name accepted) old new e (number_cause accepted name) r
+
+  pub big_not_read : (old new : Reading) (e : DecodeError E) → RefusesPlainly (HasFront (leaf (view_number Some)) old) (BigCause name) old e new → RefusesPlainly (HasFront (leaf (view_number accepted)) old) (BigNumberCause name accepted) old e new
+  big_not_read old new e r = narrow_refused accepted name (BigCause name) (BigNumberCause name accepted) old new e (big_number_cause accepted name) r
+
+module _ (E : Type 0) {V : Type 0} (accepted : ℤ → Option V) (name : List ℕ) {old new : Reading} (n : ℤ) (kept : Name) where
+  pub not_accepted : accepted n ≡ None → Names kept name → TakesFront (leaf (view_number Some)) old n new → RefusesPlainly {E = E} (HasFront (leaf (view_number accepted)) old) (NumberCause name accepted) old (CastOverflow kept) new
+  not_accepted none named h = outside E accepted (NumberCause name accepted) n kept none (λ b rest. number_outside E accepted name kept n b rest none named) h
+
+  pub big_not_accepted : accepted n ≡ None → Names kept name → TakesFront (leaf (view_number Some)) old n new → RefusesPlainly {E = E} (HasFront (leaf (view_number accepted)) old) (BigNumberCause name accepted) old (CastOverflow kept) new
+  big_not_accepted none named h = outside E accepted (BigNumberCause name accepted) n kept none (λ b rest. big_number_outside E accepted name kept n b rest none named) h
 
 -- ---- natural numbers, by their head
 
@@ -108,22 +171,23 @@ pub natural_taken : {old new : Reading} {kind n : ℕ} (bound : ℕ) → TakesMa
 natural_taken {old} {new} {kind} {n} bound h none few = number_narrowed (natural_below bound) _ _ (natural_is bound kind n none few) (number_taken h)
 
 pub no_natural : (E : Type 0) (name : List ℕ) {old new : Reading} {kind n : ℕ} (bound : ℕ) (kept : Name) → Names kept name → TakesMajor 0 1 old kind n new → (0 < kind) ⊎ (bound ≤ n)
-    → RefusesPlainly {E = E} (HasFront (leaf (view_number (natural_below bound))) old) (Narrowed (natural_below bound) (MajorCause name 0 1) name) old (CastOverflow kept) new
-no_natural E name {old} {new} {kind} {n} bound kept named h other = outside E (natural_below bound) (MajorCause name 0 1) name _ kept (natural_is_not bound kind n other) named (number_taken h)
+    → RefusesPlainly {E = E} (HasFront (leaf (view_number (natural_below bound))) old) (NumberCause name (natural_below bound)) old (CastOverflow kept) new
+no_natural E name {old} {new} {kind} {n} bound kept named h other = not_accepted E (natural_below bound) name _ kept (natural_is_not bound kind n other) named (number_taken h)
 
 pub natural_refused : {E : Type 0} (name : List ℕ) (bound : ℕ) (old new : Reading) (e : DecodeError E) → RefusesPlainly (HasMajor 0 1 old) (MajorCause name 0 1) old e new
-    → RefusesPlainly (HasFront (leaf (view_number (natural_below bound))) old) (Narrowed (natural_below bound) (MajorCause name 0 1) name) old e new
-natural_refused name bound old new e r = narrow_refused (natural_below bound) (MajorCause name 0 1) name old new e (number_refused name old new e r)
+    → RefusesPlainly (HasFront (leaf (view_number (natural_below bound))) old) (NumberCause name (natural_below bound)) old e new
+natural_refused name bound old new e r = number_not_read (natural_below bound) name old new e (number_refused name old new e r)
 
 -- ---- numbers of any size
 
-no_byte_no_tag : {E : Type 0} (e : DecodeError E) (b : List ℕ) → ByteCause e b → BeginsNoBig b
-no_byte_no_tag (Eof n expect) b h = λ found more is which. let e : [] ≡ found ∷ more = sym h.1 ∙ is in absurd (cc e)
-no_byte_no_tag _ b h = absurd h
+-- no byte
+big_byte : {E : Type 0} (name : List ℕ) (e : DecodeError E) (b : List ℕ) → IsEndNamed name e → ByteCause e b → BigCause name e b
+big_byte {E} name (Eof n x) b named h = λ kept k. ended E kept name n x 1 (big_head_at kept b) 0 k named h.0 (ap (big_head_at kept) h.1)
+big_byte name _ b named h = absurd h
 
 pub big_byte_refused : {E : Type 0} (name : List ℕ) (old new : Reading) (e : DecodeError E) → IsEndNamed name e → RefusesPlainly (HasByte old) ByteCause old e new
     → RefusesPlainly (HasFront (leaf (view_number Some)) old) (BigCause name) old e new
-big_byte_refused name old new e named r = passed_on ByteCause (BigCause name) old old new e (stays old) front_byte (λ x. x) (λ x. x) (λ b l. (b, l, λ h. inl (inl (byte_in_head e b h, end_named name e named, no_byte_begins 0 1 e b h), no_byte_no_tag e b h))) r
+big_byte_refused name old new e named r = passed_on ByteCause (BigCause name) old old new e (stays old) front_byte (λ x. x) (λ x. x) (λ b l. (b, l, big_byte name e b named)) r
 
 -- a tag is no number
 pub no_tag : (E : Type 0) (name : List ℕ) {old mid : Reading} {first : ℕ} (kept : Name) → Names kept name → ShowsByte old first mid → (first ≡ 0xc2) ⊎ (first ≡ 0xc3)
@@ -136,8 +200,11 @@ no_tag E name {old} {mid} {first} kept named h which = (
       let is : first ∷ s.0 ≡ (32 * k.major + f.0) ∷ (f.1 ++ k.rest) = sym s.1 ∙ ap (λ s. s ++ k.rest) f.3 in
       let same : first ≡ 32 * k.major + f.0 = cc is in
       elim which [ inl e ↦ omega (arith, e, same, f.2, k.highest) | inr e ↦ omega (arith, e, same, f.2, k.highest) ],
-  λ b l. let s = h.starts b l in inr (named, (s.0, s.1, which)),
+  λ b l. let s = h.starts b l in λ said k. refused_as {E = E} (big_head_at said b) (unsupported said first) (length s.0) _ (ap (big_head_at said) s.1 ∙ tagged said s.0) (ap (λ x. Some (unsupported x first)) (named_as k named)),
 )
+  where
+    tagged : (said more : List ℕ) → big_head_at said (first ∷ more) ≡ refused (unsupported said first) (length more)
+    tagged said more = elim which [ inl e ↦ rw e refl | inr e ↦ rw e refl ]
 
 some_still : {old mid : Reading} {first : ℕ} → ShowsByte old first mid → HasFront (leaf (view_number Some)) old → HasFront (leaf (view_number Some)) mid
 some_still h i = record { bytes = i.bytes; tree = i.tree; rest = i.rest; left = h.kept i.bytes i.left; front = i.front; accepted = i.accepted; within = zero-le }
@@ -152,14 +219,11 @@ big_read name {old} {mid} {first} new (Err e) h other r = passed_on (MajorCause 
     (λ b l. (
       b,
       h.kept b l,
-      λ c. inl (
-        c,
-        λ found more is which.
-            let s = h.starts b l in
-            let same : first ∷ s.0 ≡ found ∷ more = sym s.1 ∙ is in
-            let found_is : found ≡ first = cc same in
-            other (subst (λ n. (n ≡ 0xc2) ⊎ (n ≡ 0xc3)) found_is which),
-      ),
+      λ c said k. subst (λ x. IsRefusal x e) (sym (no_big said b (λ found more is which.
+          let s = h.starts b l in
+          let same : first ∷ s.0 ≡ found ∷ more = sym s.1 ∙ is in
+          let found_is : found ≡ first = cc same in
+          other (subst (λ n. (n ≡ 0xc2) ⊎ (n ≡ 0xc3)) found_is which)))) (c said k),
     )) r
 
 pub within_i128 : (n : ℤ) → SFits w128 n → within (2 ^ 127) n ≡ Some n

@@ -6,7 +6,8 @@ use Rattle.ipld_tree.specs.Tree.{list, mapping, Items, no_items, item, Entries, 
 use Rattle.ipld_tree.specs.Spelling.{entries_spelling, item_count, entry_count, IsFront, AreFronts, AreEntryFronts}
 use Rattle.ipld_tree.proofs.Fronts.{list_closed, item_closed, items_after, entry_closed, entries_after}
 use Rattle.dagcbor_items.proofs.Rows.{all_follow}
-use Rattle.dagcbor_items.specs.Places.{Follows, last_key}
+use Rattle.dagcbor_items.specs.Places.{Follows}
+use Rattle.dagcbor_items.proofs.Pushes.{last_key}
 use Rattle.dagcbor_items.specs.Entries.{AllFollow}
 use Rattle.dagcbor_items.specs.Judging.{SplitsKey, SplitsItem, SplitsItems, SplitsEntries}
 

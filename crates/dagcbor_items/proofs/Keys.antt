@@ -1,5 +1,6 @@
 -- Reading the keys of maps.
-use Rattle.std.proofs.Common.{◌≡◌, inl, inr, ℕ, List, refl, sym, subst, Bool, true, false, zero-le, Option, Some, None, IsTrue, IsUtf8, codes, Result, Err}
+use Rattle.std.proofs.Common.{◌≡◌, inl, inr, ℕ, ◌/◌, List, [], ◌∷◌, ◌++◌, length, refl, sym, ap, ◌∙◌, subst, arith, append_assoc, Bool, true, false, zero-le, Option, Some, None, IsTrue, IsUtf8, codes, Result, Err}
+use Rattle.std.proofs.lemmas.Bool.Decides.{eqb_tells}
 use Rattle.std.specs.Borrow.{Bor}
 use Rattle.dagcbor_heads.specs.Reading.{Reading}
 use Rattle.dagcbor_heads.specs.Refusals.{RefusesOrLacksMemoryUnlent}
@@ -13,12 +14,19 @@ use Rattle.ipld_tree.specs.Spelling.{IsFront}
 use Rattle.ipld_tree.proofs.Fronts.{front_unique}
 use Rattle.dagcbor_items.specs.Untyped.{TakesItem}
 use Rattle.dagcbor_items.specs.Places.{Follows}
-use Rattle.dagcbor_items.specs.ItemCauses.{KeyCause}
+use Rattle.dagcbor_heads.specs.Head.{head}
+use Rattle.dagcbor_decode.specs.Decode.{refused, mismatch, unordered_key, after, text_of, in_order, follows, key_of}
+use Rattle.dagcbor_decode.specs.Verdicts.{IsRefusal}
+use Rattle.dagcbor_decode.proofs.HeadLaws.{head_front}
+use Rattle.dagcbor_decode.proofs.Complete.{text_front}
+use Rattle.dagcbor_decode.proofs.Refusals.{refused_after, refused_as, kept_short}
+use Rattle.dagcbor_items.specs.Leaves.{text_at}
+use Rattle.dagcbor_items.specs.ReadCauses.{KeyCause, TextCause}
+use Rattle.dagcbor_items.proofs.LeafRefusals.{text_read, other_text}
 use Rattle.dagcbor_items.specs.Entries.{HasKey, IsNoKey, TakesKey}
 use Rattle.dagcbor_items.specs.Majors.{TakesString}
 use Rattle.dagcbor_items.specs.TypedReads.{HasFront}
 use Rattle.dagcbor_items.specs.Shapes.{view_text, leaf}
-use Rattle.dagcbor_items.specs.LeafCauses.{TextCause}
 use Rattle.dagcbor_items.proofs.StringReads.{no_text_refused, text_string_taken}
 use Rattle.dagcbor_items.proofs.StringItems.{text_taken}
 
@@ -29,10 +37,31 @@ is_false false no_more = refl
 key_as_text : {previous : Option (List ℕ)} {r : Reading} → HasKey previous r → HasFront (leaf view_text) r
 key_as_text h = record { bytes = h.bytes; tree = text h.key; rest = h.rest; left = h.left; front = h.front; accepted = refl; within = zero-le }
 
+-- what refuses a text refuses a key
+key_cause : {E : Type 0} (previous : Option (List ℕ)) (e : DecodeError E) (b : List ℕ) → IsRefusal (text_at (codes "map key") b) e → KeyCause previous e b
+key_cause previous e [] h = h
+key_cause {E} previous e (first ∷ more) h = elim (eqb_tells (first / 32) 3) [
+  | inl a ↦
+      let k : IsRefusal (text_of (codes "map key") first more) e = subst (λ x. IsRefusal x e) (text_read (codes "map key") first more a.1) h in
+      let is : key_of previous (first ∷ more) ≡ after (text_of (codes "map key") first more) (in_order previous) = rw a.0 refl in
+      subst (λ x. IsRefusal x e) (sym is) (refused_after (text_of (codes "map key") first more) (in_order previous) e k)
+  | inr a ↦
+      let is : key_of previous (first ∷ more) ≡ refused (mismatch (codes "map key") first) (length more) = rw a.0 refl in
+      let at : text_at (codes "map key") (first ∷ more) ≡ refused (mismatch (codes "map key") first) (length more) = other_text (codes "map key") first more a.1 in
+      subst (λ x. IsRefusal x e) (sym is) (subst (λ x. IsRefusal x e) at h)
+]
+
+-- a text that does not follow is no key
+not_in_order : (previous : Option (List ℕ)) (key b rest : List ℕ) → IsFront b (text key) rest → follows previous key ≡ false → key_of previous b ≡ refused unordered_key (length rest)
+not_in_order previous key b rest f other =
+    let h = head_front 3 (length key) (key ++ rest) f.spellable in
+    ap (key_of previous) (f.is ∙ append_assoc (head 3 (length key)) key rest ∙ h.is)
+    ∙ rw h.major_is (ap (λ x. after x (in_order previous)) (text_front (codes "map key") h.first h.more key rest f.well_formed h.reads) ∙ rw other refl)
+
 -- no whole text stood there
 pub key_text_refused : {E : Type 0} (previous : Option (List ℕ)) (old new : Reading) (e : DecodeError E) → RefusesOrLacksMemoryUnlent (HasFront (leaf view_text) old) (TextCause (codes "map key")) old e new
     → RefusesOrLacksMemoryUnlent (HasKey previous old) (KeyCause previous) old e new
-key_text_refused previous old new e r = passed_on (TextCause (codes "map key")) (KeyCause previous) old old new e (stays old) key_as_text (λ x. x) (λ x. x) (λ b l. (b, l, λ h. inl h)) r
+key_text_refused previous old new e r = passed_on (TextCause (codes "map key")) (KeyCause previous) old old new e (stays old) key_as_text (λ x. x) (λ x. x) (λ b l. (b, l, λ h. key_cause previous e b (h (codes "map key") (kept_short (codes "map key") (omega arith))))) r
 
 pub unordered_refused : (E : Type 0) (previous : Option (List ℕ)) {old new : Reading} (key : List ℕ) → TakesItem 1 old (text key) new → (Follows previous key → ⊥) → RefusesOrLacksMemoryUnlent {E = E} (HasKey previous old) (KeyCause previous) old UnorderedKey new
 unordered_refused E previous {old} {new} key h not_after = (
@@ -41,12 +70,12 @@ unordered_refused E previous {old} {new} key h not_after = (
       let same = front_unique k.bytes q.0 k.rest (text key) (text k.key) q.1 k.front in
       let is : key ≡ k.key = cc same.0 in
       not_after (subst (Follows previous) (sym is) k.follows),
-  λ b l. let q = h.taken b l in inr (refl, by previous not_after b q.0 q.1),
+  λ b l. let q = h.taken b l in by previous not_after b q.0 q.1,
 )
   where
-    by : (previous : Option (List ℕ)) → (Follows previous key → ⊥) → (b rest : List ℕ) → IsFront b (text key) rest → (before key' rest' : List ℕ) × (previous ≡ Some before) × IsFront b (text key') rest' × (comes_before before key' ≡ false)
+    by : (previous : Option (List ℕ)) → (Follows previous key → ⊥) → (b rest : List ℕ) → IsFront b (text key) rest → KeyCause {E = E} previous UnorderedKey b
     by None no_more b rest f = absurd (no_more tt)
-    by (Some before) no_more b rest f = (before, key, rest, refl, f, is_false (comes_before before key) no_more)
+    by (Some before) no_more b rest f = refused_as {E = E} (key_of (Some before) b) unordered_key (length rest) UnorderedKey (not_in_order (Some before) key b rest f (is_false (comes_before before key) no_more)) refl
 
 pub follows_as : (previous : Option (List ℕ)) (k l : List ℕ) → k ≡ l → Follows previous k → Follows previous l
 follows_as previous k l e f = subst (Follows previous) e f

@@ -7,7 +7,7 @@ use Rattle.dagcbor_heads.specs.Refusals.{RefusesPlainly}
 use Rattle.dagcbor_heads.specs.declared.error.DecodeError.{DecodeError}
 use Rattle.dagcbor_heads.specs.declared.error.DecodeError.TheVariants.{OutOfMemory}
 use Rattle.dagcbor_items.specs.Majors.{HasMajor, TakesMajor, LacksForString}
-use Rattle.dagcbor_items.specs.LeafCauses.{MajorCause}
+use Rattle.dagcbor_items.specs.ReadCauses.{MajorCause}
 use Rattle.dagcbor_items.proofs.StringReads.{of_kind}
 
 -- a refusal of a head is for no want of memory

@@ -1,8 +1,8 @@
 -- Reading leaves.
-use Rattle.std.proofs.Common.{◌≡◌, inl, inr, ℕ, suc, ◌+◌, ◌*◌, ◌/◌, ◌%◌, ◌≤◌, [], ◌∷◌, ◌++◌, refl, sym, ap, ◌∙◌, subst, arith, codes}
+use Rattle.std.proofs.lemmas.Bool.Decides.{eqb_tells}
+use Rattle.std.proofs.Common.{◌≡◌, ◌≢◌, ◌==◌, inl, inr, ℕ, suc, ◌+◌, ◌*◌, ◌/◌, ◌%◌, ◌≤◌, false, Some, length, List, [], ◌∷◌, ◌++◌, refl, sym, ap, ◌∙◌, arith, codes}
 use Rattle.dagcbor_heads.specs.Reading.{Reading}
 use Rattle.dagcbor_heads.specs.Fronts.{StartsWith, ShowsByte}
-use Rattle.dagcbor_heads.specs.Causes.{HeadCause}
 use Rattle.dagcbor_heads.specs.Names.{Names}
 use Rattle.dagcbor_heads.specs.Refusals.{Refuses}
 use Rattle.dagcbor_heads.specs.declared.name.Name.{Name}
@@ -13,8 +13,11 @@ use Rattle.ipld_tree.proofs.Unique.{major}
 use Rattle.ipld_tree.proofs.Fronts.{front_first, is_simple}
 use Rattle.dagcbor_items.specs.Shapes.{Shape}
 use Rattle.dagcbor_items.specs.TypedReads.{HasFront}
-use Rattle.dagcbor_items.specs.ItemCauses.{CauseInside}
-use Rattle.dagcbor_items.proofs.Places.{cause_here}
+use Rattle.dagcbor_items.specs.ReadCauses.{ItemCause}
+use Rattle.dagcbor_decode.specs.Decode.{refused, unsupported, leaf_of}
+use Rattle.dagcbor_decode.proofs.Named.{named}
+use Rattle.dagcbor_decode.proofs.Refusals.{refused_as}
+use Rattle.dagcbor_items.proofs.ItemRefusals.{leaf_refused, indefinite}
 use Rattle.dagcbor_items.specs.Untyped.{HasItem}
 use Rattle.dagcbor_items.proofs.Fronts.{major_of_front}
 
@@ -39,15 +42,21 @@ no_simple_value {V} {shape} {old} {first} starts major_7 other i =
     let same : first ≡ k.0 = cc in
     other (omega (arith, same, k.2)) (omega (arith, same, k.3))
 
-pub unsupported_refused : (E lacks : Type 0) (spent : ℕ) (old : Reading) (name : Name) (first : ℕ) → Names name (codes "any") → StartsWith old first → first / 32 ≡ 7 → ((0xf4 ≤ first) → (first ≤ 0xf6) → ⊥) → Refuses {E = E} (record { could = HasItem (suc spent) old; lacks = lacks; borrows = ⊥; stands = CauseInside (old.steps + suc spent) }) old (Unsupported name first) old
-unsupported_refused E lacks spent old name first named starts major_7 other = (
+pub unsupported_refused : (E lacks : Type 0) (spent : ℕ) (old : Reading) (name : Name) (first : ℕ) → Names name (codes "any") → StartsWith old first → first / 32 ≡ 7 → first % 32 ≢ 31 → ((0xf4 ≤ first) → (first ≤ 0xf6) → ⊥) → Refuses {E = E} (record { could = HasItem (suc spent) old; lacks = lacks; borrows = ⊥; stands = ItemCause (old.steps + suc spent) }) old (Unsupported name first) old
+unsupported_refused E lacks spent old name first called starts major_7 definite other = (
   refl,
   no_simple_value starts major_7 other,
-  λ b l. let s = starts b l in cause_here {E = E} _ (Unsupported name first) b (omega arith) (inr (inl (inr (inr (inr (named, (s.0, s.1, major_7, other))))))),
+  λ b l. let s = starts b l in leaf_refused {E = E} _ (Unsupported name first) first b s.0 (omega arith) s.1 definite (λ x. omega (arith, x, major_7)) (λ x. omega (arith, x, major_7)) (refused_as {E = E} _ (unsupported (codes "any") first) (length s.0) _ (by s.0) (ap (λ k. Some (unsupported k first)) (named name (codes "any") (codes "any") called refl (omega arith)))),
 )
+  where
+    differs : (n : ℕ) → (first ≡ n → ⊥) → (first == n) ≡ false
+    differs n h = elim (eqb_tells first n) [ inl a ↦ absurd (h a.1) | inr a ↦ a.0 ]
+
+    by : (more : List ℕ) → leaf_of first more ≡ refused (unsupported (codes "any") first) (length more)
+    by more = rw major_7 (rw (differs 0xf4 (λ e. other (omega (arith, e)) (omega (arith, e))), differs 0xf5 (λ e. other (omega (arith, e)) (omega (arith, e))), differs 0xf6 (λ e. other (omega (arith, e)) (omega (arith, e)))) refl)
 
 -- an indefinite length, or a break
-pub indefinite_refused : (E lacks : Type 0) (spent : ℕ) {old new : Reading} {first : ℕ} → ShowsByte old first new → first % 32 ≡ 31 → Refuses {E = E} (record { could = HasItem (suc spent) old; lacks = lacks; borrows = ⊥; stands = CauseInside (old.steps + suc spent) }) old IndefiniteSize new
+pub indefinite_refused : (E lacks : Type 0) (spent : ℕ) {old new : Reading} {first : ℕ} → ShowsByte old first new → first % 32 ≡ 31 → Refuses {E = E} (record { could = HasItem (suc spent) old; lacks = lacks; borrows = ⊥; stands = ItemCause (old.steps + suc spent) }) old IndefiniteSize new
 indefinite_refused E lacks spent {old} {new} {first} h e = (
   h.same.faults,
   λ i. let f = front_first i.bytes i.rest i.tree i.front in
@@ -55,5 +64,5 @@ indefinite_refused E lacks spent {old} {new} {first} h e = (
       let is : first ∷ s.0 ≡ (32 * major i.tree + f.0) ∷ f.1 = sym s.1 ∙ f.3 in
       let same : first ≡ 32 * major i.tree + f.0 = cc in
       omega (arith, e, same, f.2),
-  λ b l. let s = h.starts b l in cause_here {E = E} _ IndefiniteSize b (omega arith) (inl (subst (HeadCause {E = E} IndefiniteSize) (sym s.1) e, inr refl, tt)),
+  λ b l. let s = h.starts b l in indefinite {E = E} _ IndefiniteSize first b s.0 (omega arith) s.1 e refl,
 )

@@ -1,5 +1,6 @@
 pub mod PartRefusals
-pub mod Places
+pub mod ItemRefusals
+pub mod LeafRefusals
 pub mod Fronts
 pub mod Leaves
 pub mod Steps
@@ -21,9 +22,9 @@ pub mod StringReads
 pub mod Lacking
 pub mod Characters
 pub mod StringItems
-pub mod Examples
 pub mod Looks
 pub mod SliceReads
 pub mod Lent
 pub mod Names
 pub mod Progress
+pub mod Reading

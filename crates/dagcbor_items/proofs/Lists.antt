@@ -15,12 +15,12 @@ use Rattle.ipld_tree.proofs.Trees.{items_need_push, tree_of_List}
 use Rattle.ipld_tree.proofs.Fronts.{list_closed, item_opened, item_closed, items_after, is_list}
 use Rattle.dagcbor_items.specs.Shapes.{Shape}
 use Rattle.dagcbor_items.specs.TypedReads.{HasFront}
-use Rattle.dagcbor_items.specs.ItemCauses.{CauseInside, CauseInItems}
-use Rattle.dagcbor_items.specs.Untyped.{any_item, HasItem, TakesItem, StartsWithMajor}
+use Rattle.dagcbor_items.specs.ReadCauses.{ItemCause, ItemsCause}
+use Rattle.dagcbor_items.specs.Untyped.{any_item, HasItem, TakesItem, StartsWithMajor, StartsDefinite}
 use Rattle.dagcbor_items.specs.Entering.{Enters}
 use Rattle.dagcbor_items.specs.Items.{any_items, HasItems, TakesItems}
-use Rattle.dagcbor_items.proofs.Places.{in_list, at_steps}
-use Rattle.dagcbor_items.proofs.Fronts.{major_of_front, as_tree}
+use Rattle.dagcbor_items.proofs.ItemRefusals.{in_list, at_steps, behind_items}
+use Rattle.dagcbor_items.proofs.Fronts.{major_of_front, as_tree, definite}
 use Rattle.dagcbor_items.proofs.Rows.{row_entered, row_first}
 use Rattle.dagcbor_items.proofs.Steps.{spent_step, stepped_refused, stepped_taken}
 
@@ -34,8 +34,8 @@ list_items {old} {mid} {n} starts h i =
     let l = is_list_at starts i in
     row_entered l.0 h i.left (subst (λ t. IsFront i.bytes t i.rest) l.1 i.front) refl (omega (arith, i.within, ap any_need l.1, h.takes.same.steps))
 
-pub list_refused : {E lacks lacks' : Type 0} {old mid : Reading} (new : Reading) (n : ℕ) (e : DecodeError E) → StartsWithMajor old 4 → Enters 4 n old mid → (lacks → lacks') → Refuses (record { could = HasItems n mid; lacks = lacks; borrows = ⊥; stands = CauseInItems n mid.steps }) mid e new → Refuses (record { could = HasItem 1 old; lacks = lacks'; borrows = ⊥; stands = CauseInside (old.steps + 1) }) old e new
-list_refused {E} {lacks} {lacks'} {old} {mid} new n e starts h w r = stepped_refused new 1 e (spent_step h) w (passed_on (CauseInItems n mid.steps) (CauseInside (old.steps - 1 + 2)) (with_steps (old.steps - 1) old) mid new e h.takes.same (list_items starts h) (λ x. x) (λ x. x)
+pub list_refused : {E lacks lacks' : Type 0} {old mid : Reading} (new : Reading) (n : ℕ) (e : DecodeError E) → StartsDefinite old 4 → Enters 4 n old mid → (lacks → lacks') → Refuses (record { could = HasItems n mid; lacks = lacks; borrows = ⊥; stands = ItemsCause n mid.steps }) mid e new → Refuses (record { could = HasItem 1 old; lacks = lacks'; borrows = ⊥; stands = ItemCause (old.steps + 1) }) old e new
+list_refused {E} {lacks} {lacks'} {old} {mid} new n e starts h w r = stepped_refused new 1 e (spent_step h) w (passed_on (ItemsCause n mid.steps) (ItemCause (old.steps - 1 + 2)) (with_steps (old.steps - 1) old) mid new e h.takes.same (list_items (definite old starts) h) (λ x. x) (λ x. x)
     (λ b l. let k = h.takes.taken b l in (k.0, k.2, λ s. at_steps {E = E} e b _ _ (omega (arith, h.takes.same.steps)) (in_list n mid.steps e b k.0 h.fits k.1 s))) r)
 
 item_count_items_of : (ts : List Tree) → item_count (items_of ts) ≡ length ts
@@ -121,10 +121,10 @@ next_items {old} {now} {count} {left} ts s i =
 next_item : {old now : Reading} {count left : ℕ} (ts : List Tree) → 0 < left → ReadSome count left old ts now → HasItems count old → HasItem 0 now
 next_item ts more s i = row_first (any_item 0) any_items item any_items (λ t us. refl) (λ t us. omega arith) more (next_items ts s i)
 
-pub next_refused : {E lacks lacks' : Type 0} {old now : Reading} {count left : ℕ} (new : Reading) (ts : List Tree) (e : DecodeError E) → 0 < left → ReadSome count left old ts now → (lacks → lacks') → Refuses (record { could = HasItem 0 now; lacks = lacks; borrows = ⊥; stands = CauseInside (now.steps + 0) }) now e new → Refuses (record { could = HasItems count old; lacks = lacks'; borrows = ⊥; stands = CauseInItems count old.steps }) old e new
-next_refused {E} {lacks} {lacks'} {old} {now} {count} {left} new ts e more s w r = passed_on (CauseInside (now.steps + 0)) (CauseInItems count old.steps) old now new e s.takes.same (next_item ts more s) w (λ x. x)
+pub next_refused : {E lacks lacks' : Type 0} {old now : Reading} {count left : ℕ} (new : Reading) (ts : List Tree) (e : DecodeError E) → 0 < left → ReadSome count left old ts now → (lacks → lacks') → Refuses (record { could = HasItem 0 now; lacks = lacks; borrows = ⊥; stands = ItemCause (now.steps + 0) }) now e new → Refuses (record { could = HasItems count old; lacks = lacks'; borrows = ⊥; stands = ItemsCause count old.steps }) old e new
+next_refused {E} {lacks} {lacks'} {old} {now} {count} {left} new ts e more s w r = passed_on (ItemCause (now.steps + 0)) (ItemsCause count old.steps) old now new e s.takes.same (next_item ts more s) w (λ x. x)
     (λ b l. let k = s.takes.taken b l in
-    (k.0, k.3, λ here. (items_of ts, k.0, k.1, omega (arith, item_count_items_of ts, s.counted, more), at_steps {E = E} e k.0 _ _ (omega (arith, s.takes.same.steps)) here))) r
+    (k.0, k.3, λ here. behind_items (items_of ts) count old.steps e b k.0 k.1 (omega (arith, item_count_items_of ts, s.counted, more)) k.2 (at_steps {E = E} e k.0 _ _ (omega (arith, s.takes.same.steps)) here))) r
 
 pub all_items_read : {old now : Reading} {count left : ℕ} (ts : List Tree) → left ≡ 0 → ReadSome count left old ts now → (length ts ≡ count) × TakesItems old ts now
 all_items_read ts none s = (omega (arith, s.counted, none), s.takes)

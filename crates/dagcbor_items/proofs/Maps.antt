@@ -1,5 +1,5 @@
 -- Reading the entries of a map, in the order of their keys.
-use Rattle.std.proofs.Common.{◌≡◌, inl, inr, ℕ, ◌+◌, ◌-◌, ◌^◌, ◌<◌, List, ◌++◌, refl, sym, ap, ◌∙◌, subst, arith, append_assoc, String, BTreeMap, Global, false, is_err, Option, Some, None, Result, Ok, Err, OnOk}
+use Rattle.std.proofs.Common.{◌≡◌, ℕ, ◌+◌, ◌-◌, ◌^◌, ◌<◌, List, ◌++◌, refl, sym, ap, ◌∙◌, subst, arith, append_assoc, String, BTreeMap, Global, true, false, is_err, Option, Some, None, Result, Ok, Err, OnOk}
 use Rattle.dagcbor_heads.specs.Head.{head}
 use Rattle.dagcbor_heads.specs.Reading.{Reading, with_steps}
 use Rattle.dagcbor_heads.specs.Refusals.{RefusesOrLacksMemoryUnlent, Refuses}
@@ -12,18 +12,24 @@ use Rattle.ipld_tree.specs.Ipld.{tree_of, pairs_of}
 use Rattle.ipld_tree.specs.declared.ipld.Ipld.{Ipld, Map as Map'}
 use Rattle.ipld_tree.proofs.Trees.{tree_of_Map}
 use Rattle.ipld_tree.proofs.Fronts.{is_mapping}
+use Rattle.dagcbor_decode.specs.Decode.{follows}
 use Rattle.dagcbor_items.specs.Shapes.{Shape}
 use Rattle.dagcbor_items.specs.TypedReads.{HasFront}
-use Rattle.dagcbor_items.specs.Places.{Follows, last_key}
-use Rattle.dagcbor_items.specs.ItemCauses.{KeyCause, CauseInside, CauseInEntries}
-use Rattle.dagcbor_items.specs.Untyped.{HasItem, TakesItem, StartsWithMajor}
+use Rattle.dagcbor_items.specs.Places.{Follows}
+use Rattle.dagcbor_items.specs.ReadCauses.{KeyCause, ItemCause, EntriesCause}
+use Rattle.dagcbor_items.specs.Untyped.{HasItem, TakesItem, StartsWithMajor, StartsDefinite}
 use Rattle.dagcbor_items.specs.Entering.{Enters}
 use Rattle.dagcbor_items.specs.Entries.{HasKey, AllFollow, HasEntryRow, any_entries, HasEntries, TakesEntries}
-use Rattle.dagcbor_items.proofs.Places.{in_map, at_steps}
-use Rattle.dagcbor_items.proofs.Fronts.{major_of_front, as_tree}
+use Rattle.dagcbor_items.proofs.ItemRefusals.{in_map, at_steps, behind_entries, behind_key}
+use Rattle.dagcbor_items.proofs.Fronts.{major_of_front, as_tree, definite}
 use Rattle.dagcbor_items.proofs.Rows.{entries_entered, row_key, row_value}
 use Rattle.dagcbor_items.proofs.Steps.{spent_step, stepped_refused, stepped_taken}
-use Rattle.dagcbor_items.proofs.Pushes.{entry_push, entries_left, entry_count_push, entries_need_push, last_key_push, entries_push}
+use Rattle.dagcbor_items.proofs.Pushes.{last_key, entry_push, entries_left, entry_count_push, entries_need_push, last_key_push, entries_push}
+
+-- a key that follows, as `Decode.antt` tests it
+pub follows_tested : (previous : Option (List ℕ)) (key : List ℕ) → Follows previous key → follows previous key ≡ true
+follows_tested None key h = refl
+follows_tested (Some before) key h = h
 
 -- ---- the loop
 
@@ -58,9 +64,9 @@ next_entries {old} {now} {count} {left} {es} {previous} s i =
     }
 
 pub next_key_refused : {E lacks' : Type 0} {old now : Reading} {count left : ℕ} {es : Entries} {previous : Option (List ℕ)} (new : Reading) (e : DecodeError E) → 0 < left → ReadEntries count left old es previous now → (now.lends ≡ false → lacks')
-    → RefusesOrLacksMemoryUnlent (HasKey previous now) (KeyCause previous) now e new → Refuses (record { could = HasEntries count old; lacks = lacks'; borrows = ⊥; stands = CauseInEntries count old.steps }) old e new
-next_key_refused {E} {lacks'} {old} {now} {count} {left} {es} {previous} new e more s w r = passed_on (KeyCause previous) (CauseInEntries count old.steps) old now new e s.takes.same (λ i. row_key more (next_entries s i)) w (λ x. x)
-    (λ b l. let k = s.takes.taken b l in (k.0, k.3, λ here. (es, k.0, k.1, omega (arith, s.counted, more), inl (subst (λ p. KeyCause {E = E} p e k.0) (sym s.last) here)))) r
+    → RefusesOrLacksMemoryUnlent (HasKey previous now) (KeyCause previous) now e new → Refuses (record { could = HasEntries count old; lacks = lacks'; borrows = ⊥; stands = EntriesCause count old.steps }) old e new
+next_key_refused {E} {lacks'} {old} {now} {count} {left} {es} {previous} new e more s w r = passed_on (KeyCause previous) (EntriesCause count old.steps) old now new e s.takes.same (λ i. row_key more (next_entries s i)) w (λ x. x)
+    (λ b l. let k = s.takes.taken b l in (k.0, k.3, λ here. behind_entries es count old.steps e b k.0 k.1 (omega (arith, s.counted, more)) k.2 (subst (λ p. KeyCause {E = E} p e k.0) (sym s.last) here))) r
 
 -- a key was read as well
 next_value : {old now mid : Reading} {count left : ℕ} {es : Entries} {previous : Option (List ℕ)} (key : List ℕ) → 0 < left → ReadEntries count left old es previous now → TakesItem 1 now (text key) mid → HasEntries count old → HasItem 0 mid
@@ -70,19 +76,13 @@ next_value key more s a i =
     record { bytes = v.2; tree = v.0; rest = entries_spelling v.1 ++ row.rest; left = v.4; front = v.5; accepted = refl; within = omega (arith, row.within, ap entries_need v.3, a.same.steps) }
 
 pub next_value_refused : {E lacks lacks' : Type 0} {old now mid : Reading} {count left : ℕ} {es : Entries} {previous : Option (List ℕ)} (key : List ℕ) (new : Reading) (e : DecodeError E) → 0 < left → ReadEntries count left old es previous now → Follows previous key → TakesItem 1 now (text key) mid → (lacks → lacks')
-    → Refuses (record { could = HasItem 0 mid; lacks = lacks; borrows = ⊥; stands = CauseInside (mid.steps + 0) }) mid e new → Refuses (record { could = HasEntries count old; lacks = lacks'; borrows = ⊥; stands = CauseInEntries count old.steps }) old e new
-next_value_refused {E} {lacks} {lacks'} {old} {now} {mid} {count} {left} {es} {previous} key new e more s f a w r = passed_on (CauseInside (mid.steps + 0)) (CauseInEntries count old.steps) old mid new e
+    → Refuses (record { could = HasItem 0 mid; lacks = lacks; borrows = ⊥; stands = ItemCause (mid.steps + 0) }) mid e new → Refuses (record { could = HasEntries count old; lacks = lacks'; borrows = ⊥; stands = EntriesCause count old.steps }) old e new
+next_value_refused {E} {lacks} {lacks'} {old} {now} {mid} {count} {left} {es} {previous} key new e more s f a w r = passed_on (ItemCause (mid.steps + 0)) (EntriesCause count old.steps) old mid new e
     (stays_both s.takes.same a.same) (next_value key more s a) w (λ x. x)
     (λ b l. let k = s.takes.taken b l in let q = a.taken k.0 k.3 in (
       q.0,
       q.3,
-      λ here. (
-        es,
-        k.0,
-        k.1,
-        omega (arith, s.counted, more),
-        inr (key, q.0, q.1, subst (λ p. Follows p key) (sym s.last) f, at_steps {E = E} e q.0 _ _ (omega (arith, s.takes.same.steps, a.same.steps)) here),
-      ),
+      λ here. behind_key es count old.steps key e b k.0 q.0 k.1 (omega (arith, s.counted, more)) k.2 q.1 (follows_tested (last_key es) key (subst (λ p. Follows p key) (sym s.last) f)) (at_steps {E = E} e q.0 _ _ (omega (arith, s.takes.same.steps, a.same.steps)) here),
     )) r
 
 pub on_ok : {X Y : Type 0} (r : Result X Y) (P : Type 0) → false ≡ is_err r → OnOk r P → P
@@ -119,8 +119,8 @@ map_entries {old} {mid} {n} starts h i =
     let l = is_map_at starts i in
     entries_entered l.0 h i.left (subst (λ t. IsFront i.bytes t i.rest) l.1 i.front) refl (omega (arith, i.within, ap any_need l.1, h.takes.same.steps))
 
-pub map_refused : {E lacks lacks' : Type 0} {old mid : Reading} (new : Reading) (n : ℕ) (e : DecodeError E) → StartsWithMajor old 5 → Enters 5 n old mid → (lacks → lacks') → Refuses (record { could = HasEntries n mid; lacks = lacks; borrows = ⊥; stands = CauseInEntries n mid.steps }) mid e new → Refuses (record { could = HasItem 1 old; lacks = lacks'; borrows = ⊥; stands = CauseInside (old.steps + 1) }) old e new
-map_refused {E} {lacks} {lacks'} {old} {mid} new n e starts h w r = stepped_refused new 1 e (spent_step h) w (passed_on (CauseInEntries n mid.steps) (CauseInside (old.steps - 1 + 2)) (with_steps (old.steps - 1) old) mid new e h.takes.same (map_entries starts h) (λ x. x) (λ x. x)
+pub map_refused : {E lacks lacks' : Type 0} {old mid : Reading} (new : Reading) (n : ℕ) (e : DecodeError E) → StartsDefinite old 5 → Enters 5 n old mid → (lacks → lacks') → Refuses (record { could = HasEntries n mid; lacks = lacks; borrows = ⊥; stands = EntriesCause n mid.steps }) mid e new → Refuses (record { could = HasItem 1 old; lacks = lacks'; borrows = ⊥; stands = ItemCause (old.steps + 1) }) old e new
+map_refused {E} {lacks} {lacks'} {old} {mid} new n e starts h w r = stepped_refused new 1 e (spent_step h) w (passed_on (EntriesCause n mid.steps) (ItemCause (old.steps - 1 + 2)) (with_steps (old.steps - 1) old) mid new e h.takes.same (map_entries (definite old starts) h) (λ x. x) (λ x. x)
     (λ b l. let k = h.takes.taken b l in (k.0, k.2, λ s. at_steps {E = E} e b _ _ (omega (arith, h.takes.same.steps)) (in_map n mid.steps e b k.0 h.fits k.1 s))) r)
 
 pub map_closed : (c rest : List ℕ) (es : Entries) → entry_count es < 2 ^ 64 → AreEntryFronts c es rest → IsFront (head 5 (entry_count es) ++ c) (mapping es) rest

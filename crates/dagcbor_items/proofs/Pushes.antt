@@ -1,5 +1,5 @@
 -- An entry behind the last one, and what a `BTreeMap` makes of a key that comes behind all others.
-use Rattle.std.proofs.Common.{◌≡◌, inl, inr, ℕ, ◌+◌, ◌≤◌, max, List, [], ◌∷◌, refl, sym, ap, ◌∙◌, subst, arith, String, Global, string_bytes, string_cmp, Ordering, Less, Equal, Greater, Some, ◌⊎◌}
+use Rattle.std.proofs.Common.{◌≡◌, inl, inr, ℕ, ◌+◌, ◌≤◌, max, List, [], ◌∷◌, refl, sym, ap, ◌∙◌, subst, arith, String, Global, string_bytes, string_cmp, Ordering, Less, Equal, Greater, Option, Some, None, ◌⊎◌}
 use Rattle.std.specs.BTreeMap.{insert_entry}
 use Rattle.std.specs.List.Sorted.{IsStrictlySortedBy}
 use Rattle.std.specs.Map.{keys_of}
@@ -14,8 +14,14 @@ use Rattle.ipld_tree.proofs.Trees.{IpldEntry, pairs_of_insert_entry}
 use Rattle.ipld_tree.proofs.Ordered.{KeyAndTree, IsRising, Has, HasPair, key_cmp_total, key_cmp_same, less_from_before, same_entries, rising_ordered, ordered_has, has_ordered}
 use Rattle.ipld_tree.proofs.WellFormed.{distinct_entries}
 use Rattle.ipld_tree.proofs.Fronts.{entry_opened, entry_closed, entries_after}
-use Rattle.dagcbor_items.specs.Places.{Follows, last_key}
+use Rattle.dagcbor_items.specs.Places.{Follows}
 use Rattle.dagcbor_items.specs.Entries.{AllFollow}
+
+-- the key of the last entry
+unfoldable pub last_key : Entries → Option (List ℕ)
+last_key no_entries = None
+last_key (entry k t no_entries) = Some k
+last_key (entry k t (entry l u es)) = last_key (entry l u es)
 
 -- ---- an entry behind the last one
 

@@ -1,5 +1,5 @@
 -- Steps that are spent on entering an item, and given back at its end.
-use Rattle.std.proofs.Common.{◌≡◌, inl, ℕ, ◌+◌, ◌-◌, ◌≤◌, List, refl, sym, ap, ◌∙◌, arith, codes, Some}
+use Rattle.std.proofs.Common.{◌≡◌, ℕ, ◌+◌, ◌-◌, ◌≤◌, List, refl, ap, ◌∙◌, arith, codes, Some}
 use Rattle.dagcbor_heads.specs.Names.{Names}
 use Rattle.dagcbor_heads.specs.Reading.{Reading, SpentStep, with_steps}
 use Rattle.dagcbor_heads.specs.Refusals.{Refuses, NoStep}
@@ -9,10 +9,10 @@ use Rattle.dagcbor_heads.specs.declared.error.DecodeError.TheVariants.{Read, Req
 use Rattle.dagcbor_heads.proofs.Taking.{stays}
 use Rattle.dagcbor_heads.proofs.Refusing.{no_step_refused, passed_on}
 use Rattle.ipld_tree.specs.Tree.{Tree, list, mapping, any_need}
-use Rattle.dagcbor_items.specs.ItemCauses.{IsTooDeep, CauseInside}
-use Rattle.dagcbor_items.specs.Untyped.{HasItem, TakesItem, StartsWithMajor}
+use Rattle.dagcbor_items.specs.ReadCauses.{ItemCause}
+use Rattle.dagcbor_items.specs.Untyped.{HasItem, TakesItem}
 use Rattle.dagcbor_items.specs.Entering.{Enters}
-use Rattle.dagcbor_items.proofs.Places.{stands_here, at_steps}
+use Rattle.dagcbor_items.proofs.ItemRefusals.{at_steps, no_step}
 
 pub need_positive : (t : Tree) → 1 ≤ any_need t
 need_positive (list ts) = omega arith
@@ -21,17 +21,17 @@ need_positive _ = omega arith
 
 -- no step is left for what stands there
 pub too_deep : {E : Type 0} (lacks : Type 0) (spent : ℕ) {text : List ℕ} {old new : Reading} (e : DecodeError E) → NoStep text old e new → ((i : HasItem spent old) → spent + 1 ≤ any_need i.tree)
-    → ((n : Name) → Names n text → (b : List ℕ) → old.left ≡ Some b → IsTooDeep {E = E} spent (DepthOverflow n) b) → Refuses (record { could = HasItem spent old; lacks = lacks; borrows = ⊥; stands = CauseInside (old.steps + spent) }) old e new
-too_deep {E} lacks spent {text} {old} e h deep cause = no_step_refused lacks ⊥ (CauseInside (old.steps + spent)) e (stays old) h (λ i. omega (arith, i.within, deep i))
-    (λ n named b l. at_steps {E = E} (DepthOverflow n) b spent _ (omega (arith, h.none)) (stands_here {E = E} spent (DepthOverflow n) b (inl (cause n named b l))))
+    → ((n : Name) → Names n text → (b : List ℕ) → old.left ≡ Some b → ItemCause {E = E} spent (DepthOverflow n) b) → Refuses (record { could = HasItem spent old; lacks = lacks; borrows = ⊥; stands = ItemCause (old.steps + spent) }) old e new
+too_deep {E} lacks spent {text} {old} e h deep cause = no_step_refused lacks ⊥ (ItemCause (old.steps + spent)) e (stays old) h (λ i. omega (arith, i.within, deep i))
+    (λ n named b l. at_steps {E = E} (DepthOverflow n) b spent _ (omega (arith, h.none)) (cause n named b l))
 
-pub no_step_left : {E : Type 0} (lacks : Type 0) {old new : Reading} (e : DecodeError E) → NoStep (codes "any") old e new → Refuses (record { could = HasItem 0 old; lacks = lacks; borrows = ⊥; stands = CauseInside (old.steps + 0) }) old e new
-no_step_left lacks e h = too_deep lacks 0 e h (λ i. need_positive i.tree) (λ n named b l. inl (refl, named))
+pub no_step_left : {E : Type 0} (lacks : Type 0) {old new : Reading} (e : DecodeError E) → NoStep (codes "any") old e new → Refuses (record { could = HasItem 0 old; lacks = lacks; borrows = ⊥; stands = ItemCause (old.steps + 0) }) old e new
+no_step_left {E} lacks e h = too_deep lacks 0 e h (λ i. need_positive i.tree) (λ n named b l. no_step E n b named)
 
 -- a call that may lack memory refuses what one refuses that lacks less
-pub more_lacks : {E : Type 0} {lacks : Type 0} (lacks' : Type 0) (spent : ℕ) (old new : Reading) (e : DecodeError E) → (lacks → lacks') → Refuses (record { could = HasItem spent old; lacks = lacks; borrows = ⊥; stands = CauseInside (old.steps + spent) }) old e new
-    → Refuses (record { could = HasItem spent old; lacks = lacks'; borrows = ⊥; stands = CauseInside (old.steps + spent) }) old e new
-more_lacks lacks' spent old new e w r = passed_on (CauseInside (old.steps + spent)) (CauseInside (old.steps + spent)) old old new e (stays old) (λ x. x) w (λ x. x) (λ b l. (b, l, λ h. h)) r
+pub more_lacks : {E : Type 0} {lacks : Type 0} (lacks' : Type 0) (spent : ℕ) (old new : Reading) (e : DecodeError E) → (lacks → lacks') → Refuses (record { could = HasItem spent old; lacks = lacks; borrows = ⊥; stands = ItemCause (old.steps + spent) }) old e new
+    → Refuses (record { could = HasItem spent old; lacks = lacks'; borrows = ⊥; stands = ItemCause (old.steps + spent) }) old e new
+more_lacks lacks' spent old new e w r = passed_on (ItemCause (old.steps + spent)) (ItemCause (old.steps + spent)) old old new e (stays old) (λ x. x) w (λ x. x) (λ b l. (b, l, λ h. h)) r
 
 -- ---- a step was spent
 
@@ -55,7 +55,7 @@ steps_same : {old stepped : Reading} (spent : ℕ) → SpentStep old stepped →
 steps_same spent s = omega (arith, s.some, ap (λ (r : Reading). r.steps) s.is)
 
 pub stepped_refused : {E lacks lacks' : Type 0} {old stepped : Reading} (new : Reading) (spent : ℕ) (e : DecodeError E) → SpentStep old stepped → (lacks → lacks')
-    → Refuses (record { could = HasItem (spent + 1) stepped; lacks = lacks; borrows = ⊥; stands = CauseInside (stepped.steps + (spent + 1)) }) stepped e new → Refuses (record { could = HasItem spent old; lacks = lacks'; borrows = ⊥; stands = CauseInside (old.steps + spent) }) old e new
+    → Refuses (record { could = HasItem (spent + 1) stepped; lacks = lacks; borrows = ⊥; stands = ItemCause (stepped.steps + (spent + 1)) }) stepped e new → Refuses (record { could = HasItem spent old; lacks = lacks'; borrows = ⊥; stands = ItemCause (old.steps + spent) }) old e new
 stepped_refused {E} {lacks} {lacks'} {old} {stepped} new spent (Read e) s k r = omega (arith, ap (λ (r : Reading). r.faults) s.is, r)
 stepped_refused {E} {lacks} {lacks'} {old} {stepped} new spent OutOfMemory s k r = (r.0 ∙ ap (λ (r : Reading). r.faults) s.is, k r.1)
 stepped_refused {E} {lacks} {lacks'} {old} {stepped} new spent (RequireBorrowed n) s k r = absurd r.1
@@ -81,6 +81,3 @@ stepped_taken {old} {stepped} {now} {new} {t} spent s a back =
         through = ap (λ (r : Reading). r.through) back ∙ a.same.through ∙ ap (λ (r : Reading). r.through) s.is;
       };
     }
-
-pub stepped_major : {old stepped : Reading} {m : ℕ} → SpentStep old stepped → StartsWithMajor old m → StartsWithMajor stepped m
-stepped_major s h b l = h b (ap (λ (r : Reading). r.left) (sym s.is) ∙ l)

@@ -1,5 +1,5 @@
 -- Reading texts and byte strings.
-use Rattle.std.proofs.Common.{◌≡◌, inl, inr, ℕ, ◌^◌, ◌<◌, List, ◌++◌, length, true, false, refl, sym, ap, ◌∙◌, subst, arith, append_assoc, zero-le, Some, None, Option, is_some, Result, Ok, Err, MatchResult, IsUtf8, IfErr, codes, Global}
+use Rattle.std.proofs.Common.{◌≡◌, ℕ, ◌^◌, ◌<◌, List, ◌++◌, length, true, false, refl, sym, ap, ◌∙◌, subst, arith, append_assoc, zero-le, Some, None, Option, is_some, Result, Ok, Err, MatchResult, IsUtf8, IfErr, codes, Global}
 use Rattle.std.specs.Cow.{cow_slice_items}
 use Rattle.std.specs.declared.borrow.CowSlice.{CowSlice}
 use Rattle.dagcbor_heads.specs.Head.{head}
@@ -10,7 +10,7 @@ use Rattle.dagcbor_heads.specs.Causes.{HeadCause, PayloadCause, IsNamed, IsPaylo
 use Rattle.dagcbor_heads.specs.Refusals.{RefusesPlainly, RefusesOrLacksMemoryUnlent, Refuses}
 use Rattle.dagcbor_heads.specs.declared.name.Name.{Name}
 use Rattle.dagcbor_heads.specs.declared.error.DecodeError.{DecodeError}
-use Rattle.dagcbor_heads.specs.declared.error.DecodeError.TheVariants.{Eof, RequireUtf8}
+use Rattle.dagcbor_heads.specs.declared.error.DecodeError.TheVariants.{RequireUtf8}
 use Rattle.dagcbor_heads.proofs.Heads.{head_unique}
 use Rattle.dagcbor_heads.proofs.Taking.{stays, stays_both, takes_both}
 use Rattle.dagcbor_heads.proofs.Refusing.{passed_on}
@@ -19,8 +19,8 @@ use Rattle.ipld_tree.specs.Spelling.{IsFront}
 use Rattle.ipld_tree.proofs.Unique.{split_at_length}
 use Rattle.dagcbor_items.specs.TypedReads.{HasFront, TakesFront, Reads}
 use Rattle.dagcbor_items.specs.Shapes.{view_text, view_bytes, leaf}
-use Rattle.dagcbor_items.specs.FirstBytes.{BeginsFrom}
-use Rattle.dagcbor_items.specs.LeafCauses.{IsCut, MajorCause, StringCause, TextCause}
+use Rattle.dagcbor_items.proofs.LeafRefusals.{major_head, string_head, string_cut, text_string, text_garbled}
+use Rattle.dagcbor_items.specs.ReadCauses.{MajorCause, StringCause, TextCause}
 use Rattle.dagcbor_items.specs.LeafReads.{ReadsByteSlice}
 use Rattle.dagcbor_items.proofs.SimpleValues.{spelling_taken}
 use Rattle.dagcbor_items.specs.Majors.{HasMajor, TakesMajor, HasString, TakesString, ReadsString}
@@ -39,15 +39,11 @@ behind_kind {kind} {n} fits t h =
     let u = head_unique kind (length h.payload) kind n (h.payload ++ h.rest) k.0 h.fits fits k.1 in
     (u.1, k.2 ∙ ap Some (sym u.2))
 
-is_cut : {E : Type 0} (name : List ℕ) (kind n : ℕ) (e : DecodeError E) (b c : List ℕ) → n < 2 ^ 64 → b ≡ head kind n ++ c → IsPayloadNamed name e → PayloadCause n e c → IsCut name kind e b
-is_cut name kind n (Eof kept expect) b c fits e named h = (named, (n, c, fits, e, h.1, h.0))
-is_cut name kind n _ b c fits e named h = absurd h
-
 payload_refused : {E : Type 0} (lacks : Type 0) (name : List ℕ) (kind : ℕ) {n : ℕ} {old mid : Reading} (new : Reading) (e : DecodeError E) → n < 2 ^ 64 → Takes old (head kind n) mid → IsPayloadNamed name e
     → (lacks' : Type 0) → (lacks → lacks') → Refuses (record { could = HasPayload n mid; lacks = lacks; borrows = ⊥; stands = PayloadCause n }) mid e new → Refuses (record { could = HasString kind old; lacks = lacks'; borrows = ⊥; stands = StringCause name kind }) old e new
 payload_refused lacks name kind {n} {old} {mid} new e fits t named lacks' want r = passed_on (PayloadCause n) (StringCause name kind) old mid new e t.same
     (λ h. let k = behind_kind fits t h in record { payload = h.payload; rest = h.rest; long = k.0; left = k.1 }) want (λ x. x)
-    (λ b l. let k = t.taken b l in (k.0, k.2, λ c. inr (is_cut name kind n e b k.0 fits k.1 named c))) r
+    (λ b l. let k = t.taken b l in (k.0, k.2, string_cut name kind n e b k.0 fits k.1 named)) r
 
 string_taken : {kind n : ℕ} {old mid new : Reading} (s : List ℕ) → n < 2 ^ 64 → Takes old (head kind n) mid → length s ≡ n → Takes mid s new → TakesString kind old s new
 string_taken {kind} {n} {old} {mid} {new} s fits t long p = record {
@@ -66,7 +62,7 @@ string_read name kind {m} {n} {old} {mid} new (Err e) t named h = payload_refuse
 pub string_kind_refused : {E : Type 0} (lacks : Type 0) (name : List ℕ) (kind : ℕ) (old new : Reading) (e : DecodeError E) → RefusesPlainly (HasMajor kind kind old) (MajorCause name kind kind) old e new
     → Refuses (record { could = HasString kind old; lacks = lacks; borrows = ⊥; stands = StringCause name kind }) old e new
 string_kind_refused lacks name kind old new e r =
-    passed_on (MajorCause name kind kind) (StringCause name kind) old old new e (stays old) string_kind (λ x. absurd x) (λ x. x) (λ b l. (b, l, λ c. inl c)) r
+    passed_on (MajorCause name kind kind) (StringCause name kind) old old new e (stays old) string_kind (λ x. absurd x) (λ x. x) (λ b l. (b, l, string_head name kind e b)) r
   where
     string_kind : HasString kind old → HasMajor kind kind old
     string_kind h = record { major = kind; argument = length h.payload; rest = h.payload ++ h.rest; lowest = omega arith; highest = omega arith; argument_fits = h.fits; left = h.left }
@@ -75,16 +71,11 @@ string_kind_refused lacks name kind old new e r =
 pub string_head_refused : {E : Type 0} (lacks : Type 0) (name : List ℕ) (kind : ℕ) (old new : Reading) (e : DecodeError E) → kind < 8 → StartsWithMajor old kind → IsNamed name e → RefusesPlainly (HasHead old) HeadCause old e new
     → Refuses (record { could = HasString kind old; lacks = lacks; borrows = ⊥; stands = StringCause name kind }) old e new
 string_head_refused lacks name kind old new e few starts named r =
-    passed_on HeadCause (StringCause name kind) old old new e (stays old) string_head (λ x. absurd x) (λ x. x) (λ b l. (b, l, λ c. inl (inl (c, named, begins b l)))) r
+    passed_on HeadCause (StringCause name kind) old old new e (stays old) head_there (λ x. absurd x) (λ x. x)
+    (λ b l. let s = starts b l in (b, l, λ c. string_head name kind e b (major_head name kind kind e s.0 b s.1 s.2 (omega (arith, s.3)) (omega (arith, s.3)) named c))) r
   where
-    string_head : HasString kind old → HasHead old
-    string_head h = record { major = kind; argument = length h.payload; rest = h.payload ++ h.rest; major_fits = few; argument_fits = h.fits; left = h.left }
-
-    begins : (b : List ℕ) → old.left ≡ Some b → BeginsFrom kind kind b
-    begins b l = λ byte more is.
-        let s = starts b l in
-        let same : byte ≡ s.0 = cc (is, s.2) in
-        (omega (arith, same, s.3), omega (arith, same, s.3))
+    head_there : HasString kind old → HasHead old
+    head_there h = record { major = kind; argument = length h.payload; rest = h.payload ++ h.rest; major_fits = few; argument_fits = h.fits; left = h.left }
 
 -- what was read behind a byte that was peeked at
 pub peeked_read : {T V E : Type 0} (meaning : T → V) (view : Tree → Option V) (lacks : Reading → Type 0) (stands : DecodeError E → List ℕ → Type 0) {old mid : Reading} {first : ℕ} (new : Reading) (r : Result T (DecodeError E)) → ShowsByte old first mid → (Stays old mid → lacks mid → lacks old)
@@ -139,7 +130,7 @@ text_stands {r} h =
 
 pub text_string_refused : {E : Type 0} (lacks : Type 0) (name : List ℕ) (old new : Reading) (e : DecodeError E) → Refuses (record { could = HasString 3 old; lacks = lacks; borrows = ⊥; stands = StringCause name 3 }) old e new
     → Refuses (record { could = HasFront (leaf view_text) old; lacks = lacks; borrows = ⊥; stands = TextCause name }) old e new
-text_string_refused lacks name old new e r = passed_on (StringCause name 3) (TextCause name) old old new e (stays old) text_stands (λ x. x) (λ x. x) (λ b l. (b, l, λ c. inl c)) r
+text_string_refused lacks name old new e r = passed_on (StringCause name 3) (TextCause name) old old new e (stays old) text_stands (λ x. x) (λ x. x) (λ b l. (b, l, text_string name e b)) r
 
 pub text_string_taken : {old new : Reading} (s payload : List ℕ) → s ≡ payload → IsUtf8 s → TakesString 3 old payload new → TakesFront (leaf view_text) old s new
 text_string_taken {old} {new} s payload e u h = let k = subst (λ x. TakesString 3 old x new) (sym e) h in spelling_taken view_text (text s) s u k.fits refl k.takes
@@ -154,5 +145,5 @@ no_text_refused E name {old} {new} s kept named h not_text = (
       (sym (append_assoc (head 3 (length t.0)) t.0 i.rest) ∙ sym t.1.is ∙ k.1 ∙ append_assoc (head 3 (length s)) s k.0) in
       let payload = split_at_length t.0 s i.rest k.0 same.1 same.2 in
       not_text (subst IsUtf8 payload.0 t.1.well_formed),
-  λ b l. let k = h.takes.taken b l in inr (named, (s, k.0, h.fits, k.1 ∙ append_assoc (head 3 (length s)) s k.0, not_text)),
+  λ b l. let k = h.takes.taken b l in text_garbled E name kept b s k.0 h.fits (k.1 ∙ append_assoc (head 3 (length s)) s k.0) named not_text,
 )

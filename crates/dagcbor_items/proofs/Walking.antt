@@ -9,7 +9,7 @@ use Rattle.dagcbor_heads.proofs.Refusing.{passed_on}
 use Rattle.ipld_tree.specs.Tree.{Tree, null, boolean, integer, text, list, mapping, link, items_of, Entries, no_entries, entry, links_of, items_links, entries_links}
 use Rattle.ipld_tree.specs.Spelling.{text_spelling, items_spelling, entries_spelling}
 use Rattle.ipld_tree.proofs.Unique.{major}
-use Rattle.dagcbor_items.specs.ItemCauses.{CauseInside}
+use Rattle.dagcbor_items.specs.ReadCauses.{ItemCause}
 use Rattle.dagcbor_items.specs.Untyped.{HasItem, TakesItem, SkipsEnteredItem}
 use Rattle.dagcbor_items.specs.Items.{TakesItems}
 use Rattle.dagcbor_items.specs.Entries.{TakesEntries}
@@ -18,7 +18,7 @@ use Rattle.dagcbor_items.proofs.LinksIn.{links_behind, items_links_in, entries_l
 use Rattle.dagcbor_items.proofs.Fronts.{head_of, major_of_front, major_at}
 use Rattle.dagcbor_items.specs.Shapes.{number_of}
 use Rattle.dagcbor_items.proofs.Integers.{number_front}
-use Rattle.dagcbor_items.proofs.Places.{at_steps}
+use Rattle.dagcbor_items.proofs.ItemRefusals.{at_steps}
 use Rattle.dagcbor_items.proofs.Pushes.{entry_push}
 use Rattle.dagcbor_items.proofs.Steps.{stepped_refused, more_lacks}
 
@@ -56,8 +56,8 @@ pub lacks_before : {takes_memory : Bool} {old mid : Reading} → Stays old mid �
 lacks_before h behind (inl l) = inl (sym h.lends ∙ l)
 lacks_before h behind (inr m) = inr (m.0, λ b l. let k = behind b l in let link = m.1 k.1 k.3 in (link.0, links_behind k.0 b k.1 (link.0 ∷ []) k.2 link.1))
 
-pub step_refused : {E : Type 0} (takes_memory : Bool) {old stepped : Reading} (new : Reading) (spent : ℕ) (e : DecodeError E) → SpentStep old stepped → Refuses (record { could = HasItem (spent + 1) stepped; lacks = WalkLacks takes_memory stepped; borrows = ⊥; stands = CauseInside (stepped.steps + (spent + 1)) }) stepped e new
-    → Refuses (record { could = HasItem spent old; lacks = WalkLacks takes_memory old; borrows = ⊥; stands = CauseInside (old.steps + spent) }) old e new
+pub step_refused : {E : Type 0} (takes_memory : Bool) {old stepped : Reading} (new : Reading) (spent : ℕ) (e : DecodeError E) → SpentStep old stepped → Refuses (record { could = HasItem (spent + 1) stepped; lacks = WalkLacks takes_memory stepped; borrows = ⊥; stands = ItemCause (stepped.steps + (spent + 1)) }) stepped e new
+    → Refuses (record { could = HasItem spent old; lacks = WalkLacks takes_memory old; borrows = ⊥; stands = ItemCause (old.steps + spent) }) old e new
 step_refused {E} takes_memory {old} {stepped} new spent e s r = stepped_refused new spent e s lacks r
   where
     lacks : WalkLacks takes_memory stepped → WalkLacks takes_memory old
@@ -126,8 +126,8 @@ module _ {S : Type 0} (sink : Sink S) where
 
   -- behind a step
   pub step_walk_refused : {E : Type 0} {old stepped : Reading} (before after : S) (new : Reading) (spent : ℕ) (e : DecodeError E) → SpentStep old stepped
-      → RefusesWalk sink (HasItem (spent + 1) stepped) (CauseInside (stepped.steps + (spent + 1))) stepped before e new after
-      → RefusesWalk sink (HasItem spent old) (CauseInside (old.steps + spent)) old before e new after
+      → RefusesWalk sink (HasItem (spent + 1) stepped) (ItemCause (stepped.steps + (spent + 1))) stepped before e new after
+      → RefusesWalk sink (HasItem spent old) (ItemCause (old.steps + spent)) old before e new after
   step_walk_refused before after new spent e s r = record {
     refuses = step_refused sink.takes_memory new spent e s r.refuses;
     handed = subst (λ l. HandsLinks sink l before after) (ap (λ (r : Reading). r.left) s.is) r.handed;
@@ -153,7 +153,7 @@ module _ {S : Type 0} (sink : Sink S) where
   walked_from {E} {old} {peeked} before after (Ok u) new s h =
       (h.0, record { taken = λ b l. (let k = h.1.taken b (s.kept b l) in (k.0, k.1, omega (arith, k.2, s.same.steps), k.3)); same = stays_both s.same h.1.same }, h.2)
   walked_from {E} {old} {peeked} before after (Err e) new s h = record {
-    refuses = passed_on (CauseInside (peeked.steps + 1)) (CauseInside (old.steps + 1)) old peeked new e s.same shown_item (lacks_before s.same rest_shown) (λ x. x)
+    refuses = passed_on (ItemCause (peeked.steps + 1)) (ItemCause (old.steps + 1)) old peeked new e s.same shown_item (lacks_before s.same rest_shown) (λ x. x)
         (λ b l. (b, s.kept b l, λ x. at_steps {E = E} e b _ _ (omega (arith, s.same.steps)) x)) h.refuses;
     handed = handed_behind before after rest_shown h.handed;
   }

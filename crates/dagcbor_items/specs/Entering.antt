@@ -1,12 +1,12 @@
 -- Entering a list or a map: a step is spent, and its head is taken.
-use Rattle.std.specs.Prelude.{◌≡◌, List, ℕ, ◌+◌, ◌-◌, ◌^◌, ◌<◌, ◌⊎◌, Result, MatchResult}
+use Rattle.std.specs.Prelude.{◌≡◌, List, ℕ, ◌+◌, ◌-◌, ◌^◌, ◌<◌, ◌⊎◌, codes, Result, MatchResult}
 use Rattle.dagcbor_heads.specs.Head.{head}
 use Rattle.dagcbor_heads.specs.Reading.{Reading, with_steps}
 use Rattle.dagcbor_heads.specs.Fronts.{Takes}
 use Rattle.dagcbor_heads.specs.Refusals.{RefusesPlainly}
 use Rattle.dagcbor_heads.specs.declared.error.DecodeError.{DecodeError}
-use Rattle.dagcbor_items.specs.ItemCauses.{CauseInside, major_name}
-use Rattle.dagcbor_items.specs.Untyped.{HasEnteredItem, StartsWithMajor}
+use Rattle.dagcbor_items.specs.ReadCauses.{ItemCause}
+use Rattle.dagcbor_items.specs.Untyped.{HasEnteredItem, StartsDefinite}
 
 -- a step was spent, and the head of a list (4) or map (5) of so many parts was taken
 pub record Enters (major count : ℕ) (old new : Reading) : Type 0 where
@@ -17,11 +17,11 @@ pub record Enters (major count : ℕ) (old new : Reading) : Type 0 where
 
 -- the first byte is that of a list or of a map, and this is its name
 abbrev pub StartsWithParts : List ℕ → Reading → Type 0
-StartsWithParts name r = (StartsWithMajor r 4 × (name ≡ major_name 4))
-    ⊎ (StartsWithMajor r 5 × (name ≡ major_name 5))
+StartsWithParts name r = (StartsDefinite r 4 × (name ≡ codes "array"))
+    ⊎ (StartsDefinite r 5 × (name ≡ codes "map"))
 
 -- A list or a map is entered as an item of unknown kind on which one step is already spent.
 abbrev pub ReadsCount : {E : Type 0} → Reading → Result ℕ (DecodeError E) → Reading → Type 0
 ReadsCount old result new = MatchResult result
     (λ count. (major : ℕ) × Enters major count old new)
-    (λ e. RefusesPlainly (HasEnteredItem old) (CauseInside (old.steps + 1)) old e new)
+    (λ e. RefusesPlainly (HasEnteredItem old) (ItemCause (old.steps + 1)) old e new)

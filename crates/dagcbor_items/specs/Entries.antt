@@ -16,10 +16,10 @@ use Rattle.ipld_tree.specs.Spelling.{entry_count, text_spelling, IsFront, AreEnt
 use Rattle.ipld_tree.specs.Ipld.{pairs_of}
 use Rattle.ipld_tree.specs.declared.ipld.Ipld.{Ipld}
 use Rattle.dagcbor_items.specs.Places.{Follows}
-use Rattle.dagcbor_items.specs.ItemCauses.{KeyCause, CauseInEntries}
 use Rattle.dagcbor_items.specs.Majors.{TakesString}
 use Rattle.dagcbor_items.specs.Shapes.{Shape, takes_some, view_text, leaf}
 use Rattle.dagcbor_items.specs.TypedReads.{TakesFront}
+use Rattle.dagcbor_items.specs.ReadCauses.{KeyCause, EntriesCause}
 
 -- a key stands at the front that follows the one before it
 pub record HasKey (previous : Option (List ℕ)) (r : Reading) : Type 0 where
@@ -109,4 +109,4 @@ abbrev pub ReadsEntries : {E : Type 0} → ℕ → Reading
     → Result (BTreeMap (String Global) Ipld) (DecodeError E) → Reading → Type 0
 ReadsEntries count old result new = MatchResult result
     (λ m. (entry_count (ordered_entries (pairs_of m.entries)) ≡ count) × TakesEntries old (ordered_entries (pairs_of m.entries)) new)
-    (λ e. RefusesOrLacksMemory (HasEntries count old) (CauseInEntries count old.steps) old e new)
+    (λ e. RefusesOrLacksMemory (HasEntries count old) (EntriesCause count old.steps) old e new)

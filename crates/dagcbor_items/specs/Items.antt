@@ -8,8 +8,8 @@ use Rattle.ipld_tree.specs.Tree.{Tree, Items, items_of, items_need}
 use Rattle.ipld_tree.specs.Spelling.{item_count, AreFronts}
 use Rattle.ipld_tree.specs.Ipld.{trees_of}
 use Rattle.ipld_tree.specs.declared.ipld.Ipld.{Ipld}
-use Rattle.dagcbor_items.specs.ItemCauses.{CauseInItems}
 use Rattle.dagcbor_items.specs.Shapes.{Shape, takes_some}
+use Rattle.dagcbor_items.specs.ReadCauses.{ItemsCause}
 
 -- so many items stand at the front which show something, and their need is within the steps left
 pub record HasRow {V : Type 0} (shape : Shape Items V) (count : ℕ) (r : Reading) : Type 0 where
@@ -41,4 +41,4 @@ abbrev pub ReadsItems : {E : Type 0} → ℕ → Reading → Result (Vec Ipld Gl
     → Reading → Type 0
 ReadsItems count old result new = MatchResult result
     (λ v. (length v.items ≡ count) × TakesItems old (trees_of v.items) new)
-    (λ e. RefusesOrLacksMemory (HasItems count old) (CauseInItems count old.steps) old e new)
+    (λ e. RefusesOrLacksMemory (HasItems count old) (ItemsCause count old.steps) old e new)

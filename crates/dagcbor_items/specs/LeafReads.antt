@@ -8,9 +8,7 @@ use Rattle.dagcbor_heads.specs.Reading.{Reading}
 use Rattle.dagcbor_heads.specs.declared.error.DecodeError.{DecodeError}
 use Rattle.dagcbor_items.specs.TypedReads.{Reads}
 use Rattle.dagcbor_items.specs.Shapes.{natural_below, within, view_unsigned, view_signed, view_null, view_bool, view_text, view_char, view_bytes, ignored_item, leaf}
-use Rattle.dagcbor_items.specs.ItemCauses.{CauseInside}
-use Rattle.dagcbor_items.specs.LinkCauses.{IsOtherByte}
-use Rattle.dagcbor_items.specs.LeafCauses.{NumberCause, BigNumberCause, StringCause, TextCause, CharCause, BoolCause}
+use Rattle.dagcbor_items.specs.ReadCauses.{ItemCause, WantedCause, NumberCause, BigNumberCause, StringCause, TextCause, CharCause, BoolCause}
 
 -- A number is read exactly where one stands from 0 to the bound, exclusive.
 abbrev pub ReadsUnsigned : {E : Type 0} → List ℕ → ℕ → Reading → Result ℕ (DecodeError E) → Reading
@@ -62,7 +60,7 @@ ReadsOwnedBytes = Reads (λ v. v.items) (leaf view_bytes) ⊤ ⊥ (StringCause (
 
 -- A null is read exactly where one stands.
 abbrev pub ReadsNull : {E : Type 0} → Reading → Result (Unit {0}) (DecodeError E) → Reading → Type 0
-ReadsNull = Reads (λ u. u) (leaf view_null) ⊥ ⊥ (IsOtherByte (codes "unit") (codes "unit") 0xf6)
+ReadsNull = Reads (λ u. u) (leaf view_null) ⊥ ⊥ (WantedCause (codes "unit") (codes "unit") 0xf6)
 
 -- False or true is read exactly where one stands.
 abbrev pub ReadsBool : {E : Type 0} → Reading → Result Bool (DecodeError E) → Reading → Type 0
@@ -72,4 +70,4 @@ ReadsBool = Reads (λ b. b) (leaf view_bool) ⊥ ⊥ BoolCause
 -- memory where the input lends.
 abbrev pub ReadsIgnored : {E : Type 0} → Reading → Result (Unit {0}) (DecodeError E) → Reading
     → Type 0
-ReadsIgnored old = Reads (λ u. u) ignored_item (old.lends ≡ false) ⊥ (CauseInside old.steps) old
+ReadsIgnored old = Reads (λ u. u) ignored_item (old.lends ≡ false) ⊥ (ItemCause old.steps) old

@@ -8,10 +8,10 @@ pub use Rattle.dagcbor_heads.specs.Names
 pub use Rattle.ipld_tree.specs.Tree
 pub use Rattle.ipld_tree.specs.Ipld
 pub use Rattle.ipld_tree.specs.Spelling
-pub mod FirstBytes
 pub mod Places
-pub mod LinkCauses
-pub mod ItemCauses
+pub mod Shapes
+pub mod Leaves
+pub mod ReadCauses
 pub mod Untyped
 pub mod Looks
 pub mod Entering
@@ -22,10 +22,9 @@ pub mod Walks
 pub mod Judging
 pub mod ItemsLeft
 pub mod TypedReads
-pub mod Shapes
-pub mod LeafCauses
 pub mod Majors
 pub mod AnsweredVariants
 pub mod LeafReads
 pub mod Skips
 pub mod Slices
+pub mod Laws

@@ -6,9 +6,9 @@ use Rattle.dagcbor_heads.specs.Refusals.{RefusesPlainly}
 use Rattle.dagcbor_heads.specs.declared.error.DecodeError.{DecodeError}
 use Rattle.ipld_tree.specs.Cid.{CidParts, AreCidParts, IsCid, cid_bytes}
 use Rattle.ipld_tree.specs.Spelling.{bytes_spelling}
-use Rattle.dagcbor_items.specs.LinkCauses.{LinkBytesCause, LinkCause}
 use Rattle.dagcbor_items.specs.TypedReads.{Reads}
 use Rattle.dagcbor_items.specs.Shapes.{view_link, leaf}
+use Rattle.dagcbor_items.specs.ReadCauses.{CidCause, LinkCause}
 
 -- the wanted byte stands at the front
 pub record HasWanted (wanted : ℕ) (r : Reading) : Type 0 where
@@ -33,7 +33,7 @@ pub record TakesCid (old : Reading) (cid : List ℕ) (new : Reading) : Type 0 wh
 abbrev pub ReadsCid : {E : Type 0} → Reading → Result CidParts (DecodeError E) → Reading → Type 0
 ReadsCid old result new = MatchResult result
     (λ c. TakesCid old (cid_bytes c) new)
-    (λ e. RefusesPlainly (HasCid old) LinkBytesCause old e new)
+    (λ e. RefusesPlainly (HasCid old) CidCause old e new)
 
 -- A link is read exactly where one stands, with no want of memory.
 abbrev pub ReadsLink : {E : Type 0} → Reading → Result CidParts (DecodeError E) → Reading → Type 0

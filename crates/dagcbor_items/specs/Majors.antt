@@ -6,7 +6,7 @@ use Rattle.dagcbor_heads.specs.Fronts.{Takes}
 use Rattle.dagcbor_heads.specs.Refusals.{RefusesPlainly, RefusesOrLacksMemoryUnlent}
 use Rattle.dagcbor_heads.specs.declared.error.DecodeError.{DecodeError}
 use Rattle.dagcbor_heads.specs.declared.error.DecodeError.TheVariants.{OutOfMemory}
-use Rattle.dagcbor_items.specs.LeafCauses.{MajorCause, StringCause}
+use Rattle.dagcbor_items.specs.ReadCauses.{MajorCause, StringCause}
 
 -- a head of a major type from low to high stands at the front
 pub record HasMajor (low high : ℕ) (r : Reading) : Type 0 where

@@ -1,5 +1,5 @@
 -- What an untyped read answers and refuses.
-use Rattle.std.specs.Prelude.{◌≡◌, ℕ, ◌+◌, ◌-◌, ◌/◌, ◌≤◌, false, List, [], ◌∷◌, Option, None, Some, Result, MatchResult, ⊤, Vec, String}
+use Rattle.std.specs.Prelude.{◌≡◌, ◌≢◌, ℕ, ◌+◌, ◌-◌, ◌/◌, ◌%◌, ◌≤◌, false, List, [], ◌∷◌, Option, None, Some, Result, MatchResult, ⊤, Vec, String}
 use Rattle.std.specs.BTreeMap.{BTreeMap}
 use Rattle.std.specs.declared.alloc.Global.{Global}
 use Rattle.dagcbor_heads.specs.Reading.{Reading, Stays}
@@ -9,14 +9,19 @@ use Rattle.ipld_tree.specs.Tree.{Tree, list, mapping, IsTree, any_need}
 use Rattle.ipld_tree.specs.Spelling.{IsSpellable, spelling, IsFront}
 use Rattle.ipld_tree.specs.Ipld.{tree_of}
 use Rattle.ipld_tree.specs.declared.ipld.Ipld.{Ipld, String as String', List as List', Map as Map'}
-use Rattle.dagcbor_items.specs.ItemCauses.{CauseInside}
 use Rattle.dagcbor_items.specs.Shapes.{Shape, takes_some}
 use Rattle.dagcbor_items.specs.TypedReads.{HasFront}
+use Rattle.dagcbor_items.specs.ReadCauses.{ItemCause}
 
 -- the first byte of those left, where they are known, has the major type
 abbrev pub StartsWithMajor : Reading → ℕ → Type 0
 StartsWithMajor r major = (b : List ℕ) → r.left ≡ Some b → (first : ℕ) × (more : List ℕ)
     × (b ≡ first ∷ more) × (first / 32 ≡ major)
+
+-- so do they, and the byte is no break and announces no indefinite length
+abbrev pub StartsDefinite : Reading → ℕ → Type 0
+StartsDefinite r major = (b : List ℕ) → r.left ≡ Some b → (first : ℕ) × (more : List ℕ)
+    × (b ≡ first ∷ more) × (first / 32 ≡ major) × (first % 32 ≢ 31)
 
 -- any tree, of whose need so many steps are already spent
 abbrev pub any_item : ℕ → Shape Tree Tree
@@ -46,7 +51,7 @@ abbrev pub ReadsItemAs : {T E : Type 0} → (T → Tree) → ℕ → Reading →
     → Reading → Type 0
 ReadsItemAs meaning spent old result new = MatchResult result
     (λ v. TakesItem spent old (meaning v) new)
-    (λ e. RefusesOrLacksMemory (HasItem spent old) (CauseInside (old.steps + spent)) old e new)
+    (λ e. RefusesOrLacksMemory (HasItem spent old) (ItemCause (old.steps + spent)) old e new)
 
 -- An item of unknown kind is read, as an `Ipld`, exactly where one stands within the steps, of
 -- which so many are already spent on it.
@@ -90,7 +95,7 @@ ReadsMap = ReadsItemAs (λ m. tree_of (Map' m)) 1
 abbrev pub ReadsLeaf : {E : Type 0} → Reading → Result Ipld (DecodeError E) → Reading → Type 0
 ReadsLeaf old result new = MatchResult result
     (λ v. TakesEnteredItem old (tree_of v) new)
-    (λ e. RefusesPlainly (HasEnteredItem old) (CauseInside (old.steps + 1)) old e new)
+    (λ e. RefusesPlainly (HasEnteredItem old) (ItemCause (old.steps + 1)) old e new)
 
 -- An item of unknown kind is skipped exactly where one is read, with no want of memory where the
 -- input lends.
@@ -98,7 +103,7 @@ abbrev pub SkipsItemSpent : {E : Type 0} → ℕ → Reading → Result (Unit {0
     → Type 0
 SkipsItemSpent spent old result new = MatchResult result
     (λ _. (t : Tree) × TakesItem spent old t new)
-    (λ e. RefusesOrLacksMemoryUnlent (HasItem spent old) (CauseInside (old.steps + spent)) old e new)
+    (λ e. RefusesOrLacksMemoryUnlent (HasItem spent old) (ItemCause (old.steps + spent)) old e new)
 
 -- an item is skipped, on which no step was spent
 abbrev pub SkipsItem : {E : Type 0} → Reading → Result (Unit {0}) (DecodeError E) → Reading → Type 0

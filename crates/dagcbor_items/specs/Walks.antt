@@ -7,10 +7,10 @@ use Rattle.dagcbor_heads.specs.declared.error.DecodeError.{DecodeError}
 use Rattle.ipld_tree.specs.Cid.{CidParts, cid_bytes}
 use Rattle.ipld_tree.specs.Tree.{Tree, link, items_of, Entries, links_of, items_links, entries_links}
 use Rattle.ipld_tree.specs.Spelling.{entry_count, IsFront}
-use Rattle.dagcbor_items.specs.ItemCauses.{CauseInside, CauseInItems, CauseInEntries}
 use Rattle.dagcbor_items.specs.Untyped.{HasItem, TakesItem}
 use Rattle.dagcbor_items.specs.Items.{HasItems, TakesItems}
 use Rattle.dagcbor_items.specs.Entries.{HasEntries, TakesEntries}
+use Rattle.dagcbor_items.specs.ReadCauses.{ItemCause, ItemsCause, EntriesCause}
 
 -- ---- sinks
 
@@ -76,7 +76,7 @@ abbrev pub WalksItemSpent : {E S : Type 0} → ℕ → Sink S → Reading → S
     → Result (Unit {0}) (DecodeError E) → Reading → S → Type 0
 WalksItemSpent spent sink old before result new after = MatchResult result
     (λ _. (t : Tree) × TakesItem spent old t new × Finds sink.holds before (links_of t) after)
-    (λ e. RefusesWalk sink (HasItem spent old) (CauseInside (old.steps + spent)) old before e new after)
+    (λ e. RefusesWalk sink (HasItem spent old) (ItemCause (old.steps + spent)) old before e new after)
 
 -- an item is gone through, on which no step was spent
 abbrev pub WalksItem : {E S : Type 0} → Sink S → Reading → S → Result (Unit {0}) (DecodeError E)
@@ -94,7 +94,7 @@ abbrev pub WalksItems : {E S : Type 0} → Sink S → ℕ → Reading → S
 WalksItems sink count old before result new after = MatchResult result
     (λ _. (ts : List Tree) × (length ts ≡ count) × TakesItems old ts new
     × Finds sink.holds before (items_links (items_of ts)) after)
-    (λ e. RefusesWalk sink (HasItems count old) (CauseInItems count old.steps) old before e new after)
+    (λ e. RefusesWalk sink (HasItems count old) (ItemsCause count old.steps) old before e new after)
 
 -- Entries are gone through exactly where so many stand within the steps, in the order of their
 -- keys.
@@ -103,7 +103,7 @@ abbrev pub WalksEntries : {E S : Type 0} → Sink S → ℕ → Reading → S
 WalksEntries sink count old before result new after = MatchResult result
     (λ _. (es : Entries) × (entry_count es ≡ count) × TakesEntries old es new
     × Finds sink.holds before (entries_links es) after)
-    (λ e. RefusesWalk sink (HasEntries count old) (CauseInEntries count old.steps) old before e new after)
+    (λ e. RefusesWalk sink (HasEntries count old) (EntriesCause count old.steps) old before e new after)
 
 -- The links of an item of unknown kind are read exactly where one stands within the steps. Memory
 -- may be wanting as in a walk whose sink takes some.
@@ -115,5 +115,5 @@ GathersLinks old result new = MatchResult result
       could = HasItem 0 old;
       lacks = WalkLacks true old;
       borrows = ⊥;
-      stands = CauseInside (old.steps + 0);
+      stands = ItemCause (old.steps + 0);
     }) old e new)

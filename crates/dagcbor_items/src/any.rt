@@ -1,11 +1,11 @@
 //! Reading items of any kind.
 
-ghost use Rattle.std.specs.Prelude.{◌≡◌, IfErr, IfSome, MatchOption};
+ghost use Rattle.std.specs.Prelude.{◌≡◌, ◌≢◌, ◌%◌, IfErr, IfSome, MatchOption};
 ghost use Rattle.dagcbor_heads.specs.Inputs.{input_reading, OverInput};
 ghost use Rattle.dagcbor_heads.specs.Fronts.{StartsWith};
 ghost use Rattle.dagcbor_heads.specs.Looking.{Looks, LooksSome, LooksBehind, LooksAtTaken};
 ghost use Rattle.dagcbor_items.specs.Untyped.{ReadsItem, PutsItem, PutsEnteredItem};
-ghost use Rattle.dagcbor_items.specs.Untyped.{ReadsList, ReadsMap, StartsWithMajor, TakesItem};
+ghost use Rattle.dagcbor_items.specs.Untyped.{ReadsList, ReadsMap, StartsDefinite, TakesItem};
 ghost use Rattle.ipld_tree.specs.Tree.{integer};
 ghost use Rattle.dagcbor_items.specs.Items.{ReadsItems};
 ghost use Rattle.dagcbor_items.specs.Entries.{ReadsEntries};
@@ -81,7 +81,8 @@ fn put_of_major<R: Read>(
     first: u8,
     place: &mut Ipld,
 ) -> ReadResult<(), R>
-    requires { StartsWith (input_reading R.reading input.old) first }
+    requires starts { StartsWith (input_reading R.reading input.old) first }
+    requires definite { first % 32 ≢ 31 }
     ensures item { OverInput R.reading (PutsEnteredItem place.new) input.old result input.new }
     ensures looked { OverInput R.reading (LooksBehind 3 1) input.old result input.new }
     ensures variant { IfErr result OfItem }
@@ -108,7 +109,7 @@ fn put_of_major<R: Read>(
 
 #[cycle(any)]
 fn read_list<R: Read>(alloc: Global, input: &mut Input<'_, R>) -> ReadResult<Vec<Ipld>, R>
-    requires { StartsWithMajor (input_reading R.reading input.old) 4 }
+    requires { StartsDefinite (input_reading R.reading input.old) 4 }
     ensures item { OverInput R.reading ReadsList input.old result input.new }
     ensures looked { OverInput R.reading (LooksBehind 3 1) input.old result input.new }
     ensures variant { IfErr result OfItem }
@@ -186,7 +187,7 @@ fn read_map<R: Read>(
     alloc: Global,
     input: &mut Input<'_, R>,
 ) -> ReadResult<BTreeMap<String, Ipld>, R>
-    requires { StartsWithMajor (input_reading R.reading input.old) 5 }
+    requires { StartsDefinite (input_reading R.reading input.old) 5 }
     ensures item { OverInput R.reading ReadsMap input.old result input.new }
     ensures looked { OverInput R.reading (LooksBehind 3 1) input.old result input.new }
     ensures variant { IfErr result OfItem }

@@ -1,13 +1,14 @@
 //! Reading leaves other than links.
 
-ghost use Rattle.std.specs.Prelude.{◌≡◌, ◌≤◌, ◌/◌, true, false, IfErr, IfSome, MatchOption};
+ghost use Rattle.std.specs.Prelude.{◌≡◌, ◌≢◌, ◌≤◌, ◌/◌, ◌%◌, true, false, IfErr, IfSome, MatchOption};
 ghost use Rattle.dagcbor_heads.specs.Inputs.{input_reading, OverInput};
 ghost use Rattle.dagcbor_heads.specs.Fronts.{StartsWith};
 ghost use Rattle.dagcbor_heads.specs.Looking.{LooksAtTaken, LooksBehind};
 ghost use Rattle.ipld_tree.specs.Tree.{integer};
 ghost use Rattle.dagcbor_items.specs.Untyped.{ReadsEnteredItem, ReadsText, ReadsLeaf};
-ghost use Rattle.dagcbor_items.specs.Untyped.{IsSimple, StartsWithMajor, TakesEnteredItem};
-ghost use Rattle.dagcbor_items.specs.ItemCauses.{major_name};
+ghost use Rattle.dagcbor_items.specs.Untyped.{IsSimple, StartsWithMajor, StartsDefinite};
+ghost use Rattle.dagcbor_items.specs.Untyped.{TakesEnteredItem};
+ghost use Rattle.dagcbor_items.specs.Leaves.{number_name};
 ghost use Rattle.dagcbor_items.specs.AnsweredVariants.{OfItem};
 
 use crate::link::{read_link, take_link};
@@ -40,7 +41,7 @@ pub(crate) fn take_integer<R: Read>(reader: &mut R, first: u8) -> Option<i128>
 fn read_integer<R: Read>(name: &str, reader: &mut R, first: u8) -> ReadResult<Ipld, R>
     requires starts { StartsWith (R.reading reader.old) first }
     requires major { first / 32 ≤ 1 }
-    requires named { name.now ≡ major_name (first / 32) }
+    requires named { name.now ≡ number_name (first / 32) }
     ensures leaf { ReadsLeaf (R.reading reader.old) result (R.reading reader.new) }
     ensures looked { LooksBehind 3 1 (R.reading reader.old) result (R.reading reader.new) }
     ensures variant { IfErr result OfItem }
@@ -95,6 +96,7 @@ fn simple_value(byte: u8) -> Option<Ipld>
 fn read_simple<R: Read>(reader: &mut R, first: u8) -> ReadResult<Ipld, R>
     requires starts { StartsWith (R.reading reader.old) first }
     requires major { first / 32 ≡ 7 }
+    requires definite { first % 32 ≢ 31 }
     ensures leaf { ReadsLeaf (R.reading reader.old) result (R.reading reader.new) }
     ensures looked { LooksBehind 3 1 (R.reading reader.old) result (R.reading reader.new) }
     ensures variant { IfErr result OfItem }
@@ -110,7 +112,7 @@ fn read_simple<R: Read>(reader: &mut R, first: u8) -> ReadResult<Ipld, R>
 
 /// Reads a link, whose first byte was seen: in one piece, if a slice has all of it.
 fn read_link_at_once<R: Read>(input: &mut Input<'_, R>) -> ReadResult<Ipld, R>
-    requires { StartsWithMajor (input_reading R.reading input.old) 6 }
+    requires { StartsDefinite (input_reading R.reading input.old) 6 }
     ensures leaf { OverInput R.reading ReadsLeaf input.old result input.new }
     ensures looked { OverInput R.reading (LooksBehind 3 1) input.old result input.new }
     ensures variant { IfErr result OfItem }
@@ -129,6 +131,7 @@ pub(crate) fn read_leaf<R: Read>(
 ) -> ReadResult<Ipld, R>
     requires starts { StartsWith (input_reading R.reading input.old) first }
     requires leaf { 3 ≤ first / 32 → 6 ≤ first / 32 }
+    requires definite { first % 32 ≢ 31 }
     ensures item { OverInput R.reading ReadsEnteredItem input.old result input.new }
     ensures looked { OverInput R.reading (LooksBehind 3 1) input.old result input.new }
     ensures variant { IfErr result OfItem }

@@ -11,6 +11,7 @@
 mod any;
 mod enter;
 mod key;
+pub mod laws;
 mod leaf;
 mod link;
 mod majors;
@@ -36,6 +37,6 @@ pub use payloads::PayloadReader;
 pub use simple::{pull_bool, pull_null};
 pub use sink::{LinkSink, NoLinks};
 pub use skip::{behind_item, behind_items, behind_token};
-pub use slices::{any_from_slice, links_from_slice, walk_slice};
+pub use slices::any_from_slice;
 pub use strings::{pull_char, pull_owned_bytes, pull_owned_text, pull_slice, pull_str};
 pub use walk::{gather_links, skip_any, walk_any};

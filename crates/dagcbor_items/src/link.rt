@@ -10,8 +10,8 @@ ghost use Rattle.ipld_tree.specs.Tree.{bytes};
 ghost use Rattle.ipld_tree.specs.Spelling.{IsFront};
 ghost use Rattle.dagcbor_items.specs.Shapes.{view_link, leaf};
 ghost use Rattle.dagcbor_items.specs.TypedReads.{TakesFront};
-ghost use Rattle.dagcbor_items.specs.LinkCauses.{IsOtherByte};
-ghost use Rattle.dagcbor_items.specs.Untyped.{ReadsLeaf, StartsWithMajor};
+ghost use Rattle.dagcbor_items.specs.ReadCauses.{WantedCause};
+ghost use Rattle.dagcbor_items.specs.Untyped.{ReadsLeaf, StartsWithMajor, StartsDefinite};
 ghost use Rattle.dagcbor_items.specs.Links.{HasWanted, ReadsCid, ReadsLink, IsZeroAndCid};
 ghost use Rattle.dagcbor_items.specs.AnsweredVariants.{OfByte, OfItem, OfLink};
 
@@ -37,7 +37,7 @@ pub(crate) fn pull_wanted<R: Read>(
     ensures wanted { MatchResult result
         (λ _. Takes (R.reading reader.old) (wanted ∷ []) (R.reading reader.new))
         (λ e. RefusesPlainly (HasWanted wanted (R.reading reader.old))
-        (IsOtherByte name.now other.now wanted) (R.reading reader.old) e (R.reading reader.new)) }
+        (WantedCause name.now other.now wanted) (R.reading reader.old) e (R.reading reader.new)) }
     ensures looked { Looks 2 (R.reading reader.old) result (R.reading reader.new) }
     ensures variant { IfErr result OfByte }
 {
@@ -143,7 +143,7 @@ pub fn pull_link<R: Read>(reader: &mut R) -> ReadResult<Cid, R>
 
 #[tactic(auto, using(crate::proofs::PartRefusals::link_item))]
 pub(crate) fn read_link<R: Read>(reader: &mut R) -> ReadResult<Ipld, R>
-    requires { StartsWithMajor (R.reading reader.old) 6 }
+    requires { StartsDefinite (R.reading reader.old) 6 }
     ensures leaf { ReadsLeaf (R.reading reader.old) result (R.reading reader.new) }
     ensures looked { LooksBehind 3 1 (R.reading reader.old) result (R.reading reader.new) }
     ensures variant { IfErr result OfItem }

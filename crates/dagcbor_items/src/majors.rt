@@ -5,7 +5,7 @@ ghost use Rattle.dagcbor_heads.specs.Fronts.{ShowsByte};
 ghost use Rattle.dagcbor_heads.specs.Looking.{Looks, LooksOnce};
 ghost use Rattle.dagcbor_heads.specs.Refusals.{RefusesPlainly};
 ghost use Rattle.dagcbor_items.specs.Majors.{HasMajor, ReadsMajor};
-ghost use Rattle.dagcbor_items.specs.LeafCauses.{MajorCause};
+ghost use Rattle.dagcbor_items.specs.ReadCauses.{MajorCause};
 ghost use Rattle.dagcbor_items.specs.AnsweredVariants.{OfByte, OfHead};
 
 use dagcbor_heads::{DecodeError, Read, ReadResult, peek_one, pull_head};

@@ -3,7 +3,7 @@
 ghost use Rattle.std.specs.Prelude.{◌≡◌, ◌+◌, ◌≤◌, ◌^◌, Some, IfOk, pos, negsuc, ◌≤ℤ◌, IfErr};
 ghost use Rattle.dagcbor_items.specs.TypedReads.{Reads};
 ghost use Rattle.dagcbor_items.specs.Shapes.{number_of, natural_below, within, view_number, leaf};
-ghost use Rattle.dagcbor_items.specs.LeafCauses.{MajorCause, BigCause};
+ghost use Rattle.dagcbor_items.specs.ReadCauses.{MajorCause, BigCause};
 ghost use Rattle.dagcbor_items.specs.LeafReads.{ReadsUnsigned, ReadsSigned, ReadsU128, ReadsI128};
 ghost use Rattle.dagcbor_heads.specs.Looking.{Looks};
 ghost use Rattle.dagcbor_items.specs.AnsweredVariants.{OfHead, OfNumber};

@@ -1,11 +1,11 @@
 //! Going through items of any kind, as `any` reads them, without building anything. The caller
 //! decides how their strings are read, and what is done with their links.
 
-ghost use Rattle.std.specs.Prelude.{◌≡◌, ◌≢◌, ◌≤◌, ◌/◌, IfErr};
+ghost use Rattle.std.specs.Prelude.{◌≡◌, ◌≢◌, ◌≤◌, ◌/◌, ◌%◌, IfErr};
 ghost use Rattle.dagcbor_heads.specs.Fronts.{StartsWith};
 ghost use Rattle.dagcbor_heads.specs.Looking.{Looks, LooksSome, LooksBehind};
-ghost use Rattle.dagcbor_items.specs.Untyped.{SkipsItem, SkipsEnteredItem, StartsWithMajor};
-ghost use Rattle.dagcbor_items.specs.ItemCauses.{major_name};
+ghost use Rattle.dagcbor_items.specs.Untyped.{SkipsItem, SkipsEnteredItem, StartsDefinite};
+ghost use Rattle.dagcbor_items.specs.Leaves.{number_name};
 ghost use Rattle.dagcbor_items.specs.AnsweredVariants.{OfItem};
 ghost use Rattle.dagcbor_items.specs.Walks.{WalksItem, WalksEnteredItem, WalksItems, WalksEntries};
 ghost use Rattle.dagcbor_items.specs.Walks.{GathersLinks};
@@ -108,7 +108,8 @@ fn walk_of_major<I: PayloadReader, S: LinkSink>(
     links: &mut S,
     first: u8,
 ) -> ReadResult<(), I>
-    requires { StartsWith (I.reading input.old) first }
+    requires starts { StartsWith (I.reading input.old) first }
+    requires definite { first % 32 ≢ 31 }
     ensures item { WalksEnteredItem S.sink (I.reading input.old) links.old result
         (I.reading input.new) links.new }
     ensures looked { LooksBehind 3 1 (I.reading input.old) result (I.reading input.new) }
@@ -124,7 +125,7 @@ fn walk_of_major<I: PayloadReader, S: LinkSink>(
 
 #[tactic(auto, using(crate::proofs::PartRefusals::link_item))]
 fn walk_link<R: Read, S: LinkSink>(reader: &mut R, links: &mut S) -> ReadResult<(), R>
-    requires { StartsWithMajor (R.reading reader.old) 6 }
+    requires { StartsDefinite (R.reading reader.old) 6 }
     ensures item { WalksEnteredItem S.sink (R.reading reader.old) links.old result
         (R.reading reader.new) links.new }
     ensures looked { LooksBehind 3 1 (R.reading reader.old) result (R.reading reader.new) }
@@ -144,6 +145,7 @@ fn skip_leaf<I: PayloadReader>(alloc: I::Alloc, input: &mut I, first: u8) -> Rea
     requires no_list { first / 32 ≢ 4 }
     requires no_map { first / 32 ≢ 5 }
     requires no_link { first / 32 ≢ 6 }
+    requires definite { first % 32 ≢ 31 }
     ensures item { SkipsEnteredItem (I.reading input.old) result (I.reading input.new) }
     ensures looked { LooksBehind 3 1 (I.reading input.old) result (I.reading input.new) }
     ensures variant { IfErr result OfItem }
@@ -161,7 +163,7 @@ fn skip_leaf<I: PayloadReader>(alloc: I::Alloc, input: &mut I, first: u8) -> Rea
 fn skip_integer<R: Read>(name: &str, reader: &mut R, first: u8) -> ReadResult<(), R>
     requires starts { StartsWith (R.reading reader.old) first }
     requires major { first / 32 ≤ 1 }
-    requires named { name.now ≡ major_name (first / 32) }
+    requires named { name.now ≡ number_name (first / 32) }
     ensures item { SkipsEnteredItem (R.reading reader.old) result (R.reading reader.new) }
     ensures looked { LooksBehind 3 1 (R.reading reader.old) result (R.reading reader.new) }
     ensures variant { IfErr result OfItem }
@@ -174,6 +176,7 @@ fn skip_integer<R: Read>(name: &str, reader: &mut R, first: u8) -> ReadResult<()
 fn skip_simple<R: Read>(reader: &mut R, first: u8) -> ReadResult<(), R>
     requires starts { StartsWith (R.reading reader.old) first }
     requires major { first / 32 ≡ 7 }
+    requires definite { first % 32 ≢ 31 }
     ensures item { SkipsEnteredItem (R.reading reader.old) result (R.reading reader.new) }
     ensures looked { LooksBehind 3 1 (R.reading reader.old) result (R.reading reader.new) }
     ensures variant { IfErr result OfItem }
@@ -191,7 +194,7 @@ fn walk_list<I: PayloadReader, S: LinkSink>(
     input: &mut I,
     links: &mut S,
 ) -> ReadResult<(), I>
-    requires { StartsWithMajor (I.reading input.old) 4 }
+    requires { StartsDefinite (I.reading input.old) 4 }
     ensures item { WalksEnteredItem S.sink (I.reading input.old) links.old result
         (I.reading input.new) links.new }
     ensures looked { LooksBehind 3 1 (I.reading input.old) result (I.reading input.new) }
@@ -227,7 +230,7 @@ fn walk_map<I: PayloadReader, S: LinkSink>(
     input: &mut I,
     links: &mut S,
 ) -> ReadResult<(), I>
-    requires { StartsWithMajor (I.reading input.old) 5 }
+    requires { StartsDefinite (I.reading input.old) 5 }
     ensures item { WalksEnteredItem S.sink (I.reading input.old) links.old result
         (I.reading input.new) links.new }
     ensures looked { LooksBehind 3 1 (I.reading input.old) result (I.reading input.new) }

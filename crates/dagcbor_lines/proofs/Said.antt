@@ -23,6 +23,7 @@ named (refusals.Msg message) = refl
 named refusals.UnorderedKey = refl
 named (refusals.DepthOverflow name) = refl
 named refusals.TrailingData = refl
+named (refusals.CastOverflow name) = refl
 named _ = tt
 
 refusal_told : {E : Type 0} (word : Tree → List ℕ) (d : Decoded Tree) (e : DecodeError E) → linked d ≡ Err (why_of e) → codes "refused " ++ variant_name e ≡ told word d

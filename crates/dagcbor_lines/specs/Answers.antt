@@ -10,7 +10,7 @@ use Rattle.dagcbor_lines.specs.declared.command.Command.TheVariants.{Check, Link
 use Rattle.dagcbor_cli.specs.declared.fault.ToolError.{ToolError}
 use Rattle.dagcbor_cli.specs.declared.fault.ToolError.TheVariants.{Output, OutOfMemory}
 use Rattle.ipld_tree.specs.Tree.{Tree, links_of}
-use Rattle.dagcbor_decode.specs.Decode.{Decoded, Why, got, refused, eof, mismatch, unsupported, non_minimal, indefinite_size, require_utf8, msg, unordered_key, depth_overflow, trailing_data, decode, decode_first}
+use Rattle.dagcbor_decode.specs.Decode.{Decoded, Why, got, refused, eof, mismatch, unsupported, non_minimal, indefinite_size, require_utf8, msg, unordered_key, depth_overflow, trailing_data, cast_overflow, decode, decode_first}
 use Rattle.dagcbor_decode.specs.TreeKinds.{kind_of}
 use Rattle.dagcbor_decode.specs.PrintedNames.{kind_name}
 
@@ -26,6 +26,7 @@ variant (msg message) = codes "Msg"
 variant unordered_key = codes "UnorderedKey"
 variant (depth_overflow name) = codes "DepthOverflow"
 variant trailing_data = codes "TrailingData"
+variant (cast_overflow name) = codes "CastOverflow"
 
 -- each in hexadecimal, after a space
 abbrev pub after_spaces : List (List ℕ) → List ℕ

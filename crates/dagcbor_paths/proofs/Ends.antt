@@ -14,7 +14,7 @@ use Rattle.ipld_tree.specs.Tree.{Tree, link}
 use Rattle.ipld_tree.specs.Spelling.{IsFront, spelling}
 use Rattle.ipld_tree.proofs.Fronts.{front_unique, front_first}
 use Rattle.dagcbor_items.specs.Links.{ReadsLink}
-use Rattle.dagcbor_items.specs.LinkCauses.{LinkCause}
+use Rattle.dagcbor_items.specs.ReadCauses.{LinkCause}
 use Rattle.dagcbor_items.specs.Shapes.{view_link}
 use Rattle.dagcbor_decode.specs.Blocks.{IsBlock}
 use Rattle.dagcbor_decode.specs.TreeKinds.{kind_of, IsKindAt}

@@ -1,5 +1,5 @@
 -- Beginning a list or a map.
-use Rattle.std.proofs.Common.{◌≡◌, ℕ, ◌<◌, List, inl, inr, sym, ap, ◌∙◌, arith}
+use Rattle.std.proofs.Common.{◌≡◌, ℕ, ◌<◌, List, sym, ap, ◌∙◌, arith}
 use Rattle.dagcbor_heads.specs.Reading.{Reading, SpentStep, Stays}
 use Rattle.dagcbor_heads.specs.Causes.{IsDepthNamed}
 use Rattle.dagcbor_heads.specs.Names.{Names}
@@ -10,7 +10,7 @@ use Rattle.dagcbor_heads.specs.declared.error.DecodeError.TheVariants.{Mismatch,
 use Rattle.dagcbor_heads.proofs.Refusing.{no_step_refused, SameReader, refusal_carried}
 use Rattle.dagcbor_items.specs.AnsweredVariants.{OfByte, OfHead}
 use Rattle.dagcbor_items.specs.Majors.{HasMajor}
-use Rattle.dagcbor_items.specs.LeafCauses.{MajorCause}
+use Rattle.dagcbor_items.specs.ReadCauses.{MajorCause}
 use Rattle.dagcbor_items.proofs.PartRefusals.{byte_kind}
 use Rattle.dagcbor_read.specs.Enums.{EnumState, IsOtherForm, OfForm}
 use Rattle.dagcbor_items.specs.TypedReads.{NoStepIfDeep}
@@ -39,7 +39,7 @@ pub major_entered : {E : Type 0} {old stepped : Reading} (major : ℕ) (name : L
 major_entered {E} {old} {stepped} major name new e s of r = (
   refusal_carried (MajorCause name major major) (EnterCause major name) old stepped new e
       (same_stepped s) (head_stepped s) (λ x. x) (λ x. x)
-      (λ b l f. cause e b (f b (left_stepped s ∙ l))) r,
+      (λ b l f. cause e b of (f b (left_stepped s ∙ l))) r,
   shallow e of,
 )
   where
@@ -54,16 +54,9 @@ major_entered {E} {old} {stepped} major name new e s of r = (
       left = left_stepped s ∙ h.left;
     }
 
-    cause : (e : DecodeError E) (b : List ℕ) → MajorCause name major major e b
-        → EnterCause major name e b
-    cause (Mismatch n found) b (inl h) = absurd h.1
-    cause (Mismatch n found) b (inr h) =
-        (h.0, (h.1.0, h.1.1, λ same. h.1.2 (omega (arith, same)) (omega (arith, same))))
-    cause (DepthOverflow n) b (inl h) = absurd h.1
-    cause (DepthOverflow n) b (inr h) = absurd h
-    cause _ b (inl h) =
-        (h.0, h.1, λ first more is. let p = h.2 first more is in omega (arith, p.0, p.1))
-    cause _ b (inr h) = absurd h
+    cause : (e : DecodeError E) (b : List ℕ) → OfHead e → MajorCause name major major e b → EnterCause major name e b
+    cause (DepthOverflow n) b of h = absurd of
+    cause e b of h = h
 
     shallow : (e : DecodeError E) → OfHead e → NoStepIfDeep old e
     shallow (DepthOverflow n) of = absurd of

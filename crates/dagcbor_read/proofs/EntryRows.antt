@@ -10,7 +10,7 @@ use Rattle.ipld_tree.specs.Spelling.{entry_count, entries_spelling, IsFront, Are
 use Rattle.ipld_tree.proofs.Fronts.{entry_closed, entries_after}
 use Rattle.dagcbor_items.specs.Untyped.{TakesItem}
 use Rattle.dagcbor_items.specs.Places.{Follows}
-use Rattle.dagcbor_items.specs.ItemCauses.{KeyCause}
+use Rattle.dagcbor_items.specs.ReadCauses.{KeyCause}
 use Rattle.dagcbor_items.specs.Entries.{HasKey, AllFollow}
 use Rattle.dagcbor_read.specs.Deserializers.{DeState, Call}
 use Rattle.dagcbor_items.specs.TypedReads.{RefusesRead, HasFront, TakesFront, MayLack, Anything}

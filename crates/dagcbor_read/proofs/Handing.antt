@@ -1,5 +1,5 @@
 -- What calls hand on of what types answer beside their law.
-use Rattle.std.proofs.Common.{◌≡◌, ℕ, Bool, true, false, List, [], ◌++◌, inl, inr, refl, sym, ap, subst, ◌∙◌, append_assoc, ◌<◌, arith, Option, None, Some, IfSome, IfErr, Result, Ok, Err, IsErrAnd, MatchBool, MatchResult, codes, ◌⊎◌, ◌∷◌, ◌-◌, ◌/◌, ◌+◌, Global}
+use Rattle.std.proofs.Common.{◌≡◌, ℕ, Bool, true, false, List, [], ◌++◌, inl, inr, refl, sym, ap, subst, ◌∙◌, append_assoc, ◌<◌, arith, Option, None, Some, IfSome, IfErr, Result, Ok, Err, IsErrAnd, MatchBool, MatchResult, codes, ◌⊎◌, ◌∷◌, ◌-◌, ◌/◌, Global}
 use Rattle.dagcbor_heads.specs.Head.{head}
 use Rattle.dagcbor_heads.specs.Names.{Names}
 use Rattle.dagcbor_heads.specs.declared.name.Name.{Name}

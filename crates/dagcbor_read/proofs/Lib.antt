@@ -10,6 +10,7 @@ pub mod Handing
 pub mod Streaming
 pub mod StreamRuns
 pub mod Progressing
+pub mod Ignoring
 pub mod Nullable
 pub mod LinkValues
 pub mod NamedVariants

@@ -6,7 +6,7 @@ use Rattle.dagcbor_heads.specs.declared.error.DecodeError.{DecodeError}
 use Rattle.dagcbor_heads.proofs.Taking.{stays}
 use Rattle.dagcbor_heads.proofs.Refusing.{passed_on}
 use Rattle.ipld_tree.specs.Cid.{CidParts, cid_bytes}
-use Rattle.dagcbor_items.specs.LinkCauses.{LinkCause}
+use Rattle.dagcbor_items.specs.ReadCauses.{LinkCause}
 use Rattle.dagcbor_items.specs.Links.{ReadsLink}
 use Rattle.dagcbor_read.specs.Deserializers.{DeState, Call}
 use Rattle.dagcbor_items.specs.TypedReads.{HasFront, TakesFront, Reads, Anything}

@@ -1,20 +1,18 @@
 -- What contracts see of an accessor, and what its calls do.
-use Rattle.std.specs.Prelude.{◌≡◌, ◌≢◌, ◌==◌, ℕ, ◌+◌, ◌-◌, ◌^◌, ◌/◌, ◌<◌, Bool, false, true, List, ◌∷◌, ◌++◌, Option, None, Some, option_map, Result, Ok, Err, MatchResult, ⊤}
+use Rattle.std.specs.Prelude.{◌≡◌, ◌==◌, ℕ, ◌+◌, ◌-◌, ◌^◌, ◌<◌, Bool, false, true, List, ◌++◌, Option, None, Some, option_map, Result, Ok, Err, MatchResult, ⊤}
 use Rattle.std.specs.Cow.{cow_str_bytes}
 use Rattle.std.specs.declared.borrow.CowStr.{CowStr}
 use Rattle.std.specs.declared.alloc.Global.{Global}
 use Rattle.dagcbor_heads.specs.Head.{head}
 use Rattle.dagcbor_heads.specs.Reading.{Reading, with_steps}
-use Rattle.dagcbor_heads.specs.Causes.{HeadCause, IsNamed}
 use Rattle.dagcbor_heads.specs.Refusals.{RefusesPlainly, RefusesOrLacksMemoryUnlent}
 use Rattle.dagcbor_heads.specs.Names.{Names}
 use Rattle.dagcbor_heads.specs.declared.name.Name.{Name}
 use Rattle.dagcbor_heads.specs.declared.error.DecodeError.{DecodeError}
-use Rattle.dagcbor_heads.specs.declared.error.DecodeError.TheVariants.{Mismatch, DepthOverflow, LengthMismatch}
+use Rattle.dagcbor_heads.specs.declared.error.DecodeError.TheVariants.{DepthOverflow, LengthMismatch}
 use Rattle.ipld_tree.specs.Tree.{Tree}
-use Rattle.dagcbor_items.specs.FirstBytes.{BeginsAs}
 use Rattle.dagcbor_items.specs.Places.{Follows}
-use Rattle.dagcbor_items.specs.ItemCauses.{KeyCause}
+use Rattle.dagcbor_items.specs.ReadCauses.{KeyCause, MajorCause}
 use Rattle.dagcbor_items.specs.Entering.{Enters}
 use Rattle.dagcbor_items.specs.Entries.{HasKey}
 use Rattle.dagcbor_items.specs.AnsweredVariants.{OfHead}
@@ -64,13 +62,11 @@ pub record HasHeadOf (major : ℕ) (r : Reading) : Type 0 where
   pub left : r.left ≡ Some (head major count ++ rest)
   pub step : 0 < r.steps
 
--- why a list or map is not begun, under its name: no step is left, a byte of another major type
--- stands there, or no head does
+-- why a list or map is not begun, under its name: no step is left, or no head of its major type stands
+-- there
 abbrev pub EnterCause : {E : Type 0} → ℕ → List ℕ → DecodeError E → List ℕ → Type 0
 EnterCause major name (DepthOverflow n) b = Names n name
-EnterCause major name (Mismatch n found) b = Names n name
-    × ((more : List ℕ) × (b ≡ found ∷ more) × (found / 32 ≢ major))
-EnterCause major name e b = HeadCause e b × IsNamed name e × BeginsAs major b
+EnterCause major name e b = MajorCause name major major e b
 
 -- which refusals are answered, also where the bytes are not known
 abbrev pub OfBegin : {E : Type 0} → DecodeError E → Type 0

@@ -12,7 +12,7 @@ use Rattle.std.specs.Cow.{cow_str_bytes}
 use Rattle.std.specs.declared.borrow.CowStr.{CowStr}
 use Rattle.std.specs.declared.alloc.Global.{Global}
 use Rattle.dagcbor_items.specs.Shapes.{view_text, leaf, Shape}
-use Rattle.dagcbor_items.specs.LeafCauses.{TextCause}
+use Rattle.dagcbor_items.specs.ReadCauses.{TextCause}
 use Rattle.dagcbor_read.specs.Deserializers.{DeState}
 use Rattle.dagcbor_items.specs.AnsweredVariants.{OfByte}
 use Rattle.dagcbor_items.specs.TypedReads.{RefusesRead, Reads, HasFront, TakesFront, NoStepIfDeep}

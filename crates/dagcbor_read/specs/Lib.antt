@@ -8,11 +8,9 @@ pub use Rattle.dagcbor_heads.specs.Names
 pub use Rattle.ipld_tree.specs.Tree
 pub use Rattle.ipld_tree.specs.Ipld
 pub use Rattle.ipld_tree.specs.Spelling
-pub use Rattle.dagcbor_items.specs.FirstBytes
 pub use Rattle.dagcbor_items.specs.Places
-pub use Rattle.dagcbor_items.specs.LinkCauses
-pub use Rattle.dagcbor_items.specs.ItemCauses
-pub use Rattle.dagcbor_items.specs.LeafCauses
+pub use Rattle.dagcbor_items.specs.Leaves
+pub use Rattle.dagcbor_items.specs.ReadCauses
 pub use Rattle.dagcbor_items.specs.AnsweredVariants
 pub use Rattle.dagcbor_items.specs.Untyped
 pub use Rattle.dagcbor_items.specs.Looks

@@ -8,11 +8,11 @@ use Rattle.dagcbor_heads.specs.declared.error.DecodeError.{DecodeError}
 use Rattle.dagcbor_heads.proofs.Refusing.{passed_on}
 use Rattle.dagcbor_heads.proofs.Taking.{stays_both}
 use Rattle.ipld_tree.specs.Tree.{Tree}
-use Rattle.dagcbor_items.specs.ItemCauses.{CauseInside}
+use Rattle.dagcbor_items.specs.ReadCauses.{ItemCause}
 use Rattle.dagcbor_items.specs.Untyped.{TakesItem, HasItem}
 use Rattle.dagcbor_items.proofs.Fronts.{shorter}
 use Rattle.dagcbor_items.proofs.Progress.{LeavesFewer, goes_on, rests, steps}
-use Rattle.dagcbor_items.proofs.Places.{at_steps}
+use Rattle.dagcbor_items.proofs.ItemRefusals.{at_steps}
 use Rattle.dagcbor_serde.specs.declared.error.Error.{Error}
 use Rattle.dagcbor_serde.specs.Streams.{StreamState, ReadsNext, GivesNext, items_left, SomeLeft, CauseInSome}
 
@@ -44,9 +44,9 @@ item_before {byte} {old} {mid} {new} {t} s a = record {
 }
 
 -- no item is read behind a look
-pub refused_behind : {E : Type 0} {byte : ℕ} (old mid new : Reading) (e : DecodeError E) → ShowsByte old byte mid → RefusesOrLacksMemory (HasItem 0 mid) (CauseInside (mid.steps + 0)) mid e new
+pub refused_behind : {E : Type 0} {byte : ℕ} (old mid new : Reading) (e : DecodeError E) → ShowsByte old byte mid → RefusesOrLacksMemory (HasItem 0 mid) (ItemCause (mid.steps + 0)) mid e new
     → Refuses (record { could = HasItem 0 old; lacks = SomeLeft old; borrows = ⊥; stands = CauseInSome (old.steps + 0) }) old e new
-refused_behind {E} {byte} old mid new e s r = passed_on (CauseInside (mid.steps + 0)) (CauseInSome (old.steps + 0)) old mid new e s.same
+refused_behind {E} {byte} old mid new e s r = passed_on (ItemCause (mid.steps + 0)) (CauseInSome (old.steps + 0)) old mid new e s.same
     (λ h. record { bytes = h.bytes; tree = h.tree; rest = h.rest; left = s.kept h.bytes h.left; front = h.front; accepted = h.accepted; within = omega (arith, h.within, s.same.steps) })
     (λ h. shown_some s) (λ h. h)
     (λ b l. (b, s.kept b l, λ c. (shown_some s b l, at_steps e b _ _ (omega (arith, s.same.steps)) c))) r

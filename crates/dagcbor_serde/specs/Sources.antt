@@ -1,15 +1,16 @@
 -- What is read of a source, and why it is refused.
 use Rattle.std.specs.Prelude.{◌≡◌, ℕ, ◌+◌, ◌≤◌, List, length, Option, Some, Result, MatchResult, Vec, ⊤}
 use Rattle.std.specs.declared.alloc.Global.{Global}
-use Rattle.dagcbor_heads.specs.Reading.{Reading, default_steps}
+use Rattle.dagcbor_heads.specs.Reading.{Reading}
 use Rattle.dagcbor_heads.specs.Refusals.{RefusesOrLacksMemory}
 use Rattle.dagcbor_heads.specs.declared.error.DecodeError.{DecodeError}
-use Rattle.dagcbor_heads.specs.declared.error.DecodeError.TheVariants.{Read, RequireBorrowed, OutOfMemory, Failed}
-use Rattle.ipld_tree.specs.Tree.{Tree, any_need}
+use Rattle.dagcbor_heads.specs.declared.error.DecodeError.TheVariants.{Read, OutOfMemory}
+use Rattle.ipld_tree.specs.Tree.{Tree}
 use Rattle.ipld_tree.specs.Spelling.{IsFront, IsSpelling}
-use Rattle.dagcbor_items.specs.ItemCauses.{CauseInside}
+use Rattle.dagcbor_items.specs.ReadCauses.{ItemCause}
 use Rattle.dagcbor_decode.specs.Blocks.{IsBlock}
-use Rattle.dagcbor_items.specs.Slices.{CauseInWhole}
+use Rattle.dagcbor_decode.specs.Decode.{decode, decode_first}
+use Rattle.dagcbor_decode.specs.Verdicts.{IsRefusal}
 use Rattle.dagcbor_items.specs.Untyped.{TakesItem, HasItem}
 use Rattle.dagcbor_serde.specs.declared.error.Error.{Error}
 use Rattle.dagcbor_serde.specs.declared.error.Error.TheVariants.{NoBlock, Misfit}
@@ -19,7 +20,7 @@ abbrev pub PullsBlock : {E : Type 0} → Reading → Result (Vec ℕ Global) (De
     → Type 0
 PullsBlock old result new = MatchResult result
     (λ v. (t : Tree) × TakesItem 0 old t new × IsSpelling v.items t)
-    (λ e. RefusesOrLacksMemory (HasItem 0 old) (CauseInside (old.steps + 0)) old e new)
+    (λ e. RefusesOrLacksMemory (HasItem 0 old) (ItemCause (old.steps + 0)) old e new)
 
 -- ---- the whole source
 
@@ -31,14 +32,12 @@ IsSomeBlock b = (t : Tree) × IsBlock b t
 abbrev pub IsBlockWith : List ℕ → List ℕ → Type 0
 IsBlockWith b v = (v ≡ b) × IsSomeBlock b
 
--- why a source is refused: for a fault of its own, for want of memory, or since its bytes are no
--- block
+-- why a source is refused: for a fault of its own, for want of memory, or for what the format's
+-- function refuses its bytes
 abbrev pub SourceRefused : {E : Type 0} → DecodeError E → List ℕ → Type 0
 SourceRefused (Read e) b = ⊤
 SourceRefused OutOfMemory b = ⊤
-SourceRefused (RequireBorrowed name) b = ⊥
-SourceRefused Failed b = ⊥
-SourceRefused e b = ((t : Tree) → ¬ IsBlock b t) × CauseInWhole e b
+SourceRefused e b = IsRefusal (decode b) e
 
 -- no block was read, for this cause; or the bytes are one, and the type does not accept it
 abbrev pub IsSourceMisfit : {E : Type 0} → Error E → List ℕ → Type 0
@@ -60,10 +59,7 @@ TakesSomeBlock b left = (v : List ℕ) × TakesBlockBytes b v left
 abbrev pub FirstRefused : {E : Type 0} → DecodeError E → List ℕ → Type 0
 FirstRefused (Read e) b = ⊤
 FirstRefused OutOfMemory b = ⊤
-FirstRefused (RequireBorrowed name) b = ⊥
-FirstRefused Failed b = ⊥
-FirstRefused e b = ((t : Tree) (rest : List ℕ) → IsFront b t rest → ¬ (any_need t ≤ default_steps))
-    × CauseInside default_steps e b
+FirstRefused e b = IsRefusal (decode_first b) e
 
 -- why no first block is read; or one was taken, and the type does not accept it
 abbrev pub IsFirstMisfit : {E : Type 0} → Error E → List ℕ → Option (List ℕ) → Type 0

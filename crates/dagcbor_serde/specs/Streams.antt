@@ -9,7 +9,7 @@ use Rattle.dagcbor_heads.specs.declared.error.DecodeError.{DecodeError}
 use Rattle.ipld_tree.specs.Tree.{Tree}
 use Rattle.ipld_tree.specs.Spelling.{spelling}
 use Rattle.dagcbor_items.specs.ItemsLeft.{items_left_of}
-use Rattle.dagcbor_items.specs.ItemCauses.{CauseInside}
+use Rattle.dagcbor_items.specs.ReadCauses.{ItemCause}
 use Rattle.dagcbor_items.specs.Untyped.{TakesItem, HasItem}
 use Rattle.dagcbor_serde.specs.declared.error.Error.{Error}
 use Rattle.dagcbor_serde.specs.declared.error.Error.TheVariants.{NoBlock, Misfit}
@@ -30,7 +30,7 @@ SomeLeft r = (b : List ℕ) → r.left ≡ Some b → 0 < length b
 
 -- there are some, and the cause stands in them
 abbrev pub CauseInSome : {E : Type 0} → ℕ → DecodeError E → List ℕ → Type 0
-CauseInSome steps e b = (0 < length b) × CauseInside steps e b
+CauseInSome steps e b = (0 < length b) × ItemCause steps e b
 
 -- a block was taken, and the type does not accept it, as was found at a place in it
 abbrev pub TakesMisfit : Reading → ℕ → Reading → Type 0

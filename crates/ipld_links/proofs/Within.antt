@@ -6,7 +6,7 @@ use Rattle.ipld_tree.specs.Cid.{varint, CidParts, AreCidParts, IsCid, cid_bytes}
 use Rattle.ipld_tree.specs.Tree.{Tree, null, boolean, integer, text, bytes, list, mapping, link, Items, no_items, item, Entries, no_entries, entry, IsTree, AreItems, AreEntries, links_of, items_links, entries_links}
 use Rattle.ipld_tree.proofs.Cids.{cid_unique}
 use Rattle.dagcbor_items.specs.Walks.{forms, AreLinksIn, HasLinkIn}
-use Rattle.dagcbor_items.specs.Slices.{AreFirstLinks}
+use Rattle.dagcbor_decode.specs.Blocks.{AreFirstLinks}
 use Rattle.dagcbor_items.proofs.LinksIn.{item_links_in}
 use Rattle.ipld_links.specs.Names.{IsInline}
 use Rattle.dag_pb.specs.Node.{LinkParts}
@@ -239,10 +239,7 @@ names_of codec b items held start new free none h is =
     let reached = reached_only held start new h.0 free none h.2 in
     (h.0, h.1, λ q. subst (λ ms. Among q ms ↔ IsReachedName q h.0) (sym is) (reached q))
 
--- the links that are read stand in the bytes
-pub some_link : (b : List ℕ) (cids : List CidParts) → AreFirstLinks b (forms cids) → cids ≢ [] → HasLinkIn b
-some_link b [] first some = absurd (some refl)
-some_link b (c ∷ cids) first some =
-    let all = item_links_in first.0 b first.1 [] first.2 tt in
-    let held = subst (λ ls. AreLinksIn b (ls ++ [])) (sym first.4) all in
-    (cid_bytes c, (held.0, held.1, held.2, held.3, held.4, tt))
+-- what has no forms is empty
+pub no_forms : (cids : List CidParts) → forms cids ≡ [] → cids ≡ []
+no_forms [] e = refl
+no_forms (c ∷ cids) e = absurd (cc e)

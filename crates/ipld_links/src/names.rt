@@ -1,16 +1,17 @@
 //! The names that the links of an item lead to.
 
-ghost use Rattle.std.specs.Prelude.{IfOk, IfErr};
+ghost use Rattle.std.specs.Prelude.{IfOk, IfErr, Err};
 ghost use Rattle.std.specs.List.Sorted.{IsStrictlySortedBy};
 ghost use Rattle.ipld_tree.specs.Cid.{cid_cmp};
-ghost use Rattle.dagcbor_items.specs.Slices.{LinksRefused};
+ghost use Rattle.dagcbor_decode.specs.Decode.{decode_first};
+ghost use Rattle.dagcbor_decode.specs.Verdicts.{AnswersLinks};
 ghost use Rattle.ipld_links.specs.Within.{AreFirstNames, AreNamesOf};
 ghost use Rattle.ipld_links.specs.Blocks.{IsBlockOf};
 
 use crate::cid_set::CidSet;
 use crate::held::HeldNames;
+use dagcbor_decode::links_from_slice;
 use dagcbor_heads::DecodeError;
-use dagcbor_items::links_from_slice;
 use ipld_tree::Cid;
 use std::alloc::{AllocError, Global};
 use std::convert::Infallible;
@@ -21,7 +22,7 @@ use std::convert::Infallible;
 pub fn names_from_slice(alloc: Global, bytes: &[u8]) -> Result<Vec<Cid>, DecodeError<Infallible>>
     ensures names { IfOk result (λ v. AreFirstNames bytes.now v.items) }
     ensures order { IfOk result (λ v. IsStrictlySortedBy cid_cmp v.items) }
-    ensures refused { IfErr result (λ e. LinksRefused e bytes.now) }
+    ensures refused { IfErr result (λ e. AnswersLinks (decode_first bytes.now) (Err e)) }
 {
     let links = links_from_slice(alloc, bytes)?;
     if links.is_empty() {

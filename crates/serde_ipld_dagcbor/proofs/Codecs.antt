@@ -1,10 +1,15 @@
 -- DAG-CBOR as a codec.
 use Rattle.std.proofs.Common.{◌≡◌, ◌⊎◌, inl, inr, ℕ, List, sym, subst, Bool, Option, None, Some, IfSome}
+use Rattle.std.specs.Prelude.{Err}
 use Rattle.dagcbor_heads.specs.declared.error.DecodeError.{DecodeError}
 use Rattle.dagcbor_heads.specs.declared.error.DecodeError.TheVariants.{Read, RequireBorrowed, OutOfMemory, TrailingData, Failed}
 use Rattle.ipld_tree.specs.Codecs.{AreRead}
 use Rattle.ipld_tree.specs.Tree.{Tree}
 use Rattle.ipld_tree.specs.Spelling.{IsSpelling}
+use Rattle.dagcbor_decode.specs.Blocks.{AreFirstLinks}
+use Rattle.dagcbor_decode.specs.Decode.{decode_first}
+use Rattle.dagcbor_decode.specs.Verdicts.{AnswersLinks}
+use Rattle.dagcbor_decode.proofs.FirstLinks.{links_not_refused}
 use Rattle.dagcbor_read.specs.Whole.{HoldsNoValue, IsReadExcuse, OfWhole, IsForBehind, LacksMemoryIf}
 use Rattle.serde_ipld_dagcbor.specs.Codec.{IsReadAs, AreAlike, OfSlice}
 use Rattle.dagcbor_items.specs.Shapes.{Shape}
@@ -44,3 +49,9 @@ module _ {V : Type 0} (shape : Shape Tree V) where
 pub alike_in_memory : {E F : Type 0} (may : Bool) (e : DecodeError E) (f : DecodeError F) → AreAlike e f → LacksMemoryIf may e → LacksMemoryIf may f
 alike_in_memory may (Read x) f h k = absurd h
 alike_in_memory may _ f h k = subst (LacksMemoryIf may) (sym h) k
+
+-- bytes whose links are refused without an excuse begin with no item
+pub links_excused : {E : Type 0} (b : List ℕ) (e : DecodeError E) → AnswersLinks (decode_first b) (Err e) → IsReadExcuse e ⊎ ((links : List (List ℕ)) → ¬ AreFirstLinks b links)
+links_excused b (Read x) h = inl tt
+links_excused b OutOfMemory h = inl tt
+links_excused b e h = inr (λ links first. links_not_refused b e links h (λ k. absurd (cc k)) first)

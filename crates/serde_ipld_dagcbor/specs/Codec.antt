@@ -18,7 +18,9 @@ use Rattle.dagcbor_read.specs.Deserializers.{DeState}
 use Rattle.dagcbor_read.specs.Parts.{HandsWholeOn}
 use Rattle.dagcbor_read.specs.Whole.{HoldsNoValue, IsReadExcuse, OfWhole}
 use Rattle.std.specs.declared.io.Error.{Error}
-use Rattle.dagcbor_items.specs.Slices.{AreFirstLinks, LinksRefused}
+use Rattle.dagcbor_decode.specs.Blocks.{AreFirstLinks}
+use Rattle.dagcbor_decode.specs.Decode.{decode_first}
+use Rattle.dagcbor_decode.specs.Verdicts.{AnswersLinks}
 use Rattle.serde_ipld_dagcbor.specs.declared.error.CodecError.{CodecError}
 use Rattle.serde_ipld_dagcbor.specs.declared.error.CodecError.TheVariants.{Decode, Encode, DecodeIo, EncodeIo}
 use Rattle.dagcbor_items.specs.Shapes.{Shape}
@@ -143,7 +145,7 @@ EncodeToVecRefused tree result = IfErr result (NotEncodedAsVec tree)
 
 -- why no links are found
 abbrev pub NoLinks : List ℕ → CodecError → Type 0
-NoLinks b (Decode e) = LinksRefused e b
+NoLinks b (Decode e) = AnswersLinks (decode_first b) (Err e)
 NoLinks b _ = ⊥
 
 -- why `links` refused

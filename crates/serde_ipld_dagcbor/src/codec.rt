@@ -5,7 +5,7 @@ ghost use Rattle.dagcbor_heads.specs.Reading.{default_steps};
 ghost use Rattle.ipld_tree.specs.Codecs.{Decodes, Encodes, EncodesAsVec, FindsLinks};
 ghost use Rattle.ipld_tree.specs.Tree.{Tree};
 ghost use Rattle.ipld_tree.specs.Spelling.{IsSpelling};
-ghost use Rattle.dagcbor_items.specs.Slices.{AreFirstLinks};
+ghost use Rattle.dagcbor_decode.specs.Blocks.{AreFirstLinks};
 ghost use Rattle.dagcbor_read.specs.Whole.{IsForBehind, LacksMemoryIf};
 ghost use Rattle.serde_ipld_dagcbor.specs.Codec.{IsReadAs, IsExcuse, DecodeRefused, EncodeRefused};
 ghost use Rattle.serde_ipld_dagcbor.specs.Codec.{EncodeToVecRefused, LinksNotFound};
@@ -17,8 +17,8 @@ ghost use Rattle.serde_ipld_dagcbor.specs.Codec.{HandsDecodedOn, HandsSliceDecod
 
 use crate::DAG_CBOR_CODE;
 use crate::error::CodecError;
+use dagcbor_decode::links_from_slice;
 use dagcbor_heads::DecodeError;
-use dagcbor_items::links_from_slice;
 use dagcbor_read::{DeserializeOwned, from_reader, from_slice_owned};
 use dagcbor_write::{Serialize, to_vec, to_writer};
 use ipld_tree::{CidIter, Codec, Links};

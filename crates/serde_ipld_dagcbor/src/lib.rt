@@ -19,14 +19,14 @@ pub mod error;
 pub mod laws;
 pub mod ser;
 
-pub use dagcbor_decode::{Kind, check_slice};
+pub use dagcbor_decode::{Kind, check_slice, links_from_slice};
 pub use dagcbor_heads::{
     ArithmeticOverflow, BufWriter, DEFAULT_STEPS, DecodeError, EncodeError, Input, IoReader,
     IoRefReader, IoRefWriter, IoWriter, Len, Message, Name, Read, ReadResult, Reference,
     SliceReader, Tally, Write, WriteResult, is_at_end, is_indefinite, peek_one, pull_head,
     pull_one, pull_payload, pull_short_payload, push_head,
 };
-pub use dagcbor_items::{any_from_slice, links_from_slice};
+pub use dagcbor_items::any_from_slice;
 pub use dagcbor_read::{
     Accessor, Closed, Deserialize, DeserializeOwned, Deserializer, EnumAccessor, FieldGroup,
     Fields, IgnoredAny, Omissible, OmissibleItem, Required, Row, Shown, StreamDeserializer,

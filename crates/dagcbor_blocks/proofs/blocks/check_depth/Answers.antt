@@ -5,4 +5,4 @@ pub returns-in-Ok : goal.returns-in-Ok
 returns-in-Ok c = check_holds c.spelling_unique.ensures c.args.bytes.now _ c.requires c.in-Ok.ensures.links
 
 pub returns-in-Err : goal.returns-in-Err
-returns-in-Err c = not_checked c.args.bytes.now c.in-Err.error c.of_decoding.result c.in-Err.ensures.refused c.of_decoding.ensures
+returns-in-Err c = not_checked c.args.bytes.now c.in-Err.error c.of_decoding.result c.in-Err.ensures.decoded c.of_decoding.ensures

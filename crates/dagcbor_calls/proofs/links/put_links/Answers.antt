@@ -1,34 +1,29 @@
-use Rattle.std.proofs.Common.{◌≡◌, length, ap, sym, ◌∙◌, arith}
-use Rattle.ipld_tree.proofs.Fronts.{front_unique}
+use Rattle.std.proofs.Common.{rules, ℤ, w32, ap, sym, ◌∙◌, arith}
+use Rattle.std.proofs.lemmas.Int.{to_z-of_z}
+use Rattle.ipld_tree.specs.Tree.{links_of}
+use Rattle.dagcbor_decode.proofs.FirstLinks.{item_links}
 use Rattle.dagcbor_calls.specs.Packed.{packed_links}
-use Rattle.dagcbor_calls.proofs.Packing.{packed_fits}
-use Rattle.dagcbor_calls.proofs.Putting.{found_put, never_refused, second_walk_fills, stays_without_room}
+use Rattle.dagcbor_calls.proofs.Putting.{links_put, none_put, stays_without_room, whole_kind}
 use Rattle.dagcbor_calls.proofs.links.put_links.Goals as goal
-use Rattle.dagcbor_calls.proofs.links.put_links.Goals.{then-counted-out+in_ok-fill, else-counted-out}
+use Rattle.dagcbor_calls.proofs.links.put_links.Goals.{then-needed-out, else-needed-out}
 
-pub returns-in_err-fill : goal.returns-in_err-fill
-returns-in_err-fill c =
-    let walked = c.in_ok-kind.ensures in
-    let refused = c.in_err-fill.ensures in
-    absurd (never_refused c.args.bytes.now walked.1 walked.0 _ walked.2 walked.3 refused.0 refused.1)
+pub pack-requires : goal.pack-requires
+pack-requires c = (links_of c.in-Ok.ensures.tree, item_links c.in-Ok.ensures)
 
-pub returns : goal.returns
-returns c =
-    let walked = c.in_ok-kind.ensures in
-    let counted = found_put c.new-counted.result c.walk_slice.new.links walked.0 walked.5 c.new-counted.ensures.needed (omega (arith, ap length c.new-counted.ensures.bytes)) in
-    let needed : c.walk_slice.new.links.needed ≡ length (packed_links walked.0) = omega (arith, counted.counted, packed_fits c.args.bytes.now walked.1 walked.0 walked.2) in (
-      walked.0,
-      walked.1,
-      walked.2,
-      walked.3,
-      walked.4,
-      needed,
-      elim c.if-counted-out.branch [
-        | then-counted-out+in_ok-fill w ↦ (
-            let again = w.in_ok-fill.ensures in
-            let same : again.0 ≡ walked.0 = (front_unique c.args.bytes.now again.1 walked.1 again.0 walked.0 again.2 walked.2).0 in
-            w.out-is ∙ second_walk_fills c.args.out.now _ walked.0 again.0 again.3 same (omega (arith, w.if-counted-out.true, needed))
-            )
-        | else-counted-out w ↦ w.out-is ∙ sym (stays_without_room (packed_links walked.0) c.args.out.now (omega (arith, w.if-counted-out.false, needed)))
-      ],
-    )
+pub pack-requires-then-needed-out : goal.pack-requires-then-needed-out
+pack-requires-then-needed-out c = (links_of c.in-Ok.ensures.tree, item_links c.in-Ok.ensures)
+
+pub returns-after-needed-out : goal.returns-after-needed-out
+returns-after-needed-out c =
+    let f = c.in-Ok.ensures in
+    let counted = (c.pack.ensures (links_of f.tree) (item_links f)).0 in
+    ap (λ (code : ℤ). (code, c.pack.result, c.if-needed-out.out)) (to_z-of_z w32 c.kind_code.result (search rules))
+    ∙ links_put c.args.bytes.now c.in-Ok.item.now c.args.out.now c.if-needed-out.out c.pack.result c.kind_code.result f (c.kind_code.ensures ∙ whole_kind f c.kind_of_front.ensures) counted
+    (elim c.if-needed-out.branch [
+      | then-needed-out w ↦ w.out-is ∙ (w.pack-then-needed-out.ensures (links_of f.tree) (item_links f)).1 (omega (arith, counted, w.if-needed-out.true))
+      | else-needed-out w ↦ w.out-is ∙ sym (stays_without_room (packed_links f.tree) c.args.out.now (omega (arith, counted, w.if-needed-out.false)))
+    ])
+
+pub returns-in-Err : goal.returns-in-Err
+returns-in-Err c =
+    ap (λ (code : ℤ). (code, 0, c.args.out.now)) (to_z-of_z w32 c.refusal_code.result (search rules) ∙ c.refusal_code.ensures) ∙ none_put c.args.bytes.now c.args.out.now c.in-Err.refusal c.in-Err.ensures

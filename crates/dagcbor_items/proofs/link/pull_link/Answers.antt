@@ -1,4 +1,4 @@
-use Rattle.dagcbor_items.proofs.Links.{link_read}
+use Rattle.dagcbor_items.proofs.Links.{link_read, first_refused, second_refused}
 use Rattle.std.proofs.Common.{arith}
 use Rattle.dagcbor_heads.proofs.Refusing.{as_refusal}
 use Rattle.dagcbor_heads.proofs.Looking.{looks_both, looks_then}
@@ -7,6 +7,12 @@ use Rattle.dagcbor_items.proofs.link.pull_link.Goals as goal
 
 pub returns-clause-link : goal.returns-clause-link
 returns-clause-link g c = link_read _ _ c.in_ok-pull_wanted.ensures.wanted c.in_ok-pull_wanted-2.ensures.wanted c.pull_cid.ensures.cid
+
+pub returns-in_err-pull_wanted-clause-link : goal.returns-in_err-pull_wanted-clause-link
+returns-in_err-pull_wanted-clause-link g c = as_refusal _ _ _ _ c.from_residual.ensures.1 (first_refused _ _ _ c.in_err-pull_wanted.ensures.wanted)
+
+pub returns-in_err-pull_wanted-2-clause-link : goal.returns-in_err-pull_wanted-2-clause-link
+returns-in_err-pull_wanted-2-clause-link g c = as_refusal _ _ _ _ c.from_residual-in_err-pull_wanted-2.ensures.1 (second_refused _ _ c.in_ok-pull_wanted.ensures.wanted c.in_err-pull_wanted-2.ensures.wanted)
 
 pub returns-clause-looked : goal.returns-clause-looked
 returns-clause-looked g c =

@@ -4,13 +4,12 @@ use mir.Syntax.{w128}
 use mir.Val.{SFits}
 use Rattle.dagcbor_heads.proofs.Refusing.{as_refusal}
 use Rattle.dagcbor_items.specs.Shapes.{within}
-use Rattle.dagcbor_items.specs.LeafCauses.{BigCause}
 use Rattle.dagcbor_items.proofs.HeadMajors.{as_value}
-use Rattle.dagcbor_items.proofs.Integers.{within_i128, number_narrowed, narrow_refused}
+use Rattle.dagcbor_items.proofs.Integers.{within_i128, number_narrowed, big_not_read}
 use Rattle.dagcbor_items.proofs.numbers.pull_i128.Goals as goal
 
 pub returns-in_err-number-clause-number : goal.returns-in_err-number-clause-number
-returns-in_err-number-clause-number g c = as_refusal _ _ _ _ c.from_residual.ensures.1 (narrow_refused (within (2 ^ 127)) (BigCause (codes "i128")) _ _ _ _ c.in_err-number.ensures.number)
+returns-in_err-number-clause-number g c = as_refusal _ _ _ _ c.from_residual.ensures.1 (big_not_read (within (2 ^ 127)) (codes "i128") _ _ _ c.in_err-number.ensures.number)
 
 pub returns-clause-number : goal.returns-clause-number
 returns-clause-number g c =

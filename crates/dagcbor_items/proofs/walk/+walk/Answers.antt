@@ -38,7 +38,7 @@ pub walk_item-returns-clause-item : goal.walk_item-returns-clause-item
 walk_item-returns-clause-item g t c = walked_from g.S.LinkSink.sink c.args.links.now c.walk_of_major.new.links c.walk_of_major.result _ c.in_ok-first.ensures.shown c.walk_of_major.ensures.item
 
 pub walk_of_major-returns-in_default-clause-item : goal.walk_of_major-returns-in_default-clause-item
-walk_of_major-returns-in_default-clause-item g t c = leaf_walked g.S.LinkSink.sink (g.I.Read.reading c.args.input.now) c.args.links.now c.skip_leaf.result _ c.requires (λ x. omega arith) (λ x. omega arith) (λ x. omega arith) c.skip_leaf.ensures.item
+walk_of_major-returns-in_default-clause-item g t c = leaf_walked g.S.LinkSink.sink (g.I.Read.reading c.args.input.now) c.args.links.now c.skip_leaf.result _ c.requires.starts (λ x. omega arith) (λ x. omega arith) (λ x. omega arith) c.skip_leaf.ensures.item
 
 pub walk_list-returns-in_err-count-clause-item : goal.walk_list-returns-in_err-count-clause-item
 walk_list-returns-in_err-count-clause-item g t c = as_refusal _ _ _ _ c.from_residual.ensures.1 record { refuses = more_lacks _ 1 _ _ _ (λ x. absurd x) c.in_err-count.ensures.count; handed = none_handed g.S.LinkSink.sink _ _ }

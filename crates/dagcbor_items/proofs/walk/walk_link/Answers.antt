@@ -1,3 +1,4 @@
+use Rattle.dagcbor_items.proofs.Fronts.{definite}
 use Rattle.dagcbor_heads.proofs.Refusing.{as_refusal}
 use Rattle.dagcbor_heads.proofs.Looking.{taken_left}
 use Rattle.std.proofs.Common.{inr, [], refl}
@@ -23,7 +24,7 @@ returns-in-Err-clause-item g c = record {
 }
 
 pub returns-in_err-cid-clause-looked : goal.returns-in_err-cid-clause-looked
-returns-in_err-cid-clause-looked g c = as_refusal _ _ _ _ c.from_residual.ensures.1 (c.in_err-cid.ensures.peeked c.requires)
+returns-in_err-cid-clause-looked g c = as_refusal _ _ _ _ c.from_residual.ensures.1 (c.in_err-cid.ensures.peeked (definite (g.R.Read.reading c.args.reader.now) c.requires))
 
 pub returns-in-Err-clause-looked : goal.returns-in-Err-clause-looked
-returns-in-Err-clause-looked g c = taken_left (c.in_ok-cid.ensures.peeked c.requires)
+returns-in-Err-clause-looked g c = taken_left (c.in_ok-cid.ensures.peeked (definite (g.R.Read.reading c.args.reader.now) c.requires))

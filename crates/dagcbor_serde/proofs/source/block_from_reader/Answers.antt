@@ -9,7 +9,7 @@ use Rattle.dagcbor_serde.proofs.source.block_from_reader.Goals as goal
 pub returns-in_err-block-clause-refused : goal.returns-in_err-block-clause-refused
 returns-in_err-block-clause-refused g c =
     let start = c.new.ensures in
-    if_err (λ _. ⊤) _ c.from_residual.result (as_refusal _ _ _ _ c.from_residual.ensures.1 (whole_refused (g.R.Read.remaining c.args.reader) _ _ _ (ap (λ r. r.left) start) (ap (λ r. r.steps) start) c.in_err-block.ensures.variant c.in_err-block.ensures.block))
+    if_err (λ _. ⊤) _ c.from_residual.result (as_refusal _ _ _ _ c.from_residual.ensures.1 (whole_refused (g.R.Read.remaining c.args.reader) _ _ _ (ap (λ r. r.left) start) (ap (λ r. r.steps) start) c.in_err-block.ensures.block))
 
 pub returns-clause-refused : goal.returns-clause-refused
 returns-clause-refused g c =

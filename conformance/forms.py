@@ -1,4 +1,4 @@
-"""What stands around blocks: the rows of CIDs as text, of files of blocks and of DAG-JSON, each a slug, the text or the bytes, why it is
+"""What stands around blocks: the rows of CIDs as text, of files of blocks, of DAG-JSON and of DAG-PB, each a slug, the text or the bytes, why it is
 interesting, and the standard's section. As in grammar.py, what is right of them is not said here."""
 
 import base64
@@ -173,6 +173,76 @@ def files():
     yield from sections()
     yield from headers()
     yield from spans()
+
+
+def nodes():
+    """Blocks of DAG-PB: nodes first, then what is none."""
+    form, strict, links = "DAG-PB, Serial Format", "DAG-PB, Protobuf Strictness", "DAG-PB, Logical Format"
+    encoding, varints = "protobuf, Length-Delimited Records", "protobuf, Base 128 Varints"
+    raw, away = b"\x0a" + counted(RAW), b"\x0a" + counted(AWAY)
+    node = lambda *messages: b"".join(b"\x12" + counted(it) for it in messages)
+    yield "none", b"", "no bytes: a node without links and data", form
+    yield "data-empty", b"\x0a\0", "data of no bytes", form
+    yield "data", b"\x0a\x02ab", "data", form
+    yield "directory-empty", b"\x0a\x02\x08\x01", "the empty directory of UnixFS", form
+    yield "file-empty", b"\x0a\x04\x08\x02\x18\0", "an empty file of UnixFS", form
+    yield "data-long", b"\x0a" + counted(bytes(300)), "data whose length takes two bytes", encoding
+    yield "link", node(raw), "a link without name and size", links
+    yield "link-v0", node(b"\x0a" + counted(V0)), "a link of version 0", links
+    yield "link-whole", node(away + b"\x12\x01a\x18\x05"), "a link with a name and a size", links
+    yield "link-size", node(raw + b"\x18\x05"), "a link with a size, and no name", links
+    yield "link-name-empty", node(raw + b"\x12\0"), "an empty name", links
+    yield "link-size-greatest", node(raw + b"\x18" + varint(2**64 - 1)), "the greatest size", varints
+    yield "link-longest", node(b"\x0a" + counted(LONGEST)), "a CID with numbers of ten bytes, and a digest of 64", links
+    yield "link-digest-65", node(b"\x0a" + counted(cid(digest=b"d" * 65))), "a digest of 65 bytes", links
+    yield "links-and-data", node(raw, away + b"\x12\x01a") + b"\x0a\x01x", "links, and data behind them", form
+    yield "data-and-links", b"\x0a\x01x" + node(raw, away + b"\x12\x01a"), "data in front of links, as old blocks have it", strict
+    yield "names-sorted", node(*(raw + b"\x12" + counted(it) for it in (b"", b"B", b"a", b"aa", b"b", "\u00e9".encode()))), "names in the order of bytes", "DAG-PB, Link Sorting"
+    yield "names-twice", node(raw + b"\x12\x01a", away + b"\x12\x01a"), "two links of one name", "DAG-PB, Link Sorting"
+    yield "names-unsorted", node(raw + b"\x12\x01b", raw + b"\x12\x01a"), "names out of order", "DAG-PB, Link Sorting"
+    yield "name-no-text", node(raw + b"\x12\x01\xff"), "a name that is not UTF-8", links
+    yield "many", node(*(b"\x0a" + counted(name(it)) + b"\x12" + counted(it[1:].hex().encode()) for it in MANY)), "a hundred links", links
+    for slug, block in {
+        "tag": b"\x92\0" + counted(raw), "count": b"\x12\x86\0" + raw, "size": node(raw + b"\x18\x85\x80\0"), "data": b"\x0a\x81\0x",
+        "count-of-ten-bytes": b"\x0a\x81" + b"\x80" * 8 + b"\0x", "hash": node(b"\x8a\0" + counted(RAW)),
+    }.items():  # fmt: skip
+        yield f"long-{slug}", block, "a number in more bytes than it needs", varints
+    for slug, block in {
+        "data-between-links": node(raw) + b"\x0a\0" + node(raw), "data-twice": b"\x0a\0" * 2, "data-around-links": b"\x0a\0" + node(raw) + b"\x0a\0",
+        "data-twice-behind": node(raw) + b"\x0a\0" * 2, "hash-twice": node(raw + raw), "name-twice": node(raw + b"\x12\x01a" * 2), "size-twice": node(raw + b"\x18\x05" * 2),
+    }.items():  # fmt: skip
+        yield f"twice-{slug}", block, "a field a second time", strict
+    for slug, message in {
+        "name-first": b"\x12\x01a" + raw, "size-first": b"\x18\x05" + raw, "size-before-name": raw + b"\x18\x05\x12\x01a", "name-alone": b"\x12\0", "size-alone": b"\x18\0",
+    }.items():  # fmt: skip
+        yield f"order-{slug}", node(message), "a field of a link out of order, or without its hash", strict
+    for slug, block in {
+        "0": b"\0", "3": b"\x1a\0", "data-a-number": b"\x08\0", "links-a-number": b"\x10\0", "data-of-eight-bytes": b"\x09" + bytes(8), "group": b"\x0b\x0c",
+        "greatest": varint(2**64 - 1), "of-a-link": node(raw + b"\x20\x01"), "size-of-four-bytes": node(raw + b"\x1d" + bytes(4)), "hash-a-number": node(b"\x08\x01"),
+        "name-a-number": node(raw + b"\x10\x01"), "behind-data": b"\x0a\x01x\x22\0", "text": b"hello", "cbor": ROOT,
+    }.items():  # fmt: skip
+        yield f"field-{slug}", block, "a field that no message has, or of another type", strict
+    for slug, block in {
+        "hash-empty": node(b"\x0a\0"), "hash-version-2": node(b"\x0a\x04\x02\x55\0\0"), "hash-cut": node(b"\x0a" + counted(AWAY[:-1])), "hash-trailing": node(b"\x0a" + counted(RAW + b"\0")),
+        "hash-long": node(b"\x0a\x05\x01\x55\x80\0\0"), "hash-v0-cut": node(b"\x0a" + counted(V0[:-1])), "hash-v0-trailing": node(b"\x0a" + counted(V0 + b"\0")),
+        "hash-text": node(b"\x0a" + counted(base58(V0).encode())), "hash-prefixed": node(b"\x0a" + counted(b"\0" + AWAY)),
+    }.items():  # fmt: skip
+        yield f"no-{slug}", block, "no binary CID", links
+    yield "link-empty", node(b""), "a link without a hash", links
+    yield "link-empty-behind", node(raw, b""), "a second link without a hash", links
+    for slug, block in {
+        "beyond-64": b"\xff" * 9 + b"\x02", "eleven": b"\x80" * 10 + b"\0", "ten-open": b"\x80" * 10, "count": b"\x0a" + b"\xff" * 9 + b"\x02",
+        "size": node(raw + b"\x18" + b"\xff" * 9 + b"\x02"), "size-eleven": node(raw + b"\x18" + b"\x80" * 10 + b"\0"),
+    }.items():  # fmt: skip
+        yield f"number-{slug}", block, "a number of more than 64 bits or ten bytes", varints
+    whole = node(away + b"\x12\x01a\x18\x85\x01") + b"\x0a\x03abc"
+    for cut in range(1, len(whole)):
+        yield f"cut-{cut}", whole[:cut], "a link, and data behind it, cut", encoding
+    for slug, block in {
+        "count-greatest": b"\x0a" + varint(2**64 - 1), "count-one-more": b"\x0a\x03ab", "hash-beyond-link": b"\x12\x05" + raw[:5] + raw[5:], "name-beyond-link": node(raw + b"\x12\x02a") + b"\x0a\0",
+        "size-beyond-link": node(raw + b"\x18\x80") + b"\x0a\0", "half-a-tag": b"\x0a\x01x\x80", "half-a-count": b"\x0a\x80",
+    }.items():  # fmt: skip
+        yield f"short-{slug}", block, "what is announced goes on behind the end", encoding
 
 
 def json_texts():

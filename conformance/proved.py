@@ -10,14 +10,12 @@ from concurrent.futures import ThreadPoolExecutor
 import cars
 import cidtexts
 import dagjson
+import dagpb
 import known
 from judge import Link, Refused, judge, links_of, spell, varint
 from vectors import VARIANTS, block_of
 
 ROOT = known.ROOT
-sys.path.append(f"{ROOT}/faults")
-
-import dag_pb
 
 
 def program(name):
@@ -99,8 +97,8 @@ def of_block(vector):
 
 
 def by_forms(vectors):
-    """Where `dagcar` says something else of data for writers, of a CID as text, of a file of blocks, of DAG-JSON or of a path."""
-    judged = {"files": of_file, "cid-texts": of_cid_text, "paths": of_path}
+    """Where `dagcar` says something else of data for writers, of a CID as text, of a file of blocks, of DAG-JSON, of DAG-PB or of a path."""
+    judged = {"files": of_file, "cid-texts": of_cid_text, "dag-pb": of_node, "paths": of_path}
     yield from differing([judged.get(it["group"], of_json)(it) for it in vectors if it["group"] != "segments" and not is_beyond(it)])
 
 
@@ -151,7 +149,7 @@ def missing_line(text):
 def program_verdict(section, file):
     """What the programs say of a section: of blocks of DAG-PB too, which the vectors leave to others, and of other codecs."""
     if section["verdict"] == "not read" and codec_of(section["cid"]) == 0x70:
-        return dag_pb.judged(file[section["block"] : section["end"]])[0]
+        return dagpb.judged(file[section["block"] : section["end"]])[0]
     if section["verdict"] == "not read" and codec_of(section["cid"]) != 0x55:
         return "links not read"
     return cars.in_variants(section["verdict"])
@@ -164,6 +162,16 @@ def of_file(vector):
         said.append(f"refused {cars.VARIANTS[vector['cause']]}")
     said += sorted(map(missing_line, vector.get("missing", ())))
     return vector["id"], "check", file, "".join(f"{it}\n" for it in said).encode()
+
+
+def of_node(vector):
+    """As the one section of a file."""
+    block = block_of(vector)
+    cid = cars.name(block, 0x70)
+    verdict, links = dagpb.judged(block)
+    missing = {missing_line(cidtexts.written(it)) for it in links if it != cars.RAW}
+    said = [f"{cidtexts.written(cid)} {verdict}", *sorted(missing)]
+    return vector["id"], "check", cars.header() + cars.section(block, cid), "".join(f"{it}\n" for it in said).encode()
 
 
 def differing(asked):

@@ -10,6 +10,8 @@ STANDARDS = {
     "RFC 8259": ("The JavaScript Object Notation (JSON) Data Interchange Format", "https://www.rfc-editor.org/rfc/rfc8259"),
     "DAG-CBOR": ("the specification of the codec DAG-CBOR", "https://ipld.io/specs/codecs/dag-cbor/spec/"),
     "DAG-JSON": ("the specification of the codec DAG-JSON", "https://ipld.io/specs/codecs/dag-json/spec/"),
+    "DAG-PB": ("the specification of the codec DAG-PB", "https://ipld.io/specs/codecs/dag-pb/spec/"),
+    "protobuf": ("Protocol Buffers, Encoding", "https://protobuf.dev/programming-guides/encoding/"),
     "CARv1": ("files of blocks, version 1", "https://ipld.io/specs/transport/car/carv1/"),
     "CARv2": ("files of blocks, version 2", "https://ipld.io/specs/transport/car/carv2/"),
     "IPLD": ("the data model: kinds, links and paths", "https://ipld.io/docs/data-model/"),

@@ -14,6 +14,7 @@ import cars
 import cbor
 import cidtexts
 import dagjson
+import dagpb
 import forms
 import grammar
 import paths
@@ -58,6 +59,8 @@ FORM_FIELDS = {
     "block": "of DAG-JSON the block of its data, in hexadecimal; `written` is its one spelling",
     "dag_json": "for writers: what is to be written as a block; `loose` is the same as CBOR that DAG-CBOR forbids, for a codec that reads such",
     "cause": "the first fault, a key of the group's `causes`; of a file `at` is where what is faulty begins, and `block_cause` why a header is no block; of a path why its block is none, told at `at`",
+    "node": "of a sound block of DAG-PB each link: its `hash`, its `name` in hexadecimal, its `tsize`; `links` has the hashes alone, and `data` the data in hexadecimal, where there is some",
+    "at": "where what is wrong begins: of DAG-PB a number, a tag or a CID",
     "roots": "the roots; `behind` is where the first section begins",
     "sections": "those before a fault: where each begins, its CID, where its block begins, where it ends, and what is said of the block",
     "missing": "of a whole file the roots and links that lead to no verified block, in the order of their binary forms; a CID by the identity holds its block",
@@ -198,6 +201,7 @@ FORMS = {
     "cid-texts": (forms.cid_texts, cidtexts, "CIDs as text: bases, letters, padding bits"),
     "files": (forms.files, cars, "files of blocks (CAR) of both versions: headers, offsets, cuts, other bytes"),
     "dag-json": (forms.json_texts, dagjson, "DAG-JSON, to be read"),
+    "dag-pb": (forms.nodes, dagpb, "blocks of DAG-PB: fields, orders, numbers, cuts"),
 }
 
 
@@ -262,7 +266,7 @@ def for_writers(vectors, is_loose, cannot):
 # What a peer may be held to, and a line that each answers with `ok`.
 SUBJECTS = {
     "blocks": "f6", "writing": "null", "cid-texts": b"bafkqaaa".hex(), "files": "19a265726f6f747381d82a4500015500006776657273696f6e01",
-    "dag-json": b"null".hex(), "to-dag-json": "f6", "paths": "f6 -", "segments": "f6 /",
+    "dag-json": b"null".hex(), "to-dag-json": "f6", "paths": "f6 -", "segments": "f6 /", "dag-pb": "0a020801",
 }  # fmt: skip
 
 

@@ -95,6 +95,7 @@ WORDS = {
     "cid-texts": lambda it: [it["cid"], it["written"]],
     "files": lambda it: [",".join(it["roots"]) or "-", ",".join(one["cid"] for one in it["sections"]) or "-"],
     "dag-json": lambda it: [it["block"]],
+    "dag-pb": lambda it: [",".join(it["links"]) or "-", it.get("data", "") or "-"],
     "paths": lambda it: [block_of(it)[it["span"][0] : it["span"][1]].hex()],
     "segments": lambda it: [block_of(it)[it["span"][0] : it["span"][1]].hex()],
     "to-dag-json": lambda it: [it["dag_json"].encode().hex()],

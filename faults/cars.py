@@ -4,12 +4,16 @@ What is wanted of a file is what `Judge` finds, which reads its framing and dige
 `BLOCKS`, by hand. None is copied from a run."""
 
 import hashlib
+import os
 import resource
 import subprocess
+import sys
 
-import dag_pb
 from car_bytes import cid, counted, header, link, missing_line, section, text_of, varint
 
+sys.path.append(f"{os.path.dirname(os.path.dirname(os.path.abspath(__file__)))}/conformance")
+
+import dagpb
 
 NUMBERS = b"\x83\x01\x02\x03"
 AWAY = cid(b"\x61a")  # names a block that no file here has
@@ -57,7 +61,7 @@ def is_well(found):
 
 def links_of(codec, block):
     """Where the links of a block lead that is one of its codec."""
-    return dag_pb.judged(block)[1] if codec == 0x70 else BLOCKS[block][1]
+    return dagpb.judged(block)[1] if codec == 0x70 else BLOCKS[block][1]
 
 
 class Judge:
@@ -150,7 +154,7 @@ class Judge:
         if digest != (hashlib.sha256(block).digest() if hash_code else block):
             return "other bytes"
         if codec == 0x70:
-            return dag_pb.judged(block)[0]
+            return dagpb.judged(block)[0]
         if codec == 0x71:
             return BLOCKS[block][0]
         return "not read" if codec == 0x55 else "links not read"

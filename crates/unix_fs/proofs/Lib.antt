@@ -1,0 +1,6 @@
+pub mod Fronts
+pub mod Steps
+pub mod Nodes
+pub mod Pairing
+pub mod Stacks
+pub mod Parts

@@ -1,0 +1,9 @@
+pub use Rattle.ipld_tree.specs.Cid
+pub use Rattle.dag_pb.specs.Node
+pub use Rattle.dag_pb.specs.Causes
+pub mod Fields
+pub mod UnixFs
+pub mod Held
+pub mod Nodes
+pub mod Files
+pub mod Reading

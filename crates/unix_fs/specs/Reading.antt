@@ -1,0 +1,161 @@
+-- A file, read block by block: a stack of blocks that are wanted.
+use Rattle.std.specs.Prelude.{◌≡◌, ◌≢◌, ◌⊎◌, ℕ, ◌+◌, ◌-◌, ◌<◌, List, [], ◌∷◌, ◌++◌, length, sum, Option, None, Some, Ok, Err, false}
+use Rattle.std.specs.List.{concat, AllByRecursion}
+use Rattle.ipld_tree.specs.Cid.{cid_bytes}
+use Rattle.dag_pb.specs.Node.{Field, BeginsWithFields}
+use Rattle.dag_pb.specs.Causes.{IsNoNode}
+use Rattle.unix_fs.specs.declared.file_error.FileError.{FileError}
+use Rattle.unix_fs.specs.declared.file_error.FileError.TheVariants.{NothingWanted, TooDeep, OtherCodec, NotANode, NoData, NoMessage, NotAFile, WrongLinks, WrongSize, OutOfMemory}
+use Rattle.unix_fs.specs.declared.wanted.Wanted.{Wanted}
+use Rattle.unix_fs.specs.UnixFs.{UnixFsParts, unix_fs_of}
+use Rattle.unix_fs.specs.Nodes.{or_nothing, data_of, cids_of}
+use Rattle.unix_fs.specs.Files.{codec_of, joined, of_size, is_file, bytes_under}
+
+-- ---- what is wanted
+
+pub record Asked : Type 0 where
+  pub cid : List ℕ
+  pub size : Option ℕ
+  pub depth : ℕ
+
+abbrev pub asked : Wanted → Asked
+asked w = record { cid = cid_bytes w.cid; size = w.size; depth = w.depth }
+
+-- the content under the CID, if it is of the size that was announced
+abbrev pub asked_bytes : (List ℕ → Option (List ℕ)) → Asked → Option (List ℕ)
+asked_bytes blocks w = of_size w.size (bytes_under blocks w.depth w.cid)
+
+-- the contents of what is wanted, where the last comes first
+abbrev pub stack_bytes : (List ℕ → Option (List ℕ)) → List Asked → Option (List ℕ)
+stack_bytes blocks [] = Some []
+stack_bytes blocks (w ∷ above) = joined (stack_bytes blocks above) (asked_bytes blocks w)
+
+-- where the first comes first
+abbrev pub row_bytes : (List ℕ → Option (List ℕ)) → List Asked → Option (List ℕ)
+row_bytes blocks [] = Some []
+row_bytes blocks (w ∷ more) = joined (asked_bytes blocks w) (row_bytes blocks more)
+
+-- each of these may lead so many blocks deep
+abbrev pub AreOfDepth : ℕ → List Asked → Type 0
+AreOfDepth depth = AllByRecursion (λ w. w.depth ≡ depth)
+
+-- ---- one node
+
+-- fields of a node in a row
+abbrev pub HasRow : List ℕ → Type 0
+HasRow b = (row : List Field) × BeginsWithFields b row []
+
+-- a size, if one is announced
+abbrev pub IsTotal : Option ℕ → ℕ → Type 0
+IsTotal None n = Unit {0}
+IsTotal (Some total) n = total ≡ n
+
+abbrev pub followed_by : Asked → Option (List Asked) → Option (List Asked)
+followed_by w None = None
+followed_by w (Some more) = Some (w ∷ more)
+
+-- each CID with its size; none if there are more of the one
+abbrev pub paired : ℕ → List (List ℕ) → List ℕ → Option (List Asked)
+paired depth [] [] = Some []
+paired depth [] (size ∷ sizes) = None
+paired depth (cid ∷ cids) [] = None
+paired depth (cid ∷ cids) (size ∷ sizes) =
+    followed_by (record { cid = cid; size = Some size; depth = depth }) (paired depth cids sizes)
+
+-- why none are paired; memory is wanting only where there are links
+abbrev pub IsNoPairing : FileError → List (List ℕ) → Option (List Asked) → Type 0
+IsNoPairing OutOfMemory cids pairs = cids ≢ []
+IsNoPairing WrongLinks cids pairs = pairs ≡ None
+IsNoPairing _ cids pairs = ⊥
+
+-- what is known of the node where its message was read
+pub record IsFileNode (w : Asked) (block : List ℕ) (parts : UnixFsParts) : Type 0 where
+  pub codec : codec_of w.cid ≡ 0x70
+  pub deep : 0 < w.depth
+  pub message : List ℕ
+  pub stands : data_of block ≡ Some message
+  pub is : unix_fs_of message ≡ Ok parts
+
+-- ---- one block
+
+-- the block is a node with links
+abbrev pub HasLinks : Asked → List ℕ → Type 0
+HasLinks w block = (codec_of w.cid ≡ 0x70) × (cids_of block ≢ [])
+
+-- In this block stand these bytes of the content under the CID, and then come the contents of what is
+-- wanted after it, whatever else is held.
+pub record HasPart (w : Asked) (block content : List ℕ) (after : List Asked) : Type 0 where
+  pub bytes : (blocks : List ℕ → Option (List ℕ)) → blocks w.cid ≡ Some block
+      → asked_bytes blocks w ≡ joined (Some content) (row_bytes blocks after)
+  pub links : after ≢ [] → HasLinks w block
+  pub depths : AreOfDepth (w.depth - 1) after
+  pub deep : 0 < w.depth
+
+-- with this block under the CID there is no content of the size that was announced
+abbrev pub HasNoPart : Asked → List ℕ → Type 0
+HasNoPart w block = (blocks : List ℕ → Option (List ℕ)) → blocks w.cid ≡ Some block
+    → asked_bytes blocks w ≡ None
+
+-- the number of bytes that the parts of a node make
+abbrev pub total_of : UnixFsParts → ℕ
+total_of parts = length (or_nothing parts.content) + sum parts.block_sizes
+
+-- the leaf has another size than was announced, or the parts of the node have
+abbrev pub HasWrongSize : Asked → List ℕ → Type 0
+HasWrongSize w block = ((codec_of w.cid ≡ 0x55) × ¬ IsTotal w.size (length block))
+    ⊎ ((parts : UnixFsParts) × IsFileNode w block parts
+    × ((¬ IsTotal parts.file_size (total_of parts)) ⊎ (¬ IsTotal w.size (total_of parts))))
+
+-- why a block is refused
+abbrev pub IsCause : FileError → Asked → List ℕ → Type 0
+IsCause NothingWanted w block = ⊥
+IsCause TooDeep w block = w.depth ≡ 0
+IsCause (OtherCodec codec) w block = (codec ≡ codec_of w.cid) × (codec ≢ 0x55) × (codec ≢ 0x70)
+IsCause (NotANode e) w block = (codec_of w.cid ≡ 0x70) × IsNoNode block e
+IsCause NoData w block = data_of block ≡ None
+IsCause (NoMessage e) w block = (message : List ℕ) × (data_of block ≡ Some message)
+    × (unix_fs_of message ≡ Err e)
+IsCause (NotAFile kind) w block = (parts : UnixFsParts) × IsFileNode w block parts
+    × (kind ≡ parts.kind) × (is_file kind ≡ false)
+IsCause WrongLinks w block = (parts : UnixFsParts) × IsFileNode w block parts
+    × (length (cids_of block) ≢ length parts.block_sizes)
+IsCause WrongSize w block = HasWrongSize w block
+IsCause OutOfMemory w block = HasLinks w block
+
+-- what a refusal says, if it says that there is no content
+abbrev pub Denies : FileError → Type 0 → Type 0
+Denies OutOfMemory nothing = Unit {0}
+Denies (NotANode e) nothing = Unit {0}
+Denies _ nothing = nothing
+
+abbrev pub IsNoPart : FileError → Asked → List ℕ → Type 0
+IsNoPart e w block = IsCause e w block × Denies e (HasNoPart w block)
+
+-- ---- the stack
+
+-- this is wanted next, and the block is held under its CID
+pub record IsNext (blocks : List ℕ → Option (List ℕ)) (stack below : List Asked) (w : Asked) (block : List ℕ) : Type 0 where
+  pub is : stack ≡ below ++ w ∷ []
+  pub held : blocks w.cid ≡ Some block
+
+-- The bytes that are handed out are the first of the contents, and the others are those of what is
+-- wanted then.
+abbrev pub IsTaken : (List ℕ → Option (List ℕ)) → List Asked → List ℕ → List Asked → Type 0
+IsTaken blocks old out new =
+    stack_bytes blocks old ≡ joined (Some out) (stack_bytes blocks new)
+
+-- what was wanted after it still is, and in its place stand blocks that lead one block less deep
+abbrev pub GoesOn : List Asked → Asked → List Asked → Type 0
+GoesOn below w new = (0 < w.depth) × ((more : List Asked) × (new ≡ below ++ more)
+    × AreOfDepth (w.depth - 1) more)
+
+-- takes in a row, and what each hands out
+abbrev pub AreTaken : (List ℕ → Option (List ℕ)) → List Asked → List (List ℕ) → List Asked → Type 0
+AreTaken blocks old [] new = old ≡ new
+AreTaken blocks old (out ∷ more) new = (next : List Asked) × IsTaken blocks old out next
+    × AreTaken blocks next more new
+
+-- What is handed out until nothing is wanted are the contents, in their order.
+abbrev pub HandsOutContents : Type 0
+HandsOutContents = (blocks : List ℕ → Option (List ℕ)) (stack : List Asked) (pieces : List (List ℕ))
+    → AreTaken blocks stack pieces [] → stack_bytes blocks stack ≡ Some (concat pieces)

@@ -1,0 +1,32 @@
+//! Kinds of data.
+
+ghost use Rattle.std.specs.Prelude.{◌≡◌};
+ghost use Rattle.unix_fs.specs.UnixFs.{kind_of};
+
+/// What a message speaks of.
+#[derive(Copy, Clone, Debug, PartialEq, Eq)]
+pub enum Kind {
+    /// The bytes of a part of a file, as old writers name them.
+    Raw,
+    Directory,
+    File,
+    Metadata,
+    Symlink,
+    /// A part of a directory that is spread over a hash array mapped trie.
+    HamtShard,
+}
+
+/// The kind of this number.
+pub(crate) fn kind_from(number: u64) -> Option<Kind>
+    ensures { result ≡ kind_of number }
+{
+    match number {
+        0 => Some(Kind::Raw),
+        1 => Some(Kind::Directory),
+        2 => Some(Kind::File),
+        3 => Some(Kind::Metadata),
+        4 => Some(Kind::Symlink),
+        5 => Some(Kind::HamtShard),
+        _ => None,
+    }
+}

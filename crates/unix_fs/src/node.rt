@@ -1,0 +1,37 @@
+//! The data of a node.
+
+ghost use Rattle.std.specs.Prelude.{◌≡◌, [], ◌∷◌, option_map, MatchOption};
+ghost use Rattle.unix_fs.specs.Held.{held_field};
+ghost use Rattle.unix_fs.specs.Nodes.{data_in, data_of};
+
+use crate::field::{Field, Value, split_field};
+
+/// The tag of the data of a node, field 1 and bytes.
+const DATA: u64 = 0x0a;
+
+/// The data of a block of DAG-PB, in which the message stands. Of other bytes it is what stands in
+/// their first field 1.
+#[tactic(auto, using(crate::proofs::Nodes::data_found, crate::proofs::Nodes::no_data), unfolding(crate::specs::Nodes::data_of))]
+pub fn node_data(block: &[u8]) -> Option<&[u8]>
+    ensures { option_map (λ s. s.now) result ≡ data_of block.now }
+{
+    let mut rest = block;
+    while let Ok((field, behind)) = split_field(rest) {
+        if let Some(inner) = data_of_field(&field) {
+            return Some(inner);
+        }
+        rest = behind;
+    }
+    None
+}
+
+/// The data that the field gives.
+fn data_of_field<'a>(field: &Field<'a>) -> Option<&'a [u8]>
+    ensures { MatchOption result (data_in (held_field field.now) ≡ [])
+        (λ inner. data_in (held_field field.now) ≡ inner.now ∷ []) }
+{
+    match field.value {
+        Value::Bytes(inner) if field.tag == DATA => Some(inner),
+        _ => None,
+    }
+}

@@ -1,0 +1,132 @@
+//! What stands in one block of a file.
+
+ghost use Rattle.std.specs.Prelude.{◌≡◌, ◌<◌, MatchResult, map, ◌↔◌, IsTrue};
+ghost use Rattle.ipld_tree.specs.Cid.{cid_bytes};
+ghost use Rattle.unix_fs.specs.Held.{held_parts};
+ghost use Rattle.unix_fs.specs.Nodes.{or_nothing};
+ghost use Rattle.unix_fs.specs.Files.{codec_of, is_file};
+ghost use Rattle.unix_fs.specs.Reading.{HasRow, asked, HasPart, IsNoPart, IsFileNode};
+
+use crate::file_error::FileError;
+use crate::kind::Kind;
+use crate::message::{UnixFs, read_unix_fs};
+use crate::node::node_data;
+use crate::totals::is_announced;
+use crate::wanted::{DAG_PB, Wanted, codec_in, wanted_below};
+use dag_pb::check_node;
+use std::alloc::Global;
+
+/// The codec of leaves.
+const RAW: u64 = 0x55;
+
+/// Bytes of the file, and the blocks that are wanted after them.
+#[derive(Drop)]
+pub(crate) struct Part<'a> {
+    pub content: &'a [u8],
+    pub after: Vec<Wanted>,
+}
+
+/// What stands in the block under the CID that is wanted.
+pub(crate) fn read_part<'a>(
+    alloc: Global,
+    wanted: &Wanted,
+    block: &'a [u8],
+) -> Result<Part<'a>, FileError>
+    ensures { MatchResult result
+        (λ part. HasPart (asked wanted.now) block.now part.content.now (map asked part.after.items))
+        (λ e. IsNoPart e (asked wanted.now) block.now) }
+{
+    if wanted.depth == 0 {
+        return Err(FileError::TooDeep);
+    }
+    let codec = codec_in(&wanted.cid);
+    match codec {
+        RAW => read_leaf(alloc, wanted, block),
+        DAG_PB => read_node(alloc, wanted, block),
+        _ => Err(FileError::OtherCodec(codec)),
+    }
+}
+
+/// The bytes of a leaf.
+fn read_leaf<'a>(alloc: Global, wanted: &Wanted, block: &'a [u8]) -> Result<Part<'a>, FileError>
+    requires codec { codec_of (cid_bytes wanted.now.cid) ≡ 0x55 }
+    requires deep { 0 < wanted.now.depth }
+    ensures { MatchResult result
+        (λ part. HasPart (asked wanted.now) block.now part.content.now (map asked part.after.items))
+        (λ e. IsNoPart e (asked wanted.now) block.now) }
+{
+    if !is_announced(wanted.size, block.len(), b"") {
+        return Err(FileError::WrongSize);
+    }
+    Ok(Part {
+        content: block,
+        after: Vec::new(alloc),
+    })
+}
+
+/// The bytes in a node, and the blocks under its links.
+fn read_node<'a>(alloc: Global, wanted: &Wanted, block: &'a [u8]) -> Result<Part<'a>, FileError>
+    requires codec { codec_of (cid_bytes wanted.now.cid) ≡ 0x70 }
+    requires deep { 0 < wanted.now.depth }
+    ensures { MatchResult result
+        (λ part. HasPart (asked wanted.now) block.now part.content.now (map asked part.after.items))
+        (λ e. IsNoPart e (asked wanted.now) block.now) }
+{
+    if let Err(fault) = check_node(block) {
+        return Err(FileError::NotANode(fault));
+    }
+    let Some(message) = node_data(block) else {
+        return Err(FileError::NoData);
+    };
+    match read_unix_fs(message) {
+        Ok(file) => read_file(alloc, wanted, block, &file),
+        Err(fault) => Err(FileError::NoMessage(fault)),
+    }
+}
+
+/// The bytes in a node of this message, and the blocks under its links.
+fn read_file<'a>(
+    alloc: Global,
+    wanted: &Wanted,
+    block: &[u8],
+    file: &UnixFs<'a>,
+) -> Result<Part<'a>, FileError>
+    requires row { HasRow block.now }
+    requires node { IsFileNode (asked wanted.now) block.now (held_parts file.now) }
+    ensures { MatchResult result
+        (λ part. HasPart (asked wanted.now) block.now part.content.now (map asked part.after.items))
+        (λ e. IsNoPart e (asked wanted.now) block.now) }
+{
+    if !is_file_kind(file.kind) {
+        return Err(FileError::NotAFile(file.kind));
+    }
+    let content = content_of(file);
+    if !is_announced(file.file_size, content.len(), file.sizes) {
+        return Err(FileError::WrongSize);
+    }
+    if !is_announced(wanted.size, content.len(), file.sizes) {
+        return Err(FileError::WrongSize);
+    }
+    let after = wanted_below(alloc, wanted.depth - 1, block, file.sizes)?;
+    Ok(Part { content, after })
+}
+
+/// The bytes of the file that stand in the node itself.
+fn content_of<'a>(file: &UnixFs<'a>) -> &'a [u8]
+    ensures { result.now ≡ or_nothing (held_parts file.now).content }
+{
+    match file.content {
+        Some(content) => content,
+        None => b"",
+    }
+}
+
+/// Whether a node of this kind has bytes of a file.
+fn is_file_kind(kind: Kind) -> bool
+    ensures { result ≡ is_file kind }
+{
+    match kind {
+        Kind::File | Kind::Raw => true,
+        _ => false,
+    }
+}

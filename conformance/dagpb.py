@@ -4,6 +4,7 @@ protocol buffers."""
 import math
 
 import cidtexts
+from grammar import varint
 from judge import MOST_DIGEST, is_cid
 
 CAUSES = {
@@ -95,14 +96,6 @@ def is_node(block, most_digest):
         return bool(read(block, most_digest))
     except Refused:
         return False
-
-
-def varint(value):
-    groups = []
-    while value >= 128:
-        groups.append(value % 128 + 128)
-        value //= 128
-    return bytes([*groups, value])
 
 
 def field(tag, value):

@@ -1,29 +1,31 @@
 -- What calls hand on of what types answer beside their law.
-use Rattle.std.proofs.Common.{◌≡◌, ℕ, Bool, true, false, List, [], ◌++◌, inl, inr, refl, sym, ap, subst, ◌∙◌, append_assoc, ◌<◌, arith, Option, None, Some, IfSome, IfErr, Result, Ok, Err, IsErrAnd, MatchBool, MatchResult, codes, ◌⊎◌, ◌∷◌, ◌-◌, ◌/◌, Global}
-use Rattle.dagcbor_heads.specs.Head.{head}
+use Rattle.std.proofs.Common.{◌≡◌, ℕ, Bool, false, List, [], ◌++◌, inl, inr, refl, sym, ap, subst, ◌∙◌, ◌<◌, ◌≤◌, arith, Option, None, Some, IfSome, IfErr, Result, Ok, Err, IsErrAnd, MatchResult, codes, ◌⊎◌, ◌+◌, ◌-◌, Global}
 use Rattle.dagcbor_heads.specs.Names.{Names}
 use Rattle.dagcbor_heads.specs.declared.name.Name.{Name}
-use Rattle.dagcbor_heads.specs.Reading.{Reading, fresh_reading, with_steps}
-use Rattle.dagcbor_heads.specs.Fronts.{Takes, ShowsByte}
+use Rattle.dagcbor_heads.specs.Reading.{Reading, Stays, fresh_reading}
 use Rattle.dagcbor_heads.specs.Inputs.{not_lending}
 use Rattle.dagcbor_heads.specs.declared.error.DecodeError.{DecodeError}
 use Rattle.dagcbor_heads.specs.declared.error.DecodeError.TheVariants.{Msg, Read, TrailingData}
-use Rattle.ipld_tree.specs.Tree.{Tree, text, Items}
-use Rattle.ipld_tree.specs.Spelling.{spelling, items_spelling}
+use Rattle.dagcbor_heads.proofs.Taking.{stays}
+use Rattle.ipld_tree.specs.Tree.{Tree, text, Items, no_items, item}
+use Rattle.ipld_tree.specs.Spelling.{AreFronts}
+use Rattle.ipld_tree.proofs.Fronts.{item_closed}
 use Rattle.dagcbor_items.specs.Shapes.{Shape}
-use Rattle.dagcbor_items.specs.Entering.{Enters}
+use Rattle.dagcbor_items.specs.Places.{Follows}
 use Rattle.dagcbor_items.specs.TypedReads.{TakesFront}
+use Rattle.dagcbor_items.specs.Untyped.{TakesItem}
+use Rattle.dagcbor_items.proofs.StringItems.{text_taken}
 use Rattle.dagcbor_read.specs.Deserializers.{DeState, Call, Ends, TellsEnd}
-use Rattle.dagcbor_read.specs.Accessors.{AccessorState, accessor_state}
+use Rattle.dagcbor_read.specs.Accessors.{AccessorState, accessor_state, EndsItems}
 use Rattle.dagcbor_read.specs.declared.access.accessor.Accessor.{Accessor}
 use Rattle.std.specs.declared.borrow.CowStr.{CowStr}
 use Rattle.dagcbor_read.specs.declared.access.enum_accessor.EnumAccessor.{EnumAccessor}
-use Rattle.dagcbor_read.specs.Enums.{enum_state, SpendsEnum, ReadsName}
+use Rattle.std.specs.Cow.{cow_str_bytes}
+use Rattle.dagcbor_read.specs.Enums.{SpendsEnum, ReadsName}
 use Rattle.dagcbor_read.specs.Collections.{FieldShape, TakesRow}
-use Rattle.dagcbor_read.specs.Parts.{HandsWholeOn, IsStart, IsNoEnd, IsFurther, IsAtKey, RefusesFurther, RefusesWithin, RefusesEntries, IfRefused, LacksField, HasMessage, RefusesEnumAs}
-use Rattle.dagcbor_read.proofs.Answered.{KeyRead}
+use Rattle.dagcbor_read.specs.Parts.{HandsWholeOn, IsStart, IsNoEnd, IsPast, PassesItems, PassesText, PassesKey, PassesFewer, RefusesPast, RefusesWithin, RefusesEntries, RefusesUnread, IfRefused, LacksField, HasMessage, RefusesEnumAs}
 use Rattle.dagcbor_read.proofs.EntryRows.{FieldsSoFar}
-use Rattle.dagcbor_read.proofs.ItemRows.{ReadSoFar, no_more_items}
+use Rattle.dagcbor_read.proofs.ItemRows.{ReadSoFar, no_more_items, as_row}
 use Rattle.dagcbor_read.proofs.Progressing.{match_false, call_answered, call_told}
 
 -- no end was found of what had not failed
@@ -65,46 +67,53 @@ module _ {T E : Type 0} (answers : DeState → Result T (DecodeError E) → DeSt
   pub hands_value : (start now : DeState) (r : Result T (DecodeError E)) (v : T) → r ≡ Ok v → IsStart left steps lends start → answers start r now → HandsWholeOn answers left steps lends r
   hands_value start now r v e is a = subst (λ x. HandsWholeOn answers left steps lends x) (sym e) (start, now, is, subst (λ x. answers start x now) e a)
 
--- ---- a part of many
+-- ---- parts that were passed
 
-pub further_both : {a b c : DeState} → IsFurther a b → IsFurther b c → IsFurther a c
-further_both {a} {b} {c} h k = record {
-  sound = k.sound;
-  passed = λ bytes l.
-      let p = h.passed bytes l in
-      let q = k.passed p.1 p.3 in
-      (p.0 ++ q.0, q.1, p.2 ∙ ap (λ x. p.0 ++ x) q.2 ∙ sym (append_assoc p.0 q.0 q.1), q.3);
+no_item_stands : (b : List ℕ) → AreFronts b no_items b
+no_item_stands b = record { well_formed = tt; spellable = tt; is = refl }
+
+pub none_past : {count : ℕ} {old now : DeState} → count ≡ 0 → now.failed ≡ false → now.input ≡ old.input → IsPast (PassesItems count) old now
+none_past {count} {old} {now} none sound same = record {
+  sound = sound;
+  same = subst (λ r. Stays old.input r) (sym same) (stays old.input);
+  passed = λ b l. (b, (no_items, sym none, no_item_stands b), ap (λ (r : Reading). r.left) same ∙ l);
 }
 
--- nothing was taken
-pub no_further : {old now : DeState} → now.failed ≡ false → now.input ≡ old.input → IsFurther old now
-no_further {old} {now} sound same = record { sound = sound; passed = λ b l. ([], b, refl, ap (λ (r : Reading). r.left) same ∙ l) }
+pub item_past : {V : Type 0} {shape : Shape Tree V} {count : ℕ} {old now : DeState} {v : V} → count ≡ 1 → now.failed ≡ false → TakesFront shape old.input v now.input → IsPast (PassesItems count) old now
+item_past one sound h = record {
+  sound = sound;
+  same = h.same;
+  passed = λ b l. let q = h.taken b l in (q.1, (item q.0 no_items, sym one, item_closed b q.1 q.1 q.0 no_items q.2 (no_item_stands q.1)), q.5);
+}
+
+pub row_past : {V : Type 0} {shape : Shape Items V} {count : ℕ} {old now : DeState} {v : V} → now.failed ≡ false → TakesRow shape count old.input v now.input → IsPast (PassesItems count) old now
+row_past sound h = record { sound = sound; same = h.same; passed = λ b l. let q = h.taken b l in (q.1, (q.0, q.2, q.3), q.6) }
+
+pub items_past : {V : Type 0} (shape : Shape Tree V) {before now_left : AccessorState} {old now : DeState} {vs : List V} → ReadSoFar shape before old now_left vs now → IsPast (PassesItems (before.left - now_left.left)) old now
+items_past shape {before} {now_left} {old} {now} {vs} i =
+    let none = no_more_items shape now.input in
+    row_past i.sound (as_row (vs ++ []) (vs ++ []) (omega arith) refl (i.takes 0 [] now.input none))
+
+pub text_past : {key : List ℕ} {old now : DeState} → now.failed ≡ false → TakesItem 1 old.input (text key) now.input → IsPast (PassesText key) old now
+text_past sound h = record { sound = sound; same = h.same; passed = λ b l. let q = h.taken b l in (q.0, q.1, q.3) }
+
+pub key_past : (last : Option (List ℕ)) {key : List ℕ} {old now : DeState} → now.failed ≡ false → Follows last key → TakesItem 1 old.input (text key) now.input → IsPast (PassesKey last) old now
+key_past last {key} sound follows h = record { sound = sound; same = h.same; passed = λ b l. let q = h.taken b l in (q.0, (key, follows, q.1), q.3) }
+
+module _ {S : Type 0} (shape : FieldShape S) where
+  pub entries_past : {start s : S} {before now_left : AccessorState} {old now : DeState} → FieldsSoFar shape start before old now_left s now → 0 < now_left.left → IsPast (PassesFewer before now_left.last) old now
+  entries_past i some = record {
+    sound = i.sound;
+    same = i.same;
+    passed = λ b l. let p = i.stands b l in (p.1, (p.0, omega (arith, some, p.3), p.2), p.4);
+  }
 
 pub says : {E : Type 0} {e : DecodeError E} {message : List ℕ} → (kept : Name) × (e ≡ Msg kept) × Names kept message → HasMessage message e
 says {E} {e} {message} h = subst (λ (x : DecodeError E). HasMessage message x) (sym h.1) h.2
 
-pub front_further : {V : Type 0} {shape : Shape Tree V} {old now : DeState} {v : V} → now.failed ≡ false → TakesFront shape old.input v now.input → IsFurther old now
-front_further sound h = record { sound = sound; passed = λ b l. let q = h.taken b l in (spelling q.0, q.1, q.2.is, q.5) }
-
-pub key_further : {last : Option (List ℕ)} {left : ℕ} {old now : DeState} {key : List ℕ} → KeyRead last left old key now → IsFurther old now
-key_further {last} {left} {old} {now} {key} h = record { sound = h.sound; passed = λ b l. let q = h.takes.taken b l in (spelling (text key), q.0, q.1.is, q.3) }
-
-pub entered_further : {major count : ℕ} {old now : DeState} → now.failed ≡ false → Enters major count old.input now.input → IsFurther old now
-entered_further {major} {count} sound h = record { sound = sound; passed = λ b l. let q = h.takes.taken b l in (head major count, q.0, q.1, q.2) }
-
-module _ {S : Type 0} (shape : FieldShape S) where
-  pub at_key : {start s : S} {before now_left : AccessorState} {old now : DeState} → FieldsSoFar shape start before old now_left s now → 0 < now_left.left → IsAtKey before old now now_left.last
-  at_key {start} {s} {before} {now_left} {old} {now} i some = record {
-    sound = i.sound;
-    stands = λ b l. let p = i.stands b l in (p.0, p.1, p.2, omega (arith, some, p.3), p.4);
-  }
-
 module _ {E : Type 0} (refuses : DeState → DecodeError E → DeState → Type 0) where
-  pub from_further : (old mid new : DeState) (e : DecodeError E) → IsFurther old mid → RefusesFurther refuses mid e new → RefusesFurther refuses old e new
-  from_further old mid new e i h = (h.0, further_both i h.1, h.2)
-
-  pub named_refused : (begun : AccessorState) (last : Option (List ℕ)) (old mid new : DeState) (o : Option (DecodeError E)) (e : DecodeError E) → IsAtKey begun old mid last → o ≡ Some e → IfSome o (λ x. RefusesFurther refuses mid x new) → RefusesEntries refuses begun old e new
-  named_refused begun last old mid new o e i is h = (mid, last, i, inr (subst (λ x. IfSome x (λ y. RefusesFurther refuses mid y new)) is h))
+  pub named_refused : (begun : AccessorState) (last : Option (List ℕ)) (old mid new : DeState) (o : Option (DecodeError E)) (e : DecodeError E) → IsPast (PassesFewer begun last) old mid → o ≡ Some e → IfSome o (λ x. RefusesPast (PassesKey last) refuses mid x new) → RefusesEntries refuses begun old e new
+  named_refused begun last old mid new o e i is h = (last, (mid, i, inr (subst (λ x. IfSome x (λ y. RefusesPast (PassesKey last) refuses mid y new)) is h)))
 
 -- ---- a list or map that was to be begun
 
@@ -137,23 +146,22 @@ module _ {E S V : Type 0} (refuses : DeState → DecodeError E → DeState → T
 
 -- ---- items
 
-pub row_further : {V : Type 0} {shape : Shape Items V} {count : ℕ} {old now : DeState} {v : V} → now.failed ≡ false → TakesRow shape count old.input v now.input → IsFurther old now
-row_further sound h = record { sound = sound; passed = λ b l. let q = h.taken b l in (items_spelling q.0, q.1, q.3.is, q.6) }
+-- the others were refused, of which so many are left
+pub others_past : {E : Type 0} (refuses : ℕ → DeState → DecodeError E → DeState → Type 0) {count n m : ℕ} {old mid new : DeState} {e : DecodeError E} → IsPast (PassesItems count) old mid → n ≡ m → refuses n mid e new → RefusesPast (PassesItems count) (refuses m) old e new
+others_past refuses {count} {n} {m} {old} {mid} {new} {e} i is r = (mid, i, subst (λ x. refuses x mid e new) is r)
 
-pub items_further : {V : Type 0} (shape : Shape Tree V) {before now_left : AccessorState} {old now : DeState} {vs : List V} → ReadSoFar shape before old now_left vs now → IsFurther old now
-items_further shape {before} {now_left} {old} {now} {vs} i = row_further i.sound (i.takes 0 [] now.input (no_more_items shape now.input))
+-- the row was read, and some are unread after it
+pub unread_past : {V E : Type 0} (shape : Shape Items V) (count : ℕ) (begun after : AccessorState) (old mid new : DeState) (v : V) (e : DecodeError E) → mid.failed ≡ false → after ≡ record begun { left = after.left } → after.left ≤ begun.left → after.left ≡ begun.left - count
+    → TakesRow shape (begun.left - after.left) old.input v mid.input → Call (EndsItems after) mid (Err e) new → RefusesPast (PassesItems count) (RefusesUnread count begun) old e new
+unread_past shape count begun after old mid new v e sound is fewer counted row h =
+    let k = call_told (EndsItems after) mid new (Err e) sound h in
+    (mid, row_past sound (as_row v v (omega (arith, counted, k.1.0)) refl row), (k.0, subst (λ (x : AccessorState). EndsItems x mid.input (Err e) new.input) (is ∙ ap (λ n. record begun { left = n }) counted) k.1))
+
+-- so many are left after the first and the others
+pub others_counted : (takes : ℕ → ℕ) (first n m k : ℕ) → m ≡ n - 1 → n - m ≡ first → k ≡ m - takes m → k ≡ n - (first + takes (n - 1))
+others_counted takes first n m k one is counted = omega (arith, is, one, subst (λ x. k ≡ m - takes x) one counted)
 
 -- ---- variants
-
--- an enum was begun
-pub form_further : (E : Type 0) (name : List ℕ) (old mid : DeState) (a : EnumAccessor) → Call (SpendsEnum {E = E} name) old (Ok a) mid → IsFurther old mid
-form_further E name old mid a h =
-    let k = call_answered (SpendsEnum name) old mid a h in
-    by (enum_state a).in_map k.1 k.2.3
-  where
-    by : (m : Bool) → mid.failed ≡ false → MatchBool m (((enum_state a).first ≡ 0xa1) × Takes (with_steps (old.input.steps - 1) old.input) (0xa1 ∷ []) mid.input) (((enum_state a).first / 32 ≡ 3) × ShowsByte (with_steps (old.input.steps - 1) old.input) (enum_state a).first mid.input) → IsFurther old mid
-    by true sound t = record { sound = sound; passed = λ b l. let q = t.1.taken b l in (0xa1 ∷ [], q.0, q.1, q.2) }
-    by false sound t = record { sound = sound; passed = λ b l. ([], b, refl, t.1.kept b l) }
 
 module _ {E : Type 0} (refuses : DeState → DecodeError E → DeState → Type 0) where
   pub enum_not_begun : {T : Type 0} (name : List ℕ) (old new : DeState) (r : Result T (DecodeError E)) (e : DecodeError E) → IsErrAnd r (λ y. y ≡ e) → Call (SpendsEnum {E = E} name) old (Err e) new → IfRefused (RefusesEnumAs refuses name) old r new
@@ -165,13 +173,13 @@ module _ {E : Type 0} (refuses : DeState → DecodeError E → DeState → Type 
   pub enum_not_named : {T : Type 0} (name : List ℕ) (old mid new : DeState) (a : EnumAccessor) (r : Result T (DecodeError E)) (e : DecodeError E) → IsErrAnd r (λ y. y ≡ e) → Call (SpendsEnum {E = E} name) old (Ok a) mid → Call ReadsName mid (Err e) new → IfRefused (RefusesEnumAs refuses name) old r new
   enum_not_named name old mid new a (Ok v) e is b h sound = tt
   enum_not_named name old mid new a (Err y) e is b h sound =
-      let i = form_further E name old mid a b in
-      let k = call_told ReadsName mid new (Err e) i.sound h in
-      inr (mid, i, inl (k.0, subst (λ x. ReadsName mid.input (Err x) new.input) (sym is) k.1))
+      let k = call_answered (SpendsEnum name) old mid a b in
+      let q = call_told ReadsName mid new (Err e) k.1 h in
+      inr (a, mid, k.1, k.2, inl (q.0, subst (λ x. ReadsName mid.input (Err x) new.input) (sym is) q.1))
 
   pub variant_refused : {T : Type 0} (name : List ℕ) (old mid now new : DeState) (a : EnumAccessor) (v : CowStr Global × EnumAccessor) (r : Result T (DecodeError E)) → Call (SpendsEnum {E = E} name) old (Ok a) mid → Call (ReadsName {E = E}) mid (Ok v) now → IfErr r (λ e. refuses now e new) → IfRefused (RefusesEnumAs refuses name) old r new
   variant_refused name old mid now new a v (Ok x) b h w sound = tt
   variant_refused name old mid now new a v (Err e) b h w sound =
-      let i = form_further E name old mid a b in
-      let k = call_answered ReadsName mid now v h in
-      inr (now, further_both i (front_further k.1 k.2), inr w)
+      let k = call_answered (SpendsEnum name) old mid a b in
+      let q = call_answered ReadsName mid now v h in
+      inr (a, mid, k.1, k.2, inr (now, key_past None q.1 tt (text_taken (cow_str_bytes v.0) q.2), w))

@@ -1,5 +1,5 @@
 -- Groups of fields that are read before others: what they take and refuse, the row does.
-use Rattle.std.proofs.Common.{◌≡◌, ℕ, List, ◌∷◌, Bool, true, false, refl, sym, ap, ◌∙◌, subst, Option, None, Some, IfSome, IsSomeAnd, is_some, option_map, if◌then◌else◌, bytes_eq, Result, Ok, Err, inl, inr}
+use Rattle.std.proofs.Common.{◌≡◌, ℕ, List, ◌∷◌, Bool, true, false, refl, sym, ap, ◌∙◌, subst, Option, None, Some, IsSomeAnd, is_some, option_map, if◌then◌else◌, bytes_eq, Result, Ok, Err}
 use Rattle.std.proofs.lemmas.Slice.Eq.{bytes_eq-Decides}
 use Rattle.dagcbor_heads.specs.Reading.{Reading}
 use Rattle.dagcbor_heads.specs.declared.error.DecodeError.{DecodeError}
@@ -13,7 +13,6 @@ use Rattle.dagcbor_read.specs.Collections.{FieldShape, value_of, slot_of}
 use Rattle.dagcbor_read.specs.Deserializers.{DeState}
 use Rattle.dagcbor_read.specs.Joining.{field_own, beside, either_own, IsLike, GoesTo, PassesOn, ReadsOwnNamed}
 use Rattle.dagcbor_read.specs.Named.{TakesName, ReadsNamed, ReadsNamedValue}
-use Rattle.dagcbor_read.specs.Parts.{IsFurther, RefusesFurther, RefusesEither}
 use Rattle.dagcbor_read.specs.Values.{ReadsValue}
 use Rattle.dagcbor_read.proofs.FieldPlaces.{other_name, takes_as, front_as}
 use Rattle.dagcbor_read.proofs.NamedRows.{name_taken}
@@ -246,19 +245,3 @@ module _ {V : Type 0} (name : List ℕ) (names : List (List ℕ)) (shape : Shape
     same = same;
     other = λ k has. of_other k (other_name (λ is. none (subst (λ x. HasName before.last x old.input) is has)));
   }
-
--- ---- how they are refused
-
-module _ {E : Type 0} (first second : DeState → DecodeError E → DeState → Type 0) where
-  pub first_told : (old new : DeState) (o : Option (DecodeError E)) → IfSome o (λ e. RefusesFurther first old e new) → IfSome o (λ e. RefusesFurther (RefusesEither first second) old e new)
-  first_told old new None h = tt
-  first_told old new (Some e) h = (h.0, h.1, inl h.2)
-
-  pub second_told : (old mid new : DeState) (o : Option (DecodeError E)) → mid ≡ old → IfSome o (λ e. RefusesFurther second mid e new) → IfSome o (λ e. RefusesFurther (RefusesEither first second) old e new)
-  second_told old mid new None is h = tt
-  second_told old mid new (Some e) is h = (h.0, subst (λ x. IsFurther x h.0) is h.1, inr h.2)
-
--- a refusal behind the name
-pub told_further : {E : Type 0} (refuses : DeState → DecodeError E → DeState → Type 0) (old mid new : DeState) (o : Option (DecodeError E)) → IsFurther old mid → IfSome o (λ e. refuses mid e new) → IfSome o (λ e. RefusesFurther refuses old e new)
-told_further refuses old mid new None i h = tt
-told_further refuses old mid new (Some e) i h = (mid, i, h)

@@ -1,12 +1,12 @@
 -- What reading a value answers beside the law of its type, and how a call that reads a part hands
 -- that on.
-use Rattle.std.specs.Prelude.{◌≡◌, ◌⊎◌, ℕ, ◌+◌, ◌<◌, Bool, true, false, List, ◌++◌, Option, None, Some, Result, Ok, Err, IfErr, IfSome, MatchResult, codes, ⊤}
-use Rattle.dagcbor_heads.specs.Reading.{Reading, with_steps}
+use Rattle.std.specs.Prelude.{◌≡◌, ◌⊎◌, ℕ, ◌+◌, ◌-◌, ◌<◌, min, Bool, true, false, List, Option, None, Some, Result, Ok, Err, IfErr, IfSome, MatchResult, codes, ⊤}
+use Rattle.dagcbor_heads.specs.Reading.{Reading, Stays, with_steps}
 use Rattle.dagcbor_heads.specs.Names.{Names}
 use Rattle.dagcbor_heads.specs.declared.error.DecodeError.{DecodeError}
 use Rattle.dagcbor_heads.specs.declared.error.DecodeError.TheVariants.{Msg, Read, RequireBorrowed, OutOfMemory, TrailingData}
-use Rattle.ipld_tree.specs.Tree.{text, Entries, no_entries, entry}
-use Rattle.ipld_tree.specs.Spelling.{entry_count, IsFront}
+use Rattle.ipld_tree.specs.Tree.{text, Items, Entries, no_entries, entry}
+use Rattle.ipld_tree.specs.Spelling.{item_count, entry_count, IsFront, AreFronts}
 use Rattle.dagcbor_items.specs.Majors.{LacksForString}
 use Rattle.dagcbor_items.specs.Places.{Follows}
 use Rattle.dagcbor_read.specs.Deserializers.{DeState, Call}
@@ -14,6 +14,7 @@ use Rattle.dagcbor_read.specs.Options.{EntersSome, RefusesToEnter}
 use Rattle.dagcbor_read.specs.Enums.{EnumState, SpendsEnum, ReadsName, BeginsHeld}
 use Rattle.dagcbor_read.specs.Accessors.{AccessorState, accessor_state, BeginsItems, KeepsKey, EndsItems}
 use Rattle.dagcbor_read.specs.declared.access.accessor.Accessor.{Accessor}
+use Rattle.dagcbor_read.specs.declared.access.enum_accessor.EnumAccessor.{EnumAccessor}
 
 -- ---- what types answer
 
@@ -151,16 +152,30 @@ HandsFirstOn answers left steps lends result = (start now : DeState)
 
 -- ---- how a part of many is handed on
 
--- bytes that are known were read on, and nothing has failed
-pub record IsFurther (old now : DeState) : Type 0 where
+-- If the bytes are known, whole parts stood there and were passed, as `passes` says of the bytes
+-- left before and after. The reader is else as it was, and nothing has failed.
+pub record IsPast (passes : List ℕ → List ℕ → Type 0) (old now : DeState) : Type 0 where
   pub sound : now.failed ≡ false
+  pub same : Stays old.input now.input
   pub passed : (b : List ℕ) → old.input.left ≡ Some b
-      → (front rest : List ℕ) × (b ≡ front ++ rest) × (now.input.left ≡ Some rest)
+      → (c : List ℕ) × passes b c × (now.input.left ≡ Some c)
 
--- The refusal came further on.
-abbrev pub RefusesFurther : {E : Type 0} → (DeState → DecodeError E → DeState → Type 0) → DeState
-    → DecodeError E → DeState → Type 0
-RefusesFurther refuses old e new = (now : DeState) × IsFurther old now × refuses now e new
+-- The refusal came after these parts.
+abbrev pub RefusesPast : {E : Type 0} → (List ℕ → List ℕ → Type 0)
+    → (DeState → DecodeError E → DeState → Type 0) → DeState → DecodeError E → DeState → Type 0
+RefusesPast passes refuses old e new = (now : DeState) × IsPast passes old now × refuses now e new
+
+-- so many whole items stand from b on, and then c is left
+abbrev pub PassesItems : ℕ → List ℕ → List ℕ → Type 0
+PassesItems count b c = (ts : Items) × (item_count ts ≡ count) × AreFronts b ts c
+
+-- this text stands from b on, whole, and then c is left
+abbrev pub PassesText : List ℕ → List ℕ → List ℕ → Type 0
+PassesText s b c = IsFront b (text s) c
+
+-- a key stands from b on, whole, that may come after the last one; then c is left
+abbrev pub PassesKey : Option (List ℕ) → List ℕ → List ℕ → Type 0
+PassesKey last b c = (key : List ℕ) × Follows last key × PassesText key b c
 
 -- A group of fields was refused, or what stands behind it.
 abbrev pub RefusesEither : {E : Type 0} → (DeState → DecodeError E → DeState → Type 0)
@@ -189,13 +204,10 @@ PassesEntries no_entries b before c last = (c ≡ b) × (last ≡ before)
 PassesEntries (entry k t es) b before c last = (at d : List ℕ) × IsFront b (text k) at
     × Follows before k × IsFront at t d × PassesEntries es d (Some k) c last
 
--- Where bytes are known, whole entries stood there, fewer than a map had left, and this is the last
--- key. Nothing has failed.
-pub record IsAtKey (begun : AccessorState) (old now : DeState) (last : Option (List ℕ)) : Type 0 where
-  pub sound : now.failed ≡ false
-  pub stands : (b : List ℕ) → old.input.left ≡ Some b
-      → (es : Entries) × (c : List ℕ) × PassesEntries es b begun.last c last
-      × (entry_count es < begun.left) × (now.input.left ≡ Some c)
+-- from b on whole entries stand, fewer than a map has left, and this is the last key; then c is left
+abbrev pub PassesFewer : AccessorState → Option (List ℕ) → List ℕ → List ℕ → Type 0
+PassesFewer begun last b c = (es : Entries) × (entry_count es < begun.left)
+    × PassesEntries es b begun.last c last
 
 -- a key was refused, after the last one; memory is wanting only for a text of some bytes
 abbrev pub RefusesKeyHere : {E : Type 0} → Option (List ℕ) → DeState → DecodeError E → DeState
@@ -203,16 +215,17 @@ abbrev pub RefusesKeyHere : {E : Type 0} → Option (List ℕ) → DeState → D
 RefusesKeyHere last old e new = ((kept : Option (List ℕ)) × Call (KeepsKey last kept) old (Err e) new)
     × LacksForString 3 old.input.left e
 
--- an entry was refused, after the last key: its own key, or the value behind it
+-- an entry was refused, after the last key: its own key, or the value after it
 abbrev pub RefusesEntry : {E : Type 0} → (DeState → DecodeError E → DeState → Type 0)
     → Option (List ℕ) → DeState → DecodeError E → DeState → Type 0
-RefusesEntry refuses last old e new = RefusesKeyHere last old e new ⊎ RefusesFurther refuses old e new
+RefusesEntry refuses last old e new = RefusesKeyHere last old e new
+    ⊎ RefusesPast (PassesKey last) refuses old e new
 
 -- one of the entries that a map has left was refused, after whole ones
 abbrev pub RefusesEntries : {E : Type 0} → (DeState → DecodeError E → DeState → Type 0)
     → AccessorState → DeState → DecodeError E → DeState → Type 0
-RefusesEntries refuses begun old e new = (now : DeState) × (last : Option (List ℕ))
-    × IsAtKey begun old now last × RefusesEntry refuses last now e new
+RefusesEntries refuses begun old e new = (last : Option (List ℕ))
+    × RefusesPast (PassesFewer begun last) (RefusesEntry refuses last) old e new
 
 -- A map was not begun, under its name; or one of its entries was refused.
 abbrev pub RefusesFieldsAs : {E : Type 0} → (DeState → DecodeError E → DeState → Type 0)
@@ -246,46 +259,65 @@ IfRefused refuses old result new = old.failed ≡ false → IfErr result (λ e. 
 -- ---- how an item of a list is handed on
 
 -- An item was refused; or it was read, and there is no memory to keep it.
-abbrev pub RefusesItems : {T E : Type 0} → (DeState → Result T (DecodeError E) → DeState → Type 0)
+abbrev pub RefusesItem : {T E : Type 0} → (DeState → Result T (DecodeError E) → DeState → Type 0)
     → DeState → DecodeError E → DeState → Type 0
-RefusesItems answers = RefusesFurther (λ old e new. IsPartsRefusal answers old e new
-    ⊎ ((e ≡ OutOfMemory) × (new ≡ old)))
+RefusesItem answers old e new = IsPartsRefusal answers old e new
+    ⊎ ((e ≡ OutOfMemory) × IsPast (PassesItems 1) old new)
 
--- The first part was refused, or no item is left for it; or the others were.
+-- one of so many items was refused, after whole ones
+abbrev pub RefusesItems : {T E : Type 0} → (DeState → Result T (DecodeError E) → DeState → Type 0)
+    → ℕ → DeState → DecodeError E → DeState → Type 0
+RefusesItems answers left old e new = (count : ℕ) × (count < left)
+    × RefusesPast (PassesItems count) (RefusesItem answers) old e new
+
+-- The first of so many items was refused, or none is left for it; or the others were, after it.
 abbrev pub RefusesFirstPart : {T E : Type 0} → (DeState → Result T (DecodeError E) → DeState → Type 0)
-    → (DeState → DecodeError E → DeState → Type 0) → DeState → DecodeError E → DeState → Type 0
-RefusesFirstPart answers others old e new = IsPartsRefusal answers old e new
-    ⊎ ((HasMessage (codes "Too few elements") e × (new.failed ≡ false) × (new.input ≡ old.input)) ⊎ RefusesFurther others old e new)
+    → (ℕ → DeState → DecodeError E → DeState → Type 0) → ℕ → DeState → DecodeError E → DeState
+    → Type 0
+RefusesFirstPart answers others left old e new = ((0 < left) × IsPartsRefusal answers old e new)
+    ⊎ (((left ≡ 0) × HasMessage (codes "Too few elements") e × (new.failed ≡ false) × (new.input ≡ old.input)) ⊎ ((0 < left) × RefusesPast (PassesItems 1) (others (left - 1)) old e new))
 
--- The part that may be absent was refused, or those behind it.
+-- The part that may be absent was refused; or the others were, after it if an item is left for it.
 abbrev pub RefusesOptional : {T E : Type 0}
     → (DeState → Result T (DecodeError E) → DeState → Type 0)
-    → (DeState → DecodeError E → DeState → Type 0) → DeState → DecodeError E → DeState → Type 0
-RefusesOptional answers others old e new = IsPartsRefusal answers old e new ⊎ RefusesFurther others old e new
+    → (ℕ → DeState → DecodeError E → DeState → Type 0) → ℕ → DeState → DecodeError E → DeState
+    → Type 0
+RefusesOptional answers others left old e new = ((0 < left) × IsPartsRefusal answers old e new)
+    ⊎ RefusesPast (PassesItems (min 1 left)) (others (left - 1)) old e new
 
--- items of a list that was begun are unread
-abbrev pub RefusesUnread : {E : Type 0} → AccessorState → DeState → DecodeError E → DeState → Type 0
-RefusesUnread begun old e new = (new.failed ≡ true)
-    × ((left : ℕ) × EndsItems (record begun { left = left }) old.input (Err e) new.input)
+-- parts of a list or map that was begun are unread, after so many that were read
+abbrev pub RefusesUnread : {E : Type 0} → ℕ → AccessorState → DeState → DecodeError E → DeState
+    → Type 0
+RefusesUnread count begun old e new = (new.failed ≡ true)
+    × EndsItems (record begun { left = begun.left - count }) old.input (Err e) new.input
 
--- The row of items was refused; or some are unread behind it.
-abbrev pub RefusesRest : {E : Type 0} → (DeState → DecodeError E → DeState → Type 0)
-    → AccessorState → DeState → DecodeError E → DeState → Type 0
-RefusesRest refuses begun old e new = refuses old e new
-    ⊎ RefusesFurther (RefusesUnread begun) old e new
+-- The row of items was refused; or some are unread after those that it takes.
+abbrev pub RefusesRest : {E : Type 0} → (ℕ → ℕ)
+    → (ℕ → DeState → DecodeError E → DeState → Type 0) → AccessorState → DeState → DecodeError E
+    → DeState → Type 0
+RefusesRest takes refuses begun old e new = refuses begun.left old e new
+    ⊎ RefusesPast (PassesItems (takes begun.left)) (RefusesUnread (takes begun.left) begun) old e new
 
 -- A list was not begun, under its name; or its row of items was refused, or some are unread.
-abbrev pub RefusesListAs : {E : Type 0} → (DeState → DecodeError E → DeState → Type 0) → List ℕ
-    → DeState → DecodeError E → DeState → Type 0
-RefusesListAs refuses name = RefusesWithin (BeginsItems 4 name 1) (RefusesRest refuses)
+abbrev pub RefusesListAs : {E : Type 0} → (ℕ → ℕ)
+    → (ℕ → DeState → DecodeError E → DeState → Type 0) → List ℕ → DeState → DecodeError E → DeState
+    → Type 0
+RefusesListAs takes refuses name = RefusesWithin (BeginsItems 4 name 1) (RefusesRest takes refuses)
 
 -- ---- how what a variant holds is handed on
 
--- The enum was not begun, under its name; or its variant's name was refused, or what is behind that.
+-- a variant's name was refused, or what is after it
+abbrev pub RefusesNamed : {E : Type 0} → (DeState → DecodeError E → DeState → Type 0) → DeState
+    → DecodeError E → DeState → Type 0
+RefusesNamed refuses old e new = ((new.failed ≡ true) × ReadsName old.input (Err e) new.input)
+    ⊎ RefusesPast (PassesKey None) refuses old e new
+
+-- The enum was not begun, under its name; or it was, and its variant was refused.
 abbrev pub RefusesEnumAs : {E : Type 0} → (DeState → DecodeError E → DeState → Type 0) → List ℕ
     → DeState → DecodeError E → DeState → Type 0
-RefusesEnumAs refuses name old e new = ((new.failed ≡ true) × SpendsEnum name old.input (Err e) new.input)
-    ⊎ RefusesFurther (λ mid x now. ((now.failed ≡ true) × ReadsName mid.input (Err x) now.input) ⊎ refuses mid x now) old e new
+RefusesEnumAs {E} refuses name old e new = ((new.failed ≡ true) × SpendsEnum name old.input (Err e) new.input)
+    ⊎ ((a : EnumAccessor) × (mid : DeState) × (mid.failed ≡ false) × SpendsEnum {E = E} name old.input (Ok a) mid.input
+    × RefusesNamed refuses mid e new)
 
 -- The fields that a variant holds were not begun; or one of their entries was refused.
 abbrev pub RefusesHeldFields : {E : Type 0} → (DeState → DecodeError E → DeState → Type 0)

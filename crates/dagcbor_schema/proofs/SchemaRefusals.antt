@@ -1,23 +1,20 @@
 -- What calls answer beside the law, taken from what the calls below them answer.
-use Rattle.std.proofs.Common.{◌≡◌, ℕ, ◌-◌, List, false, sym, ap, subst, ◌∙◌, inl, inr, Result, Ok, Err, IsErrAnd, codes}
+use Rattle.std.proofs.Common.{◌≡◌, ℕ, ◌-◌, List, refl, arith, sym, ap, subst, ◌∙◌, inl, inr, Result, Ok, Err, IsErrAnd, codes}
 use Rattle.dagcbor_heads.specs.Looking.{Looks}
 use Rattle.dagcbor_heads.specs.declared.error.DecodeError.{DecodeError}
 use Rattle.dagcbor_heads.specs.declared.error.DecodeError.TheVariants.{LengthMismatch}
-use Rattle.ipld_tree.specs.Tree.{text}
-use Rattle.ipld_tree.specs.Spelling.{spelling}
 use Rattle.dagcbor_items.specs.AnsweredVariants.{OfText}
 use Rattle.dagcbor_items.specs.LeafReads.{ReadsStr}
-use Rattle.dagcbor_items.specs.Untyped.{TakesItem}
 use Rattle.dagcbor_decode.specs.declared.kind.Kind.{Kind}
 use Rattle.dagcbor_read.specs.Accessors.{AccessorState, EndsItems, LeavesUnread, with_key, with_value}
 use Rattle.dagcbor_read.specs.Deserializers.{DeState, Call}
 use Rattle.dagcbor_read.specs.EnumViews.{EnumShape, part_of}
-use Rattle.dagcbor_read.specs.Parts.{ReadsStringOnce, IsPartsRefusal, IsFurther}
+use Rattle.dagcbor_read.specs.Parts.{ReadsStringOnce, IsPartsRefusal}
 use Rattle.dagcbor_read.specs.Values.{ReadsValue}
-use Rattle.dagcbor_read.proofs.Handing.{front_further, further_both}
+use Rattle.dagcbor_read.proofs.Handing.{item_past, text_past}
 use Rattle.dagcbor_read.proofs.Progressing.{call_told}
 use Rattle.dagcbor_schema.specs.declared.by_kind.ByKind.{ByKind}
-use Rattle.dagcbor_schema.specs.SchemaAnswers.{PeeksOnce, AnswersOfKind, AnswersByKind, RefusesNamedKey, RefusesBehindTag, RefusesEnvelope}
+use Rattle.dagcbor_schema.specs.SchemaAnswers.{PeeksOnce, AnswersOfKind, AnswersByKind, RefusesNamedKey, RefusesContent, RefusesTagged, RefusesTag, RefusesEnvelope}
 use Rattle.dagcbor_schema.proofs.EnvelopeFronts.{AtFirstKey, AtTold, AtSecondKey, AtHeld}
 
 -- the refusal that `?` hands on
@@ -37,9 +34,6 @@ module _ {E B I T Y L M K : Type 0} (of_bool : DeState → Result B (DecodeError
 
 -- ---- an envelope
 
-item_further : {old now : DeState} {key : List ℕ} → now.failed ≡ false → TakesItem 1 old.input (text key) now.input → IsFurther old now
-item_further {old} {now} {key} sound h = record { sound = sound; passed = λ b l. let q = h.taken b l in (spelling (text key), q.0, q.1.is, q.3) }
-
 module _ {V E : Type 0} (tag content : List ℕ) (shape : EnumShape V) (refuses : DeState → DecodeError E → DeState → Type 0) where
   abbrev Refused : DeState → DecodeError E → DeState → Type 0
   Refused = RefusesEnvelope tag content refuses
@@ -47,33 +41,33 @@ module _ {V E : Type 0} (tag content : List ℕ) (shape : EnumShape V) (refuses 
   pub tag_told : {old mid new : DeState} {entries : AccessorState} {e : DecodeError E} → AtFirstKey tag content shape old entries mid → RefusesNamedKey tag entries.last entries.left mid e new → Refused old e new
   tag_told {old} {mid} {new} {entries} {e} s r = inr (s.accessor, mid, s.sound, s.begun, inl (subst (λ (c : AccessorState). RefusesNamedKey tag c.last c.left mid e new) (sym s.is) r))
 
-  behind : {old mid now new : DeState} {before : AccessorState} {e : DecodeError E} → AtFirstKey tag content shape old before mid → IsFurther mid now → RefusesBehindTag tag content refuses before now e new → Refused old e new
-  behind {old} {mid} {now} {new} {before} {e} s i r = inr (s.accessor, mid, s.sound, s.begun, inr (now, i, subst (λ c. RefusesBehindTag tag content refuses c now e new) (sym s.is) r))
+  -- what is after the tag's key, after the tag, and after the content's key
+  at_tag : {old now new : DeState} {entries : AccessorState} {e : DecodeError E} (s : AtTold tag content shape old entries now) → RefusesTag tag content refuses s.before now e new → Refused old e new
+  at_tag {old} {now} {new} {entries} {e} s r =
+      let first = s.begun in
+      inr (first.accessor, s.mid, first.sound, first.begun, inr (now, text_past s.sound s.key, subst (λ c. RefusesTag tag content refuses c now e new) (sym first.is) r))
 
-  told_further : {old now : DeState} {entries : AccessorState} (s : AtTold tag content shape old entries now) → IsFurther s.mid now
-  told_further s = item_further s.sound s.key
+  at_tagged : {name : List ℕ} {old now new : DeState} {entries : AccessorState} {e : DecodeError E} (s : AtSecondKey tag content shape name old entries now) → RefusesTagged tag content refuses s.begun.before now e new → Refused old e new
+  at_tagged {name} {old} {now} s r = at_tag s.begun (inr (now, item_past refl s.sound s.told, r))
 
-  second_further : {name : List ℕ} {old now : DeState} {entries : AccessorState} (s : AtSecondKey tag content shape name old entries now) → IsFurther s.begun.mid now
-  second_further s = further_both (told_further s.begun) (front_further s.sound s.told)
-
-  held_further : {name : List ℕ} {old now : DeState} {entries : AccessorState} (s : AtHeld tag content shape name old entries now) → IsFurther s.begun.begun.mid now
-  held_further s = further_both (second_further s.begun) (item_further s.sound s.key)
+  at_content : {name : List ℕ} {old now new : DeState} {entries : AccessorState} {e : DecodeError E} (s : AtHeld tag content shape name old entries now) → RefusesContent refuses s.begun.begun.before now e new → Refused old e new
+  at_content {name} {old} {now} s r = at_tagged s.begun (inr (now, text_past s.sound s.key, r))
 
   pub name_told : {old mid new : DeState} {entries : AccessorState} {e : DecodeError E} → AtTold tag content shape old entries mid → IsPartsRefusal (ReadsStringOnce 3 (ReadsStr (codes "string")) (Looks 3) OfText) mid e new → Refused old e new
-  name_told s r = behind s.begun (told_further s) (inl r)
+  name_told s r = at_tag s (inl r)
 
   pub content_told : {name : List ℕ} {old mid new : DeState} {entries : AccessorState} {e : DecodeError E} → AtSecondKey tag content shape name old entries mid → RefusesNamedKey content entries.last entries.left mid e new → Refused old e new
   content_told {name} {old} {mid} {new} {entries} {e} s r =
       let is : entries ≡ with_value (with_key tag s.begun.before) = s.after ∙ ap with_value s.begun.after in
       let named = subst (λ (c : AccessorState). RefusesNamedKey content c.last c.left mid e new) is r in
-      behind s.begun.begun (second_further s) (inr (inl named))
+      at_tagged s (inl named)
 
   pub held_told : {name : List ℕ} {old mid new : DeState} {entries : AccessorState} {e : DecodeError E} → AtHeld tag content shape name old entries mid → refuses mid e new → Refused old e new
-  held_told s r = behind s.begun.begun.begun (held_further s) (inr (inr (inl r)))
+  held_told s r = at_content s (inl r)
 
   -- what an accessor leaves unread is the same for one that read two keys
-  two_read : (c : AccessorState) (e : DecodeError E) → LeavesUnread (with_value (with_key content (with_value (with_key tag c)))) e → LeavesUnread (record c { left = c.left - 1 - 1 }) e
-  two_read c (LengthMismatch name expect value) h = h
+  two_read : (c : AccessorState) (e : DecodeError E) → LeavesUnread (with_value (with_key content (with_value (with_key tag c)))) e → LeavesUnread (record c { left = c.left - 2 }) e
+  two_read c (LengthMismatch name expect value) h = (h.0, omega (arith, h.1), h.2)
   two_read c _ h = absurd h
 
   pub unread_told : {T : Type 0} {name text' : List ℕ} {old mid now new : DeState} {entries : AccessorState} (meaning : T → V) (v : T) (end : AccessorState) (e : DecodeError E) → AtHeld tag content shape name old entries mid
@@ -85,4 +79,4 @@ module _ {V E : Type 0} (tag content : List ℕ) (shape : EnumShape V) (refuses 
       let is : end ≡ with_value (with_key content (with_value (with_key tag first))) =
       after ∙ ap with_value (s.after ∙ ap (λ c. with_key content c) (s.begun.after ∙ ap with_value s.begun.begun.after)) in
       let u = subst (λ (c : AccessorState). EndsItems c now.input (Err e) new.input) is q.1 in
-      behind s.begun.begun.begun (further_both (held_further s) (front_further k.0 k.1)) (inr (inr (inr (q.0, (first.left - 1 - 1, (u.0, two_read first e u.1, u.2))))))
+      at_content s (inr (now, item_past refl k.0 k.1, (q.0, (omega (arith, u.0), two_read first e u.1, u.2))))

@@ -1,5 +1,5 @@
 -- What reading these answers beside the law: why it is refused, and what stands then.
-use Rattle.std.specs.Prelude.{◌≡◌, ◌≢◌, ◌⊎◌, ◌-◌, ◌<◌, ℕ, true, false, List, Option, None, Some, Result, Ok, Err, IfErr, IsErrAnd, MatchResult, codes}
+use Rattle.std.specs.Prelude.{◌≡◌, ◌≢◌, ◌⊎◌, ◌-◌, ◌<◌, ℕ, List, Option, None, Some, Result, Ok, Err, IfErr, IsErrAnd, MatchResult, codes}
 use Rattle.std.specs.Cow.{cow_str_bytes}
 use Rattle.std.specs.declared.borrow.CowStr.{CowStr}
 use Rattle.std.specs.declared.alloc.Global.{Global}
@@ -13,7 +13,7 @@ use Rattle.dagcbor_decode.specs.declared.kind.Kind.TheVariants as kinds
 use Rattle.dagcbor_read.specs.Accessors.{AccessorState, BeginsItems, ReadsNextKey}
 use Rattle.dagcbor_read.specs.Deserializers.{DeState, Call}
 use Rattle.dagcbor_read.specs.Kinds.{PeeksKind, OfPeek}
-use Rattle.dagcbor_read.specs.Parts.{ReadsOnce, ReadsStringOnce, IsPartsRefusal, RefusesFurther, RefusesWithin, RefusesUnread, HasMessage}
+use Rattle.dagcbor_read.specs.Parts.{ReadsOnce, ReadsStringOnce, IsPartsRefusal, PassesItems, PassesText, RefusesPast, RefusesWithin, RefusesUnread, HasMessage}
 use Rattle.dagcbor_schema.specs.declared.by_kind.ByKind.{ByKind}
 use Rattle.dagcbor_schema.specs.declared.by_kind.ByKind.TheVariants as told
 
@@ -86,21 +86,32 @@ abbrev pub RefusesNamedKey : {E : Type 0} → List ℕ → Option (List ℕ) →
 RefusesNamedKey {E} name last left old e new = ReadsKeyOnce last left old (Err e) new
     ⊎ ((key : Option (CowStr Global)) × ReadsKeyOnce {E = E} last left old (Ok key) new × IsOtherKey name key e)
 
--- Behind the tag's key its text was refused, or the content's key, or what the content holds, or
--- entries are unread.
-abbrev pub RefusesBehindTag : {E : Type 0} → (tag content : List ℕ)
+-- what the content holds was refused; or it was read, and entries are unread after these two
+abbrev pub RefusesContent : {E : Type 0} → (DeState → DecodeError E → DeState → Type 0)
+    → AccessorState → DeState → DecodeError E → DeState → Type 0
+RefusesContent refuses begun old e new = refuses old e new
+    ⊎ RefusesPast (PassesItems 1) (RefusesUnread 2 begun) old e new
+
+-- the content's key was refused, or what is after it
+abbrev pub RefusesTagged : {E : Type 0} → (tag content : List ℕ)
     → (DeState → DecodeError E → DeState → Type 0) → AccessorState → DeState → DecodeError E
     → DeState → Type 0
-RefusesBehindTag tag content refuses begun old e new =
-    IsPartsRefusal (ReadsStringOnce 3 (ReadsStr (codes "string")) (Looks 3) OfText) old e new
-    ⊎ (RefusesNamedKey content (Some tag) (begun.left - 1) old e new ⊎ (refuses old e new ⊎ RefusesUnread begun old e new))
+RefusesTagged tag content refuses begun old e new = RefusesNamedKey content (Some tag) (begun.left - 1) old e new
+    ⊎ RefusesPast (PassesText content) (RefusesContent refuses begun) old e new
 
--- The first of the keys was refused, or is not the tag's; or what is behind that was.
+-- the tag was refused, or what is after it
+abbrev pub RefusesTag : {E : Type 0} → (tag content : List ℕ)
+    → (DeState → DecodeError E → DeState → Type 0) → AccessorState → DeState → DecodeError E
+    → DeState → Type 0
+RefusesTag tag content refuses begun old e new = IsPartsRefusal (ReadsStringOnce 3 (ReadsStr (codes "string")) (Looks 3) OfText) old e new
+    ⊎ RefusesPast (PassesItems 1) (RefusesTagged tag content refuses begun) old e new
+
+-- the first of the keys was refused, or is not the tag's; or what is after it was refused
 abbrev pub RefusesTold : {E : Type 0} → (tag content : List ℕ)
     → (DeState → DecodeError E → DeState → Type 0) → AccessorState → DeState → DecodeError E
     → DeState → Type 0
 RefusesTold tag content refuses begun old e new = RefusesNamedKey tag begun.last begun.left old e new
-    ⊎ RefusesFurther (RefusesBehindTag tag content refuses begun) old e new
+    ⊎ RefusesPast (PassesText tag) (RefusesTag tag content refuses begun) old e new
 
 -- The map was not begun, or what it holds was refused.
 abbrev pub RefusesEnvelope : {E : Type 0} → (tag content : List ℕ)

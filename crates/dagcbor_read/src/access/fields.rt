@@ -6,7 +6,7 @@ ghost use Rattle.dagcbor_items.specs.Shapes.{ignored_item};
 ghost use Rattle.dagcbor_items.specs.Looks.{LooksAtAny};
 ghost use Rattle.dagcbor_items.specs.LeafReads.{ReadsIgnored};
 ghost use Rattle.dagcbor_items.specs.AnsweredVariants.{OfItem};
-ghost use Rattle.dagcbor_read.specs.Parts.{ReadsOnce, FillsAs, RefusesFurther, RefusesEntry};
+ghost use Rattle.dagcbor_read.specs.Parts.{ReadsOnce, FillsAs, RefusesPast, PassesKey, RefusesEntry};
 ghost use Rattle.dagcbor_read.specs.Parts.{RefusesFieldsAs, IfRefused, RefusesEntries};
 ghost use Rattle.dagcbor_heads.specs.declared.error.DecodeError.{DecodeError};
 ghost use Rattle.dagcbor_read.specs.Deserializers.{DeState, de_state, StaysFailed, Over};
@@ -87,8 +87,8 @@ pub trait Fields<'de>: Sized + Drop {
             (accessor_state entries.old) (de_state R.reading de.old) result refusal.new
             (state places.new) (accessor_state entries.new) (de_state R.reading de.new) }
         ensures refuses { IfSome refusal.new
-            (λ e. RefusesFurther Self.refuses (de_state R.reading de.old) e
-            (de_state R.reading de.new)) };
+            (λ e. RefusesPast (PassesKey (accessor_state entries.old).last) Self.refuses
+            (de_state R.reading de.old) e (de_state R.reading de.new)) };
 
     /// What the places make once all was read, or none if a field is missing.
     fn finish(places: Self::Places) -> Option<Self>

@@ -14,7 +14,7 @@ ghost use Rattle.dagcbor_read.specs.Joining.{behind_first, field_own, own_of_bot
 ghost use Rattle.dagcbor_read.specs.JoiningLaws.{field_joins, required_finish, optional_finish};
 ghost use Rattle.dagcbor_read.specs.JoiningLaws.{omissible_finish, both_join, both_finish};
 ghost use Rattle.dagcbor_read.specs.Named.{ReadsNamedValue};
-ghost use Rattle.dagcbor_read.specs.Parts.{HandsOptionOn, RefusesEither, RefusesFurther};
+ghost use Rattle.dagcbor_read.specs.Parts.{HandsOptionOn, RefusesEither, RefusesPast, PassesKey};
 ghost use Rattle.dagcbor_read.specs.Structs.{texts, places, finish_required, finish_optional};
 ghost use Rattle.dagcbor_read.specs.Structs.{finish_omissible};
 ghost use Rattle.dagcbor_read.specs.Values.{ReadsValue};
@@ -129,8 +129,8 @@ pub trait FieldGroup<'de>: Sized + Drop {
             (accessor_state entries.old) (de_state R.reading de.old) result refusal.new
             (own_state own.new) (accessor_state entries.new) (de_state R.reading de.new) }
         ensures refuses { IfSome refusal.new
-            (λ e. RefusesFurther Self.own_refuses (de_state R.reading de.old) e
-            (de_state R.reading de.new)) };
+            (λ e. RefusesPast (PassesKey (accessor_state entries.old).last) Self.own_refuses
+            (de_state R.reading de.old) e (de_state R.reading de.new)) };
 
     /// What was read, once all was, or none if a field is missing.
     fn finish_own(own: Self::Own) -> Option<Self>
@@ -223,7 +223,8 @@ fn read_first_named<'de, T: Deserialize<'de>, R: Read>(
         (option_map T.meaning own.old) (accessor_state entries.old) (de_state R.reading de.old)
         result refusal.new (option_map T.meaning own.new) (accessor_state entries.new)
         (de_state R.reading de.new) }
-    ensures refuses { IfSome refusal.new (λ e. RefusesFurther
+    ensures refuses { IfSome refusal.new
+        (λ e. RefusesPast (PassesKey (accessor_state entries.old).last)
         (λ old x new. T.answers old (Err x) new) (de_state R.reading de.old) e
         (de_state R.reading de.new)) }
 {

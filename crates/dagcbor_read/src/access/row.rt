@@ -1,7 +1,7 @@
 //! What the items of a list make: a vector, or the parts of a tuple of any number.
 
-ghost use Rattle.std.specs.Prelude.{◌≡◌, ◌+◌, ◌≤◌, Bool, List, map, false, ⊤, IfOk, IfErr, All};
-ghost use Rattle.std.specs.Prelude.{codes, Option, option_map, IfSome};
+ghost use Rattle.std.specs.Prelude.{◌≡◌, ◌+◌, ◌-◌, ◌≤◌, ℕ, min, Bool, List, map, false, ⊤, IfOk};
+ghost use Rattle.std.specs.Prelude.{IfErr, All, codes, Option, option_map, IfSome};
 ghost use Rattle.ipld_tree.specs.Tree.{Items};
 ghost use Rattle.dagcbor_heads.specs.declared.error.DecodeError.{DecodeError};
 ghost use Rattle.dagcbor_read.specs.Deserializers.{DeState, de_state, StaysFailed, Over};
@@ -32,8 +32,11 @@ pub trait Row<'de>: Sized + Drop {
     /// Where the parts are in memory, for an input that lends and for one that does not.
     ghost lies: { Bool → Self → Type 0 };
 
-    /// How the items are refused, beside the law.
-    ghost refuses: { {E : Type 0} → DeState → DecodeError E → DeState → Type 0 };
+    /// How many items it takes if so many are left.
+    ghost takes: { ℕ → ℕ };
+
+    /// How the items are refused if so many are left, beside the law.
+    ghost refuses: { {E : Type 0} → ℕ → DeState → DecodeError E → DeState → Type 0 };
 
     /// Reads from the first item that is left on.
     fn read_row<R: Read>(
@@ -47,8 +50,11 @@ pub trait Row<'de>: Sized + Drop {
             (de_state R.reading de.old) result (accessor_state items.new)
             (de_state R.reading de.new) }
         ensures lies { IfOk result (Self.lies (de_state R.reading de.old).input.lends) }
+        ensures counted { IfOk result (λ _. (accessor_state items.new).left ≡
+            (accessor_state items.old).left - Self.takes (accessor_state items.old).left) }
         ensures refuses { IfErr result
-            (λ e. Self.refuses (de_state R.reading de.old) e (de_state R.reading de.new)) };
+            (λ e. Self.refuses (accessor_state items.old).left (de_state R.reading de.old) e
+            (de_state R.reading de.new)) };
 }
 
 impl<'de, T: Deserialize<'de>> Row<'de> for Vec<T> {
@@ -59,6 +65,8 @@ impl<'de, T: Deserialize<'de>> Row<'de> for Vec<T> {
     ghost shape = { all_of T.shape };
 
     ghost lies = { λ lends v. All (T.lies lends) v.items };
+
+    ghost takes = { λ left. left };
 
     ghost refuses = { RefusesItems T.answers };
 
@@ -87,7 +95,9 @@ impl<'de> Row<'de> for () {
 
     ghost lies = { λ lends u. ⊤ };
 
-    ghost refuses = { λ old e new. ⊥ };
+    ghost takes = { λ left. 0 };
+
+    ghost refuses = { λ left old e new. ⊥ };
 
     fn read_row<R: Read>(
         _alloc: Global,
@@ -106,6 +116,8 @@ impl<'de, T: Deserialize<'de>, L: Row<'de>> Row<'de> for (T, L) {
     ghost shape = { first_then T.shape L.shape };
 
     ghost lies = { λ lends p. T.lies lends p.0 × L.lies lends p.1 };
+
+    ghost takes = { λ left. 1 + L.takes (left - 1) };
 
     ghost refuses = { RefusesFirstPart T.answers L.refuses };
 
@@ -134,6 +146,8 @@ impl<'de, T: Deserialize<'de>, L: Row<'de>> Row<'de> for OmissibleItem<T, L> {
     ghost shape = { optional_then T.shape L.shape };
 
     ghost lies = { λ lends p. IfSome p.0 (T.lies lends) × L.lies lends p.1 };
+
+    ghost takes = { λ left. min 1 left + L.takes (left - 1) };
 
     ghost refuses = { RefusesOptional T.answers L.refuses };
 
@@ -166,8 +180,8 @@ pub(crate) fn read_rest<'de, L: Row<'de>, R: Read>(
     ensures rest { Over R.reading
         (ReadsRest L.meaning L.shape (accessor_state items.entry)) de.old result de.new }
     ensures lies { IfOk result (L.lies (de_state R.reading de.old).input.lends) }
-    ensures refuses { IfErr result (λ e. RefusesRest L.refuses (accessor_state items.entry)
-        (de_state R.reading de.old) e (de_state R.reading de.new)) }
+    ensures refuses { IfErr result (λ e. RefusesRest L.takes L.refuses
+        (accessor_state items.entry) (de_state R.reading de.old) e (de_state R.reading de.new)) }
 {
     let mut items = items;
     let row = L::read_row(alloc, &mut items, de)?;
@@ -186,7 +200,7 @@ pub fn read_tuple<'de, L: Row<'de>, R: Read>(
     ensures failed { Over R.reading StaysFailed de.old result de.new }
     ensures lies { IfOk result (L.lies (de_state R.reading de.old).input.lends) }
     ensures refuses { Over R.reading
-        (IfRefused (RefusesListAs L.refuses (codes "tuple"))) de.old result de.new }
+        (IfRefused (RefusesListAs L.takes L.refuses (codes "tuple"))) de.old result de.new }
 {
     let items = de.deserialize_tuple(len)?;
     read_rest(alloc, items, de)

@@ -72,7 +72,7 @@ impl<T: Shown> Shown for Vec<T> {
 impl<'de, T: Deserialize<'de>> Deserialize<'de> for Vec<T> {
     ghost lies = { λ lends v. All (T.lies lends) v.items };
 
-    ghost answers = { IfRefused (RefusesListAs (RefusesItems T.answers) (codes "array")) };
+    ghost answers = { IfRefused (RefusesListAs (λ left. left) (RefusesItems T.answers) (codes "array")) };
 
     fn deserialize<R: Read>(alloc: Global, de: &mut Deserializer<'de, R>) -> ReadResult<Self, R> {
         let items = de.deserialize_seq()?;

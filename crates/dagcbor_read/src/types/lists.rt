@@ -22,7 +22,7 @@ impl<A: Shown> Shown for (A,) {
 impl<'de, A: Deserialize<'de>> Deserialize<'de> for (A,) {
     ghost lies = { λ lends p. A.lies lends p.0 };
 
-    ghost answers = { IfRefused (RefusesListAs (RefusesFirstPart A.answers (λ old e new. ⊥)) (codes "tuple")) };
+    ghost answers = { IfRefused (RefusesListAs (λ left. 1) (RefusesFirstPart A.answers (λ left old e new. ⊥)) (codes "tuple")) };
 
     fn deserialize<R: Read>(alloc: Global, de: &mut Deserializer<'de, R>) -> ReadResult<Self, R> {
         let (first, ()) = read_tuple(alloc, 1, de)?;
@@ -45,7 +45,7 @@ impl<A: Shown, B: Shown> Shown for (A, B) {
 impl<'de, A: Deserialize<'de>, B: Deserialize<'de>> Deserialize<'de> for (A, B) {
     ghost lies = { λ lends p. A.lies lends p.0 × B.lies lends p.1 };
 
-    ghost answers = { IfRefused (RefusesListAs (RefusesFirstPart A.answers (RefusesFirstPart B.answers (λ old e new. ⊥))) (codes "tuple")) };
+    ghost answers = { IfRefused (RefusesListAs (λ left. 2) (RefusesFirstPart A.answers (RefusesFirstPart B.answers (λ left old e new. ⊥))) (codes "tuple")) };
 
     fn deserialize<R: Read>(alloc: Global, de: &mut Deserializer<'de, R>) -> ReadResult<Self, R> {
         let (first, (second, ())) = read_tuple(alloc, 2, de)?;
@@ -69,7 +69,7 @@ impl<'de, A: Deserialize<'de>, B: Deserialize<'de>, C: Deserialize<'de>> Deseria
     for (A, B, C) {
     ghost lies = { λ lends p. A.lies lends p.0 × B.lies lends p.1 × C.lies lends p.2 };
 
-    ghost answers = { IfRefused (RefusesListAs (RefusesFirstPart A.answers (RefusesFirstPart B.answers (RefusesFirstPart C.answers (λ old e new. ⊥)))) (codes "tuple")) };
+    ghost answers = { IfRefused (RefusesListAs (λ left. 3) (RefusesFirstPart A.answers (RefusesFirstPart B.answers (RefusesFirstPart C.answers (λ left old e new. ⊥)))) (codes "tuple")) };
 
     fn deserialize<R: Read>(alloc: Global, de: &mut Deserializer<'de, R>) -> ReadResult<Self, R> {
         let (first, (second, (third, ()))) = read_tuple(alloc, 3, de)?;
@@ -103,7 +103,7 @@ impl<
 > Deserialize<'de> for (A, B, C, D) {
     ghost lies = { λ lends p. A.lies lends p.0 × B.lies lends p.1 × C.lies lends p.2 × D.lies lends p.3 };
 
-    ghost answers = { IfRefused (RefusesListAs (RefusesFirstPart A.answers (RefusesFirstPart B.answers (RefusesFirstPart C.answers (RefusesFirstPart D.answers (λ old e new. ⊥))))) (codes "tuple")) };
+    ghost answers = { IfRefused (RefusesListAs (λ left. 4) (RefusesFirstPart A.answers (RefusesFirstPart B.answers (RefusesFirstPart C.answers (RefusesFirstPart D.answers (λ left old e new. ⊥))))) (codes "tuple")) };
 
     fn deserialize<R: Read>(alloc: Global, de: &mut Deserializer<'de, R>) -> ReadResult<Self, R> {
         let (first, (second, (third, (fourth, ())))) = read_tuple(alloc, 4, de)?;

@@ -9,7 +9,7 @@ use Rattle.dagcbor_read.proofs.Answered.{kept_read, kept_refused, at_some}
 use Rattle.dagcbor_read.proofs.EntryRows.{no_field_so_far, key_not_read, value_not_read}
 use Rattle.dagcbor_read.proofs.Passing.{or_right}
 use Rattle.dagcbor_read.proofs.Wholes.{on_refusal}
-use Rattle.dagcbor_read.proofs.Handing.{key_further}
+use Rattle.dagcbor_read.proofs.Handing.{key_past}
 use Rattle.dagcbor_read.proofs.access.fields.read_by_key.Goals as goal
 
 pub returns-in_err-keep_key-clause-entry : goal.returns-in_err-keep_key-clause-entry
@@ -51,4 +51,4 @@ returns-in_err-keep_key-clause-refuses g c = on_refusal _ _ _ c.from_residual.en
 pub returns-in_err-read_field-clause-refuses : goal.returns-in_err-read_field-clause-refuses
 returns-in_err-read_field-clause-refuses g c =
     let k = kept_read g.row.R-Error.Denot _ (accessor_state c.keep_key.new.self).last (accessor_state c.args.entries.now).left (de_state g.R.Read.reading c.args.de.now) (de_state g.R.Read.reading c.keep_key.new.de) _ c.requires.some c.in_ok-keep_key.ensures.key in
-    on_refusal _ _ _ c.from_residual-in_err-read_field.ensures.1 (inr (_, key_further k.2, c.in_err-read_field.ensures.refuses))
+    on_refusal _ _ _ c.from_residual-in_err-read_field.ensures.1 (inr (_, key_past _ k.2.sound k.2.follows k.2.takes, c.in_err-read_field.ensures.refuses))

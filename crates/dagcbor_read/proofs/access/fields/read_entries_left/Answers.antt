@@ -7,7 +7,7 @@ use Rattle.dagcbor_read.proofs.Progressing.{call_answered, call_told}
 use Rattle.dagcbor_read.proofs.EntryRows.{all_fields_read, no_field_so_far, FieldsSoFar}
 use Rattle.dagcbor_read.proofs.NamedRows.{field_so_far, named_value_refused, nothing_named, others_refused}
 use Rattle.dagcbor_read.proofs.Wholes.{on_refusal}
-use Rattle.dagcbor_read.proofs.Handing.{at_key, named_refused}
+use Rattle.dagcbor_read.proofs.Handing.{entries_past, named_refused}
 use Rattle.dagcbor_read.proofs.access.fields.read_entries_left.Goals as goal
 
 pub loop-entries-init : goal.loop-entries-init
@@ -45,13 +45,13 @@ returns-clause-entries g c =
 
 pub returns-in-Some-clause-refuses : goal.returns-in-Some-clause-refuses
 returns-in-Some-clause-refuses g c =
-    named_refused g.F.Fields.refuses _ _ _ _ _ _ _ (at_key (g.F.Fields.shape (texts c.args.names.now)) c.loop-entries.invariant (omega (arith, c.loop-entries-test.true))) c.in-Some.is c.if-read_named.ensures.refuses
+    named_refused g.F.Fields.refuses (accessor_state c.args.entries) _ _ _ _ _ _ (entries_past (g.F.Fields.shape (texts c.args.names.now)) c.loop-entries.invariant (omega (arith, c.loop-entries-test.true))) c.in-Some.is c.if-read_named.ensures.refuses
 
 pub returns-in_err-read_by_key-clause-refuses : goal.returns-in_err-read_by_key-clause-refuses
 returns-in_err-read_by_key-clause-refuses g c =
     let shape = g.F.Fields.shape (texts c.args.names.now) in
     let i = nothing_named shape c.read_named.new.refusal c.in_default.is c.loop-entries.invariant c.if-read_named.ensures.entry in
-    on_refusal _ _ _ c.from_residual.ensures.1 (_, _, at_key shape i.0 (omega (arith, c.loop-entries-test.true, ap (λ (a : AccessorState). a.left) i.1)), c.in_err-read_by_key.ensures.refuses)
+    on_refusal _ _ _ c.from_residual.ensures.1 (_, (_, entries_past shape i.0 (omega (arith, c.loop-entries-test.true, ap (λ (a : AccessorState). a.left) i.1)), c.in_err-read_by_key.ensures.refuses))
 
 pub returns-in_err-end-clause-refuses : goal.returns-in_err-end-clause-refuses
 returns-in_err-end-clause-refuses g c =

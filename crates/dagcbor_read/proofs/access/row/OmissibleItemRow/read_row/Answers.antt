@@ -1,11 +1,11 @@
-use Rattle.std.proofs.Common.{inl, inr}
+use Rattle.std.proofs.Common.{inl, inr, arith, ap}
 use Rattle.dagcbor_heads.proofs.Refusing.{as_refusal}
-use Rattle.dagcbor_read.specs.Accessors.{accessor_state}
+use Rattle.dagcbor_read.specs.Accessors.{AccessorState, accessor_state}
 use Rattle.dagcbor_read.specs.Deserializers.{de_state}
-use Rattle.dagcbor_read.proofs.Answered.{element_read, element_refused, no_element, after_some}
+use Rattle.dagcbor_read.proofs.Answered.{element_read, element_refused, no_element, after_some, after_none}
 use Rattle.dagcbor_read.proofs.ItemRows.{optional_joins, part_refused, parts_refused, parts_taken}
 use Rattle.dagcbor_read.proofs.Wholes.{on_refusal}
-use Rattle.dagcbor_read.proofs.Handing.{front_further, no_further}
+use Rattle.dagcbor_read.proofs.Handing.{item_past, none_past, others_past, others_counted}
 use Rattle.dagcbor_read.proofs.access.row.OmissibleItemRow.read_row.Goals as goal
 
 pub returns-in_err-first-clause-row : goal.returns-in_err-first-clause-row
@@ -26,14 +26,32 @@ returns-clause-row g c =
     parts_taken (optional_joins g.T.Shown.shape g.L.Row.shape) k.some after k.takes c.in_ok-others.ensures.row
 
 pub returns-in_err-first-clause-refuses : goal.returns-in_err-first-clause-refuses
-returns-in_err-first-clause-refuses g c = on_refusal _ _ _ c.from_residual.ensures.1 (inl (c.in_err-first.ensures.answers c.requires.sound))
+returns-in_err-first-clause-refuses g c =
+    let k = element_refused g.row.R-Error.Denot g.T.Shown.meaning g.T.Shown.shape _ _ (de_state g.R.Read.reading c.next_element.new.de) _ c.requires.sound c.in_err-first.ensures.element in
+    on_refusal _ _ _ c.from_residual.ensures.1 (inl (k.0, c.in_err-first.ensures.answers c.requires.sound))
 
 pub returns-in_err-none_left-clause-refuses : goal.returns-in_err-none_left-clause-refuses
 returns-in_err-none_left-clause-refuses g c =
     let k = no_element g.row.R-Error.Denot g.T.Shown.meaning g.T.Shown.shape _ (de_state g.R.Read.reading c.args.de.now) (de_state g.R.Read.reading c.next_element.new.de) _ c.in_default.is c.in_ok-first.ensures.element in
-    on_refusal _ _ _ c.from_residual-in_err-none_left.ensures.1 (inr (_, no_further k.0 k.2, c.in_err-none_left.ensures.refuses))
+    let after = after_none g.row.R-Error.Denot g.T.Shown.meaning g.T.Shown.shape _ (accessor_state c.args.items.now) _ c.in_default.is c.in_ok-first.ensures.after in
+    on_refusal _ _ _ c.from_residual-in_err-none_left.ensures.1 (inr (others_past g.L.Row.refuses (none_past (omega (arith, k.1)) k.0 k.2) (omega (arith, k.1, ap (λ (a : AccessorState). a.left) after)) c.in_err-none_left.ensures.refuses))
 
 pub returns-in_err-others-clause-refuses : goal.returns-in_err-others-clause-refuses
 returns-in_err-others-clause-refuses g c =
     let k = element_read g.row.R-Error.Denot g.T.Shown.meaning g.T.Shown.shape _ (de_state g.R.Read.reading c.args.de.now) (de_state g.R.Read.reading c.next_element.new.de) _ _ c.in-Some.is c.in_ok-first.ensures.element in
-    on_refusal _ _ _ c.from_residual-in_err-others.ensures.1 (inr (_, front_further k.sound k.takes, c.in_err-others.ensures.refuses))
+    let after = after_some g.row.R-Error.Denot g.T.Shown.meaning g.T.Shown.shape _ _ (accessor_state c.args.items.now) _ c.in-Some.is c.in_ok-first.ensures.after in
+    on_refusal _ _ _ c.from_residual-in_err-others.ensures.1 (inr (others_past g.L.Row.refuses (item_past (omega (arith, k.some)) k.sound k.takes) (ap (λ (a : AccessorState). a.left) after) c.in_err-others.ensures.refuses))
+
+pub returns-in_default-clause-counted : goal.returns-in_default-clause-counted
+returns-in_default-clause-counted g c =
+    let k = no_element g.row.R-Error.Denot g.T.Shown.meaning g.T.Shown.shape _ (de_state g.R.Read.reading c.args.de.now) (de_state g.R.Read.reading c.next_element.new.de) _ c.in_default.is c.in_ok-first.ensures.element in
+    let after = after_none g.row.R-Error.Denot g.T.Shown.meaning g.T.Shown.shape _ (accessor_state c.args.items.now) _ c.in_default.is c.in_ok-first.ensures.after in
+    let same = ap (λ (a : AccessorState). a.left) after in
+    others_counted g.L.Row.takes _ _ _ _ (omega (arith, k.1, same)) (omega (arith, k.1, same)) c.in_ok-none_left.ensures.counted
+
+pub returns-clause-counted : goal.returns-clause-counted
+returns-clause-counted g c =
+    let k = element_read g.row.R-Error.Denot g.T.Shown.meaning g.T.Shown.shape _ (de_state g.R.Read.reading c.args.de.now) (de_state g.R.Read.reading c.next_element.new.de) _ _ c.in-Some.is c.in_ok-first.ensures.element in
+    let after = after_some g.row.R-Error.Denot g.T.Shown.meaning g.T.Shown.shape _ _ (accessor_state c.args.items.now) _ c.in-Some.is c.in_ok-first.ensures.after in
+    let fewer = ap (λ (a : AccessorState). a.left) after in
+    others_counted g.L.Row.takes _ _ _ _ fewer (omega (arith, k.some, fewer)) c.in_ok-others.ensures.counted

@@ -4,3 +4,5 @@ pub mod Fields
 pub mod Rows
 pub mod Orders
 pub mod Reading
+pub mod Spelled
+pub mod Sorting

@@ -3,3 +3,5 @@ pub mod Node
 pub mod Causes
 pub mod Reads
 pub mod Orders
+pub mod Spelling
+pub mod Laws

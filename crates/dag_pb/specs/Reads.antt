@@ -1,6 +1,6 @@
 -- What the code has of links and fields.
-use Rattle.std.specs.Prelude.{List, [], ◌∷◌, option_map}
-use Rattle.dag_pb.specs.Node.{LinkParts, Field, link_field, data_field}
+use Rattle.std.specs.Prelude.{ℕ, List, [], ◌∷◌, map, Option, option_map}
+use Rattle.dag_pb.specs.Node.{LinkParts, NodeParts, Field, link_field, data_field}
 use Rattle.dag_pb.specs.declared.link.PbLink.{PbLink}
 use Rattle.dag_pb.specs.declared.field.PbField.{PbField}
 use Rattle.dag_pb.specs.declared.field.PbField.TheVariants.{Link, Data}
@@ -23,3 +23,7 @@ abbrev pub links_in : List Field → List LinkParts
 links_in [] = []
 links_in (link_field link ∷ more) = link ∷ links_in more
 links_in (data_field inner ∷ more) = links_in more
+
+-- the node of these links and this data
+abbrev pub node_of : List PbLink → Option (List ℕ) → NodeParts
+node_of links inner = record { links = map link_of links; «data» = inner }

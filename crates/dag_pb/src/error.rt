@@ -1,4 +1,4 @@
-//! What is wrong with bytes that are no block of DAG-PB.
+//! What is wrong with bytes that are no block of DAG-PB, and why a node is not written.
 
 use ipld_tree::CidError;
 use thiserror::Error;
@@ -31,4 +31,15 @@ pub enum PbCause {
 pub struct PbError {
     pub cause: PbCause,
     pub place: usize,
+}
+
+/// Why a node is not written.
+#[derive(Copy, Clone, Debug, PartialEq, Eq, Error)]
+pub enum PbEncodeError {
+    /// Memory was wanted. A node with no link and no data wants none.
+    #[error("out of memory")]
+    OutOfMemory,
+    /// A link comes before one whose name is less, by its bytes.
+    #[error("the links are not sorted by their names")]
+    UnsortedLinks,
 }

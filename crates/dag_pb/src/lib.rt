@@ -1,14 +1,18 @@
-//! The blocks of DAG-PB: whether bytes are one, and where its links lead. Nothing here takes memory.
+//! The blocks of DAG-PB: whether bytes are one, where its links lead, and the block of a node. Only
+//! `encode_node` takes memory.
 #![tactic(auto)]
 
+mod encode;
 mod error;
 mod field;
+pub mod laws;
 mod link;
 mod node;
 mod stop;
 mod varint;
 
-pub use error::{PbCause, PbError};
+pub use encode::encode_node;
+pub use error::{PbCause, PbEncodeError, PbError};
 pub use field::PbField;
 pub use link::PbLink;
 pub use node::{check_node, next_link};

@@ -13,13 +13,13 @@ use crate::varint::{split_counted, split_varint};
 use ipld_tree::Cid;
 
 /// The tag of the CID, field 1 and bytes.
-const HASH: u64 = 0x0a;
+pub(crate) const HASH: u64 = 0x0a;
 
 /// The tag of the name, field 2 and bytes.
-const NAME: u64 = 0x12;
+pub(crate) const NAME: u64 = 0x12;
 
 /// The tag of the size, field 3 and a number.
-const TSIZE: u64 = 0x18;
+pub(crate) const TSIZE: u64 = 0x18;
 
 /// A link of a node.
 #[derive(Clone, Copy, Debug)]

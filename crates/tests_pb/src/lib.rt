@@ -2,4 +2,6 @@
 #![tactic(auto)]
 
 #[cfg(test)]
+mod encoded;
+#[cfg(test)]
 mod tests;

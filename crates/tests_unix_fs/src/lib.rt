@@ -2,6 +2,10 @@
 #![tactic(auto)]
 
 #[cfg(test)]
+mod directories;
+#[cfg(test)]
+mod entities;
+#[cfg(test)]
 mod files;
 #[cfg(test)]
 mod messages;

@@ -1,11 +1,12 @@
 -- The links of a node and their sizes, read side by side.
-use Rattle.std.proofs.Common.{◌≡◌, ◌≢◌, length, arith, ℕ, List, [], ◌∷◌, ◌++◌, map, Option, None, Some, refl, sym, ap, ◌∙◌, subst, append_assoc, append-nil}
+use Rattle.std.proofs.Common.{◌≡◌, ◌≢◌, length, arith, ℕ, zero, suc, false, List, [], ◌∷◌, ◌++◌, map, Option, None, Some, refl, sym, ap, ◌∙◌, subst, append_assoc, append-nil}
 use Rattle.ipld_tree.specs.Cid.{cid_bytes}
 use Rattle.dag_pb.specs.Node.{LinkParts, BeginsWithFields}
 use Rattle.dag_pb.specs.Reads.{links_in}
 use Rattle.unix_fs.specs.UnixFs.{sizes_of}
 use Rattle.unix_fs.specs.Nodes.{cids_of}
-use Rattle.unix_fs.specs.Reading.{HasRow, Asked, AreOfDepth, asked, followed_by, paired}
+use Rattle.unix_fs.specs.Files.{has_empty}
+use Rattle.unix_fs.specs.Reading.{HasRow, Asked, AreBelow, asked, followed_by, paired}
 use Rattle.unix_fs.specs.declared.wanted.Wanted.{Wanted}
 use Rattle.unix_fs.proofs.Nodes.{row_cids}
 
@@ -82,14 +83,15 @@ followed_some : (w : Asked) (more : Option (List Asked)) (ws : List Asked) → f
 followed_some w None ws e = absurd (cc e)
 followed_some w (Some rest) ws e = (rest, refl, cc e)
 
--- each is of the depth that was given
-pub paired_depths : (depth : ℕ) (cids : List (List ℕ)) (sizes : List ℕ) (ws : List Asked) → paired depth cids sizes ≡ Some ws → AreOfDepth depth ws
-paired_depths depth [] [] ws e = let same : [] ≡ ws = cc e in subst (AreOfDepth depth) same tt
-paired_depths depth [] (size ∷ sizes) ws e = absurd (cc e)
-paired_depths depth (cid ∷ cids) [] ws e = absurd (cc e)
-paired_depths depth (cid ∷ cids) (size ∷ sizes) ws e =
-    let k = followed_some (record { cid = cid; size = Some size; depth = depth }) (paired depth cids sizes) ws e in
-    subst (AreOfDepth depth) k.2 (refl, paired_depths depth cids sizes k.0 k.1)
+-- each is of the depth that was given, and of a byte at least
+pub paired_below : (depth : ℕ) (cids : List (List ℕ)) (sizes : List ℕ) (ws : List Asked) → has_empty sizes ≡ false → paired depth cids sizes ≡ Some ws → AreBelow depth ws
+paired_below depth [] [] ws some e = let same : [] ≡ ws = cc e in subst (AreBelow depth) same tt
+paired_below depth [] (size ∷ sizes) ws some e = absurd (cc e)
+paired_below depth (cid ∷ cids) [] ws some e = absurd (cc e)
+paired_below depth (cid ∷ cids) (zero ∷ sizes) ws some e = absurd (cc some)
+paired_below depth (cid ∷ cids) (suc n ∷ sizes) ws some e =
+    let k = followed_some (record { cid = cid; size = Some (suc n); depth = depth }) (paired depth cids sizes) ws e in
+    subst (AreBelow depth) k.2 ((refl, (suc n, refl, omega arith)), paired_below depth cids sizes k.0 some k.1)
 
 pub asked-empty : (ws : List Wanted) → length ws ≡ 0 → map asked ws ≡ []
 asked-empty [] e = refl

@@ -3,15 +3,15 @@ use Rattle.std.proofs.Common.{◌≡◌, ◌≢◌, ℕ, suc, ◌+◌, ◌-◌, 
 use Rattle.unix_fs.specs.declared.error.UnixFsError.{UnixFsError}
 use Rattle.unix_fs.specs.UnixFs.{UnixFsParts, size_in, sizes_of, unix_fs_of}
 use Rattle.unix_fs.specs.Nodes.{or_nothing, data_of, cids_of}
-use Rattle.unix_fs.specs.Files.{codec_of, joined, of_size, linked_bytes, is_file, node_bytes, data_bytes, file_bytes, held_bytes, bytes_under}
+use Rattle.unix_fs.specs.Files.{codec_of, joined, of_size, has_empty, linked_bytes, is_file, node_bytes, data_bytes, file_bytes, held_bytes, bytes_under}
 use Rattle.unix_fs.specs.declared.error.UnixFsCause.TheVariants.{Truncated}
-use Rattle.unix_fs.specs.Reading.{Asked, asked_bytes, stack_bytes, row_bytes, IsTotal, paired, IsNoPairing, HasPart, HasNoPart, IsNoPart, IsFileNode, AreOfDepth, IsCause, Denies, IsNext, IsTaken, GoesOn, AreTaken, HandsOutContents}
+use Rattle.unix_fs.specs.Reading.{Asked, asked_bytes, stack_bytes, row_bytes, IsTotal, paired, IsNoPairing, HasPart, HasNoPart, IsNoPart, IsFileNode, AreBelow, IsCause, Denies, IsNext, IsTaken, GoesOn, AreTaken, HandsOutContents}
 use Rattle.std.specs.List.{concat}
-use Rattle.unix_fs.proofs.Pairing.{no_pairs, paired_depths}
+use Rattle.unix_fs.proofs.Pairing.{no_pairs, paired_below}
 use Rattle.unix_fs.specs.declared.file_error.FileError.{FileError}
-use Rattle.unix_fs.specs.declared.file_error.FileError.TheVariants.{NothingWanted, TooDeep, OtherCodec, NotANode, NoData, NoMessage, NotAFile, WrongLinks, WrongSize, OutOfMemory}
+use Rattle.unix_fs.specs.declared.file_error.FileError.TheVariants.{NothingWanted, TooDeep, OtherCodec, NotANode, NoData, NoMessage, NotAFile, EmptyPart, WrongSize, WrongLinks, OutOfMemory}
 use Rattle.unix_fs.proofs.Steps.{none_found, no_field}
-use Rattle.unix_fs.proofs.Stacks.{joined_assoc, linked_pairs, linked_length, of_total, of_other, pairs_bytes, stack-append, other_test}
+use Rattle.unix_fs.proofs.Stacks.{joined_assoc, linked_pairs, linked_none, linked_length, of_total, of_other, pairs_bytes, stack-append, other_test}
 
 -- ---- blocks of a codec
 
@@ -59,7 +59,7 @@ pub leaf_part : (w : Asked) (b : List ℕ) → codec_of w.cid ≡ 0x55 → 0 < w
 leaf_part w b is deep total = record {
   bytes = λ blocks held. leaf_opened w b is deep blocks held ∙ of_total w.size b (Some []) (sum (sizes_of [])) nothing_long total;
   links = λ some. absurd (some refl);
-  depths = tt;
+  below = tt;
   deep = deep;
 }
 
@@ -89,8 +89,8 @@ no_message w b message e is deep stands none blocks held =
 file_opened : (w : Asked) (b : List ℕ) (parts : UnixFsParts) → IsFileNode w b parts → (blocks : List ℕ → Option (List ℕ)) → blocks w.cid ≡ Some b → asked_bytes blocks w ≡ of_size w.size (node_bytes (bytes_under blocks (w.depth - 1)) (cids_of b) (Ok parts))
 file_opened w b parts n blocks held =
     node_opened w b n.codec n.deep blocks held
-    ∙ ap (λ d. of_size w.size (data_bytes (bytes_under blocks (w.depth - 1)) (cids_of b) d)) n.stands
-    ∙ ap (λ r. of_size w.size (node_bytes (bytes_under blocks (w.depth - 1)) (cids_of b) r)) n.is
+    ∙ ap (λ d. of_size w.size (data_bytes (bytes_under blocks (w.depth - 1)) (cids_of b) d)) n.says.stands
+    ∙ ap (λ r. of_size w.size (node_bytes (bytes_under blocks (w.depth - 1)) (cids_of b) r)) n.says.is
 
 pub no_file : (w : Asked) (b : List ℕ) (parts : UnixFsParts) → IsFileNode w b parts → is_file parts.kind ≡ false → HasNoPart w b
 no_file w b parts n none blocks held =
@@ -104,6 +104,13 @@ below_links blocks w b parts = linked_bytes (bytes_under blocks (w.depth - 1)) (
 
 parts_opened : (w : Asked) (b : List ℕ) (parts : UnixFsParts) → IsFileNode w b parts → is_file parts.kind ≡ true → (blocks : List ℕ → Option (List ℕ)) → blocks w.cid ≡ Some b → asked_bytes blocks w ≡ of_size w.size (of_size parts.file_size (joined (Some (or_nothing parts.content)) (below_links blocks w b parts)))
 parts_opened w b parts n file blocks held = file_opened w b parts n blocks held ∙ ap (of_size w.size) (rw file refl)
+
+pub empty_part : (w : Asked) (b : List ℕ) (parts : UnixFsParts) → IsFileNode w b parts → is_file parts.kind ≡ true → has_empty parts.block_sizes ≡ true → HasNoPart w b
+empty_part w b parts n file empty blocks held =
+    parts_opened w b parts n file blocks held
+    ∙ ap (λ c. of_size w.size (of_size parts.file_size (joined (Some (or_nothing parts.content)) c))) (linked_none (bytes_under blocks (w.depth - 1)) (cids_of b) parts.block_sizes empty)
+    ∙ ap (of_size w.size) (none_sized parts.file_size)
+    ∙ none_sized w.size
 
 pub other_file_size : (w : Asked) (b : List ℕ) (parts : UnixFsParts) → IsFileNode w b parts → is_file parts.kind ≡ true → (IsTotal parts.file_size (length (or_nothing parts.content) + sum parts.block_sizes) → ⊥) → HasNoPart w b
 other_file_size w b parts n file other blocks held =
@@ -122,25 +129,25 @@ other_size w b parts n file total other blocks held =
     size_opened w b parts n file total blocks held
     ∙ of_other w.size (or_nothing parts.content) (below_links blocks w b parts) (sum parts.block_sizes) (linked_length (bytes_under blocks (w.depth - 1)) (cids_of b) parts.block_sizes) other
 
-all_opened : (w : Asked) (b : List ℕ) (parts : UnixFsParts) → IsFileNode w b parts → is_file parts.kind ≡ true → IsTotal parts.file_size (length (or_nothing parts.content) + sum parts.block_sizes) → IsTotal w.size (length (or_nothing parts.content) + sum parts.block_sizes) → (blocks : List ℕ → Option (List ℕ)) → blocks w.cid ≡ Some b → asked_bytes blocks w ≡ joined (Some (or_nothing parts.content)) (pairs_bytes blocks (paired (w.depth - 1) (cids_of b) parts.block_sizes))
-all_opened w b parts n file total same blocks held =
+all_opened : (w : Asked) (b : List ℕ) (parts : UnixFsParts) → IsFileNode w b parts → is_file parts.kind ≡ true → has_empty parts.block_sizes ≡ false → IsTotal parts.file_size (length (or_nothing parts.content) + sum parts.block_sizes) → IsTotal w.size (length (or_nothing parts.content) + sum parts.block_sizes) → (blocks : List ℕ → Option (List ℕ)) → blocks w.cid ≡ Some b → asked_bytes blocks w ≡ joined (Some (or_nothing parts.content)) (pairs_bytes blocks (paired (w.depth - 1) (cids_of b) parts.block_sizes))
+all_opened w b parts n file some total same blocks held =
     size_opened w b parts n file total blocks held
     ∙ of_total w.size (or_nothing parts.content) (below_links blocks w b parts) (sum parts.block_sizes) (linked_length (bytes_under blocks (w.depth - 1)) (cids_of b) parts.block_sizes) same
-    ∙ ap (joined (Some (or_nothing parts.content))) (linked_pairs blocks (w.depth - 1) (cids_of b) parts.block_sizes)
+    ∙ ap (joined (Some (or_nothing parts.content))) (linked_pairs blocks (w.depth - 1) (cids_of b) parts.block_sizes some)
 
-pub file_part : (w : Asked) (b : List ℕ) (parts : UnixFsParts) (after : List Asked) → IsFileNode w b parts → is_file parts.kind ≡ true → IsTotal parts.file_size (length (or_nothing parts.content) + sum parts.block_sizes) → IsTotal w.size (length (or_nothing parts.content) + sum parts.block_sizes) → paired (w.depth - 1) (cids_of b) parts.block_sizes ≡ Some after → HasPart w b (or_nothing parts.content) after
-file_part w b parts after n file total same pairs = record {
+pub file_part : (w : Asked) (b : List ℕ) (parts : UnixFsParts) (after : List Asked) → IsFileNode w b parts → is_file parts.kind ≡ true → has_empty parts.block_sizes ≡ false → IsTotal parts.file_size (length (or_nothing parts.content) + sum parts.block_sizes) → IsTotal w.size (length (or_nothing parts.content) + sum parts.block_sizes) → paired (w.depth - 1) (cids_of b) parts.block_sizes ≡ Some after → HasPart w b (or_nothing parts.content) after
+file_part w b parts after n file some total same pairs = record {
   bytes = λ blocks held.
-      all_opened w b parts n file total same blocks held
+      all_opened w b parts n file some total same blocks held
       ∙ ap (λ p. joined (Some (or_nothing parts.content)) (pairs_bytes blocks p)) pairs;
-  links = λ some. (n.codec, λ none. some (no_pairs (w.depth - 1) (cids_of b) parts.block_sizes after pairs none));
-  depths = paired_depths (w.depth - 1) (cids_of b) parts.block_sizes after pairs;
+  links = λ there. (n.codec, λ none. there (no_pairs (w.depth - 1) (cids_of b) parts.block_sizes after pairs none));
+  below = paired_below (w.depth - 1) (cids_of b) parts.block_sizes after some pairs;
   deep = n.deep;
 }
 
-pub wrong_links : (w : Asked) (b : List ℕ) (parts : UnixFsParts) → IsFileNode w b parts → is_file parts.kind ≡ true → IsTotal parts.file_size (length (or_nothing parts.content) + sum parts.block_sizes) → IsTotal w.size (length (or_nothing parts.content) + sum parts.block_sizes) → paired (w.depth - 1) (cids_of b) parts.block_sizes ≡ None → HasNoPart w b
-wrong_links w b parts n file total same pairs blocks held =
-    all_opened w b parts n file total same blocks held
+pub wrong_links : (w : Asked) (b : List ℕ) (parts : UnixFsParts) → IsFileNode w b parts → is_file parts.kind ≡ true → has_empty parts.block_sizes ≡ false → IsTotal parts.file_size (length (or_nothing parts.content) + sum parts.block_sizes) → IsTotal w.size (length (or_nothing parts.content) + sum parts.block_sizes) → paired (w.depth - 1) (cids_of b) parts.block_sizes ≡ None → HasNoPart w b
+wrong_links w b parts n file some total same pairs blocks held =
+    all_opened w b parts n file some total same blocks held
     ∙ ap (λ p. joined (Some (or_nothing parts.content)) (pairs_bytes blocks p)) pairs
 
 -- the length of the same bytes
@@ -162,6 +169,7 @@ unpaired (OtherCodec codec) w b parts pairs n none h = absurd h
 unpaired NoData w b parts pairs n none h = absurd h
 unpaired (NoMessage m) w b parts pairs n none h = absurd h
 unpaired (NotAFile k) w b parts pairs n none h = absurd h
+unpaired EmptyPart w b parts pairs n none h = absurd h
 unpaired WrongSize w b parts pairs n none h = absurd h
 
 denied : (e : FileError) (P Q : Type 0) → (P → Q) → Denies e P → Denies e Q
@@ -174,6 +182,7 @@ denied (OtherCodec codec) P Q f h = f h
 denied NoData P Q f h = f h
 denied (NoMessage m) P Q f h = f h
 denied (NotAFile k) P Q f h = f h
+denied EmptyPart P Q f h = f h
 denied WrongSize P Q f h = f h
 
 -- ---- the stack
@@ -221,10 +230,10 @@ part_taken blocks stack below others after new w v b content is part moved next 
     ∙ joined_assoc (Some content) (row_bytes blocks after) (stack_bytes blocks below)
     ∙ ap (joined (Some content)) (sym moved)
 
-pub goes_on : (blocks : List ℕ → Option (List ℕ)) (stack below others after new : List Asked) (w v : Asked) (b content : List ℕ) → stack ≡ below ++ w ∷ [] → HasPart w b content after → ((depth : ℕ) → AreOfDepth depth after → (more : List Asked) × (new ≡ below ++ more) × AreOfDepth depth more) → IsNext blocks stack others v b → GoesOn others v new
+pub goes_on : (blocks : List ℕ → Option (List ℕ)) (stack below others after new : List Asked) (w v : Asked) (b content : List ℕ) → stack ≡ below ++ w ∷ [] → HasPart w b content after → ((depth : ℕ) → AreBelow depth after → (more : List Asked) × (new ≡ below ++ more) × AreBelow depth more) → IsNext blocks stack others v b → GoesOn others v new
 goes_on blocks stack below others after new w v b content is part moved next =
     subst (λ x. GoesOn others x new) (next_is blocks stack below others w v b is next)
-    (subst (λ xs. GoesOn xs w new) (below_is blocks stack below others w v b is next) (part.deep, moved (w.depth - 1) part.depths))
+    (subst (λ xs. GoesOn xs w new) (below_is blocks stack below others w v b is next) (part.deep, moved (w.depth - 1) part.below))
 
 pub not_taken : (e : FileError) (blocks : List ℕ → Option (List ℕ)) (stack below others : List Asked) (w v : Asked) (b : List ℕ) → stack ≡ below ++ w ∷ [] → IsNext blocks stack others v b → IsNoPart e w b → IsCause e v b × Denies e (stack_bytes blocks stack ≡ None)
 not_taken e blocks stack below others w v b is next h = (

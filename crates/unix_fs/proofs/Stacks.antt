@@ -1,11 +1,11 @@
 -- Contents one after another.
-use Rattle.std.proofs.Common.{◌≡◌, inl, inr, ℕ, ◌+◌, List, [], ◌∷◌, ◌++◌, length, length-append, sum, Option, None, Some, true, false, refl, sym, ap, ◌∙◌, arith, append_assoc, append-nil}
+use Rattle.std.proofs.Common.{◌≡◌, inl, inr, ℕ, zero, suc, ◌+◌, List, [], ◌∷◌, ◌++◌, length, length-append, sum, Option, None, Some, true, false, refl, sym, ap, ◌∙◌, arith, append_assoc, append-nil}
 use Rattle.std.specs.Prelude.{◌==◌}
 use Rattle.std.proofs.lemmas.List.Sums.{sum_by-cons}
 use Rattle.std.proofs.lemmas.Bool.{cases_eq}
 use Rattle.std.proofs.lemmas.Bool.Decides.{nat_tests}
-use Rattle.unix_fs.specs.Files.{joined, of_size, linked_bytes, bytes_under}
-use Rattle.unix_fs.specs.Reading.{Asked, asked_bytes, stack_bytes, row_bytes, IsTotal, AreOfDepth, followed_by, paired}
+use Rattle.unix_fs.specs.Files.{joined, of_size, has_empty, linked_bytes, bytes_under}
+use Rattle.unix_fs.specs.Reading.{Asked, asked_bytes, stack_bytes, row_bytes, IsTotal, IsBelow, AreBelow, followed_by, paired}
 
 -- ---- joins
 
@@ -41,17 +41,17 @@ row-append blocks (v ∷ ws) w =
     ap (joined (asked_bytes blocks v)) (row-append blocks ws w)
     ∙ sym (joined_assoc (asked_bytes blocks v) (row_bytes blocks ws) (asked_bytes blocks w))
 
-depths_parted : (depth : ℕ) (row : List Asked) (w : Asked) → AreOfDepth depth (row ++ w ∷ []) → AreOfDepth depth row × (w.depth ≡ depth)
-depths_parted depth [] w h = (tt, h.0)
-depths_parted depth (v ∷ row) w h = let k = depths_parted depth row w h.1 in ((h.0, k.0), k.1)
+below_parted : (depth : ℕ) (row : List Asked) (w : Asked) → AreBelow depth (row ++ w ∷ []) → AreBelow depth row × IsBelow depth w
+below_parted depth [] w h = (tt, h.0)
+below_parted depth (v ∷ row) w h = let k = below_parted depth row w h.1 in ((h.0, k.0), k.1)
 
-depths_joined : (depth : ℕ) (row : List Asked) (w : Asked) → AreOfDepth depth row → w.depth ≡ depth → AreOfDepth depth (row ++ w ∷ [])
-depths_joined depth [] w h e = (e, tt)
-depths_joined depth (v ∷ row) w h e = (h.0, depths_joined depth row w h.1 e)
+below_joined : (depth : ℕ) (row : List Asked) (w : Asked) → AreBelow depth row → IsBelow depth w → AreBelow depth (row ++ w ∷ [])
+below_joined depth [] w h e = (e, tt)
+below_joined depth (v ∷ row) w h e = (h.0, below_joined depth row w h.1 e)
 
 pub record SameWhole (row stack row_before stack_before : List Asked) : Type 0 where
   pub some : row_before ≡ [] → row ≡ []
-  pub kept : (depth : ℕ) → AreOfDepth depth row_before → AreOfDepth depth row × ((more : List Asked) × (stack ≡ stack_before ++ more) × AreOfDepth depth more)
+  pub kept : (depth : ℕ) → AreBelow depth row_before → AreBelow depth row × ((more : List Asked) × (stack ≡ stack_before ++ more) × AreBelow depth more)
   pub same : (blocks : List ℕ → Option (List ℕ)) → joined (row_bytes blocks row) (stack_bytes blocks stack) ≡ joined (row_bytes blocks row_before) (stack_bytes blocks stack_before)
 
 pub none_moved : (row stack : List Asked) → SameWhole row stack row stack
@@ -66,8 +66,8 @@ one_moved row stack row_before stack_before w h = record {
   some = λ e. absurd (none_last row w (h.some e));
   kept = λ depth all.
       let k = h.kept depth all in
-      let parted = depths_parted depth row w k.0 in
-      (parted.0, (k.1.0 ++ w ∷ [], ap (λ s. s ++ w ∷ []) k.1.1 ∙ append_assoc stack_before k.1.0 (w ∷ []), depths_joined depth k.1.0 w k.1.2 parted.1));
+      let parted = below_parted depth row w k.0 in
+      (parted.0, (k.1.0 ++ w ∷ [], ap (λ s. s ++ w ∷ []) k.1.1 ∙ append_assoc stack_before k.1.0 (w ∷ []), below_joined depth k.1.0 w k.1.2 parted.1));
   same = λ blocks.
       ap (joined (row_bytes blocks row)) (stack-append blocks stack w)
       ∙ sym (joined_assoc (row_bytes blocks row) (asked_bytes blocks w) (stack_bytes blocks stack))
@@ -75,7 +75,7 @@ one_moved row stack row_before stack_before w h = record {
       ∙ h.same blocks;
 }
 
-pub all_moved : (stack row_before stack_before : List Asked) → SameWhole [] stack row_before stack_before → ((blocks : List ℕ → Option (List ℕ)) → stack_bytes blocks stack ≡ joined (row_bytes blocks row_before) (stack_bytes blocks stack_before)) × ((depth : ℕ) → AreOfDepth depth row_before → (more : List Asked) × (stack ≡ stack_before ++ more) × AreOfDepth depth more)
+pub all_moved : (stack row_before stack_before : List Asked) → SameWhole [] stack row_before stack_before → ((blocks : List ℕ → Option (List ℕ)) → stack_bytes blocks stack ≡ joined (row_bytes blocks row_before) (stack_bytes blocks stack_before)) × ((depth : ℕ) → AreBelow depth row_before → (more : List Asked) × (stack ≡ stack_before ++ more) × AreBelow depth more)
 all_moved stack row_before stack_before h = (
   λ blocks. sym (nothing-joined (stack_bytes blocks stack)) ∙ h.same blocks,
   λ depth all. (h.kept depth all).1,
@@ -91,14 +91,24 @@ followed-bytes : (blocks : List ℕ → Option (List ℕ)) (w : Asked) (more : O
 followed-bytes blocks w None = sym (joined-none (asked_bytes blocks w))
 followed-bytes blocks w (Some more) = refl
 
-pub linked_pairs : (blocks : List ℕ → Option (List ℕ)) (depth : ℕ) (cids : List (List ℕ)) (sizes : List ℕ) → linked_bytes (bytes_under blocks depth) cids sizes ≡ pairs_bytes blocks (paired depth cids sizes)
-linked_pairs blocks depth [] [] = refl
-linked_pairs blocks depth [] (size ∷ sizes) = refl
-linked_pairs blocks depth (cid ∷ cids) [] = refl
-linked_pairs blocks depth (cid ∷ cids) (size ∷ sizes) =
-    let w : Asked = record { cid = cid; size = Some size; depth = depth } in
-    ap (joined (asked_bytes blocks w)) (linked_pairs blocks depth cids sizes)
+pub linked_pairs : (blocks : List ℕ → Option (List ℕ)) (depth : ℕ) (cids : List (List ℕ)) (sizes : List ℕ) → has_empty sizes ≡ false → linked_bytes (bytes_under blocks depth) cids sizes ≡ pairs_bytes blocks (paired depth cids sizes)
+linked_pairs blocks depth [] [] some = refl
+linked_pairs blocks depth [] (size ∷ sizes) some = refl
+linked_pairs blocks depth (cid ∷ cids) [] some = refl
+linked_pairs blocks depth (cid ∷ cids) (zero ∷ sizes) some = absurd (cc some)
+linked_pairs blocks depth (cid ∷ cids) (suc n ∷ sizes) some =
+    let w : Asked = record { cid = cid; size = Some (suc n); depth = depth } in
+    ap (joined (asked_bytes blocks w)) (linked_pairs blocks depth cids sizes some)
     ∙ sym (followed-bytes blocks w (paired depth cids sizes))
+
+-- one size of 0 leaves no content
+pub linked_none : (below : List ℕ → Option (List ℕ)) (cids : List (List ℕ)) (sizes : List ℕ) → has_empty sizes ≡ true → linked_bytes below cids sizes ≡ None
+linked_none below [] [] some = absurd (cc some)
+linked_none below [] (size ∷ sizes) some = refl
+linked_none below (cid ∷ cids) [] some = absurd (cc some)
+linked_none below (cid ∷ cids) (zero ∷ sizes) some = refl
+linked_none below (cid ∷ cids) (suc n ∷ sizes) some =
+    ap (joined (of_size (Some (suc n)) (below cid))) (linked_none below cids sizes some) ∙ joined-none (of_size (Some (suc n)) (below cid))
 
 -- ---- sizes
 
@@ -125,9 +135,10 @@ pub linked_length : (below : List ℕ → Option (List ℕ)) (cids : List (List 
 linked_length below [] [] s e = let k : [] ≡ s = cc e in ap length (sym k)
 linked_length below [] (size ∷ sizes) s e = absurd (cc e)
 linked_length below (cid ∷ cids) [] s e = absurd (cc e)
-linked_length below (cid ∷ cids) (size ∷ sizes) s e =
-    let p = joined_parts (of_size (Some size) (below cid)) (linked_bytes below cids sizes) s e in
-    omega (arith, sum_by-cons (λ x. x) size sizes, ap length p.4, length-append p.0 p.1, sized size (below cid) p.0 p.2, linked_length below cids sizes p.1 p.3)
+linked_length below (cid ∷ cids) (zero ∷ sizes) s e = absurd (cc e)
+linked_length below (cid ∷ cids) (suc n ∷ sizes) s e =
+    let p = joined_parts (of_size (Some (suc n)) (below cid)) (linked_bytes below cids sizes) s e in
+    omega (arith, sum_by-cons (λ x. x) (suc n) sizes, ap length p.4, length-append p.0 p.1, sized (suc n) (below cid) p.0 p.2, linked_length below cids sizes p.1 p.3)
 
 pub of_total : (size : Option ℕ) (content : List ℕ) (more : Option (List ℕ)) (total : ℕ) → ((s : List ℕ) → more ≡ Some s → length s ≡ total) → IsTotal size (length content + total) → of_size size (joined (Some content) more) ≡ joined (Some content) more
 of_total None content more total long is = refl

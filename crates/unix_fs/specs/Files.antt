@@ -1,5 +1,5 @@
 -- The content of files (UnixFS specification), given what is held under CIDs.
-use Rattle.std.specs.Prelude.{ℕ, zero, suc, ◌==◌, Bool, true, false, List, [], ◌∷◌, ◌++◌, length, if◌then◌else◌, Option, None, Some, Result, Ok, Err}
+use Rattle.std.specs.Prelude.{ℕ, zero, suc, ◌+◌, ◌==◌, Bool, true, false, List, [], ◌∷◌, ◌++◌, length, sum, if◌then◌else◌, Option, None, Some, Result, Ok, Err}
 use Rattle.unix_fs.specs.Fields.{Front, varint_of}
 use Rattle.unix_fs.specs.declared.kind.Kind.{Kind}
 use Rattle.unix_fs.specs.declared.kind.Kind.TheVariants.{Raw, File}
@@ -29,13 +29,25 @@ of_size None content = content
 of_size (Some n) None = None
 of_size (Some n) (Some s) = if length s == n then Some s else None
 
--- below links, in their order, by what is below a CID; one size was announced for each
+-- a size of 0 is among them
+abbrev pub has_empty : List ℕ → Bool
+has_empty [] = false
+has_empty (zero ∷ sizes) = true
+has_empty (suc n ∷ sizes) = has_empty sizes
+
+-- below links, in their order, by what is below a CID; one size was announced for each, of a byte at
+-- least
 abbrev pub linked_bytes : (List ℕ → Option (List ℕ)) → List (List ℕ) → List ℕ → Option (List ℕ)
 linked_bytes below [] [] = Some []
 linked_bytes below [] (size ∷ sizes) = None
 linked_bytes below (cid ∷ cids) [] = None
-linked_bytes below (cid ∷ cids) (size ∷ sizes) =
-    joined (of_size (Some size) (below cid)) (linked_bytes below cids sizes)
+linked_bytes below (cid ∷ cids) (zero ∷ sizes) = None
+linked_bytes below (cid ∷ cids) (suc n ∷ sizes) =
+    joined (of_size (Some (suc n)) (below cid)) (linked_bytes below cids sizes)
+
+-- the number of bytes that the parts of a node make
+abbrev pub total_of : UnixFsParts → ℕ
+total_of parts = length (or_nothing parts.content) + sum parts.block_sizes
 
 -- ---- files
 

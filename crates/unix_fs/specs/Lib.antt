@@ -5,5 +5,8 @@ pub mod Fields
 pub mod UnixFs
 pub mod Held
 pub mod Nodes
+pub mod Messages
 pub mod Files
+pub mod Entities
+pub mod Directories
 pub mod Reading

@@ -1,15 +1,16 @@
 -- A file, read block by block: a stack of blocks that are wanted.
-use Rattle.std.specs.Prelude.{◌≡◌, ◌≢◌, ◌⊎◌, ℕ, ◌+◌, ◌-◌, ◌<◌, List, [], ◌∷◌, ◌++◌, length, sum, Option, None, Some, Ok, Err, false}
+use Rattle.std.specs.Prelude.{◌≡◌, ◌≢◌, ◌⊎◌, ℕ, ◌-◌, ◌<◌, List, [], ◌∷◌, ◌++◌, length, Option, None, Some, true, false}
 use Rattle.std.specs.List.{concat, AllByRecursion}
 use Rattle.ipld_tree.specs.Cid.{cid_bytes}
 use Rattle.dag_pb.specs.Node.{Field, BeginsWithFields}
-use Rattle.dag_pb.specs.Causes.{IsNoNode}
 use Rattle.unix_fs.specs.declared.file_error.FileError.{FileError}
-use Rattle.unix_fs.specs.declared.file_error.FileError.TheVariants.{NothingWanted, TooDeep, OtherCodec, NotANode, NoData, NoMessage, NotAFile, WrongLinks, WrongSize, OutOfMemory}
+use Rattle.unix_fs.specs.declared.file_error.FileError.TheVariants.{NothingWanted, TooDeep, OtherCodec, NotANode, NoData, NoMessage, NotAFile, EmptyPart, WrongSize, WrongLinks, OutOfMemory}
 use Rattle.unix_fs.specs.declared.wanted.Wanted.{Wanted}
-use Rattle.unix_fs.specs.UnixFs.{UnixFsParts, unix_fs_of}
-use Rattle.unix_fs.specs.Nodes.{or_nothing, data_of, cids_of}
-use Rattle.unix_fs.specs.Files.{codec_of, joined, of_size, is_file, bytes_under}
+use Rattle.unix_fs.specs.declared.node.NodeError.TheVariants as node
+use Rattle.unix_fs.specs.UnixFs.{UnixFsParts}
+use Rattle.unix_fs.specs.Nodes.{cids_of}
+use Rattle.unix_fs.specs.Messages.{Says, SaysNothing}
+use Rattle.unix_fs.specs.Files.{codec_of, joined, of_size, has_empty, total_of, is_file, bytes_under}
 
 -- ---- what is wanted
 
@@ -35,9 +36,12 @@ abbrev pub row_bytes : (List ℕ → Option (List ℕ)) → List Asked → Optio
 row_bytes blocks [] = Some []
 row_bytes blocks (w ∷ more) = joined (asked_bytes blocks w) (row_bytes blocks more)
 
--- each of these may lead so many blocks deep
-abbrev pub AreOfDepth : ℕ → List Asked → Type 0
-AreOfDepth depth = AllByRecursion (λ w. w.depth ≡ depth)
+-- it may lead so many blocks deep, and a byte at least was announced for it
+abbrev pub IsBelow : ℕ → Asked → Type 0
+IsBelow depth w = (w.depth ≡ depth) × ((n : ℕ) × (w.size ≡ Some n) × (0 < n))
+
+abbrev pub AreBelow : ℕ → List Asked → Type 0
+AreBelow depth = AllByRecursion (IsBelow depth)
 
 -- ---- one node
 
@@ -72,9 +76,7 @@ IsNoPairing _ cids pairs = ⊥
 pub record IsFileNode (w : Asked) (block : List ℕ) (parts : UnixFsParts) : Type 0 where
   pub codec : codec_of w.cid ≡ 0x70
   pub deep : 0 < w.depth
-  pub message : List ℕ
-  pub stands : data_of block ≡ Some message
-  pub is : unix_fs_of message ≡ Ok parts
+  pub says : Says block parts
 
 -- ---- one block
 
@@ -88,17 +90,13 @@ pub record HasPart (w : Asked) (block content : List ℕ) (after : List Asked) :
   pub bytes : (blocks : List ℕ → Option (List ℕ)) → blocks w.cid ≡ Some block
       → asked_bytes blocks w ≡ joined (Some content) (row_bytes blocks after)
   pub links : after ≢ [] → HasLinks w block
-  pub depths : AreOfDepth (w.depth - 1) after
+  pub below : AreBelow (w.depth - 1) after
   pub deep : 0 < w.depth
 
 -- with this block under the CID there is no content of the size that was announced
 abbrev pub HasNoPart : Asked → List ℕ → Type 0
 HasNoPart w block = (blocks : List ℕ → Option (List ℕ)) → blocks w.cid ≡ Some block
     → asked_bytes blocks w ≡ None
-
--- the number of bytes that the parts of a node make
-abbrev pub total_of : UnixFsParts → ℕ
-total_of parts = length (or_nothing parts.content) + sum parts.block_sizes
 
 -- the leaf has another size than was announced, or the parts of the node have
 abbrev pub HasWrongSize : Asked → List ℕ → Type 0
@@ -111,12 +109,13 @@ abbrev pub IsCause : FileError → Asked → List ℕ → Type 0
 IsCause NothingWanted w block = ⊥
 IsCause TooDeep w block = w.depth ≡ 0
 IsCause (OtherCodec codec) w block = (codec ≡ codec_of w.cid) × (codec ≢ 0x55) × (codec ≢ 0x70)
-IsCause (NotANode e) w block = (codec_of w.cid ≡ 0x70) × IsNoNode block e
-IsCause NoData w block = data_of block ≡ None
-IsCause (NoMessage e) w block = (message : List ℕ) × (data_of block ≡ Some message)
-    × (unix_fs_of message ≡ Err e)
+IsCause (NotANode e) w block = (codec_of w.cid ≡ 0x70) × SaysNothing (node.NotANode e) block
+IsCause NoData w block = (codec_of w.cid ≡ 0x70) × SaysNothing node.NoData block
+IsCause (NoMessage e) w block = (codec_of w.cid ≡ 0x70) × SaysNothing (node.NoMessage e) block
 IsCause (NotAFile kind) w block = (parts : UnixFsParts) × IsFileNode w block parts
     × (kind ≡ parts.kind) × (is_file kind ≡ false)
+IsCause EmptyPart w block = (parts : UnixFsParts) × IsFileNode w block parts
+    × (is_file parts.kind ≡ true) × (has_empty parts.block_sizes ≡ true)
 IsCause WrongLinks w block = (parts : UnixFsParts) × IsFileNode w block parts
     × (length (cids_of block) ≢ length parts.block_sizes)
 IsCause WrongSize w block = HasWrongSize w block
@@ -144,10 +143,11 @@ abbrev pub IsTaken : (List ℕ → Option (List ℕ)) → List Asked → List �
 IsTaken blocks old out new =
     stack_bytes blocks old ≡ joined (Some out) (stack_bytes blocks new)
 
--- what was wanted after it still is, and in its place stand blocks that lead one block less deep
+-- what was wanted after it still is, and in its place stand blocks that lead one block less deep, each
+-- of a byte at least
 abbrev pub GoesOn : List Asked → Asked → List Asked → Type 0
 GoesOn below w new = (0 < w.depth) × ((more : List Asked) × (new ≡ below ++ more)
-    × AreOfDepth (w.depth - 1) more)
+    × AreBelow (w.depth - 1) more)
 
 -- takes in a row, and what each hands out
 abbrev pub AreTaken : (List ℕ → Option (List ℕ)) → List Asked → List (List ℕ) → List Asked → Type 0

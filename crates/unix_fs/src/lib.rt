@@ -1,7 +1,11 @@
-//! UnixFS: what files and directories of IPFS say in the data of a DAG-PB node, and the bytes of a
-//! file, block by block. Only the walk over a file takes memory.
+//! UnixFS: what files and directories of IPFS say in the data of a DAG-PB node, what a block is, where
+//! the entries of a directory lead, and the bytes of a file, block by block. Only the walk over a file
+//! takes memory.
 #![tactic(auto)]
 
+mod directory;
+mod directory_error;
+mod entity;
 mod error;
 mod field;
 mod file_error;
@@ -16,6 +20,9 @@ mod totals;
 mod varint;
 mod wanted;
 
+pub use directory::{check_directory, find_entry};
+pub use directory_error::DirectoryError;
+pub use entity::{Entity, read_entity};
 pub use error::{UnixFsCause, UnixFsError};
 pub use file_error::FileError;
 pub use kind::Kind;

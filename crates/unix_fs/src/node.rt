@@ -1,13 +1,43 @@
-//! The data of a node.
+//! The data of a node, and the message in them.
 
-ghost use Rattle.std.specs.Prelude.{◌≡◌, [], ◌∷◌, option_map, MatchOption};
-ghost use Rattle.unix_fs.specs.Held.{held_field};
+ghost use Rattle.std.specs.Prelude.{◌≡◌, [], ◌∷◌, option_map, MatchOption, MatchResult};
+ghost use Rattle.unix_fs.specs.Held.{held_field, held_parts};
 ghost use Rattle.unix_fs.specs.Nodes.{data_in, data_of};
+ghost use Rattle.unix_fs.specs.Messages.{Says, SaysNothing};
 
+use crate::error::UnixFsError;
 use crate::field::{Field, Value, split_field};
+use crate::message::{UnixFs, read_unix_fs};
+use dag_pb::{PbError, check_node};
 
 /// The tag of the data of a node, field 1 and bytes.
 const DATA: u64 = 0x0a;
+
+/// Why a block says nothing of a file or a directory.
+#[derive(Clone, Copy)]
+pub(crate) enum NodeError {
+    NotANode(PbError),
+    NoData,
+    NoMessage(UnixFsError),
+}
+
+/// What a node says, which is judged as a block of DAG-PB first.
+pub(crate) fn read_message(block: &[u8]) -> Result<UnixFs<'_>, NodeError>
+    ensures { MatchResult result
+        (λ said. Says block.now (held_parts said))
+        (λ e. SaysNothing e block.now) }
+{
+    if let Err(fault) = check_node(block) {
+        return Err(NodeError::NotANode(fault));
+    }
+    let Some(message) = node_data(block) else {
+        return Err(NodeError::NoData);
+    };
+    match read_unix_fs(message) {
+        Ok(said) => Ok(said),
+        Err(fault) => Err(NodeError::NoMessage(fault)),
+    }
+}
 
 /// The data of a block of DAG-PB, in which the message stands. Of other bytes it is what stands in
 /// their first field 1.

@@ -5,19 +5,15 @@ ghost use Rattle.ipld_tree.specs.Cid.{cid_bytes};
 ghost use Rattle.unix_fs.specs.Held.{held_parts};
 ghost use Rattle.unix_fs.specs.Nodes.{or_nothing};
 ghost use Rattle.unix_fs.specs.Files.{codec_of, is_file};
-ghost use Rattle.unix_fs.specs.Reading.{HasRow, asked, HasPart, IsNoPart, IsFileNode};
+ghost use Rattle.unix_fs.specs.Reading.{asked, HasPart, IsNoPart, IsFileNode};
 
 use crate::file_error::FileError;
 use crate::kind::Kind;
-use crate::message::{UnixFs, read_unix_fs};
-use crate::node::node_data;
-use crate::totals::is_announced;
-use crate::wanted::{DAG_PB, Wanted, codec_in, wanted_below};
-use dag_pb::check_node;
+use crate::message::UnixFs;
+use crate::node::{NodeError, read_message};
+use crate::totals::{has_empty_part, is_announced};
+use crate::wanted::{DAG_PB, RAW, Wanted, codec_in, wanted_below};
 use std::alloc::Global;
-
-/// The codec of leaves.
-const RAW: u64 = 0x55;
 
 /// Bytes of the file, and the blocks that are wanted after them.
 #[derive(Drop)]
@@ -72,15 +68,11 @@ fn read_node<'a>(alloc: Global, wanted: &Wanted, block: &'a [u8]) -> Result<Part
         (λ part. HasPart (asked wanted.now) block.now part.content.now (map asked part.after.items))
         (λ e. IsNoPart e (asked wanted.now) block.now) }
 {
-    if let Err(fault) = check_node(block) {
-        return Err(FileError::NotANode(fault));
-    }
-    let Some(message) = node_data(block) else {
-        return Err(FileError::NoData);
-    };
-    match read_unix_fs(message) {
+    match read_message(block) {
         Ok(file) => read_file(alloc, wanted, block, &file),
-        Err(fault) => Err(FileError::NoMessage(fault)),
+        Err(NodeError::NotANode(fault)) => Err(FileError::NotANode(fault)),
+        Err(NodeError::NoData) => Err(FileError::NoData),
+        Err(NodeError::NoMessage(fault)) => Err(FileError::NoMessage(fault)),
     }
 }
 
@@ -91,7 +83,6 @@ fn read_file<'a>(
     block: &[u8],
     file: &UnixFs<'a>,
 ) -> Result<Part<'a>, FileError>
-    requires row { HasRow block.now }
     requires node { IsFileNode (asked wanted.now) block.now (held_parts file.now) }
     ensures { MatchResult result
         (λ part. HasPart (asked wanted.now) block.now part.content.now (map asked part.after.items))
@@ -99,6 +90,9 @@ fn read_file<'a>(
 {
     if !is_file_kind(file.kind) {
         return Err(FileError::NotAFile(file.kind));
+    }
+    if has_empty_part(file.sizes) {
+        return Err(FileError::EmptyPart);
     }
     let content = content_of(file);
     if !is_announced(file.file_size, content.len(), file.sizes) {
@@ -111,8 +105,8 @@ fn read_file<'a>(
     Ok(Part { content, after })
 }
 
-/// The bytes of the file that stand in the node itself.
-fn content_of<'a>(file: &UnixFs<'a>) -> &'a [u8]
+/// The bytes of the file that stand in the node itself; of a symlink, where it leads.
+pub(crate) fn content_of<'a>(file: &UnixFs<'a>) -> &'a [u8]
     ensures { result.now ≡ or_nothing (held_parts file.now).content }
 {
     match file.content {

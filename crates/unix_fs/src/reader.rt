@@ -5,7 +5,7 @@ ghost use Rattle.ipld_tree.specs.Cid.{cid_bytes};
 ghost use Rattle.unix_fs.specs.declared.wanted.Wanted.{Wanted as WantedParts};
 ghost use Rattle.unix_fs.specs.declared.file_error.FileError.TheVariants.{OutOfMemory, NothingWanted};
 ghost use Rattle.unix_fs.specs.Files.{joined, bytes_under};
-ghost use Rattle.unix_fs.specs.Reading.{Asked, asked, row_bytes, stack_bytes, AreOfDepth, IsNext, IsTaken, GoesOn, IsCause, Denies};
+ghost use Rattle.unix_fs.specs.Reading.{Asked, asked, row_bytes, stack_bytes, AreBelow, IsNext, IsTaken, GoesOn, IsCause, Denies};
 
 use crate::file_error::FileError;
 use crate::part::read_part;
@@ -73,8 +73,8 @@ fn push_all(wanted: &mut Vec<Wanted>, first: Vec<Wanted>) -> Result<(), FileErro
     ensures { MatchResult result
         (λ _. ((blocks : List ℕ → Option (List ℕ)) → stack_bytes blocks (map asked wanted.new.items)
         ≡ joined (row_bytes blocks (map asked first.items)) (stack_bytes blocks (map asked wanted.old.items)))
-        × ((depth : ℕ) → AreOfDepth depth (map asked first.items) → (more : List Asked)
-        × (map asked wanted.new.items ≡ map asked wanted.old.items ++ more) × AreOfDepth depth more))
+        × ((depth : ℕ) → AreBelow depth (map asked first.items) → (more : List Asked)
+        × (map asked wanted.new.items ≡ map asked wanted.old.items ++ more) × AreBelow depth more))
         (λ e. (e ≡ OutOfMemory) × (map asked first.items ≢ [])) }
 {
     let mut left = first;

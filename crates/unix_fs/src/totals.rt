@@ -2,6 +2,8 @@
 
 ghost use Rattle.std.specs.Prelude.{◌≡◌, ◌↔◌, ◌+◌, IsTrue, sum};
 ghost use Rattle.unix_fs.specs.UnixFs.{sizes_of};
+ghost use Rattle.unix_fs.specs.Files.{has_empty};
+ghost use Rattle.unix_fs.specs.Entities.{fitting};
 ghost use Rattle.unix_fs.specs.Reading.{IsTotal};
 
 use crate::sizes::next_size;
@@ -20,16 +22,39 @@ pub(crate) fn is_announced(size: Option<u64>, content: usize, sizes: &[u8]) -> b
 fn is_total(total: u64, content: usize, sizes: &[u8]) -> bool
     ensures { IsTrue result ↔ (total ≡ content + sum (sizes_of sizes.now)) }
 {
-    let Some(mut left) = total.checked_sub(content as u64) else {
-        return false;
-    };
+    match total_in(content, sizes) {
+        Some(made) => made == total,
+        None => false,
+    }
+}
+
+/// The number of bytes that the content and the block sizes make, if it is below 2^64.
+pub(crate) fn total_in(content: usize, sizes: &[u8]) -> Option<u64>
+    ensures { result ≡ fitting (content + sum (sizes_of sizes.now)) }
+{
+    let mut total = content as u64;
     let mut rest = sizes;
     while let Some((size, behind)) = next_size(rest) {
-        let Some(less) = left.checked_sub(size) else {
-            return false;
+        let Some(more) = total.checked_add(size) else {
+            return None;
         };
-        left = less;
+        total = more;
         rest = behind;
     }
-    left == 0
+    Some(total)
+}
+
+/// Whether a block size is 0.
+#[tactic(auto, using(crate::proofs::Empties::none_passed, crate::proofs::Empties::one_passed, crate::proofs::Empties::empty_found, crate::proofs::Empties::no_empty))]
+pub(crate) fn has_empty_part(sizes: &[u8]) -> bool
+    ensures { result ≡ has_empty (sizes_of sizes.now) }
+{
+    let mut rest = sizes;
+    while let Some((size, behind)) = next_size(rest) {
+        if size == 0 {
+            return true;
+        }
+        rest = behind;
+    }
+    false
 }

@@ -14,6 +14,9 @@ use dag_pb::next_link;
 use ipld_tree::Cid;
 use std::alloc::Global;
 
+/// The codec of leaves.
+pub(crate) const RAW: u64 = 0x55;
+
 /// The codec of nodes.
 pub(crate) const DAG_PB: u64 = 0x70;
 

@@ -1,14 +1,15 @@
-use Rattle.std.proofs.Common.{sym}
+use Rattle.std.proofs.Common.{subst}
+use Rattle.unix_fs.specs.Messages.{SaysNothing}
 use Rattle.unix_fs.specs.Reading.{asked}
 use Rattle.unix_fs.proofs.Parts.{no_data, no_message}
 use Rattle.unix_fs.proofs.part.read_node.Goals as goal
 
-pub returns-in_default-node_data : goal.returns-in_default-node_data
-returns-in_default-node_data c =
-    (sym c.in_default-node_data.ensures, no_data (asked c.args.wanted.now) c.args.block.now c.requires.codec c.requires.deep (sym c.in_default-node_data.ensures))
+pub returns-in-Err-NoData : goal.returns-in-Err-NoData
+returns-in-Err-NoData c =
+    let nothing = subst (λ e. SaysNothing e c.args.block.now) c.in-Err-NoData.field-0-is c.in-Err-NoData.ensures in
+    ((c.requires.codec, nothing), no_data (asked c.args.wanted.now) c.args.block.now c.requires.codec c.requires.deep nothing.1)
 
-pub returns-in-Err-read_unix_fs : goal.returns-in-Err-read_unix_fs
-returns-in-Err-read_unix_fs c = (
-  (c.in-Some.message.now, sym c.in-Some.ensures, c.in-Err-read_unix_fs.ensures),
-  no_message (asked c.args.wanted.now) c.args.block.now c.in-Some.message.now c.in-Err-read_unix_fs.fault c.requires.codec c.requires.deep (sym c.in-Some.ensures) c.in-Err-read_unix_fs.ensures,
-)
+pub returns-in-Err-NoMessage : goal.returns-in-Err-NoMessage
+returns-in-Err-NoMessage c =
+    let nothing = subst (λ e. SaysNothing e c.args.block.now) c.in-Err-NoMessage.field-0-is c.in-Err-NoMessage.ensures in
+    rw (c.in-Err-NoMessage.fault-is) ((c.requires.codec, nothing), no_message (asked c.args.wanted.now) c.args.block.now nothing.1.0 _ c.requires.codec c.requires.deep nothing.1.1 nothing.1.2)

@@ -61,6 +61,7 @@ SENTENCES = [
       "dagcbor_read/src/access/variants.rt fn read_enum", "dagcbor_read/src/access/row.rt fn read_tuple",
       *(f"dagcbor_read/src/access/{file}.rt ghost {name}" for file, names in READ_BY_PARTS for name in names)]),
     ("`dagcbor` answers each line", ["dagcbor_lines/src/command.rt fn run_command"]),
+    ("`cat` writes the bytes of a file of IPFS", ["file_lines/src/file.rt fn say_file"]),
     ("`dagcar` judges a file of blocks", ["dagcar_lines/src/command.rt fn run_command"]),
     ("A path is resolved over blocks, and a root and a path bind what is found",
      ["dagcbor_resolve/src/resolution.rt fn resolve", "dagcbor_resolve/src/resolution.rt fn item_bytes",

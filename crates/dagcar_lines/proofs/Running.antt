@@ -1,5 +1,5 @@
 -- What a run of a command says, where its input tells its bytes.
-use Rattle.std.proofs.Common.{◌≡◌, ◌≢◌, ◌⊎◌, inl, inr, ℕ, List, [], ◌∷◌, length, take, drop, ◌+◌, Bool, true, false, arith, length-drop, map, ◌<◌, ◌≤◌, ap₂, refl, sym, ap, ◌∙◌, subst, get_or, Option, None, Some, MatchOption, codes, if◌then◌else◌, ◌==◌}
+use Rattle.std.proofs.Common.{◌≡◌, ◌≢◌, ◌⊎◌, inl, inr, ℕ, List, [], ◌∷◌, length, take, drop, ◌+◌, ◌*◌, Bool, true, false, arith, length-drop, map, ◌<◌, ◌≤◌, ap₂, refl, sym, ap, ◌∙◌, subst, get_or, Option, None, Some, MatchOption, codes, if◌then◌else◌, ◌==◌}
 use Rattle.std.specs.Prelude.{⊤}
 use Rattle.std.specs.List.{position_or_len}
 use Rattle.std.specs.Str.{bytes_eq}
@@ -28,6 +28,8 @@ IsPlain (commands.Tree name) = ⊥
 IsPlain (commands.At name) = ⊥
 IsPlain (commands.Raw name) = ⊥
 IsPlain (commands.Prove name) = ⊥
+IsPlain (commands.Ls name) = ⊥
+IsPlain (commands.Cat name) = ⊥
 IsPlain commands.Record = ⊥
 IsPlain commands.Summary = ⊥
 IsPlain _ = ⊤
@@ -48,6 +50,8 @@ by_name (commands.Tree name) p = absurd p
 by_name (commands.At name) p = absurd p
 by_name (commands.Raw name) p = absurd p
 by_name (commands.Prove name) p = absurd p
+by_name (commands.Ls name) p = absurd p
+by_name (commands.Cat name) p = absurd p
 by_name commands.Summary p = absurd p
 by_name commands.Record p = absurd p
 
@@ -61,31 +65,42 @@ same_root law words word n m h k = law (name_part h.0) n m h.2 (subst (λ t. IsT
 same_raw : TextsTellCids → (words : List (List ℕ)) (n m : CidParts) → IsCommand words (commands.Raw n) → IsCommand words (commands.Raw m) → n ≡ m
 same_raw law words n m h k = law (name_part h.0) n m h.2 (subst (λ t. IsTextOf (name_part t) m) (ap (λ ws. get_or ws 2 []) (sym k.1 ∙ h.1)) k.2)
 
--- how many words a command has, and the letter with which the first of them begins
+-- the first two letters of words, as a number
+abbrev letters_of : List ℕ → ℕ
+letters_of word = get_or word 0 0 + 256 * get_or word 1 0
+
+abbrev first_letters : List (List ℕ) → ℕ
+first_letters words = letters_of (get_or words 0 [])
+
+-- how many words a command has, and the letters with which the first of them begins
 abbrev count_of : Command → ℕ
 count_of (commands.Get name) = 2
 count_of (commands.Tree name) = 2
 count_of (commands.At name) = 2
 count_of (commands.Prove name) = 2
+count_of (commands.Ls name) = 2
+count_of (commands.Cat name) = 2
 count_of (commands.Raw name) = 3
 count_of commands.Summary = 2
 count_of commands.Record = 2
 count_of _ = 1
 
 abbrev letter_of : Command → ℕ
-letter_of c = get_or (command_name c) 0 0
+letter_of c = letters_of (command_name c)
 
-counted : (words : List (List ℕ)) (c : Command) → IsCommand words c → (length words ≡ count_of c) × (first_letter words ≡ letter_of c)
-counted words (commands.Get name) h = (ap length h.1, ap first_letter h.1)
-counted words (commands.Tree name) h = (ap length h.1, ap first_letter h.1)
-counted words (commands.At name) h = (ap length h.1, ap first_letter h.1)
-counted words (commands.Prove name) h = (ap length h.1, ap first_letter h.1)
-counted words (commands.Raw name) h = (ap length h.1, ap first_letter h.1)
-counted words commands.Summary h = (ap length h, ap first_letter h)
-counted words commands.Record h = (ap length h.1, ap first_letter h.1)
-counted words c h = (ap length h, ap first_letter h)
+counted : (words : List (List ℕ)) (c : Command) → IsCommand words c → (length words ≡ count_of c) × (first_letters words ≡ letter_of c)
+counted words (commands.Get name) h = (ap length h.1, ap first_letters h.1)
+counted words (commands.Tree name) h = (ap length h.1, ap first_letters h.1)
+counted words (commands.At name) h = (ap length h.1, ap first_letters h.1)
+counted words (commands.Prove name) h = (ap length h.1, ap first_letters h.1)
+counted words (commands.Ls name) h = (ap length h.1, ap first_letters h.1)
+counted words (commands.Cat name) h = (ap length h.1, ap first_letters h.1)
+counted words (commands.Raw name) h = (ap length h.1, ap first_letters h.1)
+counted words commands.Summary h = (ap length h, ap first_letters h)
+counted words commands.Record h = (ap length h.1, ap first_letters h.1)
+counted words c h = (ap length h, ap first_letters h)
 
--- two commands of one text have as many words and one letter
+-- two commands of one text have as many words and the same letters
 abbrev Differ : Command → Command → Type 0
 Differ c d = (count_of c ≡ count_of d) → (letter_of c ≡ letter_of d) → ⊥
 
@@ -101,6 +116,8 @@ same_command law words (commands.Get n) (commands.Get m) h k = ap commands.Get (
 same_command law words (commands.Tree n) (commands.Tree m) h k = ap commands.Tree (same_name law words (codes "tree") (codes "tree") n m h k)
 same_command law words (commands.At n) (commands.At m) h k = ap commands.At (same_root law words (codes "at") n m h k)
 same_command law words (commands.Prove n) (commands.Prove m) h k = ap commands.Prove (same_root law words (codes "prove") n m h k)
+same_command law words (commands.Ls n) (commands.Ls m) h k = ap commands.Ls (same_root law words (codes "ls") n m h k)
+same_command law words (commands.Cat n) (commands.Cat m) h k = ap commands.Cat (same_root law words (codes "cat") n m h k)
 same_command law words (commands.Raw n) (commands.Raw m) h k = ap commands.Raw (same_raw law words n m h k)
 same_command law words commands.Summary commands.Summary h k = refl
 same_command law words commands.Record commands.Record h k = refl
@@ -108,6 +125,8 @@ same_command law words (commands.Get n) d h k = absurd (never_both words (comman
 same_command law words (commands.Tree n) d h k = absurd (never_both words (commands.Tree n) d (λ e f. omega (arith, e, f)) h k)
 same_command law words (commands.At n) d h k = absurd (never_both words (commands.At n) d (λ e f. omega (arith, e, f)) h k)
 same_command law words (commands.Prove n) d h k = absurd (never_both words (commands.Prove n) d (λ e f. omega (arith, e, f)) h k)
+same_command law words (commands.Ls n) d h k = absurd (never_both words (commands.Ls n) d (λ e f. omega (arith, e, f)) h k)
+same_command law words (commands.Cat n) d h k = absurd (never_both words (commands.Cat n) d (λ e f. omega (arith, e, f)) h k)
 same_command law words (commands.Raw n) d h k = absurd (never_both words (commands.Raw n) d (λ e f. omega (arith, e, f)) h k)
 same_command law words commands.Summary d h k = absurd (never_both words commands.Summary d (λ e f. omega (arith, e, f)) h k)
 same_command law words commands.Record d h k = absurd (never_both words commands.Record d (λ e f. omega (arith, e, f)) h k)
@@ -115,30 +134,34 @@ same_command law words c (commands.Get m) h k = absurd (never_both words c (comm
 same_command law words c (commands.Tree m) h k = absurd (never_both words c (commands.Tree m) (λ e f. omega (arith, e, f)) h k)
 same_command law words c (commands.At m) h k = absurd (never_both words c (commands.At m) (λ e f. omega (arith, e, f)) h k)
 same_command law words c (commands.Prove m) h k = absurd (never_both words c (commands.Prove m) (λ e f. omega (arith, e, f)) h k)
+same_command law words c (commands.Ls m) h k = absurd (never_both words c (commands.Ls m) (λ e f. omega (arith, e, f)) h k)
+same_command law words c (commands.Cat m) h k = absurd (never_both words c (commands.Cat m) (λ e f. omega (arith, e, f)) h k)
 same_command law words c (commands.Raw m) h k = absurd (never_both words c (commands.Raw m) (λ e f. omega (arith, e, f)) h k)
 same_command law words c commands.Summary h k = absurd (never_both words c commands.Summary (λ e f. omega (arith, e, f)) h k)
 same_command law words c commands.Record h k = absurd (never_both words c commands.Record (λ e f. omega (arith, e, f)) h k)
 same_command law words c d h k = sym (by_name c tt) ∙ ap by_words (sym h ∙ k) ∙ by_name d tt
 
-three_of_changes : (c : Command) → 3 ≡ count_of c → 99 ≡ letter_of c → ⊥
+three_of_changes : (c : Command) → 3 ≡ count_of c → letters_of (codes "changes") ≡ letter_of c → ⊥
 three_of_changes (commands.Raw n) e f = omega (arith, f)
 three_of_changes c e f = omega (arith, e)
 
 -- the words of `changes` are no command
 pub changes_apart : (words : List (List ℕ)) (old new : List ℕ) (c : Command) → IsChanges words old new → IsCommand words c → ⊥
-changes_apart words old new c h k = three_of_changes c (sym (ap length h.0) ∙ (counted words c k).0) (sym (ap first_letter h.0) ∙ (counted words c k).1)
+changes_apart words old new c h k = three_of_changes c (sym (ap length h.0) ∙ (counted words c k).0) (sym (ap first_letters h.0) ∙ (counted words c k).1)
 
 -- ---- which words are none
 
 -- a word and a text
-pub no_word : (word text : List ℕ) → word ≢ codes "at" → word ≢ codes "prove" → word ≢ codes "check" → word ≢ codes "record" → ((n : CidParts) → ((word ≡ codes "get") ⊎ (word ≡ codes "tree")) → IsTextOf text n → ⊥) → (c : Command) → IsCommand (word ∷ text ∷ []) c → ⊥
-no_word word text no_at no_prove no_check no_record other (commands.Get n) h = other n (inl (ap (λ ws. get_or ws 0 []) h.1)) (subst (λ t. IsTextOf t n) (sym (ap (λ ws. get_or ws 1 []) h.1)) h.2)
-no_word word text no_at no_prove no_check no_record other (commands.Tree n) h = other n (inr (ap (λ ws. get_or ws 0 []) h.1)) (subst (λ t. IsTextOf t n) (sym (ap (λ ws. get_or ws 1 []) h.1)) h.2)
-no_word word text no_at no_prove no_check no_record other (commands.At n) h = no_at (ap (λ ws. get_or ws 0 []) h.1)
-no_word word text no_at no_prove no_check no_record other (commands.Prove n) h = no_prove (ap (λ ws. get_or ws 0 []) h.1)
-no_word word text no_at no_prove no_check no_record other commands.Summary h = no_check (ap (λ ws. get_or ws 0 []) h)
-no_word word text no_at no_prove no_check no_record other commands.Record h = no_record (ap (λ ws. get_or ws 0 []) h.1)
-no_word word text no_at no_prove no_check no_record other c h = let two = (counted (word ∷ text ∷ []) c h).0 in absurd (omega (arith, two))
+pub no_word : (word text : List ℕ) → word ≢ codes "at" → word ≢ codes "prove" → word ≢ codes "ls" → word ≢ codes "cat" → word ≢ codes "check" → word ≢ codes "record" → ((n : CidParts) → ((word ≡ codes "get") ⊎ (word ≡ codes "tree")) → IsTextOf text n → ⊥) → (c : Command) → IsCommand (word ∷ text ∷ []) c → ⊥
+no_word word text no_at no_prove no_ls no_cat no_check no_record other (commands.Get n) h = other n (inl (ap (λ ws. get_or ws 0 []) h.1)) (subst (λ t. IsTextOf t n) (sym (ap (λ ws. get_or ws 1 []) h.1)) h.2)
+no_word word text no_at no_prove no_ls no_cat no_check no_record other (commands.Tree n) h = other n (inr (ap (λ ws. get_or ws 0 []) h.1)) (subst (λ t. IsTextOf t n) (sym (ap (λ ws. get_or ws 1 []) h.1)) h.2)
+no_word word text no_at no_prove no_ls no_cat no_check no_record other (commands.At n) h = no_at (ap (λ ws. get_or ws 0 []) h.1)
+no_word word text no_at no_prove no_ls no_cat no_check no_record other (commands.Prove n) h = no_prove (ap (λ ws. get_or ws 0 []) h.1)
+no_word word text no_at no_prove no_ls no_cat no_check no_record other (commands.Ls n) h = no_ls (ap (λ ws. get_or ws 0 []) h.1)
+no_word word text no_at no_prove no_ls no_cat no_check no_record other (commands.Cat n) h = no_cat (ap (λ ws. get_or ws 0 []) h.1)
+no_word word text no_at no_prove no_ls no_cat no_check no_record other commands.Summary h = no_check (ap (λ ws. get_or ws 0 []) h)
+no_word word text no_at no_prove no_ls no_cat no_check no_record other commands.Record h = no_record (ap (λ ws. get_or ws 0 []) h.1)
+no_word word text no_at no_prove no_ls no_cat no_check no_record other c h = let two = (counted (word ∷ text ∷ []) c h).0 in absurd (omega (arith, two))
 
 pub word_on : (word text : List ℕ) (n : CidParts) (c : Command) → IsTextOf text n → IsCommandOn word n c → IsCommand (word ∷ text ∷ []) c
 word_on word text n c is (inl k) = subst (IsCommand (word ∷ text ∷ [])) (sym k.1) (text, ap (λ w. w ∷ text ∷ []) k.0, is)
@@ -149,9 +172,9 @@ abbrev pub IsCommandOf : List (List ℕ) → Option Command → Type 0
 IsCommandOf words o = MatchOption o ((c : Command) → IsCommand words c → ⊥) (λ c. IsCommand words c)
 
 -- what a word and a text are
-pub words_on : (word text : List ℕ) (n : CidParts) (o : Option Command) → word ≢ codes "at" → word ≢ codes "prove" → word ≢ codes "check" → word ≢ codes "record" → IsTextOf text n → MatchOption o ((word ≢ codes "get") × (word ≢ codes "tree")) (IsCommandOn word n) → IsCommandOf (word ∷ text ∷ []) o
-words_on word text n None no_at no_prove no_check no_record is h = no_word word text no_at no_prove no_check no_record (λ m w t. elim w [ inl g ↦ h.0 g | inr r ↦ h.1 r ])
-words_on word text n (Some c) no_at no_prove no_check no_record is h = word_on word text n c is h
+pub words_on : (word text : List ℕ) (n : CidParts) (o : Option Command) → word ≢ codes "at" → word ≢ codes "prove" → word ≢ codes "ls" → word ≢ codes "cat" → word ≢ codes "check" → word ≢ codes "record" → IsTextOf text n → MatchOption o ((word ≢ codes "get") × (word ≢ codes "tree")) (IsCommandOn word n) → IsCommandOf (word ∷ text ∷ []) o
+words_on word text n None no_at no_prove no_ls no_cat no_check no_record is h = no_word word text no_at no_prove no_ls no_cat no_check no_record (λ m w t. elim w [ inl g ↦ h.0 g | inr r ↦ h.1 r ])
+words_on word text n (Some c) no_at no_prove no_ls no_cat no_check no_record is h = word_on word text n c is h
 
 -- the word `at` and a text
 pub at_root : (word text : List ℕ) (n : CidParts) → word ≡ codes "at" → IsTextOf (name_part text) n → IsCommand (word ∷ text ∷ []) (commands.At n)
@@ -160,6 +183,14 @@ at_root word text n at is = (text, ap (λ w. w ∷ text ∷ []) at, is)
 -- the word `prove` and a text
 pub prove_root : (word text : List ℕ) (n : CidParts) → word ≡ codes "prove" → IsTextOf (name_part text) n → IsCommand (word ∷ text ∷ []) (commands.Prove n)
 prove_root word text n prove is = (text, ap (λ w. w ∷ text ∷ []) prove, is)
+
+-- the word `ls` and a text
+pub ls_root : (word text : List ℕ) (n : CidParts) → word ≡ codes "ls" → IsTextOf (name_part text) n → IsCommand (word ∷ text ∷ []) (commands.Ls n)
+ls_root word text n ls is = (text, ap (λ w. w ∷ text ∷ []) ls, is)
+
+-- the word `cat` and a text
+pub cat_root : (word text : List ℕ) (n : CidParts) → word ≡ codes "cat" → IsTextOf (name_part text) n → IsCommand (word ∷ text ∷ []) (commands.Cat n)
+cat_root word text n cat is = (text, ap (λ w. w ∷ text ∷ []) cat, is)
 
 -- the word `record` and a key
 pub record_key : (word text : List ℕ) → word ≡ codes "record" → IsCommand (word ∷ text ∷ []) commands.Record
@@ -174,8 +205,8 @@ check_words word text None is h = none
     none commands.Summary k = h (ap (λ ws. get_or ws 1 []) k)
     none c k =
         let a = counted (word ∷ text ∷ []) c k in
-        let letter : get_or word 0 0 ≡ 99 = ap (λ w. get_or w 0 0) is in
-        omega (arith, a.0, a.1, letter)
+        let letters : letters_of word ≡ letters_of (codes "check") = ap letters_of is in
+        omega (arith, a.0, a.1, letters)
 
 pub is_word : (name word : List ℕ) (t : Bool) → t ≡ bytes_eq word name → t ≡ true → word ≡ name
 is_word name word t e h = (bytes_eq-Decides word name).0 (sym e ∙ h)

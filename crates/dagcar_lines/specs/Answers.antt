@@ -29,6 +29,7 @@ use Rattle.dagcar_lines.specs.Help.{help_text, version_text}
 use Rattle.dagcbor_paths.specs.Paths.{segments}
 use Rattle.dagcar_lines.specs.Finding.{IsGot, IsTreeOfFile}
 use Rattle.dagcar_lines.specs.Paths.{IsAnswerOfFile}
+use Rattle.dagcar_lines.specs.Files.{IsListingOfFile, SaysFileOf}
 use Rattle.dagcar_lines.specs.Commands.{path_part}
 use Rattle.record_lines.specs.Records.{IsRecords, IsRecord}
 use Rattle.dagcar_lines.specs.declared.at.Asked.TheVariants as asks
@@ -147,6 +148,8 @@ RunsCommand (commands.Tree root) text b old heard ended new after = SaysBoth (Is
 RunsCommand (commands.At root) text b old heard ended new after = SaysBoth (IsAnswerOfFile asks.Data root (segments (path_part text)) b) old heard ended new after
 RunsCommand (commands.Raw root) text b old heard ended new after = SaysBoth (IsAnswerOfFile asks.Bytes root (segments (path_part text)) b) old heard ended new after
 RunsCommand (commands.Prove root) text b old heard ended new after = SaysBoth (IsAnswerOfFile asks.Proof root (segments (path_part text)) b) old heard ended new after
+RunsCommand (commands.Ls root) text b old heard ended new after = SaysBoth (IsListingOfFile root (segments (path_part text)) b) old heard ended new after
+RunsCommand (commands.Cat root) text b old heard ended new after = SaysFileOf root (segments (path_part text)) b old heard ended new after
 RunsCommand commands.Records text b old heard ended new after = SaysBoth (IsRecords b) old heard ended new after
 RunsCommand commands.Record text b old heard ended new after = SaysBoth (IsRecord text b) old heard ended new after
 
@@ -164,6 +167,8 @@ IsQuiet (commands.Tree root) = ⊥
 IsQuiet (commands.At root) = ⊥
 IsQuiet (commands.Raw root) = ⊥
 IsQuiet (commands.Prove root) = ⊥
+IsQuiet (commands.Ls root) = ⊥
+IsQuiet (commands.Cat root) = ⊥
 IsQuiet commands.Records = ⊥
 IsQuiet commands.Record = ⊥
 IsQuiet _ = ⊤

@@ -24,6 +24,8 @@ command_name (commands.Tree name) = codes "tree"
 command_name (commands.At name) = codes "at"
 command_name (commands.Raw name) = codes "at"
 command_name (commands.Prove name) = codes "prove"
+command_name (commands.Ls name) = codes "ls"
+command_name (commands.Cat name) = codes "cat"
 command_name commands.Records = codes "records"
 command_name commands.Record = codes "record"
 
@@ -48,14 +50,16 @@ IsWordOf words word name = (text : List ℕ) × (words ≡ word ∷ text ∷ [])
 abbrev pub IsRootOf : List (List ℕ) → List ℕ → CidParts → Type 0
 IsRootOf words word name = (text : List ℕ) × (words ≡ word ∷ text ∷ []) × IsTextOf (name_part text) name
 
--- the words are the command: the one that names it; of `get` and `tree` also a CID; of `at` and `prove`
--- also one before a path; of `at` also `--raw` before that; of `record` any text, the key; and `check`
+-- the words are the command: the one that names it; of `get` and `tree` also a CID; of `at`, `prove`, `ls`
+-- and `cat` also one before a path; of `at` also `--raw` before that; of `record` any text, the key; and `check`
 -- with `--summary`
 abbrev pub IsCommand : List (List ℕ) → Command → Type 0
 IsCommand words (commands.Get name) = IsWordOf words (codes "get") name
 IsCommand words (commands.Tree name) = IsWordOf words (codes "tree") name
 IsCommand words (commands.At name) = IsRootOf words (codes "at") name
 IsCommand words (commands.Prove name) = IsRootOf words (codes "prove") name
+IsCommand words (commands.Ls name) = IsRootOf words (codes "ls") name
+IsCommand words (commands.Cat name) = IsRootOf words (codes "cat") name
 IsCommand words (commands.Raw name) = (text : List ℕ)
     × (words ≡ codes "at" ∷ codes "--raw" ∷ text ∷ []) × IsTextOf (name_part text) name
 IsCommand words commands.Record = (text : List ℕ) × (words ≡ codes "record" ∷ text ∷ [])
@@ -65,7 +69,7 @@ IsCommand words command = words ≡ command_name command ∷ []
 -- no CID stands in two words where one should, for this cause
 abbrev pub IsMistypedIn : List ℕ → List ℕ → CidTextError → Type 0
 IsMistypedIn word text e = (((word ≡ codes "get") ⊎ (word ≡ codes "tree")) × IsTextFault e text)
-    ⊎ ((((word ≡ codes "at") × (text ≢ codes "--raw")) ⊎ (word ≡ codes "prove"))
+    ⊎ ((((word ≡ codes "at") × (text ≢ codes "--raw")) ⊎ ((word ≡ codes "prove") ⊎ ((word ≡ codes "ls") ⊎ (word ≡ codes "cat"))))
     × IsTextFault e (name_part text))
 
 -- none stands in the words, or behind `at --raw`

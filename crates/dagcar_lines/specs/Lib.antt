@@ -5,6 +5,7 @@ pub mod Commands
 pub mod Steps
 pub mod Finding
 pub mod Paths
+pub mod Files
 pub mod Summary
 pub mod Help
 pub mod Answers

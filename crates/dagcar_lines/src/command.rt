@@ -8,6 +8,7 @@ ghost use Rattle.dagcbor_cli.specs.declared.fault.ToolError.{ToolError};
 ghost use Rattle.dagcar_lines.specs.Commands.{IsCommand, IsCommandOn, IsMistyped};
 ghost use Rattle.dagcar_lines.specs.Commands.{name_part, path_part, text_of};
 ghost use Rattle.dagcar_lines.specs.Paths.{IsAnswerOfFile};
+ghost use Rattle.dagcar_lines.specs.Files.{IsListingOfFile, SaysFileOf};
 ghost use Rattle.dagcbor_paths.specs.Paths.{segments};
 ghost use Rattle.dagcar_lines.specs.declared.command.Command.TheVariants.{Summary};
 ghost use Rattle.ipld_tree.specs.Cid.{CidParts};
@@ -18,6 +19,7 @@ ghost use Rattle.dagcbor_cli.specs.Writing.{WritesFront};
 use crate::answer::say_answer;
 use crate::at::{Asked, write_asked};
 use crate::block::{Judging, Naming, Showing};
+use crate::files::{write_entries, write_file};
 use crate::get::get_block;
 use crate::help::{help_text, version_text};
 use crate::list::Listing;
@@ -41,7 +43,7 @@ use std::io::{BufRead, Write};
 /// What is told of wrong words.
 pub const USAGE: &str =
     "usage: dagcar check [--summary]|verify|list|name|one|show|make|get CID|tree CID\
-    |at [--raw] CID/PATH|prove CID/PATH|records|record KEY|changes OLD NEW\n";
+    |at [--raw] CID/PATH|prove CID/PATH|ls CID/PATH|cat CID/PATH|records|record KEY|changes OLD NEW\n";
 
 /// What is told of want of memory.
 pub const OUT_OF_MEMORY: &str = "dagcar: out of memory\n";
@@ -79,6 +81,10 @@ pub enum Command {
     Raw(Cid),
     /// To write the file that proves what a path leads to from this root.
     Prove(Cid),
+    /// To list what stands under a path of names from this root.
+    Ls(Cid),
+    /// To write the bytes of the file to which a path of names leads from this root.
+    Cat(Cid),
     /// To list the records of a repository.
     Records,
     /// To show one record of a repository.
@@ -171,8 +177,8 @@ fn text_of(args: &[String]) -> &str
     }
 }
 
-/// The command of a word and a text: a CID, with a path behind it where the word is `at` or `prove`;
-/// or what stands behind `check` or `record`.
+/// The command of a word and a text: a CID, with a path behind it where the word is `at`, `prove`,
+/// `ls` or `cat`; or what stands behind `check` or `record`.
 fn command_on_text(word: &str, text: &str) -> Option<Command>
     ensures { MatchOption result ((c : Command) → ¬ IsCommand (word.now ∷ text.now ∷ []) c)
         (λ c. IsCommand (word.now ∷ text.now ∷ []) c) }
@@ -182,6 +188,12 @@ fn command_on_text(word: &str, text: &str) -> Option<Command>
     }
     if word == "prove" {
         return Some(Command::Prove(root_in(text)?));
+    }
+    if word == "ls" {
+        return Some(Command::Ls(root_in(text)?));
+    }
+    if word == "cat" {
+        return Some(Command::Cat(root_in(text)?));
     }
     if word == "check" {
         return check_with(text);
@@ -226,7 +238,7 @@ fn no_cid_behind(word: &str, text: &str) -> Option<CidTextError>
     match word {
         "get" | "tree" => text_fault(text),
         "at" if text == "--raw" => None,
-        "at" | "prove" => text_fault(split_path(text).0),
+        "at" | "prove" | "ls" | "cat" => text_fault(split_path(text).0),
         _ => None,
     }
 }
@@ -355,6 +367,41 @@ fn say_path<R: BufRead, W: Write, V: Write>(
     write_asked(alloc, asked, root, path, input, output, errors)
 }
 
+/// Lists what stands under the path in the text from this root. Whether nothing is wrong.
+fn say_entries_at<R: BufRead, W: Write, V: Write>(
+    alloc: Global,
+    root: &Cid,
+    text: &str,
+    input: &mut R,
+    output: &mut W,
+    errors: &mut V,
+) -> Result<bool, ToolError>
+    ensures { IfSome (R.remaining input.old) (λ b.
+        SaysBoth (IsListingOfFile root.now (segments (path_part text.now)) b)
+        (W.contents output.old) (V.contents errors.old) result (W.contents output.new)
+        (V.contents errors.new)) }
+{
+    let (_name, path) = split_path(text);
+    write_entries(alloc, root, path, input, output, errors)
+}
+
+/// Writes the bytes of the file to which the path in the text leads from this root. Whether it is whole.
+fn say_file_at<R: BufRead, W: Write, V: Write>(
+    alloc: Global,
+    root: &Cid,
+    text: &str,
+    input: &mut R,
+    output: &mut W,
+    errors: &mut V,
+) -> Result<bool, ToolError>
+    ensures { IfSome (R.remaining input.old) (λ b.
+        SaysFileOf root.now (segments (path_part text.now)) b (W.contents output.old)
+        (V.contents errors.old) result (W.contents output.new) (V.contents errors.new)) }
+{
+    let (_name, path) = split_path(text);
+    write_file(alloc, root, path, input, output, errors)
+}
+
 /// Says of the input what the command asks, and answers whether nothing is wrong.
 pub fn run<R: BufRead, W: Write, V: Write>(
     alloc: Global,
@@ -390,6 +437,8 @@ pub fn run<R: BufRead, W: Write, V: Write>(
         Command::At(root) => say_path(alloc, Asked::Data, &root, text, input, output, errors),
         Command::Raw(root) => say_path(alloc, Asked::Bytes, &root, text, input, output, errors),
         Command::Prove(root) => say_path(alloc, Asked::Proof, &root, text, input, output, errors),
+        Command::Ls(root) => say_entries_at(alloc, &root, text, input, output, errors),
+        Command::Cat(root) => say_file_at(alloc, &root, text, input, output, errors),
         Command::Records => write_records(alloc, input, output, errors),
         Command::Record => write_record(alloc, text, input, output, errors),
     }

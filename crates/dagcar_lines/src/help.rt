@@ -9,6 +9,7 @@ const HELP: &str = "usage: dagcar check [--summary] [FILE]
        dagcar get|tree CID [FILE]
        dagcar at [--raw] CID/PATH [FILE]
        dagcar prove CID/PATH [FILE]
+       dagcar ls|cat CID/PATH [FILE]
        dagcar records [FILE]
        dagcar record KEY [FILE]
        dagcar changes OLD NEW
@@ -21,6 +22,8 @@ Of a file of blocks (CAR, version 1 or 2); without FILE, or with -, standard inp
   tree     the file of the blocks that links lead to
   at       the data that a path leads to, as DAG-JSON; --raw writes its bytes
   prove    the file of the blocks on a path, over which at answers the same
+  ls       the entries of the directory of IPFS that a path of names leads to
+  cat      the bytes of the file that it leads to
   records  the keys of a repository's records (AT Protocol), and their CIDs
   record   the record of a key, as DAG-JSON
   changes  the keys whose records differ between two repositories, and their CIDs

@@ -9,6 +9,7 @@ mod changes;
 mod check;
 mod command;
 mod device;
+mod files;
 mod get;
 mod help;
 pub mod laws;

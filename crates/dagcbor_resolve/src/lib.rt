@@ -5,5 +5,5 @@ pub mod laws;
 mod resolution;
 mod way;
 
-pub use resolution::{End, Resolved, Step, item_bytes, resolve, resolve_step};
+pub use resolution::{End, Resolved, Step, bytes_under, item_bytes, resolve, resolve_step};
 pub use way::{Way, each_once, resolve_way};

@@ -50,7 +50,7 @@ pub struct Resolved<'p> {
 }
 
 /// The bytes under the name, of which these are stored: a name by the identity holds its block itself.
-fn bytes_under<'b>(name: &'b Cid, stored: Option<&'b [u8]>) -> Option<&'b [u8]>
+pub fn bytes_under<'b>(name: &'b Cid, stored: Option<&'b [u8]>) -> Option<&'b [u8]>
     ensures { (all : Stored) → all name.now ≡ option_map (λ b. b.now) stored.entry
         → FindsBytes (λ b. b.now) all name.now result }
 {

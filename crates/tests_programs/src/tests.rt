@@ -1,6 +1,7 @@
 mod changes;
 mod dagcar;
 mod dagcbor;
+mod files;
 mod found;
 mod make;
 mod paths;

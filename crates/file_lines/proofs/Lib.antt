@@ -1,0 +1,4 @@
+pub mod Contents
+pub mod Paths
+pub mod Listing
+pub mod Shown

@@ -1,0 +1,88 @@
+-- The entries of a directory, link by link.
+use Rattle.std.proofs.Common.{◌≡◌, inl, inr, ℕ, List, [], ◌∷◌, ◌++◌, Bool, true, false, ◌&&◌, refl, sym, ap, ◌∙◌, subst, append_assoc, append-nil, Result, Ok, Err, IfOk, None, Some, cond, Vec, BTreeMap, Global}
+use Rattle.std.specs.Map.{lookup}
+use Rattle.std.specs.BTreeMap.{is_at, get}
+use Rattle.ipld_links.proofs.Members.{at_same}
+use Rattle.dag_pb.specs.Node.{LinkParts, Field, BeginsWithFields, NodeParts, IsNode}
+use Rattle.dag_pb.specs.Reads.{links_in}
+use Rattle.dag_pb.proofs.Orders.{node_links_in}
+use Rattle.unix_fs.specs.Reading.{HasRow}
+use Rattle.unix_fs.specs.declared.entity.Entity.{Entity}
+use Rattle.ipld_tree.specs.Cid.{CidParts, cid_cmp}
+use Rattle.ipld_links.specs.Reaching.{Stored}
+use Rattle.block_lines.specs.Lines.{IsSaidOfEach}
+use Rattle.block_lines.proofs.Saying.{each_push}
+use Rattle.file_lines.specs.declared.stop.Stop.{Stop}
+use Rattle.file_lines.specs.Entries.{IsEntityAt, IsNoEntityAt, AreWordsOf, KnowsWords, IsEntry, entity_words, stop_words, IsListingOf, IsListingUnder}
+
+-- ---- words
+
+pub entity_said : (stored : Stored) (cid : CidParts) (b : List ℕ) (entity : Entity) (words : List ℕ) → IsEntityAt stored cid b entity → words ≡ entity_words entity → AreWordsOf stored cid true words
+entity_said stored cid b entity words is same = inl (b, entity, is, refl, same)
+
+pub stop_said : (stored : Stored) (cid : CidParts) (stop : Stop) (words : List ℕ) → IsNoEntityAt stored cid stop → words ≡ stop_words stop → AreWordsOf stored cid false words
+stop_said stored cid stop words is same = inr (stop, is, refl, same)
+
+-- no words are known
+pub knows_none : (stored : Stored) (known : BTreeMap CidParts (Vec ℕ Global × Bool)) → known.entries ≡ [] → KnowsWords stored known
+knows_none stored known none = λ cid said e.
+    let free : lookup (is_at (cid_cmp cid)) known.entries ≡ None = ap (λ es. lookup (is_at (cid_cmp cid)) es) none in
+    absurd (nothing (sym free ∙ e))
+  where
+    nothing : {said : Vec ℕ Global × Bool} → None ≡ Some said → ⊥
+    nothing e = cc e
+
+-- those of one block more
+pub knows_more : (stored : Stored) (old new : BTreeMap CidParts (Vec ℕ Global × Bool)) (name : CidParts) (said : Vec ℕ Global × Bool) → KnowsWords stored old → ((q : CidParts) → get cid_cmp new q ≡ cond (is_at (cid_cmp name) q) (Some said) (get cid_cmp old q)) → AreWordsOf stored name said.1 said.0.items → KnowsWords stored new
+knows_more stored old new name said h put is = λ q s e. found q s (is_at (cid_cmp name) q) refl (sym (put q) ∙ e)
+  where
+    found : (q : CidParts) (s : Vec ℕ Global × Bool) (t : Bool) → is_at (cid_cmp name) q ≡ t → cond t (Some said) (get cid_cmp old q) ≡ Some s → AreWordsOf stored q s.1 s.0.items
+    found q s true t e =
+        let same : said ≡ s = cc e in
+        subst (λ x. AreWordsOf stored x s.1 s.0.items) (at_same name q t) (subst (λ (x : Vec ℕ Global × Bool). AreWordsOf stored name x.1 x.0.items) same is)
+    found q s false t e = h q s e
+
+-- ---- the entries
+
+-- The links before what is left of the block are listed.
+pub record IsListedTo (stored : Stored) (block links : List ℕ) (well : Bool) (out : List ℕ) : Type 0 where
+  pub row : HasRow links
+  pub done : List LinkParts
+  pub listed : IsSaidOfEach (IsEntry stored) done well out
+  pub same : (all : List Field) → BeginsWithFields block all [] → (more : List Field) × BeginsWithFields links more []
+      × (links_in all ≡ done ++ links_in more)
+
+pub none_listed : (stored : Stored) (block : List ℕ) → HasRow block → IsListedTo stored block block true []
+none_listed stored block row = record { row = row; done = []; listed = (refl, refl); same = λ all h. (all, h, refl) }
+
+-- what `next_link` says of a link
+abbrev GivesLink : List ℕ → LinkParts → List ℕ → Type 0
+GivesLink links link behind = (row : List Field) → BeginsWithFields links row []
+    → (more : List Field) × BeginsWithFields behind more [] × (links_in row ≡ link ∷ links_in more)
+
+pub one_listed : (stored : Stored) (block links behind : List ℕ) (link : LinkParts) (well first : Bool) (out line : List ℕ) → IsListedTo stored block links well out → GivesLink links link behind → IsEntry stored link first line
+    → IsListedTo stored block behind (well && first) (out ++ line)
+one_listed stored block links behind link well first out line h next entry = record {
+  row = let k = next h.row.0 h.row.1 in (k.0, k.1);
+  done = h.done ++ link ∷ [];
+  listed = each_push (IsEntry stored) h.done link well first out line h.listed entry;
+  same = λ all begins.
+      let s = h.same all begins in
+      let k = next s.0 s.1 in
+      (k.0, k.1, s.2 ∙ ap (λ x. h.done ++ x) k.2 ∙ sym (append_assoc h.done (link ∷ []) (links_in k.0)));
+}
+
+pub all_listed : (stored : Stored) (block links : List ℕ) (well : Bool) (out : List ℕ) → IsListedTo stored block links well out → ((row : List Field) → BeginsWithFields links row [] → links_in row ≡ [])
+    → (node : NodeParts) → IsNode block node → IsSaidOfEach (IsEntry stored) node.links well out
+all_listed stored block links well out h none node is =
+    let s = h.same is.0 is.1 in
+    subst (λ x. IsSaidOfEach (IsEntry stored) x well out) (sym (append-nil h.done) ∙ sym (ap (λ x. h.done ++ x) (none s.0 s.1)) ∙ sym s.2 ∙ node_links_in is.0 node is.2) h.listed
+
+-- ---- the listing
+
+pub if_ok_map : {A E : Type 0} (P Q : A → Type 0) (r : Result A E) → ((a : A) → P a → Q a) → IfOk r P → IfOk r Q
+if_ok_map P Q (Ok a) f h = f a h
+if_ok_map P Q (Err e) f h = h
+
+pub listed_under : (stored : Stored) (cid : CidParts) (b : List ℕ) (entity : Entity) (well : Bool) (out told : List ℕ) → IsEntityAt stored cid b entity → IsListingOf stored cid b entity well out told → IsListingUnder stored cid well out told
+listed_under stored cid b entity well out told is h = inl (b, entity, is, h)

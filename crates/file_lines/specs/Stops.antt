@@ -1,0 +1,50 @@
+-- The line that tells why a file is not read on.
+use Rattle.std.specs.Prelude.{ℕ, List, ◌∷◌, ◌++◌, codes, Bool, true, false}
+use Rattle.ipld_tree.specs.Cid.{CidParts}
+use Rattle.cid_text.specs.Texts.{cid_text}
+use Rattle.block_lines.specs.Lines.{line, missing_line, verdict_text}
+use Rattle.unix_fs.specs.declared.error.UnixFsCause.{UnixFsCause}
+use Rattle.unix_fs.specs.declared.error.UnixFsCause.TheVariants as causes
+use Rattle.unix_fs.specs.declared.file_error.FileError.{FileError}
+use Rattle.unix_fs.specs.declared.file_error.FileError.TheVariants as errors
+use Rattle.file_lines.specs.declared.stop.Stop.{Stop}
+use Rattle.file_lines.specs.declared.stop.Stop.TheVariants as stops
+
+-- the name of the variant of a cause for which bytes are no message of UnixFS
+abbrev pub cause_name : UnixFsCause → List ℕ
+cause_name causes.Truncated = codes "Truncated"
+cause_name causes.InvalidVarint = codes "InvalidVarint"
+cause_name (causes.UnexpectedField tag) = codes "UnexpectedField"
+cause_name causes.PackedSizes = codes "PackedSizes"
+cause_name (causes.UnknownKind number) = codes "UnknownKind"
+cause_name causes.NoKind = codes "NoKind"
+
+-- the name of the variant of a refusal of a block; of a message that is none, that of its cause
+abbrev pub file_error_name : FileError → List ℕ
+file_error_name errors.NothingWanted = codes "NothingWanted"
+file_error_name errors.TooDeep = codes "TooDeep"
+file_error_name (errors.OtherCodec codec) = codes "OtherCodec"
+file_error_name (errors.NotANode e) = codes "NotANode"
+file_error_name errors.NoData = codes "NoData"
+file_error_name (errors.NoMessage e) = cause_name e.cause
+file_error_name (errors.NotAFile kind) = codes "NotAFile"
+file_error_name errors.EmptyPart = codes "EmptyPart"
+file_error_name errors.WrongLinks = codes "WrongLinks"
+file_error_name errors.WrongSize = codes "WrongSize"
+file_error_name errors.OutOfMemory = codes "OutOfMemory"
+
+-- the refusal is no want of memory
+abbrev pub is_cause : FileError → Bool
+is_cause errors.OutOfMemory = false
+is_cause _ = true
+
+-- the file is the reason, and not want of memory
+abbrev pub is_of_file : Stop → Bool
+is_of_file (stops.NoPart e) = is_cause e
+is_of_file _ = true
+
+-- of the block of this name
+abbrev pub stop_line : CidParts → Stop → List ℕ
+stop_line name stops.Missing = missing_line name
+stop_line name (stops.NoBlock verdict) = line (cid_text name ++ (32 ∷ verdict_text verdict))
+stop_line name (stops.NoPart e) = line (cid_text name ++ (codes " refused " ++ file_error_name e))

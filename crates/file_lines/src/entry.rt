@@ -1,0 +1,186 @@
+//! One entry of a directory.
+
+ghost use Rattle.std.specs.Prelude.{◌≡◌, ◌∷◌, ◌++◌, ◌<◌, List, option_map, IfOk, MatchResult};
+ghost use Rattle.std.specs.List.{flat_map};
+ghost use Rattle.ipld_links.specs.Reaching.{Stored, AreBytesOf, stored_in};
+ghost use Rattle.dag_pb.specs.Reads.{link_of};
+ghost use Rattle.file_lines.specs.Entries.{IsEntityAt, IsNoEntityAt, AreWordsOf, KnowsWords, IsEntry};
+ghost use Rattle.file_lines.specs.Entries.{entity_words, stop_words, entry_line, is_shown, shown_byte, hex_digit};
+
+use crate::stop::Stop;
+use block_lines::{Said, is_well, line_of};
+use cid_text::cid_text;
+use dag_pb::PbLink;
+use dagcbor_resolve::bytes_under;
+use ipld_links::{stored_bytes, verify};
+use ipld_tree::Cid;
+use std::alloc::{AllocError, Global};
+use std::collections::BTreeMap;
+use unix_fs::{Entity, read_entity};
+
+/// What the block under the CID is, which has these bytes.
+fn entity_named<'b>(cid: &Cid, bytes: &'b [u8]) -> Result<Entity<'b>, Stop>
+    ensures { (stored : Stored) → AreBytesOf stored cid.now bytes.now → MatchResult result
+        (IsEntityAt stored cid.now bytes.now) (IsNoEntityAt stored cid.now) }
+{
+    let verdict = verify(cid, bytes);
+    if is_well(&verdict) {
+        match read_entity(cid, bytes) {
+            Ok(entity) => Ok(entity),
+            Err(error) => Err(Stop::NoPart(error)),
+        }
+    } else {
+        Err(Stop::NoBlock(verdict))
+    }
+}
+
+/// The block under the CID, of which these bytes are stored, and what it is; or why it is nothing of
+/// UnixFS.
+pub(crate) fn entity_stored<'b>(
+    cid: &'b Cid,
+    stored: Option<&'b [u8]>,
+) -> Result<(&'b [u8], Entity<'b>), Stop>
+    ensures { (all : Stored) → all cid.now ≡ option_map (λ b. b.now) stored.entry
+        → MatchResult result (λ p. IsEntityAt all cid.now p.0.now p.1) (IsNoEntityAt all cid.now) }
+{
+    match bytes_under(cid, stored) {
+        Some(bytes) => match entity_named(cid, bytes) {
+            Ok(entity) => Ok((bytes, entity)),
+            Err(stop) => Err(stop),
+        },
+        None => Err(Stop::Missing),
+    }
+}
+
+/// The kind and the size of what a block is.
+pub(crate) fn entity_words(alloc: Global, entity: &Entity<'_>) -> Result<Vec<u8>, AllocError>
+    ensures { IfOk result (λ v. v.items ≡ entity_words entity.now) }
+{
+    match entity {
+        Entity::File(Some(size)) => Ok(format!(in alloc; "file {size} ")?.into_bytes()),
+        Entity::File(None) => b"file - ".to_vec(alloc),
+        Entity::Directory => b"directory - ".to_vec(alloc),
+        Entity::Shard => b"shard - ".to_vec(alloc),
+        Entity::Symlink(target) => {
+            Ok(format!(in alloc; "symlink {} ", target.len())?.into_bytes())
+        }
+        Entity::Metadata => b"metadata - ".to_vec(alloc),
+    }
+}
+
+/// What stands in place of the kind and the size of a block that has none.
+fn stop_words(stop: &Stop) -> &'static [u8]
+    ensures { result.now ≡ stop_words stop.now }
+{
+    match stop {
+        Stop::Missing => b"missing - ",
+        Stop::NoBlock(_) => b"refused - ",
+        Stop::NoPart(_) => b"refused - ",
+    }
+}
+
+/// Whether a byte of a name is written as it is.
+fn is_shown(byte: u8) -> bool
+    ensures { result ≡ is_shown byte }
+{
+    byte >= 0x20 && byte != 0x7f && byte != b'\\'
+}
+
+/// The digit of the base 16.
+fn hex_digit(number: u8) -> u8
+    requires { number < 16 }
+    ensures { result ≡ hex_digit number }
+{
+    if number < 10 {
+        b'0' + number
+    } else {
+        b'a' + (number - 10)
+    }
+}
+
+/// Writes a byte of a name after the text: as it is, or as `\x` and two digits.
+fn push_shown(out: &mut Vec<u8>, byte: u8) -> Result<(), AllocError>
+    ensures { IfOk result (λ _. out.new.items ≡ out.old.items ++ shown_byte byte) }
+{
+    if is_shown(byte) {
+        out.push(byte)?;
+        return Ok(());
+    }
+    out.extend_from_slice(&[b'\\', b'x', hex_digit(byte / 16), hex_digit(byte % 16)])
+}
+
+/// A space, and the name as it is written, which breaks no line.
+fn shown_name(alloc: Global, name: &[u8]) -> Result<Vec<u8>, AllocError>
+    ensures { IfOk result (λ v. v.items ≡ 32 ∷ flat_map shown_byte name.now) }
+{
+    let mut out = Vec::new(alloc);
+    out.push(b' ')?;
+    for byte in name {
+        push_shown(&mut out, *byte)?;
+    }
+    Ok(out)
+}
+
+/// The line of an entry, of whose block these are the words.
+fn entry_line(alloc: Global, words: &[u8], link: &PbLink<'_>) -> Result<Vec<u8>, AllocError>
+    ensures { IfOk result (λ v. v.items ≡ entry_line words.now (link_of link.now)) }
+{
+    let name = match link.name {
+        Some(name) => shown_name(alloc, name)?,
+        None => shown_name(alloc, b"")?,
+    };
+    line_of(alloc, words, &cid_text(&link.hash), &name)
+}
+
+/// The words of the block under the CID, and whether it has a kind.
+fn words_under(
+    alloc: Global,
+    cid: &Cid,
+    blocks: &BTreeMap<Cid, Vec<u8>>,
+) -> Result<Said, AllocError>
+    ensures { IfOk result (λ p. AreWordsOf (stored_in blocks.now) cid.now p.1 p.0.items) }
+{
+    match entity_stored(cid, stored_bytes(blocks, cid)) {
+        Ok((_block, entity)) => Ok((entity_words(alloc, &entity)?, true)),
+        Err(stop) => Ok((stop_words(&stop).to_vec(alloc)?, false)),
+    }
+}
+
+/// The words of the block under the CID, and whether it has a kind. They are known from then on, so that
+/// each block is verified once.
+fn words_known(
+    alloc: Global,
+    cid: &Cid,
+    blocks: &BTreeMap<Cid, Vec<u8>>,
+    known: &mut BTreeMap<Cid, Said>,
+) -> Result<Said, AllocError>
+    ensures { KnowsWords (stored_in blocks.now) known.old → IfOk result
+        (λ p. KnowsWords (stored_in blocks.now) known.new
+        × AreWordsOf (stored_in blocks.now) cid.now p.1 p.0.items) }
+{
+    if let Some((words, has_kind)) = known.get(cid) {
+        return Ok((words.as_slice().to_vec(alloc)?, *has_kind));
+    }
+    let (words, has_kind) = words_under(alloc, cid, blocks)?;
+    let copy = words.as_slice().to_vec(alloc)?;
+    match known.insert(*cid, (copy, has_kind)) {
+        Ok(_none) => Ok((words, has_kind)),
+        Err(_) => Err(AllocError),
+    }
+}
+
+/// The line of an entry, and whether it has a kind.
+pub(crate) fn entry_said(
+    alloc: Global,
+    link: &PbLink<'_>,
+    blocks: &BTreeMap<Cid, Vec<u8>>,
+    known: &mut BTreeMap<Cid, Said>,
+) -> Result<Said, AllocError>
+    ensures { KnowsWords (stored_in blocks.now) known.old → IfOk result
+        (λ p. KnowsWords (stored_in blocks.now) known.new
+        × IsEntry (stored_in blocks.now) (link_of link.now) p.1 p.0.items) }
+{
+    let (words, has_kind) = words_known(alloc, &link.hash, blocks, known)?;
+    let line = entry_line(alloc, &words, link)?;
+    Ok((line, has_kind))
+}

@@ -1,0 +1,37 @@
+//! `cat`: the bytes of the file to which a path of names leads.
+
+ghost use Rattle.dagcbor_paths.specs.Paths.{segments};
+ghost use Rattle.ipld_links.specs.Reaching.{stored_in};
+ghost use Rattle.file_lines.specs.Names.{SaysFile};
+
+use crate::content::say_content;
+use crate::names::{find_named, names_line};
+use block_lines::say_both;
+use dagcbor_cli::ToolError;
+use ipld_tree::Cid;
+use std::alloc::Global;
+use std::collections::BTreeMap;
+use std::io::Write;
+
+/// Writes the bytes of the file to which the path leads from the root, block by block as they are
+/// verified, or tells why it ends before its end, or why the path leads nowhere. Whether it is whole.
+pub fn say_file<W: Write, V: Write>(
+    alloc: Global,
+    root: &Cid,
+    path: &str,
+    blocks: &BTreeMap<Cid, Vec<u8>>,
+    output: &mut W,
+    errors: &mut V,
+) -> Result<bool, ToolError>
+    ensures { SaysFile (stored_in blocks.now) root.now (segments path.now)
+        (W.contents output.old) (V.contents errors.old) result (W.contents output.new)
+        (V.contents errors.new) }
+{
+    match find_named(blocks, root, path) {
+        Ok(found) => say_content(alloc, &found, blocks, output, errors),
+        Err(end) => {
+            let line = names_line(alloc, &end)?;
+            say_both((Vec::new(alloc), false), &line, output, errors)
+        }
+    }
+}

@@ -1,0 +1,16 @@
+//! What programs write of the files of IPFS (UnixFS), over blocks in whatever they are stored.
+#![tactic(auto)]
+
+mod content;
+mod entries;
+mod entry;
+mod file;
+pub mod laws;
+mod names;
+mod stop;
+
+pub use content::{MOST_DEPTH, begin_content, say_content};
+pub use entries::say_entries;
+pub use file::say_file;
+pub use names::{NamesEnd, NoEntry, entry_stored, find_named, names_line};
+pub use stop::{Stop, is_of_file, stop_line, take_stored};

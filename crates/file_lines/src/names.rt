@@ -1,0 +1,147 @@
+//! Paths of names, through directories.
+
+ghost use Rattle.std.specs.Prelude.{◌≡◌, List, ℕ, option_map, MatchResult, IfOk};
+ghost use Rattle.dagcbor_paths.specs.Paths.{segments};
+ghost use Rattle.ipld_links.specs.Reaching.{Stored, AreBytesOf, stored_in};
+ghost use Rattle.dag_pb.specs.Node.{HasNode};
+ghost use Rattle.file_lines.specs.Names.{HasEntryIn, NamesNothingIn, HasEntry, NamesNothing};
+ghost use Rattle.file_lines.specs.Names.{LeadsByNames, EndsByNames, directory_error_name, names_line};
+
+use crate::stop::cause_name;
+use block_lines::{line_of, missing_line, verdict_line};
+use cid_text::cid_text;
+use dagcbor_paths::next_segment;
+use dagcbor_resolve::bytes_under;
+use ipld_links::{Verdict, stored_bytes, verify};
+use ipld_tree::Cid;
+use std::alloc::{AllocError, Global};
+use std::collections::BTreeMap;
+use unix_fs::{DirectoryError, find_entry};
+
+/// Why a name leads nowhere from a block.
+#[derive(Debug, Drop)]
+pub enum NoEntry {
+    /// No block is under the CID.
+    Missing,
+    /// The bytes under the CID are not those that it names, or are no block of its codec.
+    NoBlock(Verdict),
+    /// The node is no directory that is read.
+    NoDirectory(DirectoryError),
+    /// The directory has no entry of the name, or the block is no node of DAG-PB.
+    Nothing,
+}
+
+/// Where a path of names ends that leads to no block.
+#[derive(Debug, Drop)]
+pub struct NamesEnd<'p> {
+    /// The block from which the name leads nowhere.
+    pub block: Cid,
+    pub name: &'p str,
+    pub cause: NoEntry,
+}
+
+/// Where the name leads from the node.
+fn entry_in(block: &[u8], name: &str) -> Result<Cid, NoEntry>
+    requires { HasNode block.now }
+    ensures { MatchResult result (HasEntryIn block.now name.now) (NamesNothingIn block.now name.now) }
+{
+    match find_entry(block, name.as_bytes()) {
+        Ok(Some(next)) => Ok(next),
+        Ok(None) => Err(NoEntry::Nothing),
+        Err(error) => Err(NoEntry::NoDirectory(error)),
+    }
+}
+
+/// Where the name leads from the block under the CID, which has these bytes.
+fn entry_named(cid: &Cid, bytes: &[u8], name: &str) -> Result<Cid, NoEntry>
+    ensures { (stored : Stored) → AreBytesOf stored cid.now bytes.now → MatchResult result
+        (HasEntry stored cid.now name.now) (NamesNothing stored cid.now name.now) }
+{
+    match verify(cid, bytes) {
+        Verdict::Node => entry_in(bytes, name),
+        Verdict::Block(_) => Err(NoEntry::Nothing),
+        Verdict::NotRead => Err(NoEntry::Nothing),
+        Verdict::LinksNotRead => Err(NoEntry::Nothing),
+        Verdict::Refused(error) => Err(NoEntry::NoBlock(Verdict::Refused(error))),
+        Verdict::NoNode(error) => Err(NoEntry::NoBlock(Verdict::NoNode(error))),
+        Verdict::OtherBytes => Err(NoEntry::NoBlock(Verdict::OtherBytes)),
+        Verdict::Unverified => Err(NoEntry::NoBlock(Verdict::Unverified)),
+    }
+}
+
+/// Where the name leads from the block under the CID, of which these bytes are stored.
+pub fn entry_stored(cid: &Cid, stored: Option<&[u8]>, name: &str) -> Result<Cid, NoEntry>
+    ensures { (all : Stored) → all cid.now ≡ option_map (λ b. b.now) stored.entry
+        → MatchResult result (HasEntry all cid.now name.now) (NamesNothing all cid.now name.now) }
+{
+    match bytes_under(cid, stored) {
+        Some(bytes) => entry_named(cid, bytes, name),
+        None => Err(NoEntry::Missing),
+    }
+}
+
+/// Where the path of names leads from the root, over the blocks of the map.
+pub fn find_named<'p>(
+    blocks: &BTreeMap<Cid, Vec<u8>>,
+    root: &Cid,
+    path: &'p str,
+) -> Result<Cid, NamesEnd<'p>>
+    ensures { MatchResult result
+        (LeadsByNames (stored_in blocks.now) root.now (segments path.now))
+        (EndsByNames (stored_in blocks.now) root.now (segments path.now)) }
+{
+    let mut block = *root;
+    let mut left = path;
+    while let Some((name, more)) = next_segment(left) {
+        match entry_stored(&block, stored_bytes(blocks, &block), name) {
+            Ok(next) => {
+                block = next;
+                left = more;
+            }
+            Err(cause) => return Err(NamesEnd { block, name, cause }),
+        }
+    }
+    Ok(block)
+}
+
+/// The name of the variant of a refusal; of a message that is none, its cause.
+fn directory_error_name(error: &DirectoryError) -> &'static str
+    ensures { result.now ≡ directory_error_name error.now }
+{
+    match error {
+        DirectoryError::NotANode(_) => "NotANode",
+        DirectoryError::NoData => "NoData",
+        DirectoryError::NoMessage(fault) => cause_name(&fault.cause),
+        DirectoryError::InShards => "InShards",
+        DirectoryError::NotADirectory(_) => "NotADirectory",
+    }
+}
+
+/// The line that tells why a path of names leads to no block.
+pub fn names_line(alloc: Global, end: &NamesEnd<'_>) -> Result<Vec<u8>, AllocError>
+    ensures { IfOk result (λ v. v.items ≡ names_line end.now) }
+{
+    match &end.cause {
+        NoEntry::Missing => missing_line(alloc, &end.block),
+        NoEntry::NoBlock(verdict) => {
+            let (line, _well) = verdict_line(alloc, &end.block, verdict)?;
+            Ok(line)
+        }
+        NoEntry::NoDirectory(error) => {
+            line_of(
+                alloc,
+                &cid_text(&end.block),
+                b" refused ",
+                directory_error_name(error).as_bytes(),
+            )
+        }
+        NoEntry::Nothing => {
+            line_of(
+                alloc,
+                &cid_text(&end.block),
+                b" has nothing at ",
+                end.name.as_bytes(),
+            )
+        }
+    }
+}

@@ -1,6 +1,7 @@
 """The word `cat` of `dagcar` over files of IPFS: those that Debian's `ipfs-unixfs` makes, and random ones, some of them damaged. What is
 wanted of a random one is what `unixfs.cat` finds, which reads it by itself."""
 
+import hashlib
 import os
 import random
 import shutil
@@ -228,6 +229,36 @@ def sweep_chains(path, report):
         if found != right or (right[2] == 0) != (count <= unixfs.MOST_DEPTH):
             wrong.append(f"a chain of {count}: {found}")
     report("dagcar cat of chains of blocks", len(counts), wrong)
+
+
+# ---- out of a store
+
+
+def is_sound(block, name):
+    """Whether a store takes it under this name."""
+    try:
+        return hashlib.sha256(block).digest() == name[-32:] and (unixfs.codec_of(name) != 0x70 or bool(dagpb.read(block)))
+    except dagpb.Refused:
+        return False
+
+
+def sweep_store(path, folder, report):
+    """`dagstore cat`, over files of which a store takes each block that is there."""
+    rng, wrong, count = random.Random(4), [], 300
+    for turn in range(count):
+        blocks = {}
+        root, _ = node(rng, blocks, rng.randrange(1, 5))
+        blocks = {name: block for name, block in blocks.items() if is_sound(block, name) and rng.random() < 0.97}
+        store = f"{folder}/files-{turn}.db"
+        stored = subprocess.run([path, store, "import"], input=car(root, blocks), capture_output=True, check=False)
+        ran = subprocess.run([path, store, "cat", text_of(root)], capture_output=True, check=False)
+        found, right = (ran.stdout, ran.stderr.decode(), ran.returncode), wanted(blocks, root)
+        if stored.returncode or found != right:
+            wrong.append(f"file {turn}: {stored.stderr}, {found[1:]}, not {right[1:]}")
+        for name in os.listdir(folder):
+            if name.startswith(f"files-{turn}.db"):
+                os.remove(f"{folder}/{name}")
+    report("dagstore cat of random files", count, wrong)
 
 
 def sweep(path, folder, report):

@@ -16,6 +16,9 @@ import tempfile
 import threading
 import time
 
+import dagpb
+import unixfs
+
 NOBODY = 65534
 HEADER = b"\xa2\x65roots\x80\x67version\x01"
 
@@ -397,6 +400,42 @@ def paths(program, at, draw):
     return wrong
 
 
+def contents(program, at, draw):
+    """What `cat` writes of the files of IPFS in a store."""
+    wrong, path = [], f"{at}/contents.db"
+
+    def expect(what, words, status, said, told=b""):
+        ran = run(program, path, "cat", *words)
+        if (ran.returncode, ran.stdout, ran.stderr) != (status, said, told):
+            wrong.append(f"{what}: {ran.returncode} {ran.stdout[:200]} {ran.stderr}")
+
+    # A directory of a file of three leaves, the last of which is not stored, and of one of two.
+    parts = [draw.randbytes(300_000) for _ in range(3)]
+    leaves = [(unixfs.leaf_name(it), it) for it in parts]
+    whole, cut = (dagpb.spell([(name, b"", len(it)) for name, it in some], unixfs.spelled(unixfs.FILE, None, 300_000 * len(some), [300_000] * len(some))) for some in (leaves[:2], leaves))
+    files = [(unixfs.node_name(it), it) for it in (whole, cut)]
+    block = dagpb.spell([(files[0][0], b"whole", 1), (files[1][0], b"cut", 1)], unixfs.spelled(unixfs.DIRECTORY))
+    root = unixfs.node_name(block)
+    run(program, path, "import", given=car_of({**dict(block_of(draw) for _ in range(20)), root: block, **dict(files), **dict(leaves[:2])}))
+    top, lost = text_of(root), f"missing {text_of(leaves[2][0])} raw\n".encode()
+    expect("cat of a file in a directory", [f"{top}/whole"], 0, parts[0] + parts[1])
+    expect("cat of a file", [text_of(files[0][0])], 0, parts[0] + parts[1])
+    expect("cat of a leaf", [text_of(leaves[1][0])], 0, parts[1])
+    expect("cat of a file that is not all there", [f"{top}/cut"], 1, parts[0] + parts[1], lost)
+    expect("cat of nothing", [f"{top}/none"], 1, b"", f"{top} has nothing at none\n".encode())
+    expect("cat of a directory", [top], 1, b"", f"{top} refused NotAFile\n".encode())
+    expect("cat of a root that is not stored", [f"{text_of(leaves[2][0])}/a"], 1, b"", lost)
+    expect("cat of no CID", ["b!/a"], 2, b"", b"no CID: InvalidCharacter\n")
+    base = sqlite3.connect(path)
+    base.execute("UPDATE block SET bytes = x'00' WHERE cid = ?", (leaves[1][0],))
+    base.commit()
+    base.close()
+    ran = run(program, path, "cat", f"{top}/whole")
+    if (ran.returncode, ran.stdout) != (1, parts[0]) or b"other bytes" not in ran.stderr:
+        wrong.append(f"cat over a damaged block: {ran.returncode} {ran.stdout[:100]} {ran.stderr}")
+    return wrong
+
+
 def words(program, at, draw):
     """What `export`, `list` and `check` say of a store, and of one that was changed by hand; and what `import` refuses."""
     wrong, path = [], f"{at}/c.db"
@@ -517,7 +556,7 @@ def words(program, at, draw):
             ran = run(program, path, verb, word)
             if (ran.returncode, ran.stdout, ran.stderr) != (2, b"", f"no CID: {cause}\n".encode()):
                 wrong.append(f"{verb} {word}: {ran.returncode} {ran.stdout[:100]} {ran.stderr}")
-    for wordless in ("remove", "get", "has", "tree", "at", "add-root", "drop-root"):
+    for wordless in ("remove", "get", "has", "tree", "at", "cat", "add-root", "drop-root"):
         expect(f"{wordless} of nothing", run(program, path, wordless), 2, b"")
     ran = subprocess.run([program, "--help"], capture_output=True)
     if ran.returncode != 0 or not ran.stdout.startswith(b"usage: dagstore FILE ") or ran.stderr:
@@ -651,5 +690,6 @@ def check(report, program, count=200, seed=1):
         report("dagstore: what its words say of a store, whole and changed by hand", 1, words(program, at, random.Random(seed)))
         report("dagstore: the roots of a store, and what export and gc do of them", 1, roots(program, at, random.Random(seed)))
         report("dagstore: what a path leads to in a store", 1, paths(program, at, random.Random(seed)))
+        report("dagstore: what cat writes of files of IPFS in a store", 1, contents(program, at, random.Random(seed)))
         report("dagstore: blocks whose links cannot be read, and roots without a block", 1, unread(program, at))
         report("dagstore: files that are none of ours", 3, foreign(program, at))

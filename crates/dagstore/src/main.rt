@@ -8,11 +8,11 @@ use block_lines::no_cid_line;
 use dagcbor_cli::{ToolError, arguments, give_up, write_all};
 use dagcbor_store::{BlockStore, FileFrom, FileStore, Wary};
 use dagstore_lines::{
-    Asking, Command, Fault, HELP, NO_STORE, NOT_READ, NOT_WRITTEN, OUT_OF_MEMORY, Progress, USAGE,
-    VERSION, Words, answer_add_roots, answer_at, answer_check, answer_collect, answer_count,
-    answer_drop_roots, answer_export, answer_get, answer_has, answer_list, answer_put,
-    answer_remove, answer_roots, answer_tree, check_put, end, import_blocks, tell_refusal,
-    words_of,
+    Asking, Beginning, Command, Fault, HELP, NO_STORE, NOT_READ, NOT_WRITTEN, OUT_OF_MEMORY,
+    Progress, USAGE, VERSION, Words, answer_add_roots, answer_at, answer_cat, answer_check,
+    answer_collect, answer_count, answer_drop_roots, answer_export, answer_get, answer_has,
+    answer_list, answer_put, answer_remove, answer_roots, answer_tree, check_put, end,
+    import_blocks, tell_refusal, words_of,
 };
 use ipld_tree::Cid;
 use std::fs;
@@ -212,6 +212,37 @@ fn run_at_file<W: Write>(
     }
 }
 
+/// Writes the bytes of the file of IPFS to which the path leads on standard output, or tells why there
+/// is none.
+fn run_cat<W: Write>(
+    rt: &HostRuntime,
+    store: &mut Store,
+    root: &Cid,
+    path: &str,
+    errors: &mut W,
+) -> u8 {
+    let Ok(mut output) = BufWriter::new(rt.alloc(), rt.stdout().lock()) else {
+        return give_up(errors, OUT_OF_MEMORY, 2);
+    };
+    let status = answer_cat(rt.alloc(), store, root, path, &mut output, errors);
+    flushed(output, status, errors)
+}
+
+/// Writes the bytes of the file of IPFS to which the path leads, over a file that is there, or tells why
+/// there is none.
+fn run_cat_file<W: Write>(
+    rt: &HostRuntime,
+    file: &str,
+    at: &Beginning,
+    path: &str,
+    errors: &mut W,
+) -> u8 {
+    match open_old(rt, file, errors) {
+        Ok(mut store) => run_cat(rt, &mut store, &at.root, path, errors),
+        Err(status) => status,
+    }
+}
+
 /// Says how many names there are.
 fn run_count<W: Write>(rt: &HostRuntime, store: &mut Store, errors: &mut W) -> u8 {
     answer_count(rt.alloc(), store, &mut rt.stdout().lock(), errors)
@@ -332,6 +363,7 @@ fn run_words<W: Write>(rt: &HostRuntime, words: &[String], errors: &mut W) -> u8
         Ok(Words::Import(path, from)) => run_import(rt, path, from, errors),
         Ok(Words::Put(path, codec)) => run_put(rt, path, codec, errors),
         Ok(Words::At(file, asking, path)) => run_at_file(rt, file, &asking, path, errors),
+        Ok(Words::Cat(file, at, path)) => run_cat_file(rt, file, &at, path, errors),
         Ok(Words::Do(path, command)) => run(rt, path, command, errors),
         Ok(Words::Help) => run_text(rt, HELP, errors),
         Ok(Words::Version) => run_text(rt, VERSION, errors),

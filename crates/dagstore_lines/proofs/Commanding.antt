@@ -1,5 +1,5 @@
 -- What the words of the program are.
-use Rattle.std.proofs.Common.{◌≡◌, ◌≢◌, ◌⊎◌, inl, inr, ℕ, ◌+◌, ◌<◌, ◌≤◌, ◌^◌, List, [], ◌∷◌, ◌++◌, length, take, drop, codes, map, arith, refl, sym, ap, ap₂, ◌∙◌, subst, get_or, Option, MatchOption, Result, Ok, Err, Bool, false, cond, ◌==◌, slice_index}
+use Rattle.std.proofs.Common.{◌≡◌, ◌≢◌, ◌⊎◌, inl, inr, ℕ, ◌+◌, ◌<◌, ◌≤◌, ◌^◌, List, [], ◌∷◌, ◌++◌, length, take, drop, codes, map, arith, refl, sym, ap, ap₂, ◌∙◌, subst, get_or, Option, MatchOption, Result, Ok, Err, false, cond, ◌==◌, slice_index}
 use Rattle.std.specs.Result.{result_ok}
 use Rattle.std.proofs.lemmas.List.{map_more, drop_more, take-append-drop, take-map, drop-map}
 use Rattle.std.specs.Str.Parse.{IsNumeral, AllDigits, ParsesUnsigned, digits_value, without_leading_plus}
@@ -8,7 +8,7 @@ use Rattle.std.proofs.Math.Nat.{pow-le-pow_right, lt_of_lt_of_le}
 use Rattle.ipld_tree.specs.Cid.{CidParts}
 use Rattle.cid_text.specs.Texts.{IsTextOf, IsTextFault, TextsTellCids, TextFaultsAreUnique}
 use Rattle.cid_text.specs.declared.error.CidTextError.{CidTextError}
-use Rattle.dagstore_lines.specs.Commands.{NamesCodec, AreTextsOf, IsFirstFault, WantsNames, command_word, NamesCommand, IsCodec, IsAskedBy, AreKnown}
+use Rattle.dagstore_lines.specs.Commands.{NamesCodec, AreTextsOf, IsFirstFault, WantsNames, command_word, NamesCommand, IsCodec, AreKnown}
 use Rattle.dagstore_lines.specs.declared.command.Command.{Command}
 use Rattle.dagstore_lines.specs.declared.command.Command.TheVariants as commands
 use Rattle.dagstore_lines.specs.declared.command.Words.{Words}
@@ -49,39 +49,40 @@ fault_behind (t ∷ texts) text more (c ∷ names) e h is = inr ((c, h.0), fault
 abbrev mark : List ℕ → ℕ
 mark word = get_or word 0 0 + (get_or word 1 0 + get_or word 1 0)
 
--- the number is that of `import`, of `put` or of `at`
+-- the number is that of `import`, of `put`, of `at` or of `cat`
 abbrev IsOwn : ℕ → Type 0
-IsOwn n = (n ≡ 323) ⊎ ((n ≡ 346) ⊎ (n ≡ 329))
+IsOwn n = (n ≡ 323) ⊎ ((n ≡ 346) ⊎ ((n ≡ 329) ⊎ (n ≡ 293)))
 
 -- n is so, and k is not
-apart : (n k : ℕ) → IsOwn n → n ≡ k → (k ≢ 323) × (k ≢ 346) × (k ≢ 329) → ⊥
+apart : (n k : ℕ) → IsOwn n → n ≡ k → (k ≢ 323) × (k ≢ 346) × (k ≢ 329) × (k ≢ 293) → ⊥
 apart n k (inl m) e other = other.0 (sym e ∙ m)
 apart n k (inr (inl m)) e other = other.1 (sym e ∙ m)
-apart n k (inr (inr m)) e other = other.2 (sym e ∙ m)
+apart n k (inr (inr (inl m))) e other = other.2 (sym e ∙ m)
+apart n k (inr (inr (inr m))) e other = other.3 (sym e ∙ m)
 
 no_command : (word : List ℕ) → IsOwn (mark word) → (c : Command) → word ≡ command_word c → ⊥
-no_command word m (commands.Export roots) e = apart (mark word) 341 m (ap mark e) ((λ d. omega (arith, d)), (λ d. omega (arith, d)), (λ d. omega (arith, d)))
-no_command word m (commands.Get name) e = apart (mark word) 305 m (ap mark e) ((λ d. omega (arith, d)), (λ d. omega (arith, d)), (λ d. omega (arith, d)))
-no_command word m (commands.Has name) e = apart (mark word) 298 m (ap mark e) ((λ d. omega (arith, d)), (λ d. omega (arith, d)), (λ d. omega (arith, d)))
-no_command word m (commands.Remove names) e = apart (mark word) 316 m (ap mark e) ((λ d. omega (arith, d)), (λ d. omega (arith, d)), (λ d. omega (arith, d)))
-no_command word m (commands.Collect roots) e = apart (mark word) 301 m (ap mark e) ((λ d. omega (arith, d)), (λ d. omega (arith, d)), (λ d. omega (arith, d)))
-no_command word m (commands.Tree root) e = apart (mark word) 344 m (ap mark e) ((λ d. omega (arith, d)), (λ d. omega (arith, d)), (λ d. omega (arith, d)))
-no_command word m (commands.AddRoots names) e = apart (mark word) 297 m (ap mark e) ((λ d. omega (arith, d)), (λ d. omega (arith, d)), (λ d. omega (arith, d)))
-no_command word m (commands.DropRoots names) e = apart (mark word) 328 m (ap mark e) ((λ d. omega (arith, d)), (λ d. omega (arith, d)), (λ d. omega (arith, d)))
-no_command word m commands.Roots e = apart (mark word) 336 m (ap mark e) ((λ d. omega (arith, d)), (λ d. omega (arith, d)), (λ d. omega (arith, d)))
-no_command word m commands.Check e = apart (mark word) 307 m (ap mark e) ((λ d. omega (arith, d)), (λ d. omega (arith, d)), (λ d. omega (arith, d)))
-no_command word m commands.List e = apart (mark word) 318 m (ap mark e) ((λ d. omega (arith, d)), (λ d. omega (arith, d)), (λ d. omega (arith, d)))
-no_command word m commands.Count e = apart (mark word) 321 m (ap mark e) ((λ d. omega (arith, d)), (λ d. omega (arith, d)), (λ d. omega (arith, d)))
+no_command word m (commands.Export roots) e = apart (mark word) 341 m (ap mark e) ((λ d. omega (arith, d)), (λ d. omega (arith, d)), (λ d. omega (arith, d)), (λ d. omega (arith, d)))
+no_command word m (commands.Get name) e = apart (mark word) 305 m (ap mark e) ((λ d. omega (arith, d)), (λ d. omega (arith, d)), (λ d. omega (arith, d)), (λ d. omega (arith, d)))
+no_command word m (commands.Has name) e = apart (mark word) 298 m (ap mark e) ((λ d. omega (arith, d)), (λ d. omega (arith, d)), (λ d. omega (arith, d)), (λ d. omega (arith, d)))
+no_command word m (commands.Remove names) e = apart (mark word) 316 m (ap mark e) ((λ d. omega (arith, d)), (λ d. omega (arith, d)), (λ d. omega (arith, d)), (λ d. omega (arith, d)))
+no_command word m (commands.Collect roots) e = apart (mark word) 301 m (ap mark e) ((λ d. omega (arith, d)), (λ d. omega (arith, d)), (λ d. omega (arith, d)), (λ d. omega (arith, d)))
+no_command word m (commands.Tree root) e = apart (mark word) 344 m (ap mark e) ((λ d. omega (arith, d)), (λ d. omega (arith, d)), (λ d. omega (arith, d)), (λ d. omega (arith, d)))
+no_command word m (commands.AddRoots names) e = apart (mark word) 297 m (ap mark e) ((λ d. omega (arith, d)), (λ d. omega (arith, d)), (λ d. omega (arith, d)), (λ d. omega (arith, d)))
+no_command word m (commands.DropRoots names) e = apart (mark word) 328 m (ap mark e) ((λ d. omega (arith, d)), (λ d. omega (arith, d)), (λ d. omega (arith, d)), (λ d. omega (arith, d)))
+no_command word m commands.Roots e = apart (mark word) 336 m (ap mark e) ((λ d. omega (arith, d)), (λ d. omega (arith, d)), (λ d. omega (arith, d)), (λ d. omega (arith, d)))
+no_command word m commands.Check e = apart (mark word) 307 m (ap mark e) ((λ d. omega (arith, d)), (λ d. omega (arith, d)), (λ d. omega (arith, d)), (λ d. omega (arith, d)))
+no_command word m commands.List e = apart (mark word) 318 m (ap mark e) ((λ d. omega (arith, d)), (λ d. omega (arith, d)), (λ d. omega (arith, d)), (λ d. omega (arith, d)))
+no_command word m commands.Count e = apart (mark word) 321 m (ap mark e) ((λ d. omega (arith, d)), (λ d. omega (arith, d)), (λ d. omega (arith, d)), (λ d. omega (arith, d)))
 
 no_names : (word : List ℕ) → IsOwn (mark word) → WantsNames word → ⊥
-no_names word m (inl e) = apart (mark word) 341 m (ap mark e) ((λ d. omega (arith, d)), (λ d. omega (arith, d)), (λ d. omega (arith, d)))
-no_names word m (inr (inl e)) = apart (mark word) 305 m (ap mark e) ((λ d. omega (arith, d)), (λ d. omega (arith, d)), (λ d. omega (arith, d)))
-no_names word m (inr (inr (inl e))) = apart (mark word) 298 m (ap mark e) ((λ d. omega (arith, d)), (λ d. omega (arith, d)), (λ d. omega (arith, d)))
-no_names word m (inr (inr (inr (inl e)))) = apart (mark word) 344 m (ap mark e) ((λ d. omega (arith, d)), (λ d. omega (arith, d)), (λ d. omega (arith, d)))
-no_names word m (inr (inr (inr (inr (inl e))))) = apart (mark word) 316 m (ap mark e) ((λ d. omega (arith, d)), (λ d. omega (arith, d)), (λ d. omega (arith, d)))
-no_names word m (inr (inr (inr (inr (inr (inl e)))))) = apart (mark word) 301 m (ap mark e) ((λ d. omega (arith, d)), (λ d. omega (arith, d)), (λ d. omega (arith, d)))
-no_names word m (inr (inr (inr (inr (inr (inr (inl e))))))) = apart (mark word) 297 m (ap mark e) ((λ d. omega (arith, d)), (λ d. omega (arith, d)), (λ d. omega (arith, d)))
-no_names word m (inr (inr (inr (inr (inr (inr (inr e))))))) = apart (mark word) 328 m (ap mark e) ((λ d. omega (arith, d)), (λ d. omega (arith, d)), (λ d. omega (arith, d)))
+no_names word m (inl e) = apart (mark word) 341 m (ap mark e) ((λ d. omega (arith, d)), (λ d. omega (arith, d)), (λ d. omega (arith, d)), (λ d. omega (arith, d)))
+no_names word m (inr (inl e)) = apart (mark word) 305 m (ap mark e) ((λ d. omega (arith, d)), (λ d. omega (arith, d)), (λ d. omega (arith, d)), (λ d. omega (arith, d)))
+no_names word m (inr (inr (inl e))) = apart (mark word) 298 m (ap mark e) ((λ d. omega (arith, d)), (λ d. omega (arith, d)), (λ d. omega (arith, d)), (λ d. omega (arith, d)))
+no_names word m (inr (inr (inr (inl e)))) = apart (mark word) 344 m (ap mark e) ((λ d. omega (arith, d)), (λ d. omega (arith, d)), (λ d. omega (arith, d)), (λ d. omega (arith, d)))
+no_names word m (inr (inr (inr (inr (inl e))))) = apart (mark word) 316 m (ap mark e) ((λ d. omega (arith, d)), (λ d. omega (arith, d)), (λ d. omega (arith, d)), (λ d. omega (arith, d)))
+no_names word m (inr (inr (inr (inr (inr (inl e)))))) = apart (mark word) 301 m (ap mark e) ((λ d. omega (arith, d)), (λ d. omega (arith, d)), (λ d. omega (arith, d)), (λ d. omega (arith, d)))
+no_names word m (inr (inr (inr (inr (inr (inr (inl e))))))) = apart (mark word) 297 m (ap mark e) ((λ d. omega (arith, d)), (λ d. omega (arith, d)), (λ d. omega (arith, d)), (λ d. omega (arith, d)))
+no_names word m (inr (inr (inr (inr (inr (inr (inr e))))))) = apart (mark word) 328 m (ap mark e) ((λ d. omega (arith, d)), (λ d. omega (arith, d)), (λ d. omega (arith, d)), (λ d. omega (arith, d)))
 
 -- ---- which words are unknown
 
@@ -93,50 +94,44 @@ no_codec word none codec (inr h) = none codec (subst (λ w. NamesCodec w codec) 
 pub no_put : (path word : List ℕ) (rest : List (List ℕ)) → rest ≡ word ∷ [] → ((codec : ℕ) → NamesCodec word codec → ⊥) → (it : Words) → AreKnown (path ∷ (codes "put" ∷ rest)) it → ⊥
 no_put path word rest is none (words.Import file source) h = let clash : 346 ≡ 323 = ap mark h.1 in omega (arith, clash)
 no_put path word rest is none (words.At file asking inner) h = let clash : 346 ≡ 329 = ap mark h.1 in omega (arith, clash)
+no_put path word rest is none (words.Cat file at inner) h = let clash : 346 ≡ 293 = ap mark h.1 in omega (arith, clash)
 no_put path word rest is none (words.Put file codec) h = no_codec word none codec (subst (λ ws. IsCodec ws codec) is h.2)
 no_put path word rest is none (words.Do file command) h = no_command (codes "put") (inr (inl refl)) command h.1.2.0
 no_put path word rest is none words.Help h = h
 no_put path word rest is none words.Version h = h
 no_put path word rest is none (words.NoCid e) (inl h) = no_names (codes "put") (inr (inl refl)) h.0
-no_put path word rest is none (words.NoCid e) (inr h) = let clash : 346 ≡ 329 = ap mark h.0 in omega (arith, clash)
+no_put path word rest is none (words.NoCid e) (inr (inl h)) = let clash : 346 ≡ 329 = ap mark h.0 in omega (arith, clash)
+no_put path word rest is none (words.NoCid e) (inr (inr h)) = let clash : 346 ≡ 293 = ap mark h.0 in omega (arith, clash)
 no_put path word rest is none words.Unknown h = h
 
--- words behind `at` that ask for nothing
-pub no_at : (path : List ℕ) (rest : List (List ℕ)) → ((is_raw : Bool) (text : List ℕ) → IsAskedBy rest is_raw text → ⊥) → (it : Words) → AreKnown (path ∷ (codes "at" ∷ rest)) it → ⊥
-no_at path rest none (words.Import file source) h = let clash : 329 ≡ 323 = ap mark h.1 in omega (arith, clash)
-no_at path rest none (words.Put file codec) h = let clash : 329 ≡ 346 = ap mark h.1 in omega (arith, clash)
-no_at path rest none (words.At file asking inner) h = none asking.is_raw h.2.0 h.2.1
-no_at path rest none (words.Do file command) h = no_command (codes "at") (inr (inr refl)) command h.1.2.0
-no_at path rest none words.Help h = h
-no_at path rest none words.Version h = h
-no_at path rest none (words.NoCid e) (inl h) = no_names (codes "at") (inr (inr refl)) h.0
-no_at path rest none (words.NoCid e) (inr h) = none h.1.0 h.1.1 h.1.2
-no_at path rest none words.Unknown h = h
-
 -- CIDs behind a word that are no command
-pub no_done : TextsTellCids → TextFaultsAreUnique → (path word : List ℕ) (rest : List (List ℕ)) (names : List CidParts) → word ≢ codes "import" → word ≢ codes "put" → word ≢ codes "at" → AreTextsOf rest names → ((c : Command) → NamesCommand word names c → ⊥)
+pub no_done : TextsTellCids → TextFaultsAreUnique → (path word : List ℕ) (rest : List (List ℕ)) (names : List CidParts) → word ≢ codes "import" → word ≢ codes "put" → word ≢ codes "at" → word ≢ codes "cat" → AreTextsOf rest names → ((c : Command) → NamesCommand word names c → ⊥)
     → (it : Words) → AreKnown (path ∷ (word ∷ rest)) it → ⊥
-no_done law faults path word rest names imports puts ats texts none (words.Import file source) h = imports h.1
-no_done law faults path word rest names imports puts ats texts none (words.Put file codec) h = puts h.1
-no_done law faults path word rest names imports puts ats texts none (words.Do file command) h = none command (subst (λ ns. NamesCommand word ns command) (same_names law rest h.1.0 names h.1.1 texts) h.1.2)
-no_done law faults path word rest names imports puts ats texts none words.Help h = h
-no_done law faults path word rest names imports puts ats texts none words.Version h = h
-no_done law faults path word rest names imports puts ats texts none (words.At file asking inner) h = ats h.1
-no_done law faults path word rest names imports puts ats texts none (words.NoCid e) (inl h) = no_fault faults rest names e texts h.1
-no_done law faults path word rest names imports puts ats texts none (words.NoCid e) (inr h) = ats h.0
-no_done law faults path word rest names imports puts ats texts none words.Unknown h = h
+no_done law faults path word rest names imports puts ats cats texts none (words.Import file source) h = imports h.1
+no_done law faults path word rest names imports puts ats cats texts none (words.Put file codec) h = puts h.1
+no_done law faults path word rest names imports puts ats cats texts none (words.Do file command) h = none command (subst (λ ns. NamesCommand word ns command) (same_names law rest h.1.0 names h.1.1 texts) h.1.2)
+no_done law faults path word rest names imports puts ats cats texts none words.Help h = h
+no_done law faults path word rest names imports puts ats cats texts none words.Version h = h
+no_done law faults path word rest names imports puts ats cats texts none (words.At file asking inner) h = ats h.1
+no_done law faults path word rest names imports puts ats cats texts none (words.Cat file at inner) h = cats h.1
+no_done law faults path word rest names imports puts ats cats texts none (words.NoCid e) (inl h) = no_fault faults rest names e texts h.1
+no_done law faults path word rest names imports puts ats cats texts none (words.NoCid e) (inr (inl h)) = ats h.0
+no_done law faults path word rest names imports puts ats cats texts none (words.NoCid e) (inr (inr h)) = cats h.0
+no_done law faults path word rest names imports puts ats cats texts none words.Unknown h = h
 
 -- others behind a word that takes none
-pub no_word : TextFaultsAreUnique → (path word : List ℕ) (rest : List (List ℕ)) (f : CidTextError) → word ≢ codes "import" → word ≢ codes "put" → word ≢ codes "at" → IsFirstFault rest f → (WantsNames word → ⊥) → (it : Words) → AreKnown (path ∷ (word ∷ rest)) it → ⊥
-no_word faults path word rest f imports puts ats fault none (words.Import file source) h = imports h.1
-no_word faults path word rest f imports puts ats fault none (words.Put file codec) h = puts h.1
-no_word faults path word rest f imports puts ats fault none (words.Do file command) h = no_fault faults rest h.1.0 f h.1.1 fault
-no_word faults path word rest f imports puts ats fault none words.Help h = h
-no_word faults path word rest f imports puts ats fault none words.Version h = h
-no_word faults path word rest f imports puts ats fault none (words.At file asking inner) h = ats h.1
-no_word faults path word rest f imports puts ats fault none (words.NoCid e) (inl h) = none h.0
-no_word faults path word rest f imports puts ats fault none (words.NoCid e) (inr h) = ats h.0
-no_word faults path word rest f imports puts ats fault none words.Unknown h = h
+pub no_word : TextFaultsAreUnique → (path word : List ℕ) (rest : List (List ℕ)) (f : CidTextError) → word ≢ codes "import" → word ≢ codes "put" → word ≢ codes "at" → word ≢ codes "cat" → IsFirstFault rest f → (WantsNames word → ⊥) → (it : Words) → AreKnown (path ∷ (word ∷ rest)) it → ⊥
+no_word faults path word rest f imports puts ats cats fault none (words.Import file source) h = imports h.1
+no_word faults path word rest f imports puts ats cats fault none (words.Put file codec) h = puts h.1
+no_word faults path word rest f imports puts ats cats fault none (words.Do file command) h = no_fault faults rest h.1.0 f h.1.1 fault
+no_word faults path word rest f imports puts ats cats fault none words.Help h = h
+no_word faults path word rest f imports puts ats cats fault none words.Version h = h
+no_word faults path word rest f imports puts ats cats fault none (words.At file asking inner) h = ats h.1
+no_word faults path word rest f imports puts ats cats fault none (words.Cat file at inner) h = cats h.1
+no_word faults path word rest f imports puts ats cats fault none (words.NoCid e) (inl h) = none h.0
+no_word faults path word rest f imports puts ats cats fault none (words.NoCid e) (inr (inl h)) = ats h.0
+no_word faults path word rest f imports puts ats cats fault none (words.NoCid e) (inr (inr h)) = cats h.0
+no_word faults path word rest f imports puts ats cats fault none words.Unknown h = h
 
 -- ---- rows of words
 

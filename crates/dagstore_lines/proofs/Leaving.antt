@@ -2,7 +2,7 @@
 use Rattle.std.proofs.Common.{◌≡◌, inl, inr, ℕ, ◌+◌, ◌≤◌, ◌<◌, List, [], ◌∷◌, ◌++◌, length, take, get_or, take-suc, add-one, refl, sym, ap, ◌∙◌, subst, arith, Vec, Global, Result, Ok, Err, IfOk}
 use Rattle.std.proofs.Math.Seq.{take-length}
 use Rattle.sqlite_trees.specs.Tree.{Trees}
-use Rattle.sqlite_trees.specs.View.{View, IsClean}
+use Rattle.sqlite_trees.specs.View.{View}
 use Rattle.ipld_tree.specs.Cid.{CidParts}
 use Rattle.dagcbor_store.specs.RootRows.{LeavesOut}
 use Rattle.dagcbor_store.specs.Stored.{IsSame}

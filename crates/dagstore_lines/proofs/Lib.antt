@@ -6,5 +6,6 @@ pub mod Importing
 pub mod Removing
 pub mod Exporting
 pub mod Gathering
+pub mod Contents
 pub mod Commanding
 pub mod Rooting

@@ -105,9 +105,14 @@ AreWordsOf path word rest (words.Do file command) = (path ≡ file.now)
 AreWordsOf path word rest (words.At file asking inner) = (path ≡ file.now) × (word ≡ codes "at")
     × ((text : List ℕ) × IsAskedBy rest asking.is_raw text
     × IsTextOf (name_part text) asking.root × (inner.now ≡ path_part text))
+AreWordsOf path word rest (words.Cat file at inner) = (path ≡ file.now) × (word ≡ codes "cat")
+    × ((text : List ℕ) × (rest ≡ text ∷ []) × IsTextOf (name_part text) at.root
+    × (inner.now ≡ path_part text))
 AreWordsOf path word rest (words.NoCid e) = (WantsNames word × IsFirstFault rest e)
-    ⊎ ((word ≡ codes "at") × ((is_raw : Bool) × (text : List ℕ)
+    ⊎ (((word ≡ codes "at") × ((is_raw : Bool) × (text : List ℕ)
     × IsAskedBy rest is_raw text × IsTextFault e (name_part text)))
+    ⊎ ((word ≡ codes "cat") × ((text : List ℕ) × (rest ≡ text ∷ [])
+    × IsTextFault e (name_part text))))
 AreWordsOf path word rest _ = ⊥
 
 -- the words are this, and known

@@ -10,4 +10,5 @@ pub mod Changes
 pub mod Files
 pub mod Trees
 pub mod Ways
+pub mod Contents
 pub mod Roots

@@ -7,6 +7,7 @@ ghost use Rattle.dagcbor_store.specs.Ends.{Quiet};
 ghost use Rattle.dagcbor_store.specs.Stored.{IsAddedTo, IsKeptBy, StaysSame};
 ghost use Rattle.dagstore_lines.specs.Blocks.{SaysCount, IsGotBlock, Has};
 ghost use Rattle.dagstore_lines.specs.Changes.{name_as, SaysPut, ListsOthers, SaysRemoved};
+ghost use Rattle.dagstore_lines.specs.Contents.{OfGot, SaysFile, IsOfFile, FailsAt};
 ghost use Rattle.dagstore_lines.specs.Lacking.{SaysStoreChecked};
 ghost use Rattle.dagstore_lines.specs.Names.{IsListedLine, SaysNames};
 ghost use Rattle.dagstore_lines.specs.Refusals.{ExitsSo};
@@ -20,6 +21,7 @@ use crate::at::write_at;
 use crate::block::{count_blocks, get_block, has_block};
 use crate::change::{collect_meant, put_block, remove_blocks};
 use crate::export::{export_meant, write_tree};
+use crate::file::write_file;
 use crate::lacking::check_store;
 use crate::list::list_blocks;
 use crate::progress::Progress;
@@ -149,6 +151,27 @@ pub fn answer_at<S: Store, W: Write, V: Write>(
     ensures quiet { Quiet S.Store store.old store.new }
 {
     let ended = write_at(alloc, store, is_raw, root, path, output, errors);
+    end(ended, errors)
+}
+
+/// `cat`: answers the status.
+pub fn answer_cat<S: Store, W: Write, V: Write>(
+    alloc: Global,
+    store: &mut BlockStore<S>,
+    root: &Cid,
+    path: &str,
+    output: &mut W,
+    errors: &mut V,
+) -> u8
+    ensures answers { (ended : Result Bool Fault) × (heard : Option (List ℕ))
+        × OfGot (S.Store.view store.old) (S.Store.view store.new) (λ stored. SaysFile stored root.now
+        (segments path.now) (W.contents output.old) (V.contents errors.old) ended
+        (W.contents output.new) heard) × OnOk ended (StaysSame S.Store store.old store.new)
+        × IfErr ended (FailsAt S.Store (IsOfFile root.now (segments path.now)) store.old store.new)
+        × ExitsSo ended result heard (V.contents errors.new) }
+    ensures quiet { Quiet S.Store store.old store.new }
+{
+    let ended = write_file(alloc, store, root, path, output, errors);
     end(ended, errors)
 }
 

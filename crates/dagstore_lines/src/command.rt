@@ -56,6 +56,12 @@ pub struct Asking {
     pub root: Cid,
 }
 
+/// The block from which the names of a path lead.
+#[derive(Clone, Copy, Debug)]
+pub struct Beginning {
+    pub root: Cid,
+}
+
 /// What the words are.
 #[derive(Debug, Drop)]
 pub enum Words<'a> {
@@ -66,6 +72,8 @@ pub enum Words<'a> {
     Put(&'a str, u64),
     /// To show what a path leads to from the root, or to write its bytes.
     At(&'a str, Asking, &'a str),
+    /// To write the bytes of the file of IPFS to which a path of names leads from the root.
+    Cat(&'a str, Beginning, &'a str),
     /// A path, and what is to be done with its blocks.
     Do(&'a str, Command),
     Help,
@@ -112,6 +120,7 @@ fn words_behind<'a>(
         "import" => Ok(import_of(path, rest)),
         "put" => Ok(put_of(path, rest)),
         "at" => Ok(at_of(path, rest)),
+        "cat" => Ok(cat_of(path, rest)),
         _ => names_behind(alloc, path, word, rest),
     }
 }
@@ -170,6 +179,27 @@ fn at_text<'a>(file: &'a str, is_raw: bool, text: &'a str) -> Words<'a>
     }
 }
 
+/// The file of IPFS that is asked for.
+fn cat_of<'a>(file: &'a str, rest: &'a [String]) -> Words<'a>
+    ensures { AreWords (file.now ∷ (codes "cat" ∷ map string_bytes rest.now)) result }
+{
+    match rest {
+        [text] => cat_text(file, text.as_str()),
+        _ => Words::Unknown,
+    }
+}
+
+/// The file of IPFS that the text asks for: a CID, and the path behind a slash.
+fn cat_text<'a>(file: &'a str, text: &'a str) -> Words<'a>
+    ensures { AreWords (file.now ∷ (codes "cat" ∷ (text.now ∷ []))) result }
+{
+    let (name, path) = split_path(text);
+    match cid_from_text(name.as_bytes()) {
+        Ok(root) => Words::Cat(file, Beginning { root }, path),
+        Err(cause) => Words::NoCid(cause),
+    }
+}
+
 /// The codec that the word names: `dag-cbor`, `raw`, or a number as `0x70`.
 fn codec_of(word: &str) -> Option<u64>
     ensures { MatchOption result ((codec : ℕ) → ¬ NamesCodec word.now codec) (NamesCodec word.now) }
@@ -201,7 +231,7 @@ fn names_behind<'a>(
     rest: &[String],
 ) -> Result<Words<'a>, AllocError>
     ensures known { word.now ≢ codes "import" → word.now ≢ codes "put" → word.now ≢ codes "at"
-        → IfOk result (AreWords (path.now ∷ (word.now ∷ map string_bytes rest.now))) }
+        → word.now ≢ codes "cat" → IfOk result (AreWords (path.now ∷ (word.now ∷ map string_bytes rest.now))) }
     ensures memory { IfErr result (λ _. 0 < length rest.now) }
 {
     laws::texts_tell_cids();

@@ -9,6 +9,7 @@ mod check;
 mod command;
 mod export;
 mod fault;
+mod file;
 mod import;
 mod lacking;
 mod line;
@@ -21,17 +22,18 @@ mod way;
 mod words;
 
 pub use answer::{
-    answer_add_roots, answer_at, answer_check, answer_collect, answer_count, answer_drop_roots,
-    answer_export, answer_get, answer_has, answer_list, answer_put, answer_remove, answer_roots,
-    answer_tree,
+    answer_add_roots, answer_at, answer_cat, answer_check, answer_collect, answer_count,
+    answer_drop_roots, answer_export, answer_get, answer_has, answer_list, answer_put,
+    answer_remove, answer_roots, answer_tree,
 };
 pub use at::write_at;
 pub use block::{NO_BLOCK, count_blocks, get_block, has_block};
 pub use change::{check_put, collect_blocks, collect_meant, put_block, remove_blocks};
 pub use check::check_blocks;
-pub use command::{Asking, Command, Words, words_of};
+pub use command::{Asking, Beginning, Command, Words, words_of};
 pub use export::{export_blocks, export_meant, write_tree};
 pub use fault::Fault;
+pub use file::write_file;
 pub use import::import_blocks;
 pub use lacking::check_store;
 pub use list::list_blocks;

@@ -57,7 +57,7 @@ well_verified s verdicts.Unverified h w = absurd (cc w)
 
 -- a part of which all went out
 pub part_said : (stored : Stored) (wanted left : List Asked) (piece front back : List ℕ) (old heard new : Option (List ℕ)) → piece ≡ front ++ back → back ≡ [] → Appends old new front → IsReadOn stored wanted piece left
-    → SaysNext stored wanted left old heard (Ok None) new heard
+    → SaysNext {E = ToolError} stored wanted left old heard (Ok None) new heard
 part_said stored wanted left piece front back old heard new is none out h =
     (piece, h, subst (Appends old new) (sym (is ∙ ap (λ x. front ++ x) none ∙ append-nil front)) out, Appends-nil heard)
 
@@ -72,7 +72,7 @@ pub ends_at : (stored : Stored) (wanted below : List Asked) (w : Asked) (name : 
 ends_at stored wanted below w name stop told next is of_file said = inr (below, w, name, stop, next, is, of_file, refl, said)
 
 pub stop_said : (stored : Stored) (wanted left below : List Asked) (w : Asked) (name : CidParts) (stop : Stop) (old heard after : Option (List ℕ)) → IsNextName wanted below w name → IsStopAt stored name w stop → TellsStop name stop heard (Ok tt) after
-    → SaysNext stored wanted left old heard (Ok (Some false)) old after
+    → SaysNext {E = ToolError} stored wanted left old heard (Ok (Some false)) old after
 stop_said stored wanted left below w name stop old heard after next is k =
     (stop_line name stop, ends_at stored wanted below w name stop (stop_line name stop) next is k.0 refl, Appends-nil old, k.1)
 
@@ -93,7 +93,7 @@ nothing_read stored root = λ blocks holds.
     sym (joined_nothing (joined (Some []) b) ∙ joined_nothing b)
 
 -- where it is not begun
-pub content_not_begun : (stored : Stored) (root : CidParts) (old heard : Option (List ℕ)) (e : ToolError) → SaysContent stored root old heard (Err e) old heard
+pub content_not_begun : {E : Type 0} (stored : Stored) (root : CidParts) (old heard : Option (List ℕ)) (e : E) → SaysContent stored root old heard (Err e) old heard
 content_not_begun stored root old heard e =
     ([], [], ([], first_wanted root ∷ [], nothing_read stored root), inl refl, Appends-nil old, Appends-nil heard)
 
@@ -105,19 +105,19 @@ pub content_begun : (stored : Stored) (root : CidParts) (wanted : List Asked) (o
 content_begun stored root wanted old heard h = ([], h, Appends-nil old, Appends-nil heard)
 
 -- and then one part more
-pub content_on : (stored : Stored) (root : CidParts) (wanted left : List Asked) (old heard mid said new after : Option (List ℕ)) → HasSaid stored root wanted old heard mid said → SaysNext stored wanted left mid said (Ok None) new after
+pub content_on : (stored : Stored) (root : CidParts) (wanted left : List Asked) (old heard mid said new after : Option (List ℕ)) → HasSaid stored root wanted old heard mid said → SaysNext {E = ToolError} stored wanted left mid said (Ok None) new after
     → HasSaid stored root left old heard new after
 content_on stored root wanted left old heard mid said new after h k =
     (h.0 ++ k.0, read_further stored root h.0 k.0 wanted left h.1 k.1, Appends-trans old mid new h.0 k.0 h.2 k.2, Appends-trans heard said after [] [] h.3 k.3)
 
 -- and then the end
-pub content_ended : (stored : Stored) (root : CidParts) (wanted left : List Asked) (well : Bool) (old heard mid said new after : Option (List ℕ)) → HasSaid stored root wanted old heard mid said → SaysNext stored wanted left mid said (Ok (Some well)) new after
-    → SaysContent stored root old heard (Ok well) new after
+pub content_ended : (stored : Stored) (root : CidParts) (wanted left : List Asked) (well : Bool) (old heard mid said new after : Option (List ℕ)) → HasSaid stored root wanted old heard mid said → SaysNext {E = ToolError} stored wanted left mid said (Ok (Some well)) new after
+    → SaysContent {E = ToolError} stored root old heard (Ok well) new after
 content_ended stored root wanted left well old heard mid said new after h k =
     (h.0, k.0, (wanted, h.1, k.1), subst (Appends old new) (append-nil h.0) (Appends-trans old mid new h.0 [] h.2 k.2), Appends-trans heard said after [] k.0 h.3 k.3)
 
 -- and then a device failed, or memory was wanting
-pub content_broken : (stored : Stored) (root : CidParts) (wanted left : List Asked) (e : ToolError) (old heard mid said new after : Option (List ℕ)) → HasSaid stored root wanted old heard mid said → SaysNext stored wanted left mid said (Err e) new after
+pub content_broken : {E : Type 0} (stored : Stored) (root : CidParts) (wanted left : List Asked) (e : E) (old heard mid said new after : Option (List ℕ)) → HasSaid stored root wanted old heard mid said → SaysNext stored wanted left mid said (Err e) new after
     → SaysContent stored root old heard (Err e) new after
 content_broken stored root wanted left e old heard mid said new after h k =
     (h.0 ++ k.0, k.1, front_further stored root h.0 k.0 wanted h.1 k.2, told k.3, Appends-trans old mid new h.0 k.0 h.2 k.4, Appends-trans heard said after [] k.1 h.3 k.5)
@@ -127,6 +127,6 @@ content_broken stored root wanted left e old heard mid said new after h k =
     told (inr t) = inr (t.1.0, (wanted, subst (λ x. IsReadTo stored root x wanted) (sym (ap (λ x. h.0 ++ x) t.0 ∙ append-nil h.0)) h.1, t.1.1))
 
 -- and no more
-pub content_endless : (stored : Stored) (root : CidParts) (wanted : List Asked) (e : ToolError) (old heard new after : Option (List ℕ)) → HasSaid stored root wanted old heard new after → SaysContent stored root old heard (Err e) new after
+pub content_endless : {E : Type 0} (stored : Stored) (root : CidParts) (wanted : List Asked) (e : E) (old heard new after : Option (List ℕ)) → HasSaid stored root wanted old heard new after → SaysContent stored root old heard (Err e) new after
 content_endless stored root wanted e old heard new after h =
     (h.0, [], ([], wanted, subst (λ x. IsReadTo stored root x wanted) (sym (append-nil h.0)) h.1), inl refl, h.2, h.3)

@@ -71,10 +71,9 @@ EndsAt stored wanted well told = ((wanted ≡ []) × (well ≡ true) × (told �
     × (well ≡ false) × (told ≡ stop_line name stop))
 
 -- What is written and told of what is wanted, up to the next block of it: its bytes; or nothing, and whether
--- the file is read to its end, or why it is not; or a device failed, or memory was wanting, and a front
--- of both went out.
-abbrev pub SaysNext : Stored → List Asked → List Asked → Option (List ℕ) → Option (List ℕ)
-    → Result (Option Bool) ToolError → Option (List ℕ) → Option (List ℕ) → Type 0
+-- the file is read to its end, or why it is not; or it broke off, and a front of both went out.
+abbrev pub SaysNext : {E : Type 0} → Stored → List Asked → List Asked → Option (List ℕ) → Option (List ℕ)
+    → Result (Option Bool) E → Option (List ℕ) → Option (List ℕ) → Type 0
 SaysNext stored wanted left old heard result new after = MatchResult result
     (λ o. MatchOption o
     ((out : List ℕ) × IsReadOn stored wanted out left × Appends old new out × Appends heard after [])
@@ -99,10 +98,10 @@ abbrev pub TellsFront : Stored → CidParts → List ℕ → List ℕ → Type 0
 TellsFront stored root out told = (told ≡ [])
     ⊎ ((more : List ℕ) × IsContent stored root false out (told ++ more))
 
--- The bytes of the file went out, as they were read, and a line tells why it ends before its end; or a
--- device failed, or memory was wanting, and a front of both went out.
-abbrev pub SaysContent : Stored → CidParts → Option (List ℕ) → Option (List ℕ)
-    → Result Bool ToolError → Option (List ℕ) → Option (List ℕ) → Type 0
+-- The bytes of the file went out, as they were read, and a line tells why it ends before its end; or it
+-- broke off, and a front of both went out.
+abbrev pub SaysContent : {E : Type 0} → Stored → CidParts → Option (List ℕ) → Option (List ℕ)
+    → Result Bool E → Option (List ℕ) → Option (List ℕ) → Type 0
 SaysContent stored root old heard result new after = MatchResult result
     (λ well. (out told : List ℕ) × IsContent stored root well out told × Appends old new out
     × Appends heard after told)

@@ -1,6 +1,6 @@
 //! `cat`: the bytes of a file.
 
-ghost use Rattle.std.specs.Prelude.{◌≡◌, [], ◌++◌, List, ℕ, map, true, false, Some, None, MatchResult, IfOk};
+ghost use Rattle.std.specs.Prelude.{◌≡◌, [], ◌++◌, List, ℕ, map, option_map, true, false, Some, None, MatchResult, IfOk};
 ghost use Rattle.std.specs.Io.KnownBytes.{Appends};
 ghost use Rattle.ipld_tree.specs.Cid.{cid_bytes};
 ghost use Rattle.ipld_links.specs.Reaching.{Stored, stored_in};
@@ -47,23 +47,24 @@ fn tell_stop<V: Write>(
     write_all(errors, &line)
 }
 
-/// Writes the bytes of the file that stand in the next block of it, of which there is one. Whether it
-/// goes on.
-fn say_block<W: Write, V: Write>(
+/// Writes the bytes of the file that stand in the block of this name, which is wanted next, and of
+/// whose name these bytes are stored. None where the file may go on; else whether it is read to its end.
+pub fn say_block<W: Write, V: Write>(
     alloc: Global,
-    name: &Cid,
-    blocks: &BTreeMap<Cid, Vec<u8>>,
     reader: &mut FileReader,
+    name: &Cid,
+    stored: Option<&[u8]>,
     output: &mut W,
     errors: &mut V,
 ) -> Result<Option<bool>, ToolError>
-    ensures { (below : List Asked) (w : Asked)
+    ensures { (all : Stored) (below : List Asked) (w : Asked)
+        → all name.now ≡ option_map (λ b. b.now) stored.entry
         → IsNextName (map asked reader.old.wanted.items) below w name.now
-        → SaysNext (stored_in blocks.now) (map asked reader.old.wanted.items)
-        (map asked reader.new.wanted.items) (W.contents output.old) (V.contents errors.old) result
-        (W.contents output.new) (V.contents errors.new) }
+        → SaysNext all (map asked reader.old.wanted.items) (map asked reader.new.wanted.items)
+        (W.contents output.old) (V.contents errors.old) result (W.contents output.new)
+        (V.contents errors.new) }
 {
-    match take_stored(alloc, reader, name, stored_bytes(blocks, name)) {
+    match take_stored(alloc, reader, name, stored) {
         Ok(piece) => {
             write_all(output, piece)?;
             Ok(None)
@@ -94,7 +95,14 @@ fn say_next<W: Write, V: Write>(
     let name = wanted.cid;
     // What is known of a CID comes with its version.
     let _version = name.version();
-    say_block(alloc, &name, blocks, reader, output, errors)
+    say_block(
+        alloc,
+        reader,
+        &name,
+        stored_bytes(blocks, &name),
+        output,
+        errors,
+    )
 }
 
 /// Writes the bytes of the file under the root, block by block as they are verified, or tells why it

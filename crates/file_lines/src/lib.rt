@@ -9,7 +9,7 @@ pub mod laws;
 mod names;
 mod stop;
 
-pub use content::{MOST_DEPTH, begin_content, say_content};
+pub use content::{MOST_DEPTH, begin_content, say_block, say_content};
 pub use entries::say_entries;
 pub use file::say_file;
 pub use names::{NamesEnd, NoEntry, entry_stored, find_named, names_line};

@@ -1,10 +1,10 @@
 use Rattle.std.proofs.Common.{arith}
 use Rattle.std.proofs.lemmas.Result.{err_from_is_err_and}
 use Rattle.sqlite_trees.specs.View.{IsClean}
-use Rattle.dagcbor_store.proofs.Adding.{quiet_itself, quiet_then}
-use Rattle.dagcbor_store.proofs.Walking.{same_itself, same_then}
+use Rattle.dagcbor_store.proofs.Adding.{quiet_then}
+use Rattle.dagcbor_store.proofs.Walking.{same_then}
 use Rattle.dagstore_lines.proofs.Telling.{fails_from}
-use Rattle.dagstore_lines.proofs.Leaving.{adds_next, left_all}
+use Rattle.dagstore_lines.proofs.Leaving.{adds_next}
 use Rattle.dagstore_lines.proofs.lacking.lacking_of.Goals as goal
 
 pub loop-name-preserved : goal.loop-name-preserved

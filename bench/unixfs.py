@@ -116,7 +116,7 @@ def main(words):
     programs = [word for word in words if word.endswith("/dagcar")]
     program, busy = programs[0] if programs else built("dagcar", 1), load()
     tell(f"Measured {machine()}, {busy}, the least of {runs} runs.\n")
-    tell("| Input | size | MB | word | s of the processor | by `verify` | memory, MB |")
+    tell("| Input | size | MB | word | s of the processor | s of `verify` | memory, MB |")
     tell("|---|---|---|---|---|---|---|")
     with tempfile.TemporaryDirectory(prefix="unixfs-") as folder:
         for at_case, (case, word, _, sizes) in enumerate(CASES):
@@ -127,7 +127,7 @@ def main(words):
                 rows = [(ran([program, word, root], path), ran([program, "verify"], path)) for _ in range(runs)]
                 seconds, verified = (min(row[at][0] for row in rows) for at in (0, 1))
                 memory = min(row[0][1] for row in rows) / 1000
-                tell(f"| {case} | {size:,} | {os.path.getsize(path) / 1e6:.3g} | `{word}` | {seconds:.2f} | {seconds / verified:.2f} | {memory:.3g} |")
+                tell(f"| {case} | {size:,} | {os.path.getsize(path) / 1e6:.3g} | `{word}` | {seconds:.2f} | {verified:.2f} | {memory:.3g} |")
     if "page" in words:
         into_page(BEGIN, told, END)
 

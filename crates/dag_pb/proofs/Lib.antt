@@ -6,3 +6,4 @@ pub mod Orders
 pub mod Reading
 pub mod Spelled
 pub mod Sorting
+pub mod Placing

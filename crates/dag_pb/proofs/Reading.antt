@@ -53,6 +53,13 @@ no_node_so b order rest behind f r there h none (node, (fields, row, is)) =
 
 -- ---- the links
 
+-- the field that stands first is that of the row
+pub field_found : (b : List ℕ) (field : Field) (behind : List ℕ) (row : List Field) → BeginsWithField b field behind → BeginsWithFields b row [] → (more : List Field) × BeginsWithFields behind more [] × (row ≡ field ∷ more)
+field_found b field behind row h k =
+    let first = row_first b row (field_there b field behind h) k in
+    let one = one_field b first.0 field first.2 behind first.4 h in
+    (first.1, subst (λ x. BeginsWithFields x first.1 []) one.1 first.5, first.3 ∙ ap (λ g. g ∷ first.1) one.0)
+
 -- where the bytes are fields, the rest is fields with the same links
 abbrev pub HasSameLinks : List ℕ → List ℕ → Type 0
 HasSameLinks b rest = (row : List Field) → BeginsWithFields b row []
@@ -64,26 +71,21 @@ same_links b row h = (row, h, refl)
 pub data_passed : (b rest behind inner : List ℕ) → HasSameLinks b rest → BeginsWithField rest (data_field inner) behind → HasSameLinks b behind
 data_passed b rest behind inner same h row k =
     let s = same row k in
-    let first = row_first rest s.0 (field_there rest (data_field inner) behind h) s.1 in
-    let one = one_field rest first.0 (data_field inner) first.2 behind first.4 h in
-    (first.1, subst (λ x. BeginsWithFields x first.1 []) one.1 first.5, s.2 ∙ ap links_in (first.3 ∙ ap (λ g. g ∷ first.1) one.0))
+    let found = field_found rest (data_field inner) behind s.0 h s.1 in
+    (found.0, found.1, s.2 ∙ ap links_in found.2)
 
 pub link_found : (b rest behind : List ℕ) (link : LinkParts) → HasSameLinks b rest → BeginsWithField rest (link_field link) behind → (row : List Field) → BeginsWithFields b row [] → (more : List Field) × BeginsWithFields behind more [] × (links_in row ≡ link ∷ links_in more)
 link_found b rest behind link same h row k =
     let s = same row k in
-    let first = row_first rest s.0 (field_there rest (link_field link) behind h) s.1 in
-    let one = one_field rest first.0 (link_field link) first.2 behind first.4 h in
-    (first.1, subst (λ x. BeginsWithFields x first.1 []) one.1 first.5, s.2 ∙ ap links_in (first.3 ∙ ap (λ g. g ∷ first.1) one.0))
+    let found = field_found rest (link_field link) behind s.0 h s.1 in
+    (found.0, found.1, s.2 ∙ ap links_in found.2)
 
 pub none_left : (b rest : List ℕ) → HasSameLinks b rest → rest ≡ [] → (row : List Field) → BeginsWithFields b row [] → links_in row ≡ []
 none_left b rest same over row k = let s = same row k in s.2 ∙ ap links_in (row_over rest s.0 over s.1)
 
 -- some field stands there
-pub field_stands : (b rest : List ℕ) → HasSameLinks b rest → rest ≢ [] → BeginsNoField rest → ((row : List Field) × BeginsWithFields b row []) → ⊥
-field_stands b rest same there none (row, k) =
-    let s = same row k in
-    let first = row_first rest s.0 there s.1 in
-    none first.0 first.2 first.4
+pub field_stands : (b : List ℕ) → b ≢ [] → BeginsNoField b → ((row : List Field) × BeginsWithFields b row []) → ⊥
+field_stands b there none (row, k) = let first = row_first b row there k in none first.0 first.2 first.4
 
 -- ---- a block has one node's links
 

@@ -8,6 +8,7 @@ mod field;
 pub mod laws;
 mod link;
 mod node;
+mod place;
 mod stop;
 mod varint;
 
@@ -15,4 +16,5 @@ pub use encode::encode_node;
 pub use error::{PbCause, PbEncodeError, PbError};
 pub use field::PbField;
 pub use link::PbLink;
-pub use node::{check_node, next_link};
+pub use node::{check_node, next_field, next_link};
+pub use place::{data_length, link_length, put_data, put_link};

@@ -1,8 +1,8 @@
-//! The judge of blocks, and the walk over their links.
+//! The judge of blocks, and the walks over their fields and their links.
 
 ghost use Rattle.std.specs.Prelude.{◌≡◌, ◌+◌, ◌∷◌, [], ◌<◌, List, length, MatchResult, MatchOption, IfSome, OnOk, OnErr};
 ghost use Rattle.ipld_tree.specs.Cid.{cid_bytes};
-ghost use Rattle.dag_pb.specs.Node.{Field, HasNode, BeginsWithFields};
+ghost use Rattle.dag_pb.specs.Node.{Field, HasNode, BeginsWithField, BeginsWithFields};
 ghost use Rattle.dag_pb.specs.Orders.{order_after, field_tag};
 ghost use Rattle.dag_pb.specs.Causes.{IsNoNode, StopsIn};
 ghost use Rattle.dag_pb.specs.Reads.{link_of, field_of, links_in};
@@ -81,6 +81,25 @@ fn tag_of(field: &PbField<'_>) -> u64
     }
 }
 
+/// The first field of fields in a row, and the fields behind it.
+pub fn next_field(fields: &[u8]) -> Option<(PbField<'_>, &[u8])>
+    requires { (row : List Field) × BeginsWithFields fields.now row [] }
+    ensures field { (row : List Field) → BeginsWithFields fields.now row []
+        → MatchOption result (row ≡ [])
+        (λ p. (more : List Field) × BeginsWithFields p.1.now more []
+        × (row ≡ field_of p.0 ∷ more)) }
+    ensures begins { IfSome result (λ p. BeginsWithField fields.now (field_of p.0) p.1.now) }
+    ensures shorter { IfSome result (λ p. length p.1.now < length fields.now) }
+{
+    if fields.is_empty() {
+        return None;
+    }
+    let Ok(found) = split_field(fields) else {
+        unreachable!()
+    };
+    Some(found)
+}
+
 /// The first link of fields in a row, and the fields behind it.
 pub fn next_link(fields: &[u8]) -> Option<(PbLink<'_>, &[u8])>
     requires { (row : List Field) × BeginsWithFields fields.now row [] }
@@ -92,10 +111,7 @@ pub fn next_link(fields: &[u8]) -> Option<(PbLink<'_>, &[u8])>
         (λ p. length (cid_bytes p.0.hash) + length p.1.now < length fields.now) }
 {
     let mut rest = fields;
-    while !rest.is_empty() {
-        let Ok((field, behind)) = split_field(rest) else {
-            unreachable!()
-        };
+    while let Some((field, behind)) = next_field(rest) {
         if let PbField::Link(link) = field {
             return Some((link, behind));
         }

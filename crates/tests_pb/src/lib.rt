@@ -1,7 +1,11 @@
-//! Tests of `dag_pb`, and of walks along the links of its blocks.
+//! Tests of `dag_pb`, of the data model of its blocks, and of walks along their links.
 #![tactic(auto)]
 
 #[cfg(test)]
 mod encoded;
+#[cfg(test)]
+mod modelled;
+#[cfg(test)]
+mod put;
 #[cfg(test)]
 mod tests;

@@ -2,8 +2,8 @@ use Rattle.std.proofs.Common.{◌≤◌, length}
 use Rattle.dag_pb.proofs.Reading.{HasSameLinks}
 use Rattle.dag_pb.proofs.node.next_link.Given as goal
 
-abbrev pub invariant-loop-rest : goal.invariant-loop-rest
-invariant-loop-rest l = record { same : HasSameLinks l.fields l.rest; fits : length l.rest ≤ length l.fields }
+abbrev pub invariant-loop-field : goal.invariant-loop-field
+invariant-loop-field l = record { same : HasSameLinks l.fields l.rest; fits : length l.rest ≤ length l.fields }
 
-abbrev pub decreases-loop-rest : goal.decreases-loop-rest
-decreases-loop-rest l = length l.rest
+abbrev pub decreases-loop-field : goal.decreases-loop-field
+decreases-loop-field l = length l.rest

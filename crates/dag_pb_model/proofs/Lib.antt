@@ -1,0 +1,12 @@
+pub mod Parting
+pub mod Opening
+pub mod Sizing
+pub mod Walking
+pub mod NodeFilling
+pub mod Written
+pub mod Forms
+pub mod Models
+pub mod Measuring
+pub mod Filling
+pub mod Blocks
+pub mod NodeLaws

@@ -1,0 +1,12 @@
+use Rattle.std.proofs.Common.{◌+◌, ◌≤◌, length, codes, option_map, sym, subst}
+use Rattle.ipld_tree.specs.Tree.{text}
+use Rattle.lent_memory.specs.Puts.{PutsAt}
+use Rattle.dag_pb_model.specs.Forms.{name_form}
+use Rattle.dag_pb_model.proofs.Filling.{part_put}
+use Rattle.dag_pb_model.proofs.fill.put_name.Goals as goal
+
+pub returns-in-Some : goal.returns-in-Some
+returns-in-Some c =
+    let room = subst (λ o. c.args.at + length (name_form (option_map (λ s. s.now) o)) ≤ length c.args.out.now) c.in-Some.is c.requires in
+    subst (λ o. PutsAt (name_form (option_map (λ s. s.now) o)) c.args.at c.args.out.now c.put_string.new.out c.put_string.result) (sym c.in-Some.is)
+    (part_put (codes "Name") (text c.in-Some.name.now) c.args.at c.put_string-behind.result c.put_string.result c.args.out.now c.put_string-behind.new.out c.put_string.new.out room c.put_string-behind.ensures c.put_string.ensures)

@@ -1,0 +1,117 @@
+-- What stands at the front of a block of a data model, part by part. No public contract names it.
+use Rattle.std.specs.Prelude.{◌≡◌, ℕ, pos, ◌≤◌, Bool, List, [], ◌++◌, length, Option, None, Some, codes, map, flat_map, MatchBool}
+use Rattle.std.specs.List.{AllByRecursion}
+use Rattle.dagcbor_heads.specs.Splits.{SplitsHead}
+use Rattle.ipld_tree.specs.Cid.{AreCidParts}
+use Rattle.ipld_tree.specs.Tree.{Tree, Items, integer, text, bytes, items_of}
+use Rattle.ipld_tree.specs.Spelling.{IsFront, AreFronts, text_spelling}
+use Rattle.dag_pb.specs.Node.{LinkParts, NodeParts}
+use Rattle.dag_pb.specs.Spelling.{link_spelling, node_spelling, AreSorted, IsSpellableLink, IsSpellable}
+use Rattle.lent_memory.specs.Puts.{with_front, PutsAt}
+use Rattle.dag_pb_model.specs.Model.{link_model, node_model}
+
+-- the bytes begin with this entry of a map, and the rest follows
+abbrev pub IsEntry : List ℕ → List ℕ → Tree → List ℕ → Type 0
+IsEntry b key t rest = (behind : List ℕ) × (b ≡ text_spelling key ++ behind) × IsFront behind t rest
+
+-- the bytes begin with the name and the size of a link of so many entries, its CID's among them
+abbrev pub AreEnds : ℕ → List ℕ → Option (List ℕ) → Option ℕ → List ℕ → Type 0
+AreEnds count b None None rest = (count ≡ 1) × (b ≡ rest)
+AreEnds count b (Some name) None rest = (count ≡ 2) × IsEntry b (codes "Name") (text name) rest
+AreEnds count b None (Some n) rest = (count ≡ 2) × IsEntry b (codes "Tsize") (integer (pos n)) rest
+AreEnds count b (Some name) (Some n) rest = (count ≡ 3)
+    × ((behind : List ℕ) × IsEntry b (codes "Name") (text name) behind
+    × IsEntry behind (codes "Tsize") (integer (pos n)) rest)
+
+-- they begin with none such
+abbrev pub HasNoEnds : ℕ → List ℕ → Type 0
+HasNoEnds count b = (name : Option (List ℕ)) (tsize : Option ℕ) (rest : List ℕ)
+    → ¬ AreEnds count b name tsize rest
+
+-- the bytes begin with a link's data model, and the rest follows
+abbrev pub IsLinkModel : List ℕ → LinkParts → List ℕ → Type 0
+IsLinkModel b l rest = AreCidParts l.hash × IsFront b (link_model l) rest
+
+-- they begin with none
+abbrev pub BeginsNoLinkModel : List ℕ → Type 0
+BeginsNoLinkModel b = (l : LinkParts) (rest : List ℕ) → ¬ IsFront b (link_model l) rest
+
+-- ---- nodes
+
+-- the items of the list of these links
+abbrev pub link_models : List LinkParts → Items
+link_models ls = items_of (map link_model ls)
+
+-- the bytes begin with the entry of the links, up to the head of their list
+abbrev pub IsLinksFront : List ℕ → ℕ → List ℕ → Type 0
+IsLinksFront b count rest = (behind : List ℕ) × (b ≡ text_spelling (codes "Links") ++ behind)
+    × SplitsHead behind 4 count rest
+
+-- the bytes begin with the data of a node of so many entries, and with that entry
+abbrev pub AreNodeEnds : ℕ → List ℕ → Option (List ℕ) → ℕ → List ℕ → Type 0
+AreNodeEnds entries b None count rest = (entries ≡ 1) × IsLinksFront b count rest
+AreNodeEnds entries b (Some inner) count rest = (entries ≡ 2)
+    × ((behind : List ℕ) × IsEntry b (codes "Data") (bytes inner) behind
+    × IsLinksFront behind count rest)
+
+-- the bytes begin with a node's data model, up to the head of the list of its links
+abbrev pub IsNodeFront : List ℕ → Option (List ℕ) → ℕ → List ℕ → Type 0
+IsNodeFront b inner count rest = (entries : ℕ) × (behind : List ℕ) × SplitsHead b 5 entries behind
+    × AreNodeEnds entries behind inner count rest
+
+-- the bytes are no node's data model
+abbrev pub HasNoNode : List ℕ → Type 0
+HasNoNode b = (node : NodeParts) → ¬ IsFront b (node_model node) []
+
+-- they are so many links' data models
+abbrev pub AreLinkModels : List ℕ → ℕ → List LinkParts → Type 0
+AreLinkModels b count ls = (length ls ≡ count) × AreFronts b (link_models ls) []
+
+-- they are not so many links' data models
+abbrev pub AreNoLinkModels : List ℕ → ℕ → Type 0
+AreNoLinkModels b count = (ls : List LinkParts) → ¬ AreLinkModels b count ls
+
+-- links that were read and measured, and whether they are sorted
+pub record AreMeasured (b : List ℕ) (count size : ℕ) (sorted : Bool) : Type 0 where
+  pub links : List LinkParts
+  pub there : AreLinkModels b count links
+  pub spellable : AllByRecursion IsSpellableLink links
+  pub size_is : size ≡ length (flat_map link_spelling links)
+  pub few : size ≤ length b
+  pub sorted_is : MatchBool sorted (AreSorted links) (¬ AreSorted links)
+
+-- ---- what is put
+
+-- the memory has room for the links of these data models
+abbrev pub HasRoomForLinks : List ℕ → List ℕ → Type 0
+HasRoomForLinks b old = (ls : List LinkParts) × AreFronts b (link_models ls) []
+    × AllByRecursion IsSpellableLink ls × (length (flat_map link_spelling ls) ≤ length old)
+
+-- they were put at its front, up to this place
+abbrev pub FillsLinks : List ℕ → List ℕ → List ℕ → ℕ → Type 0
+FillsLinks b old new end = (ls : List LinkParts) → AreFronts b (link_models ls) []
+    → AllByRecursion IsSpellableLink ls → PutsAt (flat_map link_spelling ls) 0 old new end
+
+-- the node of these links and this data
+abbrev pub node_with : List LinkParts → Option (List ℕ) → NodeParts
+node_with ls inner = record { links = ls; «data» = inner }
+
+-- the memory has room for the node of this data and the links of these data models
+abbrev pub HasRoomForNode : Option (List ℕ) → List ℕ → List ℕ → Type 0
+HasRoomForNode inner b old = (ls : List LinkParts) × AreFronts b (link_models ls) []
+    × AllByRecursion IsSpellableLink ls × (length (node_spelling (node_with ls inner)) ≤ length old)
+
+-- it was put at its front
+abbrev pub FillsNode : Option (List ℕ) → List ℕ → List ℕ → List ℕ → Type 0
+FillsNode inner b old new = (ls : List LinkParts) → AreFronts b (link_models ls) []
+    → AllByRecursion IsSpellableLink ls → new ≡ with_front (node_spelling (node_with ls inner)) old
+
+-- the bytes are the data model of a node of this data, and of the links whose data models are there; its
+-- block has so many bytes
+pub record IsMeasuredModel (b : List ℕ) (inner : Option (List ℕ)) (rest : List ℕ) (size : ℕ) (sorted : Bool) : Type 0 where
+  pub links : List LinkParts
+  pub whole : IsFront b (node_model (node_with links inner)) []
+  pub spellable : IsSpellable (node_with links inner)
+  pub there : AreFronts rest (link_models links) []
+  pub size_is : size ≡ length (node_spelling (node_with links inner))
+  pub sorted_is : MatchBool sorted (AreSorted links) (¬ AreSorted links)

@@ -1,0 +1,18 @@
+-- Why no node is written of a data model.
+use Rattle.std.specs.Prelude.{◌≢◌, ℕ, List}
+use Rattle.ipld_tree.specs.Tree.{Tree}
+use Rattle.dagcbor_decode.specs.Blocks.{IsBlock}
+use Rattle.dagcbor_decode.specs.Decode.{decode}
+use Rattle.dagcbor_decode.specs.Verdicts.{IsRefusal}
+use Rattle.dag_pb.specs.Node.{NodeParts}
+use Rattle.dag_pb.specs.Spelling.{AreSorted}
+use Rattle.dag_pb_model.specs.Model.{node_model}
+use Rattle.dag_pb_model.specs.declared.node_error.NodeError.{NodeError}
+use Rattle.dag_pb_model.specs.declared.node_error.NodeError.TheVariants.{NoBlock, NotANode, UnsortedLinks}
+
+-- the bytes are no block of DAG-CBOR; or one of other data; or one of a node whose links do not ascend
+-- by their names
+abbrev pub IsNotPut : List ℕ → NodeError → Type 0
+IsNotPut b (NoBlock e) = IsRefusal (decode b) e
+IsNotPut b NotANode = (t : Tree) × IsBlock b t × ((node : NodeParts) → t ≢ node_model node)
+IsNotPut b UnsortedLinks = (node : NodeParts) × IsBlock b (node_model node) × ¬ AreSorted node.links

@@ -5,3 +5,4 @@ pub mod Ending
 pub mod Proving
 pub mod Finding
 pub mod RefusedPlaces
+pub mod Shown

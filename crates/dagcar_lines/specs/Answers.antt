@@ -1,5 +1,5 @@
 -- What the program answers of bytes.
-use Rattle.std.specs.Prelude.{◌≡◌, ◌⊎◌, ◌↔◌, ℕ, codes, List, [], ◌++◌, Vec, Bool, true, false, IsTrue, ⊤, Result, Ok, Err, Option, if◌then◌else◌, flat_map}
+use Rattle.std.specs.Prelude.{◌≡◌, ◌≢◌, ◌⊎◌, ◌↔◌, ℕ, codes, List, [], ◌++◌, Vec, Bool, true, false, IsTrue, ⊤, Result, Ok, Err, Option, if◌then◌else◌, flat_map}
 use Rattle.std.specs.declared.alloc.Global.{Global}
 use Rattle.std.specs.declared.convert.Infallible.{Infallible}
 use Rattle.dagcbor_heads.specs.declared.error.DecodeError.{DecodeError}
@@ -7,11 +7,13 @@ use Rattle.ipld_tree.specs.Tree.{Tree}
 use Rattle.ipld_tree.specs.Spelling.{IsSpelling}
 use Rattle.ipld_tree.specs.Cid.{CidParts}
 use Rattle.cid_text.specs.Texts.{cid_text}
+use Rattle.dag_json.specs.DagJson.{dag_json, has_reserved_key}
 use Rattle.dag_json.specs.Reading.{ReadsJson}
 use Rattle.dag_json.specs.declared.error.DagJsonError.{DagJsonError}
 use Rattle.dagcbor_decode.specs.Verdicts.{IsRefusedAt}
 use Rattle.dagcbor_decode.specs.Blocks.{IsBlock}
 use Rattle.dagcbor_decode.specs.TreeKinds.{kind_of}
+use Rattle.dag_pb_model.specs.Model.{IsNodeOf}
 use Rattle.dagcbor_car.specs.Car.{Section}
 use Rattle.ipld_links.specs.Names.{block_name}
 use Rattle.ipld_links.specs.Blocks.{HasBlock}
@@ -21,7 +23,7 @@ use Rattle.ipld_links.specs.declared.verdict.Verdict.{Verdict}
 use Rattle.ipld_links.specs.declared.verdict.Verdict.TheVariants.{Refused}
 use Rattle.dagcbor_decode.specs.PrintedNames.{kind_name}
 use Rattle.block_lines.specs.Lines.{line, verdict_line, listed_line, missing_line, root_line, is_well, SaysToDevice, SaysBoth}
-use Rattle.block_lines.specs.Shown.{IsSaidOfNoBlock, IsShown}
+use Rattle.block_lines.specs.Shown.{IsSaidOfNoBlock, reserved_line}
 use Rattle.dagcar_lines.specs.Lines.{cause_line, section_place_line}
 use Rattle.dagcar_lines.specs.Speeches.{Speech, beside, SaysBytes}
 use Rattle.dagcar_lines.specs.Summary.{IsSummary}
@@ -101,6 +103,19 @@ IsJudged b well out told = ((t : Tree) × IsBlock b t × (well ≡ true)
     × (out ≡ line (codes "ok " ++ kind_name (kind_of t))) × (told ≡ []))
     ⊎ IsSaidOfNoBlock b well out told
 
+-- the data as DAG-JSON in a line; and a line is told where a map in it has the key `/`
+abbrev pub IsDataSaid : Tree → Bool → List ℕ → List ℕ → Type 0
+IsDataSaid t well out told = (well ≡ true) × (out ≡ line (dag_json t))
+    × (told ≡ (if has_reserved_key t then reserved_line else []))
+
+-- What `show` says of bytes: the data of the block; or, where they are none, the data model of the node
+-- of DAG-PB that they are; or, where they are none of both, why they are no block. No bytes at all are a
+-- node too, of which nothing is shown.
+abbrev pub IsDataShown : List ℕ → Bool → List ℕ → List ℕ → Type 0
+IsDataShown b well out told = ((t : Tree) × IsBlock b t × IsDataSaid t well out told)
+    ⊎ ((¬ HasBlock b) × (b ≢ []) × ((t : Tree) × IsNodeOf b t × IsDataSaid t well out told))
+    ⊎ (((b ≡ []) ⊎ ((t : Tree) → ¬ IsNodeOf b t)) × IsSaidOfNoBlock b well out told)
+
 -- what `make` gives of a text: the block of the data that it is; or nothing, and a line that tells
 -- why it is none. At which byte is not said here.
 abbrev pub IsMade : List ℕ → Bool → List ℕ → List ℕ → Type 0
@@ -141,7 +156,7 @@ RunsCommand commands.Version text b old heard ended new after = SaysToDevice (λ
 RunsCommand commands.List text b old heard ended new after = SaysBytes list_speech b old ended new
 RunsCommand commands.Name text b old heard ended new after = SaysBoth (IsNameSaid b) old heard ended new after
 RunsCommand commands.One text b old heard ended new after = SaysBoth (IsJudged b) old heard ended new after
-RunsCommand commands.Show text b old heard ended new after = SaysBoth (IsShown b) old heard ended new after
+RunsCommand commands.Show text b old heard ended new after = SaysBoth (IsDataShown b) old heard ended new after
 RunsCommand commands.Make text b old heard ended new after = SaysBoth (IsMade b) old heard ended new after
 RunsCommand (commands.Get name) text b old heard ended new after = SaysBoth (IsGot name b) old heard ended new after
 RunsCommand (commands.Tree root) text b old heard ended new after = SaysBoth (IsTreeOfFile root b) old heard ended new after

@@ -40,9 +40,12 @@ fn say_at<W: Write, V: Write>(
         (W.contents output.old) (V.contents errors.old) result
         (W.contents output.new) (V.contents errors.new) }
 {
-    let resolved = resolve(blocks, root, path);
-    match item_bytes(blocks, &resolved) {
-        Some(item) => say_shown(alloc, item, output, errors),
+    let resolved = match resolve(alloc, blocks, root, path) {
+        Ok(resolved) => resolved,
+        Err(_) => return Err(ToolError::OutOfMemory),
+    };
+    match item_bytes(alloc, blocks, &resolved)? {
+        Some(item) => say_shown(alloc, item.bytes(), output, errors),
         None => say_end(alloc, &resolved, output, errors),
     }
 }

@@ -11,17 +11,25 @@ use Rattle.dagcbor_paths.specs.Finding.{LeadsInto, HasNoPart}
 use Rattle.dagcbor_paths.proofs.Leading.{IsWhole, part_whole, part_unique, at_unique}
 use Rattle.dagcbor_paths.proofs.Ends.{nothing_found, no_part_of_link}
 use Rattle.ipld_links.specs.Reaching.{Stored}
-use Rattle.dagcbor_resolve.specs.Resolving.{AreNamed, LeadsOn}
+use Rattle.ipld_links.specs.Verdicts.{IsVerified}
+use Rattle.dagcbor_resolve.specs.Resolving.{IsReadAs, IsReadUnder, LeadsOn}
 use Rattle.dagcbor_resolve.specs.Laws.{LeadsInBlock, Leads, PathsBind}
 use Rattle.ipld_links.specs.Collisions.{Collides}
 use Rattle.ipld_links.proofs.Colliding.{of_one_hash}
+use Rattle.dagcbor_resolve.proofs.Reading.{read_as_one}
 
 -- ---- the bytes under a name
 
-same_bytes : (s o : Stored) (name : CidParts) (x y : List ℕ) → AreNamed s name x → AreNamed o name y → (x ≡ y) ⊎ Collides
-same_bytes s o name x y h k = elim h.1 [
-  | inl a ↦ elim k.1 [ inl b ↦ of_one_hash x y (sym a.1 ∙ b.1) | inr b ↦ absurd (omega (arith, a.0.0, b.0)) ]
-  | inr a ↦ elim k.1 [ inl b ↦ absurd (omega (arith, a.0, b.0.0)) | inr b ↦ inl (sym a.1 ∙ b.1) ]
+one_named : (name : CidParts) (x y : List ℕ) → IsVerified (name, x) → IsVerified (name, y) → (x ≡ y) ⊎ Collides
+one_named name x y h k = elim h [
+  | inl a ↦ elim k [ inl b ↦ of_one_hash x y (sym a.1 ∙ b.1) | inr b ↦ absurd (omega (arith, a.0.0, b.0)) ]
+  | inr a ↦ elim k [ inl b ↦ absurd (omega (arith, a.0, b.0.0)) | inr b ↦ inl (sym a.1 ∙ b.1) ]
+]
+
+same_block : (s o : Stored) (name : CidParts) (x y : List ℕ) → IsReadUnder s name x → IsReadUnder o name y → (x ≡ y) ⊎ Collides
+same_block s o name x y h k = elim (one_named name h.0 k.0 h.2 k.2) [
+  | inl is ↦ inl (read_as_one name k.0 x y (subst (λ z. IsReadAs name z x) is h.3) k.3)
+  | inr c ↦ inr c
 ]
 
 pub block_unique : (b : List ℕ) (t u : Tree) → IsBlock b t → IsBlock b u → t ≡ u
@@ -60,14 +68,14 @@ no_end_at_link b path left t next None h some k = k.5 (cid_bytes next) (sym (int
 
 -- ---- over blocks
 
-ends_and_goes : (s o : Stored) (name next : CidParts) (path left : List (List ℕ)) (found : Option Tree) (x : List ℕ) → AreNamed s name x → LeadsInBlock x path found → LeadsOn o name path next left → Collides
-ends_and_goes s o name next path left found x h k g = elim (same_bytes s o name x g.1.0 h g.1.2) [
+ends_and_goes : (s o : Stored) (name next : CidParts) (path left : List (List ℕ)) (found : Option Tree) (x : List ℕ) → IsReadUnder s name x → LeadsInBlock x path found → LeadsOn o name path next left → Collides
+ends_and_goes s o name next path left found x h k g = elim (same_block s o name x g.1.0 h g.1.2) [
   | inl is ↦ absurd (no_end_at_link g.1.0 path left g.1.1 next found g.1.3 g.1.4 (subst (λ z. LeadsInBlock z path found) is k))
   | inr c ↦ c
 ]
 
 go_alike : (s o : Stored) (name next also : CidParts) (path left more : List (List ℕ)) → LeadsOn s name path next left → LeadsOn o name path also more → ((next ≡ also) × (left ≡ more)) ⊎ Collides
-go_alike s o name next also path left more g k = elim (same_bytes s o name g.1.0 k.1.0 g.1.2 k.1.2) [
+go_alike s o name next also path left more g k = elim (same_block s o name g.1.0 k.1.0 g.1.2 k.1.2) [
   | inl is ↦ inl (
       let h = subst (λ z. LeadsInto z path left g.1.1 (link (cid_bytes next))) is g.1.3 in
       let same = into_unique k.1.0 path left more g.1.1 k.1.1 (link (cid_bytes next)) (link (cid_bytes also)) h k.1.3 (no_part_of_link left (cid_bytes next) g.1.4) (no_part_of_link more (cid_bytes also) k.1.4) in
@@ -78,7 +86,7 @@ go_alike s o name next also path left more g k = elim (same_bytes s o name g.1.0
 ]
 
 bound : (s o : Stored) (m n : ℕ) (root : CidParts) (path : List (List ℕ)) (found other : Option Tree) → Leads m s root path found → Leads n o root path other → (found ≡ other) ⊎ Collides
-bound s o zero zero root path found other h k = elim (same_bytes s o root h.0 k.0 h.1 k.1) [
+bound s o zero zero root path found other h k = elim (same_block s o root h.0 k.0 h.1 k.1) [
   | inl is ↦ inl (found_unique k.0 path found other (subst (λ z. LeadsInBlock z path found) is h.2) k.2)
   | inr c ↦ inr c
 ]

@@ -3,55 +3,53 @@ use Rattle.std.proofs.Common.{◌≡◌, ◌↔◌, inl, inr, arith, ℕ, zero, 
 use Rattle.ipld_tree.specs.Cid.{CidParts, cid_bytes}
 use Rattle.ipld_tree.specs.Tree.{Tree, link}
 use Rattle.ipld_tree.proofs.Cids.{cid_unique}
-use Rattle.dagcbor_decode.specs.Blocks.{IsBlock}
 use Rattle.dagcbor_paths.specs.Paths.{segments}
 use Rattle.dagcbor_paths.specs.Finding.{LeadsInto}
 use Rattle.dagcbor_paths.proofs.Ends.{no_part_of_link}
 use Rattle.ipld_links.specs.Reaching.{Stored, AreBytesOf}
 use Rattle.ipld_links.specs.Verdicts.{IsVerified, IsVerdict}
 use Rattle.ipld_links.specs.declared.verdict.Verdict.{Verdict}
-use Rattle.ipld_links.specs.declared.verdict.Verdict.TheVariants.{Block, Refused, Node, NoNode, OtherBytes, NotRead, LinksNotRead, Unverified}
-use Rattle.dagcbor_decode.proofs.Laws.{refused_no_block}
-use Rattle.dagcbor_resolve.specs.Resolving.{AreNamed, LeadsOn, IsNoBlock, EndsAs, ResolvesIn, IsEndlessAfter, GoesOver}
+use Rattle.dagcbor_resolve.specs.Resolving.{IsReadAs, IsReadUnder, LeadsOn, IsNoBlock, HasNoModelUnder, EndsAs, ResolvesIn, IsEndlessAfter, GoesOver}
 use Rattle.dagcbor_resolve.specs.Laws.{LeadsInBlock, Leads, AgreeOn, WaysDecideEnds, WaysDecideItems}
 use Rattle.dagcbor_resolve.specs.declared.resolution.End.{End}
 use Rattle.dagcbor_resolve.specs.declared.resolution.End.TheVariants as ends
 use Rattle.dagcbor_resolve.specs.declared.resolution.Resolved.{Resolved}
 use Rattle.dagcbor_resolve.proofs.Binding.{into_unique, no_end_at_link}
-use Rattle.dagcbor_resolve.proofs.Telling.{bytes_unique}
+use Rattle.dag_pb_model.specs.declared.error.ModelError.TheVariants.{NameNotText}
+use Rattle.dagcbor_resolve.proofs.Reading.{none_read, not_modelled}
+use Rattle.dagcbor_resolve.proofs.Telling.{bytes_unique, read_unique}
 
 -- ---- in one store
 
 -- it goes on to one block at most
 pub go_unique : (s : Stored) (name next also : CidParts) (path left more : List (List ℕ)) → LeadsOn s name path next left → LeadsOn s name path also more → (next ≡ also) × (left ≡ more)
 go_unique s name next also path left more g k =
-    let is = bytes_unique s name g.1.0 k.1.0 g.1.2.0 k.1.2.0 in
+    let is = read_unique s name g.1.0 k.1.0 g.1.2 k.1.2 in
     let h = subst (λ z. LeadsInto z path left g.1.1 (link (cid_bytes next))) is g.1.3 in
     let same = into_unique k.1.0 path left more g.1.1 k.1.1 (link (cid_bytes next)) (link (cid_bytes also)) h k.1.3 (no_part_of_link left (cid_bytes next) g.1.4) (no_part_of_link more (cid_bytes also) k.1.4) in
     let cids : cid_bytes next ≡ cid_bytes also = cc same.0 in
     (cid_unique next also g.0 k.0 cids, same.1)
 
 -- it does not go on from where it leads to something, or to nothing
-led_no_further : (s : Stored) (name next : CidParts) (path left : List (List ℕ)) (found : Option Tree) (x : List ℕ) → AreBytesOf s name x → LeadsInBlock x path found → LeadsOn s name path next left → ⊥
+led_no_further : (s : Stored) (name next : CidParts) (path left : List (List ℕ)) (found : Option Tree) (x : List ℕ) → IsReadUnder s name x → LeadsInBlock x path found → LeadsOn s name path next left → ⊥
 led_no_further s name next path left found x h k g =
-    no_end_at_link g.1.0 path left g.1.1 next found g.1.3 g.1.4 (subst (λ z. LeadsInBlock z path found) (bytes_unique s name x g.1.0 h g.1.2.0) k)
+    no_end_at_link g.1.0 path left g.1.1 next found g.1.3 g.1.4 (subst (λ z. LeadsInBlock z path found) (read_unique s name x g.1.0 h g.1.2) k)
 
 no_block_goes_on : (s : Stored) (name next : CidParts) (path left : List (List ℕ)) (v : Verdict) (b : List ℕ) → AreBytesOf s name b → IsVerdict (name, b) v → IsNoBlock v → LeadsOn s name path next left → ⊥
-no_block_goes_on s name next path left (Block kind) b h v none g = none
-no_block_goes_on s name next path left (Refused e) b h v none g =
-    refused_no_block b e g.1.1 v.1.1 (subst (λ z. IsBlock z g.1.1) (bytes_unique s name g.1.0 b g.1.2.0 h) g.1.3.block)
-no_block_goes_on s name next path left OtherBytes b h v none g = v.1 (subst (λ z. IsVerified (name, z)) (bytes_unique s name g.1.0 b g.1.2.0 h) g.1.2.1)
-no_block_goes_on s name next path left NotRead b h v none g = absurd (omega (arith, v.1, g.1.2.2))
-no_block_goes_on s name next path left LinksNotRead b h v none g = v.1.1 (inl g.1.2.2)
-no_block_goes_on s name next path left Node b h v none g = absurd (omega (arith, v.1.0, g.1.2.2))
-no_block_goes_on s name next path left (NoNode e) b h v none g = absurd (omega (arith, v.1.0, g.1.2.2))
-no_block_goes_on s name next path left Unverified b h v none g = elim g.1.2.1 [ inl is ↦ v (inl is.0) | inr is ↦ v (inr is.0) ]
+no_block_goes_on s name next path left v b h is none g = none_read name b g.1.0 g.1.1 v (subst (λ z. IsVerified (name, z)) same g.1.2.2) (subst (λ z. IsReadAs name z g.1.0) same g.1.2.3) g.1.3.block is none
+  where
+    same : g.1.2.0 ≡ b
+    same = bytes_unique s name g.1.2.0 b g.1.2.1 h
+
+no_model_goes_on : (s : Stored) (name next : CidParts) (path left : List (List ℕ)) → HasNoModelUnder s name → LeadsOn s name path next left → ⊥
+no_model_goes_on s name next path left h g = not_modelled name h.0 g.1.0 NameNotText h.3 h.4 (subst (λ z. IsReadAs name z g.1.0) (bytes_unique s name g.1.2.0 h.0 g.1.2.1 h.1) g.1.2.3)
 
 -- nor from where it ends
 pub ends_no_further : (s : Stored) (name : CidParts) (path : List (List ℕ)) (end : End) → EndsAs s name path end → ((n : ℕ) → IsEndlessAfter n end) → GoesOver s name path []
-ends_no_further s name path (ends.Item kind place end) h never next left g = led_no_further s name next path left (Some h.2) h.0 h.3.0 (h.1, h.4, h.5) g
-ends_no_further s name path (ends.NoSuchPath more) h never next left g = led_no_further s name next path left None h.0 h.3.0 (h.1, h.2, segments more.now, h.4, h.5, h.6) g
-ends_no_further s name path ends.NotHeld h never next left g = h g.1.0 g.1.2.0
+ends_no_further s name path (ends.Item kind place end) h never next left g = led_no_further s name next path left (Some h.2) h.0 h.3 (h.1, h.4, h.5) g
+ends_no_further s name path (ends.NoSuchPath more) h never next left g = led_no_further s name next path left None h.0 h.3 (h.1, h.2, segments more.now, h.4, h.5, h.6) g
+ends_no_further s name path ends.NotHeld h never next left g = h g.1.2.0 g.1.2.1
+ends_no_further s name path ends.NoModel h never next left g = no_model_goes_on s name next path left h g
 ends_no_further s name path (ends.NoBlock v) h never next left g = no_block_goes_on s name next path left v h.0 h.1 h.2 h.3 g
 ends_no_further s name path ends.Endless h never next left g = absurd (omega (arith, never 0))
 
@@ -64,17 +62,18 @@ Agree s o name = (b : List ℕ) → AreBytesOf s name b ↔ AreBytesOf o name b
 turned : (s o : Stored) (names : List CidParts) → AgreeOn names s o → AgreeOn names o s
 turned s o names a q m b = ((a q m b).1, (a q m b).0)
 
-named_there : (s o : Stored) (name : CidParts) (b : List ℕ) → Agree s o name → AreNamed s name b → AreNamed o name b
-named_there s o name b a h = ((a b).0 h.0, h.1, h.2)
+read_there : (s o : Stored) (name : CidParts) (b : List ℕ) → Agree s o name → IsReadUnder s name b → IsReadUnder o name b
+read_there s o name b a h = (h.0, (a h.0).0 h.1, h.2, h.3)
 
 goes_there : (s o : Stored) (name next : CidParts) (path left : List (List ℕ)) → Agree s o name → LeadsOn s name path next left → LeadsOn o name path next left
-goes_there s o name next path left a g = (g.0, (g.1.0, g.1.1, named_there s o name g.1.0 a g.1.2, g.1.3, g.1.4))
+goes_there s o name next path left a g = (g.0, (g.1.0, g.1.1, read_there s o name g.1.0 a g.1.2, g.1.3, g.1.4))
 
 ends_there : (s o : Stored) (name : CidParts) (path : List (List ℕ)) (end : End) → Agree s o name → EndsAs s name path end → EndsAs o name path end
-ends_there s o name path (ends.Item kind place end) a h = (h.0, h.1, h.2, named_there s o name h.0 a h.3, h.4, h.5, h.6, h.7)
-ends_there s o name path (ends.NoSuchPath left) a h = (h.0, h.1, h.2, named_there s o name h.0 a h.3, h.4, h.5, h.6)
+ends_there s o name path (ends.Item kind place end) a h = (h.0, h.1, h.2, read_there s o name h.0 a h.3, h.4, h.5, h.6, h.7)
+ends_there s o name path (ends.NoSuchPath left) a h = (h.0, h.1, h.2, read_there s o name h.0 a h.3, h.4, h.5, h.6)
 ends_there s o name path ends.NotHeld a h = λ b under. h b ((a b).1 under)
 ends_there s o name path (ends.NoBlock v) a h = (h.0, (a h.0).0 h.1, h.2, h.3)
+ends_there s o name path ends.NoModel a h = (h.0, (a h.0).0 h.1, h.2, h.3, h.4)
 ends_there s o name path ends.Endless a h = tt
 
 over_there : (s o : Stored) (name : CidParts) (path : List (List ℕ)) (more : List CidParts) → AgreeOn (name ∷ more) s o → GoesOver s name path more → GoesOver o name path more
@@ -94,7 +93,7 @@ resolves_there (suc n) s o name path (next ∷ more) r a w h =
     (h.0, h.1, goes_there s o name h.0 path h.1 (a name (inl refl)) h.2, resolves_there n s o h.0 h.1 more r (subst (λ q. AgreeOn (q ∷ more) s o) same.0 (λ q m. a q (inr m))) over h.3)
 
 leads_there : (n : ℕ) (s o : Stored) (name : CidParts) (path : List (List ℕ)) (more : List CidParts) (found : Option Tree) → AgreeOn (name ∷ more) s o → GoesOver s name path more → Leads n s name path found → Leads n o name path found
-leads_there zero s o name path more found a w h = (h.0, named_there s o name h.0 (a name (inl refl)) h.1, h.2)
+leads_there zero s o name path more found a w h = (h.0, read_there s o name h.0 (a name (inl refl)) h.1, h.2)
 leads_there (suc n) s o name path [] found a w h = absurd (w h.0 h.1 h.2)
 leads_there (suc n) s o name path (next ∷ more) found a w h =
     let same = go_unique s name next h.0 path w.0 h.1 w.1 h.2 in

@@ -1,3 +1,4 @@
+pub mod Reading
 pub mod Ways
 pub mod Binding
 pub mod Telling

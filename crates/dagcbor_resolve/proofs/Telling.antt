@@ -1,5 +1,5 @@
 -- The item at which a path ended.
-use Rattle.std.proofs.Common.{◌≡◌, inl, inr, ℕ, zero, suc, ◌+◌, ◌<◌, ◌≤◌, List, ◌++◌, length, take, sym, ap, ◌∙◌, subst, arith, append_assoc, length-append, None, Some}
+use Rattle.std.proofs.Common.{◌≡◌, inl, inr, ℕ, zero, suc, ◌+◌, ◌≤◌, List, ◌++◌, length, take, sym, ap, ◌∙◌, subst, arith, append_assoc, length-append, Option, None, Some}
 use Rattle.std.specs.List.{IsSplitAt}
 use Rattle.std.proofs.lemmas.List.{take-append-drop}
 use Rattle.ipld_tree.specs.Cid.{CidParts}
@@ -9,23 +9,25 @@ use Rattle.dagcbor_decode.specs.Blocks.{IsBlock}
 use Rattle.dagcbor_decode.specs.declared.kind.Kind.{Kind}
 use Rattle.dagcbor_paths.specs.Paths.{segments}
 use Rattle.dagcbor_paths.specs.Finding.{StandAt}
+use Rattle.ipld_links.specs.Names.{IsInline}
 use Rattle.ipld_links.specs.Reaching.{Stored, AreBytesOf}
-use Rattle.dagcbor_resolve.specs.Resolving.{EndsAs, ResolvesIn, Resolves}
+use Rattle.dagcbor_resolve.specs.Resolving.{IsReadAs, IsReadUnder, EndsAs, ResolvesIn, Resolves, GivesBetween}
 use Rattle.dagcbor_resolve.specs.Laws.{Leads, GivesItem, IsNothing, NothingIsLedTo}
 use Rattle.dagcbor_resolve.specs.declared.resolution.End.{End}
 use Rattle.dagcbor_resolve.specs.declared.resolution.End.TheVariants as ends
 use Rattle.dagcbor_resolve.specs.declared.resolution.Resolved.{Resolved}
+use Rattle.dagcbor_resolve.proofs.Reading.{read_as_one}
 
 -- what is known where a path ended at an item
 pub record EndsAtItem (stored : Stored) (root : CidParts) (path : List (List ℕ)) (r : Resolved) (place end : ℕ) : Type 0 where
   pub count : ℕ
-  pub bytes : List ℕ
+  pub block : List ℕ
   pub found : Tree
   pub part : List ℕ
-  pub under : AreBytesOf stored r.block bytes
+  pub read : IsReadUnder stored r.block block
   pub leads : Leads count stored root path (Some found)
   pub spelled : IsBlock part found
-  pub stands : StandAt bytes place part
+  pub stands : StandAt block place part
   pub ends : end ≡ place + length part
 
 pub ended_at_item : (n : ℕ) (stored : Stored) (name : CidParts) (path : List (List ℕ)) (r : Resolved) (kind : Kind) (place end : ℕ) → ResolvesIn n stored name path r → r.end ≡ ends.Item kind place end → EndsAtItem stored name path r place end
@@ -33,10 +35,10 @@ ended_at_item zero stored name path r kind place end h is =
     let k = subst (EndsAs stored name path) is h.2 in
     record {
       count = 0;
-      bytes = k.0;
+      block = k.0;
       found = k.2;
       part = k.7.0;
-      under = subst (λ q. AreBytesOf stored q k.0) (sym h.0) k.3.0;
+      read = subst (λ q. IsReadUnder stored q k.0) (sym h.0) k.3;
       leads = (k.0, k.3, (k.1, k.4, k.5));
       spelled = k.7.1;
       stands = k.7.2;
@@ -46,10 +48,10 @@ ended_at_item (suc n) stored name path r kind place end h is =
     let k = ended_at_item n stored h.0 h.1 r kind place end h.3 is in
     record {
       count = suc k.count;
-      bytes = k.bytes;
+      block = k.block;
       found = k.found;
       part = k.part;
-      under = k.under;
+      read = k.read;
       leads = (h.0, h.1, h.2, k.leads);
       spelled = k.spelled;
       stands = k.stands;
@@ -61,6 +63,16 @@ bytes_unique stored name x y (inl h) (inl k) = let same : Some x ≡ Some y = sy
 bytes_unique stored name x y (inl h) (inr k) = absurd (let differ : Some x ≡ None = sym h ∙ k.0 in cc)
 bytes_unique stored name x y (inr h) (inl k) = absurd (let differ : Some y ≡ None = sym k ∙ h.0 in cc)
 bytes_unique stored name x y (inr h) (inr k) = sym h.2 ∙ k.2
+
+-- under a name that is not by the identity, where none are stored
+pub none_under : (stored : Stored) (name : CidParts) → stored name ≡ None → ¬ IsInline name → (b : List ℕ) → ¬ AreBytesOf stored name b
+none_under stored name none not b (inl h) = let differ : Some b ≡ None = sym h ∙ none in cc
+none_under stored name none not b (inr h) = not h.1
+
+pub read_unique : (stored : Stored) (name : CidParts) (x y : List ℕ) → IsReadUnder stored name x → IsReadUnder stored name y → x ≡ y
+read_unique stored name x y h k = read_as_one name k.0 x y (subst (λ z. IsReadAs name z x) (bytes_unique stored name h.0 k.0 h.1 k.1) h.3) k.3
+
+-- ---- what stands in a block
 
 -- it is within the bytes
 pub ends_within : (b part : List ℕ) (place end : ℕ) → StandAt b place part → end ≡ place + length part → end ≤ length b
@@ -74,30 +86,31 @@ between b part front behind before mid place end h e is long cut short =
     let same : length part ≡ length mid = omega (arith, e, long, ap length cut, length-append before mid, short) in
     sym (split_at_length part mid h.1 behind same first.1).0
 
--- ---- what is given
-
-module _ {A : Type 0} (bytes_of : A → List ℕ) (stored : Stored) (root : CidParts) (path : List (List ℕ)) (r : Resolved) (kind : Kind) (place end : ℕ) (is : r.end ≡ ends.Item kind place end) where
-  pub item_given : (a : A) (y front behind before : List ℕ) → AreBytesOf stored r.block y → y ≡ front ++ behind → length front ≡ end → front ≡ before ++ bytes_of a → length before ≡ place → Resolves stored root path r → GivesItem bytes_of stored root path r.end (Some a)
-  item_given a y front behind before under whole long cut short h =
-      let k = ended_at_item h.0 stored root path r kind place end h.1 is in
-      let same = between k.bytes k.part front behind before (bytes_of a) place end k.stands k.ends (bytes_unique stored r.block k.bytes y k.under under ∙ whole) long cut short in
-      subst (λ e. GivesItem bytes_of stored root path e (Some a)) (sym is) (k.count, k.found, k.leads, subst (λ p. IsBlock p k.found) (sym same) k.spelled)
-
-  pub no_bytes_given : ((b : List ℕ) → ¬ AreBytesOf stored r.block b) → Resolves stored root path r → GivesItem {A = A} bytes_of stored root path r.end None
-  no_bytes_given none h = let k = ended_at_item h.0 stored root path r kind place end h.1 is in absurd (none k.bytes k.under)
-
-  pub end_given : (y : List ℕ) → AreBytesOf stored r.block y → length y < end → Resolves stored root path r → GivesItem {A = A} bytes_of stored root path r.end None
-  end_given y under short h =
-      let k = ended_at_item h.0 stored root path r kind place end h.1 is in
-      absurd (omega (arith, short, ends_within k.bytes k.part place end k.stands k.ends, ap length (bytes_unique stored r.block k.bytes y k.under under)))
-
-  pub place_given : (front : List ℕ) → length front ≡ end → length front < place → Resolves stored root path r → GivesItem {A = A} bytes_of stored root path r.end None
-  place_given front long short h =
-      let k = ended_at_item h.0 stored root path r kind place end h.1 is in
-      absurd (omega (arith, long, short, k.ends))
-
 pub split_whole : {s front back : List ℕ} (n : ℕ) → IsSplitAt s n front back → s ≡ front ++ back
 split_whole {s} {front} {back} n cut = sym (ap (λ x. x ++ back) cut.1 ∙ ap (λ x. take n s ++ x) cut.2 ∙ take-append-drop n s)
+
+-- ---- what is given
+
+-- the bytes of the name give what stands in the block as which they are read
+abbrev pub GivesPartIn : {A : Type 0} → (A → List ℕ) → CidParts → List ℕ → ℕ → ℕ → Option A → Type 0
+GivesPartIn bytes_of name b place end result = (block : List ℕ) → IsReadAs name b block → GivesBetween bytes_of block place end result
+
+part_given : {A : Type 0} (bytes_of : A → List ℕ) (stored : Stored) (root : CidParts) (path : List (List ℕ)) (r : Resolved) (kind : Kind) (place end : ℕ) → r.end ≡ ends.Item kind place end → (b : List ℕ) (result : Option A) → AreBytesOf stored r.block b → GivesPartIn bytes_of r.block b place end result → Resolves stored root path r → GivesItem bytes_of stored root path (ends.Item kind place end) result
+part_given bytes_of stored root path r kind place end is b None under given h =
+    let k = ended_at_item h.0 stored root path r kind place end h.1 is in
+    given k.block (subst (λ z. IsReadAs r.block z k.block) (bytes_unique stored r.block k.read.0 b k.read.1 under) k.read.3) k.part k.stands k.ends
+part_given bytes_of stored root path r kind place end is b (Some a) under given h =
+    let k = ended_at_item h.0 stored root path r kind place end h.1 is in
+    let same = given k.block (subst (λ z. IsReadAs r.block z k.block) (bytes_unique stored r.block k.read.0 b k.read.1 under) k.read.3) k.part k.stands k.ends in
+    (k.count, k.found, k.leads, subst (λ p. IsBlock p k.found) (sym same) k.spelled)
+
+pub item_given : {A : Type 0} (bytes_of : A → List ℕ) (stored : Stored) (root : CidParts) (path : List (List ℕ)) (r : Resolved) (kind : Kind) (place end : ℕ) → r.end ≡ ends.Item kind place end → (b : List ℕ) (result : Option A) → AreBytesOf stored r.block b → GivesPartIn bytes_of r.block b place end result → Resolves stored root path r → GivesItem bytes_of stored root path r.end result
+item_given bytes_of stored root path r kind place end is b result under given h = subst (λ e. GivesItem bytes_of stored root path e result) (sym is) (part_given bytes_of stored root path r kind place end is b result under given h)
+
+pub no_bytes_given : {A : Type 0} (bytes_of : A → List ℕ) (stored : Stored) (root : CidParts) (path : List (List ℕ)) (r : Resolved) (kind : Kind) (place end : ℕ) → r.end ≡ ends.Item kind place end → ((b : List ℕ) → ¬ AreBytesOf stored r.block b) → Resolves stored root path r → GivesItem {A = A} bytes_of stored root path r.end None
+no_bytes_given bytes_of stored root path r kind place end is none h =
+    let k = ended_at_item h.0 stored root path r kind place end h.1 is in
+    absurd (none k.read.0 k.read.1)
 
 -- ---- a path that leads to nothing
 

@@ -8,7 +8,7 @@ use Rattle.dagcbor_paths.specs.Finding.{LeadsInto, HasNoPart}
 use Rattle.ipld_links.specs.Collisions.{Collides}
 use Rattle.ipld_links.specs.Sets.{Among}
 use Rattle.ipld_links.specs.Reaching.{Stored, AreBytesOf}
-use Rattle.dagcbor_resolve.specs.Resolving.{AreNamed, LeadsOn, Resolves, AreOnTheWay}
+use Rattle.dagcbor_resolve.specs.Resolving.{IsReadUnder, LeadsOn, Resolves, AreOnTheWay}
 use Rattle.dagcbor_resolve.specs.declared.resolution.End.{End}
 use Rattle.dagcbor_resolve.specs.declared.resolution.End.TheVariants as ends
 use Rattle.dagcbor_resolve.specs.declared.resolution.Resolved.{Resolved}
@@ -20,9 +20,9 @@ LeadsInBlock b path None = (t u : Tree) × (left : List (List ℕ)) × LeadsInto
     × ((cid : List ℕ) → u ≢ link cid)
 
 -- Over so many links, the path leads from the root to a tree, or to none: each block on the way is
--- stored, and is the one that its name says.
+-- stored, and is the one that its name says, and is read by its codec, DAG-CBOR or DAG-PB.
 abbrev pub Leads : ℕ → Stored → CidParts → List (List ℕ) → Option Tree → Type 0
-Leads zero stored name path found = (b : List ℕ) × AreNamed stored name b × LeadsInBlock b path found
+Leads zero stored name path found = (b : List ℕ) × IsReadUnder stored name b × LeadsInBlock b path found
 Leads (suc n) stored name path found = (next : CidParts) × (left : List (List ℕ))
     × LeadsOn stored name path next left × Leads n stored next left found
 

@@ -1,50 +1,79 @@
 -- Resolving a path over blocks, in whatever they are stored.
-use Rattle.std.specs.Prelude.{◌≡◌, ◌≢◌, ◌↔◌, ℕ, zero, suc, ◌+◌, ◌-◌, ◌^◌, List, [], ◌∷◌, ◌++◌, length, ⊤, Option, None, Some}
+use Rattle.std.specs.Prelude.{◌≡◌, ◌≢◌, ◌↔◌, ◌⊎◌, ℕ, zero, suc, ◌+◌, ◌-◌, ◌^◌, List, [], ◌∷◌, ◌++◌, length, ⊤, Option, None, Some, MatchOption}
 use Rattle.ipld_tree.specs.Cid.{CidParts, AreCidParts, cid_bytes}
 use Rattle.ipld_tree.specs.Tree.{Tree, link}
 use Rattle.dagcbor_decode.specs.Blocks.{IsBlock}
 use Rattle.dagcbor_decode.specs.TreeKinds.{kind_of}
+use Rattle.dag_pb_model.specs.Model.{IsNodeOf}
+use Rattle.dag_pb_model.specs.Refusals.{HasNoModel}
+use Rattle.dag_pb_model.specs.declared.error.ModelError.TheVariants.{NameNotText}
 use Rattle.dagcbor_paths.specs.Paths.{segments, At}
 use Rattle.dagcbor_paths.specs.Finding.{StandAt, LeadsInto, HasNoPart}
 use Rattle.ipld_links.specs.Sets.{Among}
 use Rattle.ipld_links.specs.Reaching.{Stored, AreBytesOf, Lists}
-use Rattle.ipld_links.specs.Verdicts.{IsVerified, IsDagCbor, IsVerdict}
+use Rattle.ipld_links.specs.Verdicts.{IsVerified, IsDagCbor, IsDagPb, IsVerdict}
 use Rattle.ipld_links.specs.declared.verdict.Verdict.{Verdict}
-use Rattle.ipld_links.specs.declared.verdict.Verdict.TheVariants.{Block}
+use Rattle.ipld_links.specs.declared.verdict.Verdict.TheVariants.{Block, Node}
 use Rattle.dagcbor_resolve.specs.declared.resolution.End.{End}
 use Rattle.dagcbor_resolve.specs.declared.resolution.End.TheVariants as ends
+use Rattle.dagcbor_resolve.specs.declared.item.Readable.{Readable}
+use Rattle.dagcbor_resolve.specs.declared.item.Readable.TheVariants as readable
 use Rattle.dagcbor_resolve.specs.declared.resolution.Step.{Step}
 use Rattle.dagcbor_resolve.specs.declared.resolution.Step.TheVariants as steps
 use Rattle.dagcbor_resolve.specs.declared.resolution.Resolved.{Resolved}
 
--- the bytes under the name, which is of DAG-CBOR, are those that it names
-abbrev pub AreNamed : Stored → CidParts → List ℕ → Type 0
-AreNamed stored name b = AreBytesOf stored name b × IsVerified (name, b) × IsDagCbor name
+-- The bytes, of the name's codec, are read as this block of DAG-CBOR: those of DAG-CBOR as they are; a
+-- node of DAG-PB as the block of its data model.
+abbrev pub IsReadAs : CidParts → List ℕ → List ℕ → Type 0
+IsReadAs name b block = (IsDagCbor name × (b ≡ block))
+    ⊎ (IsDagPb name × ((t : Tree) × IsNodeOf b t × IsBlock block t))
 
--- In the block under the name, a first part of the path leads to a link to the next one, at which these
--- segments are left.
+-- the bytes under the name are those that it names, and are read as this block
+abbrev pub IsReadUnder : Stored → CidParts → List ℕ → Type 0
+IsReadUnder stored name block = (b : List ℕ) × AreBytesOf stored name b × IsVerified (name, b)
+    × IsReadAs name b block
+
+-- In the block that is read under the name, a first part of the path leads to a link to the next one, at
+-- which these segments are left.
 abbrev pub LeadsOn : Stored → CidParts → List (List ℕ) → CidParts → List (List ℕ) → Type 0
-LeadsOn stored name path next left = AreCidParts next × ((b : List ℕ) × (t : Tree) × AreNamed stored name b
+LeadsOn stored name path next left = AreCidParts next × ((b : List ℕ) × (t : Tree) × IsReadUnder stored name b
     × LeadsInto b path left t (link (cid_bytes next)) × (left ≢ []))
 
--- the verdict is not that the bytes are a block
+-- the verdict is not that the bytes are a block, nor that they are a node
 abbrev pub IsNoBlock : Verdict → Type 0
 IsNoBlock (Block kind) = ⊥
+IsNoBlock Node = ⊥
 IsNoBlock _ = ⊤
 
--- How the path ends at the block under the name: at an item, which stands there; or at an item that is
--- no link, from which the next segment leads nowhere; or no bytes are under the name; or they are not
--- those that it names, or no block.
+-- the bytes under the name are the node that it names, which has no data model: the name of a link is not
+-- UTF-8
+abbrev pub HasNoModelUnder : Stored → CidParts → Type 0
+HasNoModelUnder stored name = (b : List ℕ) × AreBytesOf stored name b × IsVerified (name, b)
+    × IsDagPb name × HasNoModel b NameNotText
+
+-- the bytes under the name are a node that has a data model, for which memory is taken
+abbrev pub HasModelUnder : Stored → CidParts → Type 0
+HasModelUnder stored name = (b : List ℕ) × AreBytesOf stored name b × IsDagPb name
+    × ((t : Tree) × IsNodeOf b t)
+
+-- there is such a name
+abbrev pub HoldsModel : Stored → Type 0
+HoldsModel stored = (name : CidParts) × HasModelUnder stored name
+
+-- How the path ends at the block that is read under the name: at an item, which stands there; or at an
+-- item that is no link, from which the next segment leads nowhere; or no bytes are under the name; or
+-- they are not those that it names, or no block; or a node that has no data model.
 abbrev pub EndsAs : Stored → CidParts → List (List ℕ) → End → Type 0
-EndsAs stored name path (ends.Item kind place end) = (b : List ℕ) × (t u : Tree) × AreNamed stored name b
+EndsAs stored name path (ends.Item kind place end) = (b : List ℕ) × (t u : Tree) × IsReadUnder stored name b
     × IsBlock b t × At path t u × (kind ≡ kind_of u)
     × ((part : List ℕ) × IsBlock part u × StandAt b place part × (end ≡ place + length part))
-EndsAs stored name path (ends.NoSuchPath left) = (b : List ℕ) × (t u : Tree) × AreNamed stored name b
+EndsAs stored name path (ends.NoSuchPath left) = (b : List ℕ) × (t u : Tree) × IsReadUnder stored name b
     × LeadsInto b path (segments left.now) t u × HasNoPart (segments left.now) u
     × ((cid : List ℕ) → u ≢ link cid)
 EndsAs stored name path ends.NotHeld = (b : List ℕ) → ¬ AreBytesOf stored name b
 EndsAs stored name path (ends.NoBlock verdict) = (b : List ℕ) × AreBytesOf stored name b
     × IsVerdict (name, b) verdict × IsNoBlock verdict
+EndsAs stored name path ends.NoModel = HasNoModelUnder stored name
 EndsAs stored name path ends.Endless = ⊤
 
 -- From the block under the name, links lead over so many blocks to the one where it ends.
@@ -89,9 +118,20 @@ pub record AreOnceEach (names once : List CidParts) : Type 0 where
 
 abbrev pub IsStep : Stored → CidParts → List (List ℕ) → Step → Type 0
 IsStep stored name path (steps.Ends end) = EndsAs stored name path end × ((n : ℕ) → IsEndlessAfter n end)
-IsStep stored name path (steps.GoesOn next left) = LeadsOn stored name path next (segments left.now)
+IsStep stored name path (steps.GoesOn next) = LeadsOn stored name path next.block (segments next.path.now)
 
 -- the bytes that are under the name
 abbrev pub FindsBytes : {A : Type 0} → (A → List ℕ) → Stored → CidParts → Option A → Type 0
 FindsBytes bytes_of stored name None = (b : List ℕ) → ¬ AreBytesOf stored name b
 FindsBytes bytes_of stored name (Some a) = AreBytesOf stored name (bytes_of a)
+
+-- ---- what stands in a block
+
+-- the bytes of what stands in the block from the first place to the second
+abbrev pub GivesBetween : {A : Type 0} → (A → List ℕ) → List ℕ → ℕ → ℕ → Option A → Type 0
+GivesBetween bytes_of block place end result = (part : List ℕ) → StandAt block place part
+    → end ≡ place + length part → MatchOption result ⊥ (λ a. bytes_of a ≡ part)
+
+abbrev pub readable_bytes : Readable → List ℕ
+readable_bytes (readable.Stored b) = b.now
+readable_bytes (readable.Made v) = v.items

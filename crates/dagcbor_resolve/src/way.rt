@@ -39,12 +39,12 @@ pub fn resolve_way<'p>(
     // Each turn takes memory for a name, and no memory holds as many.
     for _count in 0..u64::MAX {
         names.push(block)?;
-        match resolve_step(&block, stored_bytes(blocks, &block), left) {
-            Step::GoesOn(next, more) => {
-                block = next;
-                left = more;
+        match resolve_step(alloc, &block, stored_bytes(blocks, &block), left) {
+            Ok(Step::GoesOn(next)) => {
+                block = next.block;
+                left = next.path;
             }
-            Step::Ends(end) => {
+            Ok(Step::Ends(end)) => {
                 return Ok(Way {
                     names,
                     resolved: Resolved {
@@ -54,6 +54,7 @@ pub fn resolve_way<'p>(
                     },
                 });
             }
+            Err(fault) => return Err(fault),
         }
     }
     Err(AllocError)

@@ -15,6 +15,7 @@ end_line name (ends.Item kind place end) = []
 end_line name (ends.NoSuchPath left) = line (cid_text name ++ (codes " has nothing at " ++ left.now))
 end_line name ends.NotHeld = missing_line name
 end_line name (ends.NoBlock verdict) = line (cid_text name ++ (32 ∷ verdict_text verdict))
+end_line name ends.NoModel = line (cid_text name ++ codes " refused NameNotText")
 end_line name ends.Endless = line (cid_text name ++ codes " leads on")
 
 -- a path did not end at an item

@@ -31,6 +31,7 @@ pub fn end_told(alloc: Global, block: &Cid, end: &End<'_>) -> Result<Vec<u8>, Al
             let (line, _well) = verdict_line(alloc, block, verdict)?;
             Ok(line)
         }
+        End::NoModel => line_of(alloc, &cid_text(block), b" refused NameNotText", b""),
         End::Endless => line_of(alloc, &cid_text(block), b" leads on", b""),
     }
 }

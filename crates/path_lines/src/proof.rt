@@ -30,6 +30,7 @@ fn is_decided(end: &End<'_>) -> bool
         End::NoSuchPath(_) => true,
         End::NotHeld => false,
         End::NoBlock(_) => false,
+        End::NoModel => false,
         End::Endless => false,
     }
 }

@@ -27,10 +27,13 @@ pub fn say_raw<W: Write, V: Write>(
         (W.contents output.old) (V.contents errors.old) result
         (W.contents output.new) (V.contents errors.new) }
 {
-    let resolved = resolve(blocks, root, path);
-    match item_bytes(blocks, &resolved) {
+    let resolved = match resolve(alloc, blocks, root, path) {
+        Ok(resolved) => resolved,
+        Err(_) => return Err(ToolError::OutOfMemory),
+    };
+    match item_bytes(alloc, blocks, &resolved)? {
         Some(item) => {
-            write_all(output, item)?;
+            write_all(output, item.bytes())?;
             Ok(true)
         }
         None => say_end(alloc, &resolved, output, errors),

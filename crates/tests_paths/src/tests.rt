@@ -1,3 +1,4 @@
 mod find;
+mod nodes;
 mod resolve;
 mod segments;

@@ -4,6 +4,7 @@ mod dagcbor;
 mod files;
 mod found;
 mod make;
+mod nodes;
 mod paths;
 mod proofs;
 mod records;

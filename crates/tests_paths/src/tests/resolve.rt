@@ -73,7 +73,8 @@ const GONE_NAME: &[u8] =
 /// A name, in its binary form.
 const INLINE_NAME: &[u8] = b"\x01\x71\x00\x06\xa1\x61\x78\x82\x01\x02";
 
-fn put(
+/// Puts the block under the name.
+pub fn put(
     blocks: &mut BTreeMap<Cid, Vec<u8>>,
     alloc: Global,
     name: &[u8],
@@ -108,7 +109,9 @@ fn paths_over_blocks(rt: HostRuntime) -> Result<(), Fail> {
         return Err(Fail::new("no CID"));
     };
     for (path, name, left, told) in ROWS {
-        let resolved = resolve(&blocks, &root, path);
+        let Ok(resolved) = resolve(alloc, &blocks, &root, path) else {
+            return Err(Fail::new("no memory"));
+        };
         agree(resolved.block.to_bytes(alloc)?.as_slice(), *name)?;
         agree(resolved.path, *left)?;
         is_told(alloc, &resolved.end, told)?;
@@ -147,7 +150,7 @@ const ROWS: &[(&str, &[u8], &str, &str)] = &[
 ];
 
 /// Fails where these are other names.
-fn are_named(alloc: Global, names: &[Cid], forms: &[&[u8]]) -> Result<(), Fail> {
+pub fn are_named(alloc: Global, names: &[Cid], forms: &[&[u8]]) -> Result<(), Fail> {
     agree(names.len(), forms.len())?;
     let mut left = forms;
     for name in names {

@@ -10,7 +10,7 @@ use tests_shared::agree;
 const ROOT: &str = "bafyreihmge4qxbweeb5hev33cwr6r7cxcxne7tb4mygmq3wsduicvzrusa";
 
 /// Where a part of `FILE` begins and ends: its header, and its sections but the last two.
-type Part = (usize, usize);
+pub type Part = (usize, usize);
 
 const HEADER: Part = (0, 59);
 
@@ -177,15 +177,15 @@ const ITEMS: &[(&str, u8, &[u8], &[u8])] = &[
 ];
 
 /// The word, with the root before the path.
-fn on_path(alloc: Global, path: &str) -> Result<String, Fail> {
-    let mut word = String::from_str(alloc, ROOT)?;
+pub fn on_path(alloc: Global, root: &str, path: &str) -> Result<String, Fail> {
+    let mut word = String::from_str(alloc, root)?;
     word.push_str("/")?;
     word.push_str(path)?;
     Ok(word)
 }
 
 /// Fails where the words give anything else over the file.
-fn answer(
+pub fn answer(
     alloc: Global,
     words: &[&str],
     file: &[u8],
@@ -218,7 +218,7 @@ fn file_of(alloc: Global, sections: &[Part]) -> Result<Vec<u8>, Fail> {
 fn a_proof_has_the_blocks_on_the_way(rt: HostRuntime) -> Result<(), Fail> {
     let alloc = rt.alloc();
     for (path, status, sections, told) in PROOFS {
-        let word = on_path(alloc, path)?;
+        let word = on_path(alloc, ROOT, path)?;
         let file = file_of(alloc, sections)?;
         let wanted = if *status == 0 { file.as_slice() } else { b"" };
         answer(alloc, &["prove", &word], FILE, (*status, wanted, told))?;
@@ -230,7 +230,7 @@ fn a_proof_has_the_blocks_on_the_way(rt: HostRuntime) -> Result<(), Fail> {
 fn items_are_written_as_they_are(rt: HostRuntime) -> Result<(), Fail> {
     let alloc = rt.alloc();
     for (path, status, item, told) in ITEMS {
-        let word = on_path(alloc, path)?;
+        let word = on_path(alloc, ROOT, path)?;
         answer(alloc, &["at", "--raw", &word], FILE, (*status, item, told))?;
     }
     // The whole block of the root, behind its length and its name.

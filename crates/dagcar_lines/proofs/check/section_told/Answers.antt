@@ -1,4 +1,4 @@
-use Rattle.std.proofs.Common.{inr, inl, sym, subst}
+use Rattle.std.proofs.Common.{inr, subst}
 use Rattle.ipld_links.specs.Blocks.{NamedBlock}
 use Rattle.ipld_links.specs.Verdicts.{IsVerdict}
 use Rattle.dagcar_lines.proofs.RefusedPlaces.{other_verdict, judged_so, place_told}

@@ -2,8 +2,10 @@
 wanted of a random one is what `unixfs.cat` finds, which reads it by itself."""
 
 import hashlib
+import json
 import os
 import random
+import re
 import shutil
 import subprocess
 
@@ -39,6 +41,8 @@ def maker(folder):
     """The program that makes blocks, or why there is none."""
     if not shutil.which("cargo") or not os.path.isdir(f"{REGISTRY}/ipfs-unixfs-0.2.0"):
         return None
+    if os.path.exists(f"{folder}/maker"):
+        return f"{folder}/maker/target/release/unixfs_maker"
     shutil.copytree(f"{HERE}/unixfs_maker", f"{folder}/maker")
     os.mkdir(f"{folder}/maker/.cargo")
     with open(f"{folder}/maker/.cargo/config.toml", "w", encoding="utf-8") as file:
@@ -89,6 +93,70 @@ def sweep_made(path, folder, report):
                 if not is_whole and not is_cut:
                     wrong.append(f"{of_file} without {text_of(name)}: {told}")
     report("dagcar cat of files by ipfs-unixfs", count, wrong)
+
+
+def sweep_named(path, folder, report):
+    """The names that the program `ipfs_cid` gives files, beside those of the blocks that are read out."""
+    program, namer = maker(folder), shutil.which("ipfs_cid")
+    if program is None or namer is None:
+        report("dagcar cat of files that ipfs_cid names, which is not here", 0, [])
+        return
+    rng, wrong, sizes = random.Random(5), [], (1, 7, 262144, 262145, 1000000)
+    for size in sizes:
+        tree, content = f"{folder}/named-{size}", rng.randbytes(size)
+        os.mkdir(tree)
+        with open(f"{tree}/file", "wb") as file:
+            file.write(content)
+        told = subprocess.run([namer, f"{tree}/file"], capture_output=True, text=True, check=True).stdout
+        blocks, root = made(program, tree, 262144, 174)
+        name = json.loads(told)["CIDv0"]
+        ran = subprocess.run([path, "cat", name], input=car(root, blocks), capture_output=True, check=False)
+        if (ran.stdout, ran.stderr, ran.returncode) != (content, b"", 0):
+            wrong.append(f"{name}, of {size} bytes: {ran.stderr}")
+    report("dagcar cat of files that ipfs_cid names", len(sizes), wrong)
+
+
+# ---- blocks of go-ipfs, which the sources of `ipfs-unixfs` have
+
+SAMPLES = [f"{REGISTRY}/ipfs-unixfs-0.2.0/src/{it}.rs" for it in ("test_support", "symlink")]
+FOOBAR = ("QmRJHYTNvC3hmd9gJQARxLR1QMEincccBV53bBw524yyq6", "QmWfQ48ChJUj4vWKFsUDe4646xCBmXgdmNfhjz9T7crywd")
+
+
+def samples():
+    """The blocks, each under its name, and the names of blocks that the sources tell."""
+    text = ""
+    for path in SAMPLES:
+        with open(path, encoding="utf-8") as file:
+            text += file.read()
+    blocks = (bytes.fromhex(digits) for digits in re.findall(r'hex!\("([0-9a-f]+)"\)', text))
+    blocks = {b"\x12\x20" + hashlib.sha256(block).digest(): block for block in blocks}
+    told = set(re.findall(r"\bQm[1-9A-HJ-NP-Za-km-z]{44}\b", text))
+    return blocks, told & set(map(text_of, blocks))
+
+
+def sweep_samples(path, report):
+    """Each is listed and read out, and the directories of shards are refused by name."""
+    if not all(map(os.path.exists, SAMPLES)):
+        report("dagcar of blocks of go-ipfs, which are not here", 0, [])
+        return
+    blocks, told = samples()
+    wrong = [] if len(told) > 10 else [f"only {len(told)} blocks have the names that are told"]
+    for name, block in blocks.items():
+        file = car(name, blocks)
+        right = (b"foobar\n", "", 0) if text_of(name) in FOOBAR else wanted(blocks, name)
+        if run(path, name, "", file) != right:
+            wrong.append(f"cat {text_of(name)}")
+        ran = subprocess.run([path, "ls", text_of(name)], input=file, capture_output=True, check=False)
+        words, is_well = unixfs.entity(blocks, name)
+        if words.startswith("directory "):
+            right = (*unixfs.ls(blocks, name), "")
+        elif words.startswith("shard "):
+            right = (b"", False, f"{text_of(name)} refused InShards\n")
+        else:
+            right = (f"{words} {text_of(name)}\n".encode(), is_well, "")
+        if (ran.stdout, ran.returncode == 0, ran.stderr.decode()) != right:
+            wrong.append(f"ls {text_of(name)}: {ran.stdout} {ran.stderr}")
+    report("dagcar of blocks of go-ipfs", 2 * len(blocks), wrong)
 
 
 # ---- random files
@@ -242,27 +310,57 @@ def is_sound(block, name):
         return False
 
 
-def sweep_store(path, folder, report):
+def run_over(path, folder, word, root, blocks):
+    """What the word says of the root in a new store of these blocks, and whether they were stored."""
+    store = f"{folder}/files.db"
+    stored = subprocess.run([path, store, "import"], input=car(root, blocks), capture_output=True, check=False)
+    ran = subprocess.run([path, store, word, text_of(root)], capture_output=True, check=False)
+    for name in os.listdir(folder):
+        if name.startswith("files.db"):
+            os.remove(f"{folder}/{name}")
+    return (ran.stdout, ran.stderr.decode(), ran.returncode), stored.returncode == 0
+
+
+def sweep_store_files(path, folder, report):
     """`dagstore cat`, over files of which a store takes each block that is there."""
     rng, wrong, count = random.Random(4), [], 300
     for turn in range(count):
         blocks = {}
         root, _ = node(rng, blocks, rng.randrange(1, 5))
         blocks = {name: block for name, block in blocks.items() if is_sound(block, name) and rng.random() < 0.97}
-        store = f"{folder}/files-{turn}.db"
-        stored = subprocess.run([path, store, "import"], input=car(root, blocks), capture_output=True, check=False)
-        ran = subprocess.run([path, store, "cat", text_of(root)], capture_output=True, check=False)
-        found, right = (ran.stdout, ran.stderr.decode(), ran.returncode), wanted(blocks, root)
-        if stored.returncode or found != right:
-            wrong.append(f"file {turn}: {stored.stderr}, {found[1:]}, not {right[1:]}")
-        for name in os.listdir(folder):
-            if name.startswith(f"files-{turn}.db"):
-                os.remove(f"{folder}/{name}")
+        (found, is_stored), right = run_over(path, folder, "cat", root, blocks), wanted(blocks, root)
+        if not is_stored or found != right:
+            wrong.append(f"file {turn}: {found[1:]}, not {right[1:]}")
     report("dagstore cat of random files", count, wrong)
+
+
+def sweep_store_nodes(path, folder, report):
+    """`dagstore ls`, over directories of which a store takes each block that is there. Some blocks have many links to them."""
+    rng, wrong, turns, count = random.Random(5), [], 100, 100
+    for turn in range(turns):
+        blocks = {}
+        first = directory(rng, blocks, count)
+        links, data = dagpb.read(blocks[first])
+        root_block = dagpb.spell(rng.choices(links, k=2 * count), data)
+        root = unixfs.node_name(root_block)
+        blocks = {name: block for name, block in blocks.items() if is_sound(block, name)} | {root: root_block}
+        found, is_stored = run_over(path, folder, "ls", root, blocks)
+        lines, is_well = unixfs.ls(blocks, root)
+        if not is_stored or found != (lines, "", int(not is_well)):
+            others = [pair for pair in zip(found[0].split(b"\n"), lines.split(b"\n")) if pair[0] != pair[1]]
+            wrong.append(f"directory {turn}: {found[1:]}, {len(others)} lines, {others[:1]}")
+    report(f"dagstore ls of {2 * turns * count} links to random nodes", turns, wrong)
+
+
+def sweep_store(path, folder, report):
+    sweep_store_files(path, folder, report)
+    sweep_store_nodes(path, folder, report)
 
 
 def sweep(path, folder, report):
     sweep_made(path, folder, report)
+    sweep_named(path, folder, report)
+    sweep_samples(path, report)
     sweep_random(path, report)
     sweep_nodes(path, report)
     sweep_chains(path, report)

@@ -401,11 +401,11 @@ def paths(program, at, draw):
 
 
 def contents(program, at, draw):
-    """What `cat` writes of the files of IPFS in a store."""
+    """What `cat` and `ls` write of the files of IPFS in a store."""
     wrong, path = [], f"{at}/contents.db"
 
     def expect(what, words, status, said, told=b""):
-        ran = run(program, path, "cat", *words)
+        ran = run(program, path, what.split()[0], *words)
         if (ran.returncode, ran.stdout, ran.stderr) != (status, said, told):
             wrong.append(f"{what}: {ran.returncode} {ran.stdout[:200]} {ran.stderr}")
 
@@ -426,6 +426,13 @@ def contents(program, at, draw):
     expect("cat of a directory", [top], 1, b"", f"{top} refused NotAFile\n".encode())
     expect("cat of a root that is not stored", [f"{text_of(leaves[2][0])}/a"], 1, b"", lost)
     expect("cat of no CID", ["b!/a"], 2, b"", b"no CID: InvalidCharacter\n")
+    entries = [f"file 900000 {text_of(files[1][0])} cut\n", f"file 600000 {text_of(files[0][0])} whole\n"]
+    expect("ls of a directory", [top], 0, "".join(entries).encode())
+    expect("ls of a file", [f"{top}/whole"], 0, f"file 600000 {text_of(files[0][0])}\n".encode())
+    expect("ls of a leaf", [text_of(leaves[1][0])], 0, f"file 300000 {text_of(leaves[1][0])}\n".encode())
+    expect("ls of nothing", [f"{top}/none"], 1, b"", f"{top} has nothing at none\n".encode())
+    expect("ls of a root that is not stored", [text_of(leaves[2][0])], 1, b"", lost)
+    expect("ls of no CID", ["b!/a"], 2, b"", b"no CID: InvalidCharacter\n")
     base = sqlite3.connect(path)
     base.execute("UPDATE block SET bytes = x'00' WHERE cid = ?", (leaves[1][0],))
     base.commit()
@@ -433,6 +440,13 @@ def contents(program, at, draw):
     ran = run(program, path, "cat", f"{top}/whole")
     if (ran.returncode, ran.stdout) != (1, parts[0]) or b"other bytes" not in ran.stderr:
         wrong.append(f"cat over a damaged block: {ran.returncode} {ran.stdout[:100]} {ran.stderr}")
+    base = sqlite3.connect(path)
+    base.execute("UPDATE block SET bytes = x'00' WHERE cid = ?", (files[1][0],))
+    base.commit()
+    base.close()
+    ran = run(program, path, "ls", top)
+    if (ran.returncode, ran.stdout) != (1, b"") or f"{text_of(files[1][0])} other bytes".encode() not in ran.stderr:
+        wrong.append(f"ls over a damaged block: {ran.returncode} {ran.stdout[:100]} {ran.stderr}")
     return wrong
 
 
@@ -556,7 +570,7 @@ def words(program, at, draw):
             ran = run(program, path, verb, word)
             if (ran.returncode, ran.stdout, ran.stderr) != (2, b"", f"no CID: {cause}\n".encode()):
                 wrong.append(f"{verb} {word}: {ran.returncode} {ran.stdout[:100]} {ran.stderr}")
-    for wordless in ("remove", "get", "has", "tree", "at", "cat", "add-root", "drop-root"):
+    for wordless in ("remove", "get", "has", "tree", "at", "ls", "cat", "add-root", "drop-root"):
         expect(f"{wordless} of nothing", run(program, path, wordless), 2, b"")
     ran = subprocess.run([program, "--help"], capture_output=True)
     if ran.returncode != 0 or not ran.stdout.startswith(b"usage: dagstore FILE ") or ran.stderr:
@@ -690,6 +704,6 @@ def check(report, program, count=200, seed=1):
         report("dagstore: what its words say of a store, whole and changed by hand", 1, words(program, at, random.Random(seed)))
         report("dagstore: the roots of a store, and what export and gc do of them", 1, roots(program, at, random.Random(seed)))
         report("dagstore: what a path leads to in a store", 1, paths(program, at, random.Random(seed)))
-        report("dagstore: what cat writes of files of IPFS in a store", 1, contents(program, at, random.Random(seed)))
+        report("dagstore: what cat and ls write of files of IPFS in a store", 1, contents(program, at, random.Random(seed)))
         report("dagstore: blocks whose links cannot be read, and roots without a block", 1, unread(program, at))
         report("dagstore: files that are none of ours", 3, foreign(program, at))

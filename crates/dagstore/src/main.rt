@@ -11,7 +11,7 @@ use dagstore_lines::{
     Asking, Beginning, Command, Fault, HELP, NO_STORE, NOT_READ, NOT_WRITTEN, OUT_OF_MEMORY,
     Progress, USAGE, VERSION, Words, answer_add_roots, answer_at, answer_cat, answer_check,
     answer_collect, answer_count, answer_drop_roots, answer_export, answer_get, answer_has,
-    answer_list, answer_put, answer_remove, answer_roots, answer_tree, check_put, end,
+    answer_list, answer_ls, answer_put, answer_remove, answer_roots, answer_tree, check_put, end,
     import_blocks, tell_refusal, words_of,
 };
 use ipld_tree::Cid;
@@ -243,6 +243,38 @@ fn run_cat_file<W: Write>(
     }
 }
 
+/// Lists what stands under the path of names on standard output, or tells why there is nothing.
+fn run_ls<W: Write>(
+    rt: &HostRuntime,
+    store: &mut Store,
+    root: &Cid,
+    path: &str,
+    errors: &mut W,
+) -> u8 {
+    answer_ls(
+        rt.alloc(),
+        store,
+        root,
+        path,
+        &mut rt.stdout().lock(),
+        errors,
+    )
+}
+
+/// Lists what stands under the path of names, over a file that is there, or tells why there is nothing.
+fn run_ls_file<W: Write>(
+    rt: &HostRuntime,
+    file: &str,
+    at: &Beginning,
+    path: &str,
+    errors: &mut W,
+) -> u8 {
+    match open_old(rt, file, errors) {
+        Ok(mut store) => run_ls(rt, &mut store, &at.root, path, errors),
+        Err(status) => status,
+    }
+}
+
 /// Says how many names there are.
 fn run_count<W: Write>(rt: &HostRuntime, store: &mut Store, errors: &mut W) -> u8 {
     answer_count(rt.alloc(), store, &mut rt.stdout().lock(), errors)
@@ -364,6 +396,7 @@ fn run_words<W: Write>(rt: &HostRuntime, words: &[String], errors: &mut W) -> u8
         Ok(Words::Put(path, codec)) => run_put(rt, path, codec, errors),
         Ok(Words::At(file, asking, path)) => run_at_file(rt, file, &asking, path, errors),
         Ok(Words::Cat(file, at, path)) => run_cat_file(rt, file, &at, path, errors),
+        Ok(Words::Ls(file, at, path)) => run_ls_file(rt, file, &at, path, errors),
         Ok(Words::Do(path, command)) => run(rt, path, command, errors),
         Ok(Words::Help) => run_text(rt, HELP, errors),
         Ok(Words::Version) => run_text(rt, VERSION, errors),

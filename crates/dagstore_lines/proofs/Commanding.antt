@@ -1,5 +1,5 @@
 -- What the words of the program are.
-use Rattle.std.proofs.Common.{◌≡◌, ◌≢◌, ◌⊎◌, inl, inr, ℕ, ◌+◌, ◌<◌, ◌≤◌, ◌^◌, List, [], ◌∷◌, ◌++◌, length, take, drop, codes, map, arith, refl, sym, ap, ap₂, ◌∙◌, subst, get_or, Option, MatchOption, Result, Ok, Err, false, cond, ◌==◌, slice_index}
+use Rattle.std.proofs.Common.{◌≡◌, ◌≢◌, inl, inr, ℕ, ◌+◌, ◌<◌, ◌≤◌, ◌^◌, List, [], ◌∷◌, ◌++◌, length, take, drop, codes, map, arith, refl, sym, ap, ap₂, ◌∙◌, subst, get_or, Option, MatchOption, Result, Ok, Err, false, cond, ◌==◌, slice_index}
 use Rattle.std.specs.Result.{result_ok}
 use Rattle.std.proofs.lemmas.List.{map_more, drop_more, take-append-drop, take-map, drop-map}
 use Rattle.std.specs.Str.Parse.{IsNumeral, AllDigits, ParsesUnsigned, digits_value, without_leading_plus}
@@ -49,40 +49,33 @@ fault_behind (t ∷ texts) text more (c ∷ names) e h is = inr ((c, h.0), fault
 abbrev mark : List ℕ → ℕ
 mark word = get_or word 0 0 + (get_or word 1 0 + get_or word 1 0)
 
--- the number is that of `import`, of `put`, of `at` or of `cat`
-abbrev IsOwn : ℕ → Type 0
-IsOwn n = (n ≡ 323) ⊎ ((n ≡ 346) ⊎ ((n ≡ 329) ⊎ (n ≡ 293)))
+-- n is that of `put`, and k is not
+apart : (n k : ℕ) → n ≡ 346 → n ≡ k → k ≢ 346 → ⊥
+apart n k m e other = other (sym e ∙ m)
 
--- n is so, and k is not
-apart : (n k : ℕ) → IsOwn n → n ≡ k → (k ≢ 323) × (k ≢ 346) × (k ≢ 329) × (k ≢ 293) → ⊥
-apart n k (inl m) e other = other.0 (sym e ∙ m)
-apart n k (inr (inl m)) e other = other.1 (sym e ∙ m)
-apart n k (inr (inr (inl m))) e other = other.2 (sym e ∙ m)
-apart n k (inr (inr (inr m))) e other = other.3 (sym e ∙ m)
+no_command : (word : List ℕ) → mark word ≡ 346 → (c : Command) → word ≡ command_word c → ⊥
+no_command word m (commands.Export roots) e = apart (mark word) 341 m (ap mark e) (λ d. omega (arith, d))
+no_command word m (commands.Get name) e = apart (mark word) 305 m (ap mark e) (λ d. omega (arith, d))
+no_command word m (commands.Has name) e = apart (mark word) 298 m (ap mark e) (λ d. omega (arith, d))
+no_command word m (commands.Remove names) e = apart (mark word) 316 m (ap mark e) (λ d. omega (arith, d))
+no_command word m (commands.Collect roots) e = apart (mark word) 301 m (ap mark e) (λ d. omega (arith, d))
+no_command word m (commands.Tree root) e = apart (mark word) 344 m (ap mark e) (λ d. omega (arith, d))
+no_command word m (commands.AddRoots names) e = apart (mark word) 297 m (ap mark e) (λ d. omega (arith, d))
+no_command word m (commands.DropRoots names) e = apart (mark word) 328 m (ap mark e) (λ d. omega (arith, d))
+no_command word m commands.Roots e = apart (mark word) 336 m (ap mark e) (λ d. omega (arith, d))
+no_command word m commands.Check e = apart (mark word) 307 m (ap mark e) (λ d. omega (arith, d))
+no_command word m commands.List e = apart (mark word) 318 m (ap mark e) (λ d. omega (arith, d))
+no_command word m commands.Count e = apart (mark word) 321 m (ap mark e) (λ d. omega (arith, d))
 
-no_command : (word : List ℕ) → IsOwn (mark word) → (c : Command) → word ≡ command_word c → ⊥
-no_command word m (commands.Export roots) e = apart (mark word) 341 m (ap mark e) ((λ d. omega (arith, d)), (λ d. omega (arith, d)), (λ d. omega (arith, d)), (λ d. omega (arith, d)))
-no_command word m (commands.Get name) e = apart (mark word) 305 m (ap mark e) ((λ d. omega (arith, d)), (λ d. omega (arith, d)), (λ d. omega (arith, d)), (λ d. omega (arith, d)))
-no_command word m (commands.Has name) e = apart (mark word) 298 m (ap mark e) ((λ d. omega (arith, d)), (λ d. omega (arith, d)), (λ d. omega (arith, d)), (λ d. omega (arith, d)))
-no_command word m (commands.Remove names) e = apart (mark word) 316 m (ap mark e) ((λ d. omega (arith, d)), (λ d. omega (arith, d)), (λ d. omega (arith, d)), (λ d. omega (arith, d)))
-no_command word m (commands.Collect roots) e = apart (mark word) 301 m (ap mark e) ((λ d. omega (arith, d)), (λ d. omega (arith, d)), (λ d. omega (arith, d)), (λ d. omega (arith, d)))
-no_command word m (commands.Tree root) e = apart (mark word) 344 m (ap mark e) ((λ d. omega (arith, d)), (λ d. omega (arith, d)), (λ d. omega (arith, d)), (λ d. omega (arith, d)))
-no_command word m (commands.AddRoots names) e = apart (mark word) 297 m (ap mark e) ((λ d. omega (arith, d)), (λ d. omega (arith, d)), (λ d. omega (arith, d)), (λ d. omega (arith, d)))
-no_command word m (commands.DropRoots names) e = apart (mark word) 328 m (ap mark e) ((λ d. omega (arith, d)), (λ d. omega (arith, d)), (λ d. omega (arith, d)), (λ d. omega (arith, d)))
-no_command word m commands.Roots e = apart (mark word) 336 m (ap mark e) ((λ d. omega (arith, d)), (λ d. omega (arith, d)), (λ d. omega (arith, d)), (λ d. omega (arith, d)))
-no_command word m commands.Check e = apart (mark word) 307 m (ap mark e) ((λ d. omega (arith, d)), (λ d. omega (arith, d)), (λ d. omega (arith, d)), (λ d. omega (arith, d)))
-no_command word m commands.List e = apart (mark word) 318 m (ap mark e) ((λ d. omega (arith, d)), (λ d. omega (arith, d)), (λ d. omega (arith, d)), (λ d. omega (arith, d)))
-no_command word m commands.Count e = apart (mark word) 321 m (ap mark e) ((λ d. omega (arith, d)), (λ d. omega (arith, d)), (λ d. omega (arith, d)), (λ d. omega (arith, d)))
-
-no_names : (word : List ℕ) → IsOwn (mark word) → WantsNames word → ⊥
-no_names word m (inl e) = apart (mark word) 341 m (ap mark e) ((λ d. omega (arith, d)), (λ d. omega (arith, d)), (λ d. omega (arith, d)), (λ d. omega (arith, d)))
-no_names word m (inr (inl e)) = apart (mark word) 305 m (ap mark e) ((λ d. omega (arith, d)), (λ d. omega (arith, d)), (λ d. omega (arith, d)), (λ d. omega (arith, d)))
-no_names word m (inr (inr (inl e))) = apart (mark word) 298 m (ap mark e) ((λ d. omega (arith, d)), (λ d. omega (arith, d)), (λ d. omega (arith, d)), (λ d. omega (arith, d)))
-no_names word m (inr (inr (inr (inl e)))) = apart (mark word) 344 m (ap mark e) ((λ d. omega (arith, d)), (λ d. omega (arith, d)), (λ d. omega (arith, d)), (λ d. omega (arith, d)))
-no_names word m (inr (inr (inr (inr (inl e))))) = apart (mark word) 316 m (ap mark e) ((λ d. omega (arith, d)), (λ d. omega (arith, d)), (λ d. omega (arith, d)), (λ d. omega (arith, d)))
-no_names word m (inr (inr (inr (inr (inr (inl e)))))) = apart (mark word) 301 m (ap mark e) ((λ d. omega (arith, d)), (λ d. omega (arith, d)), (λ d. omega (arith, d)), (λ d. omega (arith, d)))
-no_names word m (inr (inr (inr (inr (inr (inr (inl e))))))) = apart (mark word) 297 m (ap mark e) ((λ d. omega (arith, d)), (λ d. omega (arith, d)), (λ d. omega (arith, d)), (λ d. omega (arith, d)))
-no_names word m (inr (inr (inr (inr (inr (inr (inr e))))))) = apart (mark word) 328 m (ap mark e) ((λ d. omega (arith, d)), (λ d. omega (arith, d)), (λ d. omega (arith, d)), (λ d. omega (arith, d)))
+no_names : (word : List ℕ) → mark word ≡ 346 → WantsNames word → ⊥
+no_names word m (inl e) = apart (mark word) 341 m (ap mark e) (λ d. omega (arith, d))
+no_names word m (inr (inl e)) = apart (mark word) 305 m (ap mark e) (λ d. omega (arith, d))
+no_names word m (inr (inr (inl e))) = apart (mark word) 298 m (ap mark e) (λ d. omega (arith, d))
+no_names word m (inr (inr (inr (inl e)))) = apart (mark word) 344 m (ap mark e) (λ d. omega (arith, d))
+no_names word m (inr (inr (inr (inr (inl e))))) = apart (mark word) 316 m (ap mark e) (λ d. omega (arith, d))
+no_names word m (inr (inr (inr (inr (inr (inl e)))))) = apart (mark word) 301 m (ap mark e) (λ d. omega (arith, d))
+no_names word m (inr (inr (inr (inr (inr (inr (inl e))))))) = apart (mark word) 297 m (ap mark e) (λ d. omega (arith, d))
+no_names word m (inr (inr (inr (inr (inr (inr (inr e))))))) = apart (mark word) 328 m (ap mark e) (λ d. omega (arith, d))
 
 -- ---- which words are unknown
 
@@ -95,43 +88,49 @@ pub no_put : (path word : List ℕ) (rest : List (List ℕ)) → rest ≡ word �
 no_put path word rest is none (words.Import file source) h = let clash : 346 ≡ 323 = ap mark h.1 in omega (arith, clash)
 no_put path word rest is none (words.At file asking inner) h = let clash : 346 ≡ 329 = ap mark h.1 in omega (arith, clash)
 no_put path word rest is none (words.Cat file at inner) h = let clash : 346 ≡ 293 = ap mark h.1 in omega (arith, clash)
+no_put path word rest is none (words.Ls file at inner) h = let clash : 346 ≡ 338 = ap mark h.1 in omega (arith, clash)
 no_put path word rest is none (words.Put file codec) h = no_codec word none codec (subst (λ ws. IsCodec ws codec) is h.2)
-no_put path word rest is none (words.Do file command) h = no_command (codes "put") (inr (inl refl)) command h.1.2.0
+no_put path word rest is none (words.Do file command) h = no_command (codes "put") refl command h.1.2.0
 no_put path word rest is none words.Help h = h
 no_put path word rest is none words.Version h = h
-no_put path word rest is none (words.NoCid e) (inl h) = no_names (codes "put") (inr (inl refl)) h.0
+no_put path word rest is none (words.NoCid e) (inl h) = no_names (codes "put") refl h.0
 no_put path word rest is none (words.NoCid e) (inr (inl h)) = let clash : 346 ≡ 329 = ap mark h.0 in omega (arith, clash)
-no_put path word rest is none (words.NoCid e) (inr (inr h)) = let clash : 346 ≡ 293 = ap mark h.0 in omega (arith, clash)
+no_put path word rest is none (words.NoCid e) (inr (inr (inl h, k))) = let clash : 346 ≡ 293 = ap mark h in omega (arith, clash)
+no_put path word rest is none (words.NoCid e) (inr (inr (inr h, k))) = let clash : 346 ≡ 338 = ap mark h in omega (arith, clash)
 no_put path word rest is none words.Unknown h = h
 
 -- CIDs behind a word that are no command
-pub no_done : TextsTellCids → TextFaultsAreUnique → (path word : List ℕ) (rest : List (List ℕ)) (names : List CidParts) → word ≢ codes "import" → word ≢ codes "put" → word ≢ codes "at" → word ≢ codes "cat" → AreTextsOf rest names → ((c : Command) → NamesCommand word names c → ⊥)
+pub no_done : TextsTellCids → TextFaultsAreUnique → (path word : List ℕ) (rest : List (List ℕ)) (names : List CidParts) → word ≢ codes "import" → word ≢ codes "put" → word ≢ codes "at" → word ≢ codes "cat" → word ≢ codes "ls" → AreTextsOf rest names → ((c : Command) → NamesCommand word names c → ⊥)
     → (it : Words) → AreKnown (path ∷ (word ∷ rest)) it → ⊥
-no_done law faults path word rest names imports puts ats cats texts none (words.Import file source) h = imports h.1
-no_done law faults path word rest names imports puts ats cats texts none (words.Put file codec) h = puts h.1
-no_done law faults path word rest names imports puts ats cats texts none (words.Do file command) h = none command (subst (λ ns. NamesCommand word ns command) (same_names law rest h.1.0 names h.1.1 texts) h.1.2)
-no_done law faults path word rest names imports puts ats cats texts none words.Help h = h
-no_done law faults path word rest names imports puts ats cats texts none words.Version h = h
-no_done law faults path word rest names imports puts ats cats texts none (words.At file asking inner) h = ats h.1
-no_done law faults path word rest names imports puts ats cats texts none (words.Cat file at inner) h = cats h.1
-no_done law faults path word rest names imports puts ats cats texts none (words.NoCid e) (inl h) = no_fault faults rest names e texts h.1
-no_done law faults path word rest names imports puts ats cats texts none (words.NoCid e) (inr (inl h)) = ats h.0
-no_done law faults path word rest names imports puts ats cats texts none (words.NoCid e) (inr (inr h)) = cats h.0
-no_done law faults path word rest names imports puts ats cats texts none words.Unknown h = h
+no_done law faults path word rest names imports puts ats cats lists texts none (words.Import file source) h = imports h.1
+no_done law faults path word rest names imports puts ats cats lists texts none (words.Put file codec) h = puts h.1
+no_done law faults path word rest names imports puts ats cats lists texts none (words.Do file command) h = none command (subst (λ ns. NamesCommand word ns command) (same_names law rest h.1.0 names h.1.1 texts) h.1.2)
+no_done law faults path word rest names imports puts ats cats lists texts none words.Help h = h
+no_done law faults path word rest names imports puts ats cats lists texts none words.Version h = h
+no_done law faults path word rest names imports puts ats cats lists texts none (words.At file asking inner) h = ats h.1
+no_done law faults path word rest names imports puts ats cats lists texts none (words.Cat file at inner) h = cats h.1
+no_done law faults path word rest names imports puts ats cats lists texts none (words.Ls file at inner) h = lists h.1
+no_done law faults path word rest names imports puts ats cats lists texts none (words.NoCid e) (inl h) = no_fault faults rest names e texts h.1
+no_done law faults path word rest names imports puts ats cats lists texts none (words.NoCid e) (inr (inl h)) = ats h.0
+no_done law faults path word rest names imports puts ats cats lists texts none (words.NoCid e) (inr (inr (inl h, k))) = cats h
+no_done law faults path word rest names imports puts ats cats lists texts none (words.NoCid e) (inr (inr (inr h, k))) = lists h
+no_done law faults path word rest names imports puts ats cats lists texts none words.Unknown h = h
 
 -- others behind a word that takes none
-pub no_word : TextFaultsAreUnique → (path word : List ℕ) (rest : List (List ℕ)) (f : CidTextError) → word ≢ codes "import" → word ≢ codes "put" → word ≢ codes "at" → word ≢ codes "cat" → IsFirstFault rest f → (WantsNames word → ⊥) → (it : Words) → AreKnown (path ∷ (word ∷ rest)) it → ⊥
-no_word faults path word rest f imports puts ats cats fault none (words.Import file source) h = imports h.1
-no_word faults path word rest f imports puts ats cats fault none (words.Put file codec) h = puts h.1
-no_word faults path word rest f imports puts ats cats fault none (words.Do file command) h = no_fault faults rest h.1.0 f h.1.1 fault
-no_word faults path word rest f imports puts ats cats fault none words.Help h = h
-no_word faults path word rest f imports puts ats cats fault none words.Version h = h
-no_word faults path word rest f imports puts ats cats fault none (words.At file asking inner) h = ats h.1
-no_word faults path word rest f imports puts ats cats fault none (words.Cat file at inner) h = cats h.1
-no_word faults path word rest f imports puts ats cats fault none (words.NoCid e) (inl h) = none h.0
-no_word faults path word rest f imports puts ats cats fault none (words.NoCid e) (inr (inl h)) = ats h.0
-no_word faults path word rest f imports puts ats cats fault none (words.NoCid e) (inr (inr h)) = cats h.0
-no_word faults path word rest f imports puts ats cats fault none words.Unknown h = h
+pub no_word : TextFaultsAreUnique → (path word : List ℕ) (rest : List (List ℕ)) (f : CidTextError) → word ≢ codes "import" → word ≢ codes "put" → word ≢ codes "at" → word ≢ codes "cat" → word ≢ codes "ls" → IsFirstFault rest f → (WantsNames word → ⊥) → (it : Words) → AreKnown (path ∷ (word ∷ rest)) it → ⊥
+no_word faults path word rest f imports puts ats cats lists fault none (words.Import file source) h = imports h.1
+no_word faults path word rest f imports puts ats cats lists fault none (words.Put file codec) h = puts h.1
+no_word faults path word rest f imports puts ats cats lists fault none (words.Do file command) h = no_fault faults rest h.1.0 f h.1.1 fault
+no_word faults path word rest f imports puts ats cats lists fault none words.Help h = h
+no_word faults path word rest f imports puts ats cats lists fault none words.Version h = h
+no_word faults path word rest f imports puts ats cats lists fault none (words.At file asking inner) h = ats h.1
+no_word faults path word rest f imports puts ats cats lists fault none (words.Cat file at inner) h = cats h.1
+no_word faults path word rest f imports puts ats cats lists fault none (words.Ls file at inner) h = lists h.1
+no_word faults path word rest f imports puts ats cats lists fault none (words.NoCid e) (inl h) = none h.0
+no_word faults path word rest f imports puts ats cats lists fault none (words.NoCid e) (inr (inl h)) = ats h.0
+no_word faults path word rest f imports puts ats cats lists fault none (words.NoCid e) (inr (inr (inl h, k))) = cats h
+no_word faults path word rest f imports puts ats cats lists fault none (words.NoCid e) (inr (inr (inr h, k))) = lists h
+no_word faults path word rest f imports puts ats cats lists fault none words.Unknown h = h
 
 -- ---- rows of words
 

@@ -7,5 +7,6 @@ pub mod Removing
 pub mod Exporting
 pub mod Gathering
 pub mod Contents
+pub mod Directories
 pub mod Commanding
 pub mod Rooting

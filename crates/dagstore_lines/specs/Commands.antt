@@ -91,6 +91,11 @@ abbrev pub IsAskedBy : List (List ℕ) → Bool → List ℕ → Type 0
 IsAskedBy rest false text = rest ≡ text ∷ []
 IsAskedBy rest true text = rest ≡ codes "--raw" ∷ text ∷ []
 
+-- a text stands alone there: one of this CID, and this path behind a slash
+abbrev pub IsPathFrom : List (List ℕ) → CidParts → List ℕ → Type 0
+IsPathFrom rest root inner = (text : List ℕ) × (rest ≡ text ∷ [])
+    × IsTextOf (name_part text) root × (inner ≡ path_part text)
+
 -- ---- words
 
 -- a path, a word and what stands behind it are this; and where a CID should stand and none does,
@@ -106,12 +111,13 @@ AreWordsOf path word rest (words.At file asking inner) = (path ≡ file.now) × 
     × ((text : List ℕ) × IsAskedBy rest asking.is_raw text
     × IsTextOf (name_part text) asking.root × (inner.now ≡ path_part text))
 AreWordsOf path word rest (words.Cat file at inner) = (path ≡ file.now) × (word ≡ codes "cat")
-    × ((text : List ℕ) × (rest ≡ text ∷ []) × IsTextOf (name_part text) at.root
-    × (inner.now ≡ path_part text))
+    × IsPathFrom rest at.root inner.now
+AreWordsOf path word rest (words.Ls file at inner) = (path ≡ file.now) × (word ≡ codes "ls")
+    × IsPathFrom rest at.root inner.now
 AreWordsOf path word rest (words.NoCid e) = (WantsNames word × IsFirstFault rest e)
     ⊎ (((word ≡ codes "at") × ((is_raw : Bool) × (text : List ℕ)
     × IsAskedBy rest is_raw text × IsTextFault e (name_part text)))
-    ⊎ ((word ≡ codes "cat") × ((text : List ℕ) × (rest ≡ text ∷ [])
+    ⊎ (((word ≡ codes "cat") ⊎ (word ≡ codes "ls")) × ((text : List ℕ) × (rest ≡ text ∷ [])
     × IsTextFault e (name_part text))))
 AreWordsOf path word rest _ = ⊥
 

@@ -11,4 +11,5 @@ pub mod Files
 pub mod Trees
 pub mod Ways
 pub mod Contents
+pub mod Directories
 pub mod Roots

@@ -3,11 +3,13 @@
 ghost use Rattle.std.specs.Prelude.{Result, Bool, Option, List, ℕ, ◌⊎◌, OnOk, IfErr};
 ghost use Rattle.sqlite_trees.specs.View.{IsClean};
 ghost use Rattle.dagcbor_paths.specs.Paths.{segments};
+ghost use Rattle.file_lines.specs.Entries.{IsListing};
 ghost use Rattle.dagcbor_store.specs.Ends.{Quiet};
 ghost use Rattle.dagcbor_store.specs.Stored.{IsAddedTo, IsKeptBy, StaysSame};
 ghost use Rattle.dagstore_lines.specs.Blocks.{SaysCount, IsGotBlock, Has};
 ghost use Rattle.dagstore_lines.specs.Changes.{name_as, SaysPut, ListsOthers, SaysRemoved};
 ghost use Rattle.dagstore_lines.specs.Contents.{OfGot, SaysFile, IsOfFile, FailsAt};
+ghost use Rattle.dagstore_lines.specs.Directories.{IsOfListing};
 ghost use Rattle.dagstore_lines.specs.Lacking.{SaysStoreChecked};
 ghost use Rattle.dagstore_lines.specs.Names.{IsListedLine, SaysNames};
 ghost use Rattle.dagstore_lines.specs.Refusals.{ExitsSo};
@@ -20,6 +22,7 @@ ghost use Rattle.dagstore_lines.specs.declared.fault.Fault.{Fault};
 use crate::at::write_at;
 use crate::block::{count_blocks, get_block, has_block};
 use crate::change::{collect_meant, put_block, remove_blocks};
+use crate::directory::write_listing;
 use crate::export::{export_meant, write_tree};
 use crate::file::write_file;
 use crate::lacking::check_store;
@@ -172,6 +175,27 @@ pub fn answer_cat<S: Store, W: Write, V: Write>(
     ensures quiet { Quiet S.Store store.old store.new }
 {
     let ended = write_file(alloc, store, root, path, output, errors);
+    end(ended, errors)
+}
+
+/// `ls`: answers the status.
+pub fn answer_ls<S: Store, W: Write, V: Write>(
+    alloc: Global,
+    store: &mut BlockStore<S>,
+    root: &Cid,
+    path: &str,
+    output: &mut W,
+    errors: &mut V,
+) -> u8
+    ensures answers { (ended : Result Bool Fault) × (heard : Option (List ℕ))
+        × OfGot (S.Store.view store.old) (S.Store.view store.new) (λ stored. SaysAll
+        (IsListing stored root.now (segments path.now)) (W.contents output.old) (V.contents errors.old)
+        ended (W.contents output.new) heard) × OnOk ended (StaysSame S.Store store.old store.new)
+        × IfErr ended (FailsAt S.Store (IsOfListing root.now (segments path.now)) store.old store.new)
+        × ExitsSo ended result heard (V.contents errors.new) }
+    ensures quiet { Quiet S.Store store.old store.new }
+{
+    let ended = write_listing(alloc, store, root, path, output, errors);
     end(ended, errors)
 }
 

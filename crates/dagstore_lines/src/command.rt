@@ -3,6 +3,8 @@
 ghost use Rattle.std.specs.Prelude.{◌≡◌, ◌≢◌, ◌<◌, ◌≤◌, [], ◌∷◌, codes, length, map, string_bytes, IfOk, IfErr, MatchBool, MatchOption, MatchResult, List, ℕ};
 ghost use Rattle.std.specs.Str.Parse.{IsNumeral, digits_value};
 ghost use Rattle.ipld_tree.specs.Cid.{CidParts};
+ghost use Rattle.cid_text.specs.Texts.{IsTextOf, IsTextFault};
+ghost use Rattle.dagcar_lines.specs.Commands.{name_part, path_part};
 ghost use Rattle.dagstore_lines.specs.Commands.{NamesCodec, AreTextsOf, IsFirstFault, WantsNames, NamesCommand, AreWordsOf, IsAskedBy, AreWords};
 ghost use Rattle.dagstore_lines.specs.declared.command.Command.{Command};
 
@@ -74,6 +76,8 @@ pub enum Words<'a> {
     At(&'a str, Asking, &'a str),
     /// To write the bytes of the file of IPFS to which a path of names leads from the root.
     Cat(&'a str, Beginning, &'a str),
+    /// To list what stands under a path of names from the root.
+    Ls(&'a str, Beginning, &'a str),
     /// A path, and what is to be done with its blocks.
     Do(&'a str, Command),
     Help,
@@ -121,6 +125,7 @@ fn words_behind<'a>(
         "put" => Ok(put_of(path, rest)),
         "at" => Ok(at_of(path, rest)),
         "cat" => Ok(cat_of(path, rest)),
+        "ls" => Ok(ls_of(path, rest)),
         _ => names_behind(alloc, path, word, rest),
     }
 }
@@ -189,14 +194,46 @@ fn cat_of<'a>(file: &'a str, rest: &'a [String]) -> Words<'a>
     }
 }
 
-/// The file of IPFS that the text asks for: a CID, and the path behind a slash.
+/// The file of IPFS that the text asks for.
 fn cat_text<'a>(file: &'a str, text: &'a str) -> Words<'a>
     ensures { AreWords (file.now ∷ (codes "cat" ∷ (text.now ∷ []))) result }
 {
+    match beginning_of(text) {
+        Ok((at, path)) => Words::Cat(file, at, path),
+        Err(cause) => Words::NoCid(cause),
+    }
+}
+
+/// What is to be listed.
+fn ls_of<'a>(file: &'a str, rest: &'a [String]) -> Words<'a>
+    ensures { AreWords (file.now ∷ (codes "ls" ∷ map string_bytes rest.now)) result }
+{
+    match rest {
+        [text] => ls_text(file, text.as_str()),
+        _ => Words::Unknown,
+    }
+}
+
+/// What the text asks to list.
+fn ls_text<'a>(file: &'a str, text: &'a str) -> Words<'a>
+    ensures { AreWords (file.now ∷ (codes "ls" ∷ (text.now ∷ []))) result }
+{
+    match beginning_of(text) {
+        Ok((at, path)) => Words::Ls(file, at, path),
+        Err(cause) => Words::NoCid(cause),
+    }
+}
+
+/// The block from which the path in the text leads, and the path: a CID, and what stands behind a slash.
+fn beginning_of(text: &str) -> Result<(Beginning, &str), CidTextError>
+    ensures { MatchResult result
+        (λ p. IsTextOf (name_part text.now) p.0.root × (p.1.now ≡ path_part text.now))
+        (λ e. IsTextFault e (name_part text.now)) }
+{
     let (name, path) = split_path(text);
     match cid_from_text(name.as_bytes()) {
-        Ok(root) => Words::Cat(file, Beginning { root }, path),
-        Err(cause) => Words::NoCid(cause),
+        Ok(root) => Ok((Beginning { root }, path)),
+        Err(cause) => Err(cause),
     }
 }
 
@@ -231,7 +268,8 @@ fn names_behind<'a>(
     rest: &[String],
 ) -> Result<Words<'a>, AllocError>
     ensures known { word.now ≢ codes "import" → word.now ≢ codes "put" → word.now ≢ codes "at"
-        → word.now ≢ codes "cat" → IfOk result (AreWords (path.now ∷ (word.now ∷ map string_bytes rest.now))) }
+        → word.now ≢ codes "cat" → word.now ≢ codes "ls"
+        → IfOk result (AreWords (path.now ∷ (word.now ∷ map string_bytes rest.now))) }
     ensures memory { IfErr result (λ _. 0 < length rest.now) }
 {
     laws::texts_tell_cids();

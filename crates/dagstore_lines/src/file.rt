@@ -23,7 +23,7 @@ use std::io::Write;
 use unix_fs::FileReader;
 
 /// The bytes that were got, if any were.
-fn bytes_got(got: &Option<Vec<u8>>) -> Option<&[u8]>
+pub(crate) fn bytes_got(got: &Option<Vec<u8>>) -> Option<&[u8]>
     ensures { option_map (λ b. b.now) result ≡ option_map (λ v. v.items) got.now }
 {
     match got {

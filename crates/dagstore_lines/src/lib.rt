@@ -7,6 +7,7 @@ mod block;
 mod change;
 mod check;
 mod command;
+mod directory;
 mod export;
 mod fault;
 mod file;
@@ -23,7 +24,7 @@ mod words;
 
 pub use answer::{
     answer_add_roots, answer_at, answer_cat, answer_check, answer_collect, answer_count,
-    answer_drop_roots, answer_export, answer_get, answer_has, answer_list, answer_put,
+    answer_drop_roots, answer_export, answer_get, answer_has, answer_list, answer_ls, answer_put,
     answer_remove, answer_roots, answer_tree,
 };
 pub use at::write_at;
@@ -31,6 +32,7 @@ pub use block::{NO_BLOCK, count_blocks, get_block, has_block};
 pub use change::{check_put, collect_blocks, collect_meant, put_block, remove_blocks};
 pub use check::check_blocks;
 pub use command::{Asking, Beginning, Command, Words, words_of};
+pub use directory::write_listing;
 pub use export::{export_blocks, export_meant, write_tree};
 pub use fault::Fault;
 pub use file::write_file;

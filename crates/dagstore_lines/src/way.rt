@@ -57,12 +57,13 @@ pub fn gather_way<S: Store>(
     let mut left = path;
     for _count in 0..u64::MAX {
         hold(store, &block, &mut held)?;
-        match resolve_step(&block, stored_bytes(&held, &block), left) {
-            Step::GoesOn(next, more) => {
-                block = next;
-                left = more;
+        match resolve_step(alloc, &block, stored_bytes(&held, &block), left) {
+            Ok(Step::GoesOn(next)) => {
+                block = next.block;
+                left = next.path;
             }
-            Step::Ends(_end) => return Ok(held),
+            Ok(Step::Ends(_end)) => return Ok(held),
+            Err(_) => return Err(Fault::Tool(ToolError::OutOfMemory)),
         }
     }
     Err(Fault::Tool(ToolError::OutOfMemory))

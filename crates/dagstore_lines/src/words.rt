@@ -2,7 +2,7 @@
 
 /// What is told of other words.
 pub const USAGE: &str =
-    "usage: dagstore FILE import|put|export|get|at|cat|has|tree|remove|gc|roots|add-root|drop-root|check|list|count, dagstore --help\n";
+    "usage: dagstore FILE import|put|export|get|at|ls|cat|has|tree|remove|gc|roots|add-root|drop-root|check|list|count, dagstore --help\n";
 
 /// What `--help` writes.
 pub const HELP: &str = "usage: dagstore FILE import [SOURCE]
@@ -10,7 +10,7 @@ pub const HELP: &str = "usage: dagstore FILE import [SOURCE]
        dagstore FILE export|gc [CID..]
        dagstore FILE get|has|tree CID
        dagstore FILE at [--raw] CID/PATH
-       dagstore FILE cat CID/PATH
+       dagstore FILE ls|cat CID/PATH
        dagstore FILE remove|add-root|drop-root CID..
        dagstore FILE roots|check|list|count
 
@@ -24,6 +24,7 @@ Out of the file:
            that are stored
   get      the block of a name
   at       the data that a path leads to from a block, as DAG-JSON; --raw writes its bytes
+  ls       the entries of the directory of IPFS that a path of names leads to
   cat      the bytes of the file of IPFS that a path of names leads to
   has      nothing: the status is 0 where something is listed under the name, else 1
   tree     the file of the blocks that links lead to

@@ -1,19 +1,23 @@
 -- The entries of a directory, link by link.
-use Rattle.std.proofs.Common.{◌≡◌, inl, inr, ℕ, List, [], ◌∷◌, ◌++◌, Bool, true, false, ◌&&◌, refl, sym, ap, ◌∙◌, subst, append_assoc, append-nil, Result, Ok, Err, IfOk, None, Some, cond, Vec, BTreeMap, Global}
+use Rattle.std.proofs.Common.{◌≡◌, inl, inr, ℕ, List, [], ◌∷◌, ◌++◌, Bool, true, false, ◌&&◌, refl, sym, ap, ◌∙◌, subst, append_assoc, append-nil, Result, Ok, Err, IfOk, None, Some, cond, length, Vec, BTreeMap, Global}
 use Rattle.std.specs.Map.{lookup}
 use Rattle.std.specs.BTreeMap.{is_at, get}
-use Rattle.ipld_links.proofs.Members.{at_same}
-use Rattle.dag_pb.specs.Node.{LinkParts, Field, BeginsWithFields, NodeParts, IsNode}
+use Rattle.ipld_links.specs.Sets.{Among}
+use Rattle.ipld_links.proofs.Members.{at_same, same_at, append_among}
+use Rattle.dag_pb.specs.Node.{LinkParts, Field, BeginsWithFields, NodeParts, IsNode, HasNode}
 use Rattle.dag_pb.specs.Reads.{links_in}
 use Rattle.dag_pb.proofs.Orders.{node_links_in}
 use Rattle.unix_fs.specs.Reading.{HasRow}
+use Rattle.unix_fs.specs.Files.{codec_of}
+use Rattle.unix_fs.specs.Entities.{IsEntity}
 use Rattle.unix_fs.specs.declared.entity.Entity.{Entity}
-use Rattle.ipld_tree.specs.Cid.{CidParts, cid_cmp}
+use Rattle.unix_fs.specs.declared.entity.Entity.TheVariants.{File, Directory}
+use Rattle.ipld_tree.specs.Cid.{CidParts, cid_bytes, cid_cmp}
 use Rattle.ipld_links.specs.Reaching.{Stored}
 use Rattle.block_lines.specs.Lines.{IsSaidOfEach}
 use Rattle.block_lines.proofs.Saying.{each_push}
 use Rattle.file_lines.specs.declared.stop.Stop.{Stop}
-use Rattle.file_lines.specs.Entries.{IsEntityAt, IsNoEntityAt, AreWordsOf, KnowsWords, IsEntry, entity_words, stop_words, IsListingOf, IsListingUnder}
+use Rattle.file_lines.specs.Entries.{IsEntityAt, IsNoEntityAt, AreWordsOf, KnowsWords, IsKnown, KeepsWords, IsEntry, entity_words, stop_words, IsListingOf, IsListingUnder}
 
 -- ---- words
 
@@ -32,15 +36,34 @@ knows_none stored known none = λ cid said e.
     nothing : {said : Vec ℕ Global × Bool} → None ≡ Some said → ⊥
     nothing e = cc e
 
+-- those that are known are the block's
+pub known_said : (stored : Stored) (known : BTreeMap CidParts (Vec ℕ Global × Bool)) (cid : CidParts) (found : Vec ℕ Global × Bool) → KnowsWords stored known → IsKnown known cid (Some found) → AreWordsOf stored cid found.1 found.0.items
+known_said stored known cid found h k = subst (λ well. AreWordsOf stored cid well found.0.items) (sym k.2) (subst (AreWordsOf stored cid k.0.1) (sym k.3) (h cid k.0 k.1))
+
 -- those of one block more
-pub knows_more : (stored : Stored) (old new : BTreeMap CidParts (Vec ℕ Global × Bool)) (name : CidParts) (said : Vec ℕ Global × Bool) → KnowsWords stored old → ((q : CidParts) → get cid_cmp new q ≡ cond (is_at (cid_cmp name) q) (Some said) (get cid_cmp old q)) → AreWordsOf stored name said.1 said.0.items → KnowsWords stored new
-knows_more stored old new name said h put is = λ q s e. found q s (is_at (cid_cmp name) q) refl (sym (put q) ∙ e)
+pub knows_more : (stored : Stored) (old new : BTreeMap CidParts (Vec ℕ Global × Bool)) (name : CidParts) (well : Bool) (words : List ℕ) → KnowsWords stored old → KeepsWords name well words old new → AreWordsOf stored name well words → KnowsWords stored new
+knows_more stored old new name well words h keeps is = λ q s e. found q s e (is_at (cid_cmp name) q) refl
   where
-    found : (q : CidParts) (s : Vec ℕ Global × Bool) (t : Bool) → is_at (cid_cmp name) q ≡ t → cond t (Some said) (get cid_cmp old q) ≡ Some s → AreWordsOf stored q s.1 s.0.items
-    found q s true t e =
-        let same : said ≡ s = cc e in
-        subst (λ x. AreWordsOf stored x s.1 s.0.items) (at_same name q t) (subst (λ (x : Vec ℕ Global × Bool). AreWordsOf stored name x.1 x.0.items) same is)
-    found q s false t e = h q s e
+    differ : false ≡ true → ⊥
+    differ e = cc e
+
+    kept : AreWordsOf stored name keeps.0.0.1 keeps.0.0.0.items
+    kept = subst (λ w. AreWordsOf stored name w keeps.0.0.0.items) (sym keeps.0.2) (subst (AreWordsOf stored name well) (sym keeps.0.3) is)
+
+    found : (q : CidParts) (s : Vec ℕ Global × Bool) → get cid_cmp new q ≡ Some s → (t : Bool) → is_at (cid_cmp name) q ≡ t → AreWordsOf stored q s.1 s.0.items
+    found q s e true t =
+        let at = at_same name q t in
+        let same : keeps.0.0 ≡ s = cc (sym keeps.0.1 ∙ ap (get cid_cmp new) at ∙ e) in
+        subst (λ x. AreWordsOf stored x s.1 s.0.items) at (subst (λ (x : Vec ℕ Global × Bool). AreWordsOf stored name x.1 x.0.items) same kept)
+    found q s e false t = h q s (sym (keeps.1 q (λ d. differ (sym t ∙ same_at name q (sym d)))) ∙ e)
+
+-- what an insertion does of the map
+pub words_kept : (old new : BTreeMap CidParts (Vec ℕ Global × Bool)) (name : CidParts) (said : Vec ℕ Global × Bool) (well : Bool) (words : List ℕ) → ((q : CidParts) → get cid_cmp new q ≡ cond (is_at (cid_cmp name) q) (Some said) (get cid_cmp old q)) → said.1 ≡ well → said.0.items ≡ words → KeepsWords name well words old new
+words_kept old new name said well words put is same = ((said, put name ∙ ap (λ t. cond t (Some said) (get cid_cmp old name)) (same_at name name refl), is, same), λ q other. put q ∙ ap (λ t. cond t (Some said) (get cid_cmp old q)) (apart q other (is_at (cid_cmp name) q) refl))
+  where
+    apart : (q : CidParts) → (q ≡ name → ⊥) → (t : Bool) → is_at (cid_cmp name) q ≡ t → t ≡ false
+    apart q other true t = absurd (other (sym (at_same name q t)))
+    apart q other false t = refl
 
 -- ---- the entries
 
@@ -56,7 +79,7 @@ pub none_listed : (stored : Stored) (block : List ℕ) → HasRow block → IsLi
 none_listed stored block row = record { row = row; done = []; listed = (refl, refl); same = λ all h. (all, h, refl) }
 
 -- what `next_link` says of a link
-abbrev GivesLink : List ℕ → LinkParts → List ℕ → Type 0
+abbrev pub GivesLink : List ℕ → LinkParts → List ℕ → Type 0
 GivesLink links link behind = (row : List Field) → BeginsWithFields links row []
     → (more : List Field) × BeginsWithFields behind more [] × (links_in row ≡ link ∷ links_in more)
 
@@ -78,7 +101,28 @@ all_listed stored block links well out h none node is =
     let s = h.same is.0 is.1 in
     subst (λ x. IsSaidOfEach (IsEntry stored) x well out) (sym (append-nil h.done) ∙ sym (ap (λ x. h.done ++ x) (none s.0 s.1)) ∙ sym s.2 ∙ node_links_in is.0 node is.2) h.listed
 
+-- the next link is one of the node's
+pub next_linked : (stored : Stored) (block links behind : List ℕ) (link : LinkParts) (well : Bool) (out : List ℕ) (node : NodeParts) → IsNode block node → IsListedTo stored block links well out → GivesLink links link behind → Among link node.links
+next_linked stored block links behind link well out node is h next =
+    let s = h.same is.0 is.1 in
+    let k = next s.0 s.1 in
+    subst (Among link) (sym (ap (λ x. h.done ++ x) k.2) ∙ sym s.2 ∙ node_links_in is.0 node is.2) (append_among link h.done (link ∷ links_in k.0) (inr (inl refl)))
+
 -- ---- the listing
+
+-- a directory is a node
+pub directory_node : (stored : Stored) (cid : CidParts) (b : List ℕ) → IsEntityAt stored cid b Directory → HasNode b
+directory_node stored cid b h = by h.2
+  where
+    by : IsEntity Directory (codec_of (cid_bytes cid)) b → HasNode b
+    by (inl k) = absurd (other k.1)
+      where
+        other : Directory ≡ File (Some (length b)) → ⊥
+        other e = cc e
+    by (inr k) = k.1.1.node
+
+pub node_row : (b : List ℕ) → HasNode b → HasRow b
+node_row b h = (h.1.0, h.1.1)
 
 pub if_ok_map : {A E : Type 0} (P Q : A → Type 0) (r : Result A E) → ((a : A) → P a → Q a) → IfOk r P → IfOk r Q
 if_ok_map P Q (Ok a) f h = f a h
@@ -86,3 +130,7 @@ if_ok_map P Q (Err e) f h = h
 
 pub listed_under : (stored : Stored) (cid : CidParts) (b : List ℕ) (entity : Entity) (well : Bool) (out told : List ℕ) → IsEntityAt stored cid b entity → IsListingOf stored cid b entity well out told → IsListingUnder stored cid well out told
 listed_under stored cid b entity well out told is h = inl (b, entity, is, h)
+
+-- of a directory its entries are said
+pub entries_listed : (stored : Stored) (cid : CidParts) (b : List ℕ) (node : NodeParts) (well : Bool) (out told : List ℕ) → IsEntityAt stored cid b Directory → IsNode b node → IsSaidOfEach (IsEntry stored) node.links well out → told ≡ [] → IsListingUnder stored cid well out told
+entries_listed stored cid b node well out told is has said none = inl (b, Directory, is, ((node, has, said), none))

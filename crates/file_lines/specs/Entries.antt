@@ -1,5 +1,5 @@
 -- What stands under a path of names: the entries of a directory, or a block of another kind.
-use Rattle.std.specs.Prelude.{◌≡◌, ◌≢◌, ◌⊎◌, ◌<◌, ◌≤◌, ℕ, ◌+◌, ◌==◌, ◌/◌, ◌%◌, nat_lt, List, [], ◌∷◌, ◌++◌, length, codes, decimal, Bool, true, false, ◌&&◌, not, if◌then◌else◌, None, Some, Vec}
+use Rattle.std.specs.Prelude.{◌≡◌, ◌≢◌, ◌⊎◌, ◌<◌, ◌≤◌, ℕ, ◌+◌, ◌==◌, ◌/◌, ◌%◌, nat_lt, List, [], ◌∷◌, ◌++◌, length, codes, decimal, Bool, true, false, ◌&&◌, not, if◌then◌else◌, Option, None, Some, Vec}
 use Rattle.std.specs.List.{AllByRecursion, flat_map}
 use Rattle.std.specs.BTreeMap.{BTreeMap, get}
 use Rattle.std.specs.declared.alloc.Global.{Global}
@@ -16,6 +16,8 @@ use Rattle.ipld_links.specs.Verdicts.{IsVerified, IsVerdict}
 use Rattle.block_lines.specs.Lines.{line, is_well, IsSaidOfEach}
 use Rattle.file_lines.specs.declared.stop.Stop.{Stop}
 use Rattle.file_lines.specs.declared.stop.Stop.TheVariants as stops
+use Rattle.file_lines.specs.declared.entries.Listed.{Listed}
+use Rattle.file_lines.specs.declared.entries.Listed.TheVariants as listed
 use Rattle.file_lines.specs.Stops.{stop_line}
 use Rattle.file_lines.specs.Names.{LeadsByNames, IsNoPath}
 
@@ -82,6 +84,21 @@ abbrev pub KnowsWords : Stored → BTreeMap CidParts (Vec ℕ Global × Bool) �
 KnowsWords stored known = (cid : CidParts) (said : Vec ℕ Global × Bool) → get cid_cmp known cid ≡ Some said
     → AreWordsOf stored cid said.1 said.0.items
 
+-- what the map has under the CID
+abbrev pub IsKnown : BTreeMap CidParts (Vec ℕ Global × Bool) → CidParts
+    → Option (Vec ℕ Global × Bool) → Type 0
+IsKnown known cid None = get cid_cmp known cid ≡ None
+IsKnown known cid (Some found) = (said : Vec ℕ Global × Bool) × (get cid_cmp known cid ≡ Some said)
+    × (found.1 ≡ said.1) × (found.0.items ≡ said.0.items)
+
+-- under the CID the map has these words now, and under others what it had
+abbrev pub KeepsWords : CidParts → Bool → List ℕ → BTreeMap CidParts (Vec ℕ Global × Bool)
+    → BTreeMap CidParts (Vec ℕ Global × Bool) → Type 0
+KeepsWords cid well words old new =
+    ((said : Vec ℕ Global × Bool) × (get cid_cmp new cid ≡ Some said) × (said.1 ≡ well)
+    × (said.0.items ≡ words))
+    × ((other : CidParts) → other ≢ cid → get cid_cmp new other ≡ get cid_cmp old other)
+
 -- the line of an entry, with the words of the block under its CID
 abbrev pub IsEntry : Stored → LinkParts → Bool → List ℕ → Type 0
 IsEntry stored link well out = (words : List ℕ) × AreWordsOf stored link.hash well words
@@ -109,6 +126,13 @@ IsListingUnder stored cid well out told =
     × IsListingOf stored cid b entity well out told)
     ⊎ ((stop : Stop) × IsNoEntityAt stored cid stop × (well ≡ false) × (out ≡ [])
     × (told ≡ stop_line cid stop))
+
+-- this is listed of the block under the CID: all that is said and told of it; or the entries of the
+-- directory that it is, of these bytes
+abbrev pub IsListed : Stored → CidParts → Listed → Type 0
+IsListed stored cid (listed.Whole answer) =
+    IsListingUnder stored cid answer.0.1 answer.0.0.items answer.1.items
+IsListed stored cid (listed.Entries b) = IsEntityAt stored cid b.now Directory
 
 -- what is said and told of what stands under the path of names from the root
 abbrev pub IsListing : Stored → CidParts → List (List ℕ) → Bool → List ℕ → List ℕ → Type 0

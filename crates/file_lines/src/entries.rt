@@ -1,15 +1,13 @@
 //! `ls`: what stands under a path of names.
 
-ghost use Rattle.std.specs.Prelude.{◌≡◌, List, IfOk};
-ghost use Rattle.ipld_tree.specs.Cid.{cid_bytes};
+ghost use Rattle.std.specs.Prelude.{◌≡◌, ◌++◌, List, codes, option_map, IfOk};
+ghost use Rattle.cid_text.specs.Texts.{cid_text};
 ghost use Rattle.dagcbor_paths.specs.Paths.{segments};
-ghost use Rattle.ipld_links.specs.Reaching.{stored_in};
+ghost use Rattle.ipld_links.specs.Reaching.{Stored, stored_in};
 ghost use Rattle.dag_pb.specs.Node.{NodeParts, IsNode};
 ghost use Rattle.unix_fs.specs.Reading.{HasRow};
-ghost use Rattle.unix_fs.specs.Files.{codec_of};
-ghost use Rattle.unix_fs.specs.Entities.{IsEntity};
-ghost use Rattle.block_lines.specs.Lines.{IsSaidOfEach, SaysBoth};
-ghost use Rattle.file_lines.specs.Entries.{IsEntry, own_line, IsListingOf, IsListingUnder, IsListing};
+ghost use Rattle.block_lines.specs.Lines.{line, IsSaidOfEach, SaysBoth};
+ghost use Rattle.file_lines.specs.Entries.{IsEntityAt, IsEntry, own_line, IsListed, IsListingUnder, IsListing};
 
 use crate::entry::{entity_stored, entity_words, entry_said};
 use crate::names::{find_named, names_line};
@@ -24,6 +22,15 @@ use std::alloc::{AllocError, Global};
 use std::collections::BTreeMap;
 use std::io::Write;
 use unix_fs::Entity;
+
+/// What is listed of a block.
+#[derive(Debug, Drop)]
+pub enum Listed<'b> {
+    /// What is said and told of it, which is all.
+    Whole(Answer),
+    /// The entries of a directory, of which these are the bytes.
+    Entries(&'b [u8]),
+}
 
 /// The lines of the links in the block, and whether each has a kind.
 fn entries_said(
@@ -56,30 +63,50 @@ fn own_line(alloc: Global, cid: &Cid, entity: &Entity<'_>) -> Result<Vec<u8>, Al
     line_of(alloc, &words, &cid_text(cid), b"")
 }
 
-/// What is said of a block that is this, and what is told of it.
-fn listing_of(
+/// The line of a directory in shards, which is not listed.
+fn shard_line(alloc: Global, cid: &Cid) -> Result<Vec<u8>, AllocError>
+    ensures { IfOk result (λ v. v.items ≡ line (cid_text cid.now ++ codes " refused InShards")) }
+{
+    line_of(alloc, &cid_text(cid), b" refused InShards", b"")
+}
+
+/// What is listed of a block that is this.
+fn listed_of<'b>(
     alloc: Global,
     cid: &Cid,
-    block: &[u8],
+    block: &'b [u8],
     entity: &Entity<'_>,
-    blocks: &BTreeMap<Cid, Vec<u8>>,
-) -> Result<Answer, AllocError>
-    requires { IsEntity entity.now (codec_of (cid_bytes cid.now)) block.now }
-    ensures { IfOk result (λ p. IsListingOf (stored_in blocks.now) cid.now block.now entity.now
-        p.0.1 p.0.0.items p.1.items) }
+) -> Result<Listed<'b>, AllocError>
+    ensures { (stored : Stored) → IsEntityAt stored cid.now block.now entity.now
+        → IfOk result (IsListed stored cid.now) }
 {
     match entity {
-        Entity::Directory => {
-            let said = entries_said(alloc, block, blocks)?;
-            Ok((said, Vec::new(alloc)))
-        }
+        Entity::Directory => Ok(Listed::Entries(block)),
         Entity::Shard => {
-            let line = line_of(alloc, &cid_text(cid), b" refused InShards", b"")?;
-            Ok(((Vec::new(alloc), false), line))
+            let line = shard_line(alloc, cid)?;
+            Ok(Listed::Whole(((Vec::new(alloc), false), line)))
         }
         Entity::File(_) | Entity::Symlink(_) | Entity::Metadata => {
             let line = own_line(alloc, cid, entity)?;
-            Ok(((line, true), Vec::new(alloc)))
+            Ok(Listed::Whole(((line, true), Vec::new(alloc))))
+        }
+    }
+}
+
+/// What is listed of the block under the CID, of which these bytes are stored.
+pub fn listed_stored<'b>(
+    alloc: Global,
+    cid: &'b Cid,
+    stored: Option<&'b [u8]>,
+) -> Result<Listed<'b>, AllocError>
+    ensures { (all : Stored) → all cid.now ≡ option_map (λ b. b.now) stored.entry
+        → IfOk result (IsListed all cid.now) }
+{
+    match entity_stored(cid, stored) {
+        Ok((block, entity)) => listed_of(alloc, cid, block, &entity),
+        Err(stop) => {
+            let line = stop_line(alloc, cid, &stop)?;
+            Ok(Listed::Whole(((Vec::new(alloc), false), line)))
         }
     }
 }
@@ -93,12 +120,13 @@ fn listing_under(
     ensures { IfOk result (λ p. IsListingUnder (stored_in blocks.now) cid.now p.0.1 p.0.0.items
         p.1.items) }
 {
-    match entity_stored(cid, stored_bytes(blocks, cid)) {
-        Ok((block, entity)) => listing_of(alloc, cid, block, &entity, blocks),
-        Err(stop) => {
-            let line = stop_line(alloc, cid, &stop)?;
-            Ok(((Vec::new(alloc), false), line))
+    match listed_stored(alloc, cid, stored_bytes(blocks, cid)) {
+        Ok(Listed::Whole(answer)) => Ok(answer),
+        Ok(Listed::Entries(block)) => {
+            let said = entries_said(alloc, block, blocks)?;
+            Ok((said, Vec::new(alloc)))
         }
+        Err(error) => Err(error),
     }
 }
 

@@ -4,7 +4,7 @@ ghost use Rattle.std.specs.Prelude.{◌≡◌, ◌∷◌, ◌++◌, ◌<◌, Lis
 ghost use Rattle.std.specs.List.{flat_map};
 ghost use Rattle.ipld_links.specs.Reaching.{Stored, AreBytesOf, stored_in};
 ghost use Rattle.dag_pb.specs.Reads.{link_of};
-ghost use Rattle.file_lines.specs.Entries.{IsEntityAt, IsNoEntityAt, AreWordsOf, KnowsWords, IsEntry};
+ghost use Rattle.file_lines.specs.Entries.{IsEntityAt, IsNoEntityAt, AreWordsOf, KnowsWords, IsKnown, KeepsWords, IsEntry};
 ghost use Rattle.file_lines.specs.Entries.{entity_words, stop_words, entry_line, is_shown, shown_byte, hex_digit};
 
 use crate::stop::Stop;
@@ -122,7 +122,7 @@ fn shown_name(alloc: Global, name: &[u8]) -> Result<Vec<u8>, AllocError>
 }
 
 /// The line of an entry, of whose block these are the words.
-fn entry_line(alloc: Global, words: &[u8], link: &PbLink<'_>) -> Result<Vec<u8>, AllocError>
+pub fn entry_line(alloc: Global, words: &[u8], link: &PbLink<'_>) -> Result<Vec<u8>, AllocError>
     ensures { IfOk result (λ v. v.items ≡ entry_line words.now (link_of link.now)) }
 {
     let name = match link.name {
@@ -132,22 +132,49 @@ fn entry_line(alloc: Global, words: &[u8], link: &PbLink<'_>) -> Result<Vec<u8>,
     line_of(alloc, words, &cid_text(&link.hash), &name)
 }
 
-/// The words of the block under the CID, and whether it has a kind.
-fn words_under(
-    alloc: Global,
-    cid: &Cid,
-    blocks: &BTreeMap<Cid, Vec<u8>>,
-) -> Result<Said, AllocError>
-    ensures { IfOk result (λ p. AreWordsOf (stored_in blocks.now) cid.now p.1 p.0.items) }
+/// The words of the block under the CID, of which these bytes are stored, and whether it has a kind.
+pub fn words_stored(alloc: Global, cid: &Cid, stored: Option<&[u8]>) -> Result<Said, AllocError>
+    ensures { (all : Stored) → all cid.now ≡ option_map (λ b. b.now) stored.entry
+        → IfOk result (λ p. AreWordsOf all cid.now p.1 p.0.items) }
 {
-    match entity_stored(cid, stored_bytes(blocks, cid)) {
+    match entity_stored(cid, stored) {
         Ok((_block, entity)) => Ok((entity_words(alloc, &entity)?, true)),
         Err(stop) => Ok((stop_words(&stop).to_vec(alloc)?, false)),
     }
 }
 
-/// The words of the block under the CID, and whether it has a kind. They are known from then on, so that
-/// each block is verified once.
+/// A copy of the words that are known of the block under the CID, if any are.
+pub fn known_words(
+    alloc: Global,
+    cid: &Cid,
+    known: &BTreeMap<Cid, Said>,
+) -> Result<Option<Said>, AllocError>
+    ensures { IfOk result (IsKnown known.now cid.now) }
+{
+    match known.get(cid) {
+        Some((words, has_kind)) => Ok(Some((words.as_slice().to_vec(alloc)?, *has_kind))),
+        None => Ok(None),
+    }
+}
+
+/// Keeps a copy of the words of the block under the CID, so that each block is verified once.
+pub fn keep_words(
+    alloc: Global,
+    cid: &Cid,
+    words: &[u8],
+    has_kind: bool,
+    known: &mut BTreeMap<Cid, Said>,
+) -> Result<(), AllocError>
+    ensures { IfOk result (λ _. KeepsWords cid.now has_kind words.now known.old known.new) }
+{
+    let copy = words.to_vec(alloc)?;
+    match known.insert(*cid, (copy, has_kind)) {
+        Ok(_none) => Ok(()),
+        Err(_) => Err(AllocError),
+    }
+}
+
+/// The words of the block under the CID, and whether it has a kind, which are known from then on.
 fn words_known(
     alloc: Global,
     cid: &Cid,
@@ -158,15 +185,12 @@ fn words_known(
         (λ p. KnowsWords (stored_in blocks.now) known.new
         × AreWordsOf (stored_in blocks.now) cid.now p.1 p.0.items) }
 {
-    if let Some((words, has_kind)) = known.get(cid) {
-        return Ok((words.as_slice().to_vec(alloc)?, *has_kind));
+    if let Some(said) = known_words(alloc, cid, known)? {
+        return Ok(said);
     }
-    let (words, has_kind) = words_under(alloc, cid, blocks)?;
-    let copy = words.as_slice().to_vec(alloc)?;
-    match known.insert(*cid, (copy, has_kind)) {
-        Ok(_none) => Ok((words, has_kind)),
-        Err(_) => Err(AllocError),
-    }
+    let (words, has_kind) = words_stored(alloc, cid, stored_bytes(blocks, cid))?;
+    keep_words(alloc, cid, &words, has_kind, known)?;
+    Ok((words, has_kind))
 }
 
 /// The line of an entry, and whether it has a kind.

@@ -1,19 +1,25 @@
-use Rattle.std.proofs.Common.{inr, refl, sym}
+use Rattle.std.proofs.Common.{sym}
 use Rattle.ipld_links.specs.Reaching.{stored_in}
-use Rattle.file_lines.specs.Entries.{IsListingOf, IsListingUnder}
-use Rattle.file_lines.proofs.Listing.{if_ok_map, listed_under}
+use Rattle.file_lines.specs.Entries.{IsListed}
+use Rattle.file_lines.proofs.Listing.{directory_node, node_row, entries_listed}
 use Rattle.file_lines.proofs.entries.listing_under.Goals as goal
 
-pub listing_of-requires : goal.listing_of-requires
-listing_of-requires c = (c.in-Ok.ensures (stored_in c.args.blocks.now) (sym c.stored_bytes.ensures)).2
-
-pub returns-in-Ok : goal.returns-in-Ok
-returns-in-Ok c =
+pub entries_said-requires : goal.entries_said-requires
+entries_said-requires c =
     let stored = stored_in c.args.blocks.now in
-    let cid = c.args.cid.now in
-    let is = c.in-Ok.ensures stored (sym c.stored_bytes.ensures) in
-    if_ok_map (λ p. IsListingOf stored cid c.in-Ok.block.now c.in-Ok.entity p.0.1 p.0.0.items p.1.items) (λ p. IsListingUnder stored cid p.0.1 p.0.0.items p.1.items) c.listing_of.result (λ p h. listed_under stored cid c.in-Ok.block.now c.in-Ok.entity p.0.1 p.0.0.items p.1.items is h) c.listing_of.ensures
+    let listed : IsListed stored c.args.cid.now c.in-Ok-Entries.field-0 = c.in-Ok-Entries.ensures stored (sym c.stored_bytes.ensures) in
+    node_row c.in-Ok-Entries.block.now (directory_node stored c.args.cid.now c.in-Ok-Entries.block.now (rw c.in-Ok-Entries.field-0-is at listed))
 
-pub returns-in_ok-line-in-Err : goal.returns-in_ok-line-in-Err
-returns-in_ok-line-in-Err c =
-    inr (c.in-Err.stop, c.in-Err.ensures (stored_in c.args.blocks.now) (sym c.stored_bytes.ensures), refl, c.new.ensures.items, c.in_ok-line-in-Err.ensures)
+pub returns-in-Ok-Whole : goal.returns-in-Ok-Whole
+returns-in-Ok-Whole c =
+    let stored = stored_in c.args.blocks.now in
+    let listed : IsListed stored c.args.cid.now c.in-Ok-Whole.field-0 = c.in-Ok-Whole.ensures stored (sym c.stored_bytes.ensures) in
+    rw c.in-Ok-Whole.field-0-is at listed
+
+pub returns-in_ok-said-in-Ok-Entries : goal.returns-in_ok-said-in-Ok-Entries
+returns-in_ok-said-in-Ok-Entries c =
+    let stored = stored_in c.args.blocks.now in
+    let listed : IsListed stored c.args.cid.now c.in-Ok-Entries.field-0 = c.in-Ok-Entries.ensures stored (sym c.stored_bytes.ensures) in
+    let is = rw c.in-Ok-Entries.field-0-is at listed in
+    let node = directory_node stored c.args.cid.now c.in-Ok-Entries.block.now is in
+    entries_listed stored c.args.cid.now c.in-Ok-Entries.block.now node.0 c.in_ok-said-in-Ok-Entries.said.1 c.in_ok-said-in-Ok-Entries.said.0.items c.new.result.items is node.1 (c.in_ok-said-in-Ok-Entries.ensures node.0 node.1) c.new.ensures.items

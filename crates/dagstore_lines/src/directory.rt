@@ -1,0 +1,175 @@
+//! `ls`: what stands under a path of names, out of a store.
+
+ghost use Rattle.std.specs.Prelude.{◌≡◌, List, ℕ, IfOk, OnOk, IfErr};
+ghost use Rattle.dagcbor_paths.specs.Paths.{segments};
+ghost use Rattle.dag_pb.specs.Node.{NodeParts, IsNode};
+ghost use Rattle.dag_pb.specs.Reads.{link_of};
+ghost use Rattle.unix_fs.specs.Reading.{HasRow};
+ghost use Rattle.block_lines.specs.Lines.{IsSaidOfEach};
+ghost use Rattle.file_lines.specs.Entries.{AreWordsOf, KnowsWords, IsEntry, IsListingUnder, IsListing};
+ghost use Rattle.dagcbor_store.specs.Ends.{Quiet};
+ghost use Rattle.dagcbor_store.specs.Stored.{StaysSame};
+ghost use Rattle.dagstore_lines.specs.Blocks.{GetFails};
+ghost use Rattle.dagstore_lines.specs.Contents.{OfGot, FailsAt};
+ghost use Rattle.dagstore_lines.specs.Directories.{IsLinked, IsOfEntries, IsOfListing};
+ghost use Rattle.dagstore_lines.specs.Said.{SaysAll};
+
+use crate::fault::Fault;
+use crate::file::{bytes_got, find_file};
+use block_lines::{Answer, Said, say_both};
+use dag_pb::{PbLink, next_link};
+use dagcbor_store::{BlockStore, Store};
+use file_lines::{
+    Listed, entry_line, keep_words, known_words, listed_stored, names_line, words_stored,
+};
+use ipld_tree::Cid;
+use std::alloc::Global;
+use std::collections::BTreeMap;
+use std::io::Write;
+
+/// The words of the block under the CID, and whether it has a kind. They are known from then on, so that
+/// each block is got once.
+fn words_got<S: Store>(
+    alloc: Global,
+    store: &mut BlockStore<S>,
+    cid: &Cid,
+    known: &mut BTreeMap<Cid, Said>,
+) -> Result<Said, Fault>
+    ensures says { IfOk result (λ p. OfGot (S.Store.view store.old) (S.Store.view store.new)
+        (λ stored. KnowsWords stored known.old → KnowsWords stored known.new
+        × AreWordsOf stored cid.now p.1 p.0.items)) }
+    ensures same { OnOk result (StaysSame S.Store store.old store.new) }
+    ensures fault { IfErr result (GetFails S.Store cid.now store.old store.new) }
+    ensures quiet { Quiet S.Store store.old store.new }
+{
+    if let Some(said) = known_words(alloc, cid, known)? {
+        return Ok(said);
+    }
+    let got = store.get_block(cid)?;
+    let (words, has_kind) = words_stored(alloc, cid, bytes_got(&got))?;
+    keep_words(alloc, cid, &words, has_kind, known)?;
+    Ok((words, has_kind))
+}
+
+/// The line of an entry, and whether it has a kind.
+fn entry_got<S: Store>(
+    alloc: Global,
+    store: &mut BlockStore<S>,
+    link: &PbLink<'_>,
+    known: &mut BTreeMap<Cid, Said>,
+) -> Result<Said, Fault>
+    ensures says { IfOk result (λ p. OfGot (S.Store.view store.old) (S.Store.view store.new)
+        (λ stored. KnowsWords stored known.old → KnowsWords stored known.new
+        × IsEntry stored (link_of link.now) p.1 p.0.items)) }
+    ensures same { OnOk result (StaysSame S.Store store.old store.new) }
+    ensures fault { IfErr result (GetFails S.Store (link_of link.now).hash store.old store.new) }
+    ensures quiet { Quiet S.Store store.old store.new }
+{
+    let (words, has_kind) = words_got(alloc, store, &link.hash, known)?;
+    let line = entry_line(alloc, &words, link)?;
+    Ok((line, has_kind))
+}
+
+/// The lines of the links in the block, and whether each has a kind. One block beside it is in memory
+/// at a time.
+fn entries_got<S: Store>(
+    alloc: Global,
+    store: &mut BlockStore<S>,
+    block: &[u8],
+) -> Result<Said, Fault>
+    requires { HasRow block.now }
+    ensures says { (node : NodeParts) → IsNode block.now node → IfOk result
+        (λ p. OfGot (S.Store.view store.old) (S.Store.view store.new)
+        (λ stored. IsSaidOfEach (IsEntry stored) node.links p.1 p.0.items)) }
+    ensures same { OnOk result (StaysSame S.Store store.old store.new) }
+    ensures fault { (node : NodeParts) → IsNode block.now node
+        → IfErr result (FailsAt S.Store (IsLinked node.links) store.old store.new) }
+    ensures quiet { Quiet S.Store store.old store.new }
+{
+    let mut known = BTreeMap::new(alloc);
+    let mut lines = Vec::new(alloc);
+    let mut well = true;
+    let mut links = block;
+    while let Some((link, more)) = next_link(links) {
+        let (line, has_kind) = entry_got(alloc, store, &link, &mut known)?;
+        lines.extend_from_slice(&line)?;
+        well = well && has_kind;
+        links = more;
+    }
+    Ok((lines, well))
+}
+
+/// What is said of the block under the CID, and what is told of it. A directory's block is held while
+/// those of its entries are got, so that two blocks are in memory at a time.
+fn listing_under<S: Store>(
+    alloc: Global,
+    store: &mut BlockStore<S>,
+    cid: &Cid,
+) -> Result<Answer, Fault>
+    ensures says { IfOk result (λ p. OfGot (S.Store.view store.old) (S.Store.view store.new)
+        (λ stored. IsListingUnder stored cid.now p.0.1 p.0.0.items p.1.items)) }
+    ensures same { OnOk result (StaysSame S.Store store.old store.new) }
+    ensures fault { IfErr result (FailsAt S.Store (IsOfEntries cid.now) store.old store.new) }
+    ensures quiet { Quiet S.Store store.old store.new }
+{
+    let got = store.get_block(cid)?;
+    match listed_stored(alloc, cid, bytes_got(&got)) {
+        Ok(Listed::Whole(answer)) => Ok(answer),
+        Ok(Listed::Entries(block)) => {
+            let said = entries_got(alloc, store, block)?;
+            Ok((said, Vec::new(alloc)))
+        }
+        Err(error) => Err(Fault::from(error)),
+    }
+}
+
+/// What is said of what stands under the path, and what is told of it.
+fn listing<S: Store>(
+    alloc: Global,
+    store: &mut BlockStore<S>,
+    root: &Cid,
+    path: &str,
+) -> Result<Answer, Fault>
+    ensures says { IfOk result (λ p. OfGot (S.Store.view store.old) (S.Store.view store.new)
+        (λ stored. IsListing stored root.now (segments path.now) p.0.1 p.0.0.items p.1.items)) }
+    ensures same { OnOk result (StaysSame S.Store store.old store.new) }
+    ensures fault { IfErr result (FailsAt S.Store (IsOfListing root.now (segments path.now)) store.old store.new) }
+    ensures quiet { Quiet S.Store store.old store.new }
+{
+    match find_file(store, root, path) {
+        Ok(Ok(found)) => listing_under(alloc, store, &found),
+        Ok(Err(end)) => {
+            let line = names_line(alloc, &end)?;
+            Ok(((Vec::new(alloc), false), line))
+        }
+        Err(fault) => Err(fault),
+    }
+}
+
+/// Lists what stands under the path of names from the root: of a directory each entry, with its kind,
+/// its size and its CID; of another block that. Or tells why there is nothing to list. Whether all that
+/// is listed has a kind. The lines are made in memory, and then written. Beside them a directory's block
+/// and that of one entry are in memory at a time, and the words of each block that its links lead to.
+pub fn write_listing<S: Store, W: Write, V: Write>(
+    alloc: Global,
+    store: &mut BlockStore<S>,
+    root: &Cid,
+    path: &str,
+    output: &mut W,
+    errors: &mut V,
+) -> Result<bool, Fault>
+    ensures says { OfGot (S.Store.view store.old) (S.Store.view store.new)
+        (λ stored. SaysAll (IsListing stored root.now (segments path.now)) (W.contents output.old)
+        (V.contents errors.old) result (W.contents output.new) (V.contents errors.new)) }
+    ensures same { OnOk result (StaysSame S.Store store.old store.new) }
+    ensures fault { IfErr result (FailsAt S.Store (IsOfListing root.now (segments path.now)) store.old store.new) }
+    ensures quiet { Quiet S.Store store.old store.new }
+{
+    match listing(alloc, store, root, path) {
+        Ok((said, told)) => {
+            let well = say_both(said, &told, output, errors)?;
+            Ok(well)
+        }
+        Err(fault) => Err(fault),
+    }
+}

@@ -5,7 +5,7 @@ import math
 
 import cidtexts
 from grammar import varint
-from judge import MOST_DIGEST, is_cid
+from judge import MOST_DIGEST, Link, is_cid
 
 CAUSES = {
     "truncated": ("the block, or a link's message, ends within a number, or before as many bytes follow as it says", "protobuf, Length-Delimited Records: so many bytes follow"),
@@ -125,6 +125,14 @@ def question(block, links, data):
     if not all(is_text(name) for _, name, _ in links):
         return "names"
     return "varints" if any(cidtexts.has_long_varint(cid) for cid, _, _ in links) else None
+
+
+def model(links, data=None):
+    """The data model of a node (Logical Format), or none where a name is not UTF-8."""
+    if not all(is_text(name) for _, name, _ in links):
+        return None
+    parts = [{"Hash": Link(hash)} | ({} if name is None else {"Name": name.decode()}) | ({} if size is None else {"Tsize": size}) for hash, name, size in links]
+    return {"Links": parts} | ({} if data is None else {"Data": data})
 
 
 def in_words(hash, name, size):

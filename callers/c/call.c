@@ -1,5 +1,5 @@
 /* Calls each export for each row of its table: call TABLE SECTIONS TEXTS HEADERS SPANS PATHS
- * SEGMENTS. Prints the number of rows, or the row that is answered otherwise. */
+ * SEGMENTS NODES MODELS. Prints the number of rows, or the row that is answered otherwise. */
 #include "rows.h"
 #include <inttypes.h>
 #include <stdbool.h>
@@ -211,8 +211,47 @@ static int is_right_text(char *const field[4]) {
            puts_right(dagcbor_cid_text, cid, count - 1, DAGCBOR_INVALID_CID, written, 0);
 }
 
+/* The place of a node's fault, which is asked for beside what is put. */
+static size_t fault_place;
+
+static int32_t from_node(const uint8_t *node, size_t length, uint8_t *out, size_t room,
+                         size_t *needed) {
+    fault_place = 99;
+    return dagcbor_from_node(node, length, out, room, needed, &fault_place);
+}
+
+/* The links of a node, packed: asked with one byte too few it tells how many are needed, and puts none. */
+static int are_right_node_links(const uint8_t *node, size_t length, int code, size_t place,
+                                const char *text) {
+    static uint8_t links[MOST], out[MOST];
+    size_t packed = from_hex(text, links, 1), needed = 99, found = 99;
+    memset(out, 0xee, sizeof out);
+    if (dagcbor_node_links(node, length, out, packed ? packed - 1 : 0, &needed, &found) != code)
+        return 0;
+    if (needed != packed || out[0] != 0xee || found != (code < 0 ? place : 0)) return 0;
+    if (dagcbor_node_links(node, length, out, MOST, &needed, &found) != code) return 0;
+    return needed == packed && memcmp(out, links, packed) == 0 && out[packed] == 0xee;
+}
+
+static int is_right_node(char *const field[6]) {
+    static uint8_t node[MOST], block[MOST];
+    size_t length = from_hex(field[0], node, 0), count = from_hex(field[3], block, 0);
+    size_t place = strtoull(field[2], NULL, 10);
+    const uint8_t *bytes = dagcbor_from(node, length);
+    return puts_right(from_node, bytes, length, atoi(field[1]), block, count) &&
+           fault_place == place &&
+           are_right_node_links(bytes, length, atoi(field[4]), place, field[5]);
+}
+
+static int is_right_model(char *const field[3]) {
+    static uint8_t block[MOST], node[MOST];
+    size_t length = from_hex(field[0], block, 0), count = from_hex(field[2], node, 0);
+    const uint8_t *bytes = dagcbor_from(block, length);
+    return puts_right(dagcbor_to_node, bytes, length, atoi(field[1]), node, count);
+}
+
 int main(int count, char **words) {
-    bool is_whole = count == 8;
+    bool is_whole = count == 10;
     int blocks = is_whole ? rows_of(words[1], 8, is_right_block) : 0;
     int sections = is_whole ? rows_of(words[2], 3, is_right_section) : 0;
     int texts = is_whole ? rows_of(words[3], 4, is_right_text) : 0;
@@ -220,7 +259,11 @@ int main(int count, char **words) {
     int spans = is_whole ? rows_of(words[5], 3, is_right_span) : 0;
     int paths = is_whole ? rows_of(words[6], 6, is_right_path) : 0;
     int segments = is_whole ? rows_of(words[7], 5, are_right_segments) : 0;
-    printf("%d blocks, %d sections, %d texts, %d headers, %d spans, %d paths, %d of segments\n",
-           blocks, sections, texts, headers, spans, paths, segments);
-    return !blocks || !sections || !texts || !headers || !spans || !paths || !segments;
+    int nodes = is_whole ? rows_of(words[8], 6, is_right_node) : 0;
+    int models = is_whole ? rows_of(words[9], 3, is_right_model) : 0;
+    printf("%d blocks, %d sections, %d texts, %d headers, %d spans, %d paths, %d of segments, %d nodes, "
+           "%d models\n",
+           blocks, sections, texts, headers, spans, paths, segments, nodes, models);
+    return !blocks || !sections || !texts || !headers || !spans || !paths || !segments || !nodes ||
+           !models;
 }

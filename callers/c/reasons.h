@@ -36,6 +36,14 @@ static inline const char *reason_of_code(int32_t code) {
     case DAGCBOR_LEADING_ZERO: return "the text begins with a zero byte, as no CID does";
     case DAGCBOR_INVALID_VERSION: return "version 0 has no prefix, and version 1 has one";
     case DAGCBOR_INVALID_OFFSET: return "the offsets of version 2 are none";
+    case DAGCBOR_NODE_TRUNCATED: return "a field of the node is cut short";
+    case DAGCBOR_INVALID_VARINT: return "a number of the node is too large";
+    case DAGCBOR_UNEXPECTED_FIELD: return "a field of the node cannot be there";
+    case DAGCBOR_NO_HASH: return "a link of the node has no CID";
+    case DAGCBOR_NODE_INVALID_CID: return "a link of the node has other bytes than a CID";
+    case DAGCBOR_NAME_NOT_TEXT: return "the name of a link is not UTF-8";
+    case DAGCBOR_NOT_A_NODE: return "the data is not that of a DAG-PB node";
+    case DAGCBOR_UNSORTED_LINKS: return "the links are not sorted by their names";
     case DAGCBOR_JSON_NO_TEXT: return "the text is not UTF-8";
     case DAGCBOR_JSON_NO_JSON: return "the text is not JSON";
     case DAGCBOR_JSON_TRAILING_DATA: return "more stands behind the value";

@@ -132,6 +132,65 @@ func Links(block []byte) ([]CID, error) {
 	return links, nil
 }
 
+// NodeLinks are the links of a block of DAG-PB, in its order, whatever their names are.
+func NodeLinks(node []byte) ([]CID, error) {
+	var place C.size_t
+	at, length := from(node)
+	links, code := unpacked(func(out *C.uint8_t, room C.size_t, needed *C.size_t) C.int32_t {
+		return C.dagcbor_node_links(at, length, out, room, needed, &place)
+	})
+	if code < 0 {
+		return nil, refused(code, int64(place))
+	}
+	return links, nil
+}
+
+// FromNode is the data model of a block of DAG-PB, as a block of DAG-CBOR: a map of Links and, if
+// the node has some, Data; each link a map of Hash, and of Name and Tsize if it has them. Unmarshal
+// reads it into a struct. A node with a name that is not UTF-8 has none: "NameNotText".
+func FromNode(node []byte) ([]byte, error) {
+	var place C.size_t
+	at, length := from(node)
+	block, code := putInto(2*len(node)+64, func(out *C.uint8_t, room C.size_t, needed *C.size_t) C.int32_t {
+		return C.dagcbor_from_node(at, length, out, room, needed, &place)
+	})
+	switch {
+	case code == C.DAGCBOR_NAME_NOT_TEXT:
+		return nil, refused(code, -1)
+	case code < 0:
+		return nil, refused(code, int64(place))
+	}
+	return block, nil
+}
+
+// ToNode is the one canonical block of DAG-PB whose data model a block of DAG-CBOR has, as Marshal
+// writes it. Links that are not sorted by the bytes of their names are refused: "UnsortedLinks".
+func ToNode(block []byte) ([]byte, error) {
+	at, length := from(block)
+	node, code := putInto(len(block), func(out *C.uint8_t, room C.size_t, needed *C.size_t) C.int32_t {
+		return C.dagcbor_to_node(at, length, out, room, needed)
+	})
+	switch {
+	case code < C.DAGCBOR_NO_ROOM:
+		return nil, refused(code, -1)
+	case code < 0:
+		return nil, refusedIn(block, code)
+	}
+	return node, nil
+}
+
+// The bytes that a call puts into room, of which it is given so much at first.
+func putInto(length int, call func(out *C.uint8_t, room C.size_t, needed *C.size_t) C.int32_t) ([]byte, C.int32_t) {
+	var needed C.size_t
+	room := make([]byte, length+1)
+	code := call((*C.uint8_t)(&room[0]), C.size_t(len(room)), &needed)
+	if code == C.DAGCBOR_NO_ROOM {
+		room = make([]byte, needed)
+		code = call((*C.uint8_t)(&room[0]), needed, &needed)
+	}
+	return room[:needed], code
+}
+
 // The CIDs that a call packs into room: a byte of length before each.
 func unpacked(pack func(out *C.uint8_t, room C.size_t, needed *C.size_t) C.int32_t) (found []CID, code C.int32_t) {
 	var needed C.size_t

@@ -351,6 +351,55 @@ static napi_value links(napi_env env, napi_callback_info info) {
     return found;
 }
 
+/* nodeLinks(node): a Uint8Array of them, packed: a byte of length before each. */
+static napi_value node_links(napi_env env, napi_callback_info info) {
+    size_t length, needed, place;
+    uint8_t *packed;
+    const uint8_t *node = bytes_of(env, info, &length);
+    if (!node) return NULL;
+    int32_t code = dagcbor_node_links(node, length, dagcbor_into(NULL, 0), 0, &needed, &place);
+    if (code < 0) return number_of(env, code);
+    napi_value found = new_bytes(env, needed, &packed);
+    if (found)
+        dagcbor_node_links(node, length, dagcbor_into(packed, needed), needed, &needed, &place);
+    return found;
+}
+
+/* fromNode(node): its data model as a block of DAG-CBOR. */
+static napi_value from_node(napi_env env, napi_callback_info info) {
+    size_t length, needed, place;
+    uint8_t *out;
+    const uint8_t *node = bytes_of(env, info, &length);
+    if (!node) return NULL;
+    int32_t code = dagcbor_from_node(node, length, dagcbor_into(NULL, 0), 0, &needed, &place);
+    if (code < 0 && code != DAGCBOR_NO_ROOM) return number_of(env, code);
+    napi_value block = new_bytes(env, needed, &out);
+    if (block) dagcbor_from_node(node, length, dagcbor_into(out, needed), needed, &needed, &place);
+    return block;
+}
+
+/* placeInNode(bytes): that of the fault for which they are no block of DAG-PB. */
+static napi_value place_in_node(napi_env env, napi_callback_info info) {
+    size_t length, needed, place = 0;
+    const uint8_t *node = bytes_of(env, info, &length);
+    if (!node) return NULL;
+    dagcbor_from_node(node, length, dagcbor_into(NULL, 0), 0, &needed, &place);
+    return number_of(env, (int64_t)place);
+}
+
+/* toNode(block): the block of DAG-PB whose data model it has. */
+static napi_value to_node(napi_env env, napi_callback_info info) {
+    size_t length, needed;
+    uint8_t *out;
+    const uint8_t *block = bytes_of(env, info, &length);
+    if (!block) return NULL;
+    int32_t code = dagcbor_to_node(block, length, dagcbor_into(NULL, 0), 0, &needed);
+    if (code < 0 && code != DAGCBOR_NO_ROOM) return number_of(env, code);
+    napi_value node = new_bytes(env, needed, &out);
+    if (node) dagcbor_to_node(block, length, dagcbor_into(out, needed), needed, &needed);
+    return node;
+}
+
 /* name(bytes): that of them as a block, a text of its bytes. */
 static napi_value name(napi_env env, napi_callback_info info) {
     size_t length;
@@ -431,6 +480,7 @@ NAPI_MODULE_INIT() {
     } all[] = {{"read", read_tape}, {"texts", make_texts}, {"spell", spell},
                {"check", check}, {"place", place}, {"tape", tape},
                {"follow", follow}, {"part", part}, {"links", links}, {"name", name},
+               {"nodeLinks", node_links}, {"fromNode", from_node}, {"placeInNode", place_in_node}, {"toNode", to_node},
                {"verify", verify}, {"cidText", cid_text}, {"cidFromText", cid_from_text},
                {"carOpen", car_open}, {"carPut", car_put}, {"carGo", car_go},
                {"carFound", car_found}};

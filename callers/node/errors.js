@@ -34,6 +34,14 @@ const REASONS = {
   [-33]: ['LeadingZero', 'the text begins with a zero byte, as no CID does'],
   [-34]: ['InvalidVersion', 'version 0 has no prefix, and version 1 has one'],
   [-35]: ['InvalidOffset', 'the offsets of version 2 are none'],
+  [-53]: ['Truncated', 'a field of the node is cut short'],
+  [-54]: ['InvalidVarint', 'a number of the node is too large'],
+  [-55]: ['UnexpectedField', 'a field of the node cannot be there'],
+  [-56]: ['NoHash', 'a link of the node has no CID'],
+  [-57]: ['InvalidCid', 'a link of the node has other bytes than a CID'],
+  [-58]: ['NameNotText', 'the name of a link is not UTF-8'],
+  [-59]: ['NotANode', 'the data is not that of a DAG-PB node'],
+  [-60]: ['UnsortedLinks', 'the links are not sorted by their names'],
   [-37]: ['RequireUtf8', 'a path with a surrogate that has no other'],
 };
 

@@ -49,7 +49,13 @@ export type Refusal =
   | 'Truncated'
   | 'NoBlock'
   | 'OtherHeader'
-  | 'InvalidOffset';
+  | 'InvalidOffset'
+  | 'InvalidVarint'
+  | 'UnexpectedField'
+  | 'NoHash'
+  | 'NameNotText'
+  | 'NotANode'
+  | 'UnsortedLinks';
 
 /** Bytes that are no block, a value that has none, or what is no CID. */
 export class DagCborError extends Error {

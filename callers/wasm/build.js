@@ -29,5 +29,5 @@ for (const path of [...shared.map((it) => join(node, it)), ...own.map((it) => jo
   writeFileSync(join(folder, basename(path)), asModule(readFileSync(path, 'utf8'), path));
 }
 for (const it of readdirSync(esm)) copyFileSync(join(esm, it), join(folder, it));
-for (const it of ['index.d.ts', 'codec.d.ts']) copyFileSync(join(node, it), join(folder, it));
+for (const it of ['index.d.ts', 'codec.d.ts', 'dag-pb.d.ts']) copyFileSync(join(node, it), join(folder, it));
 copyFileSync(module_, join(folder, 'dagcbor.wasm'));

@@ -1,5 +1,5 @@
 // node --experimental-wasm-memory64 call.js dagcbor_ffi.wasm TABLE TEXTS HEADERS SECTIONS SPANS PATHS
-// SEGMENTS (later versions want no flag). Holds the module against each row of the tables.
+// SEGMENTS NODES MODELS (later versions want no flag). Holds the module against each row of the tables.
 'use strict';
 const { readFileSync } = require('fs');
 
@@ -86,6 +86,18 @@ const areRightSegments = ({ check, part }, [block, segments, code, begin, end]) 
   return `${found.kind} ${place} ${place + item.length}` === `${code} ${begin} ${end}`;
 };
 
+const bytesOf = (text) => Buffer.from(text === '-' ? '' : text, 'hex');
+const put = (answer) => (typeof answer === 'number' ? `${answer} -` : `0 ${hex(answer) || '-'}`);
+
+const isRightNode = ({ fromNode, placeInNode, nodeLinks }, [text, code, place, wanted, ...linked]) => {
+  const node = bytesOf(text);
+  if (put(fromNode(node)) !== `${code} ${wanted}` || String(placeInNode(node)) !== place) return false;
+  return told(nodeLinks(node)) === (Number(linked[0]) < 0 ? linked[0] : linked[1]);
+};
+
+const isRightModel = ({ toNode }, [text, code, wanted]) =>
+  put(toNode(bytesOf(text))) === `${code} ${wanted}`;
+
 const rowsOf = (table) => {
   const lines = readFileSync(table, 'utf8').split('\n');
   return lines.filter((it) => it && !it.startsWith('#')).map((it) => it.split(' '));
@@ -96,6 +108,7 @@ const main = async () => {
   const tables = process.argv.slice(3).map(rowsOf);
   const holds = [
     isRight, isRightText, isRightHeader, isRightSection, isRightSpan, isRightPath, areRightSegments,
+    isRightNode, isRightModel,
   ];
   const wrong = tables.flatMap((rows, i) => rows.filter((it) => !holds[i](module, it)))[0];
   const counts = tables.map((rows) => rows.length);

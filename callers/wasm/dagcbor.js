@@ -1,6 +1,6 @@
 // The WebAssembly module for JavaScript, in Node and in a browser:
-// const { check, tape, compactTape, tokens, follow, part, spell, links, name, verify, cidText,
-// cidFromText, carSpan, carHeader, carSection, carSections } = await load(module), which is the
+// const { check, tape, compactTape, tokens, follow, part, spell, links, nodeLinks, fromNode,
+// placeInNode, toNode, name, verify, cidText, cidFromText, carSpan, carHeader, carSection, carSections } = await load(module), which is the
 // module's bytes, or a WebAssembly.Module; of that callsOf(module) has them at once.
 // It imports nothing, and has a 64-bit memory: addresses and lengths are BigInts.
 const PAGE = 65536;
@@ -169,6 +169,43 @@ const spelling = (calls, room) => ({
   },
 });
 
+// Blocks of DAG-PB, by their data model.
+const converting = (calls, room) => {
+  // The number of a refusal, or what the call puts, for which it is asked how much room that needs.
+  const answer = (bytes, call) => {
+    const out = bytes.length;
+    const given = room.put(bytes, 1);
+    const ask = (length) => call(...given, room.address(out), BigInt(length), room.front);
+    const asked = ask(0);
+    if (asked !== NO_ROOM) return asked < 0 ? asked : room.copy(out, 0);
+    const needed = room.number();
+    room.reserve(out + needed);
+    ask(needed);
+    return room.copy(out, needed);
+  };
+  const fromNode = (node) =>
+    answer(node, (...given) => calls.dagcbor_from_node(...given, room.front + 8n));
+  return {
+    // The number of a refusal, or the links of a block of DAG-PB: packed they are shorter than it.
+    nodeLinks: (node) => {
+      const out = node.length;
+      const given = room.put(node, out + 1);
+      const code = calls.dagcbor_node_links(
+        ...given, room.address(out), BigInt(out), room.front, room.front + 8n);
+      return code < 0 ? code : unpacked(room.copy(out, room.number()));
+    },
+    // The number of a refusal, or the data model of a block of DAG-PB, as a block of DAG-CBOR.
+    fromNode,
+    // Where the fault stands for which bytes are no block of DAG-PB.
+    placeInNode: (bytes) => {
+      fromNode(bytes);
+      return room.number(1);
+    },
+    // The number of a refusal, or the block of DAG-PB whose data model a block of DAG-CBOR has.
+    toNode: (block) => answer(block, (...given) => calls.dagcbor_to_node(...given)),
+  };
+};
+
 const naming = (calls, room) => {
   // The number of a refusal, or what the call puts into so much room.
   const answer = (call, bytes, most) => {
@@ -255,7 +292,7 @@ const walking = (calls, room) => {
 const instanceOf = (module) => {
   const { exports: calls } = new WebAssembly.Instance(module);
   const room = new Room(calls);
-  return Object.assign({}, ...[judging, spelling, naming, walking].map((it) => it(calls, room)));
+  return Object.assign({}, ...[judging, spelling, converting, naming, walking].map((it) => it(calls, room)));
 };
 
 // A call that is broken off, as where the stack is at its end, leaves its own stack behind: so the

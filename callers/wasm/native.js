@@ -70,6 +70,11 @@ const nativeOf = (calls) => ({
   place: of((bytes) => calls.tokens(bytes, 0).place),
   links: of((block) => told(calls.links(block), (found) =>
     joined(found.flatMap((it) => [[it.length], it])))),
+  nodeLinks: of((node) => told(calls.nodeLinks(node), (found) =>
+    joined(found.flatMap((it) => [[it.length], it])))),
+  fromNode: of(calls.fromNode),
+  placeInNode: of(calls.placeInNode),
+  toNode: of(calls.toNode),
   follow: of((block, path) => told(calls.follow(block, path), ({ kind, begin, end, passed }) =>
     [kind, begin, end, passed])),
   part: of((block, segment) => told(calls.part(block, segment), ({ kind, begin, end }) =>

@@ -780,6 +780,78 @@ static PyObject *name(PyObject *module, PyObject *given) {
     return of_bytes(module, given, name_of);
 }
 
+/* Blocks of DAG-PB, by their data model */
+
+typedef int32_t Convert(const uint8_t *given, size_t length, uint8_t *out, size_t room,
+                        size_t *needed, size_t *place);
+
+static int32_t to_node_at(const uint8_t *block, size_t length, uint8_t *out, size_t room,
+                          size_t *needed, size_t *place) {
+    *place = 0;
+    return dagcbor_to_node(block, length, out, room, needed);
+}
+
+/* The bytes that the call puts; NULL with no exception, and its number, if it refuses. */
+static PyObject *converted(PyObject *given, Convert *convert, int32_t *code, size_t *place) {
+    size_t needed = 0;
+    PyObject *out = NULL;
+    do { /* what is needed is told, so twice at most */
+        Py_XDECREF(out);
+        out = PyBytes_FromStringAndSize(NULL, (Py_ssize_t)needed);
+        if (!out) return NULL;
+        PyThreadState *held = length_of(given) > SHORT_CALL ? PyEval_SaveThread() : NULL;
+        *code = convert(bytes_of(given), length_of(given),
+                        dagcbor_into((uint8_t *)PyBytes_AsString(out), needed), needed, &needed,
+                        place);
+        if (held) PyEval_RestoreThread(held);
+    } while (*code == DAGCBOR_NO_ROOM);
+    if (*code == 0) return out;
+    Py_DECREF(out);
+    return NULL;
+}
+
+/* A node's links take no more bytes, packed, than the node has. */
+static PyObject *node_links_of(State *state, PyObject *node) {
+    size_t length = length_of(node), needed, place;
+    uint8_t *out = PyMem_Malloc(length + 1);
+    if (!out) return no_memory();
+    PyThreadState *held = length > SHORT_CALL ? PyEval_SaveThread() : NULL;
+    int32_t code = dagcbor_node_links(bytes_of(node), length, out, length, &needed, &place);
+    if (held) PyEval_RestoreThread(held);
+    PyObject *found = code < 0 ? refuse_at(state, code, place) : unpack(state, out, needed);
+    PyMem_Free(out);
+    return found;
+}
+
+static PyObject *node_links(PyObject *module, PyObject *given) {
+    return of_bytes(module, given, node_links_of);
+}
+
+static PyObject *from_node_bytes(State *state, PyObject *node) {
+    int32_t code = 0;
+    size_t place = 0;
+    PyObject *block = converted(node, dagcbor_from_node, &code, &place);
+    if (block || PyErr_Occurred()) return block;
+    return code == DAGCBOR_NAME_NOT_TEXT ? refuse(state, code) : refuse_at(state, code, place);
+}
+
+static PyObject *from_node(PyObject *module, PyObject *given) {
+    return of_bytes(module, given, from_node_bytes);
+}
+
+static PyObject *to_node_bytes(State *state, PyObject *block) {
+    int32_t code = 0;
+    size_t place = 0;
+    PyObject *node = converted(block, to_node_at, &code, &place);
+    if (node || PyErr_Occurred()) return node;
+    bool is_no_block = code > DAGCBOR_NO_ROOM;
+    return is_no_block ? refuse_block(state, code, block) : refuse(state, code);
+}
+
+static PyObject *to_node(PyObject *module, PyObject *given) {
+    return of_bytes(module, given, to_node_bytes);
+}
+
 /* The module */
 
 static PyMethodDef methods[] = {
@@ -800,6 +872,9 @@ static PyMethodDef methods[] = {
      "at."},
     {"name", name, METH_O,
      "name(block): the CID of any bytes as a block: version 1, DAG-CBOR, SHA-256."},
+    {"node_links", node_links, METH_O, "The links of a block of DAG-PB, in their order."},
+    {"from_node", from_node, METH_O, "The data model of a block of DAG-PB, as a block of DAG-CBOR."},
+    {"to_node", to_node, METH_O, "The block of DAG-PB whose data model a block of DAG-CBOR has."},
     {"read_car", (PyCFunction)(void (*)(void))read_car, METH_VARARGS | METH_KEYWORDS,
      "read_car(source, *, sha256=None): the roots of a file of blocks (CAR), and its sections one "
      "at a time. sha256, as that of hashlib, computes digests in the place of the library."},

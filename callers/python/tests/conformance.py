@@ -9,9 +9,10 @@ sys.path.append(os.path.join(HERE, "../../../conformance"))
 import cars
 import cidtexts
 import dagjson
+import dagpb
 import forms
 from grammar import SOUND
 from judge import VARIANTS
 from vectors import block_of, load, subjects
 
-__all__ = ["SOUND", "VARIANTS", "block_of", "cars", "cidtexts", "dagjson", "forms", "load", "subjects"]
+__all__ = ["SOUND", "VARIANTS", "block_of", "cars", "cidtexts", "dagjson", "dagpb", "forms", "load", "subjects"]

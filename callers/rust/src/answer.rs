@@ -148,6 +148,45 @@ causes! {
     }
 }
 
+causes! {
+    /// Why bytes are no block of DAG-PB, or have no data model, or why data is not written as one.
+    enum NodeRefusal {
+        -53 Truncated "a field of the node is cut short",
+        -54 InvalidVarint "a number of the node is too large",
+        -55 UnexpectedField "a field of the node cannot be there",
+        -56 NoHash "a link of the node has no CID",
+        -57 InvalidCid "a link of the node has other bytes than a CID",
+        -58 NameNotText "the name of a link is not UTF-8",
+        -59 NotANode "the data is not that of a DAG-PB node",
+        -60 UnsortedLinks "the links are not sorted by their names",
+        NoBlock(Refusal) "the data is no block, or there is no room"
+    }
+    /// Why bytes are no block of DAG-PB, and where.
+    struct NodeRefused {
+        /// The offset of the fault; 0 of a name that is not UTF-8.
+        place: usize
+    }
+}
+
+impl fmt::Display for NodeRefusal {
+    fn fmt(&self, f: &mut fmt::Formatter<'_>) -> fmt::Result {
+        match self {
+            NodeRefusal::NoBlock(refusal) => refusal.fmt(f),
+            _ => f.write_str(self.words()),
+        }
+    }
+}
+
+/// What a number of the library says of a node, where what is put needs so much room.
+pub(crate) fn node_answer(code: i32, needed: usize) -> Result<(), NodeRefusal> {
+    if code == 0 {
+        return Ok(());
+    }
+    Err(NodeRefusal::of_code(code).unwrap_or_else(|| {
+        NodeRefusal::NoBlock(answer_of(code, needed).expect_err("a refusal is below 0"))
+    }))
+}
+
 impl fmt::Display for Refusal {
     fn fmt(&self, f: &mut fmt::Formatter<'_>) -> fmt::Result {
         f.write_str(self.words())

@@ -55,6 +55,9 @@ calls! {
     dagcbor_links(block: u8; out: u8; needed: usize) -> i32;
     dagcbor_part(block: u8, segment: u8;; place: usize, end: usize) -> i32;
     dagcbor_follow(block: u8, path: u8;; places: [usize; 3]) -> i32;
+    dagcbor_node_links(node: u8; out: u8; needed: usize, place: usize) -> i32;
+    dagcbor_from_node(node: u8; out: u8; needed: usize, place: usize) -> i32;
+    dagcbor_to_node(block: u8; out: u8; needed: usize) -> i32;
     dagcbor_name(block: u8;; out: [u8; 36]);
     dagcbor_verify(cid: u8, block: u8;;) -> i32;
     dagcbor_car_span(bytes: u8;; places: [u64; 2]) -> i32;

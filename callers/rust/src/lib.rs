@@ -35,6 +35,7 @@ mod calls;
 mod car;
 mod cid;
 mod item;
+mod node;
 mod paths;
 #[cfg(feature = "std")]
 mod streams;
@@ -48,7 +49,7 @@ mod ipld;
 #[cfg(feature = "serde")]
 mod ser;
 
-pub use answer::{CarRefusal, CarRefused, Kind, Refusal, Refused};
+pub use answer::{CarRefusal, CarRefused, Kind, NodeRefusal, NodeRefused, Refusal, Refused};
 pub use calls::{check, links_into, name, spell_into, tape_into, MOST_OF_CID};
 #[cfg(feature = "alloc")]
 pub use calls::{links, spell, take_tape, tape, Links, Tape};
@@ -63,6 +64,9 @@ pub use error::Error;
 #[cfg(feature = "serde")]
 pub use ipld::Ipld;
 pub use item::{Cids, Item, Items, Token};
+#[cfg(feature = "alloc")]
+pub use node::{from_node, node_links, to_node};
+pub use node::{from_node_into, node_links_into, to_node_into};
 pub use paths::{find, find_segments};
 #[cfg(feature = "alloc")]
 pub use paths::{resolve, resolve_segments, Unresolved};

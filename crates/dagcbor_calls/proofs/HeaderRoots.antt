@@ -9,7 +9,8 @@ use Rattle.dagcbor_car.proofs.Cars.{links_of_header}
 use Rattle.dagcbor_car.proofs.Headers.{header_block}
 use Rattle.dagcbor_calls.specs.Answers.{packed_of, links_answer}
 use Rattle.dagcbor_calls.specs.Codes.{decoded_code}
-use Rattle.dagcbor_calls.specs.Packed.{packed_cids, packed_links, with_front}
+use Rattle.dagcbor_calls.specs.Packed.{packed_cids, packed_links}
+use Rattle.lent_memory.specs.Puts.{with_front}
 use Rattle.dagcbor_calls.specs.Headers.{IsHeaderAnswer}
 
 -- what is put of the block of a header

@@ -6,9 +6,9 @@ use Rattle.ipld_tree.specs.Cid.{IsCid}
 use Rattle.ipld_tree.specs.Tree.{Tree, null, boolean, integer, text, bytes, link}
 use Rattle.ipld_tree.specs.Spelling.{spelling, text_spelling, IsFront}
 use Rattle.dagcbor_items.specs.Places.{Follows}
-use Rattle.dagcbor_items.specs.Judging.{SplitsKeyAfter, SplitsItem, SplitsItems, SplitsEntries}
+use Rattle.dagcbor_calls.specs.TapeSplits.{SplitsKeyAfter, SplitsItem, SplitsItems, SplitsEntries}
 use Rattle.dagcbor_decode.specs.Blocks.{IsBlock}
-use Rattle.dagcbor_items.proofs.Judging.{ItemsPassed, none_passed, one_passed, all_passed, list_passed, EntriesPassed, no_entry_passed, one_entry_passed, all_entries_passed, map_passed}
+use Rattle.dagcbor_calls.proofs.TapePassing.{ItemsPassed, none_passed, one_passed, all_passed, list_passed, EntriesPassed, no_entry_passed, one_entry_passed, all_entries_passed, map_passed}
 use Rattle.dagcbor_calls.specs.Told.{payload_at, null_told, boolean_told, string_told, link_told, token_bytes, tape_told}
 use Rattle.dagcbor_calls.specs.TapeJudging.{IsLeafTold, TellsMore, TellsBlock}
 use Rattle.dagcbor_calls.specs.declared.tape.Token.{Token}

@@ -1,9 +1,11 @@
 pub mod Packing
 pub mod Putting
+pub mod PackedFields
 pub mod Tapes
 pub mod CompactTokens
 pub mod Telling
 pub mod Spelling
+pub mod TapePassing
 pub mod JudgedTapes
 pub mod Naming
 pub mod Standing

@@ -1,7 +1,5 @@
 -- Putting packed links into memory.
-use Rattle.std.proofs.Common.{◌≡◌, ℕ, ℤ, min, map, ◌-◌, ◌+◌, ◌^◌, ◌<◌, ◌≤◌, List, [], ◌∷◌, ◌++◌, length, take, drop, if◌then◌else◌, Bool, true, false, refl, sym, ap, ◌∙◌, subst, arith, append_assoc, append-nil, length-append, ltb, ltb-false, le-ltb, lt-ltb, length-take-le, length-drop}
-use Rattle.std.proofs.Math.Seq.{take-append_seam}
-use Rattle.std.proofs.lemmas.Slice.{drop-append-drop}
+use Rattle.std.proofs.Common.{◌≡◌, ℕ, ℤ, min, map, ◌-◌, ◌^◌, ◌<◌, ◌≤◌, List, [], ◌∷◌, ◌++◌, length, drop, refl, sym, ap, ◌∙◌, subst, arith, append_assoc, append-nil, length-append}
 use Rattle.dagcbor_heads.specs.declared.error.DecodeError.{DecodeError}
 use Rattle.ipld_tree.specs.Cid.{CidParts, cid_bytes}
 use Rattle.ipld_tree.specs.Tree.{Tree}
@@ -14,44 +12,12 @@ use Rattle.dagcbor_decode.specs.Verdicts.{IsRefusal}
 use Rattle.dagcbor_decode.proofs.Rows.{LinksSoFar, none_so_far, one_so_far, all_so_far, some_left}
 use Rattle.dagcbor_calls.specs.Answers.{packed_of, links_answer}
 use Rattle.dagcbor_calls.specs.Codes.{kind_code, why_code, decoded_code, refusal_code}
-use Rattle.dagcbor_calls.specs.Packed.{packed_cids, packed_links, with_front, put_at, PacksBytes, PacksCid, Packs}
+use Rattle.dagcbor_calls.specs.Packed.{packed_cids, packed_links, PacksBytes, PacksCid, Packs}
+use Rattle.lent_memory.specs.Puts.{with_front, put_at}
+use Rattle.lent_memory.proofs.Putting.{length_put_at, put_behind, overwritten_where_room, nothing_at_front}
 use Rattle.dagcbor_calls.specs.declared.links.PackedLinks.{PackedLinks}
 use Rattle.dagcbor_calls.proofs.Packing.{packed_push, row_fits}
 use Rattle.dagcbor_calls.proofs.Decoding.{why_told}
-
--- ---- bytes at a place
-
-pub put_fits : (at : ℕ) (bs old : List ℕ) → at + length bs ≤ length old → put_at at bs old ≡ take at old ++ (bs ++ drop (at + length bs) old)
-put_fits at bs old h = ap (λ (x : Bool). if x then old else take at old ++ (bs ++ drop (at + length bs) old)) (le-ltb (length old) (at + length bs) h)
-
-length_filled : (at : ℕ) (bs old : List ℕ) → at + length bs ≤ length old → length (take at old ++ (bs ++ drop (at + length bs) old)) ≡ length old
-length_filled at bs old h =
-    let rest = drop (at + length bs) old in
-    omega (arith, h, length-append (take at old) (bs ++ rest), length-append bs rest, length-take-le at old (omega (arith, h)), length-drop (at + length bs) old)
-
-pub length_put_at : (at : ℕ) (bs old : List ℕ) → length (put_at at bs old) ≡ length old
-length_put_at at bs old = by (ltb (length old) (at + length bs)) refl
-  where
-    by : (b : Bool) → b ≡ ltb (length old) (at + length bs) → length (if b then old else (take at old ++ (bs ++ drop (at + length bs) old))) ≡ length old
-    by true e = refl
-    by false e = length_filled at bs old (ltb-false (length old) (at + length bs) (sym e))
-
--- bytes behind those that stand at the front
-pub put_behind : (bs more before : List ℕ) → length bs + length more ≤ length before → put_at (length bs) more (bs ++ drop (length bs) before) ≡ (bs ++ more) ++ drop (length (bs ++ more)) before
-put_behind bs more before h =
-    let rest = drop (length bs) before in
-    let l = length-append bs more in
-    put_fits (length bs) more (bs ++ rest) (omega (arith, h, length-append bs rest, length-drop (length bs) before))
-    ∙ ap (λ x. x ++ (more ++ drop (length bs + length more) (bs ++ rest))) (take-append_seam bs rest)
-    ∙ ap (λ x. bs ++ (more ++ x)) (drop-append-drop (length bs) before bs (length bs + length more) (omega arith) refl)
-    ∙ sym (append_assoc bs more (drop (length bs + length more) before))
-    ∙ ap (λ n. (bs ++ more) ++ drop n before) (sym l)
-
-pub overwritten_where_room : (bs old : List ℕ) → length bs ≤ length old → with_front bs old ≡ bs ++ drop (length bs) old
-overwritten_where_room bs old h = ap (λ (x : Bool). if x then old else (bs ++ drop (length bs) old)) (le-ltb (length old) (length bs) h)
-
-pub stays_without_room : (bs old : List ℕ) → length old < length bs → with_front bs old ≡ old
-stays_without_room bs old h = ap (λ (x : Bool). if x then old else (bs ++ drop (length bs) old)) (lt-ltb (length old) (length bs) h)
 
 -- ---- packed links
 
@@ -78,7 +44,7 @@ put_more name before bs more p q h g =
           g.stands ∙ ap (λ n. put_at n more p.out.now) exact ∙ ap (λ old. put_at (length bs) more old) first ∙ put_behind bs more before (omega (arith, l, room));
     }
 
-cid_put : (name : ℕ) (before bs cid : List ℕ) (p q : PackedLinks) → HasPut name before bs p → PacksCid cid p q → HasPut name before (bs ++ (length cid ∷ cid)) q
+pub cid_put : (name : ℕ) (before bs cid : List ℕ) (p q : PackedLinks) → HasPut name before bs p → PacksCid cid p q → HasPut name before (bs ++ (length cid ∷ cid)) q
 cid_put name before bs cid p q h k =
     subst (λ x. HasPut name before x q) (append_assoc bs (length cid ∷ []) cid)
     (put_more name before (bs ++ length cid ∷ []) cid k.0 q (put_more name before bs (length cid ∷ []) p k.0 h k.1) k.2)
@@ -126,9 +92,6 @@ links_put b item old new needed code f k count put =
 -- the kind of a whole item is that of its tree
 pub whole_kind : {b item : List ℕ} {kind : Kind} (f : IsFirstItem b item) → IsKindOfFront item kind → kind_code kind ≡ kind_code (kind_of f.tree)
 whole_kind {b} {item} {kind} f h = ap kind_code (h f.tree [] record { well_formed = f.spelled.well_formed; spellable = f.spelled.spellable; is = f.spelled.is ∙ sym (append-nil (spelling f.tree)) })
-
-nothing_at_front : (old : List ℕ) → with_front [] old ≡ old
-nothing_at_front old = ap (λ (x : Bool). if x then old else ([] ++ drop 0 old)) (le-ltb (length old) 0 (omega arith))
 
 pub none_put : {E : Type 0} (b old : List ℕ) (e : DecodeError E) → IsRefusal (decode_first b) e → ◌≡◌ {A = ℤ × ℕ × List ℕ} (refusal_code e, 0, old) (links_answer b old)
 none_put {E} b old e h = by (decode_first b) h

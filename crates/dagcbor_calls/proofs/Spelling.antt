@@ -4,10 +4,10 @@ use Rattle.std.proofs.lemmas.Bool.{ne_eqb}
 use Rattle.dagcbor_heads.specs.Head.{head}
 use Rattle.ipld_tree.specs.Tree.{link}
 use Rattle.ipld_tree.specs.Spelling.{spelling}
-use Rattle.dagcbor_calls.specs.Packed.{put_at}
-use Rattle.dagcbor_calls.specs.Told.{payload_at, null_told, boolean_told, string_told, link_told, token_bytes, TellsLength, tape_told, HasRoomAt, PutsAt, PutsToldAt, CountsTold, FillsTold}
+use Rattle.lent_memory.specs.Puts.{put_at}
+use Rattle.dagcbor_calls.specs.Told.{payload_at, null_told, boolean_told, string_told, link_told, token_bytes, TellsLength, tape_told, HasRoomAt, PutsToldAt, CountsTold, FillsTold}
 use Rattle.dagcbor_calls.specs.declared.tape.Token.{Token}
-use Rattle.dagcbor_calls.proofs.Putting.{put_fits, length_put_at, put_behind}
+use Rattle.lent_memory.proofs.Putting.{put_behind}
 use Rattle.dagcbor_calls.proofs.Telling.{told_first}
 
 pub payload_long : (b s : List ℕ) (place n : ℕ) → payload_at b place n ≡ Some s → length s ≡ n
@@ -41,42 +41,6 @@ boolean_counted (suc ℕ.zero) None h = absurd (omega (arith, h))
 boolean_counted (suc ℕ.zero) (Some k) h = (0xf5 ∷ [], refl, h.1)
 boolean_counted (suc (suc n)) None h = ap₂ (λ (o u : Bool). if o then Some (0xf4 ∷ []) else if u then Some (0xf5 ∷ []) else None) (ne_eqb (suc (suc n)) 0 (λ e. omega (arith, e))) (ne_eqb (suc (suc n)) 1 (λ e. omega (arith, e)))
 boolean_counted (suc (suc n)) (Some k) h = absurd (omega (arith, h.0))
-
--- ---- bytes at a place
-
-placed : (at : ℕ) (bs old : List ℕ) → at + length bs ≤ length old → put_at at bs old ≡ (take at old ++ bs) ++ drop (length (take at old ++ bs)) old
-placed at bs old h =
-    let front = take at old in
-    let behind : at + length bs ≡ length (front ++ bs) = omega (arith, h, length-append front bs, length-take-le at old (omega (arith, h))) in
-    put_fits at bs old h ∙ sym (append_assoc front bs (drop (at + length bs) old)) ∙ ap (λ n. (front ++ bs) ++ drop n old) behind
-
--- bytes behind others
-pub put_both : (at middle end : ℕ) (s r old now new : List ℕ) → at + length (s ++ r) ≤ length old → PutsAt s at old now middle → PutsAt r middle now new end → PutsAt (s ++ r) at old new end
-put_both at middle end s r old now new h p q =
-    let front = take at old in
-    let long = length-append s r in
-    let first : at + length s ≤ length old = omega (arith, h, long) in
-    let place : middle ≡ length (front ++ s) = omega (arith, p.0, length-append front s, length-take-le at old (omega (arith, first))) in (
-      omega (arith, p.0, q.0, long),
-      q.1
-          ∙ ap (λ n. put_at n r now) place
-          ∙ ap (put_at (length (front ++ s)) r) (p.1 ∙ placed at s old first)
-          ∙ put_behind (front ++ s) r old (omega (arith, h, long, p.0, place))
-          ∙ ap (λ z. z ++ drop (length z) old) (append_assoc front s r)
-          ∙ sym (placed at (s ++ r) old h),
-    )
-
--- the tag of a link, its head, its zero and its CID
-pub link_put : (at tagged behind inside end n : ℕ) (cid old p q u new : List ℕ) → at + length (0xd8 ∷ 0x2a ∷ head 2 (suc n) ++ 0x00 ∷ cid) ≤ length old
-    → PutsAt (0xd8 ∷ 0x2a ∷ []) at old p tagged → PutsAt (head 2 (suc n)) tagged p q behind → PutsAt (0x00 ∷ []) behind q u inside → PutsAt cid inside u new end
-    → PutsAt (0xd8 ∷ 0x2a ∷ head 2 (suc n) ++ 0x00 ∷ cid) at old new end
-link_put at tagged behind inside end n cid old p q u new h tag front zero_byte payload =
-    let long = length-append (head 2 (suc n)) (0x00 ∷ cid) in
-    let first : length p ≡ length old = ap length tag.1 ∙ length_put_at at (0xd8 ∷ 0x2a ∷ []) old in
-    let second : length q ≡ length p = ap length front.1 ∙ length_put_at tagged (head 2 (suc n)) p in
-    put_both at tagged end (0xd8 ∷ 0x2a ∷ []) (head 2 (suc n) ++ 0x00 ∷ cid) old p new h tag
-    (put_both tagged behind end (head 2 (suc n)) (0x00 ∷ cid) p q new (omega (arith, h, long, first, tag.0)) front
-    (put_both behind inside end (0x00 ∷ []) cid q u new (omega (arith, h, long, first, second, tag.0, front.0)) zero_byte payload))
 
 -- ---- token by token
 

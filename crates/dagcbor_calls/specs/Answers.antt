@@ -3,7 +3,8 @@ use Rattle.std.specs.Prelude.{◌≡◌, ℕ, ◌-◌, ◌^◌, ◌≤◌, min, 
 use Rattle.ipld_tree.specs.Tree.{Tree}
 use Rattle.dagcbor_decode.specs.Decode.{Decoded, got, refused, decode, decode_first}
 use Rattle.dagcbor_calls.specs.Codes.{check_code, decoded_code}
-use Rattle.dagcbor_calls.specs.Packed.{packed_links, with_front}
+use Rattle.dagcbor_calls.specs.Packed.{packed_links}
+use Rattle.lent_memory.specs.Puts.{with_front}
 use Rattle.dagcbor_calls.specs.CidTexts.{room_code}
 use Rattle.dagcbor_calls.specs.Tapes.{tape_of, with_tokens, decoded_tape}
 use Rattle.dagcbor_calls.specs.Told.{tape_told}

@@ -4,7 +4,7 @@ use Rattle.ipld_tree.specs.Cid.{CidParts, AreCidParts, cid_bytes, IsCid}
 use Rattle.cid_text.specs.Texts.{cid_text, IsTextOf, IsTextFault}
 use Rattle.cid_text.specs.declared.error.CidTextError.{CidTextError}
 use Rattle.dagcbor_calls.specs.Codes.{text_fault_code}
-use Rattle.dagcbor_calls.specs.Packed.{with_front}
+use Rattle.lent_memory.specs.Puts.{with_front}
 
 -- the number of what is done, or -21 where there is no room for the bytes
 abbrev pub room_code : ℤ → List ℕ → List ℕ → ℤ

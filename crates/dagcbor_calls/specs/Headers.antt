@@ -6,7 +6,8 @@ use Rattle.dagcbor_car.specs.Splits.{SplitsHeader, BeginsNoHeader, HeaderFault}
 use Rattle.dagcbor_car.specs.declared.error.CarError.{CarError}
 use Rattle.dagcbor_car.specs.declared.error.CarError.TheVariants.{OutOfMemory}
 use Rattle.dagcbor_calls.specs.Codes.{header_code}
-use Rattle.dagcbor_calls.specs.Packed.{packed_cids, with_front}
+use Rattle.dagcbor_calls.specs.Packed.{packed_cids}
+use Rattle.lent_memory.specs.Puts.{with_front}
 
 -- 0 where the bytes begin with a header, and how many bytes its packed roots need, which stand at the
 -- front of the memory where there is room for them all, and else nothing changed there; and where

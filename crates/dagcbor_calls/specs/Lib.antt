@@ -5,6 +5,7 @@ pub mod Packed
 pub mod Tapes
 pub mod CompactTapes
 pub mod Told
+pub mod TapeSplits
 pub mod TapeJudging
 pub mod Standing
 pub mod Answers
@@ -13,3 +14,4 @@ pub mod Headers
 pub mod CidTexts
 pub mod Spans
 pub mod Finds
+pub mod Nodes

@@ -1,7 +1,11 @@
 -- Links, packed into memory.
-use Rattle.std.specs.Prelude.{◌≡◌, ℕ, ◌+◌, ◌-◌, ◌^◌, ◌≤◌, min, List, [], ◌∷◌, ◌++◌, length, take, drop, if◌then◌else◌, nat_lt}
+use Rattle.std.specs.Prelude.{◌≡◌, ℕ, ◌+◌, ◌-◌, ◌^◌, ◌≤◌, min, List, [], ◌∷◌, ◌++◌, length, map}
+use Rattle.ipld_tree.specs.Cid.{cid_bytes}
 use Rattle.ipld_tree.specs.Tree.{Tree, links_of}
+use Rattle.dag_pb.specs.Node.{Field, BeginsWithFields}
+use Rattle.dag_pb.specs.Reads.{links_in}
 use Rattle.dagcbor_decode.specs.Rows.{HoldsLinks}
+use Rattle.lent_memory.specs.Puts.{put_at, with_front}
 use Rattle.dagcbor_calls.specs.declared.links.PackedLinks.{PackedLinks}
 
 -- each CID behind a byte of its length, one behind the other
@@ -13,15 +17,9 @@ packed_cids (cid ∷ more) = (length cid ∷ cid) ++ packed_cids more
 abbrev pub packed_links : Tree → List ℕ
 packed_links t = packed_cids (links_of t)
 
--- memory with the bytes at its front, where there is room for them; else the memory stays
-abbrev pub with_front : List ℕ → List ℕ → List ℕ
-with_front bytes old = if nat_lt (length old) (length bytes) then old
-    else bytes ++ drop (length bytes) old
-
--- memory with the bytes at a place, where there is room for them; else the memory stays
-abbrev pub put_at : ℕ → List ℕ → List ℕ → List ℕ
-put_at at bytes old = if nat_lt (length old) (at + length bytes) then old
-    else take at old ++ (bytes ++ drop (at + length bytes) old)
+-- the links of fields of a node, packed in the same way
+abbrev pub packed_fields : List Field → List ℕ
+packed_fields row = packed_cids (map (λ link. cid_bytes link.hash) (links_in row))
 
 -- the bytes were put behind those before, and counted
 pub record PacksBytes (bytes : List ℕ) (old new : PackedLinks) : Type 0 where
@@ -32,6 +30,12 @@ pub record PacksBytes (bytes : List ℕ) (old new : PackedLinks) : Type 0 where
 -- a byte of the CID's length and the CID were put so
 abbrev pub PacksCid : List ℕ → PackedLinks → PackedLinks → Type 0
 PacksCid cid old new = (mid : PackedLinks) × PacksBytes (length cid ∷ []) old mid × PacksBytes cid mid new
+
+-- the links of fields of a node in a row are counted, and stand at the front of the memory where there is
+-- room for them all
+abbrev pub PacksFields : List ℕ → List ℕ → List ℕ → ℕ → Type 0
+PacksFields fields old new needed = (row : List Field) → BeginsWithFields fields row []
+    → (needed ≡ length (packed_fields row)) × (length (packed_fields row) ≤ length old → new ≡ with_front (packed_fields row) old)
 
 -- the links of items in a row are counted, and stand at the front of the memory where there is room for
 -- them all

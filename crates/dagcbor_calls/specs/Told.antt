@@ -3,7 +3,7 @@ use Rattle.std.specs.Prelude.{◌≡◌, ℕ, suc, ◌+◌, ◌-◌, ◌^◌, �
 use Rattle.dagcbor_heads.specs.Head.{head}
 use Rattle.ipld_tree.specs.Tree.{Tree}
 use Rattle.ipld_tree.specs.Spelling.{spelling}
-use Rattle.dagcbor_calls.specs.Packed.{put_at}
+use Rattle.lent_memory.specs.Puts.{PutsAt}
 use Rattle.dagcbor_calls.specs.Tapes.{tape_of}
 use Rattle.dagcbor_calls.specs.declared.tape.Token.{Token}
 
@@ -58,10 +58,6 @@ TellsLength told result = MatchOption result (told ≡ None)
 -- some bytes are told, for which the memory has room at the place
 abbrev pub HasRoomAt : Option (List ℕ) → ℕ → List ℕ → Type 0
 HasRoomAt told at old = (s : List ℕ) × (told ≡ Some s) × (at + length s ≤ length old)
-
--- the bytes were put at the place, and this is the place behind them
-abbrev pub PutsAt : List ℕ → ℕ → List ℕ → List ℕ → ℕ → Type 0
-PutsAt s at old new end = (end ≡ at + length s) × (new ≡ put_at at s old)
 
 -- what is told was put there
 abbrev pub PutsToldAt : Option (List ℕ) → ℕ → List ℕ → List ℕ → ℕ → Type 0

@@ -4,16 +4,17 @@
 ghost use Rattle.std.specs.Prelude.{◌≡◌, ◌+◌, ◌<◌, ◌≤◌, length, Some, IfSome, IsUtf8};
 ghost use Rattle.std.specs.Prelude.{option_map};
 ghost use Rattle.ipld_tree.specs.Cid.{IsCid};
-ghost use Rattle.dagcbor_items.specs.Judging.{SplitsItem, SplitsItems, SplitsEntries};
-ghost use Rattle.dagcbor_items.specs.Judging.{SplitsKeyAfter};
+ghost use Rattle.dagcbor_calls.specs.TapeSplits.{SplitsItem, SplitsItems, SplitsEntries};
+ghost use Rattle.dagcbor_calls.specs.TapeSplits.{SplitsKeyAfter};
 ghost use Rattle.dagcbor_calls.specs.Told.{payload_at, token_bytes};
 ghost use Rattle.dagcbor_calls.specs.TapeJudging.{IsLeafTold, TellsMore, TellsBlock};
 
 use crate::tape::Token;
-use crate::told::{head_length, headed_length, link_length, payload_at, simple_length};
+use crate::told::{payload_at, simple_length};
 use dagcbor_decode::{is_cid, is_text};
 use dagcbor_heads::DEFAULT_STEPS;
 use dagcbor_items::follows;
+use lent_memory::{head_length, link_length, string_length};
 
 /// The text that a token is told with, where its payload is one.
 #[inline(always)]
@@ -49,8 +50,8 @@ fn leaf_length(bytes: &[u8], token: &Token) -> Option<usize>
         0 => simple_length(token.number, 0),
         1 => simple_length(token.number, 1),
         2 => Some(head_length(token.number)),
-        3 => Some(headed_length(text_of(bytes, token)?)),
-        4 => Some(headed_length(payload_at(bytes, token.place, token.number)?)),
+        3 => Some(string_length(text_of(bytes, token)?)),
+        4 => Some(string_length(payload_at(bytes, token.place, token.number)?)),
         7 => Some(link_length(cid_of(bytes, token)?)),
         8 => Some(head_length(token.number)),
         _ => None,
@@ -148,7 +149,7 @@ fn key_at<'b>(
     if !follows(previous, key) {
         return None;
     }
-    *room = room.checked_sub(headed_length(key))?;
+    *room = room.checked_sub(string_length(key))?;
     Some(key)
 }
 

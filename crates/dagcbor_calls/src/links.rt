@@ -3,7 +3,10 @@
 ghost use Rattle.std.specs.Prelude.{◌≡◌, ◌∷◌, [], List, ℕ};
 ghost use Rattle.ipld_tree.specs.Cid.{cid_bytes};
 ghost use Rattle.dagcbor_decode.specs.Rows.{HoldsLinks};
-ghost use Rattle.dagcbor_calls.specs.Packed.{PacksBytes, PacksCid, Packs, put_at};
+ghost use Rattle.dag_pb.specs.Node.{Field, BeginsWithFields};
+ghost use Rattle.dagcbor_calls.specs.Packed.{PacksFields};
+ghost use Rattle.dagcbor_calls.specs.Packed.{PacksBytes, PacksCid, Packs};
+ghost use Rattle.lent_memory.specs.Puts.{put_at};
 ghost use Rattle.dagcbor_calls.specs.Answers.{links_answer};
 
 use crate::code::{kind_code, refusal_code};
@@ -67,6 +70,23 @@ fn pack(items: &[u8], out: &mut [u8]) -> usize
     while let Some(found) = next_link(rest) {
         packed.put_cid(found.0);
         rest = found.1;
+    }
+    // No effect at run time. The proof reads what `out` holds from this use.
+    let _ = packed.out.len();
+    packed.needed
+}
+
+/// Puts the links of fields of a node in a row at the front of `out`, packed, where there is room for
+/// them all; and how many bytes they need.
+pub(crate) fn pack_fields(fields: &[u8], out: &mut [u8]) -> usize
+    requires { (row : List Field) × BeginsWithFields fields.now row [] }
+    ensures { PacksFields fields.now out.old out.new result }
+{
+    let mut packed = PackedLinks::new(out);
+    let mut rest = fields;
+    while let Some((link, behind)) = dag_pb::next_link(rest) {
+        packed.put_cid(link.hash);
+        rest = behind;
     }
     // No effect at run time. The proof reads what `out` holds from this use.
     let _ = packed.out.len();

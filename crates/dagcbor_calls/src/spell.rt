@@ -1,9 +1,8 @@
 //! The bytes that a tape tells, and whether they are a block.
 
-ghost use Rattle.std.specs.Prelude.{◌≡◌, ◌+◌, ◌≤◌, length, Some, List, ℕ};
-ghost use Rattle.dagcbor_heads.specs.Head.{head};
+ghost use Rattle.std.specs.Prelude.{◌≡◌, ◌≤◌, Some, List, ℕ};
 ghost use Rattle.dagcbor_calls.specs.Told.{payload_at, string_told, link_told, token_bytes};
-ghost use Rattle.dagcbor_calls.specs.Told.{tape_told, PutsAt, PutsToldAt, HasRoomAt, HasRoomFor};
+ghost use Rattle.dagcbor_calls.specs.Told.{tape_told, PutsToldAt, HasRoomAt, HasRoomFor};
 ghost use Rattle.dagcbor_calls.specs.Told.{FillsTold};
 ghost use Rattle.dagcbor_calls.specs.Answers.{spell_answer};
 
@@ -12,42 +11,7 @@ use crate::judge::block_length;
 use crate::tape::Token;
 use crate::told::told_length;
 use dagcbor_decode::kind_of_front;
-
-/// Puts the bytes at the place: the place behind them.
-#[inline(always)]
-fn put(out: &mut [u8], at: usize, bytes: &[u8]) -> usize
-    requires { at + length bytes.now ≤ length out.old }
-    ensures { PutsAt bytes.now at out.old out.new result }
-{
-    let end = at + bytes.len();
-    out[at..end].copy_from_slice(bytes);
-    end
-}
-
-/// Puts the shortest head. How many bytes it has is known at each place, so that no copy is called.
-#[inline(always)]
-#[tactic(auto, unfolding(dagcbor_heads::specs::Head::head))]
-fn put_head(out: &mut [u8], at: usize, major: u8, argument: u64) -> usize
-    requires small { major ≤ 7 }
-    requires room { at + length (head major argument) ≤ length out.old }
-    ensures { PutsAt (head major argument) at out.old out.new result }
-{
-    let first = 32 * major;
-    if argument < 24 {
-        put(out, at, &[first + argument as u8])
-    } else if argument < 1 << 8 {
-        put(out, at, &[first + 24, argument as u8])
-    } else if argument < 1 << 16 {
-        let [a, b] = (argument as u16).to_be_bytes();
-        put(out, at, &[first + 25, a, b])
-    } else if argument < 1 << 32 {
-        let [a, b, c, d] = (argument as u32).to_be_bytes();
-        put(out, at, &[first + 26, a, b, c, d])
-    } else {
-        let [a, b, c, d, e, f, g, h] = argument.to_be_bytes();
-        put(out, at, &[first + 27, a, b, c, d, e, f, g, h])
-    }
-}
+use lent_memory::{put, put_head, put_link, put_string};
 
 /// So many bytes from a place on, which are there.
 #[inline(always)]
@@ -60,29 +24,28 @@ fn payload_told(bytes: &[u8], place: u64, n: u64) -> &[u8]
 }
 
 #[inline(always)]
-fn put_string(out: &mut [u8], at: usize, major: u8, bytes: &[u8], token: &Token) -> usize
+fn put_told_string(out: &mut [u8], at: usize, major: u8, bytes: &[u8], token: &Token) -> usize
     requires small { major ≤ 7 }
     requires room { HasRoomAt (string_told major bytes.now token.now.number token.now.place) at
         out.old }
     ensures { PutsToldAt (string_told major bytes.now token.now.number token.now.place) at out.old
         out.new result }
 {
-    let payload = payload_told(bytes, token.place, token.number);
-    let behind = put_head(out, at, major, token.number);
-    put(out, behind, payload)
+    put_string(
+        out,
+        at,
+        major,
+        payload_told(bytes, token.place, token.number),
+    )
 }
 
 #[inline(always)]
-fn put_link(out: &mut [u8], at: usize, bytes: &[u8], token: &Token) -> usize
+fn put_told_link(out: &mut [u8], at: usize, bytes: &[u8], token: &Token) -> usize
     requires { HasRoomAt (link_told bytes.now token.now.number token.now.place) at out.old }
     ensures { PutsToldAt (link_told bytes.now token.now.number token.now.place) at out.old out.new
         result }
 {
-    let cid = payload_told(bytes, token.place, token.number);
-    let tagged = put(out, at, &[0xd8, 0x2a]);
-    let behind = put_head(out, tagged, 2, 1 + token.number);
-    let zero = put(out, behind, &[0]);
-    put(out, zero, cid)
+    put_link(out, at, payload_told(bytes, token.place, token.number))
 }
 
 /// Puts what the token tells at the place, which has room for it: the place behind it.
@@ -97,11 +60,11 @@ fn put_told(out: &mut [u8], at: usize, bytes: &[u8], token: &Token) -> usize
         0 => put(out, at, &[0xf6]),
         1 => put(out, at, &[0xf4 + token.number as u8]),
         2 => put_head(out, at, 0, token.number),
-        3 => put_string(out, at, 3, bytes, token),
-        4 => put_string(out, at, 2, bytes, token),
+        3 => put_told_string(out, at, 3, bytes, token),
+        4 => put_told_string(out, at, 2, bytes, token),
         5 => put_head(out, at, 4, token.number),
         6 => put_head(out, at, 5, token.number),
-        7 => put_link(out, at, bytes, token),
+        7 => put_told_link(out, at, bytes, token),
         _ => put_head(out, at, 1, token.number),
     }
 }

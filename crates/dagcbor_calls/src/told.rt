@@ -1,30 +1,10 @@
 //! How many bytes tokens tell.
 
-ghost use Rattle.std.specs.Prelude.{◌≡◌, ◌+◌, ◌<◌, ◌≤◌, ◌++◌, length, Some, None, ℕ, MatchOption};
-ghost use Rattle.dagcbor_heads.specs.Head.{head};
-ghost use Rattle.ipld_tree.specs.Tree.{link};
-ghost use Rattle.ipld_tree.specs.Spelling.{spelling};
+ghost use Rattle.std.specs.Prelude.{◌≡◌, ◌<◌, ◌≤◌, Some, None, MatchOption};
 ghost use Rattle.dagcbor_calls.specs.Told.{payload_at, token_bytes, TellsLength, CountsTold};
 
 use crate::tape::Token;
-
-/// How many bytes the shortest head of this argument has.
-#[inline(always)]
-#[tactic(auto, unfolding(dagcbor_heads::specs::Head::head))]
-pub(crate) fn head_length(argument: u64) -> usize
-    ensures few { result ≤ 9 }
-    ensures length { (major : ℕ) → result ≡ length (head major argument) }
-{
-    if argument < 24 {
-        1
-    } else if argument < 1 << 16 {
-        if argument < 1 << 8 { 2 } else { 3 }
-    } else if argument < 1 << 32 {
-        5
-    } else {
-        9
-    }
-}
+use lent_memory::{head_length, link_length, string_length};
 
 /// So many bytes from a place on.
 #[inline(always)]
@@ -48,24 +28,6 @@ pub(crate) fn simple_length(number: u64, most: u64) -> Option<usize>
     if number > most { None } else { Some(1) }
 }
 
-/// How many bytes a string of this payload has.
-#[inline(always)]
-pub(crate) fn headed_length(payload: &[u8]) -> usize
-    ensures few { result ≤ 9 + length payload.now }
-    ensures length { (major : ℕ) →
-        result ≡ length (head major (length payload.now) ++ payload.now) }
-{
-    head_length(payload.len() as u64) + payload.len()
-}
-
-/// How many bytes a link of this CID has.
-#[inline(always)]
-pub(crate) fn link_length(cid: &[u8]) -> usize
-    ensures { result ≡ length (spelling (link cid.now)) }
-{
-    2 + head_length(1 + cid.len() as u64) + 1 + cid.len()
-}
-
 /// How many bytes a token tells, where it is one.
 #[inline(always)]
 fn token_length(bytes: &[u8], token: &Token) -> Option<usize>
@@ -76,8 +38,8 @@ fn token_length(bytes: &[u8], token: &Token) -> Option<usize>
         0 => simple_length(token.number, 0),
         1 => simple_length(token.number, 1),
         2 => Some(head_length(token.number)),
-        3 => Some(headed_length(payload_at(bytes, token.place, token.number)?)),
-        4 => Some(headed_length(payload_at(bytes, token.place, token.number)?)),
+        3 => Some(string_length(payload_at(bytes, token.place, token.number)?)),
+        4 => Some(string_length(payload_at(bytes, token.place, token.number)?)),
         5 => Some(head_length(token.number)),
         6 => Some(head_length(token.number)),
         7 => Some(link_length(payload_at(bytes, token.place, token.number)?)),

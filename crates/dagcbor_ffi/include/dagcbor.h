@@ -218,6 +218,36 @@ int32_t dagcbor_cid_text(const uint8_t *bytes, size_t length, uint8_t *out, size
    `out` stays as it was. After another refusal *needed is 0 and `out` as it was. */
 int32_t dagcbor_cid_from_text(const uint8_t *text, size_t length, uint8_t *out, size_t room, size_t *needed);
 
+/* Why bytes are no block of DAG-PB, or have no data model; and why data is not written as one. */
+enum dagcbor_node_fault {
+    DAGCBOR_NODE_TRUNCATED = -53,   /* the bytes end inside a number, or before as many follow as it says */
+    DAGCBOR_INVALID_VARINT = -54,   /* a number has more than ten bytes, or is 2^64 or more */
+    DAGCBOR_UNEXPECTED_FIELD = -55, /* a field cannot be there: its tag is none, or it is there twice or out of order */
+    DAGCBOR_NO_HASH = -56,          /* a link is empty */
+    DAGCBOR_NODE_INVALID_CID = -57, /* a link has other bytes than a CID */
+    DAGCBOR_NAME_NOT_TEXT = -58,    /* the name of a link is not UTF-8 */
+    DAGCBOR_NOT_A_NODE = -59,       /* of dagcbor_to_node: the data is not that of a node */
+    DAGCBOR_UNSORTED_LINKS = -60    /* of dagcbor_to_node: the links are not sorted by the bytes of their names */
+};
+
+/* The links of a block of DAG-PB, whatever their names are. 0 exactly where the bytes are such a block: *needed becomes the length of
+   its links, packed as dagcbor_links packs them; where that is at most `room` they are put at the front of `out`, and else `out`
+   stays as it was. Else a number from DAGCBOR_NODE_TRUNCATED to DAGCBOR_NODE_INVALID_CID; then *needed is 0 and `out` as it was.
+   *place becomes the offset of the fault, and else 0. */
+int32_t dagcbor_node_links(const uint8_t *node, size_t length, uint8_t *out, size_t room, size_t *needed, size_t *place);
+
+/* The data model of a block of DAG-PB as a block of DAG-CBOR: a map of Links and, if the node has some, Data; each link a map
+   of Hash, and of Name and Tsize if it has them. 0 exactly where the bytes are such a block, and its names are UTF-8. *needed
+   becomes the length of the block of DAG-CBOR. Where that is at most `room` it is put at the front of `out`, and else the answer
+   is DAGCBOR_NO_ROOM and `out` stays as it was. After another refusal *needed is 0 and `out` as it was. *place becomes the
+   offset of the fault, from DAGCBOR_NODE_TRUNCATED to DAGCBOR_NODE_INVALID_CID, and else 0. */
+int32_t dagcbor_from_node(const uint8_t *node, size_t length, uint8_t *out, size_t room, size_t *needed, size_t *place);
+
+/* The other way: the block of DAG-PB, in its one canonical form, whose data model the block of DAG-CBOR has. 0 exactly where it
+   has one and its links are sorted. Else the refusal of dagcbor_check, DAGCBOR_NOT_A_NODE or DAGCBOR_UNSORTED_LINKS. *needed and
+   `out` as of dagcbor_from_node. */
+int32_t dagcbor_to_node(const uint8_t *block, size_t length, uint8_t *out, size_t room, size_t *needed);
+
 /* Of calls that take memory, in dagcbor_memory.h. */
 enum { DAGCBOR_NO_MEMORY = -42 };
 
@@ -296,6 +326,14 @@ static inline const char *dagcbor_name_of_code(int32_t code) {
     case DAGCBOR_LEADING_ZERO: return "LeadingZero";
     case DAGCBOR_INVALID_VERSION: return "InvalidVersion";
     case DAGCBOR_INVALID_OFFSET: return "InvalidOffset";
+    case DAGCBOR_NODE_TRUNCATED: return "Truncated";
+    case DAGCBOR_INVALID_VARINT: return "InvalidVarint";
+    case DAGCBOR_UNEXPECTED_FIELD: return "UnexpectedField";
+    case DAGCBOR_NO_HASH: return "NoHash";
+    case DAGCBOR_NODE_INVALID_CID: return "InvalidCid";
+    case DAGCBOR_NAME_NOT_TEXT: return "NameNotText";
+    case DAGCBOR_NOT_A_NODE: return "NotANode";
+    case DAGCBOR_UNSORTED_LINKS: return "UnsortedLinks";
     case DAGCBOR_NO_MEMORY: return "NoMemory";
     case DAGCBOR_JSON_NO_TEXT: return "NoText";
     case DAGCBOR_JSON_NO_JSON: return "NoJson";

@@ -17,11 +17,12 @@ ghost use Rattle.dagcbor_calls.specs.Sections.{IsSectionAnswer, IsVerifyAnswer};
 ghost use Rattle.dagcbor_calls.specs.Spans.{IsSpanAnswer};
 ghost use Rattle.dagcbor_calls.specs.Finds.{IsFindAnswer, IsPartAnswer, IsFollowAnswer};
 ghost use Rattle.dagcbor_calls.specs.CidTexts.{IsCidTextAnswer, IsCidFromTextAnswer};
+ghost use Rattle.dagcbor_calls.specs.Nodes.{IsFromNodeAnswer, IsNodeLinksAnswer, IsToNodeAnswer};
 
 use dagcbor_calls::{
     CompactToken, Token, check, judge_named, judge_section, name_of, put_cid_of_text, put_cid_text,
-    put_compact_tape, put_followed, put_found, put_front_tape, put_header, put_links, put_part,
-    put_span, put_tape, spell_tape,
+    put_compact_tape, put_followed, put_found, put_from_node, put_front_tape, put_header,
+    put_links, put_node_links, put_part, put_span, put_tape, put_to_node, spell_tape,
 };
 
 /// The number of the kind of a block, from 0; below 0 that of the refusal.
@@ -222,4 +223,51 @@ pub extern "C" fn dagcbor_cid_from_text(text: &[u8], out: &mut [u8], needed: &mu
     ensures { IsCidFromTextAnswer text.now out.old out.new needed.new result }
 {
     put_cid_of_text(text, out, needed)
+}
+
+/// The links of the block of DAG-PB, whatever their names are. 0 is answered, and `needed` becomes their
+/// length, packed as `dagcbor_links` packs them; where `out` has room for them all they are put at its
+/// front, and else it stays. Where the bytes are no block of DAG-PB the number of the cause is answered,
+/// from -53 to -57, and `place` becomes where it stands. Then `needed` is 0, and `out` stays. Else `place`
+/// becomes 0.
+#[unsafe(no_mangle)]
+pub extern "C" fn dagcbor_node_links(
+    node: &[u8],
+    out: &mut [u8],
+    needed: &mut usize,
+    place: &mut usize,
+) -> i32
+    ensures { IsNodeLinksAnswer node.now out.old out.new needed.new place.new result }
+{
+    put_node_links(node, out, needed, place)
+}
+
+/// Puts the data model of the block of DAG-PB (a map of `Links` and, where there is some, `Data`), as a
+/// block of DAG-CBOR, at the front of `out`, where there is room for it. 0 is answered then, and `needed`
+/// becomes its length. -21 is answered where there is no room; then `out` stays. Where the bytes are no
+/// block of DAG-PB the number of the cause is answered, from -53 to -57, and `place` becomes where it
+/// stands; -58 where the name of a link is not UTF-8. Then `needed` is 0, and `out` stays. Else `place`
+/// becomes 0.
+#[unsafe(no_mangle)]
+pub extern "C" fn dagcbor_from_node(
+    node: &[u8],
+    out: &mut [u8],
+    needed: &mut usize,
+    place: &mut usize,
+) -> i32
+    ensures { IsFromNodeAnswer node.now out.old out.new needed.new place.new result }
+{
+    put_from_node(node, out, needed, place)
+}
+
+/// Puts the block of DAG-PB whose data model the block of DAG-CBOR has at the front of `out`, where there
+/// is room for it. 0 is answered then, and `needed` becomes its length. -21 is answered where there is no
+/// room; then `out` stays. Else the refusal of `dagcbor_check` is answered, -59 where the data is not that
+/// of a node, or -60 where the links are not sorted by the bytes of their names. Then `needed` is 0, and
+/// `out` stays.
+#[unsafe(no_mangle)]
+pub extern "C" fn dagcbor_to_node(block: &[u8], out: &mut [u8], needed: &mut usize) -> i32
+    ensures { IsToNodeAnswer block.now out.old out.new needed.new result }
+{
+    put_to_node(block, out, needed)
 }

@@ -6,7 +6,6 @@ pub mod Leaves
 pub mod Steps
 pub mod LinksIn
 pub mod Walking
-pub mod Judging
 pub mod Rows
 pub mod Skipping
 pub mod Lists

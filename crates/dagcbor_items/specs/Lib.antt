@@ -19,7 +19,6 @@ pub mod Items
 pub mod Entries
 pub mod Links
 pub mod Walks
-pub mod Judging
 pub mod ItemsLeft
 pub mod TypedReads
 pub mod Majors

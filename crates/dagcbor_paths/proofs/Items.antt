@@ -3,7 +3,6 @@ use Rattle.std.proofs.Common.{◌≡◌, ℕ, zero, suc, ◌<◌, ◌≤◌, Lis
 use Rattle.ipld_tree.specs.Tree.{Tree, Items, no_items, item, items_need}
 use Rattle.ipld_tree.specs.Spelling.{item_count, items_spelling, IsFront, AreFronts}
 use Rattle.ipld_tree.proofs.Fronts.{item_opened, item_closed, items_after}
-use Rattle.dagcbor_items.specs.Judging.{SplitsItems}
 use Rattle.dagcbor_paths.specs.Paths.{IsItemAt}
 use Rattle.dagcbor_paths.specs.Parts.{BeginsWithTree}
 
@@ -28,7 +27,7 @@ item_begins (suc n) (item t ts) (item u us) b at rest f need g e few =
     item_begins n ts us (items_spelling ts ++ rest) at rest o.1 (omega (arith, need)) a.1 (omega (arith, e)) (omega (arith, few))
 
 -- so many of the items stand there, where there are no fewer
-pub some_items : (n : ℕ) (ts : Items) (b rest : List ℕ) → AreFronts b ts rest → items_need ts ≤ 256 → n ≤ item_count ts → (at : List ℕ) × SplitsItems b n 256 at
+pub some_items : (n : ℕ) (ts : Items) (b rest : List ℕ) → AreFronts b ts rest → items_need ts ≤ 256 → n ≤ item_count ts → (at : List ℕ) × ((us : Items) × (item_count us ≡ n) × AreFronts b us at × (items_need us ≤ 256))
 some_items zero ts b rest f need few = (b, (no_items, refl, record { well_formed = tt; spellable = tt; is = refl }, omega arith))
 some_items (suc n) no_items b rest f need few = absurd (omega (arith, few))
 some_items (suc n) (item t ts) b rest f need few =

@@ -22,10 +22,13 @@
 
     read_repo(source)    a repository of signed records (AT Protocol): its commit, and its records
 
+    dag_pb.loads(block), dag_pb.dumps(node)  blocks of DAG-PB, which files of IPFS are made of
+
 Whether bytes are a block or a file of blocks is the library's judgement, which is proved. So
 is whether a file is a whole repository, and DAG-JSON both ways. The rest, which makes objects from what the library tells
 and tells it what the objects are, is two small extensions in C, and not proved."""
 
+from . import dag_pb
 from ._car import CarCheck, check_car, verify, write_car
 from ._errors import CarError, DagCborError
 from ._items import iter_loads
@@ -48,6 +51,7 @@ __all__ = [
     "Section",
     "check",
     "check_car",
+    "dag_pb",
     "dumps",
     "find",
     "from_json",

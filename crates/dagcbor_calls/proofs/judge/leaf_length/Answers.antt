@@ -23,13 +23,13 @@ pub returns-in_ok-text_of-in-3 : goal.returns-in_ok-text_of-in-3
 returns-in_ok-text_of-in-3 c =
     let t = c.args.token.now in
     let k = c.in_ok-text_of-in-3.ensures in
-    subst (λ kind. IsLeafTold (token_bytes c.args.bytes.now kind t.number t.place) c.headed_length.result) (sym c.in-3.is) (text_leaf c.args.bytes.now c.in_ok-text_of-in-3.field-0.now t.place t.number c.headed_length.result (omega arith) k.0 k.1 (c.headed_length.ensures.length 3))
+    subst (λ kind. IsLeafTold (token_bytes c.args.bytes.now kind t.number t.place) c.string_length.result) (sym c.in-3.is) (text_leaf c.args.bytes.now c.in_ok-text_of-in-3.field-0.now t.place t.number c.string_length.result (omega arith) k.0 k.1 (c.string_length.ensures.length 3))
 
 pub returns-in_ok-payload_at-in-4 : goal.returns-in_ok-payload_at-in-4
 returns-in_ok-payload_at-in-4 c =
     let t = c.args.token.now in
-    subst (λ kind. IsLeafTold (token_bytes c.args.bytes.now kind t.number t.place) c.headed_length-in-4.result) (sym c.in-4.is)
-    (bytes_leaf c.args.bytes.now c.in_ok-payload_at-in-4.field-0.now t.place t.number c.headed_length-in-4.result (omega arith) c.in_ok-payload_at-in-4.ensures (c.headed_length-in-4.ensures.length 2))
+    subst (λ kind. IsLeafTold (token_bytes c.args.bytes.now kind t.number t.place) c.string_length-in-4.result) (sym c.in-4.is)
+    (bytes_leaf c.args.bytes.now c.in_ok-payload_at-in-4.field-0.now t.place t.number c.string_length-in-4.result (omega arith) c.in_ok-payload_at-in-4.ensures (c.string_length-in-4.ensures.length 2))
 
 pub returns-in_ok-cid_of-in-7 : goal.returns-in_ok-cid_of-in-7
 returns-in_ok-cid_of-in-7 c =
@@ -37,7 +37,7 @@ returns-in_ok-cid_of-in-7 c =
     let k = c.in_ok-cid_of-in-7.ensures in
     let cid = c.in_ok-cid_of-in-7.field-0.now in
     let n = c.link_length.result in
-    subst (λ kind. IsLeafTold (token_bytes c.args.bytes.now kind t.number t.place) n) (sym c.in-7.is) (link_leaf c.args.bytes.now cid t.place t.number n (link_fits cid n (omega arith) c.link_length.ensures) k.0 k.1 c.link_length.ensures)
+    subst (λ kind. IsLeafTold (token_bytes c.args.bytes.now kind t.number t.place) n) (sym c.in-7.is) (link_leaf c.args.bytes.now cid t.place t.number n (link_fits cid n (omega arith) c.link_length.ensures.length) k.0 k.1 c.link_length.ensures.length)
 
 pub returns-in-8 : goal.returns-in-8
 returns-in-8 c =

@@ -3,7 +3,8 @@ use Rattle.std.proofs.lemmas.Int.{to_z-of_z}
 use Rattle.ipld_tree.specs.Tree.{links_of}
 use Rattle.dagcbor_decode.proofs.FirstLinks.{item_links}
 use Rattle.dagcbor_calls.specs.Packed.{packed_links}
-use Rattle.dagcbor_calls.proofs.Putting.{links_put, none_put, stays_without_room, whole_kind}
+use Rattle.dagcbor_calls.proofs.Putting.{links_put, none_put, whole_kind}
+use Rattle.lent_memory.proofs.Putting.{stays_without_room}
 use Rattle.dagcbor_calls.proofs.links.put_links.Goals as goal
 use Rattle.dagcbor_calls.proofs.links.put_links.Goals.{then-needed-out, else-needed-out}
 

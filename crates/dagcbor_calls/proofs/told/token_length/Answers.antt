@@ -19,19 +19,19 @@ pub returns-in_ok-payload_at-in-3 : goal.returns-in_ok-payload_at-in-3
 returns-in_ok-payload_at-in-3 c =
     let t = c.args.token.now in
     let s = c.in_ok-payload_at-in-3.field-0.now in
-    (head 3 (length s) ++ s, ap (λ k. token_bytes c.args.bytes.now k t.number t.place) c.in-3.is ∙ string_is c.args.bytes.now s 3 t.place t.number c.in_ok-payload_at-in-3.ensures, c.headed_length.ensures.length 3)
+    (head 3 (length s) ++ s, ap (λ k. token_bytes c.args.bytes.now k t.number t.place) c.in-3.is ∙ string_is c.args.bytes.now s 3 t.place t.number c.in_ok-payload_at-in-3.ensures, c.string_length.ensures.length 3)
 
 pub returns-in_ok-payload_at-in-4 : goal.returns-in_ok-payload_at-in-4
 returns-in_ok-payload_at-in-4 c =
     let t = c.args.token.now in
     let s = c.in_ok-payload_at-in-4.field-0.now in
-    (head 2 (length s) ++ s, ap (λ k. token_bytes c.args.bytes.now k t.number t.place) c.in-4.is ∙ string_is c.args.bytes.now s 2 t.place t.number c.in_ok-payload_at-in-4.ensures, c.headed_length-in-4.ensures.length 2)
+    (head 2 (length s) ++ s, ap (λ k. token_bytes c.args.bytes.now k t.number t.place) c.in-4.is ∙ string_is c.args.bytes.now s 2 t.place t.number c.in_ok-payload_at-in-4.ensures, c.string_length-in-4.ensures.length 2)
 
 pub returns-in_ok-payload_at-in-7 : goal.returns-in_ok-payload_at-in-7
 returns-in_ok-payload_at-in-7 c =
     let t = c.args.token.now in
     let s = c.in_ok-payload_at-in-7.field-0.now in
-    (spelling (link s), ap (λ k. token_bytes c.args.bytes.now k t.number t.place) c.in-7.is ∙ link_is c.args.bytes.now s t.place t.number c.in_ok-payload_at-in-7.ensures, c.link_length.ensures)
+    (spelling (link s), ap (λ k. token_bytes c.args.bytes.now k t.number t.place) c.in-7.is ∙ link_is c.args.bytes.now s t.place t.number c.in_ok-payload_at-in-7.ensures, c.link_length.ensures.length)
 
 pub returns-in-5 : goal.returns-in-5
 returns-in-5 c = let t = c.args.token.now in (head 4 t.number, ap (λ k. token_bytes c.args.bytes.now k t.number t.place) c.in-5.is, c.head_length-in-5.ensures.length 4)

@@ -1,4 +1,4 @@
--- Judging bytes that are all there: what stands behind what was passed, and where nothing stands.
+-- Items and entries that were passed, one after the other, and those that are still to come.
 use Rattle.std.proofs.Common.{◌≡◌, ℕ, ◌+◌, ◌-◌, ◌<◌, ◌≤◌, List, ◌++◌, refl, sym, ap, ◌∙◌, subst, arith, append_assoc, Option, Some, None}
 use Rattle.dagcbor_heads.specs.Head.{head}
 use Rattle.dagcbor_heads.specs.Splits.{SplitsHead}
@@ -9,7 +9,7 @@ use Rattle.dagcbor_items.proofs.Rows.{all_follow}
 use Rattle.dagcbor_items.specs.Places.{Follows}
 use Rattle.dagcbor_items.proofs.Pushes.{last_key}
 use Rattle.dagcbor_items.specs.Entries.{AllFollow}
-use Rattle.dagcbor_items.specs.Judging.{SplitsKey, SplitsItem, SplitsItems, SplitsEntries}
+use Rattle.dagcbor_calls.specs.TapeSplits.{SplitsKey, SplitsItem, SplitsItems, SplitsEntries}
 
 -- ---- lists
 

@@ -1,4 +1,5 @@
--- What stands at the front of bytes that are all there, and the rest that follows it.
+-- What tokens tell one after the other: at the front of the bytes that they tell, and the rest that
+-- follows it.
 use Rattle.std.specs.Prelude.{◌≡◌, ℕ, ◌≤◌, List, Option}
 use Rattle.ipld_tree.specs.Tree.{Tree, text, Items, Entries, any_need, items_need, entries_need}
 use Rattle.ipld_tree.specs.Spelling.{item_count, entry_count, IsFront, AreFronts, AreEntryFronts}

@@ -1,0 +1,85 @@
+//! Blocks of DAG-PB, by their data model.
+
+use crate::answer::node_answer;
+use crate::calls::{dagcbor_from_node, dagcbor_node_links, dagcbor_to_node};
+use crate::item::Cids;
+use crate::{NodeRefusal, NodeRefused, Refusal};
+#[cfg(feature = "alloc")]
+use {crate::calls::Links, alloc::vec, alloc::vec::Vec};
+
+/// The links of a block of DAG-PB, whatever their names are, which are put into the room: each with a
+/// byte in front. As much room as the node has bytes is enough.
+pub fn node_links_into<'a>(node: &[u8], room: &'a mut [u8]) -> Result<Cids<'a>, NodeRefused> {
+    let (mut needed, mut place) = (0, 0);
+    let code = dagcbor_node_links(node, room, &mut needed, &mut place);
+    node_answer(code, needed).map_err(|refusal| NodeRefused { refusal, place })?;
+    let no_room = NodeRefusal::NoBlock(Refusal::NoRoom { needed });
+    room.get(..needed).map(Cids).ok_or(NodeRefused {
+        refusal: no_room,
+        place,
+    })
+}
+
+/// The data model of a block of DAG-PB, as a block of DAG-CBOR in the room: a map of `Links` and, if the
+/// node has some, `Data`; each link a map of `Hash`, and of `Name` and `Tsize` if it has them.
+pub fn from_node_into<'a>(node: &[u8], room: &'a mut [u8]) -> Result<&'a [u8], NodeRefused> {
+    let (mut needed, mut place) = (0, 0);
+    let code = dagcbor_from_node(node, room, &mut needed, &mut place);
+    match node_answer(code, needed) {
+        Ok(()) => Ok(&room[..needed]),
+        Err(refusal) => Err(NodeRefused { refusal, place }),
+    }
+}
+
+/// The one canonical block of DAG-PB whose data model the block of DAG-CBOR has, in the room. As much
+/// room as the block has bytes is enough.
+pub fn to_node_into<'a>(block: &[u8], room: &'a mut [u8]) -> Result<&'a [u8], NodeRefusal> {
+    let mut needed = 0;
+    let code = dagcbor_to_node(block, room, &mut needed);
+    node_answer(code, needed)?;
+    Ok(&room[..needed])
+}
+
+/// The data model of a block of DAG-PB, as a block of DAG-CBOR, of which `from_slice` makes a type.
+///
+/// ```
+/// let block = dagcbor::from_node(b"\x0a\x02hi").unwrap();
+/// assert_eq!(block, b"\xa2\x64Data\x42hi\x65Links\x80");
+/// assert_eq!(dagcbor::to_node(&block).unwrap(), b"\x0a\x02hi");
+/// ```
+#[cfg(feature = "alloc")]
+pub fn from_node(node: &[u8]) -> Result<Vec<u8>, NodeRefused> {
+    let mut block = vec![0; 2 * node.len() + 64];
+    let length = match from_node_into(node, &mut block) {
+        Ok(put) => put.len(),
+        Err(NodeRefused {
+            refusal: NodeRefusal::NoBlock(Refusal::NoRoom { needed }),
+            ..
+        }) => {
+            block.resize(needed, 0);
+            from_node_into(node, &mut block)?.len()
+        }
+        Err(refused) => return Err(refused),
+    };
+    block.truncate(length);
+    Ok(block)
+}
+
+/// The links of a block of DAG-PB, in its order, whatever their names are.
+#[cfg(feature = "alloc")]
+pub fn node_links(node: &[u8]) -> Result<Links, NodeRefused> {
+    let mut packed = vec![0; node.len()];
+    let needed = node_links_into(node, &mut packed)?.0.len();
+    packed.truncate(needed);
+    Ok(Links(packed))
+}
+
+/// The one canonical block of DAG-PB whose data model the block of DAG-CBOR has, as `to_vec` writes it.
+/// Links that are not sorted by the bytes of their names are refused.
+#[cfg(feature = "alloc")]
+pub fn to_node(block: &[u8]) -> Result<Vec<u8>, NodeRefusal> {
+    let mut node = vec![0; block.len()];
+    let length = to_node_into(block, &mut node)?.len();
+    node.truncate(length);
+    Ok(node)
+}

@@ -64,7 +64,7 @@ SENTENCES = [
     ("`cat` writes the bytes of a file of IPFS", ["file_lines/src/file.rt fn say_file"]),
     ("`dagcar` judges a file of blocks", ["dagcar_lines/src/command.rt fn run_command"]),
     ("A path is resolved over blocks, and a root and a path bind what is found",
-     ["dagcbor_resolve/src/resolution.rt fn resolve", "dagcbor_resolve/src/resolution.rt fn item_bytes",
+     ["dagcbor_resolve/src/resolution.rt fn resolve", "dagcbor_resolve/src/item.rt fn item_bytes",
       "dagcbor_resolve/src/laws.rt fn paths_bind"]),
     ("The store keeps blocks under their names",
      [f"dagcbor_blocks/src/blocks.rt fn {name}" for name in ["put", "get", "missing"]]),

@@ -6,6 +6,7 @@ use mathlib.Core.List.{List-discrete}
 use Rattle.sqlite_disk.specs.Disk.{MoreFaults}
 use Rattle.sqlite_trees.specs.Tree.{Trees, has_rowid}
 use Rattle.sqlite_trees.specs.View.{View, IsClean, KeepsCommitted, IsRolledBack, HasCause, OnlyWrites, Commits, Tells}
+use Rattle.sqlite_trees.specs.Objects.{catalog_tree}
 use Rattle.sqlite_trees.specs.declared.store.Store.{Ghosts}
 use Rattle.sqlite_trees.specs.declared.store.Shape.{Shape}
 use Rattle.sqlite_trees.specs.declared.error.StoreError.{StoreError}
@@ -67,8 +68,8 @@ added_if_clean (Err e) B C P b h = tt
 
 -- ---- writing
 
-pub ready_written : (old new : View) → OnlyWrites old new → (IsTrue old.is_open → IsKeyed (new.trees name_tree) × AreAllRoots (new.trees root_tree)) → IsReady old → IsReady new
-ready_written old new h sound r =
+pub ready_written : (old new : View) → OnlyWrites old new → new.trees catalog_tree ≡ old.trees catalog_tree → (IsTrue old.is_open → IsKeyed (new.trees name_tree) × AreAllRoots (new.trees root_tree)) → IsReady old → IsReady new
+ready_written old new h same sound r =
     let shape = ap (λ (v : View). v.shape) h in
     let is_open = ap (λ (v : View). v.is_open) h in
     let committed = ap (λ (v : View). v.committed) h in
@@ -76,6 +77,7 @@ ready_written old new h sound r =
       blocks = ap (λ f. f block_tree) shape ∙ r.blocks;
       names = ap (λ f. f name_tree) shape ∙ r.names;
       lasting = shape ∙ r.lasting ∙ sym (ap (λ (v : View). v.committed_shape) h);
+      listed = λ o. same ∙ r.listed (subst IsTrue is_open o) ∙ ap (λ (t : Trees). t catalog_tree) (sym committed);
       unbroken = λ o. ap (λ (v : View). v.is_broken) h ∙ r.unbroken (subst IsTrue is_open o);
       keyed = λ o. (sound (subst IsTrue is_open o)).0;
       committed = λ o. subst (λ (t : Trees). IsKeyed (t name_tree)) (sym committed) (r.committed (subst IsTrue is_open o));
@@ -86,11 +88,15 @@ ready_written old new h sound r =
 
 -- rows of blocks and entries of names were written
 pub ready_blocks : (old new : View) → WritesIn IsOfBlocks old new → (IsTrue old.is_open → IsKeyed (new.trees name_tree)) → IsReady old → IsReady new
-ready_blocks old new h keyed r = ready_written old new h.frame (λ o. (keyed o, subst AreAllRoots (sym (h.others root_tree not_blocks)) (r.roots o))) r
+ready_blocks old new h keyed r = ready_written old new h.frame (h.others catalog_tree not_listed) (λ o. (keyed o, subst AreAllRoots (sym (h.others root_tree not_blocks)) (r.roots o))) r
   where
     not_blocks : IsOfBlocks root_tree → ⊥
     not_blocks (inl e) = cc e
     not_blocks (inr e) = cc e
+
+    not_listed : IsOfBlocks catalog_tree → ⊥
+    not_listed (inl e) = omega (arith, e)
+    not_listed (inr e) = omega (arith, e)
 
 pub keyed_added : (old new : Trees) (name b : List ℕ) (added : Added) → IsCid name → AddsBlockRow old new name b added → IsKeyed (old name_tree) → IsKeyed (new name_tree)
 keyed_added old new name b New cid (inl a) keyed = let w = a.1 in keyed_since old new name b w.0 keyed (a.0 keyed.0) w.1 w.2 w.3 cid
@@ -333,6 +339,7 @@ ready_committed (Ok x) old new ok err clean r =
       blocks = ap (λ f. f block_tree) shape ∙ r.blocks;
       names = ap (λ f. f name_tree) shape ∙ r.names;
       lasting = shape ∙ sym (ap (λ (v : View). v.committed_shape) is);
+      listed = λ o. ap (λ (t : Trees). t catalog_tree) (ap (λ (v : View). v.trees) is ∙ sym (ap (λ (v : View). v.committed) is));
       unbroken = λ o. ap (λ (v : View). v.is_broken) is ∙ r.unbroken (subst IsTrue is_open o);
       keyed = λ o. subst (λ (t : Trees). IsKeyed (t name_tree)) (sym (ap (λ (v : View). v.trees) is)) (r.keyed (subst IsTrue is_open o));
       committed = λ o. subst (λ (t : Trees). IsKeyed (t name_tree)) (sym (ap (λ (v : View). v.committed) is)) (r.keyed (subst IsTrue is_open o));

@@ -12,6 +12,7 @@ use Rattle.sqlite_trees.proofs.ListLemmas.{all-filter}
 use Rattle.block_trees.proofs.Finding.{all_among}
 use Rattle.sqlite_trees.specs.Tree.{Trees, rowid, has_rowid, put_row, insert_entry, remove_entry}
 use Rattle.sqlite_trees.specs.View.{View, IsClean, KeepsCommitted, IsRolledBack}
+use Rattle.sqlite_trees.specs.Objects.{catalog_tree}
 use Rattle.sqlite_trees.specs.declared.store.Store.{Ghosts}
 use Rattle.sqlite_trees.specs.declared.store.Shape.{Shape}
 use Rattle.sqlite_trees.specs.declared.error.StoreError.{StoreError}
@@ -27,7 +28,7 @@ use Rattle.dagcbor_store.specs.Stored.{AreAllRoots, IsReady, IsSame, IsUndone}
 -- ---- reads
 
 pub ready_read : (old new : View) → OnlyReads old new → IsReady old → IsReady new
-ready_read old new h r = subst IsReady (sym h) (record { blocks = r.blocks; names = r.names; lasting = r.lasting; unbroken = r.unbroken; keyed = r.keyed; committed = r.committed; rooted = r.rooted; roots = r.roots; last_roots = r.last_roots })
+ready_read old new h r = subst IsReady (sym h) (record { blocks = r.blocks; names = r.names; lasting = r.lasting; listed = r.listed; unbroken = r.unbroken; keyed = r.keyed; committed = r.committed; rooted = r.rooted; roots = r.roots; last_roots = r.last_roots })
 
 pub same_read : (old new : View) → OnlyReads old new → IsSame old new
 same_read old new h = record { trees = ap (λ (v : View). v.trees) h; committed = ap (λ (v : View). v.committed) h; is_open = ap (λ (v : View). v.is_open) h; broken = ap (λ (v : View). v.is_broken) h }
@@ -46,6 +47,7 @@ ready_undone old mid new clean kept undone r =
       blocks = ap (λ f. f block_tree) shape ∙ r.blocks;
       names = ap (λ f. f name_tree) shape ∙ r.names;
       lasting = shape ∙ r.lasting ∙ sym (undone.committed_shape ∙ kept.committed_shape);
+      listed = λ h. ap (λ (t : Trees). t catalog_tree) (trees h ∙ sym (committed h));
       unbroken = λ h. (undone.undone h).1;
       keyed = λ h. subst (λ (t : Trees). IsKeyed (t name_tree)) (sym (trees h)) (r.committed (opened h));
       committed = λ h. subst (λ (t : Trees). IsKeyed (t name_tree)) (sym (committed h)) (r.committed (opened h));

@@ -4,6 +4,9 @@ pub mod Calls
 pub mod Rooting
 pub mod Opening
 pub mod Trusting
+pub mod Leaving
+pub mod Objects
+pub mod Images
 pub mod Moving
 pub mod Adding
 pub mod ManyRoots

@@ -84,6 +84,7 @@ module _ (old rolled : View) (clean : IsClean rolled) (undone : IsRolledBack old
     blocks = c.blocks;
     names = c.names;
     lasting = c.lasting lasting;
+    listed = λ h. ap (λ (t : Trees). t catalog_tree) (c.settled settled);
     unbroken = λ h. c.sound;
     keyed = λ h. c.keyed;
     committed = λ h. subst (λ (t : Trees). IsKeyed (t name_tree)) (c.settled settled) c.keyed;

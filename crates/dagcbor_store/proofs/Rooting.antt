@@ -1,9 +1,10 @@
 -- The roots of a store, and that it stays ready.
-use Rattle.std.proofs.Common.{◌≡◌, inl, inr, ℕ, ℤ, List, [], ◌∷◌, ◌++◌, refl, sym, ap, ap₂, ◌∙◌, subst, true≢false, IsTrue, Bool, false, Result, Ok, Err, IfErr, OnOk, is_err}
+use Rattle.std.proofs.Common.{arith, ◌≡◌, inl, inr, ℕ, ℤ, List, [], ◌∷◌, ◌++◌, refl, sym, ap, ap₂, ◌∙◌, subst, true≢false, IsTrue, Bool, false, Result, Ok, Err, IfErr, OnOk, is_err}
 use Rattle.std.proofs.Math.Decide.{ℕ_discrete}
 use Rattle.sqlite_value.specs.Order.{Row}
 use Rattle.sqlite_trees.specs.Tree.{Trees}
 use Rattle.sqlite_trees.specs.View.{View, IsClean}
+use Rattle.sqlite_trees.specs.Objects.{catalog_tree}
 use Rattle.sqlite_trees.specs.declared.store.Store.{Ghosts}
 use Rattle.ipld_tree.specs.Cid.{CidParts, AreCidParts, cid_bytes}
 use Rattle.ipld_tree.proofs.Cids.{cid_unique}
@@ -81,9 +82,12 @@ same_trees old new others roots = λ i t. at t (ℕ_discrete t root_tree) i
 not_roots : IsOfRoots name_tree → ⊥
 not_roots e = cc e
 
+not_listed : IsOfRoots catalog_tree → ⊥
+not_listed e = omega (arith, e)
+
 -- rows of roots were written
 pub ready_roots : (old new : View) → WritesIn IsOfRoots old new → (IsTrue old.is_open → AreAllRoots (new.trees root_tree)) → IsReady old → IsReady new
-ready_roots old new h roots r = ready_written old new h.frame (λ o. (subst IsKeyed (sym (h.others name_tree not_roots)) (r.keyed o), roots o)) r
+ready_roots old new h roots r = ready_written old new h.frame (h.others catalog_tree not_listed) (λ o. (subst IsKeyed (sym (h.others name_tree not_roots)) (r.keyed o), roots o)) r
 
 -- ---- adding
 

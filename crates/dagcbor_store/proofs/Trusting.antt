@@ -1,10 +1,10 @@
 -- A database that is taken for a store's.
-use Rattle.std.proofs.Common.{arith, inl, ◌≡◌, ℕ, List, [], Bool, None, Option, sym, ap, ap₂, ◌∙◌, subst, IsTrue, if◌then◌else◌}
+use Rattle.std.proofs.Common.{arith, inl, inr, ◌≡◌, ℕ, List, [], Bool, None, Option, sym, ap, ap₂, ◌∙◌, subst, IsTrue, if◌then◌else◌}
 use Rattle.sqlite_disk.specs.declared.Disk.{Ghosts}
 use Rattle.sqlite_trees.specs.Tree.{Trees, no_trees}
 use Rattle.sqlite_trees.specs.View.{View, IsClean}
 use Rattle.sqlite_trees.proofs.Doubt.{clean_of}
-use Rattle.sqlite_trees.specs.Objects.{version_tree}
+use Rattle.sqlite_trees.specs.Objects.{catalog_tree, version_tree}
 use Rattle.sqlite_wal.specs.Recovery.{Image}
 use Rattle.sqlite_wal.proofs.RecoveryLemmas.{recovers_once}
 use Rattle.sqlite_pages.specs.PageMap.{PageMap}
@@ -15,7 +15,9 @@ use Rattle.sqlite_store.specs.declared.store.FileStore.{FileStore}
 use Rattle.sqlite_store.specs.declared.store.open.Unopened.{Unopened}
 use Rattle.sqlite_store.specs.Saved.{kept_schema}
 use Rattle.sqlite_store.specs.Db.{IsFile}
-use Rattle.sqlite_store.specs.Listing.{file_trees, all_shapes}
+use Rattle.sqlite_pool.specs.File.{in_use}
+use Rattle.sqlite_store.specs.Listing.{listed_from, file_trees, all_shapes}
+use Rattle.sqlite_store.specs.Listed.{catalog_rows}
 use Rattle.sqlite_store.specs.FileStore.{state, schema_of, view, IsReady}
 use Rattle.sqlite_store.specs.Unopened.{state_of, wanted_by, image, Opens, HasFile}
 use Rattle.dagcbor_store.specs.Stored as ours
@@ -23,6 +25,7 @@ use Rattle.block_trees.specs.Rows.{name_tree, IsKeyed}
 use Rattle.block_trees.specs.RootRows.{root_tree}
 use Rattle.dagcbor_store.specs.Stored.{AreAllRoots}
 use Rattle.dagcbor_store.specs.Opened.{HasTrees, IsOpened}
+use Rattle.dagcbor_store.specs.Leaving.{IsStoreSchema, IsStoreList}
 use Rattle.dagcbor_store.specs.Left.{store_objects, IsLeft, HasStore, IsFresh}
 
 -- ---- what is fresh is a store
@@ -32,6 +35,7 @@ ready_fresh v has f = record {
   blocks = has.blocks;
   names = has.names;
   lasting = f.lasting;
+  listed = λ h. ap (λ (t : Trees). t catalog_tree) f.settled;
   unbroken = λ h. f.sound;
   keyed = λ h. subst (λ (t : Trees). IsKeyed (t name_tree)) (sym f.settled) f.keyed;
   committed = λ h. f.keyed;
@@ -82,7 +86,18 @@ module _ {D : Type 0} {g : Ghosts D} (found : Unopened D g) (store : FileStore D
         roots = subst (λ (t : Trees). AreAllRoots (t root_tree)) (sym is) h.ours.roots;
       }
 
+-- what was opened with the schema of a store is listed as one
+pub listed_ready : {D : Type 0} {g : Ghosts D} (store : FileStore D g) (wanted : List Wanted) → IsReady store → schema_of store ≡ wanted → IsStoreSchema wanted → IsClean (view store) → IsStoreList ((view store).committed catalog_tree)
+listed_ready store wanted ready schema ours clean = subst IsStoreList (sym rows) (by ours)
+  where
+    rows : (view store).committed catalog_tree ≡ listed_from 0 wanted
+    rows = ap (λ (t : Trees). t catalog_tree) (shown (state store).is_clean (state store).page_size store.saved (schema_of store) (state store).committed (clean_of _ clean) ready.unaltered) ∙ catalog_rows (state store).page_size (schema_of store) (in_use (state store).page_size (state store).committed) ∙ ap (listed_from 0) schema
+
+    by : IsStoreSchema wanted → IsStoreList (listed_from 0 wanted)
+    by (inl is) = inl (ap (listed_from 0) is)
+    by (inr is) = inr (ap (listed_from 0) is)
+
 -- ---- where there is no file
 
 pub nothing_left : IsLeft (record { log = []; db = [] })
-nothing_left size pages names found lists = absurd (omega (arith, found.present))
+nothing_left size pages names found sound lists = absurd (omega (arith, found.present))

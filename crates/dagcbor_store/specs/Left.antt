@@ -10,7 +10,7 @@ use Rattle.sqlite_wal.specs.Format.{be32}
 use Rattle.sqlite_wal.specs.PageSize.{size_in_file}
 use Rattle.sqlite_wal.specs.Recovery.{Image, IsIgnored}
 use Rattle.sqlite_pages.specs.PageMap.{PageMap}
-use Rattle.sqlite_pool.specs.File.{in_use}
+use Rattle.sqlite_pool.specs.File.{IsSoundFile, in_use}
 use Rattle.sqlite_pool.specs.Stored.{Recovers}
 use Rattle.sqlite_store.specs.declared.catalog.Wanted.{Wanted}
 use Rattle.sqlite_store.specs.Db.{rows_at, IsFile}
@@ -39,6 +39,10 @@ index_of_names = record { shape = Index plain; reals = 0; row = Text (codes "ind
 abbrev pub store_objects : List Wanted
 store_objects = table_of (codes "block") block_text ∷ index_of_names ∷ table_of (codes "root") root_text ∷ []
 
+-- the same of the earlier version, which keeps no roots
+abbrev pub earlier_objects : List Wanted
+earlier_objects = table_of (codes "block") block_text ∷ index_of_names ∷ []
+
 -- the row of `sqlite_schema` is that of the object, wherever its tree begins
 pub record IsRowOfObject (wanted : Wanted) (row : Row) : Type 0 where
   pub kind : column row 1 ≡ column wanted.row 0
@@ -66,11 +70,12 @@ pub record IsStoreFile (size : ℕ) (pages : PageMap) : Type 0 where
   pub keyed : IsKeyed (file_trees size store_objects pages name_tree)
   pub roots : AreAllRoots (file_trees size store_objects pages root_tree)
 
--- What the files recover to, if it lists the schema of a store, is the file of one. So is what a
--- store leaves, what `sqlite3` makes of that by sound blocks and roots, no file at all, and a file
--- of something else.
+-- What the files recover to, if its header and its list of free pages are sound, and it lists the
+-- schema of a store, is the file of one. So is what a store leaves, what `sqlite3` makes of that by
+-- sound blocks and roots, no file at all, and a file of something else.
 abbrev pub IsLeft : Image → Type 0
 IsLeft image = (size : ℕ) (pages : PageMap) → NamesSize image size → Recovers size image pages
+    → ∥ IsSoundFile size pages ∥₁
     → ListsObjects store_objects (rows_at size (in_use size pages) Table 1) → IsStoreFile size pages
 
 -- ---- steps

@@ -7,6 +7,7 @@ use Rattle.sqlite_value.specs.Order.{Row}
 use Rattle.sqlite_value.specs.Keys.{plain}
 use Rattle.sqlite_trees.specs.Tree.{Trees}
 use Rattle.sqlite_trees.specs.View.{View, IsClean, HasCause, Tells, doubt}
+use Rattle.sqlite_trees.specs.Objects.{catalog_tree}
 use Rattle.sqlite_trees.specs.declared.store.Store.{Ghosts}
 use Rattle.sqlite_trees.specs.declared.store.Shape.TheVariants as shape
 use Rattle.sqlite_trees.specs.declared.error.StoreError.{StoreError}
@@ -31,13 +32,14 @@ use Rattle.dagcbor_store.specs.declared.error.StoreRefusal.TheVariants as refusa
 abbrev pub AreAllRoots : List Row → Type 0
 AreAllRoots rows = (names : List CidParts) × AreRoots rows names
 
--- The trees are there, that of the roots but in a file of the earlier version. No name is listed
--- twice, and each row of the roots is one, as the transaction sees them and as the last commit left
--- them.
+-- The trees are there, that of the roots but in a file of the earlier version, and the transaction
+-- makes and drops none. No name is listed twice, and each row of the roots is one, as the transaction
+-- sees them and as the last commit left them.
 pub record IsReady (v : View) : Type 0 where
   pub blocks : v.shape block_tree ≡ shape.Table
   pub names : v.shape name_tree ≡ shape.Index plain
   pub lasting : v.shape ≡ v.committed_shape
+  pub listed : IsTrue v.is_open → v.trees catalog_tree ≡ v.committed catalog_tree
   pub unbroken : IsTrue v.is_open → v.is_broken ≡ false
   pub keyed : IsTrue v.is_open → IsKeyed (v.trees name_tree)
   pub committed : IsTrue v.is_open → IsKeyed (v.committed name_tree)

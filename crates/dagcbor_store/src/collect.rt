@@ -5,6 +5,7 @@ ghost use Rattle.ipld_links.specs.Sets.{Among};
 ghost use Rattle.sqlite_trees.specs.View.{IsClean};
 ghost use Rattle.block_trees.specs.Ends.{Quiet, KeepsOthers, IsOfBlocks};
 ghost use Rattle.dagcbor_store.specs.Stored.{StaysSame, FailsByStore, IsKeptBy};
+ghost use Rattle.dagcbor_store.specs.Leaving.{StillLeavesStore};
 ghost use Rattle.dagcbor_store.specs.Trees.{GetsKnown, StopsAt, AtName, ReachesBeside, AtMetBeside, IsShownToWalk, VisitsShown};
 ghost use Rattle.dagcbor_store.specs.Collecting.{KeepsReachable, IsCollected, CollectRefused, HasBlockAt, HaveBlocks, BlocksLacking, AtRooted, CollectsAll, MarksRoots, Marks, MarksMore, AtMarked, SweepsNext, IsSwept};
 
@@ -43,6 +44,7 @@ impl<S: Store> BlockStore<S> {
         ensures refused { IfErr result (CollectRefused S.Store roots.now self.old self.new) }
         ensures crash { (db : _) → S.Store.recovers self.new db → S.Store.recovers self.old db ⊎ (IsClean (S.Store.view self.new) → KeepsReachable (S.Store.view self.old) roots.now db) }
         ensures beside { (db : _) → S.Store.recovers self.new db → S.Store.recovers self.old db ⊎ (IsClean (S.Store.view self.new) → KeepsOthers IsOfBlocks (S.Store.view self.old).trees db) }
+        ensures leaves { StillLeavesStore S.Store self.old self.new }
         ensures kept { IsKeptBy S.Store self.old self.new }
     {
         let kept = self.mark_roots(roots)?;

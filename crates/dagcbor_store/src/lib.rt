@@ -4,6 +4,7 @@
 mod car_error;
 mod collect;
 mod error;
+pub mod laws;
 mod lost;
 mod open;
 mod reach;

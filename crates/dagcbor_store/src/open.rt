@@ -10,10 +10,11 @@ ghost use Rattle.sqlite_wal.specs.PageSize.{bytes_of};
 ghost use Rattle.sqlite_wal.specs.Reads.{are_clean, AreClean, OnlyReads};
 ghost use Rattle.sqlite_store.specs.Calls.{IsQuietCall};
 ghost use Rattle.sqlite_store.specs.Catalog.{text_or_null, wanted_of};
-ghost use Rattle.sqlite_store.specs.FileStore.{view};
+ghost use Rattle.sqlite_store.specs.FileStore.{view, recovers};
 ghost use Rattle.sqlite_store.specs.Unopened.{AreUsable, files_of, state_of, wanted_by};
 ghost use Rattle.dagcbor_store.specs.Stored.{IsKeptBy};
 ghost use Rattle.dagcbor_store.specs.Opened.{HasTrees, IsChecked, IsMoved, IsOpened, IsSettled, OnlyMarks};
+ghost use Rattle.dagcbor_store.specs.Leaving.{IsStoreSchema, LeavesStore, LeavesAsListed, IsSpared};
 ghost use Rattle.dagcbor_store.specs.Left.{store_objects, IsRowOfObject, ListsObjects, NamesSize, IsLeft, IsFresh, HoldsLeft, HasStore};
 
 use crate::error::StoreRefusal;
@@ -73,7 +74,7 @@ fn version_of<S: Store>(store: &S) -> Option<u32>
 /// version.
 fn check<S: Alter>(alloc: Global, store: &mut S, row: &mut Row) -> Result<bool, StoreError>
     ensures ok { IfOk result (λ is_ours. IsClean (S.Store.view store.new) → IsTrue is_ours → IsChecked (S.Store.view store.old) (S.Store.view store.new)) }
-    ensures crash { (db : _) → S.Store.recovers store.new db → S.Store.recovers store.old db ⊎ (IsClean (S.Store.view store.new) → OnlyMarks (S.Store.view store.old).trees db) }
+    ensures crash { (db : _) → S.Store.recovers store.new db → S.Store.recovers store.old db ⊎ (IsClean (S.Store.view store.new) → IsTrue (S.Store.view store.old).is_open × OnlyMarks (S.Store.view store.old).trees db) }
     ensures kept { IsKeptBy S.Store store.old store.new }
 {
     let Some(version) = version_of(store) else {
@@ -102,7 +103,9 @@ impl<S: Alter + Drop> BlockStore<S> {
     pub fn over(alloc: Global, mut store: S) -> Result<BlockStore<S>, (StoreRefusal, S)>
         ensures ok { IfOk result (λ it. IsClean (S.Store.view it) → IsOpened (S.Store.view store) (S.Store.view it)) }
         ensures kept { IfOk result (IsKeptBy S.Store store) }
+        ensures leaves { IfOk result (LeavesAsListed S.Store store) }
         ensures unharmed { IfErr result (λ e. IsKeptBy S.Store store e.1) }
+        ensures spared { IfErr result (λ e. IsSpared S.Store store e.1) }
     {
         let mut row = Row::new(alloc);
         store.rollback();
@@ -120,6 +123,7 @@ impl<S: Alter + Drop> BlockStore<S> {
 /// As `over`, for what is of no further use where it is refused.
 fn opened<S: Alter + Drop>(alloc: Global, store: S) -> Result<BlockStore<S>, StoreRefusal>
     ensures ok { IfOk result (λ it. IsClean (S.Store.view it) → IsOpened (S.Store.view store) (S.Store.view it)) }
+    ensures leaves { IfOk result (LeavesAsListed S.Store store) }
 {
     let taken = BlockStore::over(alloc, store);
     match taken {
@@ -136,6 +140,7 @@ fn opened<S: Alter + Drop>(alloc: Global, store: S) -> Result<BlockStore<S>, Sto
 fn trusted<S: Alter + Drop>(alloc: Global, store: S) -> Result<BlockStore<S>, StoreRefusal>
     requires fresh { IsClean (S.Store.view store) → IsFresh (S.Store.view store) }
     ensures ok { IfOk result (λ it. IsClean (S.Store.view it) → IsOpened (S.Store.view store) (S.Store.view it)) }
+    ensures leaves { IfOk result (LeavesAsListed S.Store store) }
 {
     let Some(version) = version_of(&store) else {
         return Err(StoreRefusal::NotAStore);
@@ -282,7 +287,9 @@ fn create<D: Disk + Drop>(
     unopened: Unopened<D>,
 ) -> Result<BlockStore<FileStore<D>>, StoreRefusal>
     requires usable { AreUsable unopened }
+    requires schema { IsStoreSchema (wanted_by unopened) }
     ensures settled { IfOk result (λ it. IsClean (view it) → IsSettled (view it)) }
+    ensures leaves { IfOk result (λ it. IsClean (view it) → LeavesStore recovers it) }
 {
     match unopened.create() {
         Ok(store) => opened(alloc, store),
@@ -296,7 +303,9 @@ fn open_whole<D: Disk + Drop>(
     found: Unopened<D>,
 ) -> Result<BlockStore<FileStore<D>>, StoreRefusal>
     requires usable { AreUsable found }
+    requires schema { IsStoreSchema (wanted_by found) }
     ensures settled { IfOk result (λ it. IsClean (view it) → IsSettled (view it)) }
+    ensures leaves { IfOk result (λ it. IsClean (view it) → LeavesStore recovers it) }
 {
     match found.open_numbered() {
         Ok(store) => opened(alloc, store),
@@ -310,8 +319,10 @@ fn open_trusted<D: Disk + Drop>(
     found: Unopened<D>,
 ) -> Result<BlockStore<FileStore<D>>, StoreRefusal>
     requires usable { AreUsable found }
+    requires schema { IsStoreSchema (wanted_by found) }
     requires ours { IsTrue (state_of found).is_clean → HasStore found }
     ensures settled { IfOk result (λ it. IsClean (view it) → IsSettled (view it)) }
+    ensures leaves { IfOk result (λ it. IsClean (view it) → LeavesStore recovers it) }
 {
     match found.open_trusted() {
         Ok(store) => trusted(alloc, store),
@@ -336,8 +347,10 @@ fn open_listed<D: Disk + Drop>(
     depth: Depth,
 ) -> Result<BlockStore<FileStore<D>>, StoreRefusal>
     requires usable { AreUsable found }
+    requires schema { IsStoreSchema (wanted_by found) }
     requires ours { depth ≡ Depth.Schema → IsTrue (state_of found).is_clean → ListsObjects store_objects rows.now → HasStore found }
     ensures settled { IfOk result (λ it. IsClean (view it) → IsSettled (view it)) }
+    ensures leaves { IfOk result (λ it. IsClean (view it) → LeavesStore recovers it) }
 {
     if rows.is_empty() {
         return create(alloc, found);
@@ -363,6 +376,7 @@ fn open_found<D: Disk + Drop>(
     requires schema { wanted_by found ≡ store_objects }
     requires ours { depth ≡ Depth.Schema → IsTrue (state_of found).is_clean → HoldsLeft found }
     ensures settled { IfOk result (λ it. IsClean (view it) → IsSettled (view it)) }
+    ensures leaves { IfOk result (λ it. IsClean (view it) → LeavesStore recovers it) }
 {
     let rows = match found.read_catalog() {
         Ok(rows) => rows,
@@ -386,6 +400,7 @@ fn recover<D: Disk + Drop>(
     requires db { IsTrue (D.Disk.is_usable files.db) }
     requires ours { depth ≡ Depth.Schema → IsLeft (seen_image D.Disk files.log files.db) }
     ensures settled { IfOk result (λ it. IsClean (view it) → IsSettled (view it)) }
+    ensures leaves { IfOk result (λ it. IsClean (view it) → LeavesStore recovers it) }
 {
     let (size, is_begun) = page_size(alloc, &mut files)?;
     let unopened = over_files(alloc, files, size, seed, &schema())?;
@@ -432,6 +447,7 @@ impl<S: Start> BlockStore<FileStore<FileFrom<S>>> {
     ) -> Result<BlockStore<FileStore<FileFrom<S>>>, StoreRefusal>
         requires ours { IsLeft (image_at S.Start) }
         ensures settled { IfOk result (λ it. IsClean (view it) → IsSettled (view it)) }
+        ensures leaves { IfOk result (λ it. IsClean (view it) → LeavesStore recovers it) }
     {
         let (files, seed) = files_at(rt, path, start)?;
         recover(rt.alloc(), files, seed, Depth::Schema)
@@ -445,6 +461,7 @@ impl<S: Start> BlockStore<FileStore<FileFrom<S>>> {
         start: S,
     ) -> Result<BlockStore<FileStore<FileFrom<S>>>, StoreRefusal>
         ensures settled { IfOk result (λ it. IsClean (view it) → IsSettled (view it)) }
+        ensures leaves { IfOk result (λ it. IsClean (view it) → LeavesStore recovers it) }
     {
         let (files, seed) = files_at(rt, path, start)?;
         recover(rt.alloc(), files, seed, Depth::Whole)

@@ -8,6 +8,7 @@ ghost use Rattle.sqlite_trees.specs.View.{IsClean};
 ghost use Rattle.block_trees.specs.Ends.{Quiet};
 ghost use Rattle.dagcbor_store.specs.Stored.{IsUndone, IsKeptBy};
 ghost use Rattle.dagcbor_store.specs.Cars.{IsFileRead, IsFilled, ReadRefused, MayLeave, AddsCar, TakesBlock};
+ghost use Rattle.dagcbor_store.specs.Leaving.{StillLeavesStore};
 ghost use Rattle.dagcbor_store.specs.Roots.{GainsRoots, MayKeepRoots};
 
 use crate::car_error::ReadCarError;
@@ -52,6 +53,7 @@ impl<S: Store> BlockStore<S> {
         ensures undone { OnErr result (IsClean (S.Store.view self.new) → IsUndone (S.Store.view self.old) (S.Store.view self.new)) }
         ensures crash { (db : _) → S.Store.recovers self.new db → S.Store.recovers self.old db
             ⊎ (IsClean (S.Store.view self.new) → MayLeave (input_reading R.reading input.old) (input_reading R.reading input.new) (S.Store.view self.old).trees db) }
+        ensures leaves { StillLeavesStore S.Store self.old self.new }
         ensures kept { IsKeptBy S.Store self.old self.new }
     {
         match self.add_car(input) {

@@ -5,6 +5,7 @@ ghost use Rattle.ipld_links.specs.Sound.{IsSound};
 ghost use Rattle.block_trees.specs.Ends.{Quiet};
 ghost use Rattle.block_trees.specs.Rows.{name_tree};
 ghost use Rattle.sqlite_trees.specs.View.{IsClean, IsRolledBack};
+ghost use Rattle.dagcbor_store.specs.Leaving.{StillLeavesStore};
 ghost use Rattle.dagcbor_store.specs.Stored.{IsReady, GivesNextName, bound_behind, ListsName, StaysSame, IsUndone, IsNamedBy, GetsSome, GetRefused, FailsByStore, TellsOfStore, IsCommitted, IsKeptBy, IsAdded, IsAddedTo, IsPut, IsTaken, PutRefused, AnswersVerified, IsToldAdded};
 
 use crate::error::StoreRefusal;
@@ -141,6 +142,7 @@ impl<S: Store> BlockStore<S> {
         ensures ok { OnOk result (IsClean (S.Store.view self.new) → IsCommitted (S.Store.view self.old) (S.Store.view self.new)) }
         ensures refused { IfErr result (FailsByStore S.Store ⊥ self.old self.new) }
         ensures crash { (db : _) → S.Store.recovers self.new db → (db ≡ (S.Store.view self.old).trees) ⊎ S.Store.recovers self.old db }
+        ensures leaves { StillLeavesStore S.Store self.old self.new }
         ensures kept { IsKeptBy S.Store self.old self.new }
     {
         match self.store.commit() {
@@ -185,6 +187,7 @@ impl<S: Store> BlockStore<S> {
         ensures ok { OnOk result (IsSound (name.now, block.now) × (IsClean (S.Store.view self.new) → IsPut (S.Store.view self.old) (S.Store.view self.new) name.now block.now)) }
         ensures refused { IfErr result (PutRefused S.Store (name.now, block.now) self.old self.new) }
         ensures crash { (db : _) → S.Store.recovers self.new db → S.Store.recovers self.old db ⊎ (IsClean (S.Store.view self.new) → IsAddedTo (S.Store.view self.old).trees db name.now block.now) }
+        ensures leaves { StillLeavesStore S.Store self.old self.new }
         ensures kept { IsKeptBy S.Store self.old self.new }
     {
         self.add_block(name, block)?;

@@ -6,6 +6,7 @@ ghost use Rattle.ipld_links.specs.Names.{block_name};
 ghost use Rattle.sqlite_trees.specs.View.{IsClean};
 ghost use Rattle.block_trees.specs.Ends.{Quiet};
 ghost use Rattle.dagcbor_store.specs.Stored.{StaysSame, IsAddedTo, IsKeptBy};
+ghost use Rattle.dagcbor_store.specs.Leaving.{StillLeavesStore};
 ghost use Rattle.dagcbor_store.specs.Values.{PutsValue, PutValueRefused, ShowsNamed, GetsValue, GetValueRefused};
 
 use crate::error::StoreRefusal;
@@ -51,6 +52,7 @@ impl<S: Store> BlockStore<S> {
         ensures refused { IfErr result (λ e. PutValueRefused S.Store (T.tree value.now) self.old e self.new) }
         ensures crash { (db : _) → S.Store.recovers self.new db → S.Store.recovers self.old db
             ⊎ IsSomeAnd (T.tree value.now) (λ t. IsClean (S.Store.view self.new) → IsAddedTo (S.Store.view self.old).trees db (block_name (spelling t)) (spelling t)) }
+        ensures leaves { StillLeavesStore S.Store self.old self.new }
         ensures kept { IsKeptBy S.Store self.old self.new }
     {
         let block = match to_vec(self.alloc, value) {

@@ -57,7 +57,7 @@ returns-in_err-commit-in-0-clause-crash g c db h = elim (c.commit.ensures.crash 
       let none = c.version-found.ensures clean2 on ∙ ap version_rows c.in-0.is in
       let set = c.in_ok-set_version-in-0.ensures.ok clean3 in
       let same = marked_same old read marked (λ rows. version_rows c.in-Some.version) reads none set in
-      subst (OnlyMarks old.trees) (sym left.1) same)
+      (open_of old (g.met.S.Store.broken_if_shut c.args.store.now) sound, subst (OnlyMarks old.trees) (sym left.1) same))
   | inr was ↦ inl (c.survey.ensures.ends.quiet.outcomes db (c.list.ensures.ends.quiet.outcomes db (c.set_version.ensures.quiet.outcomes db was)))
 ]
 
@@ -78,6 +78,6 @@ returns-in-0-clause-crash g c db h = elim (c.commit.ensures.crash db h) [
       let none = c.version-found.ensures clean2 on ∙ ap version_rows c.in-0.is in
       let set = c.in_ok-set_version-in-0.ensures.ok clean3 in
       let same = marked_same old read marked (λ rows. version_rows c.in-Some.version) reads none set in
-      subst (OnlyMarks old.trees) (sym left.1) same)
+      (open_of old (g.met.S.Store.broken_if_shut c.args.store.now) sound, subst (OnlyMarks old.trees) (sym left.1) same))
   | inr was ↦ inl (c.survey.ensures.ends.quiet.outcomes db (c.list.ensures.ends.quiet.outcomes db (c.set_version.ensures.quiet.outcomes db was)))
 ]

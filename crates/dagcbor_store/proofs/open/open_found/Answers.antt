@@ -1,4 +1,5 @@
-use Rattle.std.proofs.Common.{sym, ◌∙◌, subst}
+use Rattle.std.proofs.Common.{sym, ◌∙◌, subst, subst₂}
+use Rattle.sqlite_pool.specs.File.{IsSoundFile}
 use Rattle.sqlite_pool.specs.Stored.{Recovers}
 use Rattle.sqlite_store.specs.Unopened.{image}
 use Rattle.dagcbor_store.specs.Left.{store_objects, ListsObjects, IsStoreFile}
@@ -10,10 +11,11 @@ open_listed-requires-clause-ours g c at clean lists =
     let e = c.in-Ok.ensures in
     let listed = e.ok clean in
     let held = c.requires.ours at (e.honest clean) in
+    let sound = subst₂ (λ n p. ∥ IsSoundFile n p ∥₁) (e.kept clean).size listed.shows.committed listed.shows.clean.sound in
     let size = (e.kept clean).size in
     record {
       pages = listed.pages;
       found = subst (λ n. Recovers n (image new) listed.pages) (sym size) listed.again;
-      ours = subst (λ n. IsStoreFile n listed.pages) (sym size) (held.left _ listed.pages held.names listed.found (subst (ListsObjects store_objects) (c.as_slice.ensures.value ∙ listed.lists) lists));
+      ours = subst (λ n. IsStoreFile n listed.pages) (sym size) (held.left _ listed.pages held.names listed.found sound (subst (ListsObjects store_objects) (c.as_slice.ensures.value ∙ listed.lists) lists));
       schema = e.schema ∙ c.requires.schema;
     }

@@ -3,6 +3,8 @@ use Rattle.sqlite_trees.specs.View.{IsClean}
 use Rattle.block_trees.specs.Ends.{KeepsOthers, IsOfBlocks}
 use Rattle.dagcbor_store.specs.Collecting.{KeepsReachable}
 use Rattle.dagcbor_store.proofs.Sweeping.{keeps_reachable, beside_swept, collected}
+use Rattle.dagcbor_store.proofs.Adding.{quiet_then}
+use Rattle.dagcbor_store.proofs.Leaving.{still_quiet, still_then}
 use Rattle.dagcbor_store.proofs.store.BlockStore.keep_reachable.Goals as goal
 
 pub returns-in_err-commit-clause-crash : goal.returns-in_err-commit-clause-crash
@@ -51,3 +53,15 @@ returns-clause-beside g c db h = elim (c.commit.ensures.crash db h) [
       (beside_swept (g.S.Store.view c.args.self.now) (g.S.Store.view c.mark_roots.new.self) (g.S.Store.view c.sweep.new.self) c.args.roots.now c.in_ok-kept.kept c.in_ok-count.count (c.in_ok-kept.ensures.same marked) (c.in_ok-kept.ensures.ok marked) (c.in_ok-count.ensures.ok swept)))
   | inr was ↦ inl (c.mark_roots.ensures.quiet.outcomes db (c.sweep.ensures.quiet.outcomes db was))
 ]
+
+pub returns-clause-leaves : goal.returns-clause-leaves
+returns-clause-leaves g c =
+    let swept = c.sweep.new.self in
+    still_then g.S.Store c.args.self.now swept c.commit.new.self (λ clean. omega (arith, c.commit.ensures.kept.clean))
+    (still_quiet g.S.Store c.args.self.now swept (quiet_then g.S.Store c.args.self.now c.mark_roots.new.self swept c.mark_roots.ensures.quiet c.sweep.ensures.quiet)) c.commit.ensures.leaves
+
+pub returns-in_err-commit-clause-leaves : goal.returns-in_err-commit-clause-leaves
+returns-in_err-commit-clause-leaves g c =
+    let swept = c.sweep.new.self in
+    still_then g.S.Store c.args.self.now swept c.commit.new.self (λ clean. omega (arith, c.commit.ensures.kept.clean))
+    (still_quiet g.S.Store c.args.self.now swept (quiet_then g.S.Store c.args.self.now c.mark_roots.new.self swept c.mark_roots.ensures.quiet c.sweep.ensures.quiet)) c.commit.ensures.leaves

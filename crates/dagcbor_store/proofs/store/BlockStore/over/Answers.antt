@@ -1,7 +1,9 @@
 use Rattle.std.proofs.Common.{arith, sym, subst}
 use Rattle.sqlite_trees.specs.View.{IsClean}
+use Rattle.dagcbor_store.specs.Leaving.{LeavesAsListed}
 use Rattle.dagcbor_store.specs.Opened.{IsOpened}
 use Rattle.dagcbor_store.proofs.Opening.{ready_checked, is_opened}
+use Rattle.dagcbor_store.proofs.Leaving.{leaves_opened, is_spared}
 use Rattle.dagcbor_store.proofs.store.BlockStore.over.Goals as goal
 
 pub of-requires : goal.of-requires
@@ -15,3 +17,18 @@ returns-in-Ok-true-clause-ok g c = subst (λ s. IsClean (g.S.Store.view s) → I
     let rolled : IsClean (g.S.Store.view c.rollback.new.self) = omega (arith, c.in-Ok-true.ensures.kept.clean) in
     let checked = c.in-Ok-true.ensures.ok clean c.in-Ok-true.field-0-test in
     is_opened (g.S.Store.view c.args.store) _ rolled c.rollback.ensures.undone checked.was_sound (g.met.S.Store.broken_if_shut c.rollback.new.self) (g.met.S.Store.unaltered c.rollback.new.self) (g.S.Store.view c.check.new.store) (g.met.S.Store.broken_if_shut c.check.new.store) checked)
+
+pub returns-in-Ok-true-clause-leaves : goal.returns-in-Ok-true-clause-leaves
+returns-in-Ok-true-clause-leaves g c = subst (LeavesAsListed g.S.Store c.args.store) (sym c.of.ensures)
+    (leaves_opened g.S.Store c.args.store c.check.new.store (g.met.S.Store.settled c.check.new.store) (λ clean. omega (arith, c.rollback.ensures.quiet.clean, c.check.ensures.kept.clean))
+    (λ clean.
+    let rolled : IsClean (g.S.Store.view c.rollback.new.self) = omega (arith, c.in-Ok-true.ensures.kept.clean) in
+    let checked = c.in-Ok-true.ensures.ok clean c.in-Ok-true.field-0-test in
+    is_opened (g.S.Store.view c.args.store) _ rolled c.rollback.ensures.undone checked.was_sound (g.met.S.Store.broken_if_shut c.rollback.new.self) (g.met.S.Store.unaltered c.rollback.new.self) (g.S.Store.view c.check.new.store) (g.met.S.Store.broken_if_shut c.check.new.store) checked)
+    (λ clean.
+    let rolled : IsClean (g.S.Store.view c.rollback.new.self) = omega (arith, c.in-Ok-true.ensures.kept.clean) in
+    let checked = c.in-Ok-true.ensures.ok clean c.in-Ok-true.field-0-test in
+    ready_checked (g.S.Store.view c.args.store) _ rolled c.rollback.ensures.undone checked.was_sound (g.met.S.Store.broken_if_shut c.rollback.new.self) (g.met.S.Store.unaltered c.rollback.new.self) _ checked))
+
+pub returns-in-Ok-false-clause-spared : goal.returns-in-Ok-false-clause-spared
+returns-in-Ok-false-clause-spared g c = is_spared g.S.Store c.args.store c.rollback.new.self c.check.new.store c.rollback.ensures.undone c.rollback.ensures.quiet (λ clean. omega (arith, c.check.ensures.kept.clean)) c.check.ensures.crash

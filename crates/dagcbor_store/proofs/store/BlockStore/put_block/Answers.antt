@@ -1,6 +1,7 @@
 use Rattle.std.proofs.Common.{arith, inl, inr, sym, subst}
 use Rattle.sqlite_trees.specs.View.{IsClean}
 use Rattle.dagcbor_store.specs.Stored.{IsAddedTo}
+use Rattle.dagcbor_store.proofs.Leaving.{still_quiet, still_then}
 use Rattle.dagcbor_store.proofs.store.BlockStore.put_block.Goals as goal
 
 pub returns-clause-crash : goal.returns-clause-crash
@@ -10,3 +11,8 @@ returns-clause-crash g c db h = elim (c.commit.ensures.crash db h) [
       subst (λ t. IsAddedTo (g.S.Store.view c.args.self.now).trees t c.args.name.now c.args.block.now) (sym same) (c.in_ok-add_block.ensures.ok.1 mid).trees)
   | inr was ↦ inl (c.add_block.ensures.quiet.outcomes db was)
 ]
+
+pub returns-clause-leaves : goal.returns-clause-leaves
+returns-clause-leaves g c =
+    let mid = c.add_block.new.self in
+    still_then g.S.Store c.args.self.now mid c.commit.new.self (λ clean. omega (arith, c.commit.ensures.kept.clean)) (still_quiet g.S.Store c.args.self.now mid c.add_block.ensures.quiet) c.commit.ensures.leaves

@@ -1,0 +1,17 @@
+//! The laws of what a store leaves, as the contracts of functions that do nothing.
+
+ghost use Rattle.dagcbor_store.specs.Leaving.{WhatIsLeftIsTaken, WhatIsHeldIsTaken, WhatAnOpenLeavesIsTaken};
+
+use sqlite_disk::Disk;
+
+/// What a store leaves, an open may take: where the clauses `leaves` hold, what its files have is for
+/// `BlockStore::open`, whether a crash cuts the store off at any moment, or the process ends.
+pub fn what_is_left_is_taken<D: Disk>()
+    ensures crash { WhatIsLeftIsTaken D.Disk }
+    ensures end { WhatIsHeldIsTaken D.Disk }
+{}
+
+/// So is what an open leaves that fails, or is cut off, of files that a store left.
+pub fn what_an_open_leaves_is_taken<D: Disk>()
+    ensures { WhatAnOpenLeavesIsTaken D.Disk }
+{}

@@ -2,9 +2,13 @@
 #![tactic(auto)]
 
 use dagcar_lines::{
-    OUT_OF_MEMORY, OneFault, USAGE, changes_of, run_changes, run_command, split_words,
+    OUT_OF_MEMORY, OneFault, USAGE, changes_of, run_changes, run_command, run_inspect, split_words,
 };
 use dagcbor_cli::{arguments, give_up};
+use inspect_lines::{Form, Inspection, inspection_of};
+use ipld_tree::Cid;
+use named_lines::{index_of, name_of, run_get, run_index};
+use std::fs::File;
 use std::io::{BufReader, BufWriter, ErrorKind, Read, Write};
 use std::process::ExitCode;
 use std::{fs, io};
@@ -76,19 +80,93 @@ fn run_files<V: Write>(rt: &HostRuntime, old: &str, new: &str, errors: &mut V) -
     }
 }
 
+/// Writes the file that is named with an index of its sections.
+fn index_file<V: Write>(rt: &HostRuntime, path: &str, errors: &mut V) -> io::Result<u8> {
+    let Ok(source) = fs::open(rt, path) else {
+        return Ok(give_up(errors, NOT_OPENED, 2));
+    };
+    let mut output = BufWriter::new(rt.alloc(), OneFault::new(rt.stdout().lock()))?;
+    let status = run_index(rt.alloc(), &source, &mut output, errors);
+    Ok(end_output(&mut output, errors, status))
+}
+
+/// Writes the block of the name, by the index of the file, if that has one.
+fn get_from<V: Write>(
+    rt: &HostRuntime,
+    name: &Cid,
+    source: &File,
+    errors: &mut V,
+) -> io::Result<u8> {
+    let mut output = BufWriter::new(rt.alloc(), OneFault::new(rt.stdout().lock()))?;
+    let status = run_get(rt.alloc(), name, source, &mut output, errors);
+    Ok(end_output(&mut output, errors, status))
+}
+
+/// Whether the file is read at places. A pipe is not.
+fn has_places(file: &File) -> bool {
+    file.metadata().is_ok_and(|it| it.is_file())
+}
+
+/// Does what the words say of the file that is named.
+fn run_file<V: Write>(
+    rt: &HostRuntime,
+    words: &[String],
+    path: &str,
+    errors: &mut V,
+) -> io::Result<u8> {
+    let Ok(source) = fs::open(rt, path) else {
+        return Ok(give_up(errors, NOT_OPENED, 2));
+    };
+    match name_of(words) {
+        Some(name) if has_places(&source) => get_from(rt, &name, &source, errors),
+        _ => run_over(rt, words, source, errors),
+    }
+}
+
+/// Says what the source holds, in this form.
+fn inspect_over<S: Read + Drop, V: Write>(
+    rt: &HostRuntime,
+    form: Form,
+    source: S,
+    errors: &mut V,
+) -> io::Result<u8> {
+    let mut input = BufReader::new(rt.alloc(), source)?;
+    let mut output = BufWriter::new(rt.alloc(), OneFault::new(rt.stdout().lock()))?;
+    let status = run_inspect(rt.alloc(), form, &mut input, &mut output, errors);
+    Ok(end_output(&mut output, errors, status))
+}
+
+/// Says what the file that is named holds, or standard input.
+fn inspect_file<V: Write>(
+    rt: &HostRuntime,
+    asked: Inspection<'_>,
+    errors: &mut V,
+) -> io::Result<u8> {
+    let path = match asked.file {
+        None | Some("-") => return inspect_over(rt, asked.form, rt.reader(), errors),
+        Some(path) => path,
+    };
+    match fs::open(rt, path) {
+        Ok(source) => inspect_over(rt, asked.form, source, errors),
+        Err(_) => Ok(give_up(errors, NOT_OPENED, 2)),
+    }
+}
+
 /// Does what the words say of the files that they name, or of standard input.
 fn run_words<V: Write>(rt: &HostRuntime, args: &[String], errors: &mut V) -> io::Result<u8> {
     if let Some((old, new)) = changes_of(args) {
         return run_files(rt, old, new, errors);
     }
+    if let Some(path) = index_of(args) {
+        return index_file(rt, path, errors);
+    }
+    if let Some(asked) = inspection_of(args) {
+        return inspect_file(rt, asked, errors);
+    }
     let (words, file) = split_words(args);
-    let path = match file {
-        None | Some("-") => return run_over(rt, words, rt.reader(), errors),
-        Some(path) => path,
-    };
-    match fs::open(rt, path) {
-        Ok(source) => run_over(rt, words, source, errors),
-        Err(_) => Ok(give_up(errors, NOT_OPENED, 2)),
+    match file {
+        None | Some("-") => run_over(rt, words, rt.reader(), errors),
+        Some(path) => run_file(rt, words, path, errors),
     }
 }
 

@@ -1,5 +1,5 @@
 -- How many sections had which verdict.
-use Rattle.std.proofs.Common.{◌≡◌, ℕ, ◌+◌, List, [], ◌∷◌, ◌++◌, length, length-append, append_assoc, Bool, arith, ap, ◌∙◌, subst, ◌↔◌, IsTrue, Result, Ok, Err, OnOk, Vec, Global, flat_map}
+use Rattle.std.proofs.Common.{◌≡◌, ℕ, ◌+◌, List, [], ◌∷◌, ◌++◌, length, length-append, append_assoc, Bool, arith, ap, ◌∙◌, subst, ◌↔◌, IsTrue, Result, Ok, Err, OnOk, Vec, Global}
 use Rattle.std.specs.Prelude.{IfOk}
 use Rattle.ipld_tree.specs.Cid.{CidParts}
 use Rattle.dagcbor_car.specs.Car.{Section}
@@ -8,7 +8,6 @@ use Rattle.ipld_links.specs.Verdicts.{IsVerdict}
 use Rattle.dagcbor_car.specs.Told.{Told}
 use Rattle.dagcbor_car.proofs.Files.{sections_push, told_push}
 use Rattle.ipld_links.specs.declared.verdict.Verdict.{Verdict}
-use Rattle.block_lines.specs.Lines.{missing_line}
 use Rattle.dagcar_lines.specs.Answers.{summary_speech}
 use Rattle.dagcar_lines.specs.Steps.{KnowsMore, SaysAtEnd}
 use Rattle.dagcar_lines.specs.Summary.{is_ok, is_not_read, are_links_not_read, is_refused, is_other_bytes, is_unverified, one_if, how_many, summary_lines, counts_lines, AreCounts, CountsOne, KnowsCounts}
@@ -54,14 +53,14 @@ lines_of : (counts : Counts) (told : List Told) (missing : ℕ) → AreCounts co
 lines_of counts told missing h = λ i. counts_lines (record { sections = h.sections i; ok = h.ok i; not_read = h.not_read i; links_not_read = h.links_not_read i; refused = h.refused i; other_bytes = h.other_bytes i; unverified = h.unverified i }) missing
 
 pub summary_is_said : {E : Type 0} (it : Summing) (v : Vec CidParts Global) (items : List CidParts) (r : Result (Vec ℕ Global × Bool) E) → items ≡ v.items → ((roots : List (List ℕ)) (sections : List Section) → IsAfter it.check roots sections → ListsMissingInFile roots sections v)
-    → IfOk r (λ p. p.0.items ≡ flat_map missing_line items ++ counts_lines it.counts (length items)) → IfOk r (λ p. IsTrue p.1 ↔ (items ≡ [])) → SaysAtEnd summary_speech KnowsCounts it r
+    → IfOk r (λ p. p.0.items ≡ counts_lines it.counts (length items)) → IfOk r (λ p. IsTrue p.1 ↔ (items ≡ [])) → SaysAtEnd summary_speech KnowsCounts it r
 summary_is_said it v items (Ok p) is lists lines well roots sections k = record {
   missing = v;
   lists = lists roots sections k.0;
   told = k.1.0;
   of_sections = k.1.1;
   right = k.1.2;
-  lines = lines ∙ ap (λ x. flat_map missing_line x ++ counts_lines it.counts (length x)) is ∙ ap (λ x. flat_map missing_line v.items ++ x) (lines_of it.counts k.1.0 (length v.items) k.1.3);
+  lines = lines ∙ ap (λ x. counts_lines it.counts (length x)) is ∙ lines_of it.counts k.1.0 (length v.items) k.1.3;
   wellness = subst (λ x. IsTrue p.1 ↔ (x ≡ [])) is well;
 }
 summary_is_said it v items (Err e) is lists lines well roots sections k = tt

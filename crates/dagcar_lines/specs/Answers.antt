@@ -26,7 +26,7 @@ use Rattle.block_lines.specs.Lines.{line, verdict_line, listed_line, missing_lin
 use Rattle.block_lines.specs.Shown.{IsSaidOfNoBlock, reserved_line}
 use Rattle.dagcar_lines.specs.Lines.{cause_line, section_place_line}
 use Rattle.dagcar_lines.specs.Speeches.{Speech, beside, SaysBytes}
-use Rattle.dagcar_lines.specs.Summary.{IsSummary}
+use Rattle.dagcar_lines.specs.Summary.{IsVerdictCounted, IsSummary}
 use Rattle.dagcar_lines.specs.Help.{help_text, version_text}
 use Rattle.dagcbor_paths.specs.Paths.{segments}
 use Rattle.dagcar_lines.specs.Finding.{IsGot, IsTreeOfFile}
@@ -77,11 +77,11 @@ verify_speech = record {
   of_fault = λ line. line;
 }
 
--- what `check --summary` says: what `check` says, and then how many sections had which verdict
+-- what `check --summary` says: how many sections had which verdict
 abbrev pub summary_speech : Speech
 summary_speech = record {
   of_roots = λ roots. [];
-  of_section = IsVerdictLine;
+  of_section = IsVerdictCounted;
   of_end = IsSummary;
   of_fault = λ line. line;
 }
@@ -150,7 +150,7 @@ abbrev pub RunsCommand : Command → List ℕ → List ℕ → Option (List ℕ)
     → Result Bool ToolError → Option (List ℕ) → Option (List ℕ) → Type 0
 RunsCommand commands.Check text b old heard ended new after = SaysWithPlaces check_speech b old heard ended new after
 RunsCommand commands.Verify text b old heard ended new after = SaysWithPlaces verify_speech b old heard ended new after
-RunsCommand commands.Summary text b old heard ended new after = SaysWithPlaces summary_speech b old heard ended new after
+RunsCommand commands.Summary text b old heard ended new after = SaysBytes summary_speech b old ended new
 RunsCommand commands.Help text b old heard ended new after = SaysToDevice (λ well out. (well ≡ true) × (out ≡ help_text)) old ended new
 RunsCommand commands.Version text b old heard ended new after = SaysToDevice (λ well out. (well ≡ true) × (out ≡ version_text)) old ended new
 RunsCommand commands.List text b old heard ended new after = SaysBytes list_speech b old ended new
@@ -172,7 +172,6 @@ RunsCommand commands.Record text b old heard ended new after = SaysBoth (IsRecor
 abbrev pub IsQuiet : Command → Type 0
 IsQuiet commands.Check = ⊥
 IsQuiet commands.Verify = ⊥
-IsQuiet commands.Summary = ⊥
 IsQuiet commands.Name = ⊥
 IsQuiet commands.One = ⊥
 IsQuiet commands.Show = ⊥

@@ -1,5 +1,5 @@
 -- How many sections of a file had which verdict.
-use Rattle.std.specs.Prelude.{◌≡◌, ◌↔◌, ℕ, ◌+◌, List, [], ◌∷◌, ◌++◌, length, codes, Bool, true, false, IsTrue, Vec, decimal, flat_map}
+use Rattle.std.specs.Prelude.{◌≡◌, ◌↔◌, ℕ, ◌+◌, List, [], ◌∷◌, ◌++◌, length, codes, Bool, true, false, IsTrue, Vec}
 use Rattle.std.specs.declared.alloc.Global.{Global}
 use Rattle.ipld_tree.specs.Cid.{CidParts}
 use Rattle.dagcbor_car.specs.Car.{Section}
@@ -8,7 +8,8 @@ use Rattle.ipld_links.specs.Verdicts.{IsVerdict}
 use Rattle.dagcbor_car.specs.Told.{Told, sections_of, AreTold}
 use Rattle.ipld_links.specs.declared.verdict.Verdict.{Verdict}
 use Rattle.ipld_links.specs.declared.verdict.Verdict.TheVariants as verdicts
-use Rattle.block_lines.specs.Lines.{line, missing_line}
+use Rattle.block_lines.specs.Lines.{is_well}
+use Rattle.inspect_lines.specs.Facts.{number_line}
 use Rattle.dagcar_lines.specs.declared.summary.Counts.{Counts}
 use Rattle.dagcar_lines.specs.declared.summary.Summing.{Summing}
 
@@ -52,10 +53,6 @@ how_many is_so (p ∷ told) = one_if (is_so p.1) + how_many is_so told
 
 -- ---- the lines
 
--- a number behind a word
-abbrev pub number_line : List ℕ → ℕ → List ℕ
-number_line word count = line (word ++ (32 ∷ decimal count))
-
 -- how many sections there are, of how many the verdict is which, and how many links lead nowhere
 abbrev pub summary_lines : List Told → ℕ → List ℕ
 summary_lines told missing = number_line (codes "sections") (length told)
@@ -67,14 +64,19 @@ summary_lines told missing = number_line (codes "sections") (length told)
     ++ (number_line (codes "not verified") (how_many is_unverified told)
     ++ number_line (codes "missing") missing))))))
 
--- What `check --summary` says at the end: what `check` says, and how many sections had which verdict.
+-- of a section nothing is said, but whether the verdict on it tells of nothing wrong
+abbrev pub IsVerdictCounted : Section → Bool → List ℕ → Type 0
+IsVerdictCounted s well text = (v : Verdict) × IsVerdict s v × (well ≡ is_well v) × (text ≡ [])
+
+-- What `check --summary` says at the end: how many sections had which verdict, and how many links lead
+-- nowhere; nothing is wrong where none does.
 pub record IsSummary (roots : List (List ℕ)) (sections : List Section) (well : Bool) (text : List ℕ) : Type 0 where
   pub missing : Vec CidParts Global
   pub lists : ListsMissingInFile roots sections missing
   pub told : List Told
   pub of_sections : sections_of told ≡ sections
   pub right : AreTold told
-  pub lines : text ≡ flat_map missing_line missing.items ++ summary_lines told (length missing.items)
+  pub lines : text ≡ summary_lines told (length missing.items)
   pub wellness : IsTrue well ↔ (missing.items ≡ [])
 
 -- ---- what is counted

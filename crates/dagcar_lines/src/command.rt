@@ -43,7 +43,7 @@ use std::io::{BufRead, Write};
 /// What is told of wrong words.
 pub const USAGE: &str =
     "usage: dagcar check [--summary]|verify|list|name|one|show|make|get CID|tree CID\
-    |at [--raw] CID/PATH|prove CID/PATH|ls CID/PATH|cat CID/PATH|records|record KEY|changes OLD NEW\n";
+    |at [--raw] CID/PATH|prove CID/PATH|ls CID/PATH|cat CID/PATH|records|record KEY|changes OLD NEW|inspect [--json]|index FILE\n";
 
 /// What is told of want of memory.
 pub const OUT_OF_MEMORY: &str = "dagcar: out of memory\n";
@@ -53,7 +53,7 @@ pub const OUT_OF_MEMORY: &str = "dagcar: out of memory\n";
 pub enum Command {
     /// To judge a file of blocks.
     Check,
-    /// To judge a file of blocks, and to count its sections by their verdicts.
+    /// To judge a file of blocks, and to tell no more than how many sections have which verdict.
     Summary,
     /// To judge the sections of a file of blocks, and follow no link.
     Verify,
@@ -208,7 +208,7 @@ fn command_on_text(word: &str, text: &str) -> Option<Command>
 }
 
 /// The command that the words are.
-fn command_of(args: &[String]) -> Option<Command>
+pub fn command_of(args: &[String]) -> Option<Command>
     ensures { MatchOption result ((c : Command) → ¬ IsCommand (map string_bytes args.now) c)
         (λ c. IsCommand (map string_bytes args.now) c) }
 {
@@ -418,7 +418,12 @@ pub fn run<R: BufRead, W: Write, V: Write>(
 {
     match command {
         Command::Check => say_input::<CarCheck, R, W, V>(alloc, input, output, errors),
-        Command::Summary => say_input::<Summing, R, W, V>(alloc, input, output, errors),
+        Command::Summary => say_input::<Summing, R, W, io::Sink>(
+            alloc,
+            input,
+            output,
+            &mut io::sink(),
+        ),
         Command::Verify => say_input::<Verifying, R, W, V>(alloc, input, output, errors),
         Command::Help => say_text(help_text(), output),
         Command::Version => say_text(version_text(), output),

@@ -5,6 +5,7 @@ ghost use Rattle.dagcar_lines.specs.Help.{help_text, version_text};
 
 /// What `--help` writes.
 const HELP: &str = "usage: dagcar check [--summary] [FILE]
+       dagcar inspect [--json] [FILE]
        dagcar verify|list|name|one|show|make [FILE]
        dagcar get|tree CID [FILE]
        dagcar at [--raw] CID/PATH [FILE]
@@ -13,9 +14,11 @@ const HELP: &str = "usage: dagcar check [--summary] [FILE]
        dagcar records [FILE]
        dagcar record KEY [FILE]
        dagcar changes OLD NEW
+       dagcar index FILE
 
 Of a file of blocks (CAR, version 1 or 2); without FILE, or with -, standard input:
   check    the verdict on each block, and which links lead nowhere; --summary counts them
+  inspect  what it holds, in numbers; --json writes them as JSON
   verify   the verdicts alone
   list     the roots, and the length of each block
   get      the block of a name
@@ -27,6 +30,7 @@ Of a file of blocks (CAR, version 1 or 2); without FILE, or with -, standard inp
   records  the keys of a repository's records (AT Protocol), and their CIDs
   record   the record of a key, as DAG-JSON
   changes  the keys whose records differ between two repositories, and their CIDs
+  index    the same file with an index, in version 2; get looks blocks up there
 
 Of a block of DAG-CBOR:
   name     its CID

@@ -12,6 +12,7 @@ mod device;
 mod files;
 mod get;
 mod help;
+mod inspect;
 pub mod laws;
 mod list;
 mod make;
@@ -23,5 +24,9 @@ mod walk;
 
 pub use at::{Asked, say_asked};
 pub use changes::{changes_of, run_changes};
-pub use command::{Command, OUT_OF_MEMORY, USAGE, run_command, split_path, split_words};
+pub use command::{
+    Command, OUT_OF_MEMORY, USAGE, command_of, run_command, split_path, split_words, status_of,
+};
 pub use device::OneFault;
+pub use get::got;
+pub use inspect::run_inspect;

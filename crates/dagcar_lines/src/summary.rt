@@ -1,17 +1,15 @@
-//! `check --summary`: what `check` says, and then how many sections had which verdict.
+//! `check --summary`: how many sections had which verdict, and how many links lead nowhere.
 
-ghost use Rattle.std.specs.Prelude.{◌≡◌, ◌↔◌, ◌++◌, ◌+◌, [], length, flat_map, IsTrue, IfOk, OnOk, refl};
+ghost use Rattle.std.specs.Prelude.{◌≡◌, ◌↔◌, ◌++◌, ◌+◌, [], length, IsTrue, IfOk, OnOk, refl};
 ghost use Rattle.dagcbor_car.specs.Checks.{TakesSection};
-ghost use Rattle.ipld_links.specs.Verdicts.{IsVerdict};
-ghost use Rattle.block_lines.specs.Lines.{missing_line};
-ghost use Rattle.dagcar_lines.specs.Answers.{IsVerdictLine, TellsPlace, summary_speech};
+ghost use Rattle.dagcar_lines.specs.Answers.{summary_speech};
 ghost use Rattle.dagcar_lines.specs.Summary.{CountsOne, CountsSection, AreCounts, KnowsCounts};
-ghost use Rattle.dagcar_lines.specs.Summary.{number_line, counts_lines};
+ghost use Rattle.dagcar_lines.specs.Summary.{IsVerdictCounted, counts_lines};
 
-use crate::check::section_answer;
 use crate::walk::Teller;
-use block_lines::{Answer, Said, missing_lines};
+use block_lines::{Answer, Said, is_well};
 use dagcbor_car::{CarCheck, Section};
+use inspect_lines::push_number;
 use ipld_links::Verdict;
 use ipld_tree::Cid;
 use std::alloc::{AllocError, Global};
@@ -77,15 +75,6 @@ pub struct Summing {
     counts: Counts,
 }
 
-/// Puts the line of a number behind a word.
-fn push_count(alloc: Global, out: &mut Vec<u8>, word: &str, count: u64) -> Result<(), AllocError>
-    ensures { OnOk result (out.new.items ≡ out.old.items ++ number_line word.now count) }
-{
-    let line = format!(in alloc; "{word} {count}\n")?;
-    out.extend_from_slice(line.as_bytes())?;
-    Ok(())
-}
-
 /// Puts the lines of the numbers.
 fn push_counts(
     alloc: Global,
@@ -95,64 +84,45 @@ fn push_counts(
 ) -> Result<(), AllocError>
     ensures { OnOk result (out.new.items ≡ out.old.items ++ counts_lines counts.now missing) }
 {
-    push_count(alloc, out, "sections", counts.sections)?;
-    push_count(alloc, out, "ok", counts.ok)?;
-    push_count(alloc, out, "not read", counts.not_read)?;
-    push_count(alloc, out, "links not read", counts.links_not_read)?;
-    push_count(alloc, out, "refused", counts.refused)?;
-    push_count(alloc, out, "other bytes", counts.other_bytes)?;
-    push_count(alloc, out, "not verified", counts.unverified)?;
-    push_count(alloc, out, "missing", missing)
+    push_number(alloc, out, "sections", counts.sections)?;
+    push_number(alloc, out, "ok", counts.ok)?;
+    push_number(alloc, out, "not read", counts.not_read)?;
+    push_number(alloc, out, "links not read", counts.links_not_read)?;
+    push_number(alloc, out, "refused", counts.refused)?;
+    push_number(alloc, out, "other bytes", counts.other_bytes)?;
+    push_number(alloc, out, "not verified", counts.unverified)?;
+    push_number(alloc, out, "missing", missing)
 }
 
-/// The lines of these names, and of the numbers. Nothing is wrong where there is no name.
+/// The lines of the numbers. Nothing is wrong where no link leads nowhere.
 #[tactic(auto, using(block_lines::proofs::Saying::told_empty))]
 fn summary_said(alloc: Global, missing: &[Cid], counts: &Counts) -> Result<Said, AllocError>
-    ensures lines { IfOk result (λ p. p.0.items
-        ≡ flat_map missing_line missing.now ++ counts_lines counts.now (length missing.now)) }
+    ensures lines { IfOk result (λ p. p.0.items ≡ counts_lines counts.now (length missing.now)) }
     ensures well { IfOk result (λ p. IsTrue p.1 ↔ (missing.now ≡ [])) }
 {
-    let mut lines = missing_lines(alloc, missing)?;
+    let mut lines = Vec::new(alloc);
     push_counts(alloc, &mut lines, counts, missing.len() as u64)?;
     Ok((lines, missing.is_empty()))
 }
 
-/// Counts the section with this verdict, and answers its line, and what is told beside that.
-fn told_counted(
-    alloc: Global,
-    counts: &mut Counts,
-    section: &Section<'_>,
-    verdict: &Verdict,
-) -> Result<Answer, AllocError>
-    ensures said { IsVerdict (section.now.cid, section.now.block.now) verdict.now → IfOk result
-        (λ p. IsVerdictLine (section.now.cid, section.now.block.now) p.0.1 p.0.0.items) }
-    ensures told { IsVerdict (section.now.cid, section.now.block.now) verdict.now → IfOk result
-        (λ p. TellsPlace (section.now.cid, section.now.block.now) p.1.items) }
-    ensures counted { OnOk result (CountsOne verdict.now counts.old counts.new) }
-{
-    counts.count(verdict)?;
-    section_answer(alloc, section, verdict)
-}
-
-/// Takes the section, counts it, and answers the line of the verdict on it, and what is told beside
-/// that.
-fn tell_counted(
-    alloc: Global,
+/// Takes the section, and counts it. Whether the verdict on it tells of nothing wrong.
+fn count_section(
     check: &mut CarCheck,
     counts: &mut Counts,
     section: &Section<'_>,
-) -> Result<Answer, AllocError>
+) -> Result<bool, AllocError>
     ensures said { IfOk result
-        (λ p. IsVerdictLine (section.now.cid, section.now.block.now) p.0.1 p.0.0.items) }
-    ensures told { IfOk result
-        (λ p. TellsPlace (section.now.cid, section.now.block.now) p.1.items) }
+        (λ well. IsVerdictCounted (section.now.cid, section.now.block.now) well []) }
     ensures taken { OnOk result
         (TakesSection (section.now.cid, section.now.block.now) check.old check.new) }
     ensures counted { OnOk result
         (CountsSection (section.now.cid, section.now.block.now) counts.old counts.new) }
 {
     match check.take(section) {
-        Ok(verdict) => told_counted(alloc, counts, section, &verdict),
+        Ok(verdict) => {
+            counts.count(&verdict)?;
+            Ok(is_well(&verdict))
+        }
         Err(error) => Err(error),
     }
 }
@@ -160,7 +130,7 @@ fn tell_counted(
 impl Teller for Summing {
     ghost speech = { summary_speech };
 
-    ghost tells = { TellsPlace };
+    ghost tells = { λ s text. text ≡ [] };
 
     ghost knows = { KnowsCounts };
 
@@ -173,7 +143,8 @@ impl Teller for Summing {
     }
 
     fn tell(&mut self, alloc: Global, section: &Section<'_>) -> Result<Answer, AllocError> {
-        tell_counted(alloc, &mut self.check, &mut self.counts, section)
+        let well = count_section(&mut self.check, &mut self.counts, section)?;
+        Ok(((Vec::new(alloc), well), Vec::new(alloc)))
     }
 
     fn end(self, alloc: Global) -> Result<Said, AllocError> {

@@ -3,6 +3,7 @@ mod dagcar;
 mod dagcbor;
 mod files;
 mod found;
+mod inspected;
 mod make;
 mod nodes;
 mod paths;

@@ -58,7 +58,7 @@ const FLOAT_LINE: &[u8] =
 
 const USAGE_LINE: &[u8] =
     b"usage: dagcar check [--summary]|verify|list|name|one|show|make|get CID|tree CID\
-    |at [--raw] CID/PATH|prove CID/PATH|ls CID/PATH|cat CID/PATH|records|record KEY|changes OLD NEW\n";
+    |at [--raw] CID/PATH|prove CID/PATH|ls CID/PATH|cat CID/PATH|records|record KEY|changes OLD NEW|inspect [--json]|index FILE\n";
 
 /// The map's block.
 const MAP: &[u8] =

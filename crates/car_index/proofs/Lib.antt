@@ -1,0 +1,4 @@
+mod Runs
+mod Pushed
+mod Going
+mod Filling

@@ -1,0 +1,16 @@
+//! The index of a file of blocks of version 2: where the section of each multihash begins; and bytes
+//! that are read at places.
+#![tactic(auto)]
+
+mod encode;
+mod entry;
+mod find;
+mod number;
+mod read_at;
+mod run;
+
+pub use encode::encode_index;
+pub use entry::Entry;
+pub use find::{Bucket, find_bucket};
+pub use number::{count_at, fill, number_at};
+pub use read_at::{ReadAt, Rest, buffered_from};

@@ -1,0 +1,76 @@
+//! Entries of one key, that stand one behind the other.
+
+ghost use Rattle.std.specs.Prelude.{◌≡◌, ◌==◌, ◌∷◌, [], ◌<◌, ◌≤◌, length, take_while, MatchOption};
+ghost use Rattle.car_index.specs.Index.{runs};
+ghost use Rattle.car_index.specs.Keys.{key_of};
+
+use crate::entry::Entry;
+
+/// By what entries are parted.
+#[derive(Clone, Copy)]
+pub(crate) enum Key {
+    HashCode,
+    Width,
+}
+
+/// Entries of one key, and those behind them.
+#[derive(Clone, Copy)]
+pub(crate) struct Front<'a> {
+    pub key: u64,
+    pub entries: &'a [Entry],
+    pub behind: &'a [Entry],
+}
+
+/// How many bytes an offset has.
+const OFFSET_LENGTH: u64 = 8;
+
+/// The key of an entry.
+fn key_of(key: Key, entry: &Entry) -> u64
+    ensures { result ≡ key_of key entry.now }
+{
+    match key {
+        Key::HashCode => entry.hash_code(),
+        Key::Width => entry.digest().len() as u64 + OFFSET_LENGTH,
+    }
+}
+
+/// How many entries stand at the front that are of this key.
+fn count_of(key: Key, number: u64, entries: &[Entry]) -> usize
+    ensures count { result ≡ length (take_while (λ e. key_of key e == number) entries.now) }
+    ensures within { result ≤ length entries.now }
+{
+    entries
+        .iter()
+        .take_while(|e| key_of(key, e) == number)
+        .count()
+}
+
+/// The first run of the entries, if there is one.
+pub(crate) fn split_run(key: Key, entries: &[Entry]) -> Option<Front<'_>>
+    ensures { MatchOption result (entries.now ≡ []) (λ f. (length f.behind.now < length entries.now)
+        × (runs (key_of key) entries.now ≡ (f.key, f.entries.now) ∷ runs (key_of key) f.behind.now)) }
+{
+    let [first, others @ ..] = entries else {
+        return None;
+    };
+    let number = key_of(key, first);
+    let (entries, behind) = entries.split_at(1 + count_of(key, number, others));
+    Some(Front {
+        key: number,
+        entries,
+        behind,
+    })
+}
+
+/// How many runs there are.
+pub(crate) fn count_runs(key: Key, entries: &[Entry]) -> usize
+    ensures { result ≡ length (runs (key_of key) entries.now) }
+{
+    let mut rest = entries;
+    let mut count = 0;
+    while let Some(front) = split_run(key, rest) {
+        rest = front.behind;
+        count += 1;
+    }
+    count
+}

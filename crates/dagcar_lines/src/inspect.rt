@@ -1,0 +1,29 @@
+//! `inspect`: what a file holds, in numbers.
+
+ghost use Rattle.std.specs.Prelude.{◌≡◌, ◌≢◌, IfSome, Result, Bool, Option, List, ℕ};
+ghost use Rattle.block_lines.specs.Lines.{SaysBoth};
+ghost use Rattle.dagcar_lines.specs.Answers.{EndsSo};
+ghost use Rattle.dagcbor_cli.specs.declared.fault.ToolError.{ToolError};
+ghost use Rattle.inspect_lines.specs.Inspecting.{IsInspected};
+
+use crate::command::status_of;
+use inspect_lines::{Form, write_inspected};
+use std::alloc::Global;
+use std::io::{BufRead, Write};
+
+/// Says what the file holds that the input is, and answers the exit status.
+pub fn run_inspect<R: BufRead, W: Write, V: Write>(
+    alloc: Global,
+    form: Form,
+    input: &mut R,
+    output: &mut W,
+    errors: &mut V,
+) -> u8
+    ensures { IfSome (R.remaining input.old) (λ b. (ended : Result Bool ToolError)
+        × (after : Option (List ℕ)) × EndsSo ended result
+        × SaysBoth (IsInspected form b) (W.contents output.old) (V.contents errors.old) ended
+        (W.contents output.new) after × (result ≢ 2 → V.contents errors.new ≡ after)) }
+{
+    let ended = write_inspected(alloc, form, input, output, errors);
+    status_of(ended, errors)
+}

@@ -1,0 +1,6 @@
+mod Spanning
+mod Copying
+mod Gathering
+mod Sending
+mod Headers
+mod Sought

@@ -1,0 +1,24 @@
+-- Where the parts of a file of version 2 stand (CARv2 specification).
+use Rattle.std.specs.Prelude.{◌≡◌, ◌≢◌, ℕ, List}
+use Rattle.dagcbor_car.specs.Versions.{IsVersion2, number_behind, begin_of, length_of, HasSpan}
+use Rattle.index_lines.specs.declared.layout.Layout.{Layout}
+
+-- where the index begins: that stands behind where the file of version 1 does, and how long it is
+abbrev pub index_field : List ℕ → ℕ
+index_field b = number_behind 43 b
+
+-- the bytes are of version 2, and an index is told of
+abbrev pub HasIndex : List ℕ → Type 0
+HasIndex b = HasSpan b × (index_field b ≢ 0)
+
+-- the parts of such bytes
+pub record IsLayout (b : List ℕ) (found : Layout) : Type 0 where
+  pub has : HasIndex b
+  pub begin : found.begin ≡ begin_of b
+  pub long : found.length ≡ length_of b
+  pub index : found.index ≡ index_field b
+
+-- where the file of version 1 begins, in one of either version
+pub record BeginsAt (b : List ℕ) (place : ℕ) : Type 0 where
+  pub within : HasSpan b → place ≡ begin_of b
+  pub whole : (¬ IsVersion2 b) → place ≡ 0

@@ -1,0 +1,5 @@
+pub mod Spans
+pub mod Layouts
+pub mod Indexed
+pub mod Steps
+pub mod Finds

@@ -1,0 +1,90 @@
+//! Bytes that are copied from a place.
+
+ghost use Rattle.std.specs.Prelude.{◌+◌, ◌≤◌, ◌++◌, take, drop, length, IfSome};
+ghost use Rattle.dagcbor_cli.specs.Writing.{WritesFront};
+
+use car_index::{ReadAt, fill};
+use dagcbor_cli::{ToolError, write_all};
+use std::io::Write;
+
+/// How many bytes are copied at once.
+const PIECE: usize = 4096;
+
+/// Writes so many bytes from a place on, if they are there.
+#[tactic(auto, using(crate::proofs::Sending::front_none))]
+fn copy_piece<S: ReadAt, W: Write>(
+    source: &S,
+    place: u64,
+    count: usize,
+    output: &mut W,
+) -> Result<(), ToolError>
+    requires { count ≤ 4096 }
+    ensures { IfSome (S.bytes source.now) (λ b. WritesFront (W.contents output.old)
+        (W.contents output.new) result (take count (drop place b))) }
+{
+    let mut room = [0; PIECE];
+    let piece = &mut room[..count];
+    match fill(source, place, piece) {
+        Ok(full) => {
+            if full {
+                return write_all(output, piece);
+            }
+            Err(ToolError::Input)
+        }
+        Err(_) => Err(ToolError::Input),
+    }
+}
+
+/// Writes so many bytes from a place on, if they are there.
+fn copy_from<S: ReadAt, W: Write>(
+    source: &S,
+    begin: u64,
+    count: u64,
+    output: &mut W,
+) -> Result<(), ToolError>
+    ensures { IfSome (S.bytes source.now) (λ b. WritesFront (W.contents output.old)
+        (W.contents output.new) result (take count (drop begin b))) }
+{
+    if begin.checked_add(count).is_none() {
+        return Err(ToolError::Input);
+    }
+    let mut done = 0;
+    while done < count {
+        let length = (count - done).min(PIECE as u64);
+        copy_piece(source, begin + done, length as usize, output)?;
+        done += length;
+    }
+    Ok(())
+}
+
+/// Writes so many bytes from a place on, and then these.
+fn send_rest<S: ReadAt, W: Write>(
+    source: &S,
+    begin: u64,
+    count: u64,
+    behind: &[u8],
+    output: &mut W,
+) -> Result<(), ToolError>
+    ensures { IfSome (S.bytes source.now) (λ b. WritesFront (W.contents output.old)
+        (W.contents output.new) result (take count (drop begin b) ++ behind.now)) }
+{
+    copy_from(source, begin, count, output)?;
+    write_all(output, behind)
+}
+
+/// Writes so many bytes from a place on, between these.
+pub(crate) fn send_between<S: ReadAt, W: Write>(
+    before: &[u8],
+    source: &S,
+    begin: u64,
+    count: u64,
+    behind: &[u8],
+    output: &mut W,
+) -> Result<(), ToolError>
+    ensures { IfSome (S.bytes source.now) (λ b. WritesFront (W.contents output.old)
+        (W.contents output.new) result
+        (before.now ++ (take count (drop begin b) ++ behind.now))) }
+{
+    write_all(output, before)?;
+    send_rest(source, begin, count, behind, output)
+}

@@ -1,0 +1,175 @@
+//! The entries of the sections of a file.
+
+ghost use Rattle.std.specs.Prelude.{◌≡◌, ◌≤◌, List, ℕ, Some, length, IfOk, IfSome};
+ghost use Rattle.dagcbor_heads.specs.Inputs.{input_reading};
+ghost use Rattle.dagcbor_heads.specs.Reading.{Reading};
+ghost use Rattle.ipld_tree.specs.Cid.{varint, cid_bytes};
+ghost use Rattle.dagcbor_car.specs.Sources.{TakesStart};
+ghost use Rattle.dagcbor_items.specs.Walks.{forms};
+ghost use Rattle.dagcbor_car.specs.Car.{section_bytes, header_bytes};
+ghost use Rattle.index_lines.specs.Steps.{GathersNext, Gathers};
+
+use arrayvec::ArrayVec;
+use car_index::{Entry, ReadAt, buffered_from};
+use dagcbor_car::{Section, SectionSink, pull_header, push_header};
+use dagcbor_cli::ToolError;
+use dagcbor_heads::{Input, IoRefReader, Read};
+use held_lines::{Ended, fault_line, input_over, take_sections};
+use ipld_tree::Cid;
+use std::alloc::{AllocError, Global};
+use std::io::BufRead;
+
+/// The entries of the sections that were taken, and where the next one begins.
+#[derive(Drop)]
+struct Gathering {
+    entries: Vec<Entry>,
+    place: u64,
+}
+
+/// The entries of a file, in order, and how long its file of version 1 is.
+#[derive(Drop)]
+pub(crate) struct Gathered {
+    pub entries: Vec<Entry>,
+    pub length: u64,
+}
+
+/// The groups of seven bits of a number, the lowest first.
+fn varint_of(number: u64) -> ArrayVec<u8, 10>
+    ensures { result.items ≡ varint number }
+{
+    let mut groups = ArrayVec::new();
+    let mut rest = number;
+    while rest >= 128 {
+        groups.push(128 + (rest % 128) as u8);
+        rest /= 128;
+    }
+    groups.push(rest as u8);
+    groups
+}
+
+/// How many bytes a number has as a varint.
+fn varint_length(number: u64) -> usize
+    ensures length { result ≡ length (varint number) }
+    ensures short { result ≤ 10 }
+{
+    varint_of(number).len()
+}
+
+/// How many bytes the name of a block has.
+fn name_length(cid: &Cid) -> usize
+    ensures length { result ≡ length (cid_bytes cid.now) }
+    ensures short { result ≤ 86 }
+{
+    let mut name = ArrayVec::new();
+    cid.write_bytes(&mut name);
+    name.len()
+}
+
+/// How many bytes a section has.
+#[tactic(auto, using(crate::proofs::Gathering::section_long))]
+fn section_length(section: &Section<'_>) -> u64
+    ensures { result ≡ length (section_bytes (section.now.cid, section.now.block.now)) }
+{
+    let body = name_length(&section.cid) + section.block.len();
+    (varint_length(body as u64) + body) as u64
+}
+
+/// How many bytes the header of a file of these roots has.
+fn header_length(alloc: Global, roots: &[Cid]) -> Result<u64, ToolError>
+    ensures { IfOk result (λ n. n ≡ length (header_bytes (forms roots.now))) }
+{
+    let mut header = Vec::new(alloc);
+    match push_header(alloc, &mut header, roots) {
+        Ok(()) => Ok(header.len() as u64),
+        Err(_) => Err(ToolError::OutOfMemory),
+    }
+}
+
+impl SectionSink for Gathering {
+    type Stop = AllocError;
+
+    ghost takes = { GathersNext };
+
+    fn take(&mut self, section: &Section<'_>) -> Result<(), AllocError> {
+        self.entries.push(Entry::new(&section.cid, self.place))?;
+        match self.place.checked_add(section_length(section)) {
+            Some(place) => {
+                self.place = place;
+                Ok(())
+            }
+            None => Err(AllocError),
+        }
+    }
+}
+
+/// The entries of what is behind the header of these roots, of so much of the file.
+fn gather_sections<'de, R: Read>(
+    alloc: Global,
+    roots: &[Cid],
+    input: &mut Input<'de, R>,
+    extent: Option<u64>,
+) -> Result<Result<Gathered, Vec<u8>>, ToolError>
+    ensures { (start : Reading) → TakesStart start (forms roots.now) extent (input_reading R.reading input.old)
+        → (b : List ℕ) → start.left ≡ Some b → IfOk result (Gathers b) }
+{
+    let mut gathering = Gathering {
+        entries: Vec::new(alloc),
+        place: header_length(alloc, roots)?,
+    };
+    match take_sections(alloc, &mut gathering, input, extent)? {
+        Ended::Whole => {
+            let Gathering { mut entries, place } = gathering;
+            entries.sort_unstable();
+            Ok(Ok(Gathered {
+                entries,
+                length: place,
+            }))
+        }
+        Ended::Stopped(_) => Err(ToolError::OutOfMemory),
+        Ended::Fault(line) => Ok(Err(line)),
+    }
+}
+
+/// The entries of the file that the input has, or the line that tells why it is none.
+fn gather<'de, R: Read>(
+    alloc: Global,
+    input: &mut Input<'de, R>,
+) -> Result<Result<Gathered, Vec<u8>>, ToolError>
+    ensures { (b : List ℕ) → (input_reading R.reading input.old).left ≡ Some b → IfOk result (Gathers b) }
+{
+    match pull_header(alloc, input) {
+        Ok((roots, extent)) => gather_sections(alloc, &roots, input, extent),
+        Err(error) => {
+            let line = fault_line(alloc, error)?;
+            Ok(Err(line))
+        }
+    }
+}
+
+/// The same, of a source of bytes.
+fn gather_from<R: BufRead>(
+    alloc: Global,
+    input: &mut R,
+) -> Result<Result<Gathered, Vec<u8>>, ToolError>
+    ensures { IfSome (R.remaining input.old) (λ b. IfOk result (Gathers b)) }
+{
+    let mut source = input_over(IoRefReader::new(input));
+    let result = gather(alloc, &mut source);
+    if let Some(lent) = source.into_reader() {
+        let _source = lent.into_inner();
+    }
+    result
+}
+
+/// The entries of the file that is read at places, or the line that tells why it is none.
+pub(crate) fn gather_at<S: ReadAt>(
+    alloc: Global,
+    source: &S,
+) -> Result<Result<Gathered, Vec<u8>>, ToolError>
+    ensures { IfSome (S.bytes source.now) (λ b. IfOk result (Gathers b)) }
+{
+    match buffered_from(alloc, source, 0) {
+        Ok(mut input) => gather_from(alloc, &mut input),
+        Err(_) => Err(ToolError::OutOfMemory),
+    }
+}

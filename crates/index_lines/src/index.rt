@@ -1,0 +1,81 @@
+//! `index`: a file of version 2 with an index of its sections.
+
+ghost use Rattle.std.specs.Prelude.{IfOk, IfSome};
+ghost use Rattle.index_lines.specs.Indexed.{IsIndexed, SaysSome};
+ghost use Rattle.index_lines.specs.Steps.{ArePartsOf, SendsFile};
+
+use crate::copy::send_between;
+use crate::gather::{Gathered, gather_at};
+use crate::header::header_of;
+use crate::layout::data_begin;
+use arrayvec::ArrayVec;
+use block_lines::say_both;
+use car_index::{ReadAt, encode_index};
+use dagcbor_cli::ToolError;
+use std::alloc::Global;
+use std::io::Write;
+
+/// What stands before and behind the file of version 1, and where that begins in the source.
+#[derive(Drop)]
+pub(crate) struct Parts {
+    before: ArrayVec<u8, 51>,
+    begin: u64,
+    behind: Vec<u8>,
+}
+
+/// What stands before and behind the file of version 1.
+fn parts_of<S: ReadAt>(alloc: Global, source: &S, found: &Gathered) -> Result<Parts, ToolError>
+    ensures { IfSome (S.bytes source.now) (λ b. IfOk result (ArePartsOf b found.now)) }
+{
+    let behind = encode_index(alloc, &found.entries)?;
+    let begin = data_begin(source)?;
+    match header_of(found.length) {
+        Some(before) => Ok(Parts {
+            before,
+            begin,
+            behind,
+        }),
+        None => Err(ToolError::OutOfMemory),
+    }
+}
+
+/// Writes the file of version 2 of what was gathered.
+fn say_indexed<S: ReadAt, W: Write>(
+    alloc: Global,
+    source: &S,
+    found: &Gathered,
+    output: &mut W,
+) -> Result<bool, ToolError>
+    ensures { IfSome (S.bytes source.now) (λ b. SendsFile found.now b (W.contents output.old) result
+        (W.contents output.new)) }
+{
+    let parts = parts_of(alloc, source, found)?;
+    send_between(
+        &parts.before,
+        source,
+        parts.begin,
+        found.length,
+        &parts.behind,
+        output,
+    )?;
+    Ok(true)
+}
+
+/// Writes the file of version 2 with the roots and sections of the file that is read at places, and
+/// an index of all sections; or tells why it is no file. Whether it is one. One section is in memory at
+/// a time, and the entries are.
+pub fn write_index<S: ReadAt, W: Write, V: Write>(
+    alloc: Global,
+    source: &S,
+    output: &mut W,
+    errors: &mut V,
+) -> Result<bool, ToolError>
+    ensures { IfSome (S.bytes source.now) (λ b.
+        SaysSome (IsIndexed b) (W.contents output.old) (V.contents errors.old) result
+        (W.contents output.new) (V.contents errors.new)) }
+{
+    match gather_at(alloc, source)? {
+        Ok(found) => say_indexed(alloc, source, &found, output),
+        Err(line) => say_both((Vec::new(alloc), false), &line, output, errors),
+    }
+}

@@ -1,0 +1,4 @@
+pub mod Counting
+pub mod Fronts
+pub mod Joined
+pub mod Learning

@@ -1,0 +1,99 @@
+-- What a file of blocks holds, in numbers.
+use Rattle.std.specs.Prelude.{◌≡◌, ◌⊎◌, ℕ, ◌-◌, ◌==◌, List, [], ◌∷◌, ◌++◌, length, take, map, Bool, true, false, not, ◌&&◌, nat_le, if◌then◌else◌, bytes_eq, ⊤, Vec, Result, OnOk, MatchResult}
+use Rattle.std.specs.declared.alloc.Global.{Global}
+use Rattle.std.specs.declared.alloc.AllocError.{AllocError}
+use Rattle.ipld_tree.specs.Cid.{CidParts}
+use Rattle.dagcbor_items.specs.Walks.{forms}
+use Rattle.dagcbor_car.specs.Car.{Section}
+use Rattle.dagcbor_car.specs.Versions.{IsFile, pragma, number_behind}
+use Rattle.dagcbor_car.specs.Checks.{IsAfter, ListsMissingInFile}
+use Rattle.dagcbor_car.specs.Each.{SinkTakes}
+use Rattle.held_lines.specs.Holding.{TellsFault}
+use Rattle.inspect_lines.specs.Names.{distinct, is_one_of}
+use Rattle.inspect_lines.specs.Rows.{rows_of}
+use Rattle.inspect_lines.specs.Counts.{Measure, names_of, lengths_of, total, least, greatest, AreCounts}
+use Rattle.inspect_lines.specs.Facts.{plain_text, json_text}
+use Rattle.inspect_lines.specs.declared.facts.Facts.{Facts}
+use Rattle.inspect_lines.specs.declared.facts.Root.{Root}
+use Rattle.inspect_lines.specs.declared.inspect.Inspecting.{Inspecting}
+use Rattle.inspect_lines.specs.declared.inspect.Form.{Form}
+use Rattle.inspect_lines.specs.declared.inspect.Form.TheVariants.{Lines, Json}
+
+-- ---- what the first bytes say (CARv2 specification)
+
+-- they begin version 2
+abbrev pub is_version_2 : List ℕ → Bool
+is_version_2 front = bytes_eq (take 11 front) pragma
+
+abbrev pub version_of : List ℕ → ℕ
+version_of front = if is_version_2 front then 2 else 1
+
+-- a header of version 2 stands whole, and its last number, which tells where the index stands, is not 0
+abbrev pub says_index : List ℕ → Bool
+says_index front = is_version_2 front && (nat_le 51 (length front) && not (number_behind 43 front == 0))
+
+-- ---- what is told of a file
+
+-- the names of the blocks of sections, and how many bytes they have
+abbrev pub measures : List Section → List Measure
+measures sections = map (λ s. (s.0, length s.1)) sections
+
+-- a root, whose block is there unless it is one of these
+abbrev pub root_unless : List CidParts → CidParts → Root
+root_unless lost root = record { cid = root; there = not (is_one_of root lost) }
+
+-- a root, whose block is there unless it is one of those that are missing
+abbrev pub root_in : List CidParts → CidParts → Root
+root_in missing root = root_unless (distinct missing) root
+
+-- What is told of a file that begins so, of these roots and blocks, where these lead to no block. A
+-- section is repeated where one in front of it has the same name.
+pub record AreFacts (facts : Facts) (front : List ℕ) (named : List CidParts) (blocks : List Measure) (lost : List CidParts) : Type 0 where
+  pub version : facts.version ≡ version_of front
+  pub index : facts.index ≡ says_index front
+  pub roots : facts.roots.items ≡ map (root_in lost) named
+  pub sections : facts.all.count ≡ length blocks
+  pub repeated : facts.repeated ≡ length blocks - length (distinct (names_of blocks))
+  pub bytes : facts.all.bytes ≡ total (lengths_of blocks)
+  pub least : facts.least ≡ least (lengths_of blocks)
+  pub greatest : facts.greatest ≡ greatest (lengths_of blocks)
+  pub codecs : facts.codecs.items ≡ rows_of (map (λ m. (m.0.codec, m.1)) blocks)
+  pub hashes : facts.hashes.items ≡ rows_of (map (λ m. (m.0.hash_code, m.1)) blocks)
+  pub missing : facts.missing ≡ length lost
+
+-- the same, where what leads to no block is what `check` lists
+abbrev pub AreFactsOf : Facts → List ℕ → List CidParts → List Section → Type 0
+AreFactsOf facts front roots sections = (missing : Vec CidParts Global)
+    × ListsMissingInFile (forms roots) sections missing
+    × AreFacts facts front roots (measures sections) missing.items
+
+-- the bytes are a file, of which this is told
+abbrev pub AreFactsOfFile : List ℕ → List ℕ → Facts → Type 0
+AreFactsOfFile b front facts = (roots : List CidParts) × (sections : List Section)
+    × IsFile b (forms roots) sections × AreFactsOf facts front roots sections
+
+-- the same; or the bytes are no file, and a line tells why
+abbrev pub IsFound : List ℕ → List ℕ → Result Facts (Vec ℕ Global) → Type 0
+IsFound b front found = MatchResult found (AreFactsOfFile b front) (λ line. TellsFault (λ sections. ⊤) b line.items)
+
+-- as lines, or as JSON
+abbrev pub text_in : Form → Facts → List ℕ
+text_in Lines facts = plain_text facts
+text_in Json facts = json_text facts
+
+-- What `inspect` says of bytes: what is told of the file; or nothing, and a line tells why they are none.
+abbrev pub IsInspected : Form → List ℕ → Bool → List ℕ → List ℕ → Type 0
+IsInspected form b well out told = ((facts : Facts) × AreFactsOfFile b (take 51 b) facts × (well ≡ true)
+    × (out ≡ text_in form facts) × (told ≡ []))
+    ⊎ ((well ≡ false) × (out ≡ []) × TellsFault (λ sections. ⊤) b told)
+
+-- ---- its steps
+
+-- what is known behind these sections of a file of these roots
+abbrev pub Knows : Inspecting → List (List ℕ) → List Section → Type 0
+Knows it roots sections = IsAfter it.check roots sections × AreCounts it.counts (measures sections)
+
+-- what is known behind this section, whatever stood before
+abbrev pub LearnsNext : SinkTakes Inspecting AllocError
+LearnsNext s old result new = OnOk result ((roots : List (List ℕ)) (sections : List Section)
+    → Knows old roots sections → Knows new roots (sections ++ s ∷ []))

@@ -1,0 +1,237 @@
+//! What a file of blocks holds, in numbers.
+
+ghost use Rattle.std.specs.Prelude.{◌≡◌, ℕ, List, [], Some, IfOk, IfSome, map, take};
+ghost use Rattle.dagcbor_heads.specs.Reading.{Reading};
+ghost use Rattle.dagcbor_heads.specs.Inputs.{input_reading};
+ghost use Rattle.dagcbor_items.specs.Walks.{forms};
+ghost use Rattle.dagcbor_car.specs.Car.{Section as CarSection};
+ghost use Rattle.dagcbor_car.specs.Sources.{TakesStart};
+ghost use Rattle.block_lines.specs.Lines.{SaysBoth};
+ghost use Rattle.inspect_lines.specs.Counts.{Measure, AreCounts};
+ghost use Rattle.inspect_lines.specs.Inspecting.{root_unless, root_in, AreFacts, AreFactsOf, IsFound};
+ghost use Rattle.inspect_lines.specs.Inspecting.{text_in, IsInspected, Knows, LearnsNext};
+
+use crate::counts::Counts;
+use crate::facts::{Facts, Root};
+use crate::front::{read_front, says_index, version_of};
+use crate::json::json_text;
+use crate::names::Names;
+use crate::plain::plain_text;
+use block_lines::say_both;
+use dagcbor_car::{CarCheck, Section, SectionSink, pull_header};
+use dagcbor_cli::ToolError;
+use dagcbor_heads::{Input, IoRefReader, Read};
+use held_lines::{Ended, fault_line, input_over, take_sections};
+use ipld_tree::Cid;
+use std::alloc::{AllocError, Global};
+use std::io::{BufRead, Read as Source, Write};
+
+/// How what is told of a file is written.
+#[derive(Clone, Copy, Debug, PartialEq, Eq)]
+pub enum Form {
+    Lines,
+    Json,
+}
+
+/// What is known of a file behind some of its sections.
+#[derive(Drop)]
+struct Inspecting {
+    check: CarCheck,
+    counts: Counts,
+}
+
+impl Inspecting {
+    /// Behind the header, with these roots.
+    fn new(alloc: Global, roots: &[Cid]) -> Result<Inspecting, AllocError>
+        ensures { IfOk result (λ it. Knows it (forms roots.now) []) }
+    {
+        let check = CarCheck::new(alloc, roots)?;
+        let counts = Counts::new(alloc);
+        Ok(Inspecting { check, counts })
+    }
+}
+
+impl SectionSink for Inspecting {
+    type Stop = AllocError;
+
+    ghost takes = { LearnsNext };
+
+    fn take(&mut self, section: &Section<'_>) -> Result<(), AllocError> {
+        match self.check.take(section) {
+            Ok(_verdict) => self.counts.count(&section.cid, section.block.len() as u64),
+            Err(error) => Err(error),
+        }
+    }
+}
+
+/// What is told of a root.
+fn root_told(root: &Cid, missing: &Names) -> Root
+    ensures { result ≡ root_unless missing.now.cids.keys root.now }
+{
+    Root {
+        cid: *root,
+        there: !missing.contains(root),
+    }
+}
+
+/// What is told of the roots.
+fn roots_told(alloc: Global, roots: &[Cid], missing: &[Cid]) -> Result<Vec<Root>, AllocError>
+    ensures { IfOk result (λ v. v.items ≡ map (root_in missing.now) roots.now) }
+{
+    let names = Names::of(alloc, missing)?;
+    let mut told = Vec::new(alloc);
+    for root in roots {
+        told.push(root_told(root, &names))?;
+    }
+    Ok(told)
+}
+
+/// What is told of a file that begins so, of these roots and numbers.
+fn facts_of(
+    alloc: Global,
+    front: &[u8],
+    roots: &[Cid],
+    missing: &[Cid],
+    counts: Counts,
+) -> Result<Facts, AllocError>
+    ensures { IfOk result (λ facts. (blocks : List Measure) → AreCounts counts blocks
+        → AreFacts facts front.now roots.now blocks missing.now) }
+{
+    let Counts {
+        all,
+        least,
+        greatest,
+        codecs,
+        hashes,
+        names,
+    } = counts;
+    let repeated = all.count.saturating_sub(names.count() as u64);
+    let roots = roots_told(alloc, roots, missing)?;
+    let codecs = codecs.into_vec(alloc)?;
+    let hashes = hashes.into_vec(alloc)?;
+    Ok(Facts {
+        version: version_of(front),
+        index: says_index(front),
+        roots,
+        all,
+        repeated,
+        least,
+        greatest,
+        codecs,
+        hashes,
+        missing: missing.len() as u64,
+    })
+}
+
+/// What is told of a file of these roots, behind all of its sections.
+fn facts_behind(
+    alloc: Global,
+    front: &[u8],
+    roots: &[Cid],
+    it: Inspecting,
+) -> Result<Facts, AllocError>
+    ensures { (sections : List CarSection) → Knows it (forms roots.now) sections
+        → IfOk result (λ facts. AreFactsOf facts front.now roots.now sections) }
+{
+    let Inspecting { check, counts } = it;
+    match check.missing(alloc) {
+        Ok(missing) => facts_of(alloc, front, roots, &missing, counts),
+        Err(error) => Err(error),
+    }
+}
+
+/// What is told of a file that begins so, of which the header was taken; or why it is none, in a line.
+fn find_behind<'de, R: Read>(
+    alloc: Global,
+    front: &[u8],
+    roots: &[Cid],
+    input: &mut Input<'de, R>,
+    extent: Option<u64>,
+) -> Result<Result<Facts, Vec<u8>>, ToolError>
+    ensures { IfOk result (λ found. (start : Reading) (b : List ℕ)
+        → TakesStart start (forms roots.now) extent (input_reading R.reading input.old)
+        → start.left ≡ Some b → IsFound b front.now found) }
+{
+    let mut it = Inspecting::new(alloc, roots)?;
+    let ended = take_sections(alloc, &mut it, input, extent)?;
+    match ended {
+        Ended::Whole => {
+            let facts = facts_behind(alloc, front, roots, it)?;
+            Ok(Ok(facts))
+        }
+        Ended::Stopped(_) => Err(ToolError::OutOfMemory),
+        Ended::Fault(line) => Ok(Err(line)),
+    }
+}
+
+/// What is told of the file that the input is, which begins so; or why it is none, in a line.
+fn find_file<'de, R: Read>(
+    alloc: Global,
+    front: &[u8],
+    input: &mut Input<'de, R>,
+) -> Result<Result<Facts, Vec<u8>>, ToolError>
+    ensures { IfOk result (λ found. (b : List ℕ)
+        → (input_reading R.reading input.old).left ≡ Some b → IsFound b front.now found) }
+{
+    match pull_header(alloc, input) {
+        Ok((roots, extent)) => find_behind(alloc, front, &roots, input, extent),
+        Err(error) => {
+            let line = fault_line(alloc, error)?;
+            Ok(Err(line))
+        }
+    }
+}
+
+/// What is told of the file that the input is, whose first bytes stand before it; or why it is none.
+fn find_whole<R: BufRead>(
+    alloc: Global,
+    front: &[u8],
+    input: &mut R,
+) -> Result<Result<Facts, Vec<u8>>, ToolError>
+    ensures { IfSome (R.remaining input.old) (λ b. IfOk result (IsFound b front.now)) }
+{
+    let mut source = input_over(IoRefReader::new(input));
+    find_file(alloc, front, &mut source)
+}
+
+/// The same, of all that the input has.
+fn find<R: BufRead>(alloc: Global, input: &mut R) -> Result<Result<Facts, Vec<u8>>, ToolError>
+    ensures { IfSome (R.remaining input.old) (λ b. IfOk result (IsFound b (take 51 b))) }
+{
+    let front = read_front(alloc, input)?;
+    let mut whole = front.as_slice().chain(input);
+    find_whole(alloc, &front, &mut whole)
+}
+
+/// What is told of the file, in this form.
+fn text_in(alloc: Global, form: Form, facts: &Facts) -> Result<Vec<u8>, AllocError>
+    ensures { IfOk result (λ v. v.items ≡ text_in form facts.now) }
+{
+    match form {
+        Form::Lines => plain_text(alloc, facts),
+        Form::Json => json_text(alloc, facts),
+    }
+}
+
+/// Writes what the file holds that the input is, in this form, or tells why it is none. Whether it is
+/// one. It is read once, and one section is in memory at a time, beside the names of its blocks.
+pub fn write_inspected<R: BufRead, W: Write, V: Write>(
+    alloc: Global,
+    form: Form,
+    input: &mut R,
+    output: &mut W,
+    errors: &mut V,
+) -> Result<bool, ToolError>
+    ensures { IfSome (R.remaining input.old) (λ b. SaysBoth (IsInspected form b)
+        (W.contents output.old) (V.contents errors.old) result (W.contents output.new)
+        (V.contents errors.new)) }
+{
+    let found = find(alloc, input)?;
+    match found {
+        Ok(facts) => {
+            let text = text_in(alloc, form, &facts)?;
+            say_both((text, true), b"", output, errors)
+        }
+        Err(line) => say_both((Vec::new(alloc), false), &line, output, errors),
+    }
+}

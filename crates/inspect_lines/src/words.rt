@@ -1,0 +1,81 @@
+//! The words of `inspect`.
+
+ghost use Rattle.std.specs.Prelude.{◌≡◌, [], ◌∷◌, map, string_bytes, option_map, MatchOption, Option, List, ℕ};
+ghost use Rattle.inspect_lines.specs.Words.{IsInspect};
+ghost use Rattle.inspect_lines.specs.declared.inspect.Form.{Form};
+
+use crate::inspect::Form;
+
+/// What is to be told of which file: of standard input, if none is named.
+#[derive(Clone, Copy)]
+pub struct Inspection<'a> {
+    pub form: Form,
+    pub file: Option<&'a str>,
+}
+
+/// The word and no more.
+fn of_word<'a>(word: &str) -> Option<Inspection<'a>>
+    ensures { MatchOption result
+        ((form : Form) (file : Option (List ℕ)) → ¬ IsInspect (word.now ∷ []) form file)
+        (λ p. IsInspect (word.now ∷ []) p.form (option_map (λ s. s.now) p.file)) }
+{
+    if word != "inspect" {
+        return None;
+    }
+    Some(Inspection {
+        form: Form::Lines,
+        file: None,
+    })
+}
+
+/// The word, and an option or a file.
+fn of_two<'a>(word: &str, second: &'a str) -> Option<Inspection<'a>>
+    ensures { MatchOption result
+        ((form : Form) (file : Option (List ℕ)) → ¬ IsInspect (word.now ∷ second.now ∷ []) form file)
+        (λ p. IsInspect (word.now ∷ second.now ∷ []) p.form (option_map (λ s. s.now) p.file)) }
+{
+    if word != "inspect" {
+        return None;
+    }
+    if second == "--json" {
+        return Some(Inspection {
+            form: Form::Json,
+            file: None,
+        });
+    }
+    Some(Inspection {
+        form: Form::Lines,
+        file: Some(second),
+    })
+}
+
+/// The word, an option and a file.
+fn of_three<'a>(word: &str, option: &str, file: &'a str) -> Option<Inspection<'a>>
+    ensures { MatchOption result
+        ((form : Form) (it : Option (List ℕ))
+        → ¬ IsInspect (word.now ∷ option.now ∷ file.now ∷ []) form it)
+        (λ p. IsInspect (word.now ∷ option.now ∷ file.now ∷ []) p.form
+        (option_map (λ s. s.now) p.file)) }
+{
+    if word != "inspect" || option != "--json" {
+        return None;
+    }
+    Some(Inspection {
+        form: Form::Json,
+        file: Some(file),
+    })
+}
+
+/// What the words `inspect [--json] [FILE]` ask.
+pub fn inspection_of(args: &[String]) -> Option<Inspection<'_>>
+    ensures { MatchOption result
+        ((form : Form) (file : Option (List ℕ)) → ¬ IsInspect (map string_bytes args.now) form file)
+        (λ p. IsInspect (map string_bytes args.now) p.form (option_map (λ s. s.now) p.file)) }
+{
+    match args {
+        [word] => of_word(word.as_str()),
+        [word, second] => of_two(word.as_str(), second.as_str()),
+        [word, option, file] => of_three(word.as_str(), option.as_str(), file.as_str()),
+        _ => None,
+    }
+}

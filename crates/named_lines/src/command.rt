@@ -1,0 +1,99 @@
+//! The words that ask for an index, or for a block by one, and the status of what is answered.
+
+ghost use Rattle.std.specs.Prelude.{◌≡◌, ◌≢◌, [], ◌∷◌, map, string_bytes, IfSome, MatchOption, Result, Bool, Option, List, ℕ};
+ghost use Rattle.block_lines.specs.Lines.{SaysBoth};
+ghost use Rattle.dagcar_lines.specs.Answers.{EndsSo};
+ghost use Rattle.dagcar_lines.specs.Commands.{IsCommand};
+ghost use Rattle.dagcar_lines.specs.declared.command.Command.TheVariants.{Get};
+ghost use Rattle.dagcbor_cli.specs.declared.fault.ToolError.{ToolError};
+ghost use Rattle.ipld_tree.specs.Cid.{CidParts};
+ghost use Rattle.index_lines.specs.Indexed.{IsIndexed, SaysSome};
+ghost use Rattle.named_lines.specs.Gets.{IsGotNamed};
+ghost use Rattle.named_lines.specs.Words.{IsIndex};
+
+use crate::get::get_named;
+use car_index::ReadAt;
+use cid_text::cid_from_text;
+use dagcar_lines::status_of;
+use index_lines::write_index;
+use ipld_tree::Cid;
+use std::alloc::Global;
+use std::io::Write;
+
+/// The file behind the word, if that is `index`, and the file is not standard input.
+fn file_behind<'a>(word: &str, file: &'a str) -> Option<&'a str>
+    ensures { MatchOption result ((f : List ℕ) → ¬ IsIndex (word.now ∷ file.now ∷ []) f)
+        (λ f. IsIndex (word.now ∷ file.now ∷ []) f.now) }
+{
+    if word != "index" || file == "-" {
+        return None;
+    }
+    Some(file)
+}
+
+/// The file that the words `index FILE` name. These words are no command: `laws::index_is_no_command`.
+pub fn index_of(args: &[String]) -> Option<&str>
+    ensures { MatchOption result ((f : List ℕ) → ¬ IsIndex (map string_bytes args.now) f)
+        (λ f. IsIndex (map string_bytes args.now) f.now) }
+{
+    match args {
+        [word, file] => file_behind(word.as_str(), file.as_str()),
+        _ => None,
+    }
+}
+
+/// The name in the text, if the word is `get`.
+fn name_behind(word: &str, text: &str) -> Option<Cid>
+    ensures { MatchOption result
+        ((n : CidParts) → ¬ IsCommand (word.now ∷ text.now ∷ []) (Get n))
+        (λ n. IsCommand (word.now ∷ text.now ∷ []) (Get n)) }
+{
+    if word != "get" {
+        return None;
+    }
+    cid_from_text(text.as_bytes()).ok()
+}
+
+/// The name that the words `get CID` ask for.
+pub fn name_of(args: &[String]) -> Option<Cid>
+    ensures { MatchOption result ((n : CidParts) → ¬ IsCommand (map string_bytes args.now) (Get n))
+        (λ n. IsCommand (map string_bytes args.now) (Get n)) }
+{
+    match args {
+        [word, text] => name_behind(word.as_str(), text.as_str()),
+        _ => None,
+    }
+}
+
+/// Writes the file with an index of its sections, and answers the exit status.
+pub fn run_index<S: ReadAt, W: Write, V: Write>(
+    alloc: Global,
+    source: &S,
+    output: &mut W,
+    errors: &mut V,
+) -> u8
+    ensures { IfSome (S.bytes source.now) (λ b. (ended : Result Bool ToolError)
+        × (after : Option (List ℕ)) × EndsSo ended result
+        × SaysSome (IsIndexed b) (W.contents output.old) (V.contents errors.old) ended
+        (W.contents output.new) after × (result ≢ 2 → V.contents errors.new ≡ after)) }
+{
+    let ended = write_index(alloc, source, output, errors);
+    status_of(ended, errors)
+}
+
+/// Writes the block of the name, and answers the exit status.
+pub fn run_get<S: ReadAt, W: Write, V: Write>(
+    alloc: Global,
+    name: &Cid,
+    source: &S,
+    output: &mut W,
+    errors: &mut V,
+) -> u8
+    ensures { IfSome (S.bytes source.now) (λ b. (ended : Result Bool ToolError)
+        × (after : Option (List ℕ)) × EndsSo ended result
+        × SaysBoth (IsGotNamed name.now b) (W.contents output.old) (V.contents errors.old) ended
+        (W.contents output.new) after × (result ≢ 2 → V.contents errors.new ≡ after)) }
+{
+    let ended = get_named(alloc, name, source, output, errors);
+    status_of(ended, errors)
+}

@@ -2,8 +2,10 @@
 #![tactic(auto)]
 
 mod counted;
+mod serving;
 
 use crate::counted::Counted;
+use crate::serving::run_serve;
 use block_lines::no_cid_line;
 use dagcbor_cli::{ToolError, arguments, give_up, write_all};
 use dagcbor_store::{BlockStore, FileFrom, FileStore, Wary};
@@ -353,6 +355,7 @@ fn close(store: Store, status: u8) -> u8 {
 fn run<W: Write>(rt: &HostRuntime, path: &str, command: Command, errors: &mut W) -> u8 {
     let opened = match command {
         Command::Check => open_whole(rt, path, errors),
+        Command::Serve => open(rt, path, errors),
         _ => open_old(rt, path, errors),
     };
     match opened {
@@ -378,6 +381,7 @@ fn run_over<W: Write>(rt: &HostRuntime, store: &mut Store, command: Command, err
         Command::Check => run_check(rt, store, errors),
         Command::List => run_list(rt, store, errors),
         Command::Count => run_count(rt, store, errors),
+        Command::Serve => run_serve(rt, store, errors),
     }
 }
 

@@ -66,6 +66,7 @@ no_command word m commands.Roots e = apart (mark word) 336 m (ap mark e) (λ d. 
 no_command word m commands.Check e = apart (mark word) 307 m (ap mark e) (λ d. omega (arith, d))
 no_command word m commands.List e = apart (mark word) 318 m (ap mark e) (λ d. omega (arith, d))
 no_command word m commands.Count e = apart (mark word) 321 m (ap mark e) (λ d. omega (arith, d))
+no_command word m commands.Serve e = apart (mark word) 317 m (ap mark e) (λ d. omega (arith, d))
 
 no_names : (word : List ℕ) → mark word ≡ 346 → WantsNames word → ⊥
 no_names word m (inl e) = apart (mark word) 341 m (ap mark e) (λ d. omega (arith, d))

@@ -59,6 +59,7 @@ command_word commands.Roots = codes "roots"
 command_word commands.Check = codes "check"
 command_word commands.List = codes "list"
 command_word commands.Count = codes "count"
+command_word commands.Serve = codes "serve"
 
 -- the CIDs behind it: any, one, at least one, or none
 abbrev pub AreNamesOf : Command → List CidParts → Type 0

@@ -24,7 +24,7 @@ use std::alloc::Global;
 use std::io::Write;
 
 /// The name of the block: a CID of version 1, of this codec, by its SHA-256.
-fn name_as(codec: u64, block: &[u8]) -> Cid
+pub fn name_as(codec: u64, block: &[u8]) -> Cid
     ensures { result ≡ name_as codec block.now }
 {
     let name = name_of_block(block);

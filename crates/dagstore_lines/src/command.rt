@@ -49,6 +49,8 @@ pub enum Command {
     List,
     /// To count them.
     Count,
+    /// To answer the requests on standard input.
+    Serve,
 }
 
 /// What is asked of a path from this root: the bytes of the item, or its data.
@@ -238,7 +240,7 @@ fn beginning_of(text: &str) -> Result<(Beginning, &str), CidTextError>
 }
 
 /// The codec that the word names: `dag-cbor`, `raw`, or a number as `0x70`.
-fn codec_of(word: &str) -> Option<u64>
+pub fn codec_of(word: &str) -> Option<u64>
     ensures { MatchOption result ((codec : ℕ) → ¬ NamesCodec word.now codec) (NamesCodec word.now) }
 {
     match word {
@@ -329,6 +331,7 @@ fn command_of(word: &str, names: Vec<Cid>) -> Option<Command>
         "check" if names.is_empty() => Some(Command::Check),
         "list" if names.is_empty() => Some(Command::List),
         "count" if names.is_empty() => Some(Command::Count),
+        "serve" if names.is_empty() => Some(Command::Serve),
         _ => None,
     }
 }

@@ -214,7 +214,7 @@ fn write_state<V: Write>(refusal: &StoreRefusal, errors: &mut V) -> Result<(), T
 }
 
 /// Writes the lines of a refusal: of its block, if it is of one, and why the store refused.
-fn write_lines<V: Write>(refusal: &StoreRefusal, errors: &mut V) -> Result<(), ToolError>
+pub fn write_lines<V: Write>(refusal: &StoreRefusal, errors: &mut V) -> Result<(), ToolError>
     ensures { WritesFront (V.contents errors.old) (V.contents errors.new) result (refusal_lines refusal.now) }
 {
     write_state(refusal, errors)?;

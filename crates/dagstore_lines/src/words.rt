@@ -2,7 +2,7 @@
 
 /// What is told of other words.
 pub const USAGE: &str =
-    "usage: dagstore FILE import|put|export|get|at|ls|cat|has|tree|remove|gc|roots|add-root|drop-root|check|list|count, dagstore --help\n";
+    "usage: dagstore FILE import|put|export|get|at|ls|cat|has|tree|remove|gc|roots|add-root|drop-root|check|list|count|serve, dagstore --help\n";
 
 /// What `--help` writes.
 pub const HELP: &str = "usage: dagstore FILE import [SOURCE]
@@ -13,6 +13,7 @@ pub const HELP: &str = "usage: dagstore FILE import [SOURCE]
        dagstore FILE ls|cat CID/PATH
        dagstore FILE remove|add-root|drop-root CID..
        dagstore FILE roots|check|list|count
+       dagstore FILE serve
 
 Into the file, which these two make where there is none:
   import   the blocks of a file of blocks (CAR, version 1 or 2), all or none; without SOURCE, or
@@ -39,6 +40,10 @@ Changes:
              that are stored
   add-root   the names are stored as roots, behind the others
   drop-root  the names are roots no more; the blocks under them stay
+
+For another program:
+  serve      answers requests on standard input, one after the other, until it ends; makes the
+             file where there is none
 
 For example:
   dagstore blocks.db import blocks.car

@@ -1,0 +1,80 @@
+//! `serve`: requests on standard input, and their answers on standard output.
+
+use dagcbor_cli::{ToolError, give_up};
+use dagcbor_store::{BlockStore, FileFrom, FileStore, Wary};
+use dagstore_lines::{NOT_READ, OUT_OF_MEMORY, tell_tool};
+use std::fs;
+use std::io::{BufReader, BufWriter, Write};
+use store_serving::{
+    Pause, answer_bad, answer_export, answer_import, answer_requests, refuse_file,
+};
+
+type Store = BlockStore<FileStore<FileFrom<Wary>>>;
+
+/// What is told where a file is not made.
+const NOT_MADE: &[u8] = b"dagstore: the file is there, or cannot be made\n";
+
+/// Keeps the blocks of the file at the path, all of them or none.
+fn serve_import(rt: &HostRuntime, store: &mut Store, path: &str) -> Result<(), ToolError> {
+    let mut output = rt.stdout().lock();
+    let Ok(file) = fs::File::open(rt, path) else {
+        return refuse_file(rt.alloc(), NOT_READ.as_bytes(), &mut output);
+    };
+    match BufReader::new(rt.alloc(), file) {
+        Ok(source) => answer_import(rt.alloc(), store, source, &mut output),
+        Err(_) => Err(ToolError::OutOfMemory),
+    }
+}
+
+/// Makes a file of all blocks at the path, where none is. One that is not whole is taken away.
+fn serve_export(rt: &HostRuntime, store: &mut Store, path: &str) -> Result<(), ToolError> {
+    let mut output = rt.stdout().lock();
+    let Ok(file) = fs::File::create_new(rt, path) else {
+        return refuse_file(rt.alloc(), NOT_MADE, &mut output);
+    };
+    let Ok(mut file) = BufWriter::new(rt.alloc(), file) else {
+        let _ = fs::remove_file(rt, path);
+        return Err(ToolError::OutOfMemory);
+    };
+    let whole = answer_export(rt.alloc(), store, &mut file, &mut output)?;
+    if !whole {
+        let _ = fs::remove_file(rt, path);
+    }
+    Ok(())
+}
+
+/// Does what the answers stopped for. The status, where no more requests are read.
+fn go_on(rt: &HostRuntime, store: &mut Store, pause: Pause) -> Result<Option<u8>, ToolError> {
+    match pause {
+        Pause::End => Ok(Some(0)),
+        Pause::Cut | Pause::Bad => Ok(Some(answer_bad(&mut rt.stdout().lock()))),
+        Pause::Import(path) => {
+            serve_import(rt, store, path.as_str())?;
+            Ok(None)
+        }
+        Pause::Export(path) => {
+            serve_export(rt, store, path.as_str())?;
+            Ok(None)
+        }
+    }
+}
+
+/// Answers the requests until there are no more. What is not committed then is undone.
+pub fn run_serve<W: Write>(rt: &HostRuntime, store: &mut Store, errors: &mut W) -> u8 {
+    let Ok(mut requests) = BufReader::new(rt.alloc(), rt.reader()) else {
+        return give_up(errors, OUT_OF_MEMORY, 2);
+    };
+    for _count in 0..u64::MAX {
+        let stopped = answer_requests(rt.alloc(), store, &mut requests, &mut rt.stdout().lock());
+        let done = match stopped {
+            Ok(pause) => go_on(rt, store, pause),
+            Err(error) => Err(error),
+        };
+        match done {
+            Ok(None) => {}
+            Ok(Some(status)) => return status,
+            Err(error) => return tell_tool(&error, errors),
+        }
+    }
+    2
+}

@@ -1,0 +1,3 @@
+pub mod Hearing
+pub mod Asking
+pub mod Serving

@@ -1,0 +1,19 @@
+//! What a store replies to a request.
+
+use dagcbor_store::StoreRefusal;
+use ipld_tree::Cid;
+
+/// What a store replies to a request.
+#[derive(Debug, Drop)]
+pub enum Reply {
+    /// It is done, or it is so.
+    Done,
+    /// There is none.
+    Nothing,
+    /// The bytes of a block.
+    Block(Vec<u8>),
+    Name(Cid),
+    Names(Vec<Cid>),
+    Count(u64),
+    Refused(StoreRefusal),
+}

@@ -1,0 +1,57 @@
+//! A store that answers requests, one after the other.
+
+ghost use Rattle.std.specs.Prelude.{◌≡◌};
+ghost use Rattle.store_serving.specs.Serving.{ServesOne, Serves};
+
+use crate::answer::answer_text;
+use crate::give::reply_to;
+use crate::heard::{Heard, Pause, hear};
+use dagcbor_cli::{ToolError, write_all};
+use dagcbor_store::{BlockStore, Store};
+use std::alloc::Global;
+use std::io::{BufRead, Write};
+
+/// Answers the next request. None where it is answered, or why no more is.
+fn serve_one<S: Store, R: BufRead, W: Write>(
+    alloc: Global,
+    store: &mut BlockStore<S>,
+    requests: &mut R,
+    answers: &mut W,
+    line: &mut Vec<u8>,
+    block: &mut Vec<u8>,
+) -> Result<Option<Pause>, ToolError>
+    ensures { ServesOne S.Store result (R.remaining requests.old) store.old
+        (W.contents answers.old) (R.remaining requests.new) store.new (W.contents answers.new) }
+{
+    match hear(alloc, requests, line, block)? {
+        Heard::Pause(pause) => Ok(Some(pause)),
+        Heard::Request(request) => {
+            let reply = reply_to(store, &request, block);
+            let text = answer_text(alloc, &reply)?;
+            write_all(answers, &text)?;
+            Ok(None)
+        }
+    }
+}
+
+/// Answers each request of the input, in order, until it ends, or a line is none, or one is of a file,
+/// which is for the caller to open. Each answer went out before the next request is read.
+pub fn answer_requests<S: Store, R: BufRead, W: Write>(
+    alloc: Global,
+    store: &mut BlockStore<S>,
+    requests: &mut R,
+    answers: &mut W,
+) -> Result<Pause, ToolError>
+    ensures { Serves S.Store result (R.remaining requests.old) store.old
+        (W.contents answers.old) (R.remaining requests.new) store.new (W.contents answers.new) }
+{
+    let mut line = Vec::new(alloc);
+    let mut block = Vec::new(alloc);
+    for _count in 0..u64::MAX {
+        match serve_one(alloc, store, requests, answers, &mut line, &mut block)? {
+            Some(pause) => return Ok(pause),
+            None => {}
+        }
+    }
+    Err(ToolError::Input)
+}

@@ -2,16 +2,22 @@
 
 The libraries are those of the environment variables DAGCBOR_LIBRARY and DAGCBOR_MEMORY_LIBRARY; else
 those that a release has in lib/ and include/; else those of this repository, which are proved and
-built first where they are not there and the toolchain's `rt` is."""
+built first where they are not there and the toolchain's `rt` is.
+
+The program `dagstore` goes beside the modules: the one of the environment variable DAGSTORE, else one
+that a release has in lib/, else one that is built in this repository. Without one, a store wants it
+to be named."""
 
 import os
 import platform
 import shutil
 import subprocess
 import sys
+import sysconfig
 import tempfile
 
 from setuptools import Distribution, Extension, setup
+from setuptools.command.build_py import build_py
 from setuptools.errors import ModuleError
 
 HERE = os.path.dirname(os.path.abspath(__file__))
@@ -40,6 +46,27 @@ def library(crate, variable):
     if not os.path.exists(path):
         sys.exit(f"dagcbor: there is no {path}: `rt lib` in crates/{crate} makes it")
     return os.path.abspath(path)
+
+
+def program():
+    """The path of the program `dagstore` for the processor that is built for, or none."""
+    machine = sysconfig.get_platform().partition("-")[2]
+    found = [os.path.join(HERE, "lib", machine, "dagstore")]
+    if machine == platform.machine():
+        found = [os.environ.get("DAGSTORE"), *found, os.path.join(CRATES, "dagstore", "out", "dagstore")]
+    return next((os.path.abspath(it) for it in found if it and os.path.exists(it)), None)
+
+
+class WithProgram(build_py):
+    """Puts the program beside the modules, where there is one."""
+
+    def run(self):
+        super().run()
+        path = program()
+        if path:
+            into = os.path.join(self.build_lib, "dagcbor", "dagstore")
+            shutil.copyfile(path, into)
+            os.chmod(into, 0o755)
 
 
 def extension(name, crate, variable, sources):
@@ -75,6 +102,7 @@ setup(
     package_dir={"": "src"},
     package_data={"dagcbor": ["*.pyi", "py.typed"]},
     ext_modules=[native, native_memory],
+    cmdclass={"build_py": WithProgram},
     zip_safe=False,
     options={
         "bdist_wheel": {"py_limited_api": "cp311"},

@@ -24,6 +24,8 @@
 
     dag_pb.loads(block), dag_pb.dumps(node)  blocks of DAG-PB, which files of IPFS are made of
 
+    Store(path)          blocks in a file that lasts, by the program `dagstore`
+
 Whether bytes are a block or a file of blocks is the library's judgement, which is proved. So
 is whether a file is a whole repository, and DAG-JSON both ways. The rest, which makes objects from what the library tells
 and tells it what the objects are, is two small extensions in C, and not proved."""
@@ -37,6 +39,9 @@ from ._native import CID, CarReader, Section, check, dumps, links, loads, loads_
 from ._native import read_car
 from ._paths import MissingBlock, find, resolve
 from ._repo import Repository, read_repo
+from ._store import DamagedBlock, Imported, InvalidBlock, InvalidCar, Store, StoreDiskError
+from ._store import StoreEnded, StoreError, StoreFull, StoreLocked, StoreMemoryError
+from ._store import StoreUnreadable
 
 __version__ = "0.1.0"
 
@@ -46,9 +51,21 @@ __all__ = [
     "CarError",
     "CarReader",
     "DagCborError",
+    "DamagedBlock",
+    "Imported",
+    "InvalidBlock",
+    "InvalidCar",
     "MissingBlock",
     "Repository",
     "Section",
+    "Store",
+    "StoreDiskError",
+    "StoreEnded",
+    "StoreError",
+    "StoreFull",
+    "StoreLocked",
+    "StoreMemoryError",
+    "StoreUnreadable",
     "check",
     "check_car",
     "dag_pb",

@@ -1,0 +1,379 @@
+"""A store of blocks in a file that lasts: the program `dagstore`, started and asked.
+
+The store stays a process of its own, which answers requests on its standard input. So a fault here
+cannot damage the file, and what the program's contracts say holds for it."""
+
+from __future__ import annotations
+
+import contextlib
+import os
+import shutil
+import subprocess
+import tempfile
+import threading
+from typing import IO, TYPE_CHECKING, NamedTuple, TypeVar, overload
+
+from ._native import CID, to_bytes
+
+if TYPE_CHECKING:
+    from collections.abc import Iterator
+    from types import TracebackType
+
+    from ._native import Buffer
+
+T = TypeVar("T")
+CODECS = ("dag-cbor", "raw")
+NO_DEFAULT = object()
+HERE = os.path.dirname(os.path.abspath(__file__))
+
+
+class StoreError(Exception):
+    """What `dagstore` says of a call that it refuses. All that waited for a commit is undone, but
+    where the class says otherwise."""
+
+
+class StoreLocked(StoreError):
+    """Another process, or another Store, has the file open."""
+
+
+class StoreUnreadable(StoreError):
+    """The file is no store of blocks, or of an earlier version, or cannot be opened for reading and
+    writing."""
+
+
+class StoreFull(StoreError):
+    """The disk is full."""
+
+
+class StoreDiskError(StoreError):
+    """The disk failed, or the file is damaged."""
+
+
+class StoreMemoryError(StoreError, MemoryError):
+    """The program has no memory left."""
+
+
+class StoreEnded(StoreError):
+    """The program ended, or the store is closed. What was answered before is in the file."""
+
+
+class InvalidBlock(StoreError, ValueError):
+    """Bytes that are no block of their codec. Nothing is changed or undone."""
+
+
+class InvalidCar(StoreError, ValueError):
+    """Bytes that are no file of blocks, or one that has a block that is none."""
+
+
+class DamagedBlock(StoreError):
+    """What is stored under `cid` are not the bytes that it names. Nothing is changed or undone."""
+
+    def __init__(self, said: str, cid: CID | None = None) -> None:
+        super().__init__(said)
+        self.cid = cid
+
+
+class Imported(NamedTuple):
+    """What a file of blocks had: the roots of its header, and how many sections."""
+
+    roots: list[CID]
+    sections: int
+
+
+REFUSALS: tuple[tuple[str, type[StoreError]], ...] = (
+    ("another process has the file open", StoreLocked),
+    ("the file is no store of blocks", StoreUnreadable),
+    ("the file is of an earlier version", StoreUnreadable),
+    ("the file cannot be opened for reading and writing", StoreUnreadable),
+    ("database or disk is full", StoreFull),
+    ("the file takes no more", StoreFull),
+    ("disk I/O error", StoreDiskError),
+    ("database disk image is malformed", StoreDiskError),
+    ("the transaction must be rolled back", StoreDiskError),
+    ("out of memory", StoreMemoryError),
+    ("the block is too long for a row", StoreError),
+    ("the block is ", InvalidBlock),
+    ("the block has other bytes", InvalidBlock),
+    ("the input is no file of blocks", InvalidCar),
+)
+
+
+def refusal_of(said: str) -> StoreError:
+    """The error of what the program says: its last line tells why, and those before it of what."""
+    lines = [it.removeprefix("dagstore: ") for it in said.splitlines()]
+    text = ", ".join(lines)
+    why = lines[-1] if lines else ""
+    if why.startswith("what is stored under the name"):
+        name = lines[0].partition(" ")[0] if len(lines) > 1 else ""
+        return DamagedBlock(text, CID(name) if name else None)
+    if any(it.startswith("behind ") for it in lines[:-1]):
+        return InvalidCar(text)
+    return next((kind(text) for start, kind in REFUSALS if why.startswith(start)), StoreError(text))
+
+
+def program_of(given: str | os.PathLike[str] | None) -> str:
+    """The program: the one given, that of the environment, one beside this package, or of PATH."""
+    beside = os.path.join(HERE, "dagstore")
+    named = os.fspath(given) if given is not None else os.environ.get("DAGSTORE")
+    found = named or (beside if os.path.exists(beside) else shutil.which("dagstore"))
+    if not found:
+        raise FileNotFoundError("there is no program `dagstore`: name it, or set DAGSTORE, or put it on PATH")
+    return found
+
+
+def path_of(path: str | os.PathLike[str]) -> str:
+    """An absolute path, which can stand in a line."""
+    text = os.path.abspath(os.fspath(path))
+    if "\n" in text:
+        raise ValueError("a path with a line feed cannot be asked for")
+    text.encode()  # a path that is no UTF-8 cannot be either
+    return text
+
+
+class Store:
+    """Blocks under their CIDs, in a file that lasts.
+
+    `Store(path)` opens the file, or makes it where there is none, and has it alone until `close`, or
+    the end of `with`. `program` is the program `dagstore`; else it is that of the environment variable
+    DAGSTORE, or one beside this package, or one on PATH.
+
+    Each change is on the disk when its call returns; in a `batch` all of them are at its end. Threads
+    may share a store: each call waits for the one before, and a batch of one thread for that of
+    another.
+    """
+
+    def __init__(
+        self, path: str | os.PathLike[str], program: str | os.PathLike[str] | None = None
+    ) -> None:
+        self._lock = threading.RLock()
+        self._in_batch = False
+        self._failed: StoreError | None = None
+        self._pid = os.getpid()
+        self._process: subprocess.Popen[bytes] | None = None
+        words = [program_of(program), os.path.abspath(os.fspath(path)), "serve"]
+        pipe = subprocess.PIPE
+        self._process = subprocess.Popen(
+            words, stdin=pipe, stdout=pipe, stderr=pipe, process_group=0
+        )
+        self._ask("rollback")
+
+    # ---- one exchange
+
+    def _ended(self, process: subprocess.Popen[bytes]) -> StoreError:
+        """Why the program answers no more."""
+        self._process = None
+        process.kill()
+        said = process.communicate()[1].decode(errors="replace").strip()
+        error = refusal_of(said)
+        if type(error) is not StoreError:
+            return error
+        return StoreEnded(f"the program ended with status {process.returncode}: {said}".rstrip(": "))
+
+    def _exchange(self, request: bytes, block: bytes) -> tuple[str, bytes]:
+        """Sends a request, and reads the answer: its word, and its bytes."""
+        process = self._process
+        if process is None:
+            raise StoreEnded("the store is closed")
+        if os.getpid() != self._pid:
+            raise StoreEnded("the store was opened by another process than this one")
+        assert process.stdin and process.stdout
+        try:
+            process.stdin.write(request)
+            process.stdin.write(block)
+            process.stdin.flush()
+            word, _, length = process.stdout.readline().decode().partition(" ")
+            wanted = int(length or -1)
+            body = process.stdout.read(wanted) if wanted >= 0 else b""
+            if len(body) != wanted:
+                raise EOFError
+        except (OSError, EOFError, ValueError):
+            raise self._ended(process) from None
+        except BaseException:
+            # It is not known what was answered, so nothing more is asked.
+            self._ended(process)
+            raise
+        return word, body
+
+    def _ask(self, request: str, block: bytes = b"") -> bytes | None:
+        """The bytes of the answer, or None where there is none."""
+        with self._lock:
+            if self._failed:
+                raise self._failed
+            try:
+                word, body = self._exchange(request.encode() + b"\n", block)
+                if word == "ok":
+                    return body
+                if word == "none":
+                    return None
+                said = body.decode(errors="replace")
+                raise refusal_of(said) if word == "refused" else StoreError(f"{word}: {said.strip()}")
+            except StoreError as error:
+                if self._in_batch and not isinstance(error, (InvalidBlock, DamagedBlock)):
+                    self._failed = error
+                raise
+
+    def _change(self, request: str, block: bytes = b"") -> bytes | None:
+        """A change, which is committed, unless a batch commits it."""
+        with self._lock:
+            answer = self._ask(request, block)
+            if not self._in_batch:
+                self._ask("commit")
+            return answer
+
+    # ---- blocks
+
+    @overload
+    def get(self, cid: CID, /) -> bytes: ...
+    @overload
+    def get(self, cid: CID, default: T, /) -> bytes | T: ...
+    def get(self, cid: CID, default: object = NO_DEFAULT, /) -> object:
+        """The block, whose bytes are those that the CID names; else the default, or a KeyError."""
+        block = self._ask(f"get {text_of(cid)}")
+        if block is None and default is NO_DEFAULT:
+            raise KeyError(cid)
+        return default if block is None else block
+
+    def __getitem__(self, cid: CID) -> bytes:
+        return self.get(cid)
+
+    def __contains__(self, cid: CID) -> bool:
+        return self._ask(f"has {text_of(cid)}") is not None
+
+    def __len__(self) -> int:
+        """How many names are listed. It takes as long as they are many."""
+        return int(self._ask("count") or b"0")
+
+    def __iter__(self) -> Iterator[CID]:
+        """The names, in the order of their bytes. One that is put or removed meanwhile may be missed."""
+        name = self._ask("next")
+        while name is not None:
+            cid = CID(name.decode())
+            yield cid
+            name = self._ask(f"next {cid}")
+
+    def put(self, data: Buffer, codec: str | int = "dag-cbor") -> CID:
+        """Keeps the block, and answers its CID, of version 1 by SHA-256. The codec is `dag-cbor`,
+        `raw` or a number. A block of DAG-CBOR or DAG-PB is judged: else it is an InvalidBlock."""
+        block = to_bytes(data)
+        with self._lock:
+            word = "add" if self._in_batch else "put"
+            name = self._ask(f"{word} {codec_of(codec)} {len(block)}", block)
+        return CID((name or b"").decode())
+
+    def remove(self, cid: CID) -> None:
+        """Takes out what is listed under the CID; a KeyError where nothing is."""
+        if self._change(f"remove {text_of(cid)}") is None:
+            raise KeyError(cid)
+
+    def __delitem__(self, cid: CID) -> None:
+        self.remove(cid)
+
+    # ---- roots
+
+    @property
+    def roots(self) -> list[CID]:
+        """The names that are kept as roots, in their order."""
+        return [CID(it) for it in (self._ask("roots") or b"").decode().split()]
+
+    def add_root(self, cid: CID) -> None:
+        """Keeps the name as a root, after the others, if it is none. A block need not be there."""
+        self._change(f"add-root {text_of(cid)}")
+
+    def remove_root(self, cid: CID) -> None:
+        """Takes the name out of the roots; a KeyError where it is none. The block stays."""
+        if self._change(f"drop-root {text_of(cid)}") is None:
+            raise KeyError(cid)
+
+    # ---- many at once
+
+    @contextlib.contextmanager
+    def batch(self) -> Iterator[Store]:
+        """Changes in `with store.batch():` are committed at its end, all of them or none: none where
+        it ends by an exception, or where a call in it failed. Other threads wait."""
+        with self._lock:
+            if self._in_batch:
+                raise RuntimeError("a batch is open")
+            self._in_batch = True
+            try:
+                yield self
+                self._ask("commit")
+            except BaseException:
+                self._failed = None
+                if self._process is not None:
+                    with contextlib.suppress(StoreError):
+                        self._ask("rollback")
+                raise
+            finally:
+                self._in_batch, self._failed = False, None
+
+    # ---- files of blocks
+
+    def import_car(self, source: str | os.PathLike[str] | Buffer | IO[bytes]) -> Imported:
+        """Keeps the blocks and the roots of a file of blocks, all of them or none. The source is a
+        path, or bytes, or a binary file, which goes to a temporary file first."""
+        if isinstance(source, (str, os.PathLike)):
+            with open(source, "rb"):
+                return self._import(path_of(source))
+        with tempfile.NamedTemporaryFile(suffix=".car") as copy:
+            if hasattr(source, "read"):
+                shutil.copyfileobj(source, copy)
+            else:
+                copy.write(to_bytes(source))
+            copy.flush()
+            return self._import(copy.name)
+
+    def _import(self, path: str) -> Imported:
+        with self._lock:
+            if self._in_batch:
+                raise RuntimeError("a file of blocks is a batch of its own")
+            *roots, count = (self._ask(f"import {path}") or b"").decode().splitlines()
+        return Imported([CID(it.removeprefix("root ")) for it in roots], int(count.removeprefix("stored ")))
+
+    def export_car(self, path: str | os.PathLike[str]) -> None:
+        """Makes a file of all blocks (CAR, version 1), with the roots that are kept. No file is
+        written over: one that is there is a FileExistsError."""
+        text = path_of(path)
+        if os.path.lexists(text):
+            raise FileExistsError(f"there is a file {text}")
+        self._ask(f"export {text}")
+
+    # ---- the end
+
+    def close(self) -> None:
+        """Ends the program. What was not committed is undone. A second call does nothing."""
+        with self._lock:
+            process, self._process = self._process, None
+            if process is not None and os.getpid() == self._pid:
+                process.communicate()
+
+    def __enter__(self) -> Store:
+        return self
+
+    def __exit__(
+        self,
+        kind: type[BaseException] | None,
+        error: BaseException | None,
+        trace: TracebackType | None,
+    ) -> None:
+        self.close()
+
+    def __del__(self) -> None:
+        with contextlib.suppress(Exception):
+            self.close()
+
+
+def text_of(cid: CID) -> str:
+    if not isinstance(cid, CID):
+        raise TypeError(f"a CID is wanted, and not {type(cid).__name__}")
+    return str(cid)
+
+
+def codec_of(codec: str | int) -> str:
+    """The word of a codec."""
+    if isinstance(codec, str):
+        if codec not in CODECS:
+            raise ValueError("a codec is 'dag-cbor', 'raw' or a number")
+        return codec
+    if not 0 <= codec < 2**64:
+        raise ValueError("a codec has 64 bits")
+    return f"0x{codec:x}"

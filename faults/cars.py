@@ -4,6 +4,7 @@ What is wanted of a file is what `Judge` finds, which reads its framing and dige
 `BLOCKS`, by hand. None is copied from a run."""
 
 import hashlib
+import json
 import os
 import resource
 import subprocess
@@ -70,7 +71,7 @@ class Judge:
     def __init__(self, bytes_):
         self.at = 0
         self.checked, self.listed, self.linked, self.held, self.is_well = [], [], set(), set(), True
-        self.sections, self.refusal, self.places = [], [], []
+        self.sections, self.refusal, self.places, self.roots, self.given = [], [], [], [], bytes_
         try:
             self.bytes, is_short = self.file_in(bytes_)
             self.header()
@@ -114,6 +115,7 @@ class Judge:
         block = self.counted()
         if block in NO_HEADERS:
             raise Refusal(NO_HEADERS[block])
+        self.roots = HEADERS[block]
         self.linked.update(HEADERS[block])
         self.listed += [f"root {text_of(root)}" for root in HEADERS[block]]
 
@@ -210,6 +212,61 @@ class Judge:
         return status, "".join(it + "\n" for it in lines).encode()
 
 
+    def summary(self):
+        """The status, the output and what is told of `check --summary`: the numbers alone."""
+        if self.refusal:
+            return 1, f"{self.refusal[0]}\n".encode(), b""
+        found = [it for _, _, it in self.sections]
+        missing = len(self.linked - self.held)
+        lines = [f"sections {len(found)}", f"ok {sum(it.startswith('ok ') for it in found)}"]
+        lines += [f"{it} {found.count(it)}" for it in ("not read", "links not read")]
+        lines += [f"refused {sum(it.startswith('refused ') for it in found)}"]
+        lines += [f"{it} {found.count(it)}" for it in ("other bytes", "not verified")] + [f"missing {missing}"]
+        return (0 if self.is_well and not missing else 1), "".join(it + "\n" for it in lines).encode(), b""
+
+    def facts(self):
+        """What `inspect` tells of a whole file."""
+        is_second = self.given[:11] == PRAGMA
+        rows = {"codecs": {}, "hashes": {}}
+        for name, block, _ in self.sections:
+            codec, hash_code, _, _ = self.name(name + block)
+            for kind, number in (("codecs", codec), ("hashes", hash_code)):
+                count, bytes_ = rows[kind].get(number, (0, 0))
+                rows[kind][number] = count + 1, bytes_ + len(block)
+        missing, lengths = self.linked - self.held, [len(block) for _, block, _ in self.sections]
+        codecs = [({"codec": CODECS.get(it, hex(it))}, row) for it, row in sorted(rows["codecs"].items())]
+        hashes = [({"hash": hex(it)}, row) for it, row in sorted(rows["hashes"].items())]
+        return {
+            "version": 2 if is_second else 1,
+            "index": is_second and any(self.given[43:51]),
+            "roots": [{"cid": text_of(it), "there": it not in missing} for it in self.roots],
+            "sections": len(lengths),
+            "repeated": len(lengths) - len({name for name, _, _ in self.sections}),
+            "bytes": sum(lengths),
+            "least": min(lengths, default=0),
+            "greatest": max(lengths, default=0),
+            "codecs": [it | {"sections": count, "bytes": bytes_} for it, (count, bytes_) in codecs],
+            "hashes": [it | {"sections": count, "bytes": bytes_} for it, (count, bytes_) in hashes],
+            "missing": len(missing),
+        }
+
+    def inspected(self, as_json):
+        """The status, the output and what is told of `inspect`."""
+        if self.refusal:
+            return self.told(self.refusal[0])
+        facts = self.facts()
+        if as_json:
+            return 0, json.dumps(facts, separators=(",", ":")).encode() + b"\n", b""
+        lines = [f"version {facts['version']}", f"index {'yes' if facts['index'] else 'no'}", f"roots {len(facts['roots'])}"]
+        lines += [f"root {it['cid']} {'there' if it['there'] else 'missing'}" for it in facts["roots"]]
+        lines += [f"{it} {facts[it]}" for it in ("sections", "repeated", "bytes", "least", "greatest")]
+        for kind, word in (("codecs", "codec"), ("hashes", "hash")):
+            lines += [f"{word} {it[word]} {it['sections']} {it['bytes']}" for it in facts[kind]]
+        return 0, "".join(it + "\n" for it in lines + [f"missing {facts['missing']}"]).encode(), b""
+
+
+# The names of codecs (multicodec table).
+CODECS = {0x55: "raw", 0x70: "dag-pb", 0x71: "dag-cbor", 0x72: "libp2p-key", 0x129: "dag-json", 0x200: "json"}
 SMALL = counted(header(cid(ROOT))) + section(ROOT) + section(NUMBERS)
 RAW_NOTHING = section(b"", codec=0x55)
 LENGTHS = (1 << 63, (1 << 64) - 1, 1 << 64, 1 << 69, (1 << 63) - 1)
@@ -290,7 +347,13 @@ def sweep_files(path, report):
                 ran = subprocess.run([path, words[0], text_of(of)], check=False, **how)
                 if (ran.returncode, ran.stdout, ran.stderr) != wanted(of):
                     wrong.append((words[0], number, ran.returncode, ran.stdout[-80:], ran.stderr))
-        report(f"dagcar, {name}", 4 * len(given), wrong)
+            of_all = (["check", "--summary"], judge.summary()), (["inspect"], judge.inspected(False))
+            for words, wanted in (*of_all, (["inspect", "--json"], judge.inspected(True))):
+                how = {"input": file, "capture_output": True, "preexec_fn": limit, "timeout": 60}
+                ran = subprocess.run([path, *words], check=False, **how)
+                if (ran.returncode, ran.stdout, ran.stderr) != wanted:
+                    wrong.append((words, number, ran.returncode, ran.stdout[-80:], ran.stderr))
+        report(f"dagcar, {name}", 7 * len(given), wrong)
 
 
 # A block, and its text as `show` writes it and `make` reads it.

@@ -1,10 +1,12 @@
 #!/usr/bin/env python3
-"""Draws docs/growth.svg: the table of growth that stands in docs/SPEED.md, time against size, both scales logarithmic.
+"""Draws docs/growth.svg and docs/store.svg: the tables of growth that stand in docs/SPEED.md, time against the size of a block, and
+of a store, both scales logarithmic.
 
-    bench/curves.py          draws it anew; so does `bench/growth.py page`
-    bench/curves.py check    fails where the picture is another than the table says
+    bench/curves.py          draws them anew; so do `bench/growth.py page` and `bench/store.py page`
+    bench/curves.py check    fails where a picture is another than its table says
 
-Nothing is measured here. A call whose time grows as its block does is a line at 45 degrees, which the grid's diagonals are."""
+Nothing is measured here. A call whose time grows as the size does is a line at 45 degrees, which the grid's diagonals are; one whose
+time does not is level."""
 
 import math
 import re
@@ -12,17 +14,25 @@ import sys
 
 import bars
 
-FIRST, PICTURE = "Seconds, a block of", bars.ROOT / "docs" / "growth.svg"
+FIRST, STORE = "Seconds, a block of", "Seconds of the processor, a store of"
+# The first cell of each table's head, with its picture and what is drawn.
+PICTURES = {
+    FIRST: (bars.ROOT / "docs" / "growth.svg", "Processor time against the size of a block"),
+    STORE: (bars.ROOT / "docs" / "store.svg", "Processor time against the size of a store"),
+}
 LEFT, RIGHT, TOP, DECADE = 70, 560, 64, 70
 COLOURS = ("#1f77b4", "#d2691e", "#2e8b57", "#b22222", "#7b4fb5", "#8c6d31", "#c2528b", "#5b6770", "#148a8a")
 UNITS = {"KB": 3, "MB": 6}
+# What ends the name of a row that is not ours.
+PEER = ", Python"
+GAP = 17
 TIMES = ((0, "s"), (-3, "ms"), (-6, "µs"), (-9, "ns"))
 
 
 def size_of(name):
     """The power of ten of `10 KB`."""
     number, unit = name.split()
-    return math.log10(int(number)) + UNITS[unit]
+    return math.log10(int(number.replace(",", ""))) + UNITS[unit]
 
 
 def time_of(power):
@@ -31,26 +41,26 @@ def time_of(power):
     return f"{10 ** (power - least)} {unit}"
 
 
-def curves():
-    """The sizes as powers of ten, and the seconds of each call."""
+def curves(first):
+    """The sizes as powers of ten, and the seconds of each call, of the table whose head begins so."""
     for head, _, *rows in bars.tables(bars.PAGE.read_text(encoding="utf-8")):
-        if head[0] == FIRST:
+        if head[0] == first:
             sizes = [size_of(name) for name in head[1:]]
             return sizes, [(row[0], [float(cell) for cell in row[1:] if re.fullmatch(r"[\d.e+-]+", cell)]) for row in rows]
     return [], []
 
 
-def lines_of(sizes, calls):
+def lines_of(title, sizes, calls):
     """The lines of the picture."""
     powers = [math.log10(seconds) for _, row in calls for seconds in row if seconds > 0]
     least, most = math.floor(min(powers)), math.ceil(max(powers))
-    height, wide = TOP + DECADE * (most - least) + 46, (RIGHT - LEFT) / (sizes[-1] - sizes[0])
-    bottom = TOP + DECADE * (most - least)
+    wide, bottom = (RIGHT - LEFT) / (sizes[-1] - sizes[0]), TOP + DECADE * (most - least)
+    height = max(bottom, TOP + GAP * len(calls)) + 46
     at = lambda size, power: (LEFT + wide * (size - sizes[0]), bottom - DECADE * (power - least))
     yield f'<svg xmlns="http://www.w3.org/2000/svg" viewBox="0 0 {bars.WIDTH} {height}" role="img" aria-labelledby="title">'
-    yield '<title id="title">Processor time against the size of a block</title>'
+    yield f'<title id="title">{title}</title>'
     yield f"<style>{bars.STYLE}</style>"
-    yield bars.text(16, 24, "Processor time against the size of a block", "title")
+    yield bars.text(16, 24, title, "title")
     yield bars.text(16, 44, "both scales logarithmic; a diagonal of the grid is ten times the time for ten times the bytes", "note")
     for size in sizes:
         x, _ = at(size, least)
@@ -76,32 +86,38 @@ def polyline(points, colour, more=""):
 
 
 def drawn(sizes, calls, at):
-    """The curves, and their names, which stand apart from one another."""
-    last = TOP - 12
-    for colour, (name, row) in zip(COLOURS, sorted(calls, key=lambda call: -call[1][-1])):
+    """The curves, and their names, which stand apart from one another. What Python does of the same is dashed."""
+    last, colours = TOP - 12, {}
+    for name, row in sorted(calls, key=lambda call: -call[1][-1]):
+        ours = name.removesuffix(PEER)
+        colour = colours.setdefault(ours, COLOURS[len(colours) % len(COLOURS)])
         points = [at(size, math.log10(seconds)) for size, seconds in zip(sizes, row)]
-        yield polyline(points, colour, 'stroke-width="2"')
-        last = max(last + 17, points[-1][1] + 4)
+        yield polyline(points, colour, 'stroke-width="2"' + (' stroke-dasharray="6 3"' if name != ours else ""))
+        last = max(last + GAP, points[-1][1] + 4)
         yield f'<line x1="{points[-1][0]:.1f}" y1="{points[-1][1]:.1f}" x2="{RIGHT + 14}" y2="{last - 4:.1f}" stroke="{colour}"/>'
         yield bars.text(RIGHT + 18, last, name.replace("`", ""))
 
 
-def picture():
-    sizes, calls = curves()
-    return "\n".join(lines_of(sizes, calls)) + "\n" if calls else ""
+def picture(first):
+    sizes, calls = curves(first)
+    return "\n".join(lines_of(PICTURES[first][1], sizes, calls)) + "\n" if calls else ""
 
 
 def draw():
-    PICTURE.write_text(picture(), encoding="utf-8")
+    for first, (path, _) in PICTURES.items():
+        path.write_text(picture(first), encoding="utf-8")
 
 
 def main(words):
     if words != ["check"]:
         draw()
-    elif not PICTURE.exists() or PICTURE.read_text(encoding="utf-8") != picture():
-        print("docs/growth.svg is not what the table of docs/SPEED.md says: run bench/curves.py")
-        return 1
-    return 0
+        return 0
+    status = 0
+    for first, (path, _) in PICTURES.items():
+        if not path.exists() or path.read_text(encoding="utf-8") != picture(first):
+            print(f"docs/{path.name} is not what the table of docs/SPEED.md says: run bench/curves.py")
+            status = 1
+    return status
 
 
 if __name__ == "__main__":

@@ -1,14 +1,16 @@
 #!/usr/bin/env python3
-"""What a store that lasts takes: 100,000 blocks of 1,000 bytes imported by `dagstore`, opened again, checked and exported, beside Python's sqlite3 with hashlib.
+"""What the calls of a store on disk take as it grows, beside Python's sqlite3 with hashlib, over the same blocks.
 
-    bench/store.py           prints the rows of docs/SPEED.md: processor seconds, and the greatest memory in MB
-    bench/store.py growth [MB..]    prints its table of growth: an import, and then single calls, each a process, of stores of 1 MB to 1 GB
+    bench/store.py [MB..]          prints a table of seconds, and one of bytes, for stores of so many MB (1, 10, 100 and 1,000)
+    bench/store.py [MB..] page     puts both into docs/SPEED.md, and draws the first (bench/curves.py)
 
-The program is the one that `./dagstore` built."""
+A block has 1,000 bytes, and links to the two below it in a tree. Each call of `dagstore` is a process of its own; Python's calls run in
+a process that runs already, and open the file anew. The programs are those that `./dagstore` and `./dagcar` built. Nothing here is a test.
+BENCH_FOLDER names the folder in which the files are made."""
 
 import hashlib
 import os
-import resource
+import shutil
 import sqlite3
 import subprocess
 import sys
@@ -16,10 +18,17 @@ import tempfile
 import threading
 import time
 
-ROOT = os.path.dirname(os.path.dirname(os.path.realpath(__file__)))
+import curves
+from measuring import ROOT, into_page, load, machine
+
 PROGRAM = f"{ROOT}/crates/dagstore/out/dagstore"
-HEADER = b"\xa2\x65roots\x80\x67version\x01"
 TABLE = "CREATE TABLE block (cid BLOB NOT NULL PRIMARY KEY, bytes BLOB NOT NULL) STRICT"
+BEGIN, END = "<!-- made by bench/store.py page -->\n", "<!-- so far, of stores -->\n"
+SIZES = (1, 10, 100, 1000)
+# The least of so many runs of a call on one block.
+RUNS = 9
+LINK = b"\xd8\x2a\x58\x25\x00"
+FORM = b"\x01\x71\x12\x20"
 
 
 def varint(n):
@@ -28,15 +37,6 @@ def varint(n):
         out += bytes([128 + n % 128])
         n //= 128
     return out + bytes([n])
-
-
-def make(path, count):
-    with open(path, "wb") as file:
-        file.write(varint(len(HEADER)) + HEADER)
-        for n in range(count):
-            block = b"\x59\x03\xe5" + n.to_bytes(8, "little") + b"\x07" * 989
-            name = b"\x01\x71\x12\x20" + hashlib.sha256(block).digest()
-            file.write(varint(len(name) + len(block)) + name + block)
 
 
 def length(file):
@@ -49,162 +49,279 @@ def length(file):
     return None
 
 
-def peer(cars, path):
-    """The same import: each block's digest is tested, and all are one transaction."""
+def blocks(count):
+    """So many blocks of 1,000 bytes, the last first: lists of links to blocks 2n + 1 and 2n + 2, where these are, and of bytes."""
+    names = [b""] * count
+    for n in range(count - 1, -1, -1):
+        links = b"".join(LINK + names[m] for m in (2 * n + 1, 2 * n + 2) if m < count)
+        head = bytes([0x81 + len(links) // 41]) + links
+        rest = 1000 - len(head) - 3
+        block = head + b"\x59" + rest.to_bytes(2, "big") + n.to_bytes(8, "big") + bytes(rest - 8)
+        names[n] = FORM + hashlib.sha256(block).digest()
+        yield n, names[n], block
+
+
+def make(path, count):
+    """A file of these blocks, whose root is the first; the name of the second. A process of its own makes it, so that this one stays
+    small: the greatest memory of a child is never less than what this one has as it starts it."""
+    process = os.fork()
+    if process == 0:
+        write_blocks(path, count)
+        os._exit(0)
+    _, status = os.waitpid(process, 0)
+    assert status == 0, status
+    with open(f"{path}.name", "rb") as file:
+        return file.read()
+
+
+def write_blocks(path, count):
+    header = b"\xa2\x65roots\x81" + LINK
+    with open(path, "wb") as file:
+        file.write(bytes(1 + len(header) + 36 + 9))
+        for n, name, block in blocks(count):
+            file.write(varint(len(name) + len(block)) + name + block)
+            if n == 1:
+                with open(f"{path}.name", "wb") as other:
+                    other.write(name)
+        file.seek(0)
+        header += name + b"\x67version\x01"
+        file.write(varint(len(header)) + header)
+
+
+# ---- Python's sqlite3
+
+
+def opened(path):
     base = sqlite3.connect(path, isolation_level=None)
-    for line in ("PRAGMA journal_mode = WAL", "PRAGMA synchronous = FULL", TABLE, "BEGIN"):
-        base.execute(line)
-    with open(cars, "rb") as file:
+    base.execute("PRAGMA journal_mode = WAL")
+    base.execute("PRAGMA synchronous = FULL")
+    return base
+
+
+def sections(path):
+    with open(path, "rb") as file:
         file.read(length(file))
         while (n := length(file)) is not None:
             section = file.read(n)
-            name, block = section[:36], section[36:]
-            assert hashlib.sha256(block).digest() == name[4:]
-            base.execute("INSERT OR IGNORE INTO block VALUES (?, ?)", (name, block))
+            yield section[:36], section[36:]
+
+
+def peer_import(path, cars):
+    """Each block's digest is tested, and all are one transaction."""
+    base = opened(path)
+    base.execute(TABLE)
+    base.execute("BEGIN")
+    for name, block in sections(cars):
+        assert hashlib.sha256(block).digest() == name[4:]
+        base.execute("INSERT OR IGNORE INTO block VALUES (?, ?)", (name, block))
     base.execute("COMMIT")
+    base.close()
 
 
-def peer_check(path, out):
-    """The same check: each block's digest is tested, in the order of names; or, with a file to write, the same export."""
-    base = sqlite3.connect(path, isolation_level=None)
+def peer_export(path, out):
+    """Each block's digest is tested, in the order of names."""
+    base = opened(path)
     with open(out, "wb") as file:
         for name, block in base.execute("SELECT cid, bytes FROM block ORDER BY cid"):
             assert hashlib.sha256(block).digest() == name[4:]
-            if out != os.devnull:
-                file.write(varint(len(name) + len(block)) + name + block)
-            else:
-                print(name.hex(), "ok")
+            file.write(varint(len(name) + len(block)) + name + block)
+    base.close()
 
 
-def timed(words, given=None):
-    """Processor seconds, and the greatest memory in MB, of a child of its own."""
-    reader, writer = os.pipe()
-    pid = os.fork()
-    if pid == 0:
-        with open(given or os.devnull, "rb") as file:
-            subprocess.run(words, stdin=file, stdout=subprocess.DEVNULL, check=True)
-        used = resource.getrusage(resource.RUSAGE_CHILDREN)
-        os.write(writer, f"{used.ru_utime + used.ru_stime} {used.ru_maxrss / 1024}".encode())
-        os._exit(0)
-    os.waitpid(pid, 0)
-    return [float(x) for x in os.read(reader, 100).split()]
+def peer_get(path, name):
+    base = opened(path)
+    found = base.execute("SELECT bytes FROM block WHERE cid = ?", (name,)).fetchall()
+    assert hashlib.sha256(found[0][0]).digest() == name[4:]
+    base.close()
+    return found[0][0]
 
 
-def ran(words, given=None, log=None):
-    """Wall seconds, processor seconds, the greatest memory in MB, and the greatest size of the log in MB."""
-    with open(given or os.devnull, "rb") as file:
-        before = time.monotonic()
-        process = subprocess.Popen(words, stdin=file, stdout=subprocess.DEVNULL)
+def peer_put(path):
+    base = opened(path)
+    block = os.urandom(1000)
+    base.execute("INSERT INTO block VALUES (?, ?)", (b"\x01\x55\x12\x20" + hashlib.sha256(block).digest(), block))
+    base.close()
+
+
+def peer_gc(path, root):
+    """Keeps what links lead to from the root; each block that is read is tested."""
+    base = opened(path)
+    kept, wanted = set(), [root]
+    while wanted:
+        name = wanted.pop()
+        if name in kept:
+            continue
+        kept.add(name)
+        block = base.execute("SELECT bytes FROM block WHERE cid = ?", (name,)).fetchone()[0]
+        assert hashlib.sha256(block).digest() == name[4:]
+        wanted += [block[1 + 41 * i + 5 : 1 + 41 * (i + 1)] for i in range(block[0] - 0x81)]
+    base.execute("BEGIN")
+    gone = [(name,) for name, in base.execute("SELECT cid FROM block") if name not in kept]
+    base.executemany("DELETE FROM block WHERE cid = ?", gone)
+    base.execute("COMMIT")
+    base.close()
+
+
+PEERS = {"import": peer_import, "export": peer_export, "get": peer_get, "put": peer_put, "gc": peer_gc}
+
+
+# ---- what a call takes
+
+
+class Took:
+    """What one run took: seconds by the clock and of the processor, and the greatest memory and log, in MB."""
+
+    def __init__(self, clock, processor, memory, log):
+        self.clock, self.processor, self.memory, self.log = clock, processor, memory, log
+
+
+def watched(base, run):
+    """What the run gives, and the greatest size of the log beside the file in MB."""
     top, done = [0], threading.Event()
 
     def look():
         while not done.wait(0.02):
-            for end in ("-wal", "-journal"):
-                try:
-                    top[0] = max(top[0], os.path.getsize(log + end))
-                except OSError:
-                    pass
+            try:
+                top[0] = max(top[0], os.path.getsize(base + "-wal"))
+            except OSError:
+                pass
 
-    if log:
-        watch = threading.Thread(target=look)
-        watch.start()
-    _, status, used = os.wait4(process.pid, 0)
-    process.returncode = status
-    took = time.monotonic() - before
-    if log:
+    watch = threading.Thread(target=look)
+    watch.start()
+    try:
+        return run(), top
+    finally:
         done.set()
         watch.join()
-    assert status == 0, words
-    return took, used.ru_utime + used.ru_stime, used.ru_maxrss / 1024, top[0] / 1e6
 
 
-def bytes_read(words):
-    """How many KB of its database and log a call reads, by what it asks of the system."""
-    with tempfile.NamedTemporaryFile("r") as out:
-        run = ["strace", "-f", "-y", "-e", "trace=read,pread64,preadv", "-o", out.name, *words]
-        subprocess.run(run, stdin=subprocess.DEVNULL, stdout=subprocess.DEVNULL, check=True)
-        total = 0
+def child(process, base):
+    before = time.monotonic()
+    (_, status, used), top = watched(base, lambda: os.wait4(process, 0))
+    assert status == 0, status
+    return Took(time.monotonic() - before, used.ru_utime + used.ru_stime, used.ru_maxrss / 1024, top[0] / 1e6)
+
+
+def ours(base, *words, given=None):
+    """A run of the program over the file."""
+    with open(given or os.devnull, "rb") as file, open(os.devnull, "wb") as out:
+        process = subprocess.Popen([PROGRAM, base, *words], stdin=file, stdout=out)
+    took = child(process.pid, base)
+    process.returncode = 0
+    return took
+
+
+def theirs(base, call, *words):
+    """A run of the peer over its file, in a process that is forked from this one."""
+    process = os.fork()
+    if process == 0:
+        before, clock = time.process_time(), time.monotonic()
+        PEERS[call](base, *words)
+        print(time.process_time() - before, time.monotonic() - clock, file=open(f"{base}.took", "w", encoding="ascii"))
+        os._exit(0)
+    took = child(process, base)
+    with open(f"{base}.took", encoding="ascii") as file:
+        took.processor, took.clock = (float(it) for it in file.read().split())
+    return took
+
+
+def least(run, count=RUNS):
+    runs = [run() for _ in range(count)]
+    return Took(*(min(getattr(it, what) for it in runs) for what in ("clock", "processor", "memory", "log")))
+
+
+def traced(base, *words, given=None):
+    """How many KB of its database and log a call reads, and how often it syncs, by what it asks of the system."""
+    with tempfile.NamedTemporaryFile("r") as out, open(given or os.devnull, "rb") as file:
+        run = ["strace", "-f", "-y", "-e", "trace=read,pread64,preadv,fsync,fdatasync", "-o", out.name]
+        subprocess.run([*run, PROGRAM, base, *words], stdin=file, stdout=subprocess.DEVNULL, check=True)
+        read = syncs = 0
         for line in out.read().splitlines():
-            if ".db" in line.split(",")[0] and ") = " in line:
-                total += max(0, int(line.rsplit(") = ", 1)[1].split()[0]))
-    return total / 1000
+            if "sync(" in line:
+                syncs += 1
+            elif ".db" in line.split(",")[0] and ") = " in line:
+                read += max(0, int(line.rsplit(") = ", 1)[1].split()[0]))
+    return read / 1000, syncs
 
 
-def least(words, count=9):
-    """The least wall milliseconds, and the greatest memory, of so many runs."""
-    runs = [ran(words()) for _ in range(count)]
-    return min(run[0] for run in runs) * 1000, max(run[2] for run in runs)
+def one_block(at):
+    """A file with a block that no store has."""
+    with open(f"{at}/block", "wb") as file:
+        file.write(b"\x59\x03\xe5" + os.urandom(997))
+    return f"{at}/block"
 
 
-def put_peer(path):
-    """Python's sqlite3 puts one block, in a process that runs already: a connection, a transaction, and the end of the connection."""
-    before = time.monotonic()
-    base = sqlite3.connect(path, isolation_level=None)
-    base.execute("PRAGMA synchronous = FULL")
-    block = os.urandom(1000)
-    base.execute("INSERT INTO block VALUES (?, ?)", (b"\x01\x55\x12\x20" + hashlib.sha256(block).digest(), block))
-    base.close()
-    return (time.monotonic() - before) * 1000
+def measured(at, size):
+    """What each call takes over a store of so many MB, and what of it is counted."""
+    left = make(f"{at}/blocks.car", size * 1000)
+    a, b, root = f"{at}/a.db", f"{at}/b.db", "f" + left.hex()
+    took = {"`import`": ours(a, "import", f"{at}/blocks.car")}
+    took["`import`, Python"] = theirs(b, "import", f"{at}/blocks.car")
+    took["`has`: open, and look up"] = least(lambda: ours(a, "has", root))
+    took["`get`"] = least(lambda: ours(a, "get", root))
+    took["`get`, Python"] = least(lambda: theirs(b, "get", left))
+    took["`put`"] = least(lambda: ours(a, "put", given=one_block(at)))
+    took["`put`, Python"] = least(lambda: theirs(b, "put"))
+    took["`export`"] = ours(a, "export")
+    took["`export`, Python"] = theirs(b, "export", os.devnull)
+    took["`check`"] = ours(a, "check")
+    counted = {
+        "`get`: KB read; syncs": "{:.0f}; {}".format(*traced(a, "get", root)),
+        "`has`: KB read; syncs": "{:.0f}; {}".format(*traced(a, "has", root)),
+        "`roots`: KB read; syncs": "{:.0f}; {}".format(*traced(a, "roots")),
+        "`put`: KB read; syncs": "{:.0f}; {}".format(*traced(a, "put", given=one_block(at))),
+        "`add-root`: KB read; syncs": "{:.0f}; {}".format(*traced(a, "add-root", root)),
+    }
+    took["`gc` of half"] = ours(a, "gc", root)
+    took["`gc` of half, Python"] = theirs(b, "gc", left)
+    for call in ("import", "gc"):
+        key = next(name for name in took if name.startswith(f"`{call}`") and "Python" not in name)
+        counted[f"`{call}`: memory, MB"] = f"{took[key].memory:.0f}"
+    counted["`import`: log at most, MB; Python's"] = f"{took['`import`'].log:.0f}; {took['`import`, Python'].log:.0f}"
+    counted["`get`, by the clock, ms; Python's"] = f"{took['`get`'].clock * 1000:.1f}; {took['`get`, Python'].clock * 1000:.1f}"
+    counted["`put`, by the clock, ms; Python's"] = f"{took['`put`'].clock * 1000:.1f}; {took['`put`, Python'].clock * 1000:.1f}"
+    counted["`import`, by the clock, s; Python's"] = f"{took['`import`'].clock:.1f}; {took['`import`, Python'].clock:.1f}"
+    took["SHA-256 alone of as many bytes"] = Took(0, hashed(at, size), 0, 0)
+    return took, counted
 
 
-def get_peer(path, name):
-    before = time.monotonic()
-    base = sqlite3.connect(path)
-    found = base.execute("SELECT bytes FROM block WHERE cid = ?", (name,)).fetchall()
-    assert hashlib.sha256(found[0][0]).digest() == name[4:]
-    base.close()
-    return (time.monotonic() - before) * 1000
+def hashed(at, size):
+    """The processor seconds of SHA-256 alone, of the toolchain: of `dagcar name` over one byte string of so many MB."""
+    with open(f"{at}/string", "wb") as file:
+        file.write(b"\x5a" + (size * 10**6).to_bytes(4, "big"))
+        for _ in range(size):
+            file.write(bytes(10**6))
+    with open(f"{at}/string", "rb") as file, open(os.devnull, "wb") as out:
+        process = subprocess.Popen([f"{ROOT}/crates/dagcar/out/dagcar", "name"], stdin=file, stdout=out)
+    took = child(process.pid, at)
+    process.returncode = 0
+    os.remove(f"{at}/string")
+    return took.processor
 
 
-def growth(sizes):
-    for size in sizes:
-        with tempfile.TemporaryDirectory(dir=os.environ.get("BENCH_FOLDER")) as at:
-            count = size * 1000
-            make(f"{at}/blocks.car", count)
-            ours = ran([PROGRAM, f"{at}/a.db", "import", f"{at}/blocks.car"], log=f"{at}/a.db")
-            theirs = ran([sys.executable, __file__, "peer", f"{at}/blocks.car", f"{at}/b.db"], log=f"{at}/b.db")
-            block = b"\x59\x03\xe5" + (count // 2).to_bytes(8, "little") + b"\x07" * 989
-            name = b"\x01\x71\x12\x20" + hashlib.sha256(block).digest()
-            text = "f" + name.hex()
-            got, memory = least(lambda: [PROGRAM, f"{at}/a.db", "get", text])
-            has, _ = least(lambda: [PROGRAM, f"{at}/a.db", "has", text])
-            roots, _ = least(lambda: [PROGRAM, f"{at}/a.db", "roots"])
-            read = bytes_read([PROGRAM, f"{at}/a.db", "get", text])
-            puts = []
-            for n in range(9):
-                with open(f"{at}/block", "wb") as file:
-                    file.write(b"\x59\x03\xe5" + os.urandom(997))
-                puts.append(ran([PROGRAM, f"{at}/a.db", "put"], f"{at}/block")[0] * 1000)
-            theirs_get = min(get_peer(f"{at}/b.db", name) for _ in range(9))
-            theirs_put = min(put_peer(f"{at}/b.db") for _ in range(9))
-            print(f"| {size} | {ours[0]:.2f}; {theirs[0]:.2f} | {ours[1]:.2f}; {theirs[1]:.2f} | {ours[2]:.0f} | {ours[3]:.0f}; {theirs[3]:.0f} "
-                  f"| {got:.1f}; {theirs_get:.1f} | {has:.1f} | {roots:.1f} | {min(puts):.1f}; {theirs_put:.1f} | {read:.0f} | {memory:.0f} |", flush=True)
+def table(head, sizes, columns, form):
+    yield f"| {head} | {' | '.join(f'{size:,} MB' for size in sizes)} |\n"
+    yield f"|{'---|' * (len(sizes) + 1)}\n"
+    for name in columns[0]:
+        yield f"| {name} | {' | '.join(form(column[name]) for column in columns)} |\n"
 
 
 def main(words):
-    if words[:1] == ["growth"]:
-        growth([int(word) for word in words[1:]] or [1, 10, 100, 1000])
-        return 0
-    if words[:1] == ["peer"]:
-        peer(*words[1:])
-        return 0
-    if words[:1] == ["peer_check"]:
-        peer_check(*words[1:])
-        return 0
-    with tempfile.TemporaryDirectory() as at:
-        make(f"{at}/blocks.car", 100_000)
-        rows = [
-            ("import, `dagstore`", timed([PROGRAM, f"{at}/a.db", "import"], f"{at}/blocks.car")),
-            ("import, Python's `sqlite3`", timed([sys.executable, __file__, "peer", f"{at}/blocks.car", f"{at}/b.db"])),
-            ("open and count, `dagstore`", timed([PROGRAM, f"{at}/a.db", "count"])),
-            ("check, `dagstore`", timed([PROGRAM, f"{at}/a.db", "check"])),
-            ("check, Python's `sqlite3`", timed([sys.executable, __file__, "peer_check", f"{at}/b.db", os.devnull])),
-            ("export, `dagstore`", timed([PROGRAM, f"{at}/a.db", "export"])),
-            ("export, Python's `sqlite3`", timed([sys.executable, __file__, "peer_check", f"{at}/b.db", f"{at}/c.car"])),
-        ]
-    for name, (seconds, memory) in rows:
-        print(f"| {name} | {seconds:.2f} | {memory:.0f} |")
-    return 0
+    sizes = [int(word) for word in words if word.isdigit()] or list(SIZES)
+    told, columns = [f"Measured {machine()}, {load()}.\n\n"], []
+    for size in sizes:
+        at = tempfile.mkdtemp(dir=os.environ.get("BENCH_FOLDER"))
+        try:
+            columns.append(measured(at, size))
+        finally:
+            shutil.rmtree(at)
+        print(f"{size} MB:", *(f"{name} {it.processor:.4f}," for name, it in columns[-1][0].items()), flush=True)
+    told += table(curves.STORE, sizes, [took for took, _ in columns], lambda it: f"{it.processor:.4f}")
+    told += ["\n", *table("Counted", sizes, [counted for _, counted in columns], str)]
+    print("".join(told))
+    if "page" in words:
+        into_page(BEGIN, told, END)
+        curves.draw()
 
 
-sys.exit(main(sys.argv[1:]))
+main(sys.argv[1:])

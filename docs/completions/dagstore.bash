@@ -2,7 +2,7 @@
 _dagstore() {
     local now=${COMP_WORDS[COMP_CWORD]}
     if [ "$COMP_CWORD" -eq 2 ]; then
-        mapfile -t COMPREPLY < <(compgen -W "import put export get at ls cat has tree check list count roots remove gc add-root drop-root --help --version" -- "$now")
+        mapfile -t COMPREPLY < <(compgen -W "import put export get at ls cat has tree check list count roots remove gc add-root drop-root serve --help --version" -- "$now")
     else
         mapfile -t COMPREPLY < <(compgen -f -- "$now")
     fi

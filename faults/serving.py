@@ -11,6 +11,7 @@ import sqlite3
 import subprocess
 import tempfile
 import threading
+import time
 
 import store
 from store import NOBODY, named, rows_of, run, tables_of, text_of
@@ -68,16 +69,26 @@ def stream_of(draw, count):
     return requests, states
 
 
+def paced(program, path, draw):
+    """The seconds that a request takes here, of a stream that nothing kills."""
+    requests = stream_of(draw, 300)[0]
+    before = time.monotonic()
+    subprocess.run([program, path, "serve"], input=b"".join(requests), stdout=subprocess.DEVNULL, check=True)
+    return (time.monotonic() - before) / len(requests)
+
+
 def crash(program, path, count, seed):
     """Kills it at a random moment of a stream, so often; answers what was wrong."""
-    draw, wrong, killed, longest = random.Random(seed), [], 0, 0.3
+    draw, wrong, killed = random.Random(seed), [], 0
+    pace = paced(program, path, draw)
     for n in range(count):
         for end in ("", "-wal"):
             if os.path.exists(path + end):
                 os.unlink(path + end)
         requests, states = stream_of(draw, draw.choice([5, 50, 300]))
         process = subprocess.Popen([program, path, "serve"], stdin=subprocess.PIPE, stdout=subprocess.PIPE, stderr=subprocess.DEVNULL)
-        timer = threading.Timer(draw.random() * longest, process.kill)
+        # A process takes some time to begin.
+        timer = threading.Timer(0.01 + draw.random() * pace * len(requests), process.kill)
         timer.start()
         try:
             said = process.communicate(b"".join(requests))[0]

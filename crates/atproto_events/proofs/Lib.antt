@@ -1,0 +1,12 @@
+mod Filling
+mod Opened
+mod Named
+mod Led
+mod Places
+mod Stepping
+mod Undoing
+mod Placing
+mod Building
+mod Opening
+mod Hiding
+mod Losing

@@ -1,0 +1,53 @@
+-- What is said of a repository's commit.
+use Rattle.std.specs.Prelude.{◌≡◌, ◌⊎◌, ℕ, List, [], ◌∷◌, ◌++◌, codes, string_bytes, Bool, true, Option, None, Some, ⊤}
+use Rattle.ipld_tree.specs.Cid.{CidParts}
+use Rattle.cid_text.specs.Texts.{cid_text}
+use Rattle.ipld_links.specs.Reaching.{Stored}
+use Rattle.atproto_mst.specs.Repos.{IsStoredCommit, CommitRefused}
+use Rattle.repository_types.specs.declared.repository.Commit.{Commit}
+use Rattle.atproto_mst.specs.declared.repo_error.RepoError.{RepoError}
+use Rattle.block_lines.specs.Lines.{line}
+use Rattle.held_lines.specs.Holding.{TellsFault}
+use Rattle.record_lines.specs.Keys.{key_text}
+use Rattle.record_lines.specs.Words.{IsOfRepo, repo_line, no_root_line}
+use Rattle.record_lines.specs.Repositories.{IsFileHeld, OfFirstRoot}
+use Rattle.record_lines.specs.Records.{IsToldAlone}
+
+-- the CID of the commit before, or `none`
+abbrev pub prev_text : Option CidParts → List ℕ
+prev_text (Some name) = cid_text name
+prev_text None = codes "none"
+
+-- of the commit of this name: its CID, who signs, the revision, the root of the tree, and the commit
+-- before. A DID and a revision stand as keys do.
+abbrev pub commit_lines : CidParts → Commit → List ℕ
+commit_lines name c = line (codes "commit " ++ cid_text name)
+    ++ (line (codes "did " ++ key_text (string_bytes c.did))
+    ++ (line (codes "rev " ++ key_text (string_bytes c.rev))
+    ++ (line (codes "data " ++ cid_text c.data)
+    ++ line (codes "prev " ++ prev_text c.prev))))
+
+-- there is no commit of this name, which a line tells
+abbrev pub IsNoCommitTold : Stored → CidParts → Bool → List ℕ → List ℕ → Type 0
+IsNoCommitTold stored root well out told = ((c : Commit) → ¬ IsStoredCommit stored root c)
+    × ((e : RepoError) × CommitRefused stored root e × IsOfRepo e
+    × IsToldAlone (repo_line root e) well out told)
+
+-- of the commit of this name: what it says; or that there is none
+abbrev pub IsCommitSaid : Stored → CidParts → Bool → List ℕ → List ℕ → Type 0
+IsCommitSaid stored root well out told = ((c : Commit) × IsStoredCommit stored root c
+    × (well ≡ true) × (out ≡ commit_lines root c) × (told ≡ []))
+    ⊎ IsNoCommitTold stored root well out told
+
+-- what is said of roots and what is stored: this of the first root; or that there is none
+abbrev pub OfRoots : (Stored → CidParts → Bool → List ℕ → List ℕ → Type 0)
+    → Stored → List CidParts → Bool → List ℕ → List ℕ → Type 0
+OfRoots IsSaid stored roots well out told =
+    OfFirstRoot (λ root. IsSaid stored root well out told) (IsToldAlone no_root_line well out told) roots
+
+-- what is said of a file: that of its roots and sections; or why the bytes are no file
+abbrev pub OfFile : (Stored → CidParts → Bool → List ℕ → List ℕ → Type 0)
+    → List ℕ → Bool → List ℕ → List ℕ → Type 0
+OfFile IsSaid b well out told = ((roots : List CidParts) × (stored : Stored)
+    × IsFileHeld b roots stored × OfRoots IsSaid stored roots well out told)
+    ⊎ ((line : List ℕ) × TellsFault (λ sections. ⊤) b line × IsToldAlone line well out told)

@@ -1,0 +1,68 @@
+-- The file that proves a record.
+use Rattle.std.specs.Prelude.{◌≡◌, ◌⊎◌, ℕ, List, [], ◌∷◌, ◌++◌, Bool, true, Option, None, Some, ⊤, IfSome, option_to_list}
+use Rattle.ipld_tree.specs.Cid.{CidParts, cid_bytes}
+use Rattle.ipld_links.specs.Reaching.{Stored}
+use Rattle.ipld_links.specs.Verdicts.{IsVerified, IsVerdict}
+use Rattle.ipld_links.specs.declared.verdict.Verdict.{Verdict}
+use Rattle.dagcbor_car.specs.Car.{IsCar}
+use Rattle.dagcbor_car.specs.Reached.{sections_at}
+use Rattle.dagcbor_resolve.specs.Resolving.{AreOnceEach}
+use Rattle.atproto_mst.specs.Walks.{most_layers}
+use Rattle.atproto_mst.specs.Finding.{FindsRecord, FindStops, IsWay}
+use Rattle.atproto_mst.specs.Repos.{IsStoredCommit}
+use Rattle.repository_types.specs.declared.repository.Commit.{Commit}
+use Rattle.atproto_mst.specs.declared.error.MstError.{MstError}
+use Rattle.block_lines.specs.Lines.{missing_line, verdict_line}
+use Rattle.record_lines.specs.Keys.{IsNamedBy}
+use Rattle.record_lines.specs.Words.{IsOfTree, tree_line}
+use Rattle.record_lines.specs.Records.{IsToldAlone}
+use Rattle.commit_lines.specs.Commits.{IsNoCommitTold}
+
+-- the names of the blocks that decide: the commit, the nodes on the way to the key, and its record, if
+-- the tree has one
+abbrev pub deciding : CidParts → List CidParts → Option CidParts → List CidParts
+deciding root way found = root ∷ (way ++ option_to_list found)
+
+-- the bytes under the record's name are there, and are those that it names
+abbrev pub IsThereVerified : Stored → CidParts → Type 0
+IsThereVerified stored name = (b : List ℕ) × (stored name ≡ Some b) × IsVerified (name, b)
+
+-- The file (version 1), whose root is the commit, of the blocks that decide, each once. The record, if
+-- there is one, is there, with the bytes that its name says.
+pub record IsRecordProof (stored : Stored) (root : CidParts) (way : List CidParts) (found : Option CidParts) (out : List ℕ) : Type 0 where
+  pub there : IfSome found (IsThereVerified stored)
+  pub once : List CidParts
+  pub each : AreOnceEach (deciding root way found) once
+  pub file : IsCar out (cid_bytes root ∷ []) (sections_at stored once)
+
+-- other bytes are under the record's name than it says, which the verdict on them tells
+abbrev pub AreOtherBytesTold : CidParts → List ℕ → Bool → List ℕ → List ℕ → Type 0
+AreOtherBytesTold name b well out told = (¬ IsVerified (name, b)) × ((v : Verdict)
+    × IsVerdict (name, b) v × IsToldAlone (verdict_line ((name, b), v)) well out told)
+
+-- the record of this name is not there; or other bytes are
+abbrev pub IsRecordLost : Stored → CidParts → Bool → List ℕ → List ℕ → Type 0
+IsRecordLost stored name well out told =
+    ((stored name ≡ None) × IsToldAlone (missing_line name) well out told)
+    ⊎ ((b : List ℕ) × (stored name ≡ Some b) × AreOtherBytesTold name b well out told)
+
+-- the file is given; or there is a record, which is lost
+abbrev pub IsProofGiven : Stored → CidParts → List CidParts → Option CidParts → Bool → List ℕ → List ℕ → Type 0
+IsProofGiven stored root way found well out told =
+    (IsRecordProof stored root way found out × (well ≡ true) × (told ≡ []))
+    ⊎ ((name : CidParts) × (found ≡ Some name) × IsRecordLost stored name well out told)
+
+-- Of the key in the tree of this root: the file of the nodes on its way and of its record, if it has
+-- one; or why that is not found.
+abbrev pub IsProofSaid : Stored → List ℕ → CidParts → CidParts → Bool → List ℕ → List ℕ → Type 0
+IsProofSaid stored key root tree well out told =
+    ((way : List CidParts) × (found : Option CidParts) × IsWay most_layers stored key tree way
+    × FindsRecord most_layers stored key tree found × IsProofGiven stored root way found well out told)
+    ⊎ ((e : MstError) × FindStops most_layers stored key tree e × IsOfTree e
+    × IsToldAlone (tree_line e) well out told)
+
+-- of the key that the word names, in the tree of the commit of this name; or that there is none
+abbrev pub IsProofOf : List ℕ → Stored → CidParts → Bool → List ℕ → List ℕ → Type 0
+IsProofOf word stored root well out told = ((c : Commit) × (key : List ℕ) × IsStoredCommit stored root c
+    × IsNamedBy word key × IsProofSaid stored key root c.data well out told)
+    ⊎ IsNoCommitTold stored root well out told

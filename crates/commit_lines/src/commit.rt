@@ -1,0 +1,142 @@
+//! `commit`: what a repository's commit says.
+
+ghost use Rattle.std.specs.Prelude.{◌≡◌, ◌++◌, codes, string_bytes, IfOk, IfSome, OnOk, MatchResult};
+ghost use Rattle.ipld_links.specs.Reaching.{stored_in};
+ghost use Rattle.cid_text.specs.Texts.{cid_text};
+ghost use Rattle.block_lines.specs.Lines.{SaysBoth, line};
+ghost use Rattle.atproto_mst.specs.Repos.{IsStoredCommit};
+ghost use Rattle.record_lines.specs.Keys.{key_text};
+ghost use Rattle.commit_lines.specs.Commits.{commit_lines, prev_text, IsNoCommitTold, IsCommitSaid, OfRoots, OfFile};
+
+use atproto_mst::{Commit, stored_commit};
+use block_lines::{Answer, say_both};
+use cid_text::cid_text;
+use dagcbor_cli::ToolError;
+use held_lines::{Held, Kept, held_of};
+use ipld_tree::Cid;
+use record_lines::{first_root, push_key, repo_line, told_alone};
+use std::alloc::{AllocError, Global};
+use std::collections::BTreeMap;
+use std::io::{BufRead, Write};
+
+/// Appends a line of a word and a CID.
+fn push_cid(word: &[u8], name: &Cid, out: &mut Vec<u8>) -> Result<(), AllocError>
+    ensures { OnOk result (out.new.items ≡ out.old.items ++ line (word.now ++ cid_text name.now)) }
+{
+    out.extend_from_slice(word)?;
+    out.extend_from_slice(&cid_text(name))?;
+    out.extend_from_slice(b"\n")
+}
+
+/// Appends a line of a word and a text, which stands as a key does.
+fn push_text(word: &[u8], text: &String, out: &mut Vec<u8>) -> Result<(), AllocError>
+    ensures { OnOk result (out.new.items
+        ≡ out.old.items ++ line (word.now ++ key_text (string_bytes text.now))) }
+{
+    out.extend_from_slice(word)?;
+    push_key(text.as_str().as_bytes(), out)?;
+    out.extend_from_slice(b"\n")
+}
+
+/// Appends the line of the commit before.
+fn push_prev(prev: &Option<Cid>, out: &mut Vec<u8>) -> Result<(), AllocError>
+    ensures { OnOk result (out.new.items ≡ out.old.items ++ line (codes "prev " ++ prev_text prev.now)) }
+{
+    match prev {
+        Some(name) => push_cid(b"prev ", name, out),
+        None => out.extend_from_slice(b"prev none\n"),
+    }
+}
+
+/// The lines of the commit of this name.
+fn lines_of(alloc: Global, name: &Cid, commit: &Commit) -> Result<Vec<u8>, AllocError>
+    ensures { IfOk result (λ v. v.items ≡ commit_lines name.now commit.now) }
+{
+    let mut out = Vec::new(alloc);
+    push_cid(b"commit ", name, &mut out)?;
+    push_text(b"did ", &commit.did, &mut out)?;
+    push_text(b"rev ", &commit.rev, &mut out)?;
+    push_cid(b"data ", &commit.data, &mut out)?;
+    push_prev(&commit.prev, &mut out)?;
+    Ok(out)
+}
+
+/// The commit of this name, or what is told where there is none.
+pub(crate) fn commit_at(
+    alloc: Global,
+    blocks: &BTreeMap<Cid, Vec<u8>>,
+    root: &Cid,
+) -> Result<Result<Commit, Answer>, AllocError>
+    ensures { IfOk result (λ r. MatchResult r (IsStoredCommit (stored_in blocks.now) root.now)
+        (λ p. IsNoCommitTold (stored_in blocks.now) root.now p.0.1 p.0.0.items p.1.items)) }
+{
+    match stored_commit(alloc, blocks, root) {
+        Ok(commit) => Ok(Ok(commit)),
+        Err(error) => {
+            let line = repo_line(alloc, root, &error)?;
+            Ok(Err(told_alone(alloc, line)))
+        }
+    }
+}
+
+/// What is said of the commit of this name.
+fn commit_said(
+    alloc: Global,
+    blocks: &BTreeMap<Cid, Vec<u8>>,
+    root: &Cid,
+) -> Result<Answer, AllocError>
+    ensures { IfOk result
+        (λ p. IsCommitSaid (stored_in blocks.now) root.now p.0.1 p.0.0.items p.1.items) }
+{
+    match commit_at(alloc, blocks, root)? {
+        Ok(commit) => {
+            let lines = lines_of(alloc, root, &commit)?;
+            Ok(((lines, true), Vec::new(alloc)))
+        }
+        Err(told) => Ok(told),
+    }
+}
+
+/// What is said of the commit of what is held of a file.
+fn commit_of(alloc: Global, held: &Held) -> Result<Answer, AllocError>
+    ensures { IfOk result (λ p. OfRoots IsCommitSaid (stored_in held.now.blocks)
+        held.now.roots.items p.0.1 p.0.0.items p.1.items) }
+{
+    match first_root(alloc, &held.roots)? {
+        Ok(root) => commit_said(alloc, &held.blocks, &root),
+        Err(line) => Ok(told_alone(alloc, line)),
+    }
+}
+
+/// What is said of the commit of the file that the input is.
+fn commit_in<R: BufRead>(alloc: Global, input: &mut R) -> Result<Answer, ToolError>
+    ensures { IfSome (R.remaining input.old)
+        (λ b. IfOk result (λ p. OfFile IsCommitSaid b p.0.1 p.0.0.items p.1.items)) }
+{
+    match held_of(alloc, Kept::All, input) {
+        Ok(Ok(held)) => {
+            let said = commit_of(alloc, &held)?;
+            Ok(said)
+        }
+        Ok(Err(line)) => Ok(told_alone(alloc, line)),
+        Err(fault) => Err(fault),
+    }
+}
+
+/// Writes what the commit says that the file's first root names, or tells why there is none. Whether
+/// there is one. The blocks of the input are in memory.
+pub fn write_commit<R: BufRead, W: Write, V: Write>(
+    alloc: Global,
+    input: &mut R,
+    output: &mut W,
+    errors: &mut V,
+) -> Result<bool, ToolError>
+    ensures { IfSome (R.remaining input.old) (λ b.
+        SaysBoth (OfFile IsCommitSaid b) (W.contents output.old) (V.contents errors.old) result
+        (W.contents output.new) (V.contents errors.new)) }
+{
+    match commit_in(alloc, input) {
+        Ok((said, told)) => say_both(said, &told, output, errors),
+        Err(fault) => Err(fault),
+    }
+}

@@ -1,0 +1,243 @@
+//! `record-proof`: the file that proves a record.
+
+ghost use Rattle.std.specs.Prelude.{◌≡◌, ◌⊎◌, [], ◌∷◌, Some, IfOk, IfErr, IfSome, MatchOption};
+ghost use Rattle.ipld_tree.specs.Cid.{CidParts, cid_bytes};
+ghost use Rattle.ipld_links.specs.Reaching.{stored_in};
+ghost use Rattle.ipld_links.specs.Verdicts.{IsVerified};
+ghost use Rattle.dagcbor_car.specs.Car.{IsCar};
+ghost use Rattle.dagcbor_car.specs.Reached.{sections_at};
+ghost use Rattle.block_lines.specs.Lines.{SaysBoth};
+ghost use Rattle.atproto_mst.specs.Walks.{most_layers};
+ghost use Rattle.atproto_mst.specs.Finding.{FindsRecord, FindStops, IsWay};
+ghost use Rattle.atproto_mst.specs.declared.error.MstError.TheVariants.{OutOfMemory};
+ghost use Rattle.commit_lines.specs.Commits.{OfRoots, OfFile};
+ghost use Rattle.commit_lines.specs.Proofs.{deciding, IsThereVerified, IsRecordLost, AreOtherBytesTold};
+ghost use Rattle.commit_lines.specs.Proofs.{IsProofGiven, IsProofSaid, IsProofOf};
+
+use crate::commit::commit_at;
+use atproto_mst::{MstError, find_record, record_way};
+use block_lines::{Answer, missing_line, say_both, verdict_line};
+use dagcbor_car::push_tree;
+use dagcbor_cli::ToolError;
+use dagcbor_heads::BufWriter;
+use dagcbor_resolve::each_once;
+use held_lines::{Held, Kept, held_of};
+use ipld_links::{Verdict, stored_bytes, verify};
+use ipld_tree::Cid;
+use record_lines::{first_root, named_key, told_alone, tree_line};
+use std::alloc::{AllocError, Global};
+use std::collections::BTreeMap;
+use std::io::{BufRead, Write};
+
+/// What is told of bytes that are not those that the record's name says; of those, nothing.
+fn other_told(alloc: Global, name: &Cid, bytes: &[u8]) -> Result<Option<Answer>, AllocError>
+    ensures { IfOk result (λ o. MatchOption o (IsVerified (name.now, bytes.now))
+        (λ p. AreOtherBytesTold name.now bytes.now p.0.1 p.0.0.items p.1.items)) }
+{
+    let verdict = verify(name, bytes);
+    match &verdict {
+        Verdict::OtherBytes => {
+            let (line, _well) = verdict_line(alloc, name, &verdict)?;
+            Ok(Some(told_alone(alloc, line)))
+        }
+        Verdict::Unverified => {
+            let (line, _well) = verdict_line(alloc, name, &verdict)?;
+            Ok(Some(told_alone(alloc, line)))
+        }
+        _ => Ok(None),
+    }
+}
+
+/// What is told of the record of this name if it is not there, or other bytes are.
+fn lost_told(
+    alloc: Global,
+    blocks: &BTreeMap<Cid, Vec<u8>>,
+    name: &Cid,
+) -> Result<Option<Answer>, AllocError>
+    ensures { IfOk result (λ o. MatchOption o (IsThereVerified (stored_in blocks.now) name.now)
+        (λ p. IsRecordLost (stored_in blocks.now) name.now p.0.1 p.0.0.items p.1.items)) }
+{
+    match stored_bytes(blocks, name) {
+        Some(bytes) => other_told(alloc, name, bytes),
+        None => {
+            let line = missing_line(alloc, name)?;
+            Ok(Some(told_alone(alloc, line)))
+        }
+    }
+}
+
+/// The same of a record, if there is one.
+fn lost_of(
+    alloc: Global,
+    blocks: &BTreeMap<Cid, Vec<u8>>,
+    found: &Option<Cid>,
+) -> Result<Option<Answer>, AllocError>
+    ensures { IfOk result (λ o. MatchOption o (IfSome found.now (IsThereVerified (stored_in blocks.now)))
+        (λ p. (name : CidParts) × (found.now ≡ Some name)
+        × IsRecordLost (stored_in blocks.now) name p.0.1 p.0.0.items p.1.items)) }
+{
+    match found {
+        Some(name) => lost_told(alloc, blocks, name),
+        None => Ok(None),
+    }
+}
+
+/// The names of the blocks that decide.
+fn names_of(
+    alloc: Global,
+    root: &Cid,
+    way: &[Cid],
+    found: &Option<Cid>,
+) -> Result<Vec<Cid>, AllocError>
+    ensures { IfOk result (λ v. v.items ≡ deciding root.now way.now found.now) }
+{
+    let mut names = Vec::new(alloc);
+    names.push(*root)?;
+    names.extend_from_slice(way)?;
+    if let Some(name) = found {
+        names.push(*name)?;
+    }
+    Ok(names)
+}
+
+/// The file of the root, and of the blocks of these names.
+fn file_of(
+    alloc: Global,
+    root: &Cid,
+    blocks: &BTreeMap<Cid, Vec<u8>>,
+    names: &[Cid],
+) -> Result<Vec<u8>, AllocError>
+    ensures { IfOk result (λ v. IsCar v.items (cid_bytes root.now ∷ [])
+        (sections_at (stored_in blocks.now) names.now)) }
+{
+    let mut writer = BufWriter::new(Vec::new(alloc));
+    match push_tree(alloc, &mut writer, root, blocks, names) {
+        Ok(()) => Ok(writer.into_inner()),
+        Err(_) => Err(AllocError),
+    }
+}
+
+/// The names of the nodes on the way to the key, and its record, if the tree has one.
+fn sought(
+    alloc: Global,
+    blocks: &BTreeMap<Cid, Vec<u8>>,
+    tree: &Cid,
+    key: &[u8],
+) -> Result<(Vec<Cid>, Option<Cid>), MstError>
+    ensures found { IfOk result (λ p.
+        IsWay most_layers (stored_in blocks.now) key.now tree.now p.0.items
+        × FindsRecord most_layers (stored_in blocks.now) key.now tree.now p.1) }
+    ensures refused { IfErr result (λ e. (e ≡ OutOfMemory)
+        ⊎ FindStops most_layers (stored_in blocks.now) key.now tree.now e) }
+{
+    let way = record_way(alloc, blocks, tree, key)?;
+    let found = find_record(alloc, blocks, tree, key)?;
+    Ok((way, found))
+}
+
+/// The file that proves the record, or that there is none; or what is told of a record that is lost.
+fn found_said(
+    alloc: Global,
+    blocks: &BTreeMap<Cid, Vec<u8>>,
+    root: &Cid,
+    way: &[Cid],
+    found: &Option<Cid>,
+) -> Result<Answer, AllocError>
+    ensures { IfOk result (λ p. IsProofGiven (stored_in blocks.now) root.now way.now found.now
+        p.0.1 p.0.0.items p.1.items) }
+{
+    if let Some(told) = lost_of(alloc, blocks, found)? {
+        return Ok(told);
+    }
+    let names = names_of(alloc, root, way, found)?;
+    let once = each_once(alloc, &names)?;
+    let file = file_of(alloc, root, blocks, &once)?;
+    Ok(((file, true), Vec::new(alloc)))
+}
+
+/// What is said of the key in the tree of this root, whose commit has this name.
+fn proof_said(
+    alloc: Global,
+    blocks: &BTreeMap<Cid, Vec<u8>>,
+    root: &Cid,
+    tree: &Cid,
+    key: &[u8],
+) -> Result<Answer, AllocError>
+    ensures { IfOk result (λ p. IsProofSaid (stored_in blocks.now) key.now root.now tree.now
+        p.0.1 p.0.0.items p.1.items) }
+{
+    match sought(alloc, blocks, tree, key) {
+        Ok((way, found)) => found_said(alloc, blocks, root, &way, &found),
+        Err(error) => {
+            let line = tree_line(alloc, &error)?;
+            Ok(told_alone(alloc, line))
+        }
+    }
+}
+
+/// What is said of the key that the word names, in the tree of the commit of this name.
+fn proof_at(
+    alloc: Global,
+    blocks: &BTreeMap<Cid, Vec<u8>>,
+    root: &Cid,
+    word: &[u8],
+) -> Result<Answer, AllocError>
+    ensures { IfOk result (λ p. IsProofOf word.now (stored_in blocks.now) root.now
+        p.0.1 p.0.0.items p.1.items) }
+{
+    match commit_at(alloc, blocks, root)? {
+        Ok(commit) => {
+            let key = named_key(alloc, word)?;
+            proof_said(alloc, blocks, root, &commit.data, &key)
+        }
+        Err(told) => Ok(told),
+    }
+}
+
+/// What is said of the key that the word names, in what is held of a file.
+fn proof_of(alloc: Global, held: &Held, word: &[u8]) -> Result<Answer, AllocError>
+    ensures { IfOk result (λ p. OfRoots (IsProofOf word.now) (stored_in held.now.blocks)
+        held.now.roots.items p.0.1 p.0.0.items p.1.items) }
+{
+    match first_root(alloc, &held.roots)? {
+        Ok(root) => proof_at(alloc, &held.blocks, &root, word),
+        Err(line) => Ok(told_alone(alloc, line)),
+    }
+}
+
+/// What is said of the key that the word names, in the file that the input is.
+fn proof_in<R: BufRead>(alloc: Global, word: &[u8], input: &mut R) -> Result<Answer, ToolError>
+    ensures { IfSome (R.remaining input.old)
+        (λ b. IfOk result (λ p. OfFile (IsProofOf word.now) b p.0.1 p.0.0.items p.1.items)) }
+{
+    match held_of(alloc, Kept::All, input) {
+        Ok(Ok(held)) => {
+            let said = proof_of(alloc, &held, word)?;
+            Ok(said)
+        }
+        Ok(Err(line)) => Ok(told_alone(alloc, line)),
+        Err(fault) => Err(fault),
+    }
+}
+
+/// Writes the file that proves which record the key has, or that it has none, in the tree of the
+/// commit that the file's first root names; or tells why there is none. Whether there is one. The
+/// word is the key as `records` prints it; a word that is no key's text is the key itself. The
+/// commit, the nodes on the way to the key and the record need be there, and no others. The blocks of
+/// the input are in memory.
+pub fn write_record_proof<R: BufRead, W: Write, V: Write>(
+    alloc: Global,
+    word: &str,
+    input: &mut R,
+    output: &mut W,
+    errors: &mut V,
+) -> Result<bool, ToolError>
+    ensures { IfSome (R.remaining input.old) (λ b.
+        SaysBoth (OfFile (IsProofOf word.now) b) (W.contents output.old) (V.contents errors.old)
+        result (W.contents output.new) (V.contents errors.new)) }
+{
+    match proof_in(alloc, word.as_bytes(), input) {
+        Ok((said, told)) => say_both(said, &told, output, errors),
+        Err(fault) => Err(fault),
+    }
+}

@@ -1,0 +1,90 @@
+//! The words of `commit` and `record-proof`.
+
+ghost use Rattle.std.specs.Prelude.{[], ◌∷◌, map, string_bytes, option_map, MatchOption, Option, List, ℕ};
+ghost use Rattle.commit_lines.specs.Words.{AreCommitWords};
+ghost use Rattle.commit_lines.specs.declared.words.CommitAsked.{CommitAsked};
+
+/// What is asked of a repository.
+#[derive(Clone, Copy)]
+pub enum CommitAsked<'a> {
+    /// What its commit says.
+    Commit,
+    /// The file that proves the record of the key that this word names.
+    Proof(&'a str),
+}
+
+/// What is asked of which file: of standard input, if none is named.
+#[derive(Clone, Copy)]
+pub struct CommitWords<'a> {
+    pub asked: CommitAsked<'a>,
+    pub file: Option<&'a str>,
+}
+
+/// The word and no more.
+fn of_word<'a>(word: &str) -> Option<CommitWords<'a>>
+    ensures { MatchOption result
+        ((asked : CommitAsked) (file : Option (List ℕ)) → ¬ AreCommitWords (word.now ∷ []) asked file)
+        (λ p. AreCommitWords (word.now ∷ []) p.asked (option_map (λ s. s.now) p.file)) }
+{
+    if word != "commit" {
+        return None;
+    }
+    Some(CommitWords {
+        asked: CommitAsked::Commit,
+        file: None,
+    })
+}
+
+/// The word, and a file or a key.
+fn of_two<'a>(word: &str, second: &'a str) -> Option<CommitWords<'a>>
+    ensures { MatchOption result
+        ((asked : CommitAsked) (file : Option (List ℕ))
+        → ¬ AreCommitWords (word.now ∷ second.now ∷ []) asked file)
+        (λ p. AreCommitWords (word.now ∷ second.now ∷ []) p.asked
+        (option_map (λ s. s.now) p.file)) }
+{
+    match word {
+        "commit" => Some(CommitWords {
+            asked: CommitAsked::Commit,
+            file: Some(second),
+        }),
+        "record-proof" => Some(CommitWords {
+            asked: CommitAsked::Proof(second),
+            file: None,
+        }),
+        _ => None,
+    }
+}
+
+/// The word, a key and a file.
+fn of_three<'a>(word: &str, key: &'a str, file: &'a str) -> Option<CommitWords<'a>>
+    ensures { MatchOption result
+        ((asked : CommitAsked) (it : Option (List ℕ))
+        → ¬ AreCommitWords (word.now ∷ key.now ∷ file.now ∷ []) asked it)
+        (λ p. AreCommitWords (word.now ∷ key.now ∷ file.now ∷ []) p.asked
+        (option_map (λ s. s.now) p.file)) }
+{
+    if word != "record-proof" {
+        return None;
+    }
+    Some(CommitWords {
+        asked: CommitAsked::Proof(key),
+        file: Some(file),
+    })
+}
+
+/// What the words `commit [FILE]` or `record-proof KEY [FILE]` ask.
+pub fn commit_words_of(args: &[String]) -> Option<CommitWords<'_>>
+    ensures { MatchOption result
+        ((asked : CommitAsked) (file : Option (List ℕ))
+        → ¬ AreCommitWords (map string_bytes args.now) asked file)
+        (λ p. AreCommitWords (map string_bytes args.now) p.asked
+        (option_map (λ s. s.now) p.file)) }
+{
+    match args {
+        [word] => of_word(word.as_str()),
+        [word, second] => of_two(word.as_str(), second.as_str()),
+        [word, key, file] => of_three(word.as_str(), key.as_str(), file.as_str()),
+        _ => None,
+    }
+}

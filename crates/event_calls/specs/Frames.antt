@@ -1,0 +1,21 @@
+-- What is answered of bytes as a frame of a host's stream.
+use Rattle.std.specs.Prelude.{◌≡◌, ◌⊎◌, ℕ, ◌+◌, ℤ, List, length}
+use Rattle.event_frames.specs.Frames.{SplitsFrame, IsFrameOf, HasNoEnd, PartsRefused}
+use Rattle.event_frames.specs.declared.body.Frame.{Frame}
+use Rattle.event_frames.specs.declared.error.FrameError.{FrameError}
+use Rattle.event_frames.specs.declared.error.FrameError.TheVariants.{NoEnd}
+use Rattle.event_calls.specs.Codes.{frame_kind, frame_code}
+
+-- the two items are a frame, whose kind is told; or they are none, and why is told
+abbrev pub IsPartsAnswer : (header body : List ℕ) → ℤ → Type 0
+IsPartsAnswer header body code =
+    ((frame : Frame) × IsFrameOf header body frame × (code ≡ frame_kind frame))
+    ⊎ ((e : FrameError) × PartsRefused header body e × (code ≡ frame_code e))
+
+-- two items stand at the front by their heads; where the second begins and where it ends is told, and
+-- what they are; or there are no two, and that is told
+abbrev pub IsFrameAnswer : List ℕ → (body end : ℕ) → ℤ → Type 0
+IsFrameAnswer b body end code =
+    ((first second rest : List ℕ) × SplitsFrame b first second rest × (body ≡ length first)
+    × (end ≡ length first + length second) × IsPartsAnswer first second code)
+    ⊎ (HasNoEnd b × (code ≡ frame_code NoEnd) × (body ≡ 0) × (end ≡ 0))

@@ -1,0 +1,5 @@
+pub mod Codes
+pub mod Frames
+pub mod Knowing
+pub mod Blocks
+pub mod Events

@@ -1,0 +1,4 @@
+pub mod Blocks
+pub mod Kinds
+pub mod Bodies
+pub mod Frames

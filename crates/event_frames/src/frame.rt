@@ -1,0 +1,77 @@
+//! Frames of com.atproto.sync.subscribeRepos, one after the other.
+
+ghost use Rattle.std.specs.Prelude.{◌≡◌, ◌++◌, IfErr, IfOk, MatchOption, MatchResult, ℕ, List};
+ghost use Rattle.dagcbor_items.specs.Skips.{EndByHeads};
+ghost use Rattle.event_frames.specs.Frames.{IsHeader, SplitsFrame, IsFrameOf, IsFrame, HasNoItem, HasNoEnd};
+ghost use Rattle.event_frames.specs.Frames.{HeaderRefused, PartsRefused, FrameRefused, BeginsNoFrameFor};
+
+use crate::body::{Frame, read_body};
+use crate::error::FrameError;
+use crate::kind::{Kind, kind_of};
+use dagcbor_heads::DecodeError;
+use dagcbor_items::behind_item;
+use dagcbor_read::from_slice;
+use event_types::FrameHeader;
+use std::alloc::Global;
+
+/// Where the two items of a frame stand, and the bytes after it.
+#[derive(Clone, Copy, Debug, Drop)]
+pub struct FrameParts<'a> {
+    pub header: &'a [u8],
+    pub body: &'a [u8],
+    pub rest: &'a [u8],
+}
+
+/// The item at the front by its heads, and the bytes after it.
+fn split_item(bytes: &[u8]) -> Option<(&[u8], &[u8])>
+    ensures { MatchOption result (HasNoItem bytes.now)
+        (λ p. EndByHeads bytes.now 1 p.1.now × (bytes.now ≡ p.0.now ++ p.1.now)) }
+{
+    let rest = behind_item(bytes)?;
+    Some((&bytes[..bytes.len() - rest.len()], rest))
+}
+
+/// The two items at the front by their heads. Neither is judged.
+pub fn split_frame(bytes: &[u8]) -> Option<FrameParts<'_>>
+    ensures { MatchOption result (HasNoEnd bytes.now)
+        (λ p. SplitsFrame bytes.now p.header.now p.body.now p.rest.now) }
+{
+    let (header, behind) = split_item(bytes)?;
+    let (body, rest) = split_item(behind)?;
+    Some(FrameParts { header, body, rest })
+}
+
+/// The kind that the header says.
+fn read_kind(alloc: Global, header: &[u8]) -> Result<Kind, FrameError>
+    ensures { MatchResult result (IsHeader header.now) (HeaderRefused header.now) }
+{
+    match from_slice::<FrameHeader>(alloc, header) {
+        Ok(header) => kind_of(header),
+        Err(error) => match error {
+            DecodeError::OutOfMemory => Err(FrameError::OutOfMemory),
+            _ => Err(FrameError::NoHeader(error)),
+        },
+    }
+}
+
+/// The frame that the two items are. Its file of blocks is lent.
+pub fn read_parts<'a>(alloc: Global, parts: &FrameParts<'a>) -> Result<Frame<'a>, FrameError>
+    ensures { MatchResult result (IsFrameOf parts.now.header.now parts.now.body.now)
+        (PartsRefused parts.now.header.now parts.now.body.now) }
+{
+    let kind = read_kind(alloc, parts.header)?;
+    read_body(alloc, kind, parts.body)
+}
+
+/// The frame at the front, and the bytes after it. The frame's file of blocks is lent.
+pub fn read_frame(alloc: Global, bytes: &[u8]) -> Result<(Frame<'_>, &[u8]), FrameError>
+    ensures read { IfOk result (λ p. IsFrame bytes.now p.0 p.1.now) }
+    ensures refused { IfErr result (FrameRefused bytes.now) }
+    ensures none { IfErr result (BeginsNoFrameFor bytes.now) }
+{
+    let Some(parts) = split_frame(bytes) else {
+        return Err(FrameError::NoEnd);
+    };
+    let frame = read_parts(alloc, &parts)?;
+    Ok((frame, parts.rest))
+}

@@ -1,0 +1,4 @@
+mod Steps
+mod Keeping
+mod Saying
+mod Apart

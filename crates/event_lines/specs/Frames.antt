@@ -1,0 +1,62 @@
+-- What is said of a frame.
+use Rattle.std.specs.Prelude.{◌≡◌, ◌⊎◌, ℕ, List, [], ◌++◌, codes, decimal, string_bytes, Bool, true, Option, None, Some, option_map}
+use Rattle.record_lines.specs.Records.{IsToldAlone}
+use Rattle.event_frames.specs.Frames.{IsFrameOf, PartsRefused}
+use Rattle.event_frames.specs.declared.error.FrameError.{FrameError}
+use Rattle.event_frames.specs.declared.body.CommitFrame.{CommitFrame}
+use Rattle.event_frames.specs.declared.body.Frame.{Frame}
+use Rattle.event_frames.specs.declared.body.Frame.TheVariants as frame
+use Rattle.verified_events.specs.Verifying.{IsVerifiedEvent, EventRefused}
+use Rattle.verified_events.specs.declared.verify.Known.{Known}
+use Rattle.verified_events.specs.declared.verify.Verified.{Verified}
+use Rattle.verified_events.specs.declared.refusal.EventError.{EventError}
+use Rattle.event_lines.specs.Lines.{word_line, commit_lines, sync_line, identity_line, info_line, account_line}
+use Rattle.event_lines.specs.Causes.{IsOfFrame, IsOfEvent, unread_line, refused_line}
+use Rattle.event_lines.specs.Seen.{Seen, see, root_given}
+
+-- the frame of this number, whose first byte stands at this place
+abbrev pub place_text : (number place : ℕ) → List ℕ
+place_text number place = codes "frame " ++ (decimal number ++ (codes " at byte " ++ (decimal place ++ codes ": ")))
+
+-- these lines are said, and nothing is told
+abbrev pub IsSaidAlone : List ℕ → Bool → List ℕ → List ℕ → Type 0
+IsSaidAlone lines well out told = (well ≡ true) × (out ≡ lines) × (told ≡ [])
+
+-- nothing is said, and the line is told of the frame at this place
+abbrev pub IsToldAt : (number place : ℕ) → List ℕ → Bool → List ℕ → List ℕ → Type 0
+IsToldAt number place line well out told = IsToldAlone (place_text number place ++ line) well out told
+
+-- of a commit: its lines, if it is verified against what is known of its repository, of which its root and
+-- its revision are known from then on; or why it is not
+abbrev pub IsCommitSaid : (number place : ℕ) → Seen → CommitFrame → Seen → Bool → List ℕ → List ℕ → Type 0
+IsCommitSaid number place seen f next well out told =
+    (known : Option Known) × (option_map root_given known ≡ seen (string_bytes f.event.repo))
+    × (((v : Verified) × IsVerifiedEvent f known v
+    × (next ≡ see seen (string_bytes f.event.repo) (Some (v.commit.data, string_bytes f.event.rev)))
+    × IsSaidAlone (commit_lines f.event) well out told)
+    ⊎ ((e : EventError) × EventRefused f known e × IsOfEvent e × (next ≡ seen)
+    × IsToldAt number place (refused_line f.event.commit e) well out told))
+
+-- Of a frame that is read. After a sync nothing is known of its repository, whose commit is another whatever
+-- came before. An error, and a kind of another name, are told.
+abbrev pub IsReadSaid : (number place : ℕ) → Seen → Frame → Seen → Bool → List ℕ → List ℕ → Type 0
+IsReadSaid number place seen (frame.Commit f) next well out told = IsCommitSaid number place seen f next well out told
+IsReadSaid number place seen (frame.Sync f) next well out told =
+    (next ≡ see seen (string_bytes f.event.did) None) × IsSaidAlone (sync_line f.event) well out told
+IsReadSaid number place seen (frame.Identity e) next well out told =
+    (next ≡ seen) × IsSaidAlone (identity_line e) well out told
+IsReadSaid number place seen (frame.Account e) next well out told =
+    (next ≡ seen) × IsSaidAlone (account_line e) well out told
+IsReadSaid number place seen (frame.Info e) next well out told =
+    (next ≡ seen) × IsSaidAlone (info_line e) well out told
+IsReadSaid number place seen (frame.Error e) next well out told =
+    (next ≡ seen) × IsToldAt number place (word_line (codes "the host ends the stream:") (string_bytes e.error)) well out told
+IsReadSaid number place seen (frame.Other name) next well out told =
+    (next ≡ seen) × IsToldAt number place (word_line (codes "a kind that is not known:") (string_bytes name)) well out told
+
+-- of two items: what is said of the frame that they are; or why they are none
+abbrev pub IsFrameSaid : (number place : ℕ) → Seen → (header body : List ℕ) → Seen → Bool → List ℕ → List ℕ → Type 0
+IsFrameSaid number place seen header body next well out told =
+    ((it : Frame) × IsFrameOf header body it × IsReadSaid number place seen it next well out told)
+    ⊎ ((e : FrameError) × PartsRefused header body e × IsOfFrame e × (next ≡ seen)
+    × IsToldAt number place (unread_line e) well out told)

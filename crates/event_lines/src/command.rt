@@ -1,0 +1,43 @@
+//! `event`: what frames tell, one after the other.
+
+ghost use Rattle.std.specs.Prelude.{◌≡◌, ◌≢◌, IfSome, Result, Bool, Option, List, ℕ};
+ghost use Rattle.block_lines.specs.Lines.{SaysBoth};
+ghost use Rattle.dagcar_lines.specs.Answers.{EndsSo};
+ghost use Rattle.dagcbor_cli.specs.declared.fault.ToolError.{ToolError};
+ghost use Rattle.event_lines.specs.Streams.{AreEventsSaid};
+
+use crate::stream::events_said;
+use block_lines::Answer;
+use dagcar_lines::{Answering, say_answer, status_of};
+use dagcbor_cli::ToolError;
+use std::alloc::Global;
+use std::io::{BufRead, Write};
+
+/// What is said of all the frames of an input.
+#[derive(Clone, Copy)]
+struct Telling;
+
+impl Answering for Telling {
+    ghost is_said = { AreEventsSaid };
+
+    fn answer(alloc: Global, bytes: &[u8]) -> Result<Answer, ToolError> {
+        Ok(events_said(alloc, bytes)?)
+    }
+}
+
+/// Says what the frames tell that the input is, one after the other, and answers the exit status. The
+/// input is read whole, and all that is said of it is in memory before any of it goes out.
+pub fn run_events<R: BufRead, W: Write, V: Write>(
+    alloc: Global,
+    input: &mut R,
+    output: &mut W,
+    errors: &mut V,
+) -> u8
+    ensures { IfSome (R.remaining input.old) (λ b. (ended : Result Bool ToolError)
+        × (after : Option (List ℕ)) × EndsSo ended result
+        × SaysBoth (AreEventsSaid b) (W.contents output.old) (V.contents errors.old) ended
+        (W.contents output.new) after × (result ≢ 2 → V.contents errors.new ≡ after)) }
+{
+    let ended = say_answer::<Telling, R, W, V>(alloc, input, output, errors);
+    status_of(ended, errors)
+}

@@ -1,0 +1,2 @@
+-- What a tree shows to each type, by ./dagcbor-types.
+pub mod Events

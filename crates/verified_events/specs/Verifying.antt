@@ -1,0 +1,137 @@
+-- What is verified of a commit event, and why it is not (AT Protocol specification, sync).
+use Rattle.std.specs.Prelude.{◌≡◌, ◌≢◌, ◌⊎◌, ◌<◌, ◌≤◌, ℕ, Bool, false, true, List, [], ◌∷◌, length, map, Option, None, Some, option_map, string_bytes, ⊤}
+use Rattle.std.specs.List.{AllByRecursion}
+use Rattle.std.specs.Option.{option_flatten}
+use Rattle.std.specs.declared.cmp.Ordering.TheVariants.{Less}
+use Rattle.std.specs.Ordering.{nat_cmp, eq_by_cmp}
+use Rattle.std.specs.Cmp.Lexicographic.{slice_cmp}
+use Rattle.ipld_tree.specs.Cid.{CidParts, cid_cmp}
+use Rattle.dagcbor_items.specs.Walks.{forms}
+use Rattle.dagcbor_write.specs.Answers.{AreSpellingOf}
+use Rattle.ipld_links.specs.Reaching.{Stored}
+use Rattle.dagcbor_car.specs.Car.{Section, IsCar}
+use Rattle.dagcbor_car.specs.declared.error.CarError.TheVariants as car
+use Rattle.atproto_mst.specs.Changes.{Changed, changes}
+use Rattle.atproto_mst.specs.Commits.{unsigned_tree}
+use Rattle.atproto_mst.specs.Repos.{IsStoredCommit, CommitRefused}
+use Rattle.repository_types.specs.declared.repository.Commit.{Commit}
+use Rattle.atproto_mst.specs.declared.repo_error.RepoError.TheVariants as repo
+use Rattle.atproto_events.specs.Doing.{LeadsFrom}
+use Rattle.atproto_events.specs.Refusing.{UndoRefused}
+use Rattle.atproto_events.specs.declared.error.UndoError.TheVariants as undo
+use Rattle.car_blocks.specs.Blocks.{stored_of, BlocksRefused}
+use Rattle.event_types.specs.declared.events.CommitEvent.{CommitEvent}
+use Rattle.verified_events.specs.Operations.{HasForm, change_of_op, ChangesRefused}
+use Rattle.verified_events.specs.Roots.{BeginsAt, NoBegin}
+use Rattle.event_frames.specs.declared.body.CommitFrame.{CommitFrame}
+use Rattle.verified_events.specs.declared.verify.Known.{Known}
+use Rattle.verified_events.specs.declared.verify.Verified.{Verified}
+use Rattle.verified_events.specs.declared.refusal.EventError.{EventError}
+use Rattle.verified_events.specs.declared.refusal.EventError.TheVariants as error
+
+-- ---- before its blocks are read
+
+-- it tells all, within the limits
+pub record IsWithinLimits (f : CommitFrame) : Type 0 where
+  pub whole : f.event.too_big ≡ false
+  pub no_rebase : f.event.rebase ≡ false
+  pub few : length f.event.ops.items ≤ 200
+  pub short : length f.blocks.now ≤ 2000000
+
+-- the revision comes after the one that is known, by the order of bytes, if one is
+abbrev pub ComesAfter : List ℕ → Option Known → Type 0
+ComesAfter rev None = ⊤
+ComesAfter rev (Some known) = slice_cmp nat_cmp known.rev.now rev ≡ Less
+
+-- the root that the event says was before, which may be absent or null
+abbrev pub root_said : CommitEvent → Option CidParts
+root_said e = option_flatten e.prev_data
+
+abbrev pub root_known : Option Known → Option CidParts
+root_known known = option_map (λ k. k.root) known
+
+-- ---- its file and its commit
+
+-- whether the first of the roots is the commit
+abbrev pub is_first : List CidParts → CidParts → Bool
+is_first [] commit = false
+is_first (root ∷ others) commit = eq_by_cmp cid_cmp root commit
+
+-- its blocks are the file of these sections, whose first root is the commit
+abbrev pub HasSections : CommitFrame → List Section → Type 0
+HasSections f ss = (roots : List CidParts) × IsCar f.blocks.now (forms roots) ss × (is_first roots f.event.commit ≡ true)
+
+-- these are the blocks that stand there under their names, and under each the last
+abbrev pub HoldsSections : CommitFrame → Stored → Type 0
+HoldsSections f stored = (ss : List Section) × HasSections f ss × (stored ≡ stored_of ss)
+
+-- the commit of the event is stored, and says the same repository and revision
+pub record IsCommitOf (e : CommitEvent) (stored : Stored) (c : Commit) : Type 0 where
+  pub is : IsStoredCommit stored e.commit c
+  pub repository : string_bytes c.did ≡ string_bytes e.repo
+  pub revision : string_bytes c.rev ≡ string_bytes e.rev
+
+-- ---- the whole
+
+-- What is verified. Nothing is said of the signature, or of whose key it is by.
+pub record IsVerifiedEvent (f : CommitFrame) (known : Option Known) (v : Verified) : Type 0 where
+  pub limits : IsWithinLimits f
+  pub after : ComesAfter (string_bytes f.event.rev) known
+  pub begins : BeginsAt (root_said f.event) (root_known known) v.before
+  pub forms : AllByRecursion HasForm f.event.ops.items
+  pub operations : changes v.changes.items ≡ map change_of_op f.event.ops.items
+  pub stored : Stored
+  pub file : HoldsSections f stored
+  pub commit : IsCommitOf f.event stored v.commit
+  pub leads : LeadsFrom stored v.before (changes v.changes.items) v.commit.data
+  pub signed : AreSpellingOf (unsigned_tree v.commit) v.signed.items
+
+-- ---- why it is not
+
+-- it does not tell all, or is beyond a limit
+abbrev pub LimitsRefused : CommitFrame → EventError → Type 0
+LimitsRefused f error.TooBig = f.event.too_big ≡ true
+LimitsRefused f error.Rebase = f.event.rebase ≡ true
+LimitsRefused f error.ManyOperations = 200 < length f.event.ops.items
+LimitsRefused f error.ManyBytes = 2000000 < length f.blocks.now
+LimitsRefused f _ = ⊥
+
+-- its blocks are no file, or that of another commit; or memory is wanted
+abbrev pub FileRefused : CommitFrame → EventError → Type 0
+FileRefused f error.OutOfMemory = ⊤
+FileRefused f (error.NoCar e) = (e ≢ car.OutOfMemory) × BlocksRefused f.blocks.now e
+FileRefused f error.OtherCommit = (roots : List CidParts) × (ss : List Section) × IsCar f.blocks.now (forms roots) ss
+    × (is_first roots f.event.commit ≡ false)
+FileRefused f _ = ⊥
+
+-- no commit is stored under its name, or one of another repository or revision; or memory is wanted
+abbrev pub CommitRefusedFor : CommitEvent → Stored → EventError → Type 0
+CommitRefusedFor e stored error.OutOfMemory = ⊤
+CommitRefusedFor e stored (error.NoCommit cause) = (cause ≢ repo.OutOfMemory) × CommitRefused stored e.commit cause
+CommitRefusedFor e stored error.OtherRepository = (c : Commit) × IsStoredCommit stored e.commit c × (string_bytes c.did ≢ string_bytes e.repo)
+CommitRefusedFor e stored error.OtherRevision = (c : Commit) × IsStoredCommit stored e.commit c × (string_bytes c.rev ≢ string_bytes e.rev)
+CommitRefusedFor e stored _ = ⊥
+
+-- the changes are not undone, and why; or they lead from another root; or memory is wanted
+abbrev pub LeadRefused : Stored → CidParts → List Changed → CidParts → EventError → Type 0
+LeadRefused stored before cs root error.OutOfMemory = UndoRefused stored root cs undo.OutOfMemory
+LeadRefused stored before cs root (error.NotUndone e) = (e ≢ undo.OutOfMemory) × UndoRefused stored root cs e
+LeadRefused stored before cs root error.LeadsElsewhere = (old : CidParts) × LeadsFrom stored old cs root × (old ≢ before)
+LeadRefused stored before cs root _ = ⊥
+
+-- why it is not, where its file holds these blocks
+abbrev pub StoredRefused : CommitFrame → Option Known → Stored → EventError → Type 0
+StoredRefused f known stored e = CommitRefusedFor f.event stored e
+    ⊎ ((c : Commit) × (before : CidParts) × IsCommitOf f.event stored c
+    × BeginsAt (root_said f.event) (root_known known) before
+    × LeadRefused stored before (map change_of_op f.event.ops.items) c.data e)
+
+-- why it is not, where it is within the limits
+abbrev pub ContentRefused : CommitFrame → Option Known → EventError → Type 0
+ContentRefused f known e = ((e ≡ error.NotAfter) × (¬ ComesAfter (string_bytes f.event.rev) known))
+    ⊎ (NoBegin (root_said f.event) (root_known known) e ⊎ (ChangesRefused f.event.ops.items e ⊎ (FileRefused f e
+    ⊎ ((stored : Stored) × HoldsSections f stored × StoredRefused f known stored e))))
+
+-- each refusal has its own fact
+abbrev pub EventRefused : CommitFrame → Option Known → EventError → Type 0
+EventRefused f known e = LimitsRefused f e ⊎ (IsWithinLimits f × ContentRefused f known e)

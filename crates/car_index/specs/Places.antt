@@ -1,6 +1,6 @@
 -- Bytes that are read at places.
-use Rattle.std.specs.Prelude.{◌≡◌, ℕ, ◌+◌, ◌<◌, List, [], length, take, drop, Bool, Option, Result, IfOk, IfSome, MatchBool, MatchOption}
-use Rattle.std.specs.Int.{Width, w64, byte_len, from_le_bytes}
+use Rattle.std.specs.Prelude.{◌≡◌, ℕ, ◌+◌, ◌<◌, List, [], length, take, drop, Bool, if◌then◌else◌, nat_lt, Option, None, Some, Result, IfOk, IfSome, MatchBool}
+use Rattle.std.specs.Int.{Width, byte_len, from_le_bytes}
 
 -- what was read is what stands at the place, where the bytes are known; nothing is read only behind
 -- them, or into no room
@@ -13,12 +13,11 @@ abbrev pub FillsFrom : {E : Type 0} → Option (List ℕ) → ℕ → Result Boo
 FillsFrom known place result buf = IfSome known (λ b. IfOk result (λ full. MatchBool full
     (buf ≡ take (length buf) (drop place b)) (length b < place + length buf)))
 
--- the number of eight bytes at the place, the lowest first; or the bytes end before
-abbrev pub ReadsNumber : {E : Type 0} → Width → Option (List ℕ) → ℕ → Result (Option ℕ) E → Type 0
-ReadsNumber w known place result = IfSome known (λ b. IfOk result (λ found. MatchOption found
-    (length b < place + byte_len w) (λ n. n ≡ from_le_bytes w (take (byte_len w) (drop place b)))))
+-- the number of so many bytes at the place, the lowest first; none where the bytes end before
+abbrev pub number_in : Width → List ℕ → ℕ → Option ℕ
+number_in w b place = if nat_lt (length b) (place + byte_len w) then None
+    else Some (from_le_bytes w (take (byte_len w) (drop place b)))
 
--- somewhere the digest stands, and this offset behind it
-abbrev pub IsListed : List ℕ → List ℕ → ℕ → Type 0
-IsListed b digest offset = (place : ℕ) × (digest ≡ take (length digest) (drop place b))
-    × (offset ≡ from_le_bytes w64 (take 8 (drop (place + length digest) b)))
+-- that was read, where the bytes are known
+abbrev pub ReadsNumber : {E : Type 0} → Width → Option (List ℕ) → ℕ → Result (Option ℕ) E → Type 0
+ReadsNumber w known place result = IfSome known (λ b. IfOk result (λ found. found ≡ number_in w b place))

@@ -53,6 +53,29 @@ impl Entry {
         }
     }
 
+    /// The entry of a section with this hash code and digest, before which so many bytes stand.
+    pub fn of_digest(hash_code: u64, digest: &[u8], offset: u64) -> Entry
+        requires { length digest.now ≤ 64 }
+        ensures hash_code { result.hash_code ≡ hash_code }
+        ensures digest { result.digest ≡ digest.now }
+        ensures offset { result.offset ≡ offset }
+    {
+        let mut bytes = ArrayVec::new();
+        bytes.try_extend_from_slice(digest).unwrap();
+        Entry {
+            hash_code,
+            digest: bytes,
+            offset,
+        }
+    }
+
+    /// The same entry once more.
+    pub fn copied(&self) -> Entry
+        ensures { result ≡ self.now }
+    {
+        Entry::of_digest(self.hash_code, self.digest(), self.offset)
+    }
+
     /// The code of the hash function.
     pub fn hash_code(&self) -> u64
         ensures { result ≡ self.now.hash_code }

@@ -1,18 +1,24 @@
 //! Where an index, which anyone may have made, says that the sections of a multihash begin.
 
-ghost use Rattle.std.specs.Prelude.{◌<◌, ◌≤◌, length, IfOk, IfSome};
-ghost use Rattle.car_index.specs.Places.{IsListed};
+ghost use Rattle.std.specs.Prelude.{◌≡◌, ◌+◌, ◌<◌, ◌≤◌, ◌^◌, ◌-◌, min, length, MatchOption};
+ghost use Rattle.std.specs.Int.{w16};
+ghost use Rattle.std.specs.Ordering.{nat_cmp};
+ghost use Rattle.std.specs.Cmp.Lexicographic.{slice_cmp};
+ghost use Rattle.car_index.specs.Places.{ReadsNumber};
+ghost use Rattle.car_index.specs.Lookup.{Looks, bucket_of, bucket_at, bucket_in, after_buckets};
+ghost use Rattle.car_index.specs.Lookup.{bucket_under, find_bucket, entry_place, digest_in};
+ghost use Rattle.car_index.specs.Lookup.{FindsFirst, FindsOffset};
 
 use crate::number::{count_at, fill, number_at};
 use crate::read_at::ReadAt;
 use std::cmp::Ordering;
 use std::io;
 
-/// The varint of the format in which entries stand by their width alone.
-const BY_WIDTH: [u8; 2] = [0x80, 0x08];
+/// The varint of the format in which entries stand by their width alone, as a number of two bytes.
+const BY_WIDTH: u16 = 0x0880;
 
 /// The varint of the format in which they stand by their hash code before that.
-const BY_MULTIHASH: [u8; 2] = [0x81, 0x08];
+const BY_MULTIHASH: u16 = 0x0881;
 
 /// How many bytes stand before the entries of one width.
 const BUCKET_HEAD: u64 = 12;
@@ -28,34 +34,44 @@ pub struct Bucket {
     count: u64,
 }
 
-/// The entries of a width, and the place behind them. `place` is where their head stands.
-fn bucket_at<S: ReadAt>(source: &S, place: u64) -> io::Result<Option<(Bucket, u64)>> {
-    let Some(width) = count_at(source, place)? else {
-        return Ok(None);
-    };
-    let Some(length) = number_at(source, place.saturating_add(4))? else {
-        return Ok(None);
-    };
-    let width = u64::from(width);
-    let begin = place.saturating_add(BUCKET_HEAD);
+/// The entries of this width that begin at a place and have so many bytes, and the place behind them.
+fn bucket_of(begin: u64, width: u64, length: u64) -> Option<(Bucket, u64)>
+    ensures { result ≡ bucket_of begin width length }
+{
     match begin.checked_add(length) {
         Some(behind) if width >= 8 => {
             let count = length / width;
-            Ok(Some((
+            Some((
                 Bucket {
                     begin,
                     width,
                     count,
                 },
                 behind,
-            )))
+            ))
         }
-        _ => Ok(None),
+        _ => None,
     }
 }
 
+/// The entries of a width, and the place behind them. `place` is where their head stands.
+fn bucket_at<S: ReadAt>(source: &S, place: u64) -> io::Result<Option<(Bucket, u64)>>
+    ensures { Looks (S.bytes source.now) result (λ b r. r ≡ bucket_at b place) }
+{
+    let Some(width) = count_at(source, place)? else {
+        return Ok(None);
+    };
+    let Some(length) = number_at(source, place.saturating_add(4))? else {
+        return Ok(None);
+    };
+    let begin = place.saturating_add(BUCKET_HEAD);
+    Ok(bucket_of(begin, u64::from(width), length))
+}
+
 /// The entries of this width, if there are some: their heads stand behind their count.
-fn bucket_in<S: ReadAt>(source: &S, place: u64, width: u64) -> io::Result<Option<Bucket>> {
+fn bucket_in<S: ReadAt>(source: &S, place: u64, width: u64) -> io::Result<Option<Bucket>>
+    ensures { Looks (S.bytes source.now) result (λ b r. r ≡ bucket_in b width place) }
+{
     let Some(count) = count_at(source, place)? else {
         return Ok(None);
     };
@@ -71,7 +87,9 @@ fn bucket_in<S: ReadAt>(source: &S, place: u64, width: u64) -> io::Result<Option
 }
 
 /// The place behind the entries of each width.
-fn behind_buckets<S: ReadAt>(source: &S, place: u64) -> io::Result<Option<u64>> {
+fn behind_buckets<S: ReadAt>(source: &S, place: u64) -> io::Result<Option<u64>>
+    ensures { Looks (S.bytes source.now) result (λ b r. r ≡ after_buckets b place) }
+{
     let Some(count) = count_at(source, place)? else {
         return Ok(None);
     };
@@ -91,7 +109,9 @@ fn bucket_under<S: ReadAt>(
     place: u64,
     hash_code: u64,
     width: u64,
-) -> io::Result<Option<Bucket>> {
+) -> io::Result<Option<Bucket>>
+    ensures { Looks (S.bytes source.now) result (λ b r. r ≡ bucket_under b hash_code width place) }
+{
     let Some(count) = count_at(source, place)? else {
         return Ok(None);
     };
@@ -112,30 +132,47 @@ fn bucket_under<S: ReadAt>(
     Ok(None)
 }
 
-/// The entries among which those of a digest of this length stand, in the index at a place.
+/// The number of two bytes at a place. None where the bytes end before.
+fn format_at<S: ReadAt>(source: &S, place: u64) -> io::Result<Option<u16>>
+    ensures { ReadsNumber w16 (S.bytes source.now) place result }
+{
+    let mut room = [0; 2];
+    if fill(source, place, &mut room)? {
+        Ok(Some(u16::from_le_bytes(room)))
+    } else {
+        Ok(None)
+    }
+}
+
+/// The entries among which those of this digest stand, in the index at a place.
 pub fn find_bucket<S: ReadAt>(
     source: &S,
     index: u64,
     hash_code: u64,
-    length: u64,
-) -> io::Result<Option<Bucket>> {
-    let mut format = [0; 2];
-    if !fill(source, index, &mut format)? {
+    digest: &[u8],
+) -> io::Result<Option<Bucket>>
+    ensures { Looks (S.bytes source.now) result (λ b r. r ≡ find_bucket b index hash_code digest.now) }
+{
+    let Some(format) = format_at(source, index)? else {
         return Ok(None);
-    }
+    };
     let behind = index.saturating_add(2);
-    let width = length.saturating_add(8);
-    match format {
-        BY_WIDTH => bucket_in(source, behind, width),
-        BY_MULTIHASH => bucket_under(source, behind, hash_code, width),
-        _ => Ok(None),
+    let width = digest.len() as u64 + 8;
+    if format == BY_WIDTH {
+        return bucket_in(source, behind, width);
     }
+    if format == BY_MULTIHASH {
+        return bucket_under(source, behind, hash_code, width);
+    }
+    Ok(None)
 }
 
 impl Bucket {
-    /// Where the entry of this number begins.
-    fn place_of(&self, number: u64) -> Option<u64> {
-        self.begin.checked_add(number.checked_mul(self.width)?)
+    /// Where the entry of this number begins. No bytes stand as far behind as where such a sum stops.
+    fn place_of(&self, number: u64) -> u64
+        ensures { result ≡ min (entry_place self.now number) (2 ^ 64 - 1) }
+    {
+        self.begin.saturating_add(number.saturating_mul(self.width))
     }
 
     /// How the digest of the entry of this number compares with this one.
@@ -146,21 +183,23 @@ impl Bucket {
         digest: &[u8],
     ) -> io::Result<Option<Ordering>>
         requires { length digest.now ≤ 64 }
+        ensures { Looks (S.bytes source.now) result (λ b r. MatchOption r
+            (length b < entry_place self.now number + length digest.now)
+            (λ o. o ≡ slice_cmp nat_cmp (digest_in b self.now (length digest.now) number) digest.now)) }
     {
-        let Some(place) = self.place_of(number) else {
-            return Ok(None);
-        };
+        let place = self.place_of(number);
         let mut room = [0; LONGEST_DIGEST];
         let read = &mut room[..digest.len()];
         if !fill(source, place, read)? {
             return Ok(None);
         }
-        Ok(Some(room[..digest.len()].cmp(digest)))
+        Ok(Some((&*read).cmp(digest)))
     }
 
     /// How many entries stand before the first whose digest is not below this one.
     pub fn first_of<S: ReadAt>(&self, source: &S, digest: &[u8]) -> io::Result<Option<u64>>
         requires { length digest.now ≤ 64 }
+        ensures { Looks (S.bytes source.now) result (FindsFirst self.now digest.now) }
     {
         let mut low = 0;
         let mut high = self.count;
@@ -182,23 +221,20 @@ impl Bucket {
         number: u64,
         digest: &[u8],
     ) -> io::Result<Option<u64>>
-        ensures { IfSome (S.bytes source.now) (λ b. IfOk result (λ found. IfSome found
-            (IsListed b digest.now))) }
+        ensures { Looks (S.bytes source.now) result (FindsOffset self.now digest.now number) }
     {
         if number >= self.count || digest.len() > LONGEST_DIGEST {
             return Ok(None);
         }
-        let Some(place) = self.place_of(number) else {
+        let Some(order) = self.compare(source, number, digest)? else {
             return Ok(None);
         };
-        let mut room = [0; LONGEST_DIGEST];
-        let read = &mut room[..digest.len()];
-        if !fill(source, place, read)? || &*read != digest {
-            return Ok(None);
-        }
-        match place.checked_add(digest.len() as u64) {
-            Some(behind) => number_at(source, behind),
-            None => Ok(None),
+        match order {
+            Ordering::Equal => {
+                let place = self.place_of(number);
+                number_at(source, place.saturating_add(digest.len() as u64))
+            }
+            _ => Ok(None),
         }
     }
 }

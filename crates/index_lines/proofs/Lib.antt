@@ -4,3 +4,6 @@ mod Gathering
 mod Sending
 mod Headers
 mod Sought
+mod Placed
+mod Finding
+mod Listing

@@ -1,20 +1,99 @@
 -- What an index gives of a name.
-use Rattle.std.specs.Prelude.{◌≡◌, ℕ, List, Option, Result, IfOk, IfSome, Vec}
+use Rattle.std.specs.Prelude.{◌≡◌, ℕ, ◌+◌, ◌-◌, ◌^◌, ◌<◌, ◌≤◌, List, ◌∷◌, ◌++◌, length, drop, ⊤, Option, Some, Result, IfOk, IfSome, MatchOption, Vec}
+use Rattle.std.specs.List.{AllByRecursion}
 use Rattle.std.specs.declared.alloc.Global.{Global}
 use Rattle.ipld_tree.specs.Cid.{CidParts}
 use Rattle.ipld_links.specs.Verdicts.{IsVerified}
+use Rattle.dagcbor_car.specs.Car.{Section, section_bytes, IsSection, car_bytes}
+use Rattle.dagcbor_car.specs.Versions.{begin_of, length_of}
+use Rattle.car_index.specs.Index.{EntryParts, index_bytes}
+use Rattle.car_index.specs.Leading.{StandsAmong, IsIndexAt}
+use Rattle.car_index.specs.Lookup.{find_bucket, EndsWithin, IsFirst, IsEntryOf}
+use Rattle.car_index.specs.declared.find.Bucket.{Bucket}
 use Rattle.dagcbor_cli.specs.declared.fault.ToolError.{ToolError}
-use Rattle.index_lines.specs.Layouts.{HasIndex}
+use Rattle.index_lines.specs.Indexed.{entry_of, AreEntries, indexed_bytes}
+use Rattle.index_lines.specs.Layouts.{index_field, HasIndex}
+use Rattle.index_lines.specs.declared.layout.Layout.{Layout}
 use Rattle.index_lines.specs.declared.find.Found.{Found}
 use Rattle.index_lines.specs.declared.find.Found.TheVariants as found
+
+-- a section of the name stands first within so many bytes, with the bytes that the name says
+pub record BeginsSought (name : CidParts) (long : ℕ) (b : List ℕ) : Type 0 where
+  pub block : List ℕ
+  pub rest : List ℕ
+  pub is : b ≡ section_bytes (name, block) ++ rest
+  pub within : length (section_bytes (name, block)) ≤ long
+  pub section : IsSection (name, block)
+  pub verified : IsVerified (name, block)
+
+-- The index is one of sorted entries, among the first 16 of the name's multihash is that of a section
+-- of the name, and this stands there, with the bytes that the name says.
+pub record IsListed (b : List ℕ) (name : CidParts) : Type 0 where
+  pub entries : List EntryParts
+  pub block : List ℕ
+  pub offset : ℕ
+  pub before : ℕ
+  pub index : IsIndexAt b (index_field b) entries
+  pub entry : StandsAmong entries (entry_of offset (name, block)) before
+  pub early : before < 16
+  pub there : BeginsSought name (length_of b - offset) (drop (begin_of b + offset) b)
 
 -- what is given are the bytes that the name says
 abbrev pub GivesVerified : CidParts → Result (Option (Vec ℕ Global)) ToolError → Type 0
 GivesVerified name result = IfOk result (λ o. IfSome o (λ v. IsVerified (name, v.items)))
 
 -- a block is given whose bytes are those that the name says; where the bytes of the file are known, it
--- has an index exactly where that is not said to be wanting
+-- has an index exactly where that is not said to be wanting, and a block is given that it lists
 abbrev pub IsFound : Option (List ℕ) → CidParts → Found → Type 0
 IsFound known name (found.Block v) = IsVerified (name, v.items) × IfSome known HasIndex
-IsFound known name found.NoEntry = IfSome known HasIndex
+IsFound known name found.NoEntry = IfSome known (λ b. HasIndex b × ¬ IsListed b name)
 IsFound known name found.NoIndex = IfSome known (λ b. ¬ HasIndex b)
+
+-- ---- the steps
+
+-- a block is given where this is so
+abbrev pub GivesWhere : Type 0 → Result (Option (Vec ℕ Global)) ToolError → Type 0
+GivesWhere IsSo result = IfOk result (λ o. MatchOption o (¬ IsSo) (λ _. ⊤))
+
+-- the same of known bytes
+abbrev pub GivesOf : Option (List ℕ) → (List ℕ → Type 0) → Result (Option (Vec ℕ Global)) ToolError
+    → Type 0
+GivesOf known IsSo result = IfSome known (λ b. length b < 2 ^ 64 → GivesWhere (IsSo b) result)
+
+-- such a section begins so many bytes into the file of version 1
+abbrev pub IsSoughtAt : CidParts → Layout → ℕ → List ℕ → Type 0
+IsSoughtAt name layout offset b =
+    BeginsSought name (layout.length - offset) (drop (layout.begin + offset) b)
+
+-- the entries of the name's digest lead to it, so many behind the first
+pub record LeadsAt (name : CidParts) (layout : Layout) (bucket : Bucket) (k : ℕ) (b : List ℕ) : Type 0 where
+  pub whole : ¬ EndsWithin b bucket name.digest
+  pub few : bucket.count < 2 ^ 32
+  pub short : length name.digest ≤ 64
+  pub leads : (n : ℕ) → IsFirst b bucket name.digest n → (offset : ℕ)
+      × IsEntryOf b bucket name.digest (n + k) offset × IsSoughtAt name layout offset b
+      × ((m : ℕ) → m < k → (place : ℕ) × IsEntryOf b bucket name.digest (n + m) place)
+
+-- among the first 16
+abbrev pub LeadsIn : CidParts → Layout → Bucket → List ℕ → Type 0
+LeadsIn name layout bucket b = (k : ℕ) × (k < 16) × LeadsAt name layout bucket k b
+
+-- and these are found
+abbrev pub LeadsBy : CidParts → Layout → List ℕ → Type 0
+LeadsBy name layout b = (bucket : Bucket)
+    × (find_bucket b layout.index name.hash_code name.digest ≡ Some bucket) × LeadsIn name layout bucket b
+
+-- ---- the law
+
+-- what `index` writes of these sections and entries
+abbrev pub written : List (List ℕ) → List Section → List EntryParts → List ℕ
+written roots sections entries = indexed_bytes (car_bytes roots sections) (index_bytes entries)
+
+-- A block of a file that `index` writes is listed, if it is among the first 16 of its multihash.
+abbrev pub IndexLists : Type 0
+IndexLists = (roots : List (List ℕ)) (before behind : List Section) (s : Section) (entries : List EntryParts) (k : ℕ)
+    → AllByRecursion IsSection (before ++ (s ∷ behind)) → IsVerified s
+    → AreEntries roots (before ++ (s ∷ behind)) entries → length entries < 2 ^ 32
+    → StandsAmong entries (entry_of (length (car_bytes roots before)) s) k → k < 16
+    → length (written roots (before ++ (s ∷ behind)) entries) < 2 ^ 64
+    → IsListed (written roots (before ++ (s ∷ behind)) entries) s.0

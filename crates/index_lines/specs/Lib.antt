@@ -3,3 +3,4 @@ pub mod Layouts
 pub mod Indexed
 pub mod Steps
 pub mod Finds
+pub mod Judged

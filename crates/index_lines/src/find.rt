@@ -1,9 +1,12 @@
 //! A block that is found by an index, which anyone may have made: no block is answered but one whose
 //! bytes are those that its name says.
 
-ghost use Rattle.std.specs.Prelude.{◌≡◌, IfOk, MatchBool};
+ghost use Rattle.std.specs.Prelude.{◌≡◌, List, ℕ, Some, Ok, IfOk, OnOk, IfSome, MatchBool};
+ghost use Rattle.dagcbor_heads.specs.Inputs.{input_reading};
 ghost use Rattle.ipld_links.specs.Verdicts.{IsVerified};
-ghost use Rattle.index_lines.specs.Finds.{IsFound, GivesVerified};
+ghost use Rattle.held_lines.specs.Taking.{IsOfBytes};
+ghost use Rattle.index_lines.specs.Finds.{IsFound, BeginsSought, GivesVerified, GivesWhere, GivesOf};
+ghost use Rattle.index_lines.specs.Finds.{IsSoughtAt, LeadsIn, LeadsBy};
 
 use crate::layout::{Layout, layout_of};
 use car_index::{Bucket, ReadAt, buffered_from, find_bucket};
@@ -35,7 +38,9 @@ pub enum Found {
 }
 
 /// The answer of a read at a place.
-fn read_so<T: Drop>(read: io::Result<T>) -> Result<T, ToolError> {
+fn read_so<T: Drop>(read: io::Result<T>) -> Result<T, ToolError>
+    ensures { IfOk result (λ value. read ≡ Ok value) }
+{
     match read {
         Ok(value) => Ok(value),
         Err(_) => Err(ToolError::Input),
@@ -64,7 +69,9 @@ fn block_sought(
     name: &Cid,
     section: &Section<'_>,
 ) -> Result<Option<Vec<u8>>, ToolError>
-    ensures { GivesVerified name.now result }
+    ensures given { GivesVerified name.now result }
+    ensures sought { GivesWhere ((section.now.cid ≡ name.now)
+        × IsVerified (section.now.cid, section.now.block.now)) result }
 {
     if !is_sought(name, section) {
         return Ok(None);
@@ -76,7 +83,9 @@ fn block_sought(
 }
 
 /// Why no section was read, where that is not for its bytes.
-fn unread<E: Drop>(error: CarError<E>) -> Result<(), ToolError> {
+fn unread<E: Drop>(error: CarError<E>) -> Result<(), ToolError>
+    ensures { OnOk result (IsOfBytes error) }
+{
     match error {
         CarError::Read(_) => Err(ToolError::Input),
         CarError::OutOfMemory => Err(ToolError::OutOfMemory),
@@ -91,7 +100,9 @@ fn pull_sought<'de, R: Read>(
     input: &mut Input<'de, R>,
     length: u64,
 ) -> Result<Option<Vec<u8>>, ToolError>
-    ensures { GivesVerified name.now result }
+    ensures given { GivesVerified name.now result }
+    ensures sought { (b : List ℕ) → (input_reading R.reading input.old).left ≡ Some b
+        → GivesWhere (BeginsSought name.now length b) result }
 {
     let mut left = Some(length);
     match pull_section(alloc, input, &mut left) {
@@ -111,7 +122,9 @@ fn pull_from<R: BufRead>(
     input: &mut R,
     length: u64,
 ) -> Result<Option<Vec<u8>>, ToolError>
-    ensures { GivesVerified name.now result }
+    ensures given { GivesVerified name.now result }
+    ensures sought { IfSome (R.remaining input.old)
+        (λ b. GivesWhere (BeginsSought name.now length b) result) }
 {
     let mut source = input_over(IoRefReader::new(input));
     let result = pull_sought(alloc, name, &mut source, length);
@@ -129,7 +142,8 @@ fn block_at<S: ReadAt>(
     name: &Cid,
     offset: u64,
 ) -> Result<Option<Vec<u8>>, ToolError>
-    ensures { GivesVerified name.now result }
+    ensures given { GivesVerified name.now result }
+    ensures sought { GivesOf (S.bytes source.now) (IsSoughtAt name.now layout.now offset) result }
 {
     let Some(length) = layout.length.checked_sub(offset) else {
         return Ok(None);
@@ -151,7 +165,8 @@ fn block_in<S: ReadAt>(
     bucket: &Bucket,
     name: &Cid,
 ) -> Result<Option<Vec<u8>>, ToolError>
-    ensures { GivesVerified name.now result }
+    ensures given { GivesVerified name.now result }
+    ensures sought { GivesOf (S.bytes source.now) (LeadsIn name.now layout.now bucket.now) result }
 {
     // No name has a longer digest.
     let digest = name.digest();
@@ -179,10 +194,10 @@ fn block_by<S: ReadAt>(
     layout: &Layout,
     name: &Cid,
 ) -> Result<Option<Vec<u8>>, ToolError>
-    ensures { GivesVerified name.now result }
+    ensures given { GivesVerified name.now result }
+    ensures sought { GivesOf (S.bytes source.now) (LeadsBy name.now layout.now) result }
 {
-    let length = name.digest().len() as u64;
-    match read_so(find_bucket(source, layout.index, name.hash_code(), length))? {
+    match read_so(find_bucket(source, layout.index, name.hash_code(), name.digest()))? {
         Some(bucket) => block_in(alloc, source, layout, &bucket, name),
         None => Ok(None),
     }

@@ -67,7 +67,7 @@ fn name_length(cid: &Cid) -> usize
 
 /// How many bytes a section has.
 #[tactic(auto, using(crate::proofs::Gathering::section_long))]
-fn section_length(section: &Section<'_>) -> u64
+pub(crate) fn section_length(section: &Section<'_>) -> u64
     ensures { result ≡ length (section_bytes (section.now.cid, section.now.block.now)) }
 {
     let body = name_length(&section.cid) + section.block.len();
@@ -75,7 +75,7 @@ fn section_length(section: &Section<'_>) -> u64
 }
 
 /// How many bytes the header of a file of these roots has.
-fn header_length(alloc: Global, roots: &[Cid]) -> Result<u64, ToolError>
+pub(crate) fn header_length(alloc: Global, roots: &[Cid]) -> Result<u64, ToolError>
     ensures { IfOk result (λ n. n ≡ length (header_bytes (forms roots.now))) }
 {
     let mut header = Vec::new(alloc);

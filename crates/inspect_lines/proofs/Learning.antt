@@ -23,9 +23,10 @@ use Rattle.held_lines.specs.declared.take.Ended.TheVariants as ended
 use Rattle.inspect_lines.specs.Counts.{Measure, AreCounts}
 use Rattle.inspect_lines.specs.Names.{distinct}
 use Rattle.inspect_lines.specs.Front.{TakesFront}
-use Rattle.inspect_lines.specs.Inspecting.{version_of, says_index, root_unless, root_in, measures, AreFacts, AreFactsOf, AreFactsOfFile, IsFound, Knows, LearnsNext}
+use Rattle.inspect_lines.specs.Inspecting.{version_of, index_told, root_unless, root_in, measures, AreFacts, AreFactsOf, AreFactsOfFile, IsFound, Knows, LearnsNext}
 use Rattle.inspect_lines.specs.declared.counts.Counts.{Counts}
 use Rattle.inspect_lines.specs.declared.facts.Root.{Root}
+use Rattle.inspect_lines.specs.declared.facts.Index.{Index}
 use Rattle.inspect_lines.specs.declared.facts.Facts.{Facts}
 use Rattle.inspect_lines.specs.declared.inspect.Inspecting.{Inspecting}
 use Rattle.inspect_lines.proofs.Counting.{map_push}
@@ -49,8 +50,8 @@ ends_known roots b old new (ended.Stopped stop) k h = tt
 ends_known roots b old new (ended.Fault line) k h = fault_told LearnsNext (λ ss. ⊤) b line.items (forms roots) old new h.0 h.1 tt h.2
 
 -- what is told behind the sections
-pub facts_known : (roots : List CidParts) (b front : List ℕ) (new : Inspecting) (facts : Facts) → EndsKnown {E = AllocError} roots b ended.Whole new → ((sections : List Section) → Knows new (forms roots) sections → AreFactsOf facts front roots sections) → AreFactsOfFile b front facts
-facts_known roots b front new facts h f = (roots, h.0, h.1, f h.0 h.2)
+pub facts_known : (roots : List CidParts) (b front : List ℕ) (index : Index) (new : Inspecting) (facts : Facts) → EndsKnown {E = AllocError} roots b ended.Whole new → ((sections : List Section) → Knows new (forms roots) sections → AreFactsOf facts front index roots sections) → AreFactsOfFile b front index facts
+facts_known roots b front index new facts h f = (roots, h.0, h.1, f h.0 h.2)
 
 -- one root more
 pub root_more : (missing keys : List CidParts) (roots : List CidParts) (i : ℕ) (root : CidParts) (told new : List Root) (it : Root) → keys ≡ distinct missing → it ≡ root_unless keys root → i < length roots → root ≡ get_or roots i root → told ≡ map (root_in missing) (take i roots) → new ≡ told ++ it ∷ [] → new ≡ map (root_in missing) (take (i + 1) roots)
@@ -59,14 +60,14 @@ root_more missing keys roots i root told new it same is lt at h e =
     ∙ sym (ap (map (root_in missing)) (take_more roots i root lt ∙ ap (λ r. take i roots ++ r ∷ []) (sym at)) ∙ map_push (root_in missing) (take i roots) root)
 
 -- what is told, by the numbers
-pub facts_are : (counts : Counts) (facts : Facts) (front : List ℕ) (roots lost : List CidParts)
-    → facts.version ≡ version_of front → facts.index ≡ says_index front → facts.roots.items ≡ map (root_in lost) roots
+pub facts_are : (counts : Counts) (facts : Facts) (front : List ℕ) (index : Index) (roots lost : List CidParts)
+    → facts.version ≡ version_of front → facts.index ≡ index_told index front → facts.roots.items ≡ map (root_in lost) roots
     → facts.all ≡ counts.all → facts.repeated ≡ counts.all.count - length counts.names.cids.keys → facts.least ≡ counts.least → facts.greatest ≡ counts.greatest
     → facts.codecs.items ≡ counts.codecs.rows.entries → facts.hashes.items ≡ counts.hashes.rows.entries → facts.missing ≡ length lost
-    → (blocks : List Measure) → AreCounts counts blocks → AreFacts facts front roots blocks lost
-facts_are counts facts front roots lost version index named all repeated low high codecs hashes missing blocks h = record {
+    → (blocks : List Measure) → AreCounts counts blocks → AreFacts facts front index roots blocks lost
+facts_are counts facts front index roots lost version told named all repeated low high codecs hashes missing blocks h = record {
   version = version;
-  index = index;
+  told = told;
   roots = named;
   sections = ap (λ row. row.count) all ∙ h.sections;
   repeated = repeated ∙ ap (λ n. n - length counts.names.cids.keys) h.sections ∙ ap (λ keys. length blocks - length keys) h.names;
@@ -79,12 +80,12 @@ facts_are counts facts front roots lost version index named all repeated low hig
 }
 
 -- where what leads to no block is listed
-pub facts_listed : {E : Type 0} (r : Result Facts E) (it : Inspecting) (front : List ℕ) (roots : List CidParts) (v : Vec CidParts Global) (items : List CidParts) → items ≡ v.items
+pub facts_listed : {E : Type 0} (r : Result Facts E) (it : Inspecting) (front : List ℕ) (index : Index) (roots : List CidParts) (v : Vec CidParts Global) (items : List CidParts) → items ≡ v.items
     → ((named : List (List ℕ)) (sections : List Section) → IsAfter it.check named sections → ListsMissingInFile named sections v)
-    → IfOk r (λ facts. (blocks : List Measure) → AreCounts it.counts blocks → AreFacts facts front roots blocks items)
-    → (sections : List Section) → Knows it (forms roots) sections → IfOk r (λ facts. AreFactsOf facts front roots sections)
-facts_listed (Err e) it front roots v items is lists f sections k = tt
-facts_listed (Ok facts) it front roots v items is lists f sections k = (v, lists (forms roots) sections k.0, subst (AreFacts facts front roots (measures sections)) is (f (measures sections) k.1))
+    → IfOk r (λ facts. (blocks : List Measure) → AreCounts it.counts blocks → AreFacts facts front index roots blocks items)
+    → (sections : List Section) → Knows it (forms roots) sections → IfOk r (λ facts. AreFactsOf facts front index roots sections)
+facts_listed (Err e) it front index roots v items is lists f sections k = tt
+facts_listed (Ok facts) it front index roots v items is lists f sections k = (v, lists (forms roots) sections k.0, subst (AreFacts facts front index roots (measures sections)) is (f (measures sections) k.1))
 
 -- a header was taken first
 pub behind_start : {A E : Type 0} (P : List ℕ → A → Type 0) (r : Result A E) (start source : Reading) (roots : Vec CidParts Global) (items : List CidParts) (extent : Option ℕ) → items ≡ roots.items → TakesStart start (forms roots.items) extent source
@@ -100,11 +101,11 @@ start_fault start source error v h is told b l =
     (alone error, (no_file (alone error) b refused, inl refused), told ∙ alone_line error is)
 
 -- the first bytes stand before the others again
-pub whole_found : {E : Type 0} (known left whole : Option (List ℕ)) (items slice front : List ℕ) (r : Result (Result Facts (Vec ℕ Global)) E)
+pub whole_found : {E : Type 0} (known left whole : Option (List ℕ)) (items slice front : List ℕ) (index : Index) (r : Result (Result Facts (Vec ℕ Global)) E)
     → IfSome known (λ b. TakesFront 51 b items left) → whole ≡ option_append (Some slice) left → slice ≡ items → front ≡ items
-    → IfSome whole (λ b. IfOk r (IsFound b front)) → IfSome known (λ b. IfOk r (IsFound b (take 51 b)))
-whole_found None left whole items slice front r h is same at f = tt
-whole_found (Some b) left whole items slice front r h is same at f =
+    → IfSome whole (λ b. IfOk r (IsFound b front index)) → IfSome known (λ b. IfOk r (IsFound b (take 51 b) index))
+whole_found None left whole items slice front index r h is same at f = tt
+whole_found (Some b) left whole items slice front index r h is same at f =
     let all : whole ≡ Some b = is ∙ ap (option_append (Some slice)) h.2 ∙ ap (λ s. Some (s ++ h.0)) same ∙ ap Some (sym h.1) in
-    let found = subst (λ w. IfSome w (λ b. IfOk r (IsFound b front))) all f in
-    subst (λ x. IfOk r (IsFound b x)) (at ∙ h.3) found
+    let found = subst (λ w. IfSome w (λ b. IfOk r (IsFound b front index))) all f in
+    subst (λ x. IfOk r (IsFound b x index)) (at ∙ h.3) found

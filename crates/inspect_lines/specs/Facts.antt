@@ -8,6 +8,8 @@ use Rattle.block_lines.specs.Lines.{line}
 use Rattle.inspect_lines.specs.declared.rows.Row.{Row}
 use Rattle.inspect_lines.specs.declared.facts.Facts.{Facts}
 use Rattle.inspect_lines.specs.declared.facts.Root.{Root}
+use Rattle.inspect_lines.specs.declared.facts.Index.{Index}
+use Rattle.inspect_lines.specs.declared.facts.Index.TheVariants as indexes
 use Rattle.inspect_lines.specs.declared.kinds.Kind.{Kind}
 use Rattle.inspect_lines.specs.declared.kinds.Kind.TheVariants.{Codec, Hash}
 
@@ -38,6 +40,15 @@ abbrev pub kind_word : Kind → List ℕ
 kind_word Codec = codes "codec"
 kind_word Hash = codes "hash"
 
+-- ---- the index
+
+-- the word for an index, or for none
+abbrev pub index_word : Option Index → List ℕ
+index_word None = codes "no"
+index_word (Some indexes.There) = codes "yes"
+index_word (Some indexes.Right) = codes "right"
+index_word (Some indexes.Wrong) = codes "wrong"
+
 -- ---- lines
 
 -- a root, and whether its block is there
@@ -51,7 +62,7 @@ row_line kind row = line (kind_word kind ++ (32 ∷ (shown_number kind row.0 ++ 
 -- what stands in front of the roots
 abbrev pub head_lines : Facts → List ℕ
 head_lines f = number_line (codes "version") f.version
-    ++ (word_line (codes "index") (if f.index then codes "yes" else codes "no")
+    ++ (word_line (codes "index") (index_word f.index)
     ++ number_line (codes "roots") (length f.roots.items))
 
 -- the sections in all
@@ -82,8 +93,8 @@ row_json kind row = codes "{\"" ++ (kind_word kind ++ (codes "\":\"" ++ (shown_n
 
 -- up to the list of the roots
 abbrev pub json_head : Facts → List ℕ
-json_head f = codes "{\"version\":" ++ (decimal f.version ++ (codes ",\"index\":"
-    ++ (boolean_text f.index ++ codes ",\"roots\":")))
+json_head f = codes "{\"version\":" ++ (decimal f.version ++ (codes ",\"index\":\""
+    ++ (index_word f.index ++ codes "\",\"roots\":")))
 
 -- the sections in all, up to the list of the codecs
 abbrev pub json_counts : Facts → List ℕ

@@ -1,5 +1,5 @@
 -- What a file of blocks holds, in numbers.
-use Rattle.std.specs.Prelude.{◌≡◌, ◌⊎◌, ℕ, ◌-◌, ◌==◌, List, [], ◌∷◌, ◌++◌, length, take, map, Bool, true, false, not, ◌&&◌, nat_le, if◌then◌else◌, bytes_eq, ⊤, Vec, Result, OnOk, MatchResult}
+use Rattle.std.specs.Prelude.{◌≡◌, ◌⊎◌, ℕ, ◌-◌, ◌==◌, List, [], ◌∷◌, ◌++◌, length, take, map, Bool, true, false, not, ◌&&◌, nat_le, if◌then◌else◌, bytes_eq, ⊤, Vec, Option, None, Some, Result, OnOk, MatchResult}
 use Rattle.std.specs.declared.alloc.Global.{Global}
 use Rattle.std.specs.declared.alloc.AllocError.{AllocError}
 use Rattle.ipld_tree.specs.Cid.{CidParts}
@@ -15,6 +15,7 @@ use Rattle.inspect_lines.specs.Counts.{Measure, names_of, lengths_of, total, lea
 use Rattle.inspect_lines.specs.Facts.{plain_text, json_text}
 use Rattle.inspect_lines.specs.declared.facts.Facts.{Facts}
 use Rattle.inspect_lines.specs.declared.facts.Root.{Root}
+use Rattle.inspect_lines.specs.declared.facts.Index.{Index}
 use Rattle.inspect_lines.specs.declared.inspect.Inspecting.{Inspecting}
 use Rattle.inspect_lines.specs.declared.inspect.Form.{Form}
 use Rattle.inspect_lines.specs.declared.inspect.Form.TheVariants.{Lines, Json}
@@ -32,6 +33,10 @@ version_of front = if is_version_2 front then 2 else 1
 abbrev pub says_index : List ℕ → Bool
 says_index front = is_version_2 front && (nat_le 51 (length front) && not (number_behind 43 front == 0))
 
+-- what is told of the index of a file that begins so, if it says that it has one
+abbrev pub index_told : Index → List ℕ → Option Index
+index_told index front = if says_index front then Some index else None
+
 -- ---- what is told of a file
 
 -- the names of the blocks of sections, and how many bytes they have
@@ -48,9 +53,9 @@ root_in missing root = root_unless (distinct missing) root
 
 -- What is told of a file that begins so, of these roots and blocks, where these lead to no block. A
 -- section is repeated where one in front of it has the same name.
-pub record AreFacts (facts : Facts) (front : List ℕ) (named : List CidParts) (blocks : List Measure) (lost : List CidParts) : Type 0 where
+pub record AreFacts (facts : Facts) (front : List ℕ) (index : Index) (named : List CidParts) (blocks : List Measure) (lost : List CidParts) : Type 0 where
   pub version : facts.version ≡ version_of front
-  pub index : facts.index ≡ says_index front
+  pub told : facts.index ≡ index_told index front
   pub roots : facts.roots.items ≡ map (root_in lost) named
   pub sections : facts.all.count ≡ length blocks
   pub repeated : facts.repeated ≡ length blocks - length (distinct (names_of blocks))
@@ -62,28 +67,29 @@ pub record AreFacts (facts : Facts) (front : List ℕ) (named : List CidParts) (
   pub missing : facts.missing ≡ length lost
 
 -- the same, where what leads to no block is what `check` lists
-abbrev pub AreFactsOf : Facts → List ℕ → List CidParts → List Section → Type 0
-AreFactsOf facts front roots sections = (missing : Vec CidParts Global)
+abbrev pub AreFactsOf : Facts → List ℕ → Index → List CidParts → List Section → Type 0
+AreFactsOf facts front index roots sections = (missing : Vec CidParts Global)
     × ListsMissingInFile (forms roots) sections missing
-    × AreFacts facts front roots (measures sections) missing.items
+    × AreFacts facts front index roots (measures sections) missing.items
 
 -- the bytes are a file, of which this is told
-abbrev pub AreFactsOfFile : List ℕ → List ℕ → Facts → Type 0
-AreFactsOfFile b front facts = (roots : List CidParts) × (sections : List Section)
-    × IsFile b (forms roots) sections × AreFactsOf facts front roots sections
+abbrev pub AreFactsOfFile : List ℕ → List ℕ → Index → Facts → Type 0
+AreFactsOfFile b front index facts = (roots : List CidParts) × (sections : List Section)
+    × IsFile b (forms roots) sections × AreFactsOf facts front index roots sections
 
 -- the same; or the bytes are no file, and a line tells why
-abbrev pub IsFound : List ℕ → List ℕ → Result Facts (Vec ℕ Global) → Type 0
-IsFound b front found = MatchResult found (AreFactsOfFile b front) (λ line. TellsFault (λ sections. ⊤) b line.items)
+abbrev pub IsFound : List ℕ → List ℕ → Index → Result Facts (Vec ℕ Global) → Type 0
+IsFound b front index found = MatchResult found (AreFactsOfFile b front index) (λ line. TellsFault (λ sections. ⊤) b line.items)
 
 -- as lines, or as JSON
 abbrev pub text_in : Form → Facts → List ℕ
 text_in Lines facts = plain_text facts
 text_in Json facts = json_text facts
 
--- What `inspect` says of bytes: what is told of the file; or nothing, and a line tells why they are none.
-abbrev pub IsInspected : Form → List ℕ → Bool → List ℕ → List ℕ → Type 0
-IsInspected form b well out told = ((facts : Facts) × AreFactsOfFile b (take 51 b) facts × (well ≡ true)
+-- What `inspect` says of bytes: what is told of the file, and this of its index if it says that it has one;
+-- or nothing, and a line tells why they are none.
+abbrev pub IsInspected : Form → Index → List ℕ → Bool → List ℕ → List ℕ → Type 0
+IsInspected form index b well out told = ((facts : Facts) × AreFactsOfFile b (take 51 b) index facts × (well ≡ true)
     × (out ≡ text_in form facts) × (told ≡ []))
     ⊎ ((well ≡ false) × (out ≡ []) × TellsFault (λ sections. ⊤) b told)
 

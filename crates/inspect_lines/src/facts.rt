@@ -1,7 +1,31 @@
 //! What is told of a file.
 
+ghost use Rattle.std.specs.Prelude.{◌≡◌};
+ghost use Rattle.inspect_lines.specs.Facts.{index_word};
+
 use crate::rows::Row;
 use ipld_tree::Cid;
+
+/// What is told of the index that a file says it has.
+#[derive(Clone, Copy, Debug, PartialEq, Eq)]
+pub enum Index {
+    /// It was not judged.
+    There,
+    Right,
+    Wrong,
+}
+
+/// The word for an index, or for none.
+pub fn index_word(index: Option<Index>) -> &'static str
+    ensures { result.now ≡ index_word index }
+{
+    match index {
+        None => "no",
+        Some(Index::There) => "yes",
+        Some(Index::Right) => "right",
+        Some(Index::Wrong) => "wrong",
+    }
+}
 
 /// A root, and whether its block is there.
 #[derive(Clone, Copy, Drop)]
@@ -14,8 +38,8 @@ pub struct Root {
 #[derive(Drop)]
 pub struct Facts {
     pub version: u64,
-    /// Whether the file says that it has an index.
-    pub index: bool,
+    /// What is told of the index, if the file says that it has one.
+    pub index: Option<Index>,
     pub roots: Vec<Root>,
     /// All sections.
     pub all: Row,

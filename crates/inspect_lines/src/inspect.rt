@@ -8,11 +8,11 @@ ghost use Rattle.dagcbor_car.specs.Car.{Section as CarSection};
 ghost use Rattle.dagcbor_car.specs.Sources.{TakesStart};
 ghost use Rattle.block_lines.specs.Lines.{SaysBoth};
 ghost use Rattle.inspect_lines.specs.Counts.{Measure, AreCounts};
-ghost use Rattle.inspect_lines.specs.Inspecting.{root_unless, root_in, AreFacts, AreFactsOf, IsFound};
+ghost use Rattle.inspect_lines.specs.Inspecting.{root_unless, root_in, index_told, AreFacts, AreFactsOf, IsFound};
 ghost use Rattle.inspect_lines.specs.Inspecting.{text_in, IsInspected, Knows, LearnsNext};
 
 use crate::counts::Counts;
-use crate::facts::{Facts, Root};
+use crate::facts::{Facts, Index, Root};
 use crate::front::{read_front, says_index, version_of};
 use crate::json::json_text;
 use crate::names::Names;
@@ -86,16 +86,27 @@ fn roots_told(alloc: Global, roots: &[Cid], missing: &[Cid]) -> Result<Vec<Root>
     Ok(told)
 }
 
+/// What is told of the index of a file that begins so, if it says that it has one.
+fn index_told(front: &[u8], index: Index) -> Option<Index>
+    ensures { result ≡ index_told index front.now }
+{
+    if !says_index(front) {
+        return None;
+    }
+    Some(index)
+}
+
 /// What is told of a file that begins so, of these roots and numbers.
 fn facts_of(
     alloc: Global,
     front: &[u8],
+    index: Index,
     roots: &[Cid],
     missing: &[Cid],
     counts: Counts,
 ) -> Result<Facts, AllocError>
     ensures { IfOk result (λ facts. (blocks : List Measure) → AreCounts counts blocks
-        → AreFacts facts front.now roots.now blocks missing.now) }
+        → AreFacts facts front.now index roots.now blocks missing.now) }
 {
     let Counts {
         all,
@@ -111,7 +122,7 @@ fn facts_of(
     let hashes = hashes.into_vec(alloc)?;
     Ok(Facts {
         version: version_of(front),
-        index: says_index(front),
+        index: index_told(front, index),
         roots,
         all,
         repeated,
@@ -127,15 +138,16 @@ fn facts_of(
 fn facts_behind(
     alloc: Global,
     front: &[u8],
+    index: Index,
     roots: &[Cid],
     it: Inspecting,
 ) -> Result<Facts, AllocError>
     ensures { (sections : List CarSection) → Knows it (forms roots.now) sections
-        → IfOk result (λ facts. AreFactsOf facts front.now roots.now sections) }
+        → IfOk result (λ facts. AreFactsOf facts front.now index roots.now sections) }
 {
     let Inspecting { check, counts } = it;
     match check.missing(alloc) {
-        Ok(missing) => facts_of(alloc, front, roots, &missing, counts),
+        Ok(missing) => facts_of(alloc, front, index, roots, &missing, counts),
         Err(error) => Err(error),
     }
 }
@@ -144,19 +156,20 @@ fn facts_behind(
 fn find_behind<'de, R: Read>(
     alloc: Global,
     front: &[u8],
+    index: Index,
     roots: &[Cid],
     input: &mut Input<'de, R>,
     extent: Option<u64>,
 ) -> Result<Result<Facts, Vec<u8>>, ToolError>
     ensures { IfOk result (λ found. (start : Reading) (b : List ℕ)
         → TakesStart start (forms roots.now) extent (input_reading R.reading input.old)
-        → start.left ≡ Some b → IsFound b front.now found) }
+        → start.left ≡ Some b → IsFound b front.now index found) }
 {
     let mut it = Inspecting::new(alloc, roots)?;
     let ended = take_sections(alloc, &mut it, input, extent)?;
     match ended {
         Ended::Whole => {
-            let facts = facts_behind(alloc, front, roots, it)?;
+            let facts = facts_behind(alloc, front, index, roots, it)?;
             Ok(Ok(facts))
         }
         Ended::Stopped(_) => Err(ToolError::OutOfMemory),
@@ -168,13 +181,14 @@ fn find_behind<'de, R: Read>(
 fn find_file<'de, R: Read>(
     alloc: Global,
     front: &[u8],
+    index: Index,
     input: &mut Input<'de, R>,
 ) -> Result<Result<Facts, Vec<u8>>, ToolError>
     ensures { IfOk result (λ found. (b : List ℕ)
-        → (input_reading R.reading input.old).left ≡ Some b → IsFound b front.now found) }
+        → (input_reading R.reading input.old).left ≡ Some b → IsFound b front.now index found) }
 {
     match pull_header(alloc, input) {
-        Ok((roots, extent)) => find_behind(alloc, front, &roots, input, extent),
+        Ok((roots, extent)) => find_behind(alloc, front, index, &roots, input, extent),
         Err(error) => {
             let line = fault_line(alloc, error)?;
             Ok(Err(line))
@@ -186,21 +200,26 @@ fn find_file<'de, R: Read>(
 fn find_whole<R: BufRead>(
     alloc: Global,
     front: &[u8],
+    index: Index,
     input: &mut R,
 ) -> Result<Result<Facts, Vec<u8>>, ToolError>
-    ensures { IfSome (R.remaining input.old) (λ b. IfOk result (IsFound b front.now)) }
+    ensures { IfSome (R.remaining input.old) (λ b. IfOk result (IsFound b front.now index)) }
 {
     let mut source = input_over(IoRefReader::new(input));
-    find_file(alloc, front, &mut source)
+    find_file(alloc, front, index, &mut source)
 }
 
 /// The same, of all that the input has.
-fn find<R: BufRead>(alloc: Global, input: &mut R) -> Result<Result<Facts, Vec<u8>>, ToolError>
-    ensures { IfSome (R.remaining input.old) (λ b. IfOk result (IsFound b (take 51 b))) }
+fn find<R: BufRead>(
+    alloc: Global,
+    index: Index,
+    input: &mut R,
+) -> Result<Result<Facts, Vec<u8>>, ToolError>
+    ensures { IfSome (R.remaining input.old) (λ b. IfOk result (IsFound b (take 51 b) index)) }
 {
     let front = read_front(alloc, input)?;
     let mut whole = front.as_slice().chain(input);
-    find_whole(alloc, &front, &mut whole)
+    find_whole(alloc, &front, index, &mut whole)
 }
 
 /// What is told of the file, in this form.
@@ -214,19 +233,20 @@ fn text_in(alloc: Global, form: Form, facts: &Facts) -> Result<Vec<u8>, AllocErr
 }
 
 /// Writes what the file holds that the input is, in this form, or tells why it is none. Whether it is
-/// one. It is read once, and one section is in memory at a time, beside the names of its blocks.
+/// one. `index` is told of the index, if the file says that it has one. It is read once, and one section is in memory at a time, beside the names of its blocks.
 pub fn write_inspected<R: BufRead, W: Write, V: Write>(
     alloc: Global,
     form: Form,
+    index: Index,
     input: &mut R,
     output: &mut W,
     errors: &mut V,
 ) -> Result<bool, ToolError>
-    ensures { IfSome (R.remaining input.old) (λ b. SaysBoth (IsInspected form b)
+    ensures { IfSome (R.remaining input.old) (λ b. SaysBoth (IsInspected form index b)
         (W.contents output.old) (V.contents errors.old) result (W.contents output.new)
         (V.contents errors.new)) }
 {
-    let found = find(alloc, input)?;
+    let found = find(alloc, index, input)?;
     match found {
         Ok(facts) => {
             let text = text_in(alloc, form, &facts)?;

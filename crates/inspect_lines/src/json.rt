@@ -5,7 +5,7 @@ ghost use Rattle.dag_json.specs.DagJson.{joined, list_text};
 ghost use Rattle.inspect_lines.specs.Facts.{root_json, row_json, json_head, json_counts};
 ghost use Rattle.inspect_lines.specs.Facts.{json_front, json_hashes, json_end, json_text};
 
-use crate::facts::{Facts, Root};
+use crate::facts::{Facts, Root, index_word};
 use crate::kinds::{Kind, kind_word, shown_number};
 use crate::rows::Row;
 use cid_text::cid_text;
@@ -126,9 +126,9 @@ fn row_list(alloc: Global, kind: Kind, rows: &[(u64, Row)]) -> Result<Vec<u8>, A
 fn json_head(alloc: Global, facts: &Facts) -> Result<String, AllocError>
     ensures { IfOk result (λ text. string_bytes text ≡ json_head facts.now) }
 {
-    let index = if facts.index { "true" } else { "false" };
+    let index = index_word(facts.index);
     format!(in alloc;
-        "{{\"version\":{},\"index\":{},\"roots\":",
+        "{{\"version\":{},\"index\":\"{}\",\"roots\":",
         facts.version, index
     )
 }

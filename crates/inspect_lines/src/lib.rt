@@ -13,7 +13,7 @@ mod rows;
 mod words;
 
 pub use counts::Counts;
-pub use facts::{Facts, Root};
+pub use facts::{Facts, Index, Root, index_word};
 pub use front::read_front;
 pub use inspect::{Form, write_inspected};
 pub use json::json_text;

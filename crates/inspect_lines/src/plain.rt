@@ -4,7 +4,7 @@ ghost use Rattle.std.specs.Prelude.{◌≡◌, ◌++◌, IfOk, OnOk, flat_map};
 ghost use Rattle.inspect_lines.specs.Facts.{number_line, word_line, root_told, row_line};
 ghost use Rattle.inspect_lines.specs.Facts.{head_lines, count_lines, plain_text};
 
-use crate::facts::{Facts, Root};
+use crate::facts::{Facts, Root, index_word};
 use crate::kinds::{Kind, kind_word, shown_number};
 use crate::rows::Row;
 use block_lines::line_of;
@@ -79,7 +79,7 @@ fn row_lines(alloc: Global, kind: Kind, rows: &[(u64, Row)]) -> Result<Vec<u8>, 
 fn head_lines(alloc: Global, facts: &Facts) -> Result<Vec<u8>, AllocError>
     ensures { IfOk result (λ v. v.items ≡ head_lines facts.now) }
 {
-    let word = if facts.index { "yes" } else { "no" };
+    let word = index_word(facts.index);
     let (version, roots) = (facts.version, facts.roots.len());
     let mut lines = Vec::new(alloc);
     push_number(alloc, &mut lines, "version", version)?;

@@ -5,7 +5,7 @@ use Rattle.inspect_lines.proofs.inspect.find_behind.Goals as goal
 
 pub returns-in_ok-facts-in-Whole : goal.returns-in_ok-facts-in-Whole
 returns-in_ok-facts-in-Whole g c = λ start b h l.
-    facts_known c.args.roots.now b c.args.front.now c.take_sections.new.sink c.in_ok-facts-in-Whole.facts
+    facts_known c.args.roots.now b c.args.front.now c.args.index c.take_sections.new.sink c.in_ok-facts-in-Whole.facts
     (subst (λ e. EndsKnown c.args.roots.now b e c.take_sections.new.sink) c.in-Whole.is (ends_known c.args.roots.now b c.in_ok-it.it c.take_sections.new.sink c.in_ok-ended.ended c.in_ok-it.ensures (c.in_ok-ended.ensures start (forms c.args.roots.now) h b l)))
     c.in_ok-facts-in-Whole.ensures
 

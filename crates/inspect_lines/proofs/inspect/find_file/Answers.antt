@@ -4,7 +4,7 @@ use Rattle.inspect_lines.proofs.Learning.{behind_start, start_fault}
 use Rattle.inspect_lines.proofs.inspect.find_file.Goals as goal
 
 pub returns-in-Ok : goal.returns-in-Ok
-returns-in-Ok g c = behind_start (λ b. IsFound b c.args.front.now) c.find_behind.result (input_reading g.R.Read.reading c.args.input.now) (input_reading g.R.Read.reading c.pull_header.new.input) c.in-Ok.roots _ c.in-Ok.extent c.deref.ensures.value c.in-Ok.ensures.taken c.find_behind.ensures
+returns-in-Ok g c = behind_start (λ b. IsFound b c.args.front.now c.args.index) c.find_behind.result (input_reading g.R.Read.reading c.args.input.now) (input_reading g.R.Read.reading c.pull_header.new.input) c.in-Ok.roots _ c.in-Ok.extent c.deref.ensures.value c.in-Ok.ensures.taken c.find_behind.ensures
 
 pub returns-in_ok-line-in-Err : goal.returns-in_ok-line-in-Err
 returns-in_ok-line-in-Err g c = start_fault (input_reading g.R.Read.reading c.args.input.now) (input_reading g.R.Read.reading c.pull_header.new.input) c.in-Err.error c.in_ok-line-in-Err.line c.in-Err.ensures.taken c.in_ok-line-in-Err.ensures.0 c.in_ok-line-in-Err.ensures.1

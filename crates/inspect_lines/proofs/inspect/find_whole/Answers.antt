@@ -8,5 +8,5 @@ use Rattle.inspect_lines.proofs.inspect.find_whole.Goals as goal
 
 pub returns : goal.returns
 returns g c = if_known (g.R.Read.remaining c.args.input.now) (λ b l.
-    of_known (λ b found. IsFound b c.args.front.now found) c.find_file.result _ c.find_file.ensures b
+    of_known (λ b found. IsFound b c.args.front.now c.args.index found) c.find_file.result _ c.find_file.ensures b
     (ap (λ (r : Reading). r.left) (c.input_over-source.ensures ∙ ap not_lending c.new.ensures) ∙ l))

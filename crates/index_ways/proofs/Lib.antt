@@ -1,0 +1,5 @@
+pub mod Growing
+pub mod Settling
+pub mod Looking
+pub mod Walking
+pub mod Binding

@@ -1,0 +1,45 @@
+-- A file of the sections of another that are kept.
+use Rattle.std.specs.Prelude.{◌≡◌, ◌⊎◌, ◌==◌, ℕ, List, [], ◌++◌, length, Bool, false, flat_map}
+use Rattle.std.specs.declared.convert.Infallible.{Infallible}
+use Rattle.ipld_tree.specs.Cid.{CidParts}
+use Rattle.dagcbor_items.specs.Walks.{forms}
+use Rattle.dagcbor_car.specs.Car.{Section, car_bytes}
+use Rattle.dagcbor_car.specs.Versions.{IsFile}
+use Rattle.dagcbor_car.specs.Sources.{RefusesStart, RefusesSection}
+use Rattle.dagcbor_car.specs.Checks.{IsFileFront, IsNoFile}
+use Rattle.dagcbor_car.specs.declared.error.CarError.{CarError}
+use Rattle.block_lines.specs.Lines.{missing_line, refused_line}
+use Rattle.section_lines.specs.Kept.{kept_sections, roots_of, missing_of, found_in}
+use Rattle.section_lines.specs.declared.filter.Filter.{Filter}
+
+-- the file that is made of these roots and sections
+abbrev pub filtered : Filter → List CidParts → List Section → List ℕ
+filtered f roots sections = car_bytes (forms (roots_of f.roots.items f.kept roots)) (kept_sections f.kept sections)
+
+-- the names that none of these sections has
+abbrev pub missing_in : Filter → List Section → List CidParts
+missing_in f sections = missing_of f.kept (found_in f.kept (kept_sections f.kept sections))
+
+-- what is written where a fault of the bytes stands in front of the header, or behind these sections
+abbrev pub IsFilteredBefore : Filter → List ℕ → CarError Infallible → List ℕ → Type 0
+IsFilteredBefore f b e out = (RefusesStart e b × (out ≡ []))
+    ⊎ ((roots : List CidParts) × (sections : List Section) × (n : ℕ) × (rest : List ℕ)
+    × IsFileFront b (forms roots) sections n rest × RefusesSection n e rest
+    × (out ≡ filtered f roots sections))
+
+-- What `filter` writes and tells of bytes: the file of what is kept of theirs, and a line for each name
+-- that no section has, which is something wrong; or they are no file, what is kept in front of the
+-- fault is written, and a line tells why.
+abbrev pub IsFiltered : Filter → List ℕ → Bool → List ℕ → List ℕ → Type 0
+IsFiltered f b well out told = ((roots : List CidParts) × (sections : List Section)
+    × IsFile b (forms roots) sections × (out ≡ filtered f roots sections)
+    × (told ≡ flat_map missing_line (missing_in f sections))
+    × (well ≡ (length (missing_in f sections) == 0)))
+    ⊎ ((well ≡ false) × ((e : CarError Infallible) × IsNoFile b × IsFilteredBefore f b e out
+    × (told ≡ refused_line e)))
+
+-- what is written of the first sections of a file, or nothing
+abbrev pub IsFilteredFront : Filter → List ℕ → List ℕ → Type 0
+IsFilteredFront f b out = (out ≡ [])
+    ⊎ ((roots : List CidParts) × (sections : List Section) × (n : ℕ) × (rest : List ℕ)
+    × IsFileFront b (forms roots) sections n rest × (out ≡ filtered f roots sections))

@@ -1,0 +1,13 @@
+pub mod Kept
+pub mod Sending
+pub mod Filtering
+pub mod Steps
+pub mod Words
+pub mod Lists
+pub mod Merging
+pub mod MergeSteps
+pub mod NewFiles
+pub mod Parts
+pub mod Splitting
+pub mod SplitSteps
+pub mod SplitWords

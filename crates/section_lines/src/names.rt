@@ -1,0 +1,40 @@
+//! A list of names, one a line.
+
+ghost use Rattle.std.specs.Prelude.{◌≡◌, IfOk};
+ghost use Rattle.section_lines.specs.Lists.{wrong_line, ReadsNames};
+
+use crate::kept::add_name;
+use block_lines::no_cid_line;
+use bstr::ByteSlice;
+use cid_text::{CidTextError, cid_from_text};
+use ipld_tree::Cid;
+use std::alloc::{AllocError, Global};
+use std::collections::BTreeSet;
+
+/// Which line of a list is none of a CID, and why, in a line.
+fn wrong_line(alloc: Global, number: usize, fault: &CidTextError) -> Result<Vec<u8>, AllocError>
+    ensures { IfOk result (λ v. v.items ≡ wrong_line number fault.now) }
+{
+    let mut told = format!(in alloc; "line {number}: ")?.into_bytes();
+    told.extend_from_slice(no_cid_line(fault).as_bytes())?;
+    Ok(told)
+}
+
+/// The names in the text, one a line; or which line is none of a CID, and why, in a line.
+pub(crate) fn names_in(
+    alloc: Global,
+    text: &[u8],
+) -> Result<Result<BTreeSet<Cid>, Vec<u8>>, AllocError>
+    ensures { IfOk result (ReadsNames text.now) }
+{
+    let mut names = BTreeSet::new(alloc);
+    let mut number = 0;
+    for line in text.lines() {
+        number += 1;
+        match cid_from_text(line) {
+            Ok(name) => add_name(&mut names, &name)?,
+            Err(fault) => return Ok(Err(wrong_line(alloc, number, &fault)?)),
+        }
+    }
+    Ok(Ok(names))
+}

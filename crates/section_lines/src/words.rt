@@ -1,0 +1,201 @@
+//! The words of `filter`.
+
+ghost use Rattle.std.specs.Prelude.{◌≡◌, ◌≢◌, [], ◌∷◌, map, string_bytes, option_map, IfOk, MatchOption, Option, List, ℕ};
+ghost use Rattle.ipld_tree.specs.Cid.{CidParts};
+ghost use Rattle.section_lines.specs.Words.{IsHexText, IsCodecText, AreTexts, root_texts};
+ghost use Rattle.section_lines.specs.Words.{behind_roots, HasNoRoot, HasRoot, IsBy, IsByAndFile};
+ghost use Rattle.section_lines.specs.Words.{IsFilter, IsMerge};
+ghost use Rattle.section_lines.specs.declared.words.By.{By};
+
+use cid_text::cid_from_text;
+use ipld_tree::Cid;
+use std::alloc::{AllocError, Global};
+
+/// The number that the hexadecimal digits are behind `0x`.
+fn hex_of(text: &str) -> Option<u64>
+    ensures { MatchOption result ((n : ℕ) → ¬ IsHexText text.now n) (IsHexText text.now) }
+{
+    let digits = text.strip_prefix("0x")?;
+    u64::from_str_radix(digits, 16).ok()
+}
+
+/// The codec that the text names, or whose number it is.
+fn codec_of(text: &str) -> Option<u64>
+    ensures { MatchOption result ((n : ℕ) → ¬ IsCodecText text.now n) (IsCodecText text.now) }
+{
+    match text {
+        "raw" => Some(0x55),
+        "dag-pb" => Some(0x70),
+        "dag-cbor" => Some(0x71),
+        "libp2p-key" => Some(0x72),
+        "dag-json" => Some(0x0129),
+        "json" => Some(0x0200),
+        _ => hex_of(text),
+    }
+}
+
+/// The words behind this one, if it stands first.
+pub(crate) fn behind_word<'a>(word: &str, args: &'a [String]) -> Option<&'a [String]>
+    ensures { MatchOption result
+        ((rest : List (List ℕ)) → map string_bytes args.now ≢ word.now ∷ rest)
+        (λ rest. map string_bytes args.now ≡ word.now ∷ map string_bytes rest.now) }
+{
+    let Some((first, rest)) = args.split_first() else {
+        return None;
+    };
+    if first.as_str() != word {
+        return None;
+    }
+    Some(rest)
+}
+
+/// The root behind `--root`, where that stands first, and the words behind it.
+#[tactic(auto, using(crate::proofs::Wording::no_root_word, crate::proofs::Wording::no_root_text))]
+fn root_first(args: &[String]) -> Option<(Option<Cid>, &[String])>
+    ensures { MatchOption result (HasNoRoot (map string_bytes args.now))
+        (λ p. HasRoot (map string_bytes args.now) p.0 (map string_bytes p.1.now)) }
+{
+    let Some(behind) = behind_word("--root", args) else {
+        return None;
+    };
+    let Some((text, rest)) = behind.split_first() else {
+        return None;
+    };
+    Some((cid_from_text(text.as_bytes()).ok(), rest))
+}
+
+/// The roots that stand behind `--root` in front of all else, and the words behind them. None where a
+/// text is none of a CID.
+pub(crate) fn split_roots(
+    alloc: Global,
+    args: &[String],
+) -> Result<Option<(Vec<Cid>, &[String])>, AllocError>
+    ensures { IfOk result (λ o. MatchOption o
+        ((roots : List CidParts) → ¬ AreTexts (root_texts (map string_bytes args.now)) roots)
+        (λ p. AreTexts (root_texts (map string_bytes args.now)) p.0.items
+        × (map string_bytes p.1.now ≡ behind_roots (map string_bytes args.now)))) }
+{
+    let mut roots = Vec::new(alloc);
+    let mut rest = args;
+    while let Some((root, behind)) = root_first(rest) {
+        let Some(root) = root else {
+            return Ok(None);
+        };
+        roots.push(root)?;
+        rest = behind;
+    }
+    Ok(Some((roots, rest)))
+}
+
+/// By what `filter` is to keep sections.
+#[derive(Clone, Copy)]
+pub enum By<'a> {
+    /// By this codec.
+    Codec(u64),
+    /// By the names in this file.
+    Names(&'a str),
+}
+
+/// What `filter` is asked.
+#[derive(Drop)]
+pub struct FilterWords<'a> {
+    pub roots: Vec<Cid>,
+    pub by: By<'a>,
+    /// The file, which is standard input where none is named.
+    pub file: Option<&'a str>,
+}
+
+/// By what is to be kept, by an option and the word behind it.
+#[tactic(auto, using(crate::proofs::Wording::no_codec))]
+fn by_of<'a>(option: &str, text: &'a str) -> Option<By<'a>>
+    ensures { MatchOption result ((by : By) → ¬ IsBy option.now text.now by)
+        (IsBy option.now text.now) }
+{
+    if option == "--codec" {
+        let Some(codec) = codec_of(text) else {
+            return None;
+        };
+        return Some(By::Codec(codec));
+    }
+    if option == "--names" {
+        return Some(By::Names(text));
+    }
+    None
+}
+
+/// By what is to be kept of a file that no word names.
+#[tactic(auto, using(crate::proofs::Wording::none_alone))]
+fn by_alone<'a>(option: &str, text: &'a str) -> Option<(By<'a>, Option<&'a str>)>
+    ensures { MatchOption result ((by : By) (file : Option (List ℕ))
+        → ¬ IsByAndFile (option.now ∷ text.now ∷ []) by file)
+        (λ p. IsByAndFile (option.now ∷ text.now ∷ []) p.0 (option_map (λ s. s.now) p.1)) }
+{
+    let Some(by) = by_of(option, text) else {
+        return None;
+    };
+    Some((by, None))
+}
+
+/// By what is to be kept of the file.
+#[tactic(auto, using(crate::proofs::Wording::none_with_file))]
+fn by_with_file<'a>(option: &str, text: &'a str, file: &'a str) -> Option<(By<'a>, Option<&'a str>)>
+    ensures { MatchOption result ((by : By) (it : Option (List ℕ))
+        → ¬ IsByAndFile (option.now ∷ text.now ∷ file.now ∷ []) by it)
+        (λ p. IsByAndFile (option.now ∷ text.now ∷ file.now ∷ []) p.0
+        (option_map (λ s. s.now) p.1)) }
+{
+    let Some(by) = by_of(option, text) else {
+        return None;
+    };
+    Some((by, Some(file)))
+}
+
+/// By what is to be kept, and of which file.
+fn by_and_file(args: &[String]) -> Option<(By<'_>, Option<&str>)>
+    ensures { MatchOption result
+        ((by : By) (file : Option (List ℕ)) → ¬ IsByAndFile (map string_bytes args.now) by file)
+        (λ p. IsByAndFile (map string_bytes args.now) p.0 (option_map (λ s. s.now) p.1)) }
+{
+    match args {
+        [option, text] => by_alone(option.as_str(), text.as_str()),
+        [option, text, file] => by_with_file(option.as_str(), text.as_str(), file.as_str()),
+        _ => None,
+    }
+}
+
+/// What the words `filter [--root CID].. --codec CODEC [FILE]` and `filter [--root CID].. --names LIST
+/// [FILE]` ask.
+pub fn filter_of(alloc: Global, args: &[String]) -> Result<Option<FilterWords<'_>>, AllocError>
+    ensures { IfOk result (λ o. MatchOption o
+        ((roots : List CidParts) (by : By) (file : Option (List ℕ))
+        → ¬ IsFilter (map string_bytes args.now) roots by file)
+        (λ w. IsFilter (map string_bytes args.now) w.roots.items w.by
+        (option_map (λ s. s.now) w.file))) }
+{
+    let Some(rest) = behind_word("filter", args) else {
+        return Ok(None);
+    };
+    let Some((roots, rest)) = split_roots(alloc, rest)? else {
+        return Ok(None);
+    };
+    match by_and_file(rest) {
+        Some((by, file)) => Ok(Some(FilterWords { roots, by, file })),
+        None => Ok(None),
+    }
+}
+
+/// What the words `merge [--root CID].. FILE FILE..` ask: the roots, and the files.
+pub fn merge_of(alloc: Global, args: &[String]) -> Result<Option<(Vec<Cid>, &[String])>, AllocError>
+    ensures { IfOk result (λ o. MatchOption o
+        ((roots : List CidParts) (files : List (List ℕ))
+        → ¬ IsMerge (map string_bytes args.now) roots files)
+        (λ p. IsMerge (map string_bytes args.now) p.0.items (map string_bytes p.1.now))) }
+{
+    let Some(rest) = behind_word("merge", args) else {
+        return Ok(None);
+    };
+    match split_roots(alloc, rest)? {
+        Some((roots, files)) if files.len() >= 2 => Ok(Some((roots, files))),
+        _ => Ok(None),
+    }
+}

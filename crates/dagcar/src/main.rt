@@ -1,13 +1,29 @@
 //! The program `dagcar`: judges files of blocks (CAR, versions 1 and 2), and blocks.
 #![tactic(auto)]
 
+mod commits;
+mod events;
+mod sections;
+mod split;
+
+use crate::commits::commit_file;
+use crate::events::event_file;
+use crate::sections::{filter_file, merge_files};
+use crate::split::split_file;
+use commit_lines::commit_words_of;
 use dagcar_lines::{
-    OUT_OF_MEMORY, OneFault, USAGE, changes_of, run_changes, run_command, run_inspect, split_words,
+    Asked, OUT_OF_MEMORY, OneFault, USAGE, changes_of, run_changes, run_command, run_inspect,
+    split_words,
 };
 use dagcbor_cli::{arguments, give_up};
-use inspect_lines::{Form, Inspection, inspection_of};
+use event_lines::event_of;
+use inspect_lines::{Form, Index, Inspection, inspection_of};
 use ipld_tree::Cid;
-use named_lines::{index_of, name_of, run_get, run_index};
+use named_lines::{
+    IndexAsked, IndexWords, index_of, index_words_of, is_check, name_of, path_words_of, run_asked,
+    run_checked, run_entries, run_get, run_index, run_inspected, run_judged,
+};
+use section_lines::{filter_of, merge_of, split_of};
 use std::fs::File;
 use std::io::{BufReader, BufWriter, ErrorKind, Read, Write};
 use std::process::ExitCode;
@@ -90,6 +106,26 @@ fn index_file<V: Write>(rt: &HostRuntime, path: &str, errors: &mut V) -> io::Res
     Ok(end_output(&mut output, errors, status))
 }
 
+/// Says what the index of the file that is named holds, or what is found of it.
+fn read_index<V: Write>(rt: &HostRuntime, words: IndexWords<'_>, errors: &mut V) -> io::Result<u8> {
+    let Ok(source) = fs::open(rt, words.file) else {
+        return Ok(give_up(errors, NOT_OPENED, 2));
+    };
+    let mut output = BufWriter::new(rt.alloc(), OneFault::new(rt.stdout().lock()))?;
+    let status = match words.asked {
+        IndexAsked::Entries => run_entries(rt.alloc(), &source, &mut output, errors),
+        IndexAsked::Judgement => run_judged(rt.alloc(), &source, &mut output, errors),
+    };
+    Ok(end_output(&mut output, errors, status))
+}
+
+/// Judges the file, and its index, if it has one.
+fn check_from<V: Write>(rt: &HostRuntime, source: &File, errors: &mut V) -> io::Result<u8> {
+    let mut output = BufWriter::new(rt.alloc(), OneFault::new(rt.stdout().lock()))?;
+    let status = run_checked(rt.alloc(), source, &mut output, errors);
+    Ok(end_output(&mut output, errors, status))
+}
+
 /// Writes the block of the name, by the index of the file, if that has one.
 fn get_from<V: Write>(
     rt: &HostRuntime,
@@ -99,6 +135,20 @@ fn get_from<V: Write>(
 ) -> io::Result<u8> {
     let mut output = BufWriter::new(rt.alloc(), OneFault::new(rt.stdout().lock()))?;
     let status = run_get(rt.alloc(), name, source, &mut output, errors);
+    Ok(end_output(&mut output, errors, status))
+}
+
+/// Writes what is asked of the path in the text, from the root, by the index of the file, if that has one.
+fn ask_from<V: Write>(
+    rt: &HostRuntime,
+    asked: Asked,
+    root: &Cid,
+    text: &str,
+    source: &File,
+    errors: &mut V,
+) -> io::Result<u8> {
+    let mut output = BufWriter::new(rt.alloc(), OneFault::new(rt.stdout().lock()))?;
+    let status = run_asked(rt.alloc(), asked, root, text, source, &mut output, errors);
     Ok(end_output(&mut output, errors, status))
 }
 
@@ -117,9 +167,18 @@ fn run_file<V: Write>(
     let Ok(source) = fs::open(rt, path) else {
         return Ok(give_up(errors, NOT_OPENED, 2));
     };
+    if !has_places(&source) {
+        return run_over(rt, words, source, errors);
+    }
+    if is_check(words) {
+        return check_from(rt, &source, errors);
+    }
+    if let Some(it) = path_words_of(words) {
+        return ask_from(rt, it.asked, &it.root, it.text, &source, errors);
+    }
     match name_of(words) {
-        Some(name) if has_places(&source) => get_from(rt, &name, &source, errors),
-        _ => run_over(rt, words, source, errors),
+        Some(name) => get_from(rt, &name, &source, errors),
+        None => run_over(rt, words, source, errors),
     }
 }
 
@@ -132,7 +191,26 @@ fn inspect_over<S: Read + Drop, V: Write>(
 ) -> io::Result<u8> {
     let mut input = BufReader::new(rt.alloc(), source)?;
     let mut output = BufWriter::new(rt.alloc(), OneFault::new(rt.stdout().lock()))?;
-    let status = run_inspect(rt.alloc(), form, &mut input, &mut output, errors);
+    let status = run_inspect(
+        rt.alloc(),
+        form,
+        Index::There,
+        &mut input,
+        &mut output,
+        errors,
+    );
+    Ok(end_output(&mut output, errors, status))
+}
+
+/// Says what the file holds that is read at places, and whether its index is right.
+fn inspect_from<V: Write>(
+    rt: &HostRuntime,
+    form: Form,
+    source: &File,
+    errors: &mut V,
+) -> io::Result<u8> {
+    let mut output = BufWriter::new(rt.alloc(), OneFault::new(rt.stdout().lock()))?;
+    let status = run_inspected(rt.alloc(), form, source, &mut output, errors);
     Ok(end_output(&mut output, errors, status))
 }
 
@@ -147,6 +225,7 @@ fn inspect_file<V: Write>(
         Some(path) => path,
     };
     match fs::open(rt, path) {
+        Ok(source) if has_places(&source) => inspect_from(rt, asked.form, &source, errors),
         Ok(source) => inspect_over(rt, asked.form, source, errors),
         Err(_) => Ok(give_up(errors, NOT_OPENED, 2)),
     }
@@ -157,11 +236,29 @@ fn run_words<V: Write>(rt: &HostRuntime, args: &[String], errors: &mut V) -> io:
     if let Some((old, new)) = changes_of(args) {
         return run_files(rt, old, new, errors);
     }
+    if let Some(asked) = index_words_of(args) {
+        return read_index(rt, asked, errors);
+    }
     if let Some(path) = index_of(args) {
         return index_file(rt, path, errors);
     }
     if let Some(asked) = inspection_of(args) {
         return inspect_file(rt, asked, errors);
+    }
+    if let Some(asked) = event_of(args) {
+        return event_file(rt, asked, errors);
+    }
+    if let Some(asked) = filter_of(rt.alloc(), args)? {
+        return filter_file(rt, asked, errors);
+    }
+    if let Some((roots, files)) = merge_of(rt.alloc(), args)? {
+        return merge_files(rt, &roots, files, errors);
+    }
+    if let Some(words) = commit_words_of(args) {
+        return commit_file(rt, words, errors);
+    }
+    if let Some(asked) = split_of(rt.alloc(), args)? {
+        return split_file(rt, &asked, errors);
     }
     let (words, file) = split_words(args);
     match file {

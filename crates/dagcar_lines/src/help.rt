@@ -13,14 +13,22 @@ const HELP: &str = "usage: dagcar check [--summary] [FILE]
        dagcar ls|cat CID/PATH [FILE]
        dagcar records [FILE]
        dagcar record KEY [FILE]
+       dagcar record-proof KEY [FILE]
+       dagcar commit [FILE]
        dagcar changes OLD NEW
+       dagcar filter [--root CID].. --codec CODEC|--names LIST [FILE]
+       dagcar merge [--root CID].. FILE FILE..
+       dagcar split [--root CID].. --size BYTES FILE PREFIX
        dagcar index FILE
+       dagcar check|list --index FILE
+       dagcar event [FILE]
 
 Of a file of blocks (CAR, version 1 or 2); without FILE, or with -, standard input:
-  check    the verdict on each block, and which links lead nowhere; --summary counts them
+  check    the verdict on each block, and which links lead nowhere; --summary counts them;
+           the index of a named file is judged too, and --index judges that alone
   inspect  what it holds, in numbers; --json writes them as JSON
   verify   the verdicts alone
-  list     the roots, and the length of each block
+  list     the roots, and the length of each block; --index lists an index
   get      the block of a name
   tree     the file of the blocks that links lead to
   at       the data that a path leads to, as DAG-JSON; --raw writes its bytes
@@ -29,8 +37,16 @@ Of a file of blocks (CAR, version 1 or 2); without FILE, or with -, standard inp
   cat      the bytes of the file that it leads to
   records  the keys of a repository's records (AT Protocol), and their CIDs
   record   the record of a key, as DAG-JSON
+  record-proof  the file of the blocks that decide which record a key has, or that it has none
+  commit   what a repository's commit says
   changes  the keys whose records differ between two repositories, and their CIDs
-  index    the same file with an index, in version 2; get looks blocks up there
+  filter   the file of the blocks of a codec, or of the CIDs in a list
+  merge    one file of the blocks of several, each verified block once
+  split    files of the blocks in order, PREFIX-0.car and so on, each of at most so many bytes
+  index    the same file with an index, in version 2; get and at look blocks up there
+
+Of frames of a repository host's stream (AT Protocol), one after the other:
+  event    the commit of each, verified from its frame alone, and the changes that it makes
 
 Of a block of DAG-CBOR:
   name     its CID

@@ -7,23 +7,25 @@ ghost use Rattle.dagcbor_cli.specs.declared.fault.ToolError.{ToolError};
 ghost use Rattle.inspect_lines.specs.Inspecting.{IsInspected};
 
 use crate::command::status_of;
-use inspect_lines::{Form, write_inspected};
+use inspect_lines::{Form, Index, write_inspected};
 use std::alloc::Global;
 use std::io::{BufRead, Write};
 
-/// Says what the file holds that the input is, and answers the exit status.
+/// Says what the file holds that the input is, and this of its index if it says that it has one. Answers
+/// the exit status.
 pub fn run_inspect<R: BufRead, W: Write, V: Write>(
     alloc: Global,
     form: Form,
+    index: Index,
     input: &mut R,
     output: &mut W,
     errors: &mut V,
 ) -> u8
     ensures { IfSome (R.remaining input.old) (λ b. (ended : Result Bool ToolError)
         × (after : Option (List ℕ)) × EndsSo ended result
-        × SaysBoth (IsInspected form b) (W.contents output.old) (V.contents errors.old) ended
+        × SaysBoth (IsInspected form index b) (W.contents output.old) (V.contents errors.old) ended
         (W.contents output.new) after × (result ≢ 2 → V.contents errors.new ≡ after)) }
 {
-    let ended = write_inspected(alloc, form, input, output, errors);
+    let ended = write_inspected(alloc, form, index, input, output, errors);
     status_of(ended, errors)
 }

@@ -265,6 +265,38 @@ enum dagcbor_json_fault {
     DAGCBOR_JSON_NO_BASE64 = -52      /* the text of bytes is not base64 without padding */
 };
 
+/* Why there is no frame, or its commit is not verified: of dagcbor_event_frame and dagcbor_verify_event there. */
+enum dagcbor_event_answer {
+    DAGCBOR_VERIFIED = 0, /* `out` has a block */
+    DAGCBOR_FRAME_NO_END = -61,          /* the bytes are not two items by their heads */
+    DAGCBOR_FRAME_NO_HEADER = -62,       /* the first item is no header */
+    DAGCBOR_FRAME_OTHER_OPERATION = -63, /* the header's op is neither 1 nor -1 */
+    DAGCBOR_FRAME_NO_KIND = -64,         /* the header's op is 1, and it tells no kind */
+    DAGCBOR_FRAME_NO_BODY = -65,         /* the second item is no body of the kind */
+    DAGCBOR_NO_COMMIT_FRAME = -66,       /* the frame is of another kind than a commit */
+    DAGCBOR_NO_KNOWN = -67,              /* `root` has bytes and is no CID, or `rev` is not UTF-8; the frame was not read */
+    DAGCBOR_TOO_BIG = -68,               /* the event does not tell all */
+    DAGCBOR_REBASE = -69,                /* it tells of a rebase */
+    DAGCBOR_MANY_OPERATIONS = -70,       /* more than 200 operations */
+    DAGCBOR_MANY_BYTES = -71,            /* more than 2,000,000 bytes of blocks */
+    DAGCBOR_NOT_AFTER = -72,             /* its revision does not come after the one that is known */
+    DAGCBOR_OTHER_ROOT = -73,            /* prevData is another root than the one that is known */
+    DAGCBOR_NO_ROOT = -74,               /* it has no prevData, and no root is known */
+    DAGCBOR_OTHER_FORM = -75,            /* an operation has not the records of its action */
+    DAGCBOR_NO_CAR = -76,                /* its blocks are no file of version 1 */
+    DAGCBOR_OTHER_COMMIT = -77,          /* the first root of its blocks is not the commit */
+    DAGCBOR_NO_COMMIT = -78,             /* the commit is not among its blocks, or none */
+    DAGCBOR_OTHER_REPOSITORY = -79,      /* the commit is of another repository */
+    DAGCBOR_OTHER_REVISION = -80,        /* the commit is of another revision */
+    DAGCBOR_LEADS_ELSEWHERE = -81,       /* the operations lead from another root than the one before */
+    DAGCBOR_MISSING_NODE = -82,          /* a node of the tree is not among the blocks */
+    DAGCBOR_NODE_OTHER_BYTES = -83,      /* under the CID of a node other bytes are among them */
+    DAGCBOR_NO_NODE = -84,               /* the block of that CID is no node */
+    DAGCBOR_OTHER_TREE = -85,            /* the nodes are not those of a tree */
+    DAGCBOR_KEY_LENGTH = -86,            /* an operation has a path of no byte, or of more than 1,024 */
+    DAGCBOR_OTHER_STATE = -87            /* the tree has not what an operation leads to */
+};
+
 /* Pointers that each call takes, also where there are no bytes, or there is no room, and the pointer is NULL. So
    dagcbor_links(bytes, length, dagcbor_into(NULL, 0), 0, &needed) asks how long the links are. */
 static inline const uint8_t *dagcbor_from(const uint8_t *bytes, size_t length) {
@@ -344,6 +376,33 @@ static inline const char *dagcbor_name_of_code(int32_t code) {
     case DAGCBOR_JSON_RESERVED_KEY: return "ReservedKey";
     case DAGCBOR_JSON_NO_CID: return "NoCid";
     case DAGCBOR_JSON_NO_BASE64: return "NoBase64";
+    case DAGCBOR_FRAME_NO_END: return "NoEnd";
+    case DAGCBOR_FRAME_NO_HEADER: return "NoHeader";
+    case DAGCBOR_FRAME_OTHER_OPERATION: return "OtherOperation";
+    case DAGCBOR_FRAME_NO_KIND: return "NoKind";
+    case DAGCBOR_FRAME_NO_BODY: return "NoBody";
+    case DAGCBOR_NO_COMMIT_FRAME: return "NoCommitFrame";
+    case DAGCBOR_NO_KNOWN: return "NoKnown";
+    case DAGCBOR_TOO_BIG: return "TooBig";
+    case DAGCBOR_REBASE: return "Rebase";
+    case DAGCBOR_MANY_OPERATIONS: return "ManyOperations";
+    case DAGCBOR_MANY_BYTES: return "ManyBytes";
+    case DAGCBOR_NOT_AFTER: return "NotAfter";
+    case DAGCBOR_OTHER_ROOT: return "OtherRoot";
+    case DAGCBOR_NO_ROOT: return "NoRoot";
+    case DAGCBOR_OTHER_FORM: return "OtherForm";
+    case DAGCBOR_NO_CAR: return "NoCar";
+    case DAGCBOR_OTHER_COMMIT: return "OtherCommit";
+    case DAGCBOR_NO_COMMIT: return "NoCommit";
+    case DAGCBOR_OTHER_REPOSITORY: return "OtherRepository";
+    case DAGCBOR_OTHER_REVISION: return "OtherRevision";
+    case DAGCBOR_LEADS_ELSEWHERE: return "LeadsElsewhere";
+    case DAGCBOR_MISSING_NODE: return "MissingNode";
+    case DAGCBOR_NODE_OTHER_BYTES: return "OtherBytes";
+    case DAGCBOR_NO_NODE: return "NoNode";
+    case DAGCBOR_OTHER_TREE: return "OtherTree";
+    case DAGCBOR_KEY_LENGTH: return "KeyLength";
+    case DAGCBOR_OTHER_STATE: return "OtherState";
     default: return "none";
     }
 }

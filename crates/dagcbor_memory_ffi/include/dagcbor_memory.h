@@ -1,5 +1,5 @@
-/* What DAG-CBOR for C has that takes memory: blocks as DAG-JSON, and back; and repositories of signed records (AT
-   Protocol): what one holds, verified, or why it is none.
+/* What DAG-CBOR for C has that takes memory: blocks as DAG-JSON, and back; repositories of signed records (AT Protocol):
+   what one holds, verified, or why it is none; and the frames in which a host tells of changes, each commit verified.
 
    Link with libdagcbor_memory_ffi.a, and with functions of the heap, as callers/c/heap.c has them over malloc,
    realloc and free. It needs dagcbor.h beside it, and not the other library. A call holds what it makes of the bytes,
@@ -58,6 +58,38 @@ enum dagcbor_repository_answer {
    The signature is not checked; records need not be in the file. Else one line, in ASCII, with a line feed at its end:
    what `dagcar records` tells (docs/REPOSITORIES.md). */
 int32_t dagcbor_repository(const uint8_t *file, size_t length, uint8_t *out, size_t room, size_t *needed);
+
+/* The kinds of frames of com.atproto.sync.subscribeRepos. */
+enum dagcbor_frame_kind {
+    DAGCBOR_FRAME_COMMIT = 0,
+    DAGCBOR_FRAME_SYNC = 1,
+    DAGCBOR_FRAME_IDENTITY = 2,
+    DAGCBOR_FRAME_ACCOUNT = 3,
+    DAGCBOR_FRAME_INFO = 4,
+    DAGCBOR_FRAME_ERROR = 5, /* the host ends the stream */
+    DAGCBOR_FRAME_OTHER = 6  /* a kind of another name, whose body is any block */
+};
+
+/* The kind, from 0, exactly where a frame stands at the front of the bytes: two blocks of DAG-CBOR, a header and a body
+   that has the fields of its kind. Else, below 0, a number of dagcbor_event_answer, to DAGCBOR_FRAME_NO_BODY. Where two items
+   stand at the front by their heads, *body becomes where the second begins and *end where it ends, also where they are no
+   frame, so that the next one is found; else, of DAGCBOR_FRAME_NO_END alone, both become 0: more bytes may
+   be wanted, or a head there is none of DAG-CBOR. */
+int32_t dagcbor_event_frame(const uint8_t *bytes, size_t length, size_t *body, size_t *end);
+
+/* Of a commit in the frame at the front of the bytes, verified: DAGCBOR_VERIFIED, and a block of DAG-CBOR, the map of
+     "cid"       a link: the name of the commit
+     "before"    a link: the root of the tree before
+     "commit"    what the block of the commit has: the map of "did" and "rev", texts, "version", 3, "data", a link to the root
+                 of its tree, "prev", a link or null, and "sig", bytes: the signature, which is not checked
+     "signed"    bytes: what the signature is of, the block of the commit without it
+     "changes"   a list of lists of three, in the order of the operations: a record's key, as bytes, and links to the record
+                 before and to the record after, or null
+   What is verified docs/REPOSITORIES.md tells. It is verified against what is known of the repository: `root`, the CID of
+   its tree, and `rev`, its revision; where root_length is 0 nothing is known. Else, below 0, a number of
+   dagcbor_event_answer. Of the three of a node the answer is its CID. */
+int32_t dagcbor_verify_event(const uint8_t *bytes, size_t length, const uint8_t *root, size_t root_length,
+                             const uint8_t *rev, size_t rev_length, uint8_t *out, size_t room, size_t *needed);
 
 #ifdef __cplusplus
 }

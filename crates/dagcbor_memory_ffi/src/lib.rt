@@ -1,5 +1,5 @@
 //! What DAG-CBOR for callers in other languages has that takes memory, by the C ABI: DAG-JSON, and
-//! repositories of signed records (AT Protocol).
+//! repositories of signed records (AT Protocol) and the frames that tell of their changes.
 //!
 //! A slice crosses as a pointer and a length, and nothing is passed for a `Global`. Unlike
 //! `dagcbor_ffi` this library takes memory, by functions of the program that links it.
@@ -8,7 +8,10 @@
 
 ghost use Rattle.memory_calls.specs.Answers.{IsRepositoryAnswer};
 ghost use Rattle.memory_calls.specs.JsonAnswers.{IsToJsonAnswer, IsFromJsonAnswer};
+ghost use Rattle.event_calls.specs.Frames.{IsFrameAnswer};
+ghost use Rattle.event_calls.specs.Events.{IsEventAnswer};
 
+use event_calls::{place_frame, put_event};
 use memory_calls::{put_block, put_json, put_repo};
 use std::alloc::Global;
 
@@ -61,4 +64,40 @@ pub extern "C" fn dagcbor_repository(
     ensures { IsRepositoryAnswer file.now out.old out.new needed.new result }
 {
     put_repo(alloc, file, out, needed)
+}
+
+/// The number of the kind of the frame at the front of bytes, from 0: a frame of a host's stream
+/// (com.atproto.sync.subscribeRepos), which is two blocks, a header and a body. Below 0 the number of
+/// why there is none. Of two items `body` becomes where the second begins, and `end` where it ends,
+/// also where they are no frame; else both become 0.
+#[unsafe(no_mangle)]
+pub extern "C" fn dagcbor_event_frame(
+    alloc: Global,
+    bytes: &[u8],
+    body: &mut usize,
+    end: &mut usize,
+) -> i32
+    ensures { IsFrameAnswer bytes.now body.new end.new result }
+{
+    place_frame(alloc, bytes, body, end)
+}
+
+/// Of the frame at the front of bytes, a block that tells what is verified of its commit, from the
+/// frame alone, and against the root and the revision that are known: nothing is known where `root`
+/// has no bytes. 0 is answered; else the number of why it is not verified, below 0, and where a node
+/// is the cause, its CID. `needed` becomes its length; where `out` has room for it it is put at its
+/// front, and else `out` stays, and -21 is answered. After any other number `needed` is 0, and `out`
+/// stays.
+#[unsafe(no_mangle)]
+pub extern "C" fn dagcbor_verify_event(
+    alloc: Global,
+    bytes: &[u8],
+    root: &[u8],
+    rev: &[u8],
+    out: &mut [u8],
+    needed: &mut usize,
+) -> i32
+    ensures { IsEventAnswer bytes.now root.now rev.now out.old out.new needed.new result }
+{
+    put_event(alloc, bytes, root, rev, out, needed)
 }

@@ -307,13 +307,13 @@ fails_for_memory g old new undone = record { error = stored.OutOfMemory; tells =
 pub not_number : (e : StoreError) → TellsOfStore e refusal.NoNumber → ⊥
 not_number stored.OutOfMemory h = cc
 not_number stored.Broken (inl h) = cc
-not_number stored.Broken (inr h) = cc
+not_number stored.Broken (inr h) = h
 not_number _ h = cc
 
 not_unsound : (e : StoreError) (cause : Unsound) → TellsOfStore e (refusal.Unsound cause) → ⊥
 not_unsound stored.OutOfMemory cause h = cc
 not_unsound stored.Broken cause (inl h) = cc
-not_unsound stored.Broken cause (inr h) = cc
+not_unsound stored.Broken cause (inr h) = h
 not_unsound _ cause h = cc
 
 pub put_failed : {S : Type 0} (g : Ghosts S) (s : Section) (old new : S) (told : StoreRefusal) → FailsByStore g (IsTooLongFor (g.view old) s) old new told → PutRefused g s old new told

@@ -86,7 +86,7 @@ last_rooted old new names h = record { was_open = λ o. sym h.is_open ∙ o; com
 not_earlier : (e : StoreError) → TellsOfStore e refusal.EarlierVersion → ⊥
 not_earlier stored.OutOfMemory h = cc
 not_earlier stored.Broken (inl h) = cc
-not_earlier stored.Broken (inr h) = cc
+not_earlier stored.Broken (inr h) = h
 not_earlier _ h = cc
 
 fails_wider : {S : Type 0} (g : Ghosts S) (V : Type 0) (old new : S) (told : StoreRefusal) → FailsByStore g ⊥ old new told → FailsByStore g V old new told

@@ -123,19 +123,19 @@ module _ {S : Type 0} (g : Ghosts S) where
   pub not_damaged : (e : StoreError) (n : CidParts) → TellsOfStore e (refusal.Damaged n) → ⊥
   not_damaged stored.OutOfMemory n h = cc
   not_damaged stored.Broken n (inl h) = cc
-  not_damaged stored.Broken n (inr h) = cc
+  not_damaged stored.Broken n (inr h) = h
   not_damaged _ n h = cc
 
   pub not_unread : (e : StoreError) (n : CidParts) (verdict : Verdict) → TellsOfStore e (refusal.LinksUnread n verdict) → ⊥
   not_unread stored.OutOfMemory n v h = cc
   not_unread stored.Broken n v (inl h) = cc
-  not_unread stored.Broken n v (inr h) = cc
+  not_unread stored.Broken n v (inr h) = h
   not_unread _ n v h = cc
 
   pub not_lacking : (e : StoreError) (n : CidParts) → TellsOfStore e (refusal.NoBlock n) → ⊥
   not_lacking stored.OutOfMemory n h = cc
   not_lacking stored.Broken n (inl h) = cc
-  not_lacking stored.Broken n (inr h) = cc
+  not_lacking stored.Broken n (inr h) = h
   not_lacking _ n h = cc
 
   pub fails_walk : (old new : S) (told : StoreRefusal) → FailsByStore g ⊥ old new told → WalkRefused g old new told

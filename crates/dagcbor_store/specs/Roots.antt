@@ -86,7 +86,7 @@ pub record RootsRunOut (old now : View) (names : List CidParts) : Type 0 where
   pub same : IsSame held now
 
 -- The file is of the earlier version, there are names, and nothing is changed; the first are added,
--- and no number is left for a row of the next; or the store failed, which is told as `NotAStore`
+-- and no number is left for a row of the next; or the store failed, which is told as `BadRoot`
 -- where a row of the table is none of a root.
 abbrev pub RootsRefused : {S : Type 0} → Ghosts S → List CidParts → S → S → StoreRefusal → Type 0
 RootsRefused g names old new refusal.EarlierVersion =

@@ -1,9 +1,11 @@
 -- What a store holds, and what its calls answer.
-use Rattle.std.specs.Prelude.{◌≡◌, ◌≢◌, ◌↔◌, ◌⊎◌, ℕ, ◌≤◌, Vec, false, ℤ, List, [], ◌∷◌, ◌++◌, ⊤, Option, None, Some, Bool, IsTrue, Result, Ok, Err}
+use Rattle.std.specs.Prelude.{◌≡◌, ◌≢◌, ◌↔◌, ◌⊎◌, ℕ, ◌≤◌, Vec, false, ℤ, pos, List, [], ◌∷◌, ◌++◌, ⊤, Option, None, Some, Bool, IsTrue, Result, Ok, Err}
 use Rattle.std.specs.declared.cmp.Ordering.TheVariants.{Less}
 use Rattle.sha2.specs.Sha256.{sha256}
 use Rattle.sqlite_disk.specs.Disk.{MoreFaults}
 use Rattle.sqlite_value.specs.Order.{Row}
+use Rattle.sqlite_value.specs.declared.value.Value.{Value}
+use Rattle.sqlite_value.specs.declared.value.Value.TheVariants.{Int}
 use Rattle.sqlite_value.specs.Keys.{plain}
 use Rattle.sqlite_trees.specs.Tree.{Trees}
 use Rattle.sqlite_trees.specs.View.{View, IsClean, HasCause, Tells, doubt}
@@ -107,12 +109,23 @@ pub record IsUndone (old new : View) : Type 0 where
 
 -- ---- refusals
 
+-- the number that the value is, unless it is below 0
+abbrev pub number_in : Value → Option ℕ
+number_in (Int (pos n)) = Some n
+number_in value = None
+
+-- an entry of the index of names is told, or a row of the roots, that is none of a store's
+abbrev pub IsBadRow : StoreRefusal → Type 0
+IsBadRow (refusal.BadEntry number) = ⊤
+IsBadRow (refusal.BadRoot number) = ⊤
+IsBadRow told = ⊥
+
 -- want of memory, and a row that is too long, are told as such, and each other failure as the
--- store's; an entry or a row that is none of a store's as a file that is no store
+-- store's, or as an entry or a row that is none of a store's
 abbrev pub TellsOfStore : StoreError → StoreRefusal → Type 0
 TellsOfStore stored.OutOfMemory told = told ≡ refusal.OutOfMemory
 TellsOfStore stored.Unstorable told = told ≡ refusal.TooLong
-TellsOfStore stored.Broken told = (told ≡ refusal.Disk stored.Broken) ⊎ (told ≡ refusal.NotAStore)
+TellsOfStore stored.Broken told = (told ≡ refusal.Disk stored.Broken) ⊎ IsBadRow told
 TellsOfStore e told = told ≡ refusal.Disk e
 
 -- The store failed, by the cause that it named, and what was not committed is undone.

@@ -31,6 +31,12 @@ pub enum StoreRefusal {
     /// The block is longer than a row can be: about a billion bytes.
     #[error("the block is too long for a row")]
     TooLong,
+    /// The index of names has an entry that no store writes: the row whose number it has, if it has one.
+    #[error("the index of names has a wrong entry")]
+    BadEntry(Option<u64>),
+    /// The table of roots has a row that no store writes: its number, if it has one.
+    #[error("the table of roots has a wrong row")]
+    BadRoot(Option<u64>),
     /// The file holds no blocks, or something else.
     #[error("the file is no store of blocks")]
     NotAStore,

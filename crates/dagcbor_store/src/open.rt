@@ -1,6 +1,6 @@
 //! Opening a store.
 
-ghost use Rattle.std.specs.Prelude.{◌≡◌, ◌⊎◌, ◌↔◌, true, false, map, IsTrue, IfOk, IfErr, IfSome};
+ghost use Rattle.std.specs.Prelude.{◌≡◌, ◌⊎◌, ◌↔◌, true, false, map, IsTrue, IfOk, IfErr, IfSome, OnOk};
 ghost use Rattle.sqlite_value.specs.declared.value.Value.TheVariants.{Text};
 ghost use Rattle.sqlite_value.specs.Value.{owned};
 ghost use Rattle.sqlite_trees.specs.View.{IsClean};
@@ -18,7 +18,7 @@ ghost use Rattle.dagcbor_store.specs.Leaving.{IsStoreSchema, LeavesStore, Leaves
 ghost use Rattle.dagcbor_store.specs.Left.{store_objects, IsRowOfObject, ListsObjects, NamesSize, IsLeft, IsFresh, HoldsLeft, HasStore};
 
 use crate::error::StoreRefusal;
-use crate::store::BlockStore;
+use crate::store::{BlockStore, bad_entry, bad_root};
 use block_trees::entries::{BLOCKS, NAMES};
 use block_trees::roots::{self, ROOTS};
 use block_trees::survey::survey;
@@ -70,36 +70,40 @@ fn version_of<S: Store>(store: &S) -> Option<u32>
     }
 }
 
-/// Whether the database holds blocks and roots, and nothing else. One that was just made gets the
-/// version.
-fn check<S: Alter>(alloc: Global, store: &mut S, row: &mut Row) -> Result<bool, StoreError>
-    ensures ok { IfOk result (λ is_ours. IsClean (S.Store.view store.new) → IsTrue is_ours → IsChecked (S.Store.view store.old) (S.Store.view store.new)) }
+/// Whether the database holds blocks and roots, and nothing else; or what else it holds. One that was
+/// just made gets the version.
+fn check<S: Alter>(
+    alloc: Global,
+    store: &mut S,
+    row: &mut Row,
+) -> Result<Result<(), StoreRefusal>, StoreError>
+    ensures ok { IfOk result (λ judged. IsClean (S.Store.view store.new) → OnOk judged (IsChecked (S.Store.view store.old) (S.Store.view store.new))) }
     ensures crash { (db : _) → S.Store.recovers store.new db → S.Store.recovers store.old db ⊎ (IsClean (S.Store.view store.new) → IsTrue (S.Store.view store.old).is_open × OnlyMarks (S.Store.view store.old).trees db) }
     ensures kept { IsKeptBy S.Store store.old store.new }
 {
     let Some(version) = version_of(store) else {
-        return Ok(false);
+        return Ok(Err(StoreRefusal::NotAStore));
     };
     let Some(count) = survey(alloc, store, row)? else {
-        return Ok(false);
+        return Ok(Err(bad_entry(row)));
     };
     let Some(names) = roots::list(alloc, store, row)? else {
-        return Ok(false);
+        return Ok(Err(bad_root(row)));
     };
     match store.version() {
-        found if found == version => Ok(true),
+        found if found == version => Ok(Ok(())),
         0 if count == 0 && names.is_empty() => {
             store.set_version(version)?;
             store.commit()?;
-            Ok(true)
+            Ok(Ok(()))
         }
-        _ => Ok(false),
+        _ => Ok(Err(StoreRefusal::NotAStore)),
     }
 }
 
 impl<S: Alter + Drop> BlockStore<S> {
     /// Takes a database, and undoes what is not committed in it. One that holds no blocks, or
-    /// something else, is given back with `NotAStore`.
+    /// something else, is given back with `NotAStore`, `BadEntry` or `BadRoot`.
     pub fn over(alloc: Global, mut store: S) -> Result<BlockStore<S>, (StoreRefusal, S)>
         ensures ok { IfOk result (λ it. IsClean (S.Store.view it) → IsOpened (S.Store.view store) (S.Store.view it)) }
         ensures kept { IfOk result (IsKeptBy S.Store store) }
@@ -110,8 +114,8 @@ impl<S: Alter + Drop> BlockStore<S> {
         let mut row = Row::new(alloc);
         store.rollback();
         match check(alloc, &mut store, &mut row) {
-            Ok(true) => Ok(BlockStore::of(alloc, store, row)),
-            Ok(false) => Err((StoreRefusal::NotAStore, store)),
+            Ok(Ok(())) => Ok(BlockStore::of(alloc, store, row)),
+            Ok(Err(refusal)) => Err((refusal, store)),
             Err(error) => {
                 store.rollback();
                 Err((StoreRefusal::of_store(error), store))

@@ -7,7 +7,7 @@ ghost use Rattle.dagcbor_store.specs.Stored.{StaysSame, FailsByStore};
 ghost use Rattle.dagcbor_store.specs.Roots.{HasRoots, IsRootTaken, KeepsRoots, MayKeepRoots, AreRootsAdded, RootsRefused, HasJust, KnowsRoots, IsRootAdded, RootRefused};
 
 use crate::error::StoreRefusal;
-use crate::store::{BlockStore, disown, told, undo};
+use crate::store::{BlockStore, bad_root, disown, told, undo};
 use arrayvec::ArrayVec;
 use block_trees::roots::{self, ROOTS};
 use ipld_links::CidSet;
@@ -16,8 +16,8 @@ use sqlite_trees::store::{Shape, Store};
 use std::alloc::{AllocError, Global};
 
 impl<S: Store> BlockStore<S> {
-    /// The roots, in their order. A file of the earlier version has none. It refuses with `NotAStore`
-    /// where a row is none of a root.
+    /// The roots, in their order. A file of the earlier version has none. It refuses with `BadRoot`
+    /// where a row is none that a store writes.
     pub fn roots(&mut self) -> Result<Vec<Cid>, StoreRefusal>
         ensures ok { IfOk result (λ names. IsClean (S.Store.view self.new) → HasRoots (S.Store.view self.old) names.items) }
         ensures same { OnOk result (StaysSame S.Store self.old self.new) }
@@ -27,7 +27,7 @@ impl<S: Store> BlockStore<S> {
     {
         match roots::list(self.alloc, &mut self.store, &mut self.row) {
             Ok(Some(names)) => Ok(names),
-            Ok(None) => Err(disown(&mut self.store)),
+            Ok(None) => Err(disown(&mut self.store, bad_root(&self.row))),
             Err(error) => Err(undo(&mut self.store, error)),
         }
     }
@@ -48,7 +48,7 @@ impl<S: Store> BlockStore<S> {
     /// roots with what is committed next, where the store did not fail.
     ///
     /// A file of the earlier version keeps no roots (`EarlierVersion`). Where a row of the table is none
-    /// of a root, it refuses with `NotAStore`.
+    /// that a store writes, it refuses with `BadRoot`.
     pub fn add_roots(&mut self, names: &[Cid]) -> Result<(), StoreRefusal>
         ensures ok { OnOk result (IsClean (S.Store.view self.new) → AreRootsAdded (S.Store.view self.old) (S.Store.view self.new) names.now) }
         ensures table { OnOk result (MayKeepRoots (S.Store.view self.old) names.now) }

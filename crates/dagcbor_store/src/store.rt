@@ -2,11 +2,12 @@
 
 ghost use Rattle.std.specs.Prelude.{◌≡◌, ◌↔◌, ◌⊎◌, IsTrue, IfOk, IfErr, IfSome, OnOk, option_map, length};
 ghost use Rattle.ipld_links.specs.Sound.{IsSound};
+ghost use Rattle.sqlite_value.specs.Order.{column};
 ghost use Rattle.block_trees.specs.Ends.{Quiet};
 ghost use Rattle.block_trees.specs.Rows.{name_tree};
 ghost use Rattle.sqlite_trees.specs.View.{IsClean, IsRolledBack};
 ghost use Rattle.dagcbor_store.specs.Leaving.{StillLeavesStore};
-ghost use Rattle.dagcbor_store.specs.Stored.{IsReady, GivesNextName, bound_behind, ListsName, StaysSame, IsUndone, IsNamedBy, GetsSome, GetRefused, FailsByStore, TellsOfStore, IsCommitted, IsKeptBy, IsAdded, IsAddedTo, IsPut, IsTaken, PutRefused, AnswersVerified, IsToldAdded};
+ghost use Rattle.dagcbor_store.specs.Stored.{IsReady, GivesNextName, bound_behind, ListsName, StaysSame, IsUndone, IsNamedBy, GetsSome, GetRefused, FailsByStore, TellsOfStore, IsCommitted, IsKeptBy, IsAdded, IsAddedTo, IsPut, IsTaken, PutRefused, AnswersVerified, IsToldAdded, IsBadRow, number_in};
 
 use crate::error::StoreRefusal;
 use arrayvec::ArrayVec;
@@ -18,6 +19,7 @@ use sha2::{Digest, Sha256};
 use sqlite_trees::error::StoreError;
 use sqlite_trees::store::Store;
 use sqlite_value::row::Row;
+use sqlite_value::value::ValueRef;
 use std::alloc::Global;
 use std::marker::Model;
 
@@ -53,15 +55,40 @@ pub(crate) fn undo<S: Store>(store: &mut S, error: StoreError) -> StoreRefusal
     StoreRefusal::of_store(error)
 }
 
-/// Undoes what is not committed, where an entry or a row is none of a store's.
-pub(crate) fn disown<S: Store>(store: &mut S) -> StoreRefusal
+/// The number in a column of the row, if it has one.
+fn number_at(row: &Row, place: usize) -> Option<u64>
+    ensures { result ≡ number_in (column row.now place) }
+{
+    match row.get(place) {
+        ValueRef::Int(number) => u64::try_from(number).ok(),
+        _ => None,
+    }
+}
+
+/// What is told of an entry of the index of names that no store writes.
+pub(crate) fn bad_entry(entry: &Row) -> StoreRefusal
+    ensures { result ≡ StoreRefusal.BadEntry (number_in (column entry.now 1)) }
+{
+    StoreRefusal::BadEntry(number_at(entry, 1))
+}
+
+/// What is told of a row of the table of roots that no store writes.
+pub(crate) fn bad_root(row: &Row) -> StoreRefusal
+    ensures { result ≡ StoreRefusal.BadRoot (number_in (column row.now 0)) }
+{
+    StoreRefusal::BadRoot(number_at(row, 0))
+}
+
+/// Undoes what is not committed, where an entry or a row is none that a store writes.
+pub(crate) fn disown<S: Store>(store: &mut S, refusal: StoreRefusal) -> StoreRefusal
+    requires { IsBadRow refusal }
     ensures told { TellsOfStore StoreError.Broken result }
     ensures undone { IsRolledBack (S.Store.view store.old) (S.Store.view store.new) }
     ensures blame { S.Store.blamed store.new ≡ S.Store.blamed store.old }
     ensures quiet { Quiet S.Store store.old store.new }
 {
     store.rollback();
-    StoreRefusal::NotAStore
+    refusal
 }
 
 impl<S: Store> BlockStore<S> {
@@ -72,8 +99,8 @@ impl<S: Store> BlockStore<S> {
         BlockStore { alloc, store, row }
     }
 
-    /// How many names are listed. It walks over the index, and where an entry is none of a store's, it
-    /// refuses with `NotAStore`.
+    /// How many names are listed. It walks over the index, and where an entry is none that a store
+    /// writes, it refuses with `BadEntry`.
     pub fn len(&mut self) -> Result<u64, StoreRefusal>
         ensures ok { IfOk result (λ n. IsClean (S.Store.view self.new) → n ≡ length ((S.Store.view self.old).trees name_tree)) }
         ensures same { OnOk result (StaysSame S.Store self.old self.new) }
@@ -82,7 +109,7 @@ impl<S: Store> BlockStore<S> {
     {
         match survey(self.alloc, &mut self.store, &mut self.row) {
             Ok(Some(count)) => Ok(count),
-            Ok(None) => Err(disown(&mut self.store)),
+            Ok(None) => Err(disown(&mut self.store, bad_entry(&self.row))),
             Err(error) => Err(undo(&mut self.store, error)),
         }
     }
@@ -104,7 +131,7 @@ impl<S: Store> BlockStore<S> {
 
     /// The first of the listed names that come behind the last one, or the first of all; none behind
     /// the greatest. Names stand in the order of the bytes of their binary forms. It refuses with
-    /// `NotAStore` where that entry is none of a store's.
+    /// `BadEntry` where that entry is none that a store writes.
     pub fn next_name(&mut self, last: Option<Cid>) -> Result<Option<Cid>, StoreRefusal>
         ensures next { IfOk result (λ next. IsClean (S.Store.view self.new) → GivesNextName (S.Store.view self.old) last next) }
         ensures same { OnOk result (StaysSame S.Store self.old self.new) }
@@ -115,7 +142,7 @@ impl<S: Store> BlockStore<S> {
         match entries::first_from(&mut self.store, &mut self.row, &bound) {
             Ok(None) => Ok(None),
             Ok(Some(Ok(name))) => Ok(Some(name)),
-            Ok(Some(Err(_))) => Err(disown(&mut self.store)),
+            Ok(Some(Err(_))) => Err(disown(&mut self.store, bad_entry(&self.row))),
             Err(error) => Err(undo(&mut self.store, error)),
         }
     }

@@ -119,14 +119,14 @@ tells_no_version : (e : StoreError) → TellsOfStore e refusal.EarlierVersion �
 tells_no_version stored.OutOfMemory t = cc t
 tells_no_version stored.Unstorable t = cc t
 tells_no_version stored.Broken (inl t) = cc t
-tells_no_version stored.Broken (inr t) = cc t
+tells_no_version stored.Broken (inr t) = t
 tells_no_version e t = cc t
 
 tells_no_number : (e : StoreError) → TellsOfStore e refusal.NoNumber → ⊥
 tells_no_number stored.OutOfMemory t = cc t
 tells_no_number stored.Unstorable t = cc t
 tells_no_number stored.Broken (inl t) = cc t
-tells_no_number stored.Broken (inr t) = cc t
+tells_no_number stored.Broken (inr t) = t
 tells_no_number e t = cc t
 
 module _ {S : Type 0} (g : Ghosts S) (names : List CidParts) where

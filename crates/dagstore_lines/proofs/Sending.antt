@@ -24,18 +24,19 @@ module _ {A : Type 0} where
   told_both before after first second a b r is other h =
       subst (λ t. WritesFront before after r (codes "dagstore: " ++ t)) (ap (λ z. z ++ (b ++ 10 ∷ [])) is ∙ ap (λ z. first ++ (z ++ 10 ∷ [])) other ∙ sym (append_assoc first second (10 ∷ []))) h
 
-  pub told_place : (before after : Option (List ℕ)) (first second a b d : List ℕ) (place : ℕ) (r : Result A ToolError) → a ≡ first → b ≡ second → d ≡ decimal place
-      → WritesFront before after r ((codes "dagstore: " ++ a) ++ ((b ++ codes " at byte ") ++ (d ++ 10 ∷ []))) → WritesFront before after r (dagstore_line (first ++ (second ++ (codes " at byte " ++ decimal place))))
-  told_place before after first second a b d place r is other number h = subst (λ t. WritesFront before after r (codes "dagstore: " ++ t)) whole h
+  pub told_number : (before after : Option (List ℕ)) (first second words a b w d : List ℕ) (number : ℕ) (r : Result A ToolError) → a ≡ first → b ≡ second → w ≡ words → d ≡ decimal number
+      → WritesFront before after r ((codes "dagstore: " ++ a) ++ ((b ++ w) ++ (d ++ 10 ∷ []))) → WritesFront before after r (dagstore_line (first ++ (second ++ (words ++ decimal number))))
+  told_number before after first second words a b w d number r is other between shown h = subst (λ t. WritesFront before after r (codes "dagstore: " ++ t)) whole h
     where
       told : List ℕ
-      told = codes " at byte " ++ decimal place
+      told = words ++ decimal number
 
-      spelled : a ++ ((b ++ codes " at byte ") ++ (d ++ 10 ∷ [])) ≡ first ++ ((second ++ codes " at byte ") ++ (decimal place ++ 10 ∷ []))
-      spelled = ap (λ z. z ++ ((b ++ codes " at byte ") ++ (d ++ 10 ∷ []))) is ∙ ap (λ z. first ++ ((z ++ codes " at byte ") ++ (d ++ 10 ∷ []))) other ∙ ap (λ z. first ++ ((second ++ codes " at byte ") ++ (z ++ 10 ∷ []))) number
+      spelled : a ++ ((b ++ w) ++ (d ++ 10 ∷ [])) ≡ first ++ ((second ++ words) ++ (decimal number ++ 10 ∷ []))
+      spelled = ap (λ z. z ++ ((b ++ w) ++ (d ++ 10 ∷ []))) is ∙ ap (λ z. first ++ ((z ++ w) ++ (d ++ 10 ∷ []))) other ∙ ap (λ z. first ++ ((second ++ z) ++ (d ++ 10 ∷ []))) between
+          ∙ ap (λ z. first ++ ((second ++ words) ++ (z ++ 10 ∷ []))) shown
 
-      whole : a ++ ((b ++ codes " at byte ") ++ (d ++ 10 ∷ [])) ≡ (first ++ (second ++ told)) ++ 10 ∷ []
-      whole = spelled ∙ ap (λ z. first ++ z) (append_assoc second (codes " at byte ") (decimal place ++ 10 ∷ []) ∙ sym (append_assoc second told (10 ∷ []))) ∙ sym (append_assoc first (second ++ told) (10 ∷ []))
+      whole : a ++ ((b ++ w) ++ (d ++ 10 ∷ [])) ≡ (first ++ (second ++ told)) ++ 10 ∷ []
+      whole = spelled ∙ ap (λ z. first ++ z) (append_assoc second words (decimal number ++ 10 ∷ []) ∙ ap (λ z. second ++ z) (sym (append_assoc words (decimal number) (10 ∷ []))) ∙ sym (append_assoc second told (10 ∷ []))) ∙ sym (append_assoc first (second ++ told) (10 ∷ []))
 
 -- a line that is so broke off
 pub line_is : (IsLine : List ℕ → Type 0) (said : List ℕ) (before after : Option (List ℕ)) (e : ToolError) → IsLine said → BreaksLine (λ out. out ≡ said) before after e → BreaksLine IsLine before after e

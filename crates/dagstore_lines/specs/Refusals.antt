@@ -1,5 +1,5 @@
 -- What is told of a refusal, and the status of a run that ends so.
-use Rattle.std.specs.Prelude.{◌≡◌, ℕ, List, [], ◌∷◌, ◌++◌, codes, decimal, Bool, Option, Result, Ok, Err, if◌then◌else◌}
+use Rattle.std.specs.Prelude.{◌≡◌, ℕ, List, [], ◌∷◌, ◌++◌, codes, decimal, Bool, Option, None, Some, Result, Ok, Err, if◌then◌else◌}
 use Rattle.sqlite_trees.specs.declared.error.StoreError.{StoreError}
 use Rattle.sqlite_trees.specs.declared.error.StoreError.TheVariants as disk
 use Rattle.dagcbor_heads.specs.Written.{AppendsFront}
@@ -35,6 +35,11 @@ unsound_text (unsound.NoBlock e place) = codes "the block is no DAG-CBOR: "
 unsound_text (unsound.NoNode e) = codes "the block is no DAG-PB: "
     ++ (pb_cause_name e.cause ++ (codes " at byte " ++ decimal e.place))
 
+-- the number of a row, if it has one
+abbrev pub row_text : Option ℕ → List ℕ
+row_text None = []
+row_text (Some number) = codes " at row " ++ decimal number
+
 -- of a refusal of the store
 abbrev pub refusal_text : StoreRefusal → List ℕ
 refusal_text (refusal.Unsound e) = unsound_text e
@@ -44,6 +49,8 @@ refusal_text (refusal.LinksUnread name verdict) = codes "the links of a block ca
 refusal_text (refusal.NoBlock name) = codes "a root has no block"
 refusal_text refusal.NoNumber = codes "no number is left for a row"
 refusal_text refusal.TooLong = codes "the block is too long for a row"
+refusal_text (refusal.BadEntry row) = codes "the index of names has a wrong entry" ++ row_text row
+refusal_text (refusal.BadRoot row) = codes "the table of roots has a wrong row" ++ row_text row
 refusal_text refusal.NotAStore = codes "the file is no store of blocks"
 refusal_text refusal.EarlierVersion = codes "the file is of an earlier version, which keeps no roots: export it, and import that into a new file"
 refusal_text refusal.Locked = codes "another process has the file open"
@@ -59,6 +66,8 @@ refusal_status (refusal.LinksUnread name verdict) = 1
 refusal_status (refusal.NoBlock name) = 1
 refusal_status refusal.NoNumber = 2
 refusal_status refusal.TooLong = 1
+refusal_status (refusal.BadEntry row) = 1
+refusal_status (refusal.BadRoot row) = 1
 refusal_status refusal.NotAStore = 1
 refusal_status refusal.EarlierVersion = 1
 refusal_status refusal.Locked = 2

@@ -4,7 +4,7 @@ ghost use Rattle.std.specs.Prelude.{◌≡◌, ◌++◌, codes, decimal, MatchOp
 ghost use Rattle.cid_text.specs.Texts.{cid_text};
 ghost use Rattle.dagcbor_cli.specs.Writing.{WritesFront};
 ghost use Rattle.dagcbor_heads.specs.Written.{AppendsFront};
-ghost use Rattle.dagstore_lines.specs.Refusals.{disk_text, unsound_text, refusal_text, refusal_status, state_lines, refusal_lines, tool_text, dagstore_line, status_of, TellsRunFault};
+ghost use Rattle.dagstore_lines.specs.Refusals.{disk_text, unsound_text, row_text, refusal_text, refusal_status, state_lines, refusal_lines, tool_text, dagstore_line, status_of, TellsRunFault};
 
 use crate::fault::Fault;
 use block_lines::{pb_cause_name, verdict_words};
@@ -16,6 +16,9 @@ use ipld_tree::Cid;
 use itoa::Buffer;
 use sqlite_trees::error::StoreError;
 use std::io::Write;
+
+/// The words before the byte by which a block is none of its codec.
+const AT_BYTE: &str = " at byte ";
 
 /// What is told of a failure of the database.
 fn disk_text(error: &StoreError) -> &'static str
@@ -31,13 +34,14 @@ fn disk_text(error: &StoreError) -> &'static str
     }
 }
 
-/// What is told of a refusal: a text, the name of a variant, and the byte that is named behind them.
-type Told = (&'static str, &'static str, Option<usize>);
+/// What is told of a refusal: a text, the name of a variant, and the number after them, with the words
+/// before it.
+type Told = (&'static str, &'static str, Option<(&'static str, u64)>);
 
 /// What is told of a block that is not kept under its name.
 fn unsound_words(cause: &Unsound) -> Told
     ensures { MatchOption result.2 (result.0.now ++ result.1.now ≡ unsound_text cause.now)
-        (λ place. result.0.now ++ (result.1.now ++ (codes " at byte " ++ decimal place)) ≡ unsound_text cause.now) }
+        (λ place. result.0.now ++ (result.1.now ++ (place.0.now ++ decimal place.1)) ≡ unsound_text cause.now) }
 {
     match cause {
         Unsound::OtherHash => (
@@ -50,23 +54,34 @@ fn unsound_words(cause: &Unsound) -> Told
             (
                 "the block is no DAG-CBOR: ",
                 variant_name(error),
-                Some(*place),
+                Some((AT_BYTE, *place as u64)),
             )
         }
         Unsound::NoNode(error) => {
             (
                 "the block is no DAG-PB: ",
                 pb_cause_name(&error.cause),
-                Some(error.place),
+                Some((AT_BYTE, error.place as u64)),
             )
         }
+    }
+}
+
+/// What is told of a row of the database that no store writes.
+fn at_row(text: &'static str, row: &Option<u64>) -> Told
+    ensures { MatchOption result.2 (result.0.now ++ result.1.now ≡ text.now ++ row_text row.now)
+        (λ place. result.0.now ++ (result.1.now ++ (place.0.now ++ decimal place.1)) ≡ text.now ++ row_text row.now) }
+{
+    match row {
+        Some(number) => (text, "", Some((" at row ", *number))),
+        None => (text, "", None),
     }
 }
 
 /// What is told of a refusal of the store.
 fn refusal_words(refusal: &StoreRefusal) -> Told
     ensures { MatchOption result.2 (result.0.now ++ result.1.now ≡ refusal_text refusal.now)
-        (λ place. result.0.now ++ (result.1.now ++ (codes " at byte " ++ decimal place)) ≡ refusal_text refusal.now) }
+        (λ place. result.0.now ++ (result.1.now ++ (place.0.now ++ decimal place.1)) ≡ refusal_text refusal.now) }
 {
     match refusal {
         StoreRefusal::Unsound(cause) => unsound_words(cause),
@@ -81,6 +96,8 @@ fn refusal_words(refusal: &StoreRefusal) -> Told
         StoreRefusal::NoBlock(_) => ("a root has no block", "", None),
         StoreRefusal::NoNumber => ("no number is left for a row", "", None),
         StoreRefusal::TooLong => ("the block is too long for a row", "", None),
+        StoreRefusal::BadEntry(row) => at_row("the index of names has a wrong entry", row),
+        StoreRefusal::BadRoot(row) => at_row("the table of roots has a wrong row", row),
         StoreRefusal::NotAStore => ("the file is no store of blocks", "", None),
         StoreRefusal::EarlierVersion => (
             "the file is of an earlier version, which keeps no roots: export it, and import that into a new file",
@@ -109,6 +126,8 @@ pub fn refusal_status(refusal: &StoreRefusal) -> u8
         StoreRefusal::NoBlock(_) => 1,
         StoreRefusal::NoNumber => 2,
         StoreRefusal::TooLong => 1,
+        StoreRefusal::BadEntry(_) => 1,
+        StoreRefusal::BadRoot(_) => 1,
         StoreRefusal::NotAStore => 1,
         StoreRefusal::EarlierVersion => 1,
         StoreRefusal::Locked => 2,
@@ -146,20 +165,21 @@ pub fn write_told<W: Write>(errors: &mut W, first: &str, second: &str) -> Result
     write_both(errors, second.as_bytes(), b"\n")
 }
 
-/// Writes a line under the program's name, and the number of a byte at its end.
+/// Writes a line under the program's name, and a number at its end, with the words before it.
 fn write_told_at<W: Write>(
     errors: &mut W,
     first: &str,
     second: &str,
-    place: usize,
+    words: &str,
+    number: u64,
 ) -> Result<(), ToolError>
     ensures { WritesFront (W.contents errors.old) (W.contents errors.new) result
-        (dagstore_line (first.now ++ (second.now ++ (codes " at byte " ++ decimal place)))) }
+        (dagstore_line (first.now ++ (second.now ++ (words.now ++ decimal number)))) }
 {
     let mut digits = Buffer::new();
     write_both(errors, b"dagstore: ", first.as_bytes())?;
-    write_both(errors, second.as_bytes(), b" at byte ")?;
-    write_both(errors, digits.format(place).as_bytes(), b"\n")
+    write_both(errors, second.as_bytes(), words.as_bytes())?;
+    write_both(errors, digits.format(number).as_bytes(), b"\n")
 }
 
 /// Writes the line of a refusal of the store.
@@ -169,7 +189,7 @@ pub fn write_refusal<W: Write>(refusal: &StoreRefusal, errors: &mut W) -> Result
 {
     let (text, which, place) = refusal_words(refusal);
     match place {
-        Some(place) => write_told_at(errors, text, which, place),
+        Some((words, number)) => write_told_at(errors, text, which, words, number),
         None => write_told(errors, text, which),
     }
 }

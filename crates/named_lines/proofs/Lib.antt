@@ -1,3 +1,6 @@
 mod Apart
 mod Getting
 mod Same
+mod Indexed
+mod Asking
+mod Leading

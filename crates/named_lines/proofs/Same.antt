@@ -1,5 +1,5 @@
 -- What is got of one name is the same, whatever led to it.
-use Rattle.std.proofs.Common.{◌≡◌, ◌⊎◌, inl, inr, List, [], ℕ, sym, ◌∙◌, arith, Bool, true, false}
+use Rattle.std.proofs.Common.{◌≡◌, ◌⊎◌, inl, inr, List, [], ℕ, sym, ◌∙◌, arith, true, false}
 use Rattle.ipld_tree.specs.Cid.{CidParts}
 use Rattle.ipld_links.specs.Verdicts.{IsVerified}
 use Rattle.ipld_links.specs.Collisions.{Collides}
@@ -24,7 +24,7 @@ named_verified name b block told h = elim h [
   | inl p ↦ got_verified name b block told p.1
   | inr p ↦ elim p.1 [
     | inl found ↦ found.2
-    | inr past ↦ elim past [
+    | inr past ↦ elim past.1 [
       | inl q ↦ got_verified name b block [] q.2
       | inr q ↦ let clash : true ≡ false = q.0 in cc clash
     ]

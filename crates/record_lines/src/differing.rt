@@ -35,7 +35,7 @@ fn change_word(change: &Change) -> &'static [u8]
 }
 
 /// Appends a name behind a space, if there is one.
-fn push_name(name: &Option<Cid>, out: &mut Vec<u8>) -> Result<(), AllocError>
+pub fn push_name(name: &Option<Cid>, out: &mut Vec<u8>) -> Result<(), AllocError>
     ensures { OnOk result (out.new.items ≡ out.old.items ++ name_word name.now) }
 {
     if let Some(name) = name {

@@ -34,7 +34,7 @@ fn push_byte(byte: u8, out: &mut Vec<u8>) -> Result<(), AllocError>
 
 /// Appends a key as one word of a line: a byte that is none of 0x21 to 0x7e, or is `%`, as `%` and
 /// two digits.
-pub(crate) fn push_key(key: &[u8], out: &mut Vec<u8>) -> Result<(), AllocError>
+pub fn push_key(key: &[u8], out: &mut Vec<u8>) -> Result<(), AllocError>
     ensures { OnOk result (out.new.items ≡ out.old.items ++ key_text key.now) }
 {
     for &byte in key {
@@ -92,7 +92,7 @@ fn are_bytes(bytes: &[u8])
 }
 
 /// The key that a word names: the one whose text it is, or else the word itself.
-pub(crate) fn named_key(alloc: Global, word: &[u8]) -> Result<Vec<u8>, AllocError>
+pub fn named_key(alloc: Global, word: &[u8]) -> Result<Vec<u8>, AllocError>
     ensures { IfOk result (λ v. IsNamedBy word.now v.items) }
 {
     let key = key_of_text(alloc, word)?;

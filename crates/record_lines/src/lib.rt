@@ -9,7 +9,9 @@ mod records;
 mod repository;
 mod words;
 
-pub use differing::write_changes;
+pub use differing::{push_name, write_changes};
+pub use key::{named_key, push_key};
 pub use record::write_record;
 pub use records::write_records;
-pub use repository::read_file;
+pub use repository::{first_root, read_file};
+pub use words::{cause_text, name_fault_line, repo_line, told_alone, tree_line};

@@ -20,7 +20,7 @@ use std::io::BufRead;
 pub type RepoFound = Result<Repo, Vec<u8>>;
 
 /// The first root, or the line that tells that there is none.
-pub(crate) fn first_root(alloc: Global, roots: &[Cid]) -> Result<Result<Cid, Vec<u8>>, AllocError>
+pub fn first_root(alloc: Global, roots: &[Cid]) -> Result<Result<Cid, Vec<u8>>, AllocError>
     ensures { IfOk result (λ r. MatchResult r
         (λ root. (others : List CidParts) × (roots.now ≡ root ∷ others))
         (λ line. (roots.now ≡ []) × (line.items ≡ no_root_line))) }

@@ -23,7 +23,7 @@ pub fn told_alone(alloc: Global, line: Vec<u8>) -> Answer
 }
 
 /// A name, and what is wrong with it.
-fn name_fault_line(alloc: Global, name: &Cid, words: &[u8]) -> Result<Vec<u8>, AllocError>
+pub fn name_fault_line(alloc: Global, name: &Cid, words: &[u8]) -> Result<Vec<u8>, AllocError>
     ensures { IfOk result (λ v. v.items ≡ name_fault_line name.now words.now) }
 {
     line_of(alloc, &cid_text(name), words, b"")
@@ -63,7 +63,7 @@ fn version_line(alloc: Global, name: &Cid, version: u8) -> Result<Vec<u8>, Alloc
 }
 
 /// What tells why a block is no commit: the message, or else the name of the refusal.
-fn cause_text(cause: &DecodeError<Infallible>) -> &str
+pub fn cause_text(cause: &DecodeError<Infallible>) -> &str
     ensures { result.now ≡ cause_text cause.now }
 {
     match cause {

@@ -1,11 +1,15 @@
 mod changes;
+mod commits;
 mod dagcar;
 mod dagcbor;
 mod files;
 mod found;
+mod indexed;
 mod inspected;
 mod make;
 mod nodes;
 mod paths;
 mod proofs;
 mod records;
+mod sections;
+mod split;

@@ -57,8 +57,9 @@ const FLOAT_LINE: &[u8] =
     b"bafyreib2ir5ittexhu5d3zopo6wzsshuwi6byb3cdtp67bfopa2fkbpfcy refused Unsupported\n";
 
 const USAGE_LINE: &[u8] =
-    b"usage: dagcar check [--summary]|verify|list|name|one|show|make|get CID|tree CID\
-    |at [--raw] CID/PATH|prove CID/PATH|ls CID/PATH|cat CID/PATH|records|record KEY|changes OLD NEW|inspect [--json]|index FILE\n";
+    b"usage: dagcar check [--summary|--index]|verify|list [--index]|name|one|show|make|get CID|tree CID\
+    |at [--raw] CID/PATH|prove CID/PATH|ls CID/PATH|cat CID/PATH|records|record KEY|record-proof KEY|commit|changes OLD NEW|inspect [--json]\
+    |index FILE|filter ..|merge ..|split ..|event\n";
 
 /// The map's block.
 const MAP: &[u8] =

@@ -10,7 +10,7 @@ use Rattle.dagcbor_store.proofs.Opening.{reads_then, checked_read, marked_same, 
 use Rattle.dagcbor_store.proofs.open.check.Goals as goal
 
 pub returns-in_default-version-clause-ok : goal.returns-in_default-version-clause-ok
-returns-in_default-version-clause-ok g c clean ours =
+returns-in_default-version-clause-ok g c clean =
     let old = g.S.Store.view c.args.store.now in
     let mid = g.S.Store.view c.survey.new.store in
     let read = g.S.Store.view c.list.new.store in
@@ -21,7 +21,7 @@ returns-in_default-version-clause-ok g c clean ours =
     ((rw c.in-Some-2.is at (c.in_ok-count.ensures.ok was))).0 roots
 
 pub returns-in-0-clause-ok : goal.returns-in-0-clause-ok
-returns-in-0-clause-ok g c clean ours =
+returns-in-0-clause-ok g c clean =
     let old = g.S.Store.view c.args.store.now in
     let counted = g.S.Store.view c.survey.new.store in
     let read = g.S.Store.view c.list.new.store in

@@ -1,6 +1,6 @@
 use Rattle.std.proofs.Common.{inl, inr, refl, subst}
 use Rattle.held_lines.proofs.Known.{if_known}
-use Rattle.index_lines.specs.Finds.{IsFound}
+use Rattle.index_lines.specs.Finds.{IsFound, IsListed}
 use Rattle.index_lines.specs.Layouts.{HasIndex}
 use Rattle.named_lines.proofs.Getting.{at_known, ok_map}
 use Rattle.named_lines.proofs.get.got_by.Goals as goal
@@ -13,4 +13,6 @@ returns-in-Block g c = if_known (g.S.ReadAt.bytes c.args.source.now) (λ b known
 pub returns-in_ok-answer-in-NoEntry : goal.returns-in_ok-answer-in-NoEntry
 returns-in_ok-answer-in-NoEntry g c = if_known (g.S.ReadAt.bytes c.args.source.now) (λ b known f.
     let k = subst (IsFound (g.S.ReadAt.bytes c.args.source.now) c.args.name.now) c.in-NoEntry.is f in
-    ok_map c.past_index.result (c.past_index.ensures c.args.name.now b (at_known _ (g.S.ReadAt.bytes c.args.source.now) b known c.in_ok-answer-in-NoEntry.ensures)) (λ p h. inr (at_known HasIndex (g.S.ReadAt.bytes c.args.source.now) b known k, inr h)))
+    ok_map c.past_index.result (c.past_index.ensures c.args.name.now b (at_known _ (g.S.ReadAt.bytes c.args.source.now) b known c.in_ok-answer-in-NoEntry.ensures)) (λ p h.
+    let lists = at_known (λ b. HasIndex b × ¬ IsListed b c.args.name.now) (g.S.ReadAt.bytes c.args.source.now) b known k in
+    inr (lists.0, inr (lists.1, h))))

@@ -1,0 +1,43 @@
+//! `commit` and `record-proof`: what a repository's commit says, and the file that proves a record.
+
+use crate::{NOT_OPENED, end_output};
+use commit_lines::{CommitAsked, CommitWords};
+use dagcar_lines::OneFault;
+use dagcbor_cli::give_up;
+use named_lines::{run_commit, run_record_proof};
+use std::io::{BufReader, BufWriter, Read, Write};
+use std::{fs, io};
+
+/// Says what is asked of the source.
+fn commit_over<S: Read + Drop, V: Write>(
+    rt: &HostRuntime,
+    asked: CommitAsked<'_>,
+    source: S,
+    errors: &mut V,
+) -> io::Result<u8> {
+    let mut input = BufReader::new(rt.alloc(), source)?;
+    let mut output = BufWriter::new(rt.alloc(), OneFault::new(rt.stdout().lock()))?;
+    let status = match asked {
+        CommitAsked::Commit => run_commit(rt.alloc(), &mut input, &mut output, errors),
+        CommitAsked::Proof(key) => {
+            run_record_proof(rt.alloc(), key, &mut input, &mut output, errors)
+        }
+    };
+    Ok(end_output(&mut output, errors, status))
+}
+
+/// Says what is asked of the file that is named, or of standard input.
+pub(crate) fn commit_file<V: Write>(
+    rt: &HostRuntime,
+    words: CommitWords<'_>,
+    errors: &mut V,
+) -> io::Result<u8> {
+    let path = match words.file {
+        None | Some("-") => return commit_over(rt, words.asked, rt.reader(), errors),
+        Some(path) => path,
+    };
+    match fs::open(rt, path) {
+        Ok(source) => commit_over(rt, words.asked, source, errors),
+        Err(_) => Ok(give_up(errors, NOT_OPENED, 2)),
+    }
+}

@@ -1,0 +1,36 @@
+//! `event`: frames of a repository host's stream.
+
+use crate::{NOT_OPENED, end_output};
+use dagcar_lines::OneFault;
+use dagcbor_cli::give_up;
+use event_lines::{EventWords, run_events};
+use std::io::{BufReader, BufWriter, Read, Write};
+use std::{fs, io};
+
+/// Says what the frames of the source tell.
+fn events_over<S: Read + Drop, V: Write>(
+    rt: &HostRuntime,
+    source: S,
+    errors: &mut V,
+) -> io::Result<u8> {
+    let mut input = BufReader::new(rt.alloc(), source)?;
+    let mut output = BufWriter::new(rt.alloc(), OneFault::new(rt.stdout().lock()))?;
+    let status = run_events(rt.alloc(), &mut input, &mut output, errors);
+    Ok(end_output(&mut output, errors, status))
+}
+
+/// Says what the frames of the file that is named tell, or of standard input.
+pub(crate) fn event_file<V: Write>(
+    rt: &HostRuntime,
+    asked: EventWords<'_>,
+    errors: &mut V,
+) -> io::Result<u8> {
+    let path = match asked.file {
+        None | Some("-") => return events_over(rt, rt.reader(), errors),
+        Some(path) => path,
+    };
+    match fs::open(rt, path) {
+        Ok(source) => events_over(rt, source, errors),
+        Err(_) => Ok(give_up(errors, NOT_OPENED, 2)),
+    }
+}

@@ -1,0 +1,97 @@
+//! `filter` and `merge`: files of the sections of others.
+
+use crate::{NOT_OPENED, end_output};
+use dagcar_lines::OneFault;
+use dagcbor_cli::give_up;
+use dagcbor_heads::{Input, IoReader};
+use held_lines::input_over;
+use ipld_tree::Cid;
+use named_lines::{run_filter, run_listed, run_merged};
+use section_lines::{By, Filter, FilterWords, Kept};
+use std::fs::File;
+use std::io::{BufReader, BufWriter, Read, Write};
+use std::{fs, io};
+
+/// Writes what is kept of the source.
+fn filter_over<S: Read + Drop, V: Write>(
+    rt: &HostRuntime,
+    asked: FilterWords<'_>,
+    source: S,
+    errors: &mut V,
+) -> io::Result<u8> {
+    let mut input = BufReader::new(rt.alloc(), source)?;
+    let mut output = BufWriter::new(rt.alloc(), OneFault::new(rt.stdout().lock()))?;
+    let status = match asked.by {
+        By::Codec(codec) => {
+            let kept = Kept::Codec(codec);
+            let filter = Filter {
+                roots: asked.roots,
+                kept,
+            };
+            run_filter(rt.alloc(), &filter, &mut input, &mut output, errors)
+        }
+        By::Names(list) => {
+            let Ok(list) = fs::open(rt, list) else {
+                return Ok(give_up(errors, NOT_OPENED, 2));
+            };
+            let mut list = BufReader::new(rt.alloc(), list)?;
+            run_listed(
+                rt.alloc(),
+                asked.roots,
+                &mut list,
+                &mut input,
+                &mut output,
+                errors,
+            )
+        }
+    };
+    Ok(end_output(&mut output, errors, status))
+}
+
+/// Writes what is kept of the file that is named, or of standard input.
+pub(crate) fn filter_file<V: Write>(
+    rt: &HostRuntime,
+    asked: FilterWords<'_>,
+    errors: &mut V,
+) -> io::Result<u8> {
+    let path = match asked.file {
+        None | Some("-") => return filter_over(rt, asked, rt.reader(), errors),
+        Some(path) => path,
+    };
+    match fs::open(rt, path) {
+        Ok(source) => filter_over(rt, asked, source, errors),
+        Err(_) => Ok(give_up(errors, NOT_OPENED, 2)),
+    }
+}
+
+/// The files that are named, each from its first byte on. None where one cannot be opened.
+fn open_all<'de>(
+    rt: &HostRuntime,
+    paths: &[String],
+) -> io::Result<Option<Vec<Input<'de, IoReader<BufReader<File>>>>>> {
+    let mut inputs = Vec::new(rt.alloc());
+    for path in paths {
+        let Ok(source) = fs::open(rt, path.as_str()) else {
+            return Ok(None);
+        };
+        let input = BufReader::new(rt.alloc(), source)?;
+        inputs.reserve(1)?;
+        inputs.push_reserved(input_over(IoReader::new(input)));
+    }
+    Ok(Some(inputs))
+}
+
+/// Writes the file of the sections of the files that are named.
+pub(crate) fn merge_files<V: Write>(
+    rt: &HostRuntime,
+    roots: &[Cid],
+    paths: &[String],
+    errors: &mut V,
+) -> io::Result<u8> {
+    let Some(inputs) = open_all(rt, paths)? else {
+        return Ok(give_up(errors, NOT_OPENED, 2));
+    };
+    let mut output = BufWriter::new(rt.alloc(), OneFault::new(rt.stdout().lock()))?;
+    let status = run_merged(rt.alloc(), roots, inputs, &mut output, errors);
+    Ok(end_output(&mut output, errors, status))
+}

@@ -1,0 +1,18 @@
+-- The words that ask of the index of a file.
+use Rattle.std.specs.Prelude.{◌≡◌, ◌≢◌, ℕ, List, [], ◌∷◌, codes}
+use Rattle.dagcar_lines.specs.Commands.{IsCommand}
+use Rattle.dagcar_lines.specs.declared.command.Command.{Command}
+use Rattle.named_lines.specs.declared.index_words.IndexAsked.{IndexAsked}
+use Rattle.named_lines.specs.declared.index_words.IndexAsked.TheVariants as asks
+
+abbrev pub asked_word : IndexAsked → List ℕ
+asked_word asks.Entries = codes "list"
+asked_word asks.Judgement = codes "check"
+
+-- `list` or `check`, then `--index`, and then a file, which is not standard input
+abbrev pub AreIndexWords : List (List ℕ) → IndexAsked → List ℕ → Type 0
+AreIndexWords words asked file = (words ≡ asked_word asked ∷ codes "--index" ∷ file ∷ []) × (file ≢ codes "-")
+
+-- its words are no command
+abbrev pub IndexWordsAreNoCommand : Type 0
+IndexWordsAreNoCommand = (words : List (List ℕ)) (asked : IndexAsked) (file : List ℕ) (c : Command) → AreIndexWords words asked file → ¬ IsCommand words c

@@ -1,0 +1,99 @@
+//! `at` and `prove`: what a path leads to in a file that is read at places.
+
+ghost use Rattle.std.specs.Prelude.{◌≡◌, IfSome};
+ghost use Rattle.dagcbor_paths.specs.Paths.{segments};
+ghost use Rattle.block_lines.specs.Lines.{SaysBoth};
+ghost use Rattle.dagcar_lines.specs.Commands.{path_part};
+ghost use Rattle.dagcar_lines.specs.Paths.{IsAnswerOfFile};
+ghost use Rattle.named_lines.specs.PathAnswers.{asking, IsAnswerPast, IsAnswerNamed};
+
+use car_index::{ReadAt, buffered_from};
+use dagcar_lines::{Asked, Command, run, say_asked, split_path};
+use dagcbor_cli::{ToolError, write_all};
+use index_ways::{Gathered, gather_way};
+use ipld_tree::Cid;
+use std::alloc::Global;
+use std::io::Write;
+
+/// What is told where the index does not lead to a block on the way that the file has.
+const NO_ENTRY: &str = "dagcar: the index has no right entry of a block on the way\n";
+
+/// The command that asks this of the root.
+fn asking(asked: Asked, root: &Cid) -> Command
+    ensures { result ≡ asking asked root.now }
+{
+    match asked {
+        Asked::Data => Command::At(*root),
+        Asked::Bytes => Command::Raw(*root),
+        Asked::Proof => Command::Prove(*root),
+    }
+}
+
+/// Writes what is asked over the whole file, which is read from its first byte on.
+fn write_whole<S: ReadAt, W: Write, V: Write>(
+    alloc: Global,
+    asked: Asked,
+    root: &Cid,
+    text: &str,
+    source: &S,
+    output: &mut W,
+    errors: &mut V,
+) -> Result<bool, ToolError>
+    ensures { IfSome (S.bytes source.now) (λ b.
+        SaysBoth (IsAnswerOfFile asked root.now (segments (path_part text.now)) b)
+        (W.contents output.old) (V.contents errors.old) result (W.contents output.new)
+        (V.contents errors.new)) }
+{
+    match buffered_from(alloc, source, 0) {
+        Ok(mut input) => run(alloc, asking(asked, root), text, &mut input, output, errors),
+        Err(_) => Err(ToolError::OutOfMemory),
+    }
+}
+
+/// The same, and a line where there is what is asked, to which the index did not lead.
+fn write_past<S: ReadAt, W: Write, V: Write>(
+    alloc: Global,
+    asked: Asked,
+    root: &Cid,
+    text: &str,
+    source: &S,
+    output: &mut W,
+    errors: &mut V,
+) -> Result<bool, ToolError>
+    ensures { IfSome (S.bytes source.now) (λ b.
+        SaysBoth (IsAnswerPast asked root.now (segments (path_part text.now)) b)
+        (W.contents output.old) (V.contents errors.old) result (W.contents output.new)
+        (V.contents errors.new)) }
+{
+    let well = write_whole(alloc, asked, root, text, source, output, errors)?;
+    if well {
+        write_all(errors, NO_ENTRY.as_bytes())?;
+    }
+    Ok(well)
+}
+
+/// Writes what is asked of the path in the text, from the root, in the file that is read at places, or
+/// tells why there is none. Whether there is. The blocks on the way are looked up in the index of the
+/// file, if that has one; if the index does not lead to one of them, the file is read from its first
+/// byte on.
+pub fn write_asked_named<S: ReadAt, W: Write, V: Write>(
+    alloc: Global,
+    asked: Asked,
+    root: &Cid,
+    text: &str,
+    source: &S,
+    output: &mut W,
+    errors: &mut V,
+) -> Result<bool, ToolError>
+    ensures { IfSome (S.bytes source.now) (λ b.
+        SaysBoth (IsAnswerNamed asked root.now (segments (path_part text.now)) b)
+        (W.contents output.old) (V.contents errors.old) result (W.contents output.new)
+        (V.contents errors.new)) }
+{
+    let (_name, path) = split_path(text);
+    match gather_way(alloc, source, root, path)? {
+        Gathered::Blocks(blocks) => say_asked(alloc, asked, root, path, &blocks, output, errors),
+        Gathered::NoEntry => write_past(alloc, asked, root, text, source, output, errors),
+        Gathered::NoIndex => write_whole(alloc, asked, root, text, source, output, errors),
+    }
+}

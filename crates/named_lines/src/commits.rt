@@ -1,0 +1,47 @@
+//! The status of what is answered of a repository's commit.
+
+ghost use Rattle.std.specs.Prelude.{◌≡◌, ◌≢◌, IfSome, Result, Bool, Option, List, ℕ};
+ghost use Rattle.block_lines.specs.Lines.{SaysBoth};
+ghost use Rattle.dagcar_lines.specs.Answers.{EndsSo};
+ghost use Rattle.dagcbor_cli.specs.declared.fault.ToolError.{ToolError};
+ghost use Rattle.commit_lines.specs.Commits.{OfFile, IsCommitSaid};
+ghost use Rattle.commit_lines.specs.Proofs.{IsProofOf};
+
+use commit_lines::{write_commit, write_record_proof};
+use dagcar_lines::status_of;
+use std::alloc::Global;
+use std::io::{BufRead, Write};
+
+/// Says what the commit of the input says, and answers the exit status.
+pub fn run_commit<R: BufRead, W: Write, V: Write>(
+    alloc: Global,
+    input: &mut R,
+    output: &mut W,
+    errors: &mut V,
+) -> u8
+    ensures { IfSome (R.remaining input.old) (λ b. (ended : Result Bool ToolError)
+        × (after : Option (List ℕ)) × EndsSo ended result
+        × SaysBoth (OfFile IsCommitSaid b) (W.contents output.old) (V.contents errors.old) ended
+        (W.contents output.new) after × (result ≢ 2 → V.contents errors.new ≡ after)) }
+{
+    let ended = write_commit(alloc, input, output, errors);
+    status_of(ended, errors)
+}
+
+/// Writes the file that proves the record of the key that the word names, and answers the exit
+/// status.
+pub fn run_record_proof<R: BufRead, W: Write, V: Write>(
+    alloc: Global,
+    word: &str,
+    input: &mut R,
+    output: &mut W,
+    errors: &mut V,
+) -> u8
+    ensures { IfSome (R.remaining input.old) (λ b. (ended : Result Bool ToolError)
+        × (after : Option (List ℕ)) × EndsSo ended result
+        × SaysBoth (OfFile (IsProofOf word.now) b) (W.contents output.old) (V.contents errors.old)
+        ended (W.contents output.new) after × (result ≢ 2 → V.contents errors.new ≡ after)) }
+{
+    let ended = write_record_proof(alloc, word, input, output, errors);
+    status_of(ended, errors)
+}

@@ -1,0 +1,142 @@
+//! What is said of files that are read at places, and of their index.
+
+ghost use Rattle.std.specs.Prelude.{◌≡◌, ◌&&◌, IfSome};
+ghost use Rattle.block_lines.specs.Lines.{SaysBoth};
+ghost use Rattle.dagcar_lines.specs.Answers.{check_speech, SaysWithPlaces};
+ghost use Rattle.inspect_lines.specs.Inspecting.{IsInspected};
+ghost use Rattle.named_lines.specs.Indexes.{AreEntriesSaid, IsIndexJudged, IsIndexBeside, SaysChecked};
+ghost use Rattle.named_lines.specs.Indexes.{IsInspectedHere};
+
+use crate::answers::{beside_answer, judged_answer, listing_answer, word_of};
+use block_lines::say_both;
+use car_index::{ReadAt, buffered_from};
+use dagcar_lines::{Command, run};
+use dagcbor_cli::ToolError;
+use index_lines::{judge_index, list_index};
+use inspect_lines::{Form, Index, write_inspected};
+use std::alloc::Global;
+use std::io::Write;
+
+/// Writes the entries of the index of the file, or tells why there are none. Whether there is an index.
+pub fn write_entries<S: ReadAt, W: Write, V: Write>(
+    alloc: Global,
+    source: &S,
+    output: &mut W,
+    errors: &mut V,
+) -> Result<bool, ToolError>
+    ensures { IfSome (S.bytes source.now) (λ b.
+        SaysBoth (AreEntriesSaid b) (W.contents output.old) (V.contents errors.old) result
+        (W.contents output.new) (V.contents errors.new)) }
+{
+    let listed = list_index(alloc, source)?;
+    let (said, told) = listing_answer(alloc, listed)?;
+    say_both(said, &told, output, errors)
+}
+
+/// Writes what is found of the index of the file. Whether it is right.
+pub fn write_judged<S: ReadAt, W: Write, V: Write>(
+    alloc: Global,
+    source: &S,
+    output: &mut W,
+    errors: &mut V,
+) -> Result<bool, ToolError>
+    ensures { IfSome (S.bytes source.now) (λ b.
+        SaysBoth (IsIndexJudged b) (W.contents output.old) (V.contents errors.old) result
+        (W.contents output.new) (V.contents errors.new)) }
+{
+    let judged = judge_index(alloc, source)?;
+    let (said, told) = judged_answer(alloc, judged)?;
+    say_both(said, &told, output, errors)
+}
+
+/// Says what `check` says of any file.
+fn write_verdicts<S: ReadAt, W: Write, V: Write>(
+    alloc: Global,
+    source: &S,
+    output: &mut W,
+    errors: &mut V,
+) -> Result<bool, ToolError>
+    ensures { IfSome (S.bytes source.now) (λ b. SaysWithPlaces check_speech b
+        (W.contents output.old) (V.contents errors.old) result (W.contents output.new)
+        (V.contents errors.new)) }
+{
+    match buffered_from(alloc, source, 0) {
+        Ok(mut input) => run(alloc, Command::Check, "", &mut input, output, errors),
+        Err(_) => Err(ToolError::OutOfMemory),
+    }
+}
+
+/// Writes what is found of the index of the file, if it has one. Whether that is right.
+fn write_beside<S: ReadAt, W: Write, V: Write>(
+    alloc: Global,
+    source: &S,
+    output: &mut W,
+    errors: &mut V,
+) -> Result<bool, ToolError>
+    ensures { IfSome (S.bytes source.now) (λ b.
+        SaysBoth (IsIndexBeside b) (W.contents output.old) (V.contents errors.old) result
+        (W.contents output.new) (V.contents errors.new)) }
+{
+    let judged = judge_index(alloc, source)?;
+    let (said, told) = beside_answer(alloc, judged)?;
+    say_both(said, &told, output, errors)
+}
+
+/// Whether both are so.
+fn both(first: bool, second: bool) -> bool
+    ensures { result ≡ (first && second) }
+{
+    first && second
+}
+
+/// Says what `check` says of any file, and then what is found of its index, if it has one. Whether nothing
+/// is wrong.
+pub fn write_checked<S: ReadAt, W: Write, V: Write>(
+    alloc: Global,
+    source: &S,
+    output: &mut W,
+    errors: &mut V,
+) -> Result<bool, ToolError>
+    ensures { IfSome (S.bytes source.now) (λ b. SaysChecked b (W.contents output.old)
+        (V.contents errors.old) result (W.contents output.new) (V.contents errors.new)) }
+{
+    let well = write_verdicts(alloc, source, output, errors)?;
+    let right = write_beside(alloc, source, output, errors)?;
+    Ok(both(well, right))
+}
+
+/// Says what the file holds, and this of its index.
+fn write_with<S: ReadAt, W: Write, V: Write>(
+    alloc: Global,
+    form: Form,
+    index: Index,
+    source: &S,
+    output: &mut W,
+    errors: &mut V,
+) -> Result<bool, ToolError>
+    ensures { IfSome (S.bytes source.now) (λ b.
+        SaysBoth (IsInspected form index b) (W.contents output.old) (V.contents errors.old) result
+        (W.contents output.new) (V.contents errors.new)) }
+{
+    match buffered_from(alloc, source, 0) {
+        Ok(mut input) => write_inspected(alloc, form, index, &mut input, output, errors),
+        Err(_) => Err(ToolError::OutOfMemory),
+    }
+}
+
+/// Says what the file holds, in this form, and whether its index is right. It is read once for the index, and
+/// once more.
+pub fn write_inspected_here<S: ReadAt, W: Write, V: Write>(
+    alloc: Global,
+    form: Form,
+    source: &S,
+    output: &mut W,
+    errors: &mut V,
+) -> Result<bool, ToolError>
+    ensures { IfSome (S.bytes source.now) (λ b.
+        SaysBoth (IsInspectedHere form b) (W.contents output.old) (V.contents errors.old) result
+        (W.contents output.new) (V.contents errors.new)) }
+{
+    let judged = judge_index(alloc, source)?;
+    write_with(alloc, form, word_of(&judged), source, output, errors)
+}

@@ -1,0 +1,100 @@
+//! The words that ask for what a path leads to, and the status of what is answered.
+
+ghost use Rattle.std.specs.Prelude.{◌≡◌, ◌≢◌, [], ◌∷◌, map, string_bytes, IfSome, MatchOption, Result, Bool, Option, List, ℕ};
+ghost use Rattle.cid_text.specs.Texts.{IsTextOf};
+ghost use Rattle.dagcbor_paths.specs.Paths.{segments};
+ghost use Rattle.block_lines.specs.Lines.{SaysBoth};
+ghost use Rattle.dagcar_lines.specs.Answers.{EndsSo};
+ghost use Rattle.dagcar_lines.specs.Commands.{IsCommand, name_part, path_part, text_of};
+ghost use Rattle.dagcar_lines.specs.declared.at.Asked.{Asked};
+ghost use Rattle.dagcbor_cli.specs.declared.fault.ToolError.{ToolError};
+ghost use Rattle.ipld_tree.specs.Cid.{CidParts};
+ghost use Rattle.named_lines.specs.PathAnswers.{asking, IsAnswerNamed};
+
+use crate::at::write_asked_named;
+use car_index::ReadAt;
+use cid_text::cid_from_text;
+use dagcar_lines::{Asked, split_path, status_of};
+use ipld_tree::Cid;
+use std::alloc::Global;
+use std::io::Write;
+
+/// What is asked of which root, and the text that has the path behind it.
+#[derive(Clone, Copy)]
+pub struct PathWords<'a> {
+    pub asked: Asked,
+    pub root: Cid,
+    pub text: &'a str,
+}
+
+/// What is asked of the root in the text.
+fn asked_on<'a>(asked: Asked, text: &'a str) -> Option<PathWords<'a>>
+    ensures { MatchOption result ((n : CidParts) → ¬ IsTextOf (name_part text.now) n)
+        (λ it. (it.asked ≡ asked) × IsTextOf (name_part text.now) it.root
+        × (it.text.now ≡ text.now)) }
+{
+    let (name, _path) = split_path(text);
+    let root = cid_from_text(name.as_bytes()).ok()?;
+    Some(PathWords { asked, root, text })
+}
+
+/// What the word asks of the text behind it.
+fn of_two<'a>(word: &str, text: &'a str) -> Option<PathWords<'a>>
+    ensures { MatchOption result ((asked : Asked) (n : CidParts)
+        → ¬ IsCommand (word.now ∷ text.now ∷ []) (asking asked n))
+        (λ it. IsCommand (word.now ∷ text.now ∷ []) (asking it.asked it.root)
+        × (it.text.now ≡ text.now)) }
+{
+    match word {
+        "at" => asked_on(Asked::Data, text),
+        "prove" => asked_on(Asked::Proof, text),
+        _ => None,
+    }
+}
+
+/// What the word asks of the text behind it, with this option.
+fn of_three<'a>(word: &str, option: &str, text: &'a str) -> Option<PathWords<'a>>
+    ensures { MatchOption result ((asked : Asked) (n : CidParts)
+        → ¬ IsCommand (word.now ∷ option.now ∷ text.now ∷ []) (asking asked n))
+        (λ it. IsCommand (word.now ∷ option.now ∷ text.now ∷ []) (asking it.asked it.root)
+        × (it.text.now ≡ text.now)) }
+{
+    if word != "at" || option != "--raw" {
+        return None;
+    }
+    asked_on(Asked::Bytes, text)
+}
+
+/// What the words `at CID/PATH`, `at --raw CID/PATH` or `prove CID/PATH` ask.
+pub fn path_words_of(args: &[String]) -> Option<PathWords<'_>>
+    ensures { MatchOption result ((asked : Asked) (n : CidParts)
+        → ¬ IsCommand (map string_bytes args.now) (asking asked n))
+        (λ it. IsCommand (map string_bytes args.now) (asking it.asked it.root)
+        × (it.text.now ≡ text_of (map string_bytes args.now))) }
+{
+    match args {
+        [word, text] => of_two(word.as_str(), text.as_str()),
+        [word, option, text] => of_three(word.as_str(), option.as_str(), text.as_str()),
+        _ => None,
+    }
+}
+
+/// Writes what is asked of the path in the text, from the root, and answers the exit status.
+pub fn run_asked<S: ReadAt, W: Write, V: Write>(
+    alloc: Global,
+    asked: Asked,
+    root: &Cid,
+    text: &str,
+    source: &S,
+    output: &mut W,
+    errors: &mut V,
+) -> u8
+    ensures { IfSome (S.bytes source.now) (λ b. (ended : Result Bool ToolError)
+        × (after : Option (List ℕ)) × EndsSo ended result
+        × SaysBoth (IsAnswerNamed asked root.now (segments (path_part text.now)) b)
+        (W.contents output.old) (V.contents errors.old) ended (W.contents output.new) after
+        × (result ≢ 2 → V.contents errors.new ≡ after)) }
+{
+    let ended = write_asked_named(alloc, asked, root, text, source, output, errors);
+    status_of(ended, errors)
+}

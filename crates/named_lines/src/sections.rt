@@ -1,0 +1,100 @@
+//! The status of what is answered of files that are made of sections of others.
+
+ghost use Rattle.std.specs.Prelude.{◌≡◌, ◌≢◌, map, IfSome, IsOk, Result, Bool, Option, List, ℕ};
+ghost use Rattle.dagcar_lines.specs.Answers.{EndsSo};
+ghost use Rattle.dagcbor_cli.specs.declared.fault.ToolError.{ToolError};
+ghost use Rattle.section_lines.specs.Sending.{SaysSent};
+ghost use Rattle.section_lines.specs.Filtering.{IsFiltered, IsFilteredFront};
+ghost use Rattle.dagcbor_heads.specs.Inputs.{input_reading};
+ghost use Rattle.section_lines.specs.Merging.{IsMergedOf, IsMergedFront};
+ghost use Rattle.section_lines.specs.MergeSteps.{AreLeft};
+ghost use Rattle.section_lines.specs.Lists.{IsFilteredByList, IsFilteredByListFront};
+ghost use Rattle.section_lines.specs.Splitting.{Splits, making};
+ghost use Rattle.section_lines.specs.declared.split.SplitEnd.{SplitEnd};
+ghost use Rattle.named_lines.specs.Splits.{SplitEndsSo};
+
+use dagcar_lines::status_of;
+use dagcbor_heads::{Input, Read};
+use ipld_tree::Cid;
+use section_lines::{
+    Filter, NewFiles, Split, SplitEnd, write_filtered, write_listed, write_merged, write_split,
+};
+use std::alloc::Global;
+use std::io::{BufRead, Write};
+
+/// Writes the file of the sections that are kept, and answers the exit status.
+pub fn run_filter<R: BufRead, W: Write, V: Write>(
+    alloc: Global,
+    filter: &Filter,
+    input: &mut R,
+    output: &mut W,
+    errors: &mut V,
+) -> u8
+    ensures { IfSome (R.remaining input.old) (λ b. (ended : Result Bool ToolError)
+        × (after : Option (List ℕ)) × EndsSo ended result
+        × SaysSent (IsFilteredFront filter.now b) (IsFiltered filter.now b)
+        (W.contents output.old) (V.contents errors.old) ended (W.contents output.new) after
+        × (result ≢ 2 → V.contents errors.new ≡ after)) }
+{
+    let ended = write_filtered(alloc, filter, input, output, errors);
+    status_of(ended, errors)
+}
+
+/// Writes the file of the sections of the names in the list, and answers the exit status.
+pub fn run_listed<L: BufRead, R: BufRead, W: Write, V: Write>(
+    alloc: Global,
+    roots: Vec<Cid>,
+    list: &mut L,
+    input: &mut R,
+    output: &mut W,
+    errors: &mut V,
+) -> u8
+    ensures { IfSome (L.remaining list.old) (λ text. IfSome (R.remaining input.old) (λ b.
+        (ended : Result Bool ToolError) × (after : Option (List ℕ)) × EndsSo ended result
+        × SaysSent (IsFilteredByListFront roots.items text b)
+        (IsFilteredByList roots.items text b) (W.contents output.old) (V.contents errors.old)
+        ended (W.contents output.new) after × (result ≢ 2 → V.contents errors.new ≡ after))) }
+{
+    let ended = write_listed(alloc, roots, list, input, output, errors);
+    status_of(ended, errors)
+}
+
+/// Writes the file of the sections of these files, and answers the exit status.
+pub fn run_merged<'de, R: Read, W: Write, V: Write>(
+    alloc: Global,
+    given: &[Cid],
+    inputs: Vec<Input<'de, R>>,
+    output: &mut W,
+    errors: &mut V,
+) -> u8
+    ensures { (bs : List (List ℕ)) → AreLeft (map (input_reading R.reading) inputs.entry.items) bs
+        → (ended : Result Bool ToolError) × (after : Option (List ℕ)) × EndsSo ended result
+        × SaysSent (IsMergedFront given.now bs) (IsMergedOf given.now bs) (W.contents output.old)
+        (V.contents errors.old) ended (W.contents output.new) after
+        × (result ≢ 2 → V.contents errors.new ≡ after) }
+{
+    let ended = write_merged(alloc, given, inputs, output, errors);
+    status_of(ended, errors)
+}
+
+/// Makes the files of the parts of a file, and answers the exit status. That is 2 where there is a file
+/// of the name of a part.
+pub fn run_split<R: BufRead, N: NewFiles, V: Write>(
+    alloc: Global,
+    asked: &Split<'_>,
+    input: &mut R,
+    files: &mut N,
+    errors: &mut V,
+) -> u8
+    ensures { IfSome (R.remaining input.old) (λ b. (ended : Result SplitEnd ToolError)
+        × (after : Option (List ℕ)) × SplitEndsSo ended result
+        × Splits asked.now b (making (N.whole files.old) (N.whole files.new) (N.has files.new))
+        (V.contents errors.old) ended after × (IsOk ended → V.contents errors.new ≡ after)) }
+{
+    match write_split(alloc, asked, input, files, errors) {
+        Ok(SplitEnd::Whole) => 0,
+        Ok(SplitEnd::Fault) => 1,
+        Ok(SplitEnd::Exists) => 2,
+        Err(fault) => status_of(Err(fault), errors),
+    }
+}

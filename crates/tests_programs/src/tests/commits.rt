@@ -1,0 +1,104 @@
+//! `commit` and `record-proof`: what a repository's commit says, and the file that proves a record.
+//! Which nodes are on the way to a key is told by another program.
+
+use crate::tests::dagcar::owned_words;
+use crate::tests::records::{
+    COMMIT, HEADER, LAST_MISSING, LAST_WORD, NO_ROOT, NO_ROOT_TOLD, NODES, RECORD_TOLD, RECORDS,
+    TURNED_ROOTS, TWO_ROOTS, file_of,
+};
+use commit_lines::{CommitAsked, commit_words_of};
+use named_lines::{run_commit, run_record_proof};
+use std::alloc::Global;
+use std::test::Fail;
+use tests_shared::{agree, joined};
+
+/// What the commit says.
+const SAID: &[u8] =
+    b"commit bafyreib55bymvenkcvnnrc2nukj7esprfjw5lmgykaodqtl7nerzdfoy3m\ndid did:plc:abc\nrev 3jzfcijpj2z2a\ndata bafyreiddco3ofkthgxkialw4g5zmiq4i72pb2mir7ked7nh5fu3b6nx4zi\nprev none\n";
+
+/// Fails where the words say something else of the file.
+fn says(
+    alloc: Global,
+    words: &[&str],
+    file: &[u8],
+    wanted: (u8, &[u8], &[u8]),
+) -> Result<(), Fail> {
+    let args = owned_words(alloc, words)?;
+    let Some(words) = commit_words_of(&args) else {
+        return Err(Fail::new("the words ask for nothing"));
+    };
+    let (mut output, mut errors) = (Vec::new(alloc), Vec::new(alloc));
+    let mut input = file;
+    let status = match words.asked {
+        CommitAsked::Commit => run_commit(alloc, &mut input, &mut output, &mut errors),
+        CommitAsked::Proof(key) => {
+            run_record_proof(alloc, key, &mut input, &mut output, &mut errors)
+        }
+    };
+    agree((status, output.as_slice(), errors.as_slice()), wanted)
+}
+
+#[test]
+fn a_commit_says_who_signs_what(rt: HostRuntime) -> Result<(), Fail> {
+    let alloc = rt.alloc();
+    let alone = joined(alloc, &[HEADER, COMMIT])?;
+    says(alloc, &["commit"], &alone, (0, SAID, b""))?;
+    let file = file_of(alloc, TWO_ROOTS, NODES, RECORDS)?;
+    says(alloc, &["commit", "FILE"], &file, (0, SAID, b""))?;
+    let file = file_of(alloc, TURNED_ROOTS, NODES, RECORDS)?;
+    says(alloc, &["commit"], &file, (1, b"", RECORD_TOLD))?;
+    says(alloc, &["commit"], NO_ROOT, (1, b"", NO_ROOT_TOLD))
+}
+
+/// Keys, which of the nodes are on the way to each, from the root on, and which of the records it has.
+const WAYS: &[(&str, &[usize], Option<usize>)] = &[
+    ("com.example.note/0", &[4], Some(0)),
+    ("com.example.note/1", &[4, 3, 0], Some(1)),
+    ("com.example.note/2", &[4, 3, 0], None),
+    ("com.example.note/3", &[4, 3], Some(2)),
+    ("com.example.note/4", &[4, 3, 1], Some(3)),
+    ("com.example.note/5", &[4, 3], Some(4)),
+];
+
+/// The section of this number.
+fn part(sections: &[&'static [u8]], number: usize) -> Result<&'static [u8], Fail> {
+    match sections.get(number) {
+        Some(section) => Ok(*section),
+        None => Err(Fail::new("no such section")),
+    }
+}
+
+#[test]
+fn a_record_is_proved_by_the_blocks_on_its_way(rt: HostRuntime) -> Result<(), Fail> {
+    let alloc = rt.alloc();
+    let file = file_of(alloc, HEADER, NODES, RECORDS)?;
+    for &(key, way, record) in WAYS {
+        let mut wanted = joined(alloc, &[HEADER, COMMIT])?;
+        for &node in way {
+            wanted.extend_from_slice(part(NODES, node)?)?;
+        }
+        if let Some(record) = record {
+            wanted.extend_from_slice(part(RECORDS, record)?)?;
+        }
+        let words = ["record-proof", key];
+        says(alloc, &words, &file, (0, wanted.as_slice(), b""))?;
+        // The proof proves itself.
+        says(alloc, &words, &wanted, (0, wanted.as_slice(), b""))?;
+    }
+    let words = ["record-proof", LAST_WORD, "FILE"];
+    says(alloc, &words, &file, (1, b"", LAST_MISSING))
+}
+
+#[test]
+fn other_words_ask_for_no_commit(rt: HostRuntime) -> Result<(), Fail> {
+    let alloc = rt.alloc();
+    for words in [
+        &["commits"][..],
+        &["record-proof"][..],
+        &["commit", "FILE", "FILE"][..],
+        &["record-proof", "KEY", "FILE", "FILE"][..],
+    ] {
+        agree(commit_words_of(&owned_words(alloc, words)?).is_none(), true)?;
+    }
+    Ok(())
+}

@@ -1,10 +1,10 @@
 /* Makes each call that takes memory with the heap of faults/heap.c, where each allocation in turn is refused: memory is
  * wanted then, and nothing is written.
 
-     memory FILE
+     memory FILE [FRAME]
 
-   It reads a repository, and where that is one, the block that tells of it goes to DAG-JSON and back. It prints how many
-   allocations each call made. */
+   It verifies the commit of the frame, and reads a repository. Where that is one, the block that tells
+   of it goes to DAG-JSON and back. It prints how many allocations each call made. */
 #undef NDEBUG
 #include "dagcbor_memory.h"
 #include <assert.h>
@@ -24,6 +24,17 @@ static int32_t from_json(const uint8_t *text, size_t length, uint8_t *out, size_
     int32_t code = dagcbor_from_json(text, length, out, room, needed, &place);
     assert(place == (code == DAGCBOR_NO_MEMORY ? 0 : length));
     return code;
+}
+
+static int32_t verified(const uint8_t *frame, size_t length, uint8_t *out, size_t room,
+                        size_t *needed) {
+    const uint8_t *nothing = dagcbor_from(NULL, 0);
+    size_t body, end;
+    int32_t kind = dagcbor_event_frame(frame, length, &body, &end);
+    assert(0 < body && body < end && end == length);
+    *needed = 0;
+    if (kind != DAGCBOR_FRAME_COMMIT) return kind;
+    return dagcbor_verify_event(frame, length, nothing, 0, nothing, 0, out, room, needed);
 }
 
 /* The answer of the call, and how long it is, which it is again once no allocation is left to refuse. */
@@ -47,12 +58,23 @@ static int32_t answer_of(Call *call, const uint8_t *given, size_t length, uint8_
     }
 }
 
+static size_t bytes_of(const char *path, uint8_t bytes[MOST]) {
+    FILE *from = fopen(path, "rb");
+    assert(from);
+    size_t length = fread(bytes, 1, MOST, from);
+    assert(feof(from) && fclose(from) == 0);
+    return length;
+}
+
 int main(int count, char **paths) {
     static uint8_t file[MOST], block[MOST], text[MOST], back[MOST];
-    FILE *from = count == 2 ? fopen(paths[1], "rb") : NULL;
-    assert(from);
-    size_t length = fread(file, 1, MOST, from), needed, size, again;
-    assert(feof(from) && fclose(from) == 0);
+    assert(count == 2 || count == 3);
+    size_t needed, size, again;
+    if (count == 3) {
+        size_t length = bytes_of(paths[2], file);
+        assert(answer_of(verified, file, length, block, &needed) == DAGCBOR_VERIFIED && needed);
+    }
+    size_t length = bytes_of(paths[1], file);
     if (answer_of(dagcbor_repository, file, length, block, &needed) != DAGCBOR_REPOSITORY) return 0;
     assert(answer_of(dagcbor_to_json, block, needed, text, &size) == DAGCBOR_MAP);
     assert(answer_of(from_json, text, size, back, &again) == DAGCBOR_MAP);

@@ -54,6 +54,34 @@ static inline const char *reason_of_code(int32_t code) {
     case DAGCBOR_JSON_RESERVED_KEY: return "a map with the key / is neither a link nor bytes";
     case DAGCBOR_JSON_NO_CID: return "the text of a link is that of no CID";
     case DAGCBOR_JSON_NO_BASE64: return "the text of bytes is not base64 without padding";
+    case DAGCBOR_FRAME_NO_END: return "the bytes are not two items";
+    case DAGCBOR_FRAME_NO_HEADER: return "the first item is no header of a frame";
+    case DAGCBOR_FRAME_OTHER_OPERATION: return "the operation of the header is neither 1 nor -1";
+    case DAGCBOR_FRAME_NO_KIND: return "the header tells no kind";
+    case DAGCBOR_FRAME_NO_BODY:
+        return "the second item is no body of the kind that the header tells";
+    case DAGCBOR_NO_COMMIT_FRAME: return "the frame is of another kind than a commit";
+    case DAGCBOR_NO_KNOWN: return "the root that is known is no CID, or the revision no text";
+    case DAGCBOR_TOO_BIG: return "the event does not tell all: tooBig";
+    case DAGCBOR_REBASE: return "the event tells of a rebase";
+    case DAGCBOR_MANY_OPERATIONS: return "the event has more than 200 operations";
+    case DAGCBOR_MANY_BYTES: return "the event has more than 2,000,000 bytes of blocks";
+    case DAGCBOR_NOT_AFTER: return "the revision does not come after the one that is known";
+    case DAGCBOR_OTHER_ROOT: return "prevData is another root than the one that is known";
+    case DAGCBOR_NO_ROOT: return "the event has no prevData, and no root is known";
+    case DAGCBOR_OTHER_FORM: return "an operation lacks a record of its action, or has one more";
+    case DAGCBOR_NO_CAR: return "the blocks are no CAR file of version 1";
+    case DAGCBOR_OTHER_COMMIT: return "the first root of the blocks is not the commit";
+    case DAGCBOR_NO_COMMIT: return "the commit is not read";
+    case DAGCBOR_OTHER_REPOSITORY: return "the commit is of another repository";
+    case DAGCBOR_OTHER_REVISION: return "the commit is of another revision";
+    case DAGCBOR_LEADS_ELSEWHERE: return "the operations lead from another root";
+    case DAGCBOR_MISSING_NODE: return "a node of the tree is missing";
+    case DAGCBOR_NODE_OTHER_BYTES: return "under the name of a node other bytes are stored";
+    case DAGCBOR_NO_NODE: return "a block is no node";
+    case DAGCBOR_OTHER_TREE: return "the nodes are not those of a tree";
+    case DAGCBOR_KEY_LENGTH: return "a key has no byte, or more than 1024";
+    case DAGCBOR_OTHER_STATE: return "the tree has not what an operation leads to";
     default: return "no reason is known";
     }
 }

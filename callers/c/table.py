@@ -8,7 +8,7 @@ import tempfile
 sys.dont_write_bytecode = True
 sys.path.insert(0, os.path.join(os.path.dirname(os.path.abspath(__file__)), "../../faults"))
 
-from cars import text_of
+from car_bytes import text_of
 
 TABLE = os.path.join(os.path.dirname(os.path.abspath(__file__)), "../tables/files.txt")
 

@@ -1,17 +1,19 @@
 // Builds the addon, out/dagcbor.node, with the proved library inside. The library is that of the
 // environment variable DAGCBOR_LIBRARY; else that which a release has in lib/, and include/; else
 // that of this repository, which is proved and built first where it is not there and `rt` is. Where
-// DAGCBOR_MODULE names a WebAssembly module that is put there, in the place of the addon.
+// DAGCBOR_MODULE names a WebAssembly module that is put there, in the place of the addon. Beside it
+// goes the program of stores, where it is: that of DAGSTORE, of a release, or of this repository.
 'use strict';
 const { execFileSync } = require('child_process');
-const { copyFileSync, existsSync, mkdirSync, realpathSync, rmSync } = require('fs');
+const { chmodSync, copyFileSync, existsSync, mkdirSync, realpathSync, rmSync } = require('fs');
 const { dirname, join } = require('path');
 
 const crate = join(__dirname, '../../crates/dagcbor_ffi');
+const machine = { x64: 'x86_64', arm64: 'aarch64' }[process.arch] ?? process.arch;
+const carriedOf = (name) => join(__dirname, 'lib', machine, name);
 
 const library = () => {
-  const machine = { x64: 'x86_64', arm64: 'aarch64' }[process.arch] ?? process.arch;
-  const carried = join(__dirname, 'lib', machine, 'libdagcbor_ffi.a');
+  const carried = carriedOf('libdagcbor_ffi.a');
   const own = existsSync(carried) ? carried : join(crate, 'out/libdagcbor_ffi.a');
   const path = process.env.DAGCBOR_LIBRARY ?? own;
   if (!existsSync(path) && !process.env.DAGCBOR_LIBRARY) {
@@ -54,9 +56,19 @@ const build = () => {
   }
 };
 
+const putProgram = () => {
+  const built = join(crate, '../dagstore/out/dagstore');
+  const places = [process.env.DAGSTORE, carriedOf('dagstore'), built];
+  const found = places.find((it) => it && existsSync(it));
+  if (!found) return;
+  copyFileSync(found, out('dagstore'));
+  chmodSync(out('dagstore'), 0o755);
+};
+
 mkdirSync(join(__dirname, 'out'), { recursive: true });
-for (const it of ['dagcbor.node', 'dagcbor.wasm']) rmSync(out(it), { force: true });
+for (const it of ['dagcbor.node', 'dagcbor.wasm', 'dagstore']) rmSync(out(it), { force: true });
 try {
+  putProgram();
   if (process.env.DAGCBOR_MODULE) copyFileSync(process.env.DAGCBOR_MODULE, out('dagcbor.wasm'));
   else build();
 } catch (e) {

@@ -4,12 +4,16 @@ The libraries are those of the environment variables DAGCBOR_LIBRARY and DAGCBOR
 those that a release has in lib/ and include/; else those of this repository, which are proved and
 built first where they are not there and the toolchain's `rt` is.
 
+A wheel says which glibc it needs (manylinux): the newest of which a library or the program in it has
+a symbol.
+
 The program `dagstore` goes beside the modules: the one of the environment variable DAGSTORE, else one
 that a release has in lib/, else one that is built in this repository. Without one, a store wants it
 to be named."""
 
 import os
 import platform
+import re
 import shutil
 import subprocess
 import sys
@@ -26,10 +30,10 @@ CRATES = os.path.join(os.path.dirname(CALLERS), "crates")
 CRATE_NAMES = ("dagcbor_ffi", "dagcbor_memory_ffi")
 
 
-def demand_wheel():
-    """Refuses a setuptools that makes no wheels, before anything is proved for one."""
+def wheel_command():
+    """The command that makes wheels. A setuptools that makes none is refused, before anything is proved for one."""
     try:
-        Distribution().get_command_class("bdist_wheel")
+        return tagging(Distribution().get_command_class("bdist_wheel"))
     except ModuleError:
         sys.exit("dagcbor: this Python's setuptools makes no wheels: 70.1 does, or an older one with the package `wheel`")
 
@@ -69,6 +73,30 @@ class WithProgram(build_py):
             os.chmod(into, 0o755)
 
 
+def newest_glibc(folder):
+    """The newest glibc of which a file below the folder names a symbol: the parts of its number, or none."""
+    paths = [os.path.join(at, name) for at, _, names in os.walk(folder) for name in names]
+    found = set()
+    for path in paths:
+        with open(path, "rb") as file:
+            found.update(re.findall(rb"\0GLIBC_(\d+)\.(\d+)", file.read()))
+    return max((tuple(map(int, it)) for it in found), default=None)
+
+
+def tagging(kind):
+    """The command that makes wheels, but for the tag of the platform."""
+
+    class Tagging(kind):
+        def get_tag(self):
+            language, abi, platform_tag = super().get_tag()
+            newest = newest_glibc(self.get_finalized_command("build").build_lib)
+            if newest and platform_tag.startswith("linux_"):
+                platform_tag = "manylinux_{}_{}_{}".format(*newest, platform_tag.removeprefix("linux_"))
+            return language, abi, platform_tag
+
+    return Tagging
+
+
 def extension(name, crate, variable, sources):
     """An extension over a crate's library, of which it shows nothing: so what two have alike is two."""
     return Extension(
@@ -83,7 +111,7 @@ def extension(name, crate, variable, sources):
 
 
 os.chdir(HERE)
-demand_wheel()
+tagged = wheel_command()
 made = tempfile.TemporaryDirectory(prefix="dagcbor-")  # it is there until this process ends
 native = extension(
     "dagcbor._native",
@@ -102,7 +130,7 @@ setup(
     package_dir={"": "src"},
     package_data={"dagcbor": ["*.pyi", "py.typed"]},
     ext_modules=[native, native_memory],
-    cmdclass={"build_py": WithProgram},
+    cmdclass={"build_py": WithProgram, "bdist_wheel": tagged},
     zip_safe=False,
     options={
         "bdist_wheel": {"py_limited_api": "cp311"},

@@ -7,8 +7,8 @@ const { basename, join } = require('path');
 const [, , folder, module_] = process.argv;
 if (!module_) throw new Error('node build.js FOLDER MODULE');
 const [node, esm] = [join(__dirname, '../node'), join(__dirname, 'esm')];
-const ALONE = ['build.js', 'library.js', 'platform.js']; // Node's alone
-const shared = readdirSync(node).filter((it) => it.endsWith('.js') && !ALONE.includes(it));
+const ALONE = /^(build|library|platform|store\w*)\.js$/; // Node's alone
+const shared = readdirSync(node).filter((it) => it.endsWith('.js') && !ALONE.test(it));
 const own = ['dagcbor.js', 'native.js', 'walk.js'];
 
 const names = (inside) => inside.replace(/(\w+): (\w+)/g, '$1 as $2');

@@ -5,6 +5,7 @@ import { createRequire } from 'node:module';
 import { test } from 'node:test';
 import * as dagcbor from 'dagcbor';
 import * as codec from 'dagcbor/codec';
+import * as store from 'dagcbor/store';
 import { CID, CarIndexer, DagCborError, checkCar, decode, encode, verify } from 'dagcbor';
 
 const require = createRequire(import.meta.url);
@@ -16,7 +17,8 @@ const namesIn = (types) => {
 
 test('names', () => {
   const ours = [dagcbor, 'index.d.ts', 'dagcbor'];
-  for (const [all, types, path] of [ours, [codec, 'codec.d.ts', 'dagcbor/codec']]) {
+  const stores = [store, 'store.d.ts', 'dagcbor/store'];
+  for (const [all, types, path] of [ours, [codec, 'codec.d.ts', 'dagcbor/codec'], stores]) {
     const names = namesIn(types);
     assert.ok(names.length >= 5);
     const others = ['default', 'module.exports']; // of all that `require` has

@@ -1,6 +1,7 @@
 // What TypeScript says of the types: this file is compiled, and not run.
 import dagcbor = require('dagcbor');
 import * as codec from 'dagcbor/codec';
+import { Change, Store, StoreLocked } from 'dagcbor/store';
 import { CID, CarCheck, Data, decode, decodeFirst, encode, name, verify } from 'dagcbor';
 
 // As `multiformats` has them.
@@ -29,6 +30,22 @@ interface ForeignCid {
   link(): ForeignCid;
   readonly [Symbol.toStringTag]: string;
 }
+// As `interface-blockstore` has it, of the CIDs of this package.
+interface Pair {
+  cid: CID;
+  block: Uint8Array;
+}
+type Many<T> = Iterable<T> | AsyncIterable<T>;
+interface Blockstore {
+  has(key: CID): boolean | Promise<boolean>;
+  put(key: CID, val: Uint8Array): CID | Promise<CID>;
+  putMany(source: Many<Pair>): Many<CID>;
+  get(key: CID): Uint8Array | Promise<Uint8Array>;
+  getAll(): Many<Pair>;
+  getMany(source: Many<CID>): Many<Pair>;
+  delete(key: CID): void | Promise<void>;
+  deleteMany(source: Many<CID>): Many<CID>;
+}
 interface Note {
   text: string;
 }
@@ -46,4 +63,19 @@ verify(theirs, block);
 // @ts-expect-error: what another package made is none of this class
 const none: CID = theirs;
 const check: Promise<CarCheck> = dagcbor.checkCar([block]);
+const kept = async (path: URL): Promise<CID[]> => {
+  const store = await Store.open(path, { program: 'dagstore' });
+  const blockstore: Blockstore = store;
+  await blockstore.put(await store.put(block), block);
+  await store.addRoots(await store.put(block, 0x71n), theirs);
+  const changes: Change[] = [{ put: block, codec: 'raw' }, { put: block, cid: theirs }, { delete: ours }, { addRoot: ours }];
+  for await (const cid of store) changes.push({ dropRoot: cid });
+  // @ts-expect-error: a change has one of these names
+  changes.push({ remove: ours });
+  const { roots, sections } = await store.importCar('blocks.car');
+  await dagcbor.resolve(store, roots[sections], 'a');
+  return store.commit(changes);
+};
+const isLocked = (error: unknown): boolean => error instanceof StoreLocked && error.name === 'StoreLocked';
+export { isLocked, kept };
 export { check, data, first, none, read, rest, taken };

@@ -177,6 +177,7 @@ static PyObject *cid_new(PyTypeObject *type, PyObject *args, PyObject *named) {
     static char *names[] = {"", NULL};
     PyObject *given;
     if (!PyArg_ParseTupleAndKeywords(args, named, "O:CID", names, &given)) return NULL;
+    if (Py_TYPE(given) == type) return Py_NewRef(given);
     return PyUnicode_Check(given) ? cid_from_text(type, given) : cid_from_bytes(type, given);
 }
 

@@ -6,6 +6,7 @@ Each call answers, as the others do, or refuses with an error of the package. Be
 address sanitizer: what a call may not touch, it tells."""
 
 import io
+import os
 import random
 import sys
 import time
@@ -13,7 +14,15 @@ from collections import Counter
 
 from dagcbor import CID, DagCborError, check, check_car, dumps, find, from_json, iter_loads, links
 from dagcbor import loads, loads_first, name, read_car, read_repo, resolve, to_json, verify, write_car
+from dagcbor.atproto import Known, read_event, read_events, verify_event
 from plain import links_in, mutated, random_cid, random_text, random_value, same, spelling
+
+
+sys.path.append(os.path.join(os.path.dirname(os.path.realpath(__file__)), "../../../conformance"))
+
+import events
+
+FRAMES = [row[1] for row in events.frames_of(1) if row[4] == "ok"]
 
 
 class Text(str):
@@ -116,7 +125,7 @@ def bytes_of_any_sort(rng, given):
     if isinstance(text, list):
         assert from_json(*text) == given
         told(from_json, mutated(rng, text[0].encode()))
-    for call in (links, loads_first, CID, read_repo, from_json):
+    for call in (links, loads_first, CID, read_repo, from_json, read_event, verify_event):
         told(call, given)
     told(find, given, random_text(rng))
     told(verify, random_cid(rng), given)
@@ -137,6 +146,19 @@ def files(rng, blocks):
         told(read_repo, given)
 
 
+def frames(rng):
+    """A damaged commit is read or not, and verified or not; what is read is found again among others."""
+    given = mutated(rng, rng.choice(FRAMES))
+    found = told(read_event, given)
+    known = Known(random_cid(rng), random_text(rng))
+    for what in (None, known):
+        told(verify_event, given, what)
+    if isinstance(found, list):
+        event, rest = found[0]
+        assert event.frame + rest == given
+        assert next(read_events(io.BytesIO(given))) == event
+
+
 def main():
     seed = int(sys.argv[2]) if len(sys.argv) > 2 else time.time_ns()
     rng, end, count = random.Random(seed), time.monotonic() + float(sys.argv[1]), 0
@@ -147,6 +169,7 @@ def main():
             for given in (block, *damaged, mutated(rng, damaged[0] or block)):
                 bytes_of_any_sort(rng, given)
             files(rng, [block, *damaged])
+            frames(rng)
             count += 1
     except BaseException:
         print("seed", seed, file=sys.stderr)

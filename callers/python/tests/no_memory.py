@@ -4,14 +4,20 @@ An answer is right, or there is no memory."""
 
 import hashlib
 import io
+import os
 import sys
 
 from dagcbor import CID, DagCborError, _native, check, check_car, dumps, links, loads, loads_first
 from dagcbor import from_json, name, read_car, to_json, verify, write_car
+from dagcbor.atproto import read_event, verify_event
 from plain import same
 from conformance import cars
 from cars import header, section
 from cars import name as cid
+
+sys.path.append(os.path.join(os.path.dirname(os.path.realpath(__file__)), "../../../conformance"))
+
+import events
 
 try:
     from _testcapi import remove_mem_hooks, set_nomemory
@@ -32,6 +38,7 @@ JSON = to_json(BLOCK)
 FILE = header(cid(b"\xf6")) + section(BLOCK) + section(dumps(CIDS[:50]))
 MISSING = sorted({CIDS[0], *CIDS, CID(cid(b"\xf6"))})
 VERDICTS = {"ok list": 1, "ok map": 1}
+FRAME = next(row[1] for row in events.frames_of(1) if row[4] == "ok")
 
 
 def read(file):
@@ -71,6 +78,12 @@ def verified(block):
     return verify(BLOCK_NAME, block)
 
 
+def followed(frame):
+    event, rest = read_event(frame)
+    commit = verify_event(event)
+    return [event.seq, rest, commit.did, commit.commit, commit.signed, [list(it) for it in commit.changes]]
+
+
 CALLS = [
     (read, FILE, [(cid(it), it, verdict) for it, verdict in (
         (BLOCK, "ok map"), (dumps(CIDS[:50]), "ok list"))]),
@@ -85,7 +98,7 @@ CALLS = [
     (dumps, BAD, "CastOverflow"), (loads, BLOCK[:-1], "Eof"), (check, b"\x18\x17", "NonMinimal"),
     (dumps, [1.5], "Unsupported"), (CID, b"", "InvalidCid"),
     (loads_first, BLOCK + b"\xf6", (VALUE, len(BLOCK))), (replaced, [(1, {2})], dumps([[1, [2]]])),
-    (of_parts, CIDS[0], CIDS[0]), (verified, BLOCK, True),
+    (of_parts, CIDS[0], CIDS[0]), (verified, BLOCK, True), (followed, FRAME, followed(FRAME)),
 ]
 
 

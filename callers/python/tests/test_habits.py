@@ -4,13 +4,15 @@ import array
 import collections
 import ctypes
 import hashlib
+import io
 import os
 import pickle
 import tomllib
 
 import dagcbor
 import pytest
-from dagcbor import CID, DagCborError, check, dumps, iter_loads, loads, loads_first, name, verify
+from dagcbor import CID, DagCborError, check, dump, dumps, iter_loads, load, loads, loads_first, name
+from dagcbor import verify, write_car
 
 
 def refusal(call, *args, **named):
@@ -108,6 +110,7 @@ def test_cids_of_others():
     error = refusal(dumps, [Foreign(b"\0")])
     assert (error.kind, error.place) == ("InvalidCid", (0,))
     assert refusal(CID, Foreign(b"")).kind == "InvalidCid"
+    assert CID(cid) is cid
     with pytest.raises(TypeError):
         dumps(Foreign("text"))
 
@@ -135,3 +138,32 @@ def test_buffers():
 def test_version():
     with open(os.path.join(os.path.dirname(__file__), "../pyproject.toml"), "rb") as file:
         assert dagcbor.__version__ == tomllib.load(file)["project"]["version"]
+
+
+def test_foreign_cids_are_taken_where_a_cid_is():
+    block = dumps({"a": 1})
+    cid, own, foreign = name(block), io.BytesIO(), io.BytesIO()
+    assert verify(Foreign(bytes(cid)), block) and not verify(Foreign(bytes(cid)), b"\xf6")
+    write_car(own, [cid], {cid: block})
+    write_car(foreign, [Foreign(bytes(cid))], [(Foreign(bytes(cid)), block)])
+    assert own.getvalue() == foreign.getvalue()
+    for wrong in (str(cid), bytes(cid), 7, None):
+        with pytest.raises(TypeError):
+            verify(wrong, block)
+        with pytest.raises(TypeError):
+            write_car(io.BytesIO(), [wrong], {})
+
+
+def test_files_of_one_block(tmp_path):
+    value = {"a": [1, "hi", b"\0"], "of": name(b"\xf6")}
+    with open(tmp_path / "block", "wb") as file:
+        dump(value, file)
+    assert (tmp_path / "block").read_bytes() == dumps(value)
+    with open(tmp_path / "block", "rb") as file:
+        assert load(file) == value
+        assert refusal(load, file).kind == "Eof"  # the file is at its end
+    assert load(io.BytesIO(dumps("x" * 1_000_000))) == "x" * 1_000_000
+    none = io.BytesIO()
+    assert refusal(dump, [1.5], none).place == (0,) and none.getvalue() == b""
+    dump({1}, none, default=list)
+    assert none.getvalue() == dumps([1])

@@ -232,6 +232,19 @@ def test_unreadable(path, tmp_path):
         Store(path, str(tmp_path / "no program"))
 
 
+def test_wrong_row(store, path):
+    store.put(b"a", "raw")
+    store.close()
+    base = sqlite3.connect(path)
+    base.execute("INSERT INTO block (rowid, cid, bytes) VALUES (7, x'00', x'00')")
+    base.commit()
+    base.close()
+    with Store(path, PROGRAM) as again:
+        for told in (len, list, lambda store: next(iter(store))):
+            with pytest.raises(StoreUnreadable, match="a wrong entry at row 7"):
+                told(again)
+
+
 def test_damage(store, path):
     a = store.put(b"to be damaged", "raw")
     store.close()

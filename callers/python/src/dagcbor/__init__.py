@@ -14,7 +14,8 @@
     resolve(get, cid, path)  the data to which a path leads from a block on, over links
 
     loads_first(bytes)   the data of the first item, and where it ends
-    iter_loads(bytes)    the data of the items that stand one behind the other
+    iter_loads(bytes)    the data of the items that stand one after the other
+    load(file), dump(value, file)  the same of a binary file as `loads` and `dumps`
 
     read_car(source)                the roots of a file of blocks (CAR), and its sections in turn
     check_car(source)               its verdicts, and what is missing
@@ -24,16 +25,20 @@
 
     dag_pb.loads(block), dag_pb.dumps(node)  blocks of DAG-PB, which files of IPFS are made of
 
+    atproto.read_events(source)            frames of a host's stream (AT Protocol)
+    atproto.verify_event(event, known)     what is verified of a commit, by its frame alone
+    atproto.to_json(block), atproto.from_json(text)  JSON of the AT Protocol
+
     Store(path)          blocks in a file that lasts, by the program `dagstore`
 
 Whether bytes are a block or a file of blocks is the library's judgement, which is proved. So
-is whether a file is a whole repository, and DAG-JSON both ways. The rest, which makes objects from what the library tells
+is whether a file is a whole repository, whether the commit of a frame is verified, and DAG-JSON both ways. The rest, which makes objects from what the library tells
 and tells it what the objects are, is two small extensions in C, and not proved."""
 
-from . import dag_pb
+from . import atproto, dag_pb
 from ._car import CarCheck, check_car, verify, write_car
 from ._errors import CarError, DagCborError
-from ._items import iter_loads
+from ._items import dump, iter_loads, load
 from ._json import from_json, to_json
 from ._native import CID, CarReader, Section, check, dumps, links, loads, loads_first, name
 from ._native import read_car
@@ -66,14 +71,17 @@ __all__ = [
     "StoreLocked",
     "StoreMemoryError",
     "StoreUnreadable",
+    "atproto",
     "check",
     "check_car",
     "dag_pb",
+    "dump",
     "dumps",
     "find",
     "from_json",
     "iter_loads",
     "links",
+    "load",
     "loads",
     "loads_first",
     "name",

@@ -3,22 +3,20 @@
 from __future__ import annotations
 
 from collections.abc import Mapping
-from io import RawIOBase
-from typing import TYPE_CHECKING, Protocol
+from typing import TYPE_CHECKING
 
 from . import _native
+from ._native import CID
+from ._writing import put
 
 if TYPE_CHECKING:
     from collections.abc import Iterable
     from mmap import mmap
 
-    from ._native import CID, Buffer, Readable, Sha256, Verdict
+    from ._native import Buffer, ForeignCID, Readable, Sha256, Verdict
+    from ._writing import Writable
 
 OTHER_BYTES, NOT_VERIFIED = -22, -23
-
-
-class Writable(Protocol):
-    def write(self, piece: bytes, /) -> int | None: ...
 
 
 class CarCheck:
@@ -68,6 +66,15 @@ def check_car(source: Buffer | mmap | Readable, *, sha256: Sha256 | None = None)
     raise error
 
 
+def _cid_of(cid: CID | ForeignCID) -> CID:
+    """The CID, which may be one of another package, as in `dumps`."""
+    if isinstance(cid, CID):
+        return cid
+    if isinstance(cid, (str, bytes, bytearray, memoryview)):
+        raise TypeError("a CID is wanted")
+    return CID(cid)
+
+
 def _varint(number: int) -> bytes:
     groups = []
     while number >= 128:
@@ -78,40 +85,30 @@ def _varint(number: int) -> bytes:
 
 def write_car(
     file: Writable,
-    roots: Iterable[CID],
-    blocks: Mapping[CID, Buffer] | Iterable[tuple[CID, Buffer]],
+    roots: Iterable[CID | ForeignCID],
+    blocks: Mapping[CID, Buffer] | Iterable[tuple[CID | ForeignCID, Buffer]],
 ) -> None:
     """Writes a file of blocks, of version 1, to a binary file.
 
     `blocks` is a dict of blocks by their CIDs, or pairs of a CID and a block, in the order in which
     they are to stand. Bytes that are not those of their CID are refused before they are written.
     """
-    roots = list(roots)
-    if not all(isinstance(it, _native.CID) for it in roots):
-        raise TypeError("a root is a CID")
+    roots = [_cid_of(it) for it in roots]
     header = _native.dumps({"roots": roots, "version": 1})
-    _put(file, _varint(len(header)) + header)
+    put(file, _varint(len(header)) + header)
     for cid, block in blocks.items() if isinstance(blocks, Mapping) else blocks:
-        block = _native.to_bytes(block)
+        cid, block = _cid_of(cid), _native.to_bytes(block)
         if _native.verdict(cid, block) == "other bytes":
             raise _native.refusal(OTHER_BYTES)
-        _put(file, _varint(len(bytes(cid)) + len(block)) + bytes(cid))
-        _put(file, block)
+        put(file, _varint(len(bytes(cid)) + len(block)) + bytes(cid))
+        put(file, block)
 
 
-def verify(cid: CID, block: Buffer) -> bool:
+def verify(cid: CID | ForeignCID, block: Buffer) -> bool:
     """Whether the bytes are those that the CID names: by SHA-256 or the identity, else it raises
     DagCborError (`NotVerified`). `check` says whether they are a block."""
-    verdict = _native.verdict(cid, block)
+    verdict = _native.verdict(_cid_of(cid), block)
     if verdict == "not verified":
         raise _native.refusal(NOT_VERIFIED)
     return verdict != "other bytes"
 
-
-def _put(file: Writable, piece: bytes) -> None:
-    """Writes all of it: a raw file may take a part alone."""
-    while piece:
-        count = file.write(piece)
-        if count is None and isinstance(file, RawIOBase):
-            raise BlockingIOError("write() took no bytes")
-        piece = b"" if count is None else piece[count:]

@@ -1,16 +1,21 @@
-"""Items one behind the other."""
+"""Items one after the other, and blocks in files."""
 
 from __future__ import annotations
 
 from typing import TYPE_CHECKING
 
-from ._native import loads_first, to_bytes
+from ._native import dumps, loads, loads_first, to_bytes
+
+from ._writing import put
 
 if TYPE_CHECKING:
-    from collections.abc import Iterator
+    from collections.abc import Callable, Iterator
     from typing import Any
 
-    from ._native import Buffer
+    from ._native import Buffer, Readable
+    from ._writing import Writable
+
+PIECE = 1 << 18
 
 
 def iter_loads(items: Buffer) -> Iterator[Any]:
@@ -19,3 +24,18 @@ def iter_loads(items: Buffer) -> Iterator[Any]:
     while place < len(items):
         value, place = loads_first(items, place)
         yield value
+
+
+def load(file: Readable, /) -> Any:
+    """The data of the block that a binary file has, from where it stands to its end."""
+    pieces = []
+    while piece := file.read(PIECE):
+        pieces.append(piece)
+    if piece is None:
+        raise BlockingIOError("read() has no bytes yet")
+    return loads(b"".join(pieces))
+
+
+def dump(value: Any, file: Writable, /, *, default: Callable[[Any], Any] | None = None) -> None:
+    """Writes the one block of the data to a binary file. Nothing is written of what is refused."""
+    put(file, dumps(value, default=default))

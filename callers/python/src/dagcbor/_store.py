@@ -37,8 +37,8 @@ class StoreLocked(StoreError):
 
 
 class StoreUnreadable(StoreError):
-    """The file is no store of blocks, or of an earlier version, or cannot be opened for reading and
-    writing."""
+    """The file is no store of blocks, or of an earlier version, cannot be opened for reading and
+    writing, or has an entry or a row that no store writes."""
 
 
 class StoreFull(StoreError):
@@ -83,6 +83,8 @@ class Imported(NamedTuple):
 REFUSALS: tuple[tuple[str, type[StoreError]], ...] = (
     ("another process has the file open", StoreLocked),
     ("the file is no store of blocks", StoreUnreadable),
+    ("the index of names has a wrong entry", StoreUnreadable),
+    ("the table of roots has a wrong row", StoreUnreadable),
     ("the file is of an earlier version", StoreUnreadable),
     ("the file cannot be opened for reading and writing", StoreUnreadable),
     ("database or disk is full", StoreFull),

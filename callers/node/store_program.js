@@ -1,0 +1,120 @@
+// The program `dagstore FILE serve`, as a process: requests, and their answers in the same order.
+'use strict';
+const { spawn } = require('child_process');
+const { existsSync } = require('fs');
+const { join } = require('path');
+const { joined } = require('./bytes.js');
+const { CID } = require('./cid.js');
+const errors = require('./store_errors.js');
+
+const BESIDE = join(__dirname, 'out', 'dagstore');
+const LINE_FEED = 10;
+const NO_PROGRAM = 'there is no program `dagstore`: name it, or set DAGSTORE, or put it on PATH';
+
+// How the last line of what is said begins, which tells why.
+const REFUSALS = [
+  [/^another process has the file open/, 'StoreLocked'],
+  [/^the file (is no store|is of an earlier version|cannot be opened)/, 'StoreUnreadable'],
+  [/^the (index of names has a wrong entry|table of roots has a wrong row)/, 'StoreUnreadable'],
+  [/^(database or disk is full|the file takes no more)/, 'StoreFull'],
+  [/^(disk I\/O error|database disk image is malformed|the transaction must be)/, 'StoreDiskError'],
+  [/^out of memory/, 'StoreMemoryError'],
+  [/^what is stored under the name/, 'DamagedBlock'],
+  [/^the block (is (?!too long)|has other bytes)/, 'InvalidBlock'],
+  [/^the input is no file of blocks/, 'InvalidCar'],
+];
+
+const refusalOf = (said) => {
+  const lines = said.trim().split('\n').map((it) => it.replace(/^dagstore: /, ''));
+  const [first, why] = [lines[0], lines.at(-1)];
+  const [, found = 'StoreError'] = REFUSALS.find(([start]) => start.test(why)) ?? [];
+  const error = new errors[first.startsWith('behind ') ? 'InvalidCar' : found](lines.join(', '));
+  if (found === 'DamagedBlock' && lines.length > 1) error.cid = new CID(first.split(' ')[0]);
+  return error;
+};
+
+class Program {
+  #child;
+  #pieces; // of what it answers
+  #rest = Buffer.alloc(0); // of the last piece
+  #told = ''; // on standard error
+  #isClosed = false;
+  #end; // kept with the error that tells of it
+  #last = Promise.resolve(); // the answer that was asked for last
+  #asked = 0; // how many answers are awaited
+
+  constructor(path, given) {
+    const program = given ?? (process.env.DAGSTORE || (existsSync(BESIDE) ? BESIDE : 'dagstore'));
+    // In a group of its own, so that an interrupt at the terminal does not end it within a request.
+    this.#child = spawn(program, [path, 'serve'], { detached: true });
+    this.#child.stdin.on('error', () => {}); // its end tells why
+    this.#child.stderr.on('data', (piece) => (this.#told += piece));
+    this.#pieces = this.#child.stdout[Symbol.asyncIterator]();
+    this.#end = new Promise((keep) => {
+      this.#child.on('error', (error) => {
+        keep(error.code === 'ENOENT' ? Object.assign(error, { message: NO_PROGRAM }) : error);
+      });
+      this.#child.on('close', (status, signal) => keep(this.#whyOf(status ?? signal)));
+    });
+  }
+
+  #whyOf(status) {
+    if (this.#isClosed) return new errors.StoreEnded('the store is closed');
+    const error = refusalOf(this.#told);
+    if (error.name !== 'StoreError') return error;
+    return new errors.StoreEnded(`the program ended (${status}): ${this.#told.trim()}`);
+  }
+
+  // A script may end while no answer is awaited. The program then ends too.
+  #hold(more) {
+    this.#asked += more;
+    for (const it of [this.#child, ...this.#child.stdio]) it[this.#asked ? 'ref' : 'unref']();
+  }
+
+  // The bytes of the answer, or null where it says that there are none.
+  ask(request, block = '') {
+    this.#hold(1);
+    const { stdin } = this.#child;
+    stdin.cork();
+    stdin.write(`${request}\n`);
+    stdin.write(block);
+    stdin.uncork();
+    const answer = this.#last.then(() => this.#answer()).finally(() => this.#hold(-1));
+    this.#last = answer.catch(() => {});
+    return answer;
+  }
+
+  async #more() {
+    const { value, done } = await this.#pieces.next().catch(() => ({ done: true }));
+    if (done) throw await this.#end;
+    return value;
+  }
+
+  async #answer() {
+    let [line, rest, parts] = ['', this.#rest, []];
+    for (; !rest.includes(LINE_FEED); rest = await this.#more()) line += rest.latin1Slice();
+    const end = rest.indexOf(LINE_FEED);
+    line += rest.latin1Slice(0, end);
+    const [, word, length] = /^(ok|none|refused|bad) (\d+)$/.exec(line) ?? [];
+    if (word === undefined) this.#child.kill('SIGKILL'); // it is another program
+    let lacking = Number(length ?? Infinity);
+    for (rest = rest.subarray(end + 1); rest.length < lacking; rest = await this.#more()) {
+      parts.push(rest);
+      lacking -= rest.length;
+    }
+    this.#rest = rest.subarray(lacking);
+    const bytes = joined([...parts, rest.subarray(0, lacking)]);
+    if (word === 'ok') return bytes;
+    if (word === 'none') return null;
+    throw refusalOf(Buffer.from(bytes).toString());
+  }
+
+  async close() {
+    this.#isClosed = true;
+    this.#hold(1);
+    this.#child.stdin.end();
+    await this.#end;
+  }
+}
+
+module.exports = { Program, refusalOf };

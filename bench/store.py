@@ -3,14 +3,19 @@
 
     bench/store.py [MB..]          prints a table of seconds, and one of bytes, for stores of so many MB (1, 10, 100 and 1,000)
     bench/store.py [MB..] page     puts both into docs/SPEED.md, and draws the first (bench/curves.py)
+    bench/store.py large MB        prints what calls on one block take over a store of so many MB, which imports of 1,000 MB make
+    bench/store.py large MB made   the same over one whose rows Python's sqlite3 puts into an empty store
 
 A block has 1,000 bytes, and links to the two below it in a tree. Each call of `dagstore` is a process of its own; Python's calls run in
-a process that runs already, and open the file anew. The programs are those that `./dagstore` and `./dagcar` built. Nothing here is a test.
-BENCH_FOLDER names the folder in which the files are made."""
+a process that runs already, and open the file anew. The programs are those that `./dagstore` and `./dagcar` built, or DAGSTORE names the
+first. Nothing here is a test. BENCH_FOLDER names the folder in which the files are made. MINUTES ends the imports of `large` early."""
 
+import contextlib
 import hashlib
+import itertools
 import os
 import shutil
+import signal
 import sqlite3
 import subprocess
 import sys
@@ -21,7 +26,7 @@ import time
 import curves
 from measuring import ROOT, into_page, load, machine
 
-PROGRAM = f"{ROOT}/crates/dagstore/out/dagstore"
+PROGRAM = os.environ.get("DAGSTORE") or f"{ROOT}/crates/dagstore/out/dagstore"
 TABLE = "CREATE TABLE block (cid BLOB NOT NULL PRIMARY KEY, bytes BLOB NOT NULL) STRICT"
 BEGIN, END = "<!-- made by bench/store.py page -->\n", "<!-- so far, of stores -->\n"
 SIZES = (1, 10, 100, 1000)
@@ -299,6 +304,115 @@ def hashed(at, size):
     return took.processor
 
 
+# ---- a large store
+
+
+# How many blocks an import has: more would want a log of many times their bytes, since most pages of the index go to it each time that
+# its memory is full.
+PART = 1_000_000
+
+
+def write_parts(pipe, count):
+    """The blocks, so many each time that the pipe is opened, and then the name of the last of them, which whoever opens it takes away."""
+    made = blocks(count)
+    for _ in range(0, count, PART):
+        with open(pipe, "wb") as file:
+            file.write(b"\x11\xa2\x65roots\x80\x67version\x01")
+            for _, name, block in itertools.islice(made, PART):
+                file.write(varint(len(name) + len(block)) + name + block)
+        with open(f"{pipe}.name", "wb") as file:
+            file.write(name)
+        while os.path.exists(f"{pipe}.name"):
+            time.sleep(0.1)
+
+
+def import_parts(at, count):
+    """Imports them until MINUTES are over. Prints what each took, and answers the name of the last block."""
+    base, pipe, begun = f"{at}/a.db", f"{at}/parts", time.monotonic()
+    os.mkfifo(pipe)
+    writer = os.fork()
+    if writer == 0:
+        try:
+            write_parts(pipe, count)
+        finally:
+            os._exit(0)
+    for n in range(PART, count + PART, PART):
+        name, took = b"", ours(base, "import", pipe)
+        while not name:
+            time.sleep(0.1)
+            with contextlib.suppress(FileNotFoundError), open(f"{pipe}.name", "rb") as file:
+                name = file.read()
+        os.remove(f"{pipe}.name")
+        times = f"{took.processor:.0f} s of the processor, {took.clock:.0f} s"
+        size = os.path.getsize(base) // 1_000_000
+        print(f"{min(n, count) // 1000:,} MB: {times}, log {took.log:,.0f} MB, file {size:,} MB", flush=True)
+        if time.monotonic() - begun > 60 * float(os.environ.get("MINUTES", "1000")):
+            break
+    os.kill(writer, signal.SIGKILL)
+    os.waitpid(writer, 0)
+    return name
+
+
+def measure_calls(at, name):
+    """Prints what calls on one block take."""
+    base, name = f"{at}/a.db", "f" + name.hex()
+    another = lambda: "f" + (FORM + os.urandom(32)).hex()
+    ours(base, "add-root", name)
+    calls = {"get": lambda: ["get", name], "has": lambda: ["has", name], "put": lambda: ["put"], "roots": lambda: ["roots"]}
+    calls["add-root"] = lambda: ["add-root", another()]
+    for call, words in calls.items():
+        took = least(lambda words=words: ours(base, *words(), given=one_block(at)))
+        read, syncs = traced(base, *words(), given=one_block(at))
+        times = f"{took.processor * 1000:.1f} ms of the processor, {took.clock * 1000:.1f} ms"
+        print(f"{call}: {times}, {read:.0f} KB read, {syncs} syncs, {took.memory:.1f} MB of memory", flush=True)
+
+
+def make_rows(at, count):
+    """An empty store, into which Python's sqlite3 puts the blocks. Answers the name of the last. The file is one that `dagstore` could
+    have left: the same schema, and no log. A process of its own puts them, so that this one stays small."""
+    ours(f"{at}/a.db", "import", write_empty(at))
+    process = os.fork()
+    if process == 0:
+        put_rows(at, count)
+        os._exit(0)
+    _, status = os.waitpid(process, 0)
+    assert status == 0, status
+    print(f"{count // 1000:,} MB put by Python's sqlite3: file {os.path.getsize(f'{at}/a.db') // 1_000_000:,} MB", flush=True)
+    with open(f"{at}/name", "rb") as file:
+        return file.read()
+
+
+def put_rows(at, count):
+    base = sqlite3.connect(f"{at}/a.db", isolation_level=None)
+    for what in ("journal_mode = OFF", "synchronous = OFF", "cache_size = -2000000"):
+        base.execute(f"PRAGMA {what}")
+    base.execute("BEGIN")
+    made = ((name, block) for _, name, block in blocks(count))
+    base.executemany("INSERT INTO block VALUES (?, ?)", made)
+    (name,) = base.execute("SELECT cid FROM block ORDER BY rowid DESC LIMIT 1").fetchone()
+    base.execute("COMMIT")
+    base.execute("PRAGMA journal_mode = WAL")
+    base.close()
+    os.sync()
+    with open(f"{at}/name", "wb") as file:
+        file.write(name)
+
+
+def write_empty(at):
+    """A file without roots and blocks."""
+    with open(f"{at}/empty.car", "wb") as file:
+        file.write(b"\x11\xa2\x65roots\x80\x67version\x01")
+    return f"{at}/empty.car"
+
+
+def measure_large(size, make):
+    at = tempfile.mkdtemp(dir=os.environ.get("BENCH_FOLDER"))
+    try:
+        measure_calls(at, make(at, size * 1000))
+    finally:
+        shutil.rmtree(at)
+
+
 def table(head, sizes, columns, form):
     yield f"| {head} | {' | '.join(f'{size:,} MB' for size in sizes)} |\n"
     yield f"|{'---|' * (len(sizes) + 1)}\n"
@@ -307,6 +421,9 @@ def table(head, sizes, columns, form):
 
 
 def main(words):
+    if words[:1] == ["large"]:
+        measure_large(int(words[1]), make_rows if "made" in words else import_parts)
+        return
     sizes = [int(word) for word in words if word.isdigit()] or list(SIZES)
     told, columns = [f"Measured {machine()}, {load()}.\n\n"], []
     for size in sizes:

@@ -8,11 +8,8 @@ import json
 import os
 import resource
 import subprocess
-import sys
 
 from car_bytes import cid, counted, header, link, missing_line, section, text_of, varint
-
-sys.path.append(f"{os.path.dirname(os.path.dirname(os.path.abspath(__file__)))}/conformance")
 
 import dagpb
 
@@ -238,7 +235,7 @@ class Judge:
         hashes = [({"hash": hex(it)}, row) for it, row in sorted(rows["hashes"].items())]
         return {
             "version": 2 if is_second else 1,
-            "index": is_second and any(self.given[43:51]),
+            "index": "yes" if is_second and any(self.given[43:51]) else "no",
             "roots": [{"cid": text_of(it), "there": it not in missing} for it in self.roots],
             "sections": len(lengths),
             "repeated": len(lengths) - len({name for name, _, _ in self.sections}),
@@ -257,7 +254,7 @@ class Judge:
         facts = self.facts()
         if as_json:
             return 0, json.dumps(facts, separators=(",", ":")).encode() + b"\n", b""
-        lines = [f"version {facts['version']}", f"index {'yes' if facts['index'] else 'no'}", f"roots {len(facts['roots'])}"]
+        lines = [f"version {facts['version']}", f"index {facts['index']}", f"roots {len(facts['roots'])}"]
         lines += [f"root {it['cid']} {'there' if it['there'] else 'missing'}" for it in facts["roots"]]
         lines += [f"{it} {facts[it]}" for it in ("sections", "repeated", "bytes", "least", "greatest")]
         for kind, word in (("codecs", "codec"), ("hashes", "hash")):

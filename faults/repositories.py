@@ -358,6 +358,27 @@ def raw_record(path):
             yield f"{word}: {found!r}"
 
 
+def way_to(tree, key):
+    """The nodes on the way to the key, from the root on."""
+    way, node = [], tree
+    while node is not None:
+        way.append(node)
+        before = [row for row in node.rows if row.key <= key]
+        node = None if before and before[-1].key == key else before[-1].after if before else node.left
+    return way
+
+
+def proved(path, word, file):
+    """What `record-proof` says, of which the output is bytes."""
+    got = subprocess.run([path, "record-proof", word], input=file, capture_output=True, timeout=60)
+    return got.returncode, got.stdout, got.stderr.decode()
+
+
+def said_of(block, tree):
+    """What `commit` says of a commit of the reference."""
+    return f"commit {text_of(named(block))}\ndid did:plc:abc\nrev 3jzfcijpj2z2a\ndata {text_of(tree.name())}\nprev none\n"
+
+
 def one_record(path, rng, pool, count):
     """Each key that there is, and some that are not, over the whole file and over the nodes on the way alone."""
     for number in range(count):
@@ -365,14 +386,20 @@ def one_record(path, rng, pool, count):
         records = {**pool.take(rng), b"app.bsky.feed.post/self": record(data)}
         tree = tree_of(records)
         block = commit(tree.name())
-        way, node, key = [], tree, rng.choice([*records, b"app.bsky.feed.post/none"])
-        while node is not None:
-            way.append(node)
-            before = [row for row in node.rows if row.key <= key]
-            node = None if before and before[-1].key == key else before[-1].after if before else node.left
+        key = rng.choice([*records, b"app.bsky.feed.post/none"])
+        way = way_to(tree, key)
         for nodes in (tree.all(), way):
             file = file_of(block, nodes) + section(spelled(2, data))
-            status, out, told = ran(path, ["record", word_of(rng, key)], file)
+            word = word_of(rng, key)
+            if ran(path, ["commit"], file) != (0, said_of(block, tree), ""):
+                yield f"commit {number}"
+            found = b"" if key not in records else section(spelled(2, data))
+            wanted = (0, file_of(block, way) + found, "")
+            if key in records and records[key] != record(data):
+                wanted = (1, b"", missing_line(records[key]) + "\n")
+            if proved(path, word, file) != wanted:
+                yield f"record-proof {number}: {key!r}"
+            status, out, told = ran(path, ["record", word], file)
             if key not in records:
                 right = (status, out) == (1, "") and "no record" in told
             elif records[key] == record(data):
@@ -395,7 +422,10 @@ def small(folder):
     newer = os.path.join(folder, "newer.car")
     pathlib.Path(newer).write_bytes(over(tree_of(later_records)))
     changed = changed_lines(records, later_records).encode()
-    return file, {"records": (0, lines), "record app.bsky.feed.post/self": (0, b'{"text":"hi"}\n'), f"changes - {newer}": (0, changed)}
+    block, key = commit(tree.name()), b"app.bsky.feed.post/self"
+    proof = file_of(block, way_to(tree, key)) + section(note)
+    wanted = {"records": (0, lines), f"record {key.decode()}": (0, b'{"text":"hi"}\n'), f"changes - {newer}": (0, changed)}
+    return file, {**wanted, "commit": (0, said_of(block, tree).encode()), f"record-proof {key.decode()}": (0, proof)}
 
 
 def sweep(path, folder, report, count=RANDOM_TREES):
@@ -405,7 +435,7 @@ def sweep(path, folder, report, count=RANDOM_TREES):
     report("repositories, roots of the reference", len(ROOTS), list(reference()))
     report("repositories, random trees", count, list(whole(path, rng, pool, count)))
     report("repositories, damaged", count // 4, list(damaged(path, rng, pool, count // 4)))
-    report("repositories, one record", 2 * (count // 8), list(one_record(path, rng, pool, count // 8)))
+    report("repositories, one record, its proof, and the commit", 6 * (count // 8), list(one_record(path, rng, pool, count // 8)))
     report("repositories, a record of another codec", 4, list(raw_record(path)))
     report("repositories, two random ones", count // 4, list(differing(path, folder, rng, pool, count // 4)))
     report("repositories, two, damaged", count // 8, list(differing_damaged(path, folder, rng, pool, count // 8)))

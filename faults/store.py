@@ -688,6 +688,31 @@ def foreign(program, at):
     return wrong
 
 
+def wrong_rows(program, at):
+    """An entry, and a row of the roots, that no store writes: each word that meets it names its row, and changes nothing."""
+    wrong, held = [], block_of(random.Random(4))
+    cases = (
+        ("block", "(cid, bytes, rowid) VALUES (x'00', x'00', 7)", b"the index of names has a wrong entry at row 7", ("count", "list", "check")),
+        ("root", "(cid, rowid) VALUES (x'00', 9)", b"the table of roots has a wrong row at row 9", ("roots", "add-root", "check")),
+    )
+    for table, row, told, words in cases:
+        path = f"{at}/{table}.db"
+        run(program, path, "import", given=car_of(dict([held])))
+        base = sqlite3.connect(path)
+        base.execute(f"INSERT INTO {table} {row}")
+        base.commit()
+        base.close()
+        before = open(path, "rb").read()
+        for word in words:
+            ran = run(program, path, word, *([text_of(held[0])] if word == "add-root" else []))
+            if (ran.returncode, ran.stdout, ran.stderr) != (1, b"", b"dagstore: " + told + b"\n") or open(path, "rb").read() != before:
+                wrong.append(f"{word} over a wrong row of {table}: {ran.returncode} {ran.stdout} {ran.stderr}")
+        ran = run(program, path, "get", text_of(held[0]))
+        if (ran.returncode, ran.stdout) != (0, held[1]):
+            wrong.append(f"get beside a wrong row of {table}: {ran.returncode} {ran.stdout} {ran.stderr}")
+    return wrong
+
+
 def check(report, program, count=200, seed=1):
     """One line for each kind of run."""
     with tempfile.TemporaryDirectory() as at:
@@ -707,3 +732,4 @@ def check(report, program, count=200, seed=1):
         report("dagstore: what cat and ls write of files of IPFS in a store", 1, contents(program, at, random.Random(seed)))
         report("dagstore: blocks whose links cannot be read, and roots without a block", 1, unread(program, at))
         report("dagstore: files that are none of ours", 3, foreign(program, at))
+        report("dagstore: rows that no store writes", 8, wrong_rows(program, at))

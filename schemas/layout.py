@@ -66,7 +66,7 @@ def filled_items(items, indent):
     """Short items of a list, as many in each line as fit."""
     made, line = [], " " * (indent - 1)
     for item in items:
-        if len(line) + len(flat(item)) + 2 > WIDTH:
+        if len(line) + len(flat(item)) + 2 >= WIDTH:
             made.append(line)
             line = " " * (indent - 1)
         line += f" {flat(item)},"

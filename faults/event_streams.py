@@ -1,0 +1,88 @@
+"""What `dagcar event` says of frames, held to a judge in Python (conformance/events.py): streams, and random events, good and faulty."""
+
+import collections
+import pathlib
+import random
+import subprocess
+
+import events
+
+# How many random events there are, each good, and faulty in each way.
+RANDOM_EVENTS = 60
+
+# What is told, by the judge's word.
+TOLD = {
+    "big": "the event does not tell all: tooBig",
+    "rebase": "the event tells of a rebase",
+    "known": "the event has no prevData, and no root is known",
+    "form": "an operation lacks a record of its action, or has one more",
+    "root": "the first root of the blocks is not the commit",
+    "repository": "the commit is of another repository",
+    "revision": "the commit is of another revision",
+    "state": "the tree has not what an operation leads to",
+    "before": "the operations lead from another root",
+}
+
+
+def ran(path, file):
+    got = subprocess.run([path, "event", file], capture_output=True, text=True, timeout=300)
+    return got.returncode, got.stdout, got.stderr
+
+
+def streams(path, folder):
+    """Each stream of the reference."""
+    for number, (what, stream, said, told) in enumerate(events.streams_of(1)):
+        file = pathlib.Path(folder, f"{number}.frames")
+        file.write_bytes(stream)
+        got = ran(path, file)
+        if got != (1 if told else 0, said, told):
+            yield f"{what}: {got}"
+
+
+def is_told(line, verdict):
+    """Whether the line tells what the judge says."""
+    word = verdict.split()[0]
+    if word in ("missing", "commit"):
+        return line.startswith("missing ") and line.endswith(" dag-cbor")
+    if word == "bytes":
+        return line.endswith(" other bytes")
+    return line == TOLD[word]
+
+
+def random_events(path, folder, count):
+    """All frames of so many random events, in one stream; how many are answered wrongly, by what is so of them."""
+    rng = random.Random(20261130)
+    rows = [row for number in range(count) for row in events.events_of(rng, f"did:plc:{number}")]
+    file = pathlib.Path(folder, "random.frames")
+    file.write_bytes(b"".join(frame for _, frame in rows))
+    _, said, told = ran(path, file)
+    lines = dict(line.split(" at byte ", 1) for line in told.splitlines())
+    wrong, at, good = collections.Counter(), 0, ""
+    for number, (what, frame) in enumerate(rows, 1):
+        verdict = events.judge(frame, None, None)
+        line = lines.pop(f"frame {number}", None)
+        # In another order the judge may open a node between two trees that neither has, where `event` computes no root.
+        if verdict == "ok" or what == "the order turned" and verdict.startswith("missing") and line is None:
+            good += events.lines_of(events.dec(frame, events.dec(frame)[1])[0])
+            wrong[what] += line is not None
+        else:
+            wrong[what] += line is None or not line.startswith(f"{at}: ") or not is_told(line.partition(": ")[2], verdict)
+        at += len(frame)
+    wrong["good"] += said != good or bool(lines)
+    return wrong
+
+
+def small():
+    """A stream of three frames, and what is said of it."""
+    for what, stream, said, told in events.streams_of(1):
+        if what == "a chain":
+            assert not told
+            return stream, {"event": (0, said.encode())}
+    raise LookupError("a chain")
+
+
+def sweep(path, folder, report, count=RANDOM_EVENTS):
+    rows = list(events.streams_of(1))
+    report("events, streams of the reference", len(rows), list(streams(path, folder)))
+    for what, wrong in random_events(path, folder, count).items():
+        report(f"events, {what}", count, [what] * wrong)

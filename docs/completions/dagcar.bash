@@ -2,7 +2,7 @@
 _dagcar() {
     local now=${COMP_WORDS[COMP_CWORD]}
     if [ "$COMP_CWORD" -eq 1 ]; then
-        mapfile -t COMPREPLY < <(compgen -W "check inspect verify list get tree at prove ls cat records record changes index name one show make --help --version" -- "$now")
+        mapfile -t COMPREPLY < <(compgen -W "check inspect verify list get tree at prove ls cat records record record-proof commit changes filter merge split index event name one show make --help --version" -- "$now")
     else
         mapfile -t COMPREPLY < <(compgen -f -- "$now")
     fi

@@ -3,6 +3,7 @@
 No row is copied from a run: trees are those of `signed_trees`."""
 
 import base64
+import json
 import os
 import pathlib
 import random
@@ -379,6 +380,15 @@ def said_of(block, tree):
     return f"commit {text_of(named(block))}\ndid did:plc:abc\nrev 3jzfcijpj2z2a\ndata {text_of(tree.name())}\nprev none\n"
 
 
+def json_of(records, blocks):
+    """What `records --json` says: of the records of these blocks, in DAG-JSON, and of those that lack theirs."""
+    data = {named(block): text for block, text in blocks}
+    rows = [(key_text(key), name, data.get(name)) for key, name in sorted(records.items())]
+    lines = [f'{{"cid":{{"/":"{text_of(name)}"}},"key":{json.dumps(key)},"value":{text}}}\n' for key, name, text in rows if text]
+    told = [f"{key}: {missing_line(name)}\n" for key, name, text in rows if not text]
+    return 1 if told else 0, "".join(lines), "".join(told)
+
+
 def one_record(path, rng, pool, count):
     """Each key that there is, and some that are not, over the whole file and over the nodes on the way alone."""
     for number in range(count):
@@ -393,6 +403,9 @@ def one_record(path, rng, pool, count):
             word = word_of(rng, key)
             if ran(path, ["commit"], file) != (0, said_of(block, tree), ""):
                 yield f"commit {number}"
+            shown = '{"/":{"bytes":"' + base64.b64encode(data).decode().rstrip("=") + '"}}'
+            if nodes == tree.all() and ran(path, ["records", "--json"], file) != json_of(records, [(spelled(2, data), shown)]):
+                yield f"records --json {number}"
             found = b"" if key not in records else section(spelled(2, data))
             wanted = (0, file_of(block, way) + found, "")
             if key in records and records[key] != record(data):
@@ -412,11 +425,11 @@ def one_record(path, rng, pool, count):
 
 
 def small(folder):
-    """A file of three records, two of which it has, and what is said of it, and of it and another one."""
+    """A file of three records, and what is said of it, and of it and another one."""
     note, link_to = fields((b"text", spelled(3, b"hi"))), spelled(2, b"away")
     records = {b"app.bsky.feed.post/self": named(note), b"app.bsky.feed.like/1": named(link_to), b"a": record(b"b")}
     tree = tree_of(records)
-    file = file_of(commit(tree.name()), tree.all()) + section(note) + section(b"\x41b")
+    file = file_of(commit(tree.name()), tree.all()) + section(note) + section(link_to) + section(b"\x41b")
     lines = lines_of(records).encode()
     later_records = {b"a": record(b"c"), b"b/c": record(b"d")}
     newer = os.path.join(folder, "newer.car")
@@ -424,7 +437,9 @@ def small(folder):
     changed = changed_lines(records, later_records).encode()
     block, key = commit(tree.name()), b"app.bsky.feed.post/self"
     proof = file_of(block, way_to(tree, key)) + section(note)
-    wanted = {"records": (0, lines), f"record {key.decode()}": (0, b'{"text":"hi"}\n'), f"changes - {newer}": (0, changed)}
+    texts = [(note, '{"text":"hi"}'), (link_to, '{"/":{"bytes":"YXdheQ"}}'), (b"\x41b", '{"/":{"bytes":"Yg"}}')]
+    status, data, _ = json_of(records, texts)
+    wanted = {"records": (0, lines), "records --json": (status, data.encode()), f"record {key.decode()}": (0, b'{"text":"hi"}\n'), f"changes - {newer}": (0, changed)}
     return file, {**wanted, "commit": (0, said_of(block, tree).encode()), f"record-proof {key.decode()}": (0, proof)}
 
 

@@ -16,6 +16,8 @@ mod text;
 mod tree;
 
 pub use error::{DagJsonError, Refusal};
+pub use leaves::push_link;
 pub use parse::data_from_json;
 pub use reserved::has_reserved_key;
+pub use text::push_text;
 pub use tree::dag_json;

@@ -1,10 +1,11 @@
-//! `commit` and `record-proof`: what a repository's commit says, and the file that proves a record.
+//! `commit`, `record-proof` and `records --json`: what a repository's commit says, the file that
+//! proves a record, and the data of all records.
 
 use crate::{NOT_OPENED, end_output};
 use commit_lines::{CommitAsked, CommitWords};
 use dagcar_lines::OneFault;
 use dagcbor_cli::give_up;
-use named_lines::{run_commit, run_record_proof};
+use named_lines::{run_commit, run_record_proof, run_records_json};
 use std::io::{BufReader, BufWriter, Read, Write};
 use std::{fs, io};
 
@@ -22,6 +23,7 @@ fn commit_over<S: Read + Drop, V: Write>(
         CommitAsked::Proof(key) => {
             run_record_proof(rt.alloc(), key, &mut input, &mut output, errors)
         }
+        CommitAsked::Records => run_records_json(rt.alloc(), &mut input, &mut output, errors),
     };
     Ok(end_output(&mut output, errors, status))
 }

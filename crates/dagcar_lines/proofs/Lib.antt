@@ -6,3 +6,4 @@ pub mod Proving
 pub mod Finding
 pub mod RefusedPlaces
 pub mod Shown
+pub mod TwoBlocks

@@ -26,3 +26,8 @@ model_said b made some m well said told (inr k) = absurd (no_block made m.0 well
 pub node_shown : (b : List ℕ) (before : Bool) (line lines : List ℕ) → IsShown b before line lines → before ≡ false → (well : Bool) (said told : List ℕ) → IsNodeSaid b well said told → IsDataShown b well said told
 node_shown b before line lines (inl k) not well said told h = absurd (let clash : true ≡ false = sym k.2 ∙ not in cc clash)
 node_shown b before line lines (inr k) not well said told h = inr (inl ((λ t. no_block b t.0 before line lines k t.1), h.0, h.1))
+
+-- what is said of bytes of which nothing is shown
+pub unread_shown : (b : List ℕ) (well : Bool) (line told : List ℕ) → IsShown b well line told → well ≡ false → IsSaidOfNoBlock b well line told
+unread_shown b well line told (inl k) not = absurd (let clash : true ≡ false = sym k.2 ∙ not in cc clash)
+unread_shown b well line told (inr k) not = k

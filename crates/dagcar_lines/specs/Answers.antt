@@ -1,8 +1,9 @@
 -- What the program answers of bytes.
-use Rattle.std.specs.Prelude.{◌≡◌, ◌≢◌, ◌⊎◌, ◌↔◌, ℕ, codes, List, [], ◌++◌, Vec, Bool, true, false, IsTrue, ⊤, Result, Ok, Err, Option, if◌then◌else◌, flat_map}
+use Rattle.std.specs.Prelude.{◌≡◌, ◌≢◌, ◌⊎◌, ◌↔◌, ℕ, codes, List, [], ◌++◌, drop, Vec, Bool, true, false, IsTrue, ⊤, Result, Ok, Err, Option, if◌then◌else◌, flat_map}
 use Rattle.std.specs.declared.alloc.Global.{Global}
 use Rattle.std.specs.declared.convert.Infallible.{Infallible}
 use Rattle.dagcbor_heads.specs.declared.error.DecodeError.{DecodeError}
+use Rattle.dagcbor_heads.specs.declared.error.DecodeError.TheVariants.{TrailingData}
 use Rattle.ipld_tree.specs.Tree.{Tree}
 use Rattle.ipld_tree.specs.Spelling.{IsSpelling}
 use Rattle.ipld_tree.specs.Cid.{CidParts}
@@ -97,11 +98,28 @@ list_speech = record {
 
 -- ---- one block
 
+-- the bytes are a block, and what trails it is another: so is a frame of a repository host's stream
+abbrev pub AreTwoBlocks : List ℕ → Type 0
+AreTwoBlocks b = (place : ℕ) × IsRefusedAt {E = Infallible} b TrailingData place × HasBlock (drop place b)
+
+-- what is told of two blocks
+abbrev pub two_blocks_line : List ℕ
+two_blocks_line = line (codes "dagcar: two blocks, one after the other: dagcar event reads frames")
+
+abbrev pub IsHint : List ℕ → List ℕ → Type 0
+IsHint b hint = (AreTwoBlocks b × (hint ≡ two_blocks_line)) ⊎ ((¬ AreTwoBlocks b) × (hint ≡ []))
+
+-- what `one` and `show` say of bytes that are no block: why and where; and of two blocks also what
+-- reads them
+abbrev pub IsUnreadSaid : List ℕ → Bool → List ℕ → List ℕ → Type 0
+IsUnreadSaid b well out told = (fault hint : List ℕ) × IsSaidOfNoBlock b well out fault
+    × IsHint b hint × (told ≡ fault ++ hint)
+
 -- what `one` says of bytes: the kind of the block, or why they are none
 abbrev pub IsJudged : List ℕ → Bool → List ℕ → List ℕ → Type 0
 IsJudged b well out told = ((t : Tree) × IsBlock b t × (well ≡ true)
     × (out ≡ line (codes "ok " ++ kind_name (kind_of t))) × (told ≡ []))
-    ⊎ IsSaidOfNoBlock b well out told
+    ⊎ IsUnreadSaid b well out told
 
 -- the data as DAG-JSON in a line; and a line is told where a map in it has the key `/`
 abbrev pub IsDataSaid : Tree → Bool → List ℕ → List ℕ → Type 0
@@ -114,7 +132,7 @@ IsDataSaid t well out told = (well ≡ true) × (out ≡ line (dag_json t))
 abbrev pub IsDataShown : List ℕ → Bool → List ℕ → List ℕ → Type 0
 IsDataShown b well out told = ((t : Tree) × IsBlock b t × IsDataSaid t well out told)
     ⊎ ((¬ HasBlock b) × (b ≢ []) × ((t : Tree) × IsNodeOf b t × IsDataSaid t well out told))
-    ⊎ (((b ≡ []) ⊎ ((t : Tree) → ¬ IsNodeOf b t)) × IsSaidOfNoBlock b well out told)
+    ⊎ (((b ≡ []) ⊎ ((t : Tree) → ¬ IsNodeOf b t)) × IsUnreadSaid b well out told)
 
 -- what `make` gives of a text: the block of the data that it is; or nothing, and a line that tells
 -- why it is none. At which byte is not said here.

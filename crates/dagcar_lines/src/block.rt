@@ -1,21 +1,66 @@
 //! `name`, `one` and `show`: the name, the kind or the data of a block.
 
-ghost use Rattle.std.specs.Prelude.{◌≡◌, ◌≢◌, ◌⊎◌, [], IfOk, MatchOption};
+ghost use Rattle.std.specs.Prelude.{◌≡◌, ◌≢◌, ◌⊎◌, [], IfOk, MatchBool, MatchOption};
 ghost use Rattle.ipld_tree.specs.Tree.{Tree};
 ghost use Rattle.cid_text.specs.Texts.{cid_text};
 ghost use Rattle.dag_pb_model.specs.Model.{IsNodeOf};
 ghost use Rattle.block_lines.specs.Lines.{line};
+ghost use Rattle.block_lines.specs.Shown.{IsSaidOfNoBlock};
 ghost use Rattle.dagcar_lines.specs.Answers.{IsDataSaid, IsDataShown, IsJudged, IsNameSaid};
+ghost use Rattle.dagcar_lines.specs.Answers.{AreTwoBlocks, IsHint, IsUnreadSaid};
 
 use crate::answer::Answering;
-use block_lines::{Answer, line_of, no_block_answer, shown};
+use block_lines::{Answer, Said, line_of, no_block_answer, shown};
 use cid_text::cid_text;
 use dag_pb_model::model_of;
 use dagcbor_cli::ToolError;
 use dagcbor_decode::{judge_slice, kind_name};
+use dagcbor_heads::DecodeError;
 use ipld_links::name_of_block;
 use ipld_tree::Cid;
 use std::alloc::{AllocError, Global};
+
+/// What is told of two blocks.
+const TWO_BLOCKS: &[u8] = b"dagcar: two blocks, one after the other: dagcar event reads frames\n";
+
+/// Whether the bytes are a block, and what trails it is another.
+fn are_two_blocks(bytes: &[u8]) -> bool
+    ensures { MatchBool result (AreTwoBlocks bytes.now) (¬ AreTwoBlocks bytes.now) }
+{
+    let Err(refused) = judge_slice(bytes) else {
+        return false;
+    };
+    match refused.cause {
+        DecodeError::TrailingData => judge_slice(&bytes[refused.place..]).is_ok(),
+        _ => false,
+    }
+}
+
+/// What is told beside of bytes that are not a block: what reads them, if they are two blocks.
+fn hint_of(alloc: Global, bytes: &[u8]) -> Result<Vec<u8>, AllocError>
+    ensures { IfOk result (λ v. IsHint bytes.now v.items) }
+{
+    if are_two_blocks(bytes) {
+        TWO_BLOCKS.to_vec(alloc)
+    } else {
+        Ok(Vec::new(alloc))
+    }
+}
+
+/// What is said of bytes that are not a block, where this is told of why.
+fn unread_answer(
+    alloc: Global,
+    bytes: &[u8],
+    said: Said,
+    mut told: Vec<u8>,
+) -> Result<Answer, AllocError>
+    ensures { IfOk result (λ p. IsSaidOfNoBlock bytes.now said.1 said.0.items told.items
+        → IsUnreadSaid bytes.now p.0.1 p.0.0.items p.1.items) }
+{
+    let hint = hint_of(alloc, bytes)?;
+    told.extend_from_slice(&hint)?;
+    Ok((said, told))
+}
 
 /// The line of a name.
 fn name_line(alloc: Global, cid: &Cid) -> Result<Vec<u8>, AllocError>
@@ -55,7 +100,10 @@ impl Answering for Judging {
                 let line = line_of(alloc, b"ok ", kind_name(kind).as_bytes(), b"")?;
                 Ok(((line, true), Vec::new(alloc)))
             }
-            Err(refused) => Ok(no_block_answer(alloc, &refused)?),
+            Err(refused) => {
+                let (said, told) = no_block_answer(alloc, &refused)?;
+                Ok(unread_answer(alloc, bytes, said, told)?)
+            }
         }
     }
 }
@@ -86,7 +134,7 @@ fn data_shown(alloc: Global, bytes: &[u8]) -> Result<Answer, AllocError>
     }
     match model_shown(alloc, bytes)? {
         Some(answer) => Ok(answer),
-        None => Ok((said, told)),
+        None => unread_answer(alloc, bytes, said, told),
     }
 }
 

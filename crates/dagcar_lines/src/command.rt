@@ -43,7 +43,7 @@ use std::io::{BufRead, Write};
 /// What is told of wrong words.
 pub const USAGE: &str =
     "usage: dagcar check [--summary|--index]|verify|list [--index]|name|one|show|make|get CID|tree CID\
-    |at [--raw] CID/PATH|prove CID/PATH|ls CID/PATH|cat CID/PATH|records|record KEY|record-proof KEY|commit|changes OLD NEW|inspect [--json]\
+    |at [--raw] CID/PATH|prove CID/PATH|ls CID/PATH|cat CID/PATH|records [--json]|record KEY|record-proof KEY|commit|changes OLD NEW|inspect [--json]\
     |index FILE|filter ..|merge ..|split ..|event\n";
 
 /// What is told of want of memory.

@@ -11,7 +11,7 @@ const HELP: &str = "usage: dagcar check [--summary] [FILE]
        dagcar at [--raw] CID/PATH [FILE]
        dagcar prove CID/PATH [FILE]
        dagcar ls|cat CID/PATH [FILE]
-       dagcar records [FILE]
+       dagcar records [--json] [FILE]
        dagcar record KEY [FILE]
        dagcar record-proof KEY [FILE]
        dagcar commit [FILE]
@@ -35,7 +35,8 @@ Of a file of blocks (CAR, version 1 or 2); without FILE, or with -, standard inp
   prove    the file of the blocks on a path, over which at answers the same
   ls       the entries of the directory of IPFS that a path of names leads to
   cat      the bytes of the file that it leads to
-  records  the keys of a repository's records (AT Protocol), and their CIDs
+  records  the keys of a repository's records (AT Protocol), and their CIDs; --json writes
+           each record's CID, key and data as a line of DAG-JSON
   record   the record of a key, as DAG-JSON
   record-proof  the file of the blocks that decide which record a key has, or that it has none
   commit   what a repository's commit says

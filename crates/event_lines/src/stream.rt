@@ -1,6 +1,6 @@
 //! What is said of frames, one after the other.
 
-ghost use Rattle.std.specs.Prelude.{◌≡◌, ◌++◌, ◌&&◌, IfOk, OnOk};
+ghost use Rattle.std.specs.Prelude.{IfOk};
 ghost use Rattle.event_frames.specs.declared.error.FrameError.TheVariants.{NoEnd};
 ghost use Rattle.event_lines.specs.Causes.{unread_line};
 ghost use Rattle.event_lines.specs.Frames.{IsToldAt};
@@ -11,22 +11,9 @@ use crate::frame::{Place, frame_said, told_at};
 use crate::seen::Last;
 use block_lines::Answer;
 use event_frames::{FrameError, split_frame};
+use record_lines::append_answer;
 use std::alloc::{AllocError, Global};
 use std::collections::BTreeMap;
-
-/// Puts an answer after others.
-fn append(all: &mut Answer, next: &Answer) -> Result<(), AllocError>
-    ensures { OnOk result ((all.new.0.1 ≡ (all.old.0.1 && next.now.0.1))
-        × (all.new.0.0.items ≡ all.old.0.0.items ++ next.now.0.0.items)
-        × (all.new.1.items ≡ all.old.1.items ++ next.now.1.items)) }
-{
-    let ((lines, well), told) = all;
-    let ((next_lines, next_well), next_told) = next;
-    lines.extend_from_slice(next_lines)?;
-    told.extend_from_slice(next_told)?;
-    *well = *well && *next_well;
-    Ok(())
-}
 
 /// What is said of bytes of which no frame stands first.
 fn end_said(alloc: Global, at: Place) -> Result<Answer, AllocError>
@@ -51,11 +38,11 @@ pub fn events_said(alloc: Global, bytes: &[u8]) -> Result<Answer, AllocError>
         at.number += 1;
         let Some(parts) = split_frame(rest) else {
             let end = end_said(alloc, at)?;
-            append(&mut all, &end)?;
+            append_answer(&mut all, &end)?;
             return Ok(all);
         };
         let next = frame_said(alloc, at, &parts, &mut seen)?;
-        append(&mut all, &next)?;
+        append_answer(&mut all, &next)?;
         at.byte += parts.header.len() + parts.body.len();
         rest = parts.rest;
     }

@@ -1,6 +1,6 @@
 -- The words of `index FILE`, of `--index`, of those that make files of sections, and of those that ask of a
 -- commit are no command.
-use Rattle.std.proofs.Common.{◌≡◌, ℕ, ◌+◌, ◌*◌, List, [], ap, sym, ◌∙◌, get_or, arith, codes, length, Option, None, Some}
+use Rattle.std.proofs.Common.{◌≡◌, ℕ, ◌+◌, ◌*◌, ◌≤◌, List, [], ap, sym, ◌∙◌, get_or, arith, codes, length, Option, None, Some}
 use Rattle.dagcar_lines.specs.Commands.{command_name, IsCommand}
 use Rattle.dagcar_lines.specs.declared.command.Command.{Command}
 use Rattle.dagcar_lines.specs.declared.command.Command.TheVariants as commands
@@ -91,11 +91,19 @@ other_proof : (c : Command) → length (codes "record-proof") ≡ length (comman
 other_proof (commands.Raw n) e = omega (arith, e)
 other_proof c e = omega (arith, e)
 
+-- `records` alone is a command of one word, and no other command's word is as long
+other_records : (words : List (List ℕ)) (c : Command) → IsCommand words c → length (codes "records") ≡ length (get_or words 0 []) → 2 ≤ length words → ⊥
+other_records words commands.Records k e least = omega (arith, ap length k, least)
+other_records words (commands.Raw n) k e least = omega (arith, e, length_of_first words (commands.Raw n) k)
+other_records words c k e least = omega (arith, e, length_of_first words c k)
+
 pub commit_apart : (words : List (List ℕ)) (asked : CommitAsked) (file : Option (List ℕ)) (c : Command) → AreCommitWords words asked file → IsCommand words c → ⊥
 commit_apart words commit.Commit None c h k = other_commit c (sym (ap first_letters h) ∙ first_of words c k)
 commit_apart words commit.Commit (Some file) c h k = other_commit c (sym (ap first_letters h) ∙ first_of words c k)
 commit_apart words (commit.Proof key) None c h k = other_proof c (sym (ap (λ w. length (get_or w 0 [])) h) ∙ length_of_first words c k)
 commit_apart words (commit.Proof key) (Some file) c h k = other_proof c (sym (ap (λ w. length (get_or w 0 [])) h) ∙ length_of_first words c k)
+commit_apart words commit.Records None c h k = other_records words c k (sym (ap (λ w. length (get_or w 0 [])) h)) (omega (arith, ap length h))
+commit_apart words commit.Records (Some file) c h k = other_records words c k (sym (ap (λ w. length (get_or w 0 [])) h)) (omega (arith, ap length h))
 
 other_split : (c : Command) → letters_of (codes "split") ≡ letters_of (command_name c) → ⊥
 other_split (commands.Raw n) e = omega (arith, e)

@@ -1,4 +1,4 @@
-//! The status of what is answered of a repository's commit.
+//! The status of what is answered of a repository's commit, and of all its records.
 
 ghost use Rattle.std.specs.Prelude.{◌≡◌, ◌≢◌, IfSome, Result, Bool, Option, List, ℕ};
 ghost use Rattle.block_lines.specs.Lines.{SaysBoth};
@@ -6,9 +6,11 @@ ghost use Rattle.dagcar_lines.specs.Answers.{EndsSo};
 ghost use Rattle.dagcbor_cli.specs.declared.fault.ToolError.{ToolError};
 ghost use Rattle.commit_lines.specs.Commits.{OfFile, IsCommitSaid};
 ghost use Rattle.commit_lines.specs.Proofs.{IsProofOf};
+ghost use Rattle.record_lines.specs.Json.{IsRecordsJson};
 
 use commit_lines::{write_commit, write_record_proof};
 use dagcar_lines::status_of;
+use record_lines::write_records_json;
 use std::alloc::Global;
 use std::io::{BufRead, Write};
 
@@ -43,5 +45,21 @@ pub fn run_record_proof<R: BufRead, W: Write, V: Write>(
         ended (W.contents output.new) after × (result ≢ 2 → V.contents errors.new ≡ after)) }
 {
     let ended = write_record_proof(alloc, word, input, output, errors);
+    status_of(ended, errors)
+}
+
+/// Writes the data of each record of the input as DAG-JSON, and answers the exit status.
+pub fn run_records_json<R: BufRead, W: Write, V: Write>(
+    alloc: Global,
+    input: &mut R,
+    output: &mut W,
+    errors: &mut V,
+) -> u8
+    ensures { IfSome (R.remaining input.old) (λ b. (ended : Result Bool ToolError)
+        × (after : Option (List ℕ)) × EndsSo ended result
+        × SaysBoth (IsRecordsJson b) (W.contents output.old) (V.contents errors.old) ended
+        (W.contents output.new) after × (result ≢ 2 → V.contents errors.new ≡ after)) }
+{
+    let ended = write_records_json(alloc, input, output, errors);
     status_of(ended, errors)
 }

@@ -15,7 +15,7 @@ mod texts;
 
 pub use at::write_asked_named;
 pub use command::{index_of, name_of, run_get, run_index};
-pub use commits::{run_commit, run_record_proof};
+pub use commits::{run_commit, run_record_proof, run_records_json};
 pub use get::get_named;
 pub use index_words::{
     IndexAsked, IndexWords, index_words_of, is_check, run_checked, run_entries, run_inspected,

@@ -2,3 +2,4 @@ pub mod Telling
 pub mod Reading
 pub mod Wording
 pub mod Spelled
+pub mod AsJson

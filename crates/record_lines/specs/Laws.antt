@@ -1,5 +1,5 @@
 -- What holds of all keys.
-use Rattle.std.specs.Prelude.{◌≡◌, ℕ, ◌<◌, ◌≤◌, List}
+use Rattle.std.specs.Prelude.{◌≡◌, ℕ, ◌≤◌, List}
 use Rattle.std.specs.List.{AllByRecursion}
 use Rattle.cid_text.specs.Alphabets.{AreBytes}
 use Rattle.record_lines.specs.Keys.{key_text, IsNamedBy}

@@ -2,6 +2,7 @@
 #![tactic(auto)]
 
 mod differing;
+mod json;
 mod key;
 pub mod laws;
 mod record;
@@ -10,8 +11,9 @@ mod repository;
 mod words;
 
 pub use differing::{push_name, write_changes};
+pub use json::write_records_json;
 pub use key::{named_key, push_key};
 pub use record::write_record;
 pub use records::write_records;
 pub use repository::{first_root, read_file};
-pub use words::{cause_text, name_fault_line, repo_line, told_alone, tree_line};
+pub use words::{append_answer, cause_text, name_fault_line, repo_line, told_alone, tree_line};

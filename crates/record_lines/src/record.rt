@@ -59,7 +59,7 @@ fn verified_said(alloc: Global, name: &Cid, bytes: &[u8]) -> Result<Answer, Allo
 }
 
 /// What is said of a record's name.
-fn block_said(
+pub(crate) fn block_said(
     alloc: Global,
     blocks: &BTreeMap<Cid, Vec<u8>>,
     name: &Cid,

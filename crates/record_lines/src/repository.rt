@@ -54,7 +54,7 @@ fn repo_at(
 }
 
 /// The repository whose commit the first root names.
-fn repo_of(
+pub(crate) fn repo_of(
     alloc: Global,
     roots: &[Cid],
     blocks: &BTreeMap<Cid, Vec<u8>>,

@@ -1,6 +1,6 @@
 //! Why a repository is not read, in a line.
 
-ghost use Rattle.std.specs.Prelude.{◌≡◌, ◌++◌, codes, decimal, string_bytes, IfOk};
+ghost use Rattle.std.specs.Prelude.{◌≡◌, ◌++◌, ◌&&◌, codes, decimal, string_bytes, IfOk, OnOk};
 ghost use Rattle.block_lines.specs.Codecs.{codec_text};
 ghost use Rattle.record_lines.specs.Words.{IsOfTree, IsOfRepo, name_fault_line, tree_line, repo_line};
 ghost use Rattle.record_lines.specs.Words.{cause_text, no_root_line, other_codec_line};
@@ -20,6 +20,20 @@ pub fn told_alone(alloc: Global, line: Vec<u8>) -> Answer
     ensures { IsToldAlone line.items result.0.1 result.0.0.items result.1.items }
 {
     ((Vec::new(alloc), false), line)
+}
+
+/// Appends an answer to others.
+pub fn append_answer(all: &mut Answer, next: &Answer) -> Result<(), AllocError>
+    ensures { OnOk result ((all.new.0.1 ≡ (all.old.0.1 && next.now.0.1))
+        × (all.new.0.0.items ≡ all.old.0.0.items ++ next.now.0.0.items)
+        × (all.new.1.items ≡ all.old.1.items ++ next.now.1.items)) }
+{
+    let ((lines, well), told) = all;
+    let ((next_lines, next_well), next_told) = next;
+    lines.extend_from_slice(next_lines)?;
+    told.extend_from_slice(next_told)?;
+    *well = *well && *next_well;
+    Ok(())
 }
 
 /// A name, and what is wrong with it.

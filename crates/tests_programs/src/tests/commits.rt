@@ -1,13 +1,14 @@
-//! `commit` and `record-proof`: what a repository's commit says, and the file that proves a record.
-//! Which nodes are on the way to a key is told by another program.
+//! `commit`, `record-proof` and `records --json`: what a repository's commit says, the file that proves
+//! a record, and the data of all records. Which nodes are on the way to a key is told by another
+//! program.
 
 use crate::tests::dagcar::owned_words;
 use crate::tests::records::{
-    COMMIT, HEADER, LAST_MISSING, LAST_WORD, NO_ROOT, NO_ROOT_TOLD, NODES, RECORD_TOLD, RECORDS,
-    TURNED_ROOTS, TWO_ROOTS, file_of,
+    COMMIT, HEADER, LAST_MISSING, LAST_WORD, NO_ROOT, NO_ROOT_TOLD, NODES, RAW_RECORD, RECORD_TOLD,
+    RECORDS, TURNED_ROOTS, TWO_ROOTS, file_of,
 };
 use commit_lines::{CommitAsked, commit_words_of};
-use named_lines::{run_commit, run_record_proof};
+use named_lines::{run_commit, run_record_proof, run_records_json};
 use std::alloc::Global;
 use std::test::Fail;
 use tests_shared::{agree, joined};
@@ -34,6 +35,7 @@ fn says(
         CommitAsked::Proof(key) => {
             run_record_proof(alloc, key, &mut input, &mut output, &mut errors)
         }
+        CommitAsked::Records => run_records_json(alloc, &mut input, &mut output, &mut errors),
     };
     agree((status, output.as_slice(), errors.as_slice()), wanted)
 }
@@ -89,6 +91,32 @@ fn a_record_is_proved_by_the_blocks_on_its_way(rt: HostRuntime) -> Result<(), Fa
     says(alloc, &words, &file, (1, b"", LAST_MISSING))
 }
 
+/// The data of the records that the file has.
+const DATA: &[u8] =
+    b"{\"cid\":{\"/\":\"bafyreiarfwso7unahyhknmngrqc6m57tw2ruw6kdf7dtcpipnciplz5gda\"},\"key\":\"com.example.note/0\",\"value\":{\"text\":\"one\"}}\n{\"cid\":{\"/\":\"bafyreihhtxw2cafw6bs4zl7th2nc3v2glggnl63bdv22svvqcbri6jpnkm\"},\"key\":\"com.example.note/1\",\"value\":{\"text\":\"two\"}}\n{\"cid\":{\"/\":\"bafyreihznkb5f4w7xrun3i6qun2qm2lngkab5req5nwbr2k7fs2bo4hreq\"},\"key\":\"com.example.note/3\",\"value\":{\"text\":\"three\"}}\n{\"cid\":{\"/\":\"bafyreifya3avxxu7fguhsehsjv2qsiytl2xjwsaw2m5xnhbezuetj7kp74\"},\"key\":\"com.example.note/4\",\"value\":{\"text\":\"four\"}}\n{\"cid\":{\"/\":\"bafyreifeem2chwoc4h2nzvi27wzhj37h6udiqyncu33wfkzgojfrijndvq\"},\"key\":\"com.example.note/5\",\"value\":{\"text\":\"five\"}}\n";
+
+/// What is told of the last record, which the file lacks.
+const LAST_TOLD: &[u8] =
+    b"com.example.note/a%20b%0A%25%7F%C3%A9: missing bafyreibnaz72nhjedu24vimmgm3cvydho4qpwxod7ikmlqwhu4rz6a4yfu dag-cbor\n";
+
+/// What is told of a record that is no DAG-CBOR.
+const RAW_TOLD: &[u8] =
+    b"com.example.note/raw: bafkreicl6ujc6ncfktctxxroxognfn7d2fqavvrryoc2lv6m4i6hpbkfti is raw, not dag-cbor\n";
+
+#[test]
+fn all_records_are_written_as_json(rt: HostRuntime) -> Result<(), Fail> {
+    let alloc = rt.alloc();
+    let words = ["records", "--json"];
+    let file = file_of(alloc, HEADER, NODES, RECORDS)?;
+    says(alloc, &words, &file, (1, DATA, LAST_TOLD))?;
+    let named = ["records", "--json", "FILE"];
+    says(alloc, &named, &file, (1, DATA, LAST_TOLD))?;
+    says(alloc, &words, RAW_RECORD, (1, b"", RAW_TOLD))?;
+    let file = file_of(alloc, TURNED_ROOTS, NODES, RECORDS)?;
+    says(alloc, &words, &file, (1, b"", RECORD_TOLD))?;
+    says(alloc, &words, NO_ROOT, (1, b"", NO_ROOT_TOLD))
+}
+
 #[test]
 fn other_words_ask_for_no_commit(rt: HostRuntime) -> Result<(), Fail> {
     let alloc = rt.alloc();
@@ -97,6 +125,10 @@ fn other_words_ask_for_no_commit(rt: HostRuntime) -> Result<(), Fail> {
         &["record-proof"][..],
         &["commit", "FILE", "FILE"][..],
         &["record-proof", "KEY", "FILE", "FILE"][..],
+        &["records"][..],
+        &["records", "FILE"][..],
+        &["records", "--jsons"][..],
+        &["records", "--json", "FILE", "FILE"][..],
     ] {
         agree(commit_words_of(&owned_words(alloc, words)?).is_none(), true)?;
     }

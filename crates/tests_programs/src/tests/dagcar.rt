@@ -198,7 +198,8 @@ fn blocks_are_named_judged_and_shown(rt: HostRuntime) -> Result<(), Fail> {
     Ok(())
 }
 
-/// A word, bytes that are no block, and the line that tells by which byte they are none.
+/// A word, bytes that are no block, and what is told of them: by which byte they are none, and what reads
+/// two blocks.
 const PLACES: &[(&str, &[u8], &[u8], &[u8])] = &[
     (
         "one",
@@ -224,6 +225,30 @@ const PLACES: &[(&str, &[u8], &[u8], &[u8])] = &[
         b"\x01\x02",
         b"refused TrailingData\n",
         b"refused TrailingData at byte 1\n",
+    ),
+    (
+        "one",
+        b"\x81\x01\xa0",
+        b"refused TrailingData\n",
+        b"refused TrailingData at byte 2\ndagcar: two blocks, one after the other: dagcar event reads frames\n",
+    ),
+    (
+        "show",
+        b"\xa1\x62op\x01\xa1\x61a\x20",
+        b"refused TrailingData\n",
+        b"refused TrailingData at byte 5\ndagcar: two blocks, one after the other: dagcar event reads frames\n",
+    ),
+    (
+        "show",
+        b"\x81\x01\xa0\xa0",
+        b"refused TrailingData\n",
+        b"refused TrailingData at byte 2\n",
+    ),
+    (
+        "one",
+        b"\x81\x01\x18\x17",
+        b"refused TrailingData\n",
+        b"refused TrailingData at byte 2\n",
     ),
 ];
 

@@ -58,7 +58,7 @@ const FLOAT_LINE: &[u8] =
 
 const USAGE_LINE: &[u8] =
     b"usage: dagcar check [--summary|--index]|verify|list [--index]|name|one|show|make|get CID|tree CID\
-    |at [--raw] CID/PATH|prove CID/PATH|ls CID/PATH|cat CID/PATH|records|record KEY|record-proof KEY|commit|changes OLD NEW|inspect [--json]\
+    |at [--raw] CID/PATH|prove CID/PATH|ls CID/PATH|cat CID/PATH|records [--json]|record KEY|record-proof KEY|commit|changes OLD NEW|inspect [--json]\
     |index FILE|filter ..|merge ..|split ..|event\n";
 
 /// The map's block.

@@ -259,12 +259,12 @@ const SHOWN: &[(&[u8], u8, &[u8], &[u8])] = &[
     ),
     // Of DAG-CBOR, an integer.
     (b"\x0a", 0, b"10\n", b""),
-    // Bytes of neither, and a node with a name that is not UTF-8.
+    // Two blocks, which are no node, and a node with a name that is not UTF-8.
     (
         b"\x08\x01",
         1,
         b"refused TrailingData\n",
-        b"refused TrailingData at byte 1\n",
+        b"refused TrailingData at byte 1\ndagcar: two blocks, one after the other: dagcar event reads frames\n",
     ),
     (
         b"\x12\x29\x0a\x24\x01\x71\x12\x20\x87\x1b\x2f\x0e\xa1\x93\xdf\x9a\xe5\xe5\x25\x48\xf8\x19\xb5\x41\xc7\x78\x83\x7d\xa3\x53\x9a\x2e\x8b\x20\x09\x13\xb7\xeb\xc6\x5a\x12\x01\xff\x0a\x01\x78",

@@ -11,7 +11,7 @@ pub returns-in_default : goal.returns-in_default
 returns-in_default c =
     let some : 0 < length c.loop-rest.rest.now = search rules in
     end_read c.args.bytes.now c.loop-rest.rest.now c.loop-rest.at.number c.loop-rest.at.byte (seen_in c.loop-rest.seen) _ _ _ _ _ _ _ _ _ c.loop-rest.invariant some c.in_default.ensures c.in_ok-end.ensures
-    c.in_ok-append.ensures.0 c.in_ok-append.ensures.1 c.in_ok-append.ensures.2
+    c.in_ok-append_answer.ensures.0 c.in_ok-append_answer.ensures.1 c.in_ok-append_answer.ensures.2
 
 pub loop-rest-smaller : goal.loop-rest-smaller
 loop-rest-smaller c = frame_shorter c.loop-rest.rest.now c.in-Some.parts.header.now c.in-Some.parts.body.now c.in-Some.parts.rest.now c.in-Some.ensures
@@ -19,7 +19,7 @@ loop-rest-smaller c = frame_shorter c.loop-rest.rest.now c.in-Some.parts.header.
 pub loop-rest-preserved : goal.loop-rest-preserved
 loop-rest-preserved c =
     one_read c.args.bytes.now c.loop-rest.rest.now c.in-Some.parts.header.now c.in-Some.parts.body.now c.in-Some.parts.rest.now c.loop-rest.at.number c.loop-rest.at.byte (seen_in c.loop-rest.seen) (seen_in c.frame_said.new.seen) _ _ _ _ _ _ _ _ _ c.loop-rest.invariant c.in-Some.ensures c.in_ok-next.ensures
-    c.in_ok-append-2.ensures.0 c.in_ok-append-2.ensures.1 c.in_ok-append-2.ensures.2
+    c.in_ok-append_answer-2.ensures.0 c.in_ok-append_answer-2.ensures.1 c.in_ok-append_answer-2.ensures.2
 
 pub returns : goal.returns
 returns c =

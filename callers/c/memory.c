@@ -3,8 +3,9 @@
 
      memory FILE [FRAME]
 
-   It verifies the commit of the frame, and reads a repository. Where that is one, the block that tells
-   of it goes to DAG-JSON and back. It prints how many allocations each call made. */
+   It verifies the commit of the frame, reads the commit of a repository, proves a record of it, and
+   reads it whole. Where that is one, the block that tells of it goes to DAG-JSON and back. It prints how
+   many allocations each call made. */
 #undef NDEBUG
 #include "dagcbor_memory.h"
 #include <assert.h>
@@ -35,6 +36,12 @@ static int32_t verified(const uint8_t *frame, size_t length, uint8_t *out, size_
     *needed = 0;
     if (kind != DAGCBOR_FRAME_COMMIT) return kind;
     return dagcbor_verify_event(frame, length, nothing, 0, nothing, 0, out, room, needed);
+}
+
+static int32_t proof_of(const uint8_t *file, size_t length, uint8_t *out, size_t room,
+                        size_t *needed) {
+    static const uint8_t key[] = "app.bsky.feed.post/self";
+    return dagcbor_record_proof(file, length, key, sizeof key - 1, out, room, needed);
 }
 
 /* The answer of the call, and how long it is, which it is again once no allocation is left to refuse. */
@@ -75,6 +82,12 @@ int main(int count, char **paths) {
         assert(answer_of(verified, file, length, block, &needed) == DAGCBOR_VERIFIED && needed);
     }
     size_t length = bytes_of(paths[1], file);
+    int32_t code = answer_of(dagcbor_commit, file, length, block, &needed);
+    assert(answer_of(proof_of, file, length, text, &size) == code);
+    if (code == DAGCBOR_REPOSITORY) { /* the proof has the same commit */
+        assert(answer_of(dagcbor_commit, text, size, back, &again) == code);
+        assert(again == needed && memcmp(block, back, needed) == 0);
+    }
     if (answer_of(dagcbor_repository, file, length, block, &needed) != DAGCBOR_REPOSITORY) return 0;
     assert(answer_of(dagcbor_to_json, block, needed, text, &size) == DAGCBOR_MAP);
     assert(answer_of(from_json, text, size, back, &again) == DAGCBOR_MAP);

@@ -8,16 +8,25 @@
 #include "dagcbor_memory.h"
 #include "heap.c"
 
-/* What a call is given: bytes, and of an event what is known. It tells a place. */
+/* What a call is given: bytes, and of an event what is known, or of a record its key. It tells a place. */
 typedef struct {
-    const uint8_t *bytes, *root, *rev;
-    size_t length, root_length, rev_length, place;
+    const uint8_t *bytes, *root, *rev, *key;
+    size_t length, root_length, rev_length, key_length, place;
 } Given;
 
 typedef int32_t Call(Given *given, uint8_t *out, size_t room, size_t *needed);
 
 static int32_t repository_of(Given *given, uint8_t *out, size_t room, size_t *needed) {
     return dagcbor_repository(given->bytes, given->length, out, room, needed);
+}
+
+static int32_t commit_of(Given *given, uint8_t *out, size_t room, size_t *needed) {
+    return dagcbor_commit(given->bytes, given->length, out, room, needed);
+}
+
+static int32_t proof_of(Given *given, uint8_t *out, size_t room, size_t *needed) {
+    return dagcbor_record_proof(given->bytes, given->length, given->key, given->key_length, out, room,
+                                needed);
 }
 
 static int32_t json_of(Given *given, uint8_t *out, size_t room, size_t *needed) {
@@ -75,6 +84,23 @@ static PyObject *repository(PyObject *module, PyObject *file) {
     return answer_of(file, repository_of);
 }
 
+/* commit(file): the same of the commit alone that the first root names. */
+static PyObject *commit(PyObject *module, PyObject *file) {
+    (void)module;
+    return answer_of(file, commit_of);
+}
+
+/* proof_of_record(file, key): 0, and the file that proves the record; or 1, and the line that tells why there
+   is none. */
+static PyObject *proof_of_record(PyObject *module, PyObject *args) {
+    (void)module;
+    PyObject *file, *key;
+    Given given = {0};
+    if (!PyArg_ParseTuple(args, "OO", &file, &key)) return NULL;
+    if (!takes(file, &given.bytes, &given.length)) return NULL;
+    return takes(key, &given.key, &given.key_length) ? answer_to(&given, proof_of) : NULL;
+}
+
 /* to_json(block): the number of its kind, and the text; or that of the refusal. */
 static PyObject *to_json(PyObject *module, PyObject *block) {
     (void)module;
@@ -120,6 +146,8 @@ static PyObject *verify_event(PyObject *module, PyObject *args) {
 
 static PyMethodDef METHODS[] = {
     {"repository", repository, METH_O, NULL},
+    {"commit", commit, METH_O, NULL},
+    {"proof_of_record", proof_of_record, METH_VARARGS, NULL},
     {"to_json", to_json, METH_O, NULL},
     {"from_json", from_json, METH_O, NULL},
     {"event_frame", event_frame, METH_VARARGS, NULL},

@@ -13,8 +13,9 @@ import time
 from collections import Counter
 
 from dagcbor import CID, DagCborError, check, check_car, dumps, find, from_json, iter_loads, links
-from dagcbor import loads, loads_first, name, read_car, read_repo, resolve, to_json, verify, write_car
-from dagcbor.atproto import Known, read_event, read_events, verify_event
+from dagcbor import loads, loads_first, name, read_car, read_commit, read_repo, record_proof, resolve, to_json
+from dagcbor import verify, write_car
+from dagcbor.atproto import CommitEvent, Known, read_event, read_events, verify_event
 from plain import links_in, mutated, random_cid, random_text, random_value, same, spelling
 
 
@@ -125,7 +126,7 @@ def bytes_of_any_sort(rng, given):
     if isinstance(text, list):
         assert from_json(*text) == given
         told(from_json, mutated(rng, text[0].encode()))
-    for call in (links, loads_first, CID, read_repo, from_json, read_event, verify_event):
+    for call in (links, loads_first, CID, read_repo, read_commit, from_json, read_event, verify_event):
         told(call, given)
     told(find, given, random_text(rng))
     told(verify, random_cid(rng), given)
@@ -144,6 +145,7 @@ def files(rng, blocks):
         else:
             assert checked == found
         told(read_repo, given)
+        told(record_proof, given, random_text(rng))
 
 
 def frames(rng):
@@ -157,6 +159,18 @@ def frames(rng):
         event, rest = found[0]
         assert event.frame + rest == given
         assert next(read_events(io.BytesIO(given))) == event
+        if isinstance(event, CommitEvent):
+            proves(event)
+
+
+def proves(event):
+    """A damaged file of blocks has its commit or not, and proves each record or not; what is proved is proved again."""
+    own = told(read_commit, event.blocks)
+    for op in event.ops:
+        proof = told(record_proof, event.blocks, op.path)
+        if isinstance(proof, list):
+            assert own == told(read_commit, *proof) == [read_commit(*proof)]
+            assert record_proof(*proof, op.path.encode()) == proof[0]
 
 
 def main():

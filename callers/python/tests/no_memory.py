@@ -8,7 +8,7 @@ import os
 import sys
 
 from dagcbor import CID, DagCborError, _native, check, check_car, dumps, links, loads, loads_first
-from dagcbor import from_json, name, read_car, to_json, verify, write_car
+from dagcbor import from_json, name, read_car, read_commit, record_proof, to_json, verify, write_car
 from dagcbor.atproto import read_event, verify_event
 from plain import same
 from conformance import cars
@@ -84,6 +84,12 @@ def followed(frame):
     return [event.seq, rest, commit.did, commit.commit, commit.signed, [list(it) for it in commit.changes]]
 
 
+def proved(frame):
+    event, _ = read_event(frame)
+    commit = read_commit(event.blocks)
+    return [commit.cid, commit.did, commit.signed, record_proof(event.blocks, event.ops[0].path)]
+
+
 CALLS = [
     (read, FILE, [(cid(it), it, verdict) for it, verdict in (
         (BLOCK, "ok map"), (dumps(CIDS[:50]), "ok list"))]),
@@ -99,6 +105,7 @@ CALLS = [
     (dumps, [1.5], "Unsupported"), (CID, b"", "InvalidCid"),
     (loads_first, BLOCK + b"\xf6", (VALUE, len(BLOCK))), (replaced, [(1, {2})], dumps([[1, [2]]])),
     (of_parts, CIDS[0], CIDS[0]), (verified, BLOCK, True), (followed, FRAME, followed(FRAME)),
+    (proved, FRAME, proved(FRAME)),
 ]
 
 

@@ -1,5 +1,5 @@
 -- What is said of a repository's commit.
-use Rattle.std.specs.Prelude.{◌≡◌, ◌⊎◌, ℕ, List, [], ◌∷◌, ◌++◌, codes, string_bytes, Bool, true, Option, None, Some, ⊤}
+use Rattle.std.specs.Prelude.{◌≡◌, ◌⊎◌, ℕ, List, [], ◌∷◌, ◌++◌, codes, string_bytes, Bool, true, false, Option, None, Some, ⊤}
 use Rattle.ipld_tree.specs.Cid.{CidParts}
 use Rattle.cid_text.specs.Texts.{cid_text}
 use Rattle.ipld_links.specs.Reaching.{Stored}
@@ -51,3 +51,15 @@ abbrev pub OfFile : (Stored → CidParts → Bool → List ℕ → List ℕ → 
 OfFile IsSaid b well out told = ((roots : List CidParts) × (stored : Stored)
     × IsFileHeld b roots stored × OfRoots IsSaid stored roots well out told)
     ⊎ ((line : List ℕ) × TellsFault (λ sections. ⊤) b line × IsToldAlone line well out told)
+
+-- ---- of a file
+
+-- the bytes are a file whose first root names this commit, which is stored; of its other blocks nothing
+-- is said
+abbrev pub IsCommitFile : List ℕ → CidParts → Commit → Type 0
+IsCommitFile b name c = (others : List CidParts) × (stored : Stored)
+    × IsFileHeld b (name ∷ others) stored × IsStoredCommit stored name c
+
+-- they are no such file, and the line tells why
+abbrev pub IsNoCommitFile : List ℕ → List ℕ → Type 0
+IsNoCommitFile b line = OfFile IsNoCommitTold b false [] line

@@ -1,5 +1,5 @@
 -- The file that proves a record.
-use Rattle.std.specs.Prelude.{◌≡◌, ◌⊎◌, ℕ, List, [], ◌∷◌, ◌++◌, Bool, true, Option, None, Some, ⊤, IfSome, option_to_list}
+use Rattle.std.specs.Prelude.{◌≡◌, ◌⊎◌, ℕ, List, [], ◌∷◌, ◌++◌, Bool, true, Option, None, Some, IfSome, option_to_list}
 use Rattle.ipld_tree.specs.Cid.{CidParts, cid_bytes}
 use Rattle.ipld_links.specs.Reaching.{Stored}
 use Rattle.ipld_links.specs.Verdicts.{IsVerified, IsVerdict}
@@ -61,8 +61,13 @@ IsProofSaid stored key root tree well out told =
     ⊎ ((e : MstError) × FindStops most_layers stored key tree e × IsOfTree e
     × IsToldAlone (tree_line e) well out told)
 
--- of the key that the word names, in the tree of the commit of this name; or that there is none
-abbrev pub IsProofOf : List ℕ → Stored → CidParts → Bool → List ℕ → List ℕ → Type 0
-IsProofOf word stored root well out told = ((c : Commit) × (key : List ℕ) × IsStoredCommit stored root c
-    × IsNamedBy word key × IsProofSaid stored key root c.data well out told)
+-- of the key in the tree of the commit of this name; or that there is no commit
+abbrev pub IsProofAt : List ℕ → Stored → CidParts → Bool → List ℕ → List ℕ → Type 0
+IsProofAt key stored root well out told = ((c : Commit) × IsStoredCommit stored root c
+    × IsProofSaid stored key root c.data well out told)
     ⊎ IsNoCommitTold stored root well out told
+
+-- the same of the key that the word names
+abbrev pub IsProofOf : List ℕ → Stored → CidParts → Bool → List ℕ → List ℕ → Type 0
+IsProofOf word stored root well out told =
+    (key : List ℕ) × IsNamedBy word key × IsProofAt key stored root well out told

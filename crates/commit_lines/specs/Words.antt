@@ -1,13 +1,16 @@
--- The words of `commit` and `record-proof`.
+-- The words of `commit`, `record-proof` and `records --json`.
 use Rattle.std.specs.Prelude.{◌≡◌, ℕ, List, [], ◌∷◌, codes, Option, None, Some}
 use Rattle.commit_lines.specs.declared.words.CommitAsked.{CommitAsked}
 use Rattle.commit_lines.specs.declared.words.CommitAsked.TheVariants as asks
 
--- the words ask this of a repository: `commit`, or `record-proof` and the word of a key, and then the
--- file, if one is named
+-- the words ask this of a repository: `commit`, or `record-proof` and the word of a key, or `records
+-- --json`; and then the file, if one is named
 abbrev pub AreCommitWords : List (List ℕ) → CommitAsked → Option (List ℕ) → Type 0
 AreCommitWords words asks.Commit None = words ≡ codes "commit" ∷ []
 AreCommitWords words asks.Commit (Some file) = words ≡ codes "commit" ∷ file ∷ []
 AreCommitWords words (asks.Proof key) None = words ≡ codes "record-proof" ∷ key.now ∷ []
 AreCommitWords words (asks.Proof key) (Some file) =
     words ≡ codes "record-proof" ∷ key.now ∷ file ∷ []
+AreCommitWords words asks.Records None = words ≡ codes "records" ∷ codes "--json" ∷ []
+AreCommitWords words asks.Records (Some file) =
+    words ≡ codes "records" ∷ codes "--json" ∷ file ∷ []

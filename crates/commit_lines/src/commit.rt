@@ -1,12 +1,15 @@
 //! `commit`: what a repository's commit says.
 
-ghost use Rattle.std.specs.Prelude.{◌≡◌, ◌++◌, codes, string_bytes, IfOk, IfSome, OnOk, MatchResult};
+ghost use Rattle.std.specs.Prelude.{◌≡◌, List, [], ◌∷◌, ◌++◌, codes, string_bytes, false, IfOk};
+ghost use Rattle.std.specs.Prelude.{IfSome, OnOk, MatchResult};
+ghost use Rattle.ipld_tree.specs.Cid.{CidParts};
 ghost use Rattle.ipld_links.specs.Reaching.{stored_in};
 ghost use Rattle.cid_text.specs.Texts.{cid_text};
 ghost use Rattle.block_lines.specs.Lines.{SaysBoth, line};
 ghost use Rattle.atproto_mst.specs.Repos.{IsStoredCommit};
 ghost use Rattle.record_lines.specs.Keys.{key_text};
-ghost use Rattle.commit_lines.specs.Commits.{commit_lines, prev_text, IsNoCommitTold, IsCommitSaid, OfRoots, OfFile};
+ghost use Rattle.commit_lines.specs.Commits.{commit_lines, prev_text, IsNoCommitTold, IsCommitSaid};
+ghost use Rattle.commit_lines.specs.Commits.{OfRoots, OfFile, IsCommitFile, IsNoCommitFile};
 
 use atproto_mst::{Commit, stored_commit};
 use block_lines::{Answer, say_both};
@@ -18,6 +21,9 @@ use record_lines::{first_root, push_key, repo_line, told_alone};
 use std::alloc::{AllocError, Global};
 use std::collections::BTreeMap;
 use std::io::{BufRead, Write};
+
+/// A commit and its name, or the line that tells why there is none.
+pub type CommitFound = Result<(Cid, Commit), Vec<u8>>;
 
 /// Appends a line of a word and a CID.
 fn push_cid(word: &[u8], name: &Cid, out: &mut Vec<u8>) -> Result<(), AllocError>
@@ -61,50 +67,55 @@ fn lines_of(alloc: Global, name: &Cid, commit: &Commit) -> Result<Vec<u8>, Alloc
     Ok(out)
 }
 
-/// The commit of this name, or what is told where there is none.
-pub(crate) fn commit_at(
+/// The commit of this name, or the line that tells why there is none.
+fn commit_at(
     alloc: Global,
     blocks: &BTreeMap<Cid, Vec<u8>>,
     root: &Cid,
-) -> Result<Result<Commit, Answer>, AllocError>
+) -> Result<Result<Commit, Vec<u8>>, AllocError>
     ensures { IfOk result (λ r. MatchResult r (IsStoredCommit (stored_in blocks.now) root.now)
-        (λ p. IsNoCommitTold (stored_in blocks.now) root.now p.0.1 p.0.0.items p.1.items)) }
+        (λ line. IsNoCommitTold (stored_in blocks.now) root.now false [] line.items)) }
 {
     match stored_commit(alloc, blocks, root) {
         Ok(commit) => Ok(Ok(commit)),
         Err(error) => {
             let line = repo_line(alloc, root, &error)?;
-            Ok(Err(told_alone(alloc, line)))
+            Ok(Err(line))
         }
     }
 }
 
-/// What is said of the commit of this name.
-fn commit_said(
-    alloc: Global,
-    blocks: &BTreeMap<Cid, Vec<u8>>,
-    root: &Cid,
-) -> Result<Answer, AllocError>
-    ensures { IfOk result
-        (λ p. IsCommitSaid (stored_in blocks.now) root.now p.0.1 p.0.0.items p.1.items) }
-{
-    match commit_at(alloc, blocks, root)? {
-        Ok(commit) => {
-            let lines = lines_of(alloc, root, &commit)?;
-            Ok(((lines, true), Vec::new(alloc)))
-        }
-        Err(told) => Ok(told),
-    }
-}
-
-/// What is said of the commit of what is held of a file.
-fn commit_of(alloc: Global, held: &Held) -> Result<Answer, AllocError>
-    ensures { IfOk result (λ p. OfRoots IsCommitSaid (stored_in held.now.blocks)
-        held.now.roots.items p.0.1 p.0.0.items p.1.items) }
+/// The commit that the first root names, of what is held of a file; or the line that tells why there
+/// is none.
+pub(crate) fn commit_of(alloc: Global, held: &Held) -> Result<CommitFound, AllocError>
+    ensures { IfOk result (λ r. MatchResult r
+        (λ p. (others : List CidParts) × (held.now.roots.items ≡ p.0 ∷ others)
+        × IsStoredCommit (stored_in held.now.blocks) p.0 p.1)
+        (λ line. OfRoots IsNoCommitTold (stored_in held.now.blocks) held.now.roots.items false []
+        line.items)) }
 {
     match first_root(alloc, &held.roots)? {
-        Ok(root) => commit_said(alloc, &held.blocks, &root),
-        Err(line) => Ok(told_alone(alloc, line)),
+        Ok(root) => match commit_at(alloc, &held.blocks, &root)? {
+            Ok(commit) => Ok(Ok((root, commit))),
+            Err(line) => Ok(Err(line)),
+        },
+        Err(line) => Ok(Err(line)),
+    }
+}
+
+/// The commit that the first root of the file names which the input is, or the line that tells why
+/// there is none. Of the blocks the commit's alone need be there. They are in memory until it is read.
+pub fn read_commit<R: BufRead>(alloc: Global, input: &mut R) -> Result<CommitFound, ToolError>
+    ensures { IfSome (R.remaining input.old) (λ b. IfOk result (λ r. MatchResult r
+        (λ p. IsCommitFile b p.0 p.1) (λ line. IsNoCommitFile b line.items))) }
+{
+    match held_of(alloc, Kept::All, input) {
+        Ok(Ok(held)) => {
+            let found = commit_of(alloc, &held)?;
+            Ok(found)
+        }
+        Ok(Err(line)) => Ok(Err(line)),
+        Err(fault) => Err(fault),
     }
 }
 
@@ -113,10 +124,10 @@ fn commit_in<R: BufRead>(alloc: Global, input: &mut R) -> Result<Answer, ToolErr
     ensures { IfSome (R.remaining input.old)
         (λ b. IfOk result (λ p. OfFile IsCommitSaid b p.0.1 p.0.0.items p.1.items)) }
 {
-    match held_of(alloc, Kept::All, input) {
-        Ok(Ok(held)) => {
-            let said = commit_of(alloc, &held)?;
-            Ok(said)
+    match read_commit(alloc, input) {
+        Ok(Ok((name, commit))) => {
+            let lines = lines_of(alloc, &name, &commit)?;
+            Ok(((lines, true), Vec::new(alloc)))
         }
         Ok(Err(line)) => Ok(told_alone(alloc, line)),
         Err(fault) => Err(fault),

@@ -5,6 +5,6 @@ mod commit;
 mod proof;
 mod words;
 
-pub use commit::write_commit;
-pub use proof::write_record_proof;
+pub use commit::{CommitFound, read_commit, write_commit};
+pub use proof::{record_proof, write_record_proof};
 pub use words::{CommitAsked, CommitWords, commit_words_of};

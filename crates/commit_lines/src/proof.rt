@@ -12,9 +12,9 @@ ghost use Rattle.atproto_mst.specs.Finding.{FindsRecord, FindStops, IsWay};
 ghost use Rattle.atproto_mst.specs.declared.error.MstError.TheVariants.{OutOfMemory};
 ghost use Rattle.commit_lines.specs.Commits.{OfRoots, OfFile};
 ghost use Rattle.commit_lines.specs.Proofs.{deciding, IsThereVerified, IsRecordLost, AreOtherBytesTold};
-ghost use Rattle.commit_lines.specs.Proofs.{IsProofGiven, IsProofSaid, IsProofOf};
+ghost use Rattle.commit_lines.specs.Proofs.{IsProofGiven, IsProofSaid, IsProofAt, IsProofOf};
 
-use crate::commit::commit_at;
+use crate::commit::commit_of;
 use atproto_mst::{MstError, find_record, record_way};
 use block_lines::{Answer, missing_line, say_both, verdict_line};
 use dagcbor_car::push_tree;
@@ -175,44 +175,32 @@ fn proof_said(
     }
 }
 
-/// What is said of the key that the word names, in the tree of the commit of this name.
-fn proof_at(
-    alloc: Global,
-    blocks: &BTreeMap<Cid, Vec<u8>>,
-    root: &Cid,
-    word: &[u8],
-) -> Result<Answer, AllocError>
-    ensures { IfOk result (λ p. IsProofOf word.now (stored_in blocks.now) root.now
-        p.0.1 p.0.0.items p.1.items) }
-{
-    match commit_at(alloc, blocks, root)? {
-        Ok(commit) => {
-            let key = named_key(alloc, word)?;
-            proof_said(alloc, blocks, root, &commit.data, &key)
-        }
-        Err(told) => Ok(told),
-    }
-}
-
-/// What is said of the key that the word names, in what is held of a file.
-fn proof_of(alloc: Global, held: &Held, word: &[u8]) -> Result<Answer, AllocError>
-    ensures { IfOk result (λ p. OfRoots (IsProofOf word.now) (stored_in held.now.blocks)
+/// What is said of the key, in what is held of a file.
+fn proof_of(alloc: Global, held: &Held, key: &[u8]) -> Result<Answer, AllocError>
+    ensures { IfOk result (λ p. OfRoots (IsProofAt key.now) (stored_in held.now.blocks)
         held.now.roots.items p.0.1 p.0.0.items p.1.items) }
 {
-    match first_root(alloc, &held.roots)? {
-        Ok(root) => proof_at(alloc, &held.blocks, &root, word),
+    match commit_of(alloc, held)? {
+        Ok(found) => proof_said(alloc, &held.blocks, &found.0, &found.1.data, key),
         Err(line) => Ok(told_alone(alloc, line)),
     }
 }
 
-/// What is said of the key that the word names, in the file that the input is.
-fn proof_in<R: BufRead>(alloc: Global, word: &[u8], input: &mut R) -> Result<Answer, ToolError>
+/// The file that proves which record the key has, or that it has none, in the tree of the commit that
+/// the first root names of the file which the input is; or what is told where there is none. The
+/// commit, the nodes on the way to the key and the record need be there, and no others. The blocks of
+/// the input are in memory.
+pub fn record_proof<R: BufRead>(
+    alloc: Global,
+    key: &[u8],
+    input: &mut R,
+) -> Result<Answer, ToolError>
     ensures { IfSome (R.remaining input.old)
-        (λ b. IfOk result (λ p. OfFile (IsProofOf word.now) b p.0.1 p.0.0.items p.1.items)) }
+        (λ b. IfOk result (λ p. OfFile (IsProofAt key.now) b p.0.1 p.0.0.items p.1.items)) }
 {
     match held_of(alloc, Kept::All, input) {
         Ok(Ok(held)) => {
-            let said = proof_of(alloc, &held, word)?;
+            let said = proof_of(alloc, &held, key)?;
             Ok(said)
         }
         Ok(Err(line)) => Ok(told_alone(alloc, line)),
@@ -220,11 +208,9 @@ fn proof_in<R: BufRead>(alloc: Global, word: &[u8], input: &mut R) -> Result<Ans
     }
 }
 
-/// Writes the file that proves which record the key has, or that it has none, in the tree of the
-/// commit that the file's first root names; or tells why there is none. Whether there is one. The
-/// word is the key as `records` prints it; a word that is no key's text is the key itself. The
-/// commit, the nodes on the way to the key and the record need be there, and no others. The blocks of
-/// the input are in memory.
+/// Writes the file that proves the record of the key which the word names, as `record_proof` has it,
+/// or tells why there is none. Whether there is one. The word is the key as `records` prints it; a
+/// word that is no key's text is the key itself.
 pub fn write_record_proof<R: BufRead, W: Write, V: Write>(
     alloc: Global,
     word: &str,
@@ -236,7 +222,8 @@ pub fn write_record_proof<R: BufRead, W: Write, V: Write>(
         SaysBoth (OfFile (IsProofOf word.now) b) (W.contents output.old) (V.contents errors.old)
         result (W.contents output.new) (V.contents errors.new)) }
 {
-    match proof_in(alloc, word.as_bytes(), input) {
+    let key = named_key(alloc, word.as_bytes())?;
+    match record_proof(alloc, &key, input) {
         Ok((said, told)) => say_both(said, &told, output, errors),
         Err(fault) => Err(fault),
     }

@@ -1,4 +1,4 @@
-//! The words of `commit` and `record-proof`.
+//! The words of `commit`, `record-proof` and `records --json`.
 
 ghost use Rattle.std.specs.Prelude.{[], ◌∷◌, map, string_bytes, option_map, MatchOption, Option, List, ℕ};
 ghost use Rattle.commit_lines.specs.Words.{AreCommitWords};
@@ -11,6 +11,8 @@ pub enum CommitAsked<'a> {
     Commit,
     /// The file that proves the record of the key that this word names.
     Proof(&'a str),
+    /// The data of all records, as DAG-JSON.
+    Records,
 }
 
 /// What is asked of which file: of standard input, if none is named.
@@ -52,28 +54,36 @@ fn of_two<'a>(word: &str, second: &'a str) -> Option<CommitWords<'a>>
             asked: CommitAsked::Proof(second),
             file: None,
         }),
+        "records" if second == "--json" => Some(CommitWords {
+            asked: CommitAsked::Records,
+            file: None,
+        }),
         _ => None,
     }
 }
 
-/// The word, a key and a file.
-fn of_three<'a>(word: &str, key: &'a str, file: &'a str) -> Option<CommitWords<'a>>
+/// The word, a key or an option, and a file.
+fn of_three<'a>(word: &str, second: &'a str, file: &'a str) -> Option<CommitWords<'a>>
     ensures { MatchOption result
         ((asked : CommitAsked) (it : Option (List ℕ))
-        → ¬ AreCommitWords (word.now ∷ key.now ∷ file.now ∷ []) asked it)
-        (λ p. AreCommitWords (word.now ∷ key.now ∷ file.now ∷ []) p.asked
+        → ¬ AreCommitWords (word.now ∷ second.now ∷ file.now ∷ []) asked it)
+        (λ p. AreCommitWords (word.now ∷ second.now ∷ file.now ∷ []) p.asked
         (option_map (λ s. s.now) p.file)) }
 {
-    if word != "record-proof" {
-        return None;
+    match word {
+        "record-proof" => Some(CommitWords {
+            asked: CommitAsked::Proof(second),
+            file: Some(file),
+        }),
+        "records" if second == "--json" => Some(CommitWords {
+            asked: CommitAsked::Records,
+            file: Some(file),
+        }),
+        _ => None,
     }
-    Some(CommitWords {
-        asked: CommitAsked::Proof(key),
-        file: Some(file),
-    })
 }
 
-/// What the words `commit [FILE]` or `record-proof KEY [FILE]` ask.
+/// What the words `commit [FILE]`, `record-proof KEY [FILE]` or `records --json [FILE]` ask.
 pub fn commit_words_of(args: &[String]) -> Option<CommitWords<'_>>
     ensures { MatchOption result
         ((asked : CommitAsked) (file : Option (List ℕ))

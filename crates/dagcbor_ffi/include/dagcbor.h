@@ -21,7 +21,7 @@
 #include <stddef.h>
 #include <stdint.h>
 
-#define DAGCBOR_VERSION "0.1.0"
+#define DAGCBOR_VERSION "0.7.0"
 
 #ifdef __cplusplus
 extern "C" {

@@ -1,5 +1,6 @@
 /* What DAG-CBOR for C has that takes memory: blocks as DAG-JSON, and back; repositories of signed records (AT Protocol):
-   what one holds, verified, or why it is none; and the frames in which a host tells of changes, each commit verified.
+   what one holds, verified, or why it is none, its commit alone, and files that prove a record; and the frames in
+   which a host tells of changes, each commit verified.
 
    Link with libdagcbor_memory_ffi.a, and with functions of the heap, as callers/c/heap.c has them over malloc,
    realloc and free. It needs dagcbor.h beside it, and not the other library. A call holds what it makes of the bytes,
@@ -43,7 +44,7 @@ int32_t dagcbor_to_json(const uint8_t *block, size_t length, uint8_t *out, size_
 int32_t dagcbor_from_json(const uint8_t *text, size_t length, uint8_t *out, size_t room, size_t *needed, size_t *place);
 
 enum dagcbor_repository_answer {
-    DAGCBOR_REPOSITORY = 0,   /* `out` has a block */
+    DAGCBOR_REPOSITORY = 0,   /* `out` has the block, or the file, that is asked for */
     DAGCBOR_NO_REPOSITORY = 1 /* `out` has a line that tells why there is none */
 };
 
@@ -58,6 +59,21 @@ enum dagcbor_repository_answer {
    The signature is not checked; records need not be in the file. Else one line, in ASCII, with a line feed at its end:
    what `dagcar records` tells (docs/REPOSITORIES.md). */
 int32_t dagcbor_repository(const uint8_t *file, size_t length, uint8_t *out, size_t room, size_t *needed);
+
+/* Of a file of blocks (CAR, version 1 or 2) whose first root names a commit, the block of its name: a block of DAG-CBOR, the
+   map of
+     "cid"         a link: the commit's name
+     "did", "rev", "sig", "data", "prev", "signed"  as dagcbor_repository has them
+   No other block need be there, so that the slices serve which a frame of a stream and com.atproto.sync.getRecord carry. Else
+   one line, what `dagcar commit` tells. The number is DAGCBOR_REPOSITORY, or DAGCBOR_NO_REPOSITORY. */
+int32_t dagcbor_commit(const uint8_t *file, size_t length, uint8_t *out, size_t room, size_t *needed);
+
+/* Of a file of blocks whose first root names a commit, a file (CAR, version 1) that proves which record the key has, or that it
+   has none: its root is the commit, and its blocks are the commit, the nodes on the way to the key, and the record, if there
+   is one, each once. These blocks need be in the file, each the one of its name, and no others. `key` is the key itself, of
+   any bytes. Else one line, what `dagcar record-proof` tells. The number is DAGCBOR_REPOSITORY, or DAGCBOR_NO_REPOSITORY. */
+int32_t dagcbor_record_proof(const uint8_t *file, size_t length, const uint8_t *key, size_t key_length, uint8_t *out,
+                             size_t room, size_t *needed);
 
 /* The kinds of frames of com.atproto.sync.subscribeRepos. */
 enum dagcbor_frame_kind {

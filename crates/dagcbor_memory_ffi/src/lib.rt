@@ -6,13 +6,13 @@
 //! `include/dagcbor_memory.h` has what C declares, and what a caller owes.
 #![tactic(auto)]
 
-ghost use Rattle.memory_calls.specs.Answers.{IsRepositoryAnswer};
+ghost use Rattle.memory_calls.specs.Answers.{IsRepositoryAnswer, IsCommitAnswer, IsProofAnswer};
 ghost use Rattle.memory_calls.specs.JsonAnswers.{IsToJsonAnswer, IsFromJsonAnswer};
 ghost use Rattle.event_calls.specs.Frames.{IsFrameAnswer};
 ghost use Rattle.event_calls.specs.Events.{IsEventAnswer};
 
 use event_calls::{place_frame, put_event};
-use memory_calls::{put_block, put_json, put_repo};
+use memory_calls::{put_block, put_commit, put_json, put_proof, put_repo};
 use std::alloc::Global;
 
 /// The number of the kind of a block, from 0, whose data in DAG-JSON is put at the front of `out`
@@ -64,6 +64,39 @@ pub extern "C" fn dagcbor_repository(
     ensures { IsRepositoryAnswer file.now out.old out.new needed.new result }
 {
     put_repo(alloc, file, out, needed)
+}
+
+/// Of a file of blocks a block that tells of the commit which its first root names: 0 is answered; else a
+/// line that tells why there is none, and 1. Of the blocks the commit's alone need be there. `needed`,
+/// `out` and the other numbers are as of `dagcbor_repository`. `memory_calls::commit_answer` says what the
+/// block holds.
+#[unsafe(no_mangle)]
+pub extern "C" fn dagcbor_commit(
+    alloc: Global,
+    file: &[u8],
+    out: &mut [u8],
+    needed: &mut usize,
+) -> i32
+    ensures { IsCommitAnswer file.now out.old out.new needed.new result }
+{
+    put_commit(alloc, file, out, needed)
+}
+
+/// Of a file of blocks the file that proves which record the key has, or that it has none, in the tree of
+/// the commit which the first root names: 0 is answered; else a line that tells why there is none, and 1.
+/// The commit, the nodes on the way to the key and the record need be there, and no others. `needed`,
+/// `out` and the other numbers are as of `dagcbor_repository`.
+#[unsafe(no_mangle)]
+pub extern "C" fn dagcbor_record_proof(
+    alloc: Global,
+    file: &[u8],
+    key: &[u8],
+    out: &mut [u8],
+    needed: &mut usize,
+) -> i32
+    ensures { IsProofAnswer file.now key.now out.old out.new needed.new result }
+{
+    put_proof(alloc, file, key, out, needed)
 }
 
 /// The number of the kind of the frame at the front of bytes, from 0: a frame of a host's stream

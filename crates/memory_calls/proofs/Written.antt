@@ -1,16 +1,16 @@
 -- The tree that is written of a repository.
-use Rattle.std.proofs.Common.{◌≡◌, ℕ, List, [], ◌∷◌, map, codes, string_bytes, refl, ap, ◌∙◌, subst, Option, Some, option_map}
+use Rattle.std.proofs.Common.{◌≡◌, ℕ, List, [], ◌∷◌, ◌++◌, map, codes, refl, ap, ◌∙◌, subst, Option, Some, option_map}
 use Rattle.ipld_tree.specs.Cid.{CidParts, cid_bytes}
-use Rattle.ipld_tree.specs.Tree.{Tree, bytes, link, list, text, items_of, all_some, list_tree, entries_tree}
+use Rattle.ipld_tree.specs.Tree.{Tree, bytes, link, list, items_of, all_some, list_tree, entries_tree}
 use Rattle.ipld_tree.specs.declared.bytes.ByteSlice.{ByteSlice}
-use Rattle.dagcbor_write.specs.Trees.{field, option_tree}
+use Rattle.dagcbor_write.specs.Trees.{field}
 use Rattle.dagcbor_write.specs.Answers.{AreSpellingOf}
 use Rattle.atproto_mst.specs.Keys.{Entry}
 use Rattle.atproto_mst.specs.Commits.{unsigned_tree}
 use Rattle.atproto_mst.specs.Entries.{entries}
 use Rattle.repository_types.specs.declared.repository.Commit.{Commit}
 use Rattle.atproto_mst.specs.declared.entries.MstEntry.{MstEntry}
-use Rattle.memory_calls.specs.Blocks.{record_tree, IsBlockOf, entry_of_row}
+use Rattle.memory_calls.specs.Blocks.{record_tree, commit_fields, repo_tree, IsBlockOf, entry_of_row}
 
 -- ---- records
 
@@ -28,15 +28,8 @@ rows_written rs es is = ap (λ o. option_map (λ found. list (items_of found)) o
 -- ---- the map
 
 abbrev pub map_written : Commit → List ℕ → Option Tree → Option Tree
-map_written c signed records = entries_tree (
-    field (codes "did") (Some (text (string_bytes c.did)))
-    ∷ field (codes "rev") (Some (text (string_bytes c.rev)))
-    ∷ field (codes "sig") (Some (bytes c.sig.0.items))
-    ∷ field (codes "data") (Some (link (cid_bytes c.data)))
-    ∷ field (codes "prev") (option_tree (λ p. Some (link (cid_bytes p))) c.prev)
-    ∷ field (codes "signed") (Some (bytes signed))
-    ∷ field (codes "records") records ∷ [])
+map_written c signed records = entries_tree (commit_fields c signed ++ field (codes "records") records ∷ [])
 
-pub block_of : (c : Commit) (records : List MstEntry) (signed : List ℕ) (rows : List (ByteSlice × CidParts)) (block : List ℕ) → AreSpellingOf (unsigned_tree c) signed → map entry_of_row rows ≡ entries records → AreSpellingOf (map_written c signed (list_tree (map row_written rows))) block → IsBlockOf c records block
+pub block_of : (c : Commit) (records : List MstEntry) (signed : List ℕ) (rows : List (ByteSlice × CidParts)) (block : List ℕ) → AreSpellingOf (unsigned_tree c) signed → map entry_of_row rows ≡ entries records → AreSpellingOf (map_written c signed (list_tree (map row_written rows))) block → IsBlockOf (λ s. repo_tree c s (entries records)) c block
 block_of c records signed rows block unsigned are h =
     (signed, unsigned, subst (λ o. AreSpellingOf (map_written c signed o) block) (rows_written rows (entries records) are) h)

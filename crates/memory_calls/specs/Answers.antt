@@ -1,21 +1,39 @@
--- What is answered of a file of blocks as a repository.
-use Rattle.std.specs.Prelude.{◌≡◌, ◌⊎◌, ℕ, ℤ, pos, negsuc, List, Result, MatchResult, Vec}
+-- What is answered of a file of blocks as a repository, of its commit, and of a record.
+use Rattle.std.specs.Prelude.{◌≡◌, ◌⊎◌, ℕ, ℤ, pos, negsuc, List, [], true, false, Result, MatchResult, Vec}
 use Rattle.std.specs.declared.alloc.Global.{Global}
+use Rattle.ipld_tree.specs.Cid.{CidParts}
 use Rattle.repository_types.specs.declared.repository.Commit.{Commit}
+use Rattle.atproto_mst.specs.Entries.{entries}
 use Rattle.atproto_mst.specs.declared.entries.MstEntry.{MstEntry}
 use Rattle.record_lines.specs.Repositories.{IsRepoFile, IsNoRepoFile}
+use Rattle.commit_lines.specs.Commits.{OfFile, IsCommitFile, IsNoCommitFile}
+use Rattle.commit_lines.specs.Proofs.{IsProofAt}
 use Rattle.dagcbor_calls.specs.CidTexts.{IsPutText, PutsNone}
-use Rattle.memory_calls.specs.Blocks.{IsBlockOf}
+use Rattle.memory_calls.specs.Blocks.{repo_tree, commit_tree, IsBlockOf}
+
+-- the one is made, or the other is told
+abbrev pub IsMadeOrTold : (IsMade IsTold : List ℕ → Type 0) → Result (Vec ℕ Global) (Vec ℕ Global) → Type 0
+IsMadeOrTold IsMade IsTold answer = MatchResult answer (λ made. IsMade made.items) (λ line. IsTold line.items)
+
+-- ---- what is made
 
 -- the block tells of the repository that the bytes are
 abbrev pub IsRepoBlock : List ℕ → List ℕ → Type 0
 IsRepoBlock b block = (c : Commit) × (records : List MstEntry) × IsRepoFile b c records
-    × IsBlockOf c records block
+    × IsBlockOf (λ signed. repo_tree c signed (entries records)) c block
 
--- the one or the other
-abbrev pub IsRepoAnswer : List ℕ → Result (Vec ℕ Global) (Vec ℕ Global) → Type 0
-IsRepoAnswer b answer = MatchResult answer (λ block. IsRepoBlock b block.items)
-    (λ line. IsNoRepoFile b line.items)
+-- the block tells of the commit that the first root of the file names
+abbrev pub IsCommitBlock : List ℕ → List ℕ → Type 0
+IsCommitBlock b block = (name : CidParts) × (c : Commit) × IsCommitFile b name c
+    × IsBlockOf (commit_tree name c) c block
+
+-- `record-proof` says this of the file and the key, and nothing is told: a file that proves it
+abbrev pub IsProofFile : List ℕ → List ℕ → List ℕ → Type 0
+IsProofFile b key proof = OfFile (IsProofAt key) b true proof []
+
+-- it says nothing, and this line is told
+abbrev pub IsNoProofFile : List ℕ → List ℕ → List ℕ → Type 0
+IsNoProofFile b key line = OfFile (IsProofAt key) b false [] line
 
 -- ---- by the C ABI
 
@@ -23,9 +41,21 @@ IsRepoAnswer b answer = MatchResult answer (λ block. IsRepoBlock b block.items)
 abbrev pub WantsMemory : List ℕ → List ℕ → ℕ → ℤ → Type 0
 WantsMemory old new needed code = (code ≡ negsuc 41) × PutsNone old new needed
 
--- the block of the repository is put; or the line that tells why there is none; or memory was wanted
+-- what is made is put; or the line that tells why there is none; or memory was wanted
+abbrev pub IsEitherPut : (IsMade IsTold : List ℕ → Type 0) → List ℕ → List ℕ → ℕ → ℤ → Type 0
+IsEitherPut IsMade IsTold old new needed code =
+    ((made : List ℕ) × IsMade made × IsPutText (pos 0) made old new needed code)
+    ⊎ (((line : List ℕ) × IsTold line × IsPutText (pos 1) line old new needed code)
+    ⊎ WantsMemory old new needed code)
+
 abbrev pub IsRepositoryAnswer : List ℕ → List ℕ → List ℕ → ℕ → ℤ → Type 0
 IsRepositoryAnswer b old new needed code =
-    ((block : List ℕ) × IsRepoBlock b block × IsPutText (pos 0) block old new needed code)
-    ⊎ (((line : List ℕ) × IsNoRepoFile b line × IsPutText (pos 1) line old new needed code)
-    ⊎ WantsMemory old new needed code)
+    IsEitherPut (IsRepoBlock b) (IsNoRepoFile b) old new needed code
+
+abbrev pub IsCommitAnswer : List ℕ → List ℕ → List ℕ → ℕ → ℤ → Type 0
+IsCommitAnswer b old new needed code =
+    IsEitherPut (IsCommitBlock b) (IsNoCommitFile b) old new needed code
+
+abbrev pub IsProofAnswer : (b key : List ℕ) → List ℕ → List ℕ → ℕ → ℤ → Type 0
+IsProofAnswer b key old new needed code =
+    IsEitherPut (IsProofFile b key) (IsNoProofFile b key) old new needed code

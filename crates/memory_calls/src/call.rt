@@ -1,24 +1,56 @@
 //! The answer, put into memory of the caller.
 
-ghost use Rattle.memory_calls.specs.Answers.{IsRepositoryAnswer};
+ghost use Rattle.std.specs.Prelude.{pos, MatchResult};
+ghost use Rattle.dagcbor_calls.specs.CidTexts.{IsPutText};
+ghost use Rattle.memory_calls.specs.Answers.{WantsMemory, IsRepositoryAnswer, IsCommitAnswer};
+ghost use Rattle.memory_calls.specs.Answers.{IsProofAnswer};
 
-use crate::answer::repo_answer;
+use crate::answer::{Made, commit_answer, proof_answer, repo_answer};
 use dagcbor_calls::put_front;
-use std::alloc::Global;
+use std::alloc::{AllocError, Global};
 
 /// What is answered where memory is wanted.
 pub(crate) const NO_MEMORY: i32 = -42;
 
-/// Puts the block that tells of the repository that the file is, or the line that tells why it is none.
-pub fn put_repo(alloc: Global, file: &[u8], out: &mut [u8], needed: &mut usize) -> i32
-    ensures { IsRepositoryAnswer file.now out.old out.new needed.new result }
+/// Puts what is made, and answers 0, or the line, and answers 1.
+fn put_answer(answer: &Result<Made, AllocError>, out: &mut [u8], needed: &mut usize) -> i32
+    ensures { MatchResult answer.now (λ it. MatchResult it
+        (λ made. IsPutText (pos 0) made.items out.old out.new needed.new result)
+        (λ line. IsPutText (pos 1) line.items out.old out.new needed.new result))
+        (λ _. WantsMemory out.old out.new needed.new result) }
 {
-    match repo_answer(alloc, file) {
-        Ok(Ok(block)) => put_front(0, &block, out, needed),
-        Ok(Err(line)) => put_front(1, &line, out, needed),
+    match answer {
+        Ok(Ok(made)) => put_front(0, made, out, needed),
+        Ok(Err(line)) => put_front(1, line, out, needed),
         Err(_) => {
             *needed = 0;
             NO_MEMORY
         }
     }
+}
+
+/// Puts the block that tells of the repository that the file is, or the line that tells why it is none.
+#[tactic(auto, using(crate::proofs::Putting::put_so))]
+pub fn put_repo(alloc: Global, file: &[u8], out: &mut [u8], needed: &mut usize) -> i32
+    ensures { IsRepositoryAnswer file.now out.old out.new needed.new result }
+{
+    put_answer(&repo_answer(alloc, file), out, needed)
+}
+
+/// Puts the block that tells of the commit that the file's first root names, or the line that tells why
+/// there is none.
+#[tactic(auto, using(crate::proofs::Putting::put_so))]
+pub fn put_commit(alloc: Global, file: &[u8], out: &mut [u8], needed: &mut usize) -> i32
+    ensures { IsCommitAnswer file.now out.old out.new needed.new result }
+{
+    put_answer(&commit_answer(alloc, file), out, needed)
+}
+
+/// Puts the file that proves which record the key has, or that it has none, or the line that tells why
+/// there is none.
+#[tactic(auto, using(crate::proofs::Putting::put_so))]
+pub fn put_proof(alloc: Global, file: &[u8], key: &[u8], out: &mut [u8], needed: &mut usize) -> i32
+    ensures { IsProofAnswer file.now key.now out.old out.new needed.new result }
+{
+    put_answer(&proof_answer(alloc, file, key), out, needed)
 }

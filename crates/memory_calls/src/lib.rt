@@ -1,5 +1,6 @@
-//! What the C library that takes memory does behind its calls: DAG-JSON, from and to blocks; and a
-//! repository (AT Protocol) that is read whole, as a block, or a line that tells why it is not.
+//! What the C library that takes memory does behind its calls: DAG-JSON, from and to blocks; and of a
+//! repository (AT Protocol) that is read whole, or of its commit alone, a block; and the file that
+//! proves a record; each time, or a line that tells why there is none.
 #![tactic(auto)]
 
 mod answer;
@@ -7,6 +8,6 @@ mod call;
 mod json;
 mod told;
 
-pub use answer::repo_answer;
-pub use call::put_repo;
+pub use answer::{Made, commit_answer, proof_answer, repo_answer};
+pub use call::{put_commit, put_proof, put_repo};
 pub use json::{put_block, put_json};

@@ -1,11 +1,11 @@
-//! A repository as a block.
+//! A repository as a block, and its commit.
 
 ghost use Rattle.std.specs.Prelude.{◌≡◌, [], ◌∷◌, map, Some, codes, true, string_bytes, IfOk};
 ghost use Rattle.ipld_tree.specs.Cid.{cid_bytes};
 ghost use Rattle.ipld_tree.specs.Tree.{bytes, link, text, entries_tree};
 ghost use Rattle.dagcbor_write.specs.Trees.{field};
 ghost use Rattle.atproto_mst.specs.Entries.{entries};
-ghost use Rattle.memory_calls.specs.Blocks.{IsBlockOf, entry_of_row};
+ghost use Rattle.memory_calls.specs.Blocks.{repo_tree, commit_tree, IsBlockOf, entry_of_row};
 
 use atproto_mst::{Commit, MstEntry, Repo, spell_unsigned};
 use dagcbor_heads::{Write, WriteResult};
@@ -64,7 +64,9 @@ fn rows_of(alloc: Global, records: &[MstEntry]) -> Result<Vec<Row<'_>>, AllocErr
 
 /// The block that tells of a repository.
 pub(crate) fn repo_block(alloc: Global, repo: &Repo) -> Result<Vec<u8>, AllocError>
-    ensures { IfOk result (λ v. IsBlockOf repo.now.commit repo.now.records.items v.items) }
+    ensures { IfOk result (λ v.
+        IsBlockOf (λ signed. repo_tree repo.now.commit signed (entries repo.now.records.items))
+        repo.now.commit v.items) }
 {
     let signed = spell_unsigned(alloc, &repo.commit)?;
     let rows = rows_of(alloc, &repo.records)?;
@@ -72,6 +74,57 @@ pub(crate) fn repo_block(alloc: Global, repo: &Repo) -> Result<Vec<u8>, AllocErr
         commit: &repo.commit,
         signed: &signed,
         rows: &rows,
+    };
+    // Each has a spelling, which is refused for want of memory alone.
+    match to_vec(alloc, &told) {
+        Ok(block) => Ok(block),
+        Err(_) => Err(AllocError),
+    }
+}
+
+/// What is told of a commit.
+#[derive(Clone, Copy)]
+struct ToldCommit<'a> {
+    name: Cid,
+    commit: &'a Commit,
+    /// What the signature is of.
+    signed: &'a [u8],
+}
+
+impl<'a> Serialize for ToldCommit<'a> {
+    ghost tree = { λ v. entries_tree (
+        field (codes "cid") (Some (link (cid_bytes v.name))) ∷
+        field (codes "did") (Some (text (string_bytes v.commit.now.did))) ∷
+        field (codes "rev") (Some (text (string_bytes v.commit.now.rev))) ∷
+        field (codes "sig") (Some (bytes v.commit.now.sig.0.items)) ∷
+        field (codes "data") (Some (link (cid_bytes v.commit.now.data))) ∷
+        field (codes "prev") (⟦<Option<Cid> as Serialize>⟧.tree v.commit.now.prev) ∷
+        field (codes "signed") (Some (bytes v.signed.now)) ∷ []) };
+
+    ghost takes_memory = { true };
+
+    fn serialize<W: Write>(&self, alloc: Global, ser: &mut Serializer<W>) -> WriteResult<(), W> {
+        let signed = ByteSlice(self.signed);
+        let row = (Field("signed", &signed), ());
+        let row = (Field("prev", &self.commit.prev), row);
+        let row = (Field("data", &self.commit.data), row);
+        let row = (Field("sig", &self.commit.sig), row);
+        let row = (Field("rev", &self.commit.rev), row);
+        let row = (Field("did", &self.commit.did), row);
+        let row = (Field("cid", &self.name), row);
+        write_struct(alloc, row, ser)
+    }
+}
+
+/// The block that tells of the commit of this name.
+pub(crate) fn commit_block(alloc: Global, name: Cid, commit: &Commit) -> Result<Vec<u8>, AllocError>
+    ensures { IfOk result (λ v. IsBlockOf (commit_tree name commit.now) commit.now v.items) }
+{
+    let signed = spell_unsigned(alloc, commit)?;
+    let told = ToldCommit {
+        name,
+        commit,
+        signed: &signed,
     };
     // Each has a spelling, which is refused for want of memory alone.
     match to_vec(alloc, &told) {

@@ -22,6 +22,8 @@
     write_car(file, roots, blocks)  writes one
 
     read_repo(source)    a repository of signed records (AT Protocol): its commit, and its records
+    read_commit(source)  its commit alone
+    record_proof(source, key)  a file of blocks that proves which record a key has, or that it has none
 
     dag_pb.loads(block), dag_pb.dumps(node)  blocks of DAG-PB, which files of IPFS are made of
 
@@ -32,7 +34,8 @@
     Store(path)          blocks in a file that lasts, by the program `dagstore`
 
 Whether bytes are a block or a file of blocks is the library's judgement, which is proved. So
-is whether a file is a whole repository, whether the commit of a frame is verified, and DAG-JSON both ways. The rest, which makes objects from what the library tells
+is whether a file is a whole repository, or has its commit, the file that proves a record, whether the commit
+of a frame is verified, and DAG-JSON both ways. The rest, which makes objects from what the library tells
 and tells it what the objects are, is two small extensions in C, and not proved."""
 
 from . import atproto, dag_pb
@@ -43,12 +46,12 @@ from ._json import from_json, to_json
 from ._native import CID, CarReader, Section, check, dumps, links, loads, loads_first, name
 from ._native import read_car
 from ._paths import MissingBlock, find, resolve
-from ._repo import Repository, read_repo
+from ._repo import RepoCommit, Repository, read_commit, read_repo, record_proof
 from ._store import DamagedBlock, Imported, InvalidBlock, InvalidCar, Store, StoreDiskError
 from ._store import StoreEnded, StoreError, StoreFull, StoreLocked, StoreMemoryError
 from ._store import StoreUnreadable
 
-__version__ = "0.1.0"
+__version__ = "0.7.0"
 
 __all__ = [
     "CID",
@@ -61,6 +64,7 @@ __all__ = [
     "InvalidBlock",
     "InvalidCar",
     "MissingBlock",
+    "RepoCommit",
     "Repository",
     "Section",
     "Store",
@@ -86,7 +90,9 @@ __all__ = [
     "loads_first",
     "name",
     "read_car",
+    "read_commit",
     "read_repo",
+    "record_proof",
     "resolve",
     "to_json",
     "verify",

@@ -8,12 +8,28 @@ from typing import TYPE_CHECKING, Any, cast
 
 from ._errors import DagCborError
 from ._native import CID, loads, to_bytes
-from ._native_memory import repository
+from ._native_memory import commit, proof_of_record, repository
 
 if TYPE_CHECKING:
     from ._native import Buffer, Readable
 
 PIECE = 1 << 18
+
+
+@dataclass(frozen=True)
+class RepoCommit:
+    """The commit of a repository, by itself.
+
+    `cid` is its name. The rest is as a `Repository` has it.
+    """
+
+    cid: CID
+    did: str
+    rev: str
+    data: CID
+    prev: CID | None
+    sig: bytes
+    signed: bytes
 
 
 @dataclass(frozen=True)
@@ -40,12 +56,39 @@ def read_repo(source: Buffer | mmap | Readable) -> Repository:
     The commit and the whole tree are verified; records need not be in the file. Of anything else a
     DagCborError tells why, in the words of `dagcar records`. The file is in memory meanwhile.
     """
-    code, answer, _ = repository(_all_of(source))
-    if code != 0:
-        raise DagCborError(answer.decode().rstrip("\n"))
-    told = loads(answer)
+    told = loads(_made(repository(_all_of(source))))
     keys = ((key.decode(errors="surrogateescape"), cid) for key, cid in told.pop("records"))
     return Repository(**told, records=dict(keys))
+
+
+def read_commit(source: Buffer | mmap | Readable) -> RepoCommit:
+    """The commit that the first root of a file of blocks names, of bytes or a binary file.
+
+    The commit is verified, and no other block need be in the file: the blocks of an event serve, and
+    a file that proves a record. Of anything else a DagCborError tells why, in the words of
+    `dagcar commit`. The file is in memory meanwhile.
+    """
+    return RepoCommit(**loads(_made(commit(_all_of(source)))))
+
+
+def record_proof(source: Buffer | mmap | Readable, key: str | Buffer) -> bytes:
+    """A file of blocks that proves which record the key has in a repository, or that it has none.
+
+    It has the commit, the nodes on the way to the key, and the record, if there is one; the source
+    need have no other blocks. A key that is a str stands for its UTF-8, with surrogate escapes as
+    `read_repo` has them. Where a block is missing, or has other bytes, a DagCborError tells so, in
+    the words of `dagcar record-proof`. The source is in memory meanwhile.
+    """
+    named = key.encode(errors="surrogateescape") if isinstance(key, str) else to_bytes(key)
+    return _made(proof_of_record(_all_of(source), named))
+
+
+def _made(answer: tuple[int, bytes, int]) -> bytes:
+    """What is made, where it is; else the line is raised that tells why it is not."""
+    code, made, _ = answer
+    if code != 0:
+        raise DagCborError(made.decode().rstrip("\n"))
+    return made
 
 
 def _all_of(source: Any) -> bytes:

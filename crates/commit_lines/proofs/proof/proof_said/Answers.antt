@@ -1,7 +1,7 @@
 use Rattle.std.proofs.Common.{inl, subst, sym}
 use Rattle.ipld_links.specs.Reaching.{stored_in}
 use Rattle.atproto_mst.specs.Walks.{most_layers}
-use Rattle.atproto_mst.specs.Finding.{FindsRecord, IsWay}
+use Rattle.atproto_mst.specs.Finding.{IsWay}
 use Rattle.record_lines.proofs.Telling.{if_ok}
 use Rattle.commit_lines.proofs.proof.proof_said.Goals as goal
 

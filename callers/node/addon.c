@@ -13,38 +13,6 @@ enum { LATIN1 = 10, WIDE = 11 }; /* the kinds of its parts: of bytes for units, 
 enum { SHARED = 1024 };          /* bytes of a block that may share memory */
 static const uint64_t ABSENT = UINT32_MAX; /* the place of a payload that is not there yet */
 
-void *raise(napi_env env, const char *said) {
-    bool is_pending = false;
-    napi_is_exception_pending(env, &is_pending);
-    if (!is_pending) napi_throw_error(env, NULL, said);
-    return NULL;
-}
-
-void *no_memory(napi_env env) { return raise(env, "out of memory"); }
-
-void *no_bytes(napi_env env) {
-    napi_throw_type_error(env, NULL, "a Uint8Array over memory that is not shared is wanted");
-    return NULL;
-}
-
-napi_value number_of(napi_env env, int64_t number) {
-    napi_value answer;
-    TRY(napi_create_int64(env, number, &answer));
-    return answer;
-}
-
-const uint8_t *bytes_in(napi_env env, napi_value given, size_t *length) {
-    napi_value buffer;
-    napi_typedarray_type type;
-    void *data;
-    bool is_own = false;
-    if (napi_get_typedarray_info(env, given, &type, length, &data, &buffer, NULL) != napi_ok)
-        return NULL;
-    if (type != napi_uint8_array || napi_is_arraybuffer(env, buffer, &is_own) != napi_ok || !is_own)
-        return NULL;
-    return dagcbor_from(data, *length);
-}
-
 /* The one argument; NULL, with an exception thrown, where there is none. */
 static napi_value argument(napi_env env, napi_callback_info info) {
     size_t count = 1;
@@ -57,42 +25,6 @@ static const uint8_t *bytes_of(napi_env env, napi_callback_info info, size_t *le
     napi_value given = argument(env, info);
     const uint8_t *bytes = given ? bytes_in(env, given, length) : NULL;
     return bytes || !given ? bytes : no_bytes(env);
-}
-
-static napi_value new_array(napi_env env, napi_typedarray_type type, size_t count, size_t size,
-                            void **at) {
-    napi_value buffer, array;
-    TRY(napi_create_arraybuffer(env, count * size, at, &buffer));
-    TRY(napi_create_typedarray(env, type, count, buffer, 0, &array));
-    return array;
-}
-
-napi_value new_bytes(napi_env env, size_t length, uint8_t **at) {
-    void *data;
-    napi_value array = new_array(env, napi_uint8_array, length, 1, &data);
-    if (array) *at = data;
-    return array;
-}
-
-napi_value copied(napi_env env, const uint8_t *bytes, size_t length) {
-    uint8_t *at;
-    napi_value array = new_bytes(env, length, &at);
-    if (array && length) memcpy(at, bytes, length);
-    return array;
-}
-
-napi_value array_of(napi_env env, const napi_value *parts, uint32_t count) {
-    napi_value array;
-    TRY(napi_create_array_with_length(env, count, &array));
-    for (uint32_t i = 0; i < count; i++) TRY(napi_set_element(env, array, i, parts[i]));
-    return array;
-}
-
-napi_value doubles(napi_env env, const void *numbers, size_t count) {
-    void *at;
-    napi_value array = new_array(env, napi_float64_array, count, sizeof(double), &at);
-    if (array && count) memcpy(at, numbers, count * sizeof(double));
-    return array;
 }
 
 /* A text of which each unit is a byte. */
@@ -434,16 +366,6 @@ static napi_value cid_from_text(napi_env env, napi_callback_info info) {
     return code < 0 ? number_of(env, code) : latin1(env, cid, needed);
 }
 
-/* The library's code is for these processors. */
-static bool has_processor(void) {
-#if defined(__x86_64__)
-    __builtin_cpu_init();
-    return __builtin_cpu_supports("sse4.2") && __builtin_cpu_supports("popcnt");
-#else
-    return true;
-#endif
-}
-
 static void own_free(napi_env env, void *own, void *hint) {
     (void)env, (void)hint;
     free(own);
@@ -465,12 +387,6 @@ static bool put_own(napi_env env, napi_value exports) {
     return put_array(env, exports, "kept", napi_uint32_array, 3 * KEPT_TOKENS, &own->kept) &&
            put_array(env, exports, "words", napi_uint32_array, 6 * WRITTEN_TOKENS, &own->words) &&
            put_array(env, exports, "payload", napi_uint8_array, WRITTEN_BYTES, &own->payload);
-}
-
-static bool put_call(napi_env env, napi_value exports, const char *name, napi_callback call) {
-    napi_value function;
-    return napi_create_function(env, name, NAPI_AUTO_LENGTH, call, NULL, &function) == napi_ok &&
-           napi_set_named_property(env, exports, name, function) == napi_ok;
 }
 
 NAPI_MODULE_INIT() {

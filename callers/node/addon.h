@@ -1,4 +1,4 @@
-/* What the parts of the addon share. */
+/* What the parts of the addons share. */
 #ifndef DAGCBOR_ADDON_H
 #define DAGCBOR_ADDON_H
 
@@ -24,12 +24,18 @@ napi_value number_of(napi_env env, int64_t number);
  * address. */
 const uint8_t *bytes_in(napi_env env, napi_value given, size_t *length);
 
+/* A typed array of its own, of so many numbers of that size, and where they stand. */
+napi_value new_array(napi_env env, napi_typedarray_type type, size_t count, size_t size, void **at);
+
 /* A Uint8Array of its own, and where its bytes stand. */
 napi_value new_bytes(napi_env env, size_t length, uint8_t **at);
 napi_value copied(napi_env env, const uint8_t *bytes, size_t length);
 
 napi_value doubles(napi_env env, const void *numbers, size_t count); /* a Float64Array of them */
 napi_value array_of(napi_env env, const napi_value *parts, uint32_t count);
+
+bool put_call(napi_env env, napi_value exports, const char *name, napi_callback call);
+bool has_processor(void); /* for which the code of the libraries is */
 
 /* Of texts */
 size_t put_latin1(const uint8_t *text, size_t length, uint8_t *units);

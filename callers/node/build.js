@@ -1,30 +1,47 @@
 // Builds the addon, out/dagcbor.node, with the proved library inside. The library is that of the
 // environment variable DAGCBOR_LIBRARY; else that which a release has in lib/, and include/; else
 // that of this repository, which is proved and built first where it is not there and `rt` is. Where
-// DAGCBOR_MODULE names a WebAssembly module that is put there, in the place of the addon. Beside it
-// goes the program of stores, where it is: that of DAGSTORE, of a release, or of this repository.
+// the library that takes memory is there, by DAGCBOR_MEMORY_LIBRARY or in one of these places, a
+// second addon goes beside it, out/dagcbor_memory.node, which `dagcbor/atproto` alone wants. Where
+// DAGCBOR_MODULE names a WebAssembly module that is put there, in the place of the addons. The
+// program of stores goes beside them, where it is: that of DAGSTORE, of a release, or of this
+// repository.
 'use strict';
 const { execFileSync } = require('child_process');
 const { chmodSync, copyFileSync, existsSync, mkdirSync, realpathSync, rmSync } = require('fs');
 const { dirname, join } = require('path');
 
-const crate = join(__dirname, '../../crates/dagcbor_ffi');
+const crateOf = (name) => join(__dirname, '../../crates', name);
 const machine = { x64: 'x86_64', arm64: 'aarch64' }[process.arch] ?? process.arch;
 const carriedOf = (name) => join(__dirname, 'lib', machine, name);
 
+// Where the library of a crate is, if it is there.
+const pathOf = (crate, variable) => {
+  const carried = carriedOf(`lib${crate}.a`);
+  const own = existsSync(carried) ? carried : join(crateOf(crate), `out/lib${crate}.a`);
+  return process.env[variable] ?? own;
+};
+
 const library = () => {
-  const carried = carriedOf('libdagcbor_ffi.a');
-  const own = existsSync(carried) ? carried : join(crate, 'out/libdagcbor_ffi.a');
-  const path = process.env.DAGCBOR_LIBRARY ?? own;
+  const path = pathOf('dagcbor_ffi', 'DAGCBOR_LIBRARY');
   if (!existsSync(path) && !process.env.DAGCBOR_LIBRARY) {
+    const cwd = crateOf('dagcbor_ffi');
     try {
-      execFileSync('rt', ['lib'], { cwd: crate, stdio: ['ignore', 'ignore', 'inherit'] });
+      execFileSync('rt', ['lib'], { cwd, stdio: ['ignore', 'ignore', 'inherit'] });
     } catch (e) {
       if (e.code !== 'ENOENT') throw e;
     }
   }
   if (!existsSync(path)) throw new Error(`no ${path}: \`rt lib\` in crates/dagcbor_ffi makes it`);
   return path;
+};
+
+// The one that takes memory; nothing where none is named and none is there.
+const memoryLibrary = () => {
+  const path = pathOf('dagcbor_memory_ffi', 'DAGCBOR_MEMORY_LIBRARY');
+  if (existsSync(path)) return path;
+  if (process.env.DAGCBOR_MEMORY_LIBRARY) throw new Error(`there is no ${path}`);
+  return undefined;
 };
 
 // The headers of Node-API, which stand beside its program or where Debian has them.
@@ -38,15 +55,16 @@ const headers = () => {
 
 const out = (name) => join(__dirname, 'out', name);
 
-const build = () => {
+// An addon of these sources, over a library.
+const compile = (name, sources, archive) => {
   const [cc, ...words] = (process.env.CC || 'cc').split(' ');
   const flags = ['-std=c11', '-O3', '-Wall', '-Wextra', '-shared', '-fPIC'];
   const hidden = ['-fvisibility=hidden', '-Wl,--exclude-libs,ALL'];
   const more = (process.env.CFLAGS || '').split(' ').filter(Boolean);
-  const own = [join(__dirname, 'include'), join(crate, 'include'), join(__dirname, '../c')];
+  const crates = ['dagcbor_ffi', 'dagcbor_memory_ffi'].map((it) => join(crateOf(it), 'include'));
+  const own = [join(__dirname, 'include'), ...crates, join(__dirname, '../c')];
   const folders = [headers(), ...own].map((it) => `-I${it}`);
-  const sources = ['addon.c', 'car.c', 'units.c'].map((it) => join(__dirname, it));
-  const files = [...sources, library(), '-lm', '-o', out('dagcbor.node')];
+  const files = [...sources.map((it) => join(__dirname, it)), archive, '-lm', '-o', out(name)];
   const all = [...words, ...flags, ...hidden, ...more, ...folders, ...files];
   try {
     execFileSync(cc, all, { stdio: 'inherit' });
@@ -56,8 +74,14 @@ const build = () => {
   }
 };
 
+const build = () => {
+  compile('dagcbor.node', ['addon.c', 'car.c', 'units.c', 'values.c'], library());
+  const archive = memoryLibrary();
+  if (archive) compile('dagcbor_memory.node', ['memory.c', 'values.c'], archive);
+};
+
 const putProgram = () => {
-  const built = join(crate, '../dagstore/out/dagstore');
+  const built = join(crateOf('dagstore'), 'out/dagstore');
   const places = [process.env.DAGSTORE, carriedOf('dagstore'), built];
   const found = places.find((it) => it && existsSync(it));
   if (!found) return;
@@ -66,7 +90,8 @@ const putProgram = () => {
 };
 
 mkdirSync(join(__dirname, 'out'), { recursive: true });
-for (const it of ['dagcbor.node', 'dagcbor.wasm', 'dagstore']) rmSync(out(it), { force: true });
+const MADE = ['dagcbor.node', 'dagcbor_memory.node', 'dagcbor.wasm', 'dagstore'];
+for (const it of MADE) rmSync(out(it), { force: true });
 try {
   putProgram();
   if (process.env.DAGCBOR_MODULE) copyFileSync(process.env.DAGCBOR_MODULE, out('dagcbor.wasm'));

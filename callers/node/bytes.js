@@ -32,6 +32,19 @@ const whole = (bytes) => {
   return length ? view(bytes, 0, length) : new Uint8Array();
 };
 
+const PIECE = 1 << 18; // of bytes in memory
+
+const pieces = function* (bytes) {
+  for (let at = 0; at < bytes.length; at += PIECE) yield bytes.subarray(at, at + PIECE);
+};
+
+// What gives the bytes of a source in pieces: of bytes themselves, or of what is iterated.
+const piecesOf = (source) => {
+  const given = tagOf.call(source) === 'Uint8Array' ? pieces(whole(source)) : source;
+  if (given?.[Symbol.asyncIterator] ?? given?.[Symbol.iterator]) return given;
+  throw new TypeError('a Uint8Array or an iterable of Uint8Arrays is wanted');
+};
+
 const joined = (parts) => {
   const all = new Uint8Array(parts.reduce((sum, it) => sum + it.length, 0));
   parts.reduce((at, it) => (all.set(it, at), at + it.length), 0);
@@ -48,4 +61,4 @@ const fromLatin1 = (text) => {
 // Whether a text has a surrogate that has no other.
 const isAlone = (text) => /[\ud800-\udfff]/.test(text) && /\p{Surrogate}/u.test(text);
 
-module.exports = { fromLatin1, isAlone, isBytes, joined, lengthOf, view, whole };
+module.exports = { fromLatin1, isAlone, isBytes, joined, lengthOf, piecesOf, view, whole };

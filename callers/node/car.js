@@ -2,21 +2,16 @@
 'use strict';
 const { native } = require('./library.js');
 const { CID, binaryOf, bytesOf, cidOf, unpack } = require('./cid.js');
-const { joined, whole } = require('./bytes.js');
+const { joined, piecesOf, whole } = require('./bytes.js');
 const { encode } = require('./encode.js');
 const { DagCborError, KINDS, REASONS, refusal } = require('./errors.js');
 const { latin1 } = require('./platform.js');
 
-const PIECE = 1 << 18; // of bytes in memory, that are copied at once
 const END = 101; // of a walk
 const CALL_LEAST = 1 << 13; // bytes of a block: of less the library is quicker than a call
 const [OTHER_BYTES, LEAST] = [-22, -23]; // of verdicts, the second the least one
 
 const OTHERS = { 9: 'not read', [-22]: 'other bytes', [-23]: 'not verified' };
-
-const pieces = function* (bytes) {
-  for (let at = 0; at < bytes.length; at += PIECE) yield bytes.subarray(at, at + PIECE);
-};
 
 // A text of the bytes of a CID, of this package or another.
 const keyOf = (cid) => binaryOf(cid) ?? latin1(bytesOf(cid));
@@ -47,10 +42,7 @@ class Walk {
   #sha256;
 
   constructor(source, { sha256 } = {}, isCheck = false) {
-    const given = source instanceof Uint8Array ? pieces(source) : source;
-    if (!(given?.[Symbol.asyncIterator] ?? given?.[Symbol.iterator])) {
-      throw new TypeError('a Uint8Array or an iterable of Uint8Arrays is wanted');
-    }
+    const given = piecesOf(source);
     if (sha256 !== undefined && typeof sha256 !== 'function') {
       throw new TypeError('sha256 is no function');
     }

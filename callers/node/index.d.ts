@@ -55,12 +55,48 @@ export type Refusal =
   | 'NoHash'
   | 'NameNotText'
   | 'NotANode'
-  | 'UnsortedLinks';
+  | 'UnsortedLinks'
+  | EventRefusal;
+
+/** Why a frame is none, or its commit is not verified (`dagcbor/atproto`). */
+export type EventRefusal =
+  | 'NoEnd'
+  | 'NoHeader'
+  | 'OtherOperation'
+  | 'NoKind'
+  | 'NoBody'
+  | 'NoCommitFrame'
+  | 'NoKnown'
+  | 'TooBig'
+  | 'Rebase'
+  | 'ManyOperations'
+  | 'ManyBytes'
+  | 'NotAfter'
+  | 'OtherRoot'
+  | 'NoRoot'
+  | 'OtherForm'
+  | 'NoCar'
+  | 'OtherCommit'
+  | 'NoCommit'
+  | 'OtherRepository'
+  | 'OtherRevision'
+  | 'LeadsElsewhere'
+  | 'MissingNode'
+  | 'OtherBytes'
+  | 'NoNode'
+  | 'OtherTree'
+  | 'KeyLength'
+  | 'OtherState';
 
 /** Bytes that are no block, a value that has none, or what is no CID. */
 export class DagCborError extends Error {
-  constructor(kind: Refusal, message: string, place?: number | readonly (string | number)[]);
-  readonly kind: Refusal;
+  constructor(
+    kind: Refusal | undefined,
+    message: string,
+    place?: number | readonly (string | number)[],
+  );
+  /** Undefined of a file that is no repository (`dagcbor/atproto`), where the message tells why. */
+  readonly kind: Refusal | undefined;
   /**
    * Of bytes that are no block: the offset of the byte with which the refusal comes, or how many
    * there are, where they end too early. Of a value that has none, or that a type which is made of

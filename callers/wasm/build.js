@@ -7,7 +7,7 @@ const { basename, join } = require('path');
 const [, , folder, module_] = process.argv;
 if (!module_) throw new Error('node build.js FOLDER MODULE');
 const [node, esm] = [join(__dirname, '../node'), join(__dirname, 'esm')];
-const ALONE = /^(build|library|platform|store\w*)\.js$/; // Node's alone
+const ALONE = /^(build|library|platform|(atproto|store)\w*)\.js$/; // Node's alone
 const shared = readdirSync(node).filter((it) => it.endsWith('.js') && !ALONE.test(it));
 const own = ['dagcbor.js', 'native.js', 'walk.js'];
 

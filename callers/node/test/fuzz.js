@@ -76,7 +76,7 @@ const fuzz = async (seconds, seed) => {
   return rounds;
 };
 
-module.exports = { fuzz };
+module.exports = { damagedBy, fuzz };
 
 const main = async ([seconds, seed = Date.now()]) => {
   console.log(`seed ${seed}`);

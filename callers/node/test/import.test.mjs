@@ -1,6 +1,6 @@
 // Each name of the types is there by import, and is that of require.
 import assert from 'node:assert';
-import { readFileSync } from 'node:fs';
+import { existsSync, readFileSync } from 'node:fs';
 import { createRequire } from 'node:module';
 import { test } from 'node:test';
 import * as dagcbor from 'dagcbor';
@@ -14,11 +14,16 @@ const namesIn = (types) => {
   const found = text.matchAll(/^export (?:class|function|const) (\w+)/gm);
   return [...found].map(([, name]) => name).sort();
 };
+// Where it was built.
+const hasMemory = existsSync(new URL('../out/dagcbor_memory.node', import.meta.url));
+const atproto = hasMemory ? await import('dagcbor/atproto') : undefined;
 
 test('names', () => {
   const ours = [dagcbor, 'index.d.ts', 'dagcbor'];
   const stores = [store, 'store.d.ts', 'dagcbor/store'];
-  for (const [all, types, path] of [ours, [codec, 'codec.d.ts', 'dagcbor/codec'], stores]) {
+  const codecs = [codec, 'codec.d.ts', 'dagcbor/codec'];
+  const memory = hasMemory ? [[atproto, 'atproto.d.ts', 'dagcbor/atproto']] : [];
+  for (const [all, types, path] of [ours, codecs, stores, ...memory]) {
     const names = namesIn(types);
     assert.ok(names.length >= 5);
     const others = ['default', 'module.exports']; // of all that `require` has

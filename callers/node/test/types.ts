@@ -1,5 +1,6 @@
 // What TypeScript says of the types: this file is compiled, and not run.
 import dagcbor = require('dagcbor');
+import * as atproto from 'dagcbor/atproto';
 import * as codec from 'dagcbor/codec';
 import { Change, Store, StoreLocked } from 'dagcbor/store';
 import { CID, CarCheck, Data, decode, decodeFirst, encode, name, verify } from 'dagcbor';
@@ -76,6 +77,30 @@ const kept = async (path: URL): Promise<CID[]> => {
   await dagcbor.resolve(store, roots[sections], 'a');
   return store.commit(changes);
 };
+const follow = async (source: AsyncIterable<Uint8Array>): Promise<Map<string, atproto.Known>> => {
+  const known = new Map<string, atproto.Known>();
+  for await (const event of atproto.readEvents(source)) {
+    if (event instanceof atproto.AccountEvent && !event.active) known.delete(event.did);
+    if (!(event instanceof atproto.CommitEvent)) continue;
+    const { did, changes, known: next, signed } = atproto.verifyEvent(event, known.get(event.repo));
+    known.set(did, signed.length ? next : { root: theirs, rev: event.rev });
+    const cids: (CID | null)[] = changes.map((it) => it.new);
+    // @ts-expect-error: a record may have been deleted
+    cids.map((cid) => cid.code);
+  }
+  return known;
+};
+const missing = (error: unknown): CID | undefined =>
+  error instanceof atproto.EventError && error.kind === 'MissingNode' ? error.node : undefined;
+const proven = async (file: Uint8Array): Promise<Uint8Array> => {
+  const { records, data }: atproto.Repository = await atproto.readRepo([file]);
+  const [key] = records.keys();
+  const [event, left]: [atproto.Event, Uint8Array] = atproto.readEvent(file);
+  atproto.verifyEvent(event, { root: data, rev: (await atproto.readCommit(file)).rev });
+  // @ts-expect-error: nothing of it is written
+  records.set('a', data);
+  return atproto.recordProof(left, key);
+};
 const isLocked = (error: unknown): boolean => error instanceof StoreLocked && error.name === 'StoreLocked';
-export { isLocked, kept };
+export { follow, isLocked, kept, missing, proven };
 export { check, data, first, none, read, rest, taken };

@@ -18,6 +18,7 @@ from measuring import into_page, load, machine
 BEGIN = "<!-- made by bench/go_package.py page -->\n"
 END = "<!-- so far, of the package for Go -->\n"
 NAMES = ["a struct, 66 bytes", "1,000 of these", "4,744 integers of 3 bytes", "a map of 1,000 keys"]
+NAMES += ["a post, 293 bytes", "10,000 integers", "2,000 texts in Cyrillic"]
 CALLS = ["Marshal", "Unmarshal", "into any"]
 
 

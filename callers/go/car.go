@@ -232,12 +232,7 @@ func (car *CARReader) skip(place uint64) error {
 
 // Reads once, into room that doubles.
 func (car *CARReader) fill() error {
-	const piece = 1 << 16
-	if cap(car.left)-len(car.left) < piece {
-		grown := make([]byte, len(car.left), 2*len(car.left)+2*piece)
-		copy(grown, car.left)
-		car.left = grown
-	}
+	car.left = roomy(car.left, 1<<16)
 	count, err := car.reader.Read(car.left[len(car.left):cap(car.left)])
 	car.left = car.left[:len(car.left)+count]
 	if err == io.EOF {

@@ -22,6 +22,9 @@ import "C"
 import (
 	"fmt"
 	"io"
+	"reflect"
+	"strings"
+	"unicode"
 )
 
 // Kind is what an item is.
@@ -42,12 +45,15 @@ const (
 
 func (kind Kind) String() string { return C.GoString(C.dagcbor_name_of_code(C.int32_t(kind))) }
 
-// Error says why bytes are no block, no file of blocks or no CID, or why a value has no block.
+// Error says why bytes are no block, no file of blocks or no CID, or why a value has no block, or a
+// block not the type of one.
 type Error struct {
-	Kind  string // the reason, as "NonMinimal"
-	Place int64  // of bytes: the offset at which the refusal comes, or MaxInt64 where it is greater; -1 where it is not known
-	Path  []any  // of a value: the keys and indices that lead to what has no block
+	Kind  string       // the reason, as "NonMinimal"
+	Place int64        // of bytes: the offset at which the refusal comes, or MaxInt64 where it is greater; -1 where it is not known
+	Path  []any        // of a value: the keys and indices that lead to what has no block, or not the type
+	Type  reflect.Type // of a value: that at the path, where it is the reason
 	said  string
+	cause error
 }
 
 func (err *Error) Error() string {
@@ -55,18 +61,55 @@ func (err *Error) Error() string {
 	if err.Place >= 0 {
 		said += fmt.Sprintf(", at %d", err.Place)
 	}
-	for _, step := range err.Path {
-		said += fmt.Sprintf(", in %#v", step)
+	if len(err.Path) > 0 {
+		said += ", in " + pathText(err.Path)
 	}
 	return said
 }
 
-// Unwrap answers io.ErrUnexpectedEOF where bytes end too early.
+// The path as .posts[3].createdAt; a key that is no word is quoted: ["a b"].
+func pathText(path []any) string {
+	text := ""
+	for _, step := range path {
+		if key, ok := step.(string); ok && key != "" && strings.IndexFunc(key, isNoLetter) < 0 {
+			text += "." + key
+		} else {
+			text += fmt.Sprintf("[%#v]", step)
+		}
+	}
+	return text
+}
+
+func isNoLetter(it rune) bool {
+	return !unicode.IsLetter(it) && !unicode.IsDigit(it) && !strings.ContainsRune("$_-", it)
+}
+
+// Unwrap answers the error of a value's method, and io.ErrUnexpectedEOF where bytes end too early.
 func (err *Error) Unwrap() error {
 	if err.Kind == "Eof" || err.Kind == "Truncated" {
 		return io.ErrUnexpectedEOF
 	}
-	return nil
+	return err.cause
+}
+
+const (
+	notCallable = "is not exported, and so its methods are not called"
+	notSet      = "is not exported, and so no pointer to it is set"
+)
+
+func refusedValue(kind, said string) *Error {
+	return &Error{Kind: kind, Place: -1, Path: []any{}, said: said}
+}
+
+func refusedType(kind string, of reflect.Type, said string) *Error {
+	return &Error{Kind: kind, Place: -1, Path: []any{}, Type: of, said: of.String() + " " + said}
+}
+
+// The error, of what is in a list or map at this step.
+func within(step any, err error) error {
+	it := err.(*Error)
+	it.Path = append([]any{step}, it.Path...)
+	return it
 }
 
 const trailingData = C.DAGCBOR_TRAILING_DATA

@@ -205,6 +205,75 @@ func TestStream(t *testing.T) {
 	equal(t, count, 4000)
 }
 
+// Blocks one after the other, however they come.
+func TestDecoder(t *testing.T) {
+	var stream bytes.Buffer
+	encoder := NewEncoder(&stream)
+	values := []any{int64(1), map[string]any{"a": []any{nil, "b"}}, strings.Repeat("é", 5000), make([]byte, 70000), Name(nil), []any{}}
+	for _, value := range values {
+		equal(t, encoder.Encode(value), nil)
+	}
+	equal(t, encoder.Encode(1.5) == nil, false)
+	for _, reader := range []func(io.Reader) io.Reader{iotest.OneByteReader, iotest.HalfReader, iotest.DataErrReader, func(it io.Reader) io.Reader { return it }} {
+		decoder := NewDecoder(reader(bytes.NewReader(stream.Bytes())))
+		for _, value := range values {
+			var found any
+			equal(t, []any{decoder.More(), decoder.Decode(&found), found}, []any{true, nil, value})
+			left, err := io.ReadAll(decoder.Buffered())
+			equal(t, []any{bytes.HasPrefix(stream.Bytes()[decoder.InputOffset():], left), err}, []any{true, nil})
+		}
+		equal(t, []any{decoder.More(), decoder.InputOffset(), decoder.Decode(new(any)), decoder.Decode(new(any))}, []any{false, int64(stream.Len()), io.EOF, io.EOF})
+	}
+	late := NewDecoder(iotest.TimeoutReader(iotest.OneByteReader(bytes.NewReader(stream.Bytes()))))
+	equal(t, []any{late.Decode(new(int)), late.Decode(new(any)), late.Decode(new(any))}, []any{nil, iotest.ErrTimeout, iotest.ErrTimeout})
+	encoder = NewEncoder(failing{})
+	equal(t, []any{encoder.Encode(1.5) == iotest.ErrTimeout, encoder.Encode(1), encoder.Encode(1.5)}, []any{false, iotest.ErrTimeout, iotest.ErrTimeout})
+}
+
+// What is not of the type is passed; what is no block comes again, and no more is read.
+func TestDecoderRefuses(t *testing.T) {
+	decoder := NewDecoder(strings.NewReader("\x01\x61a\x02\x82\x03\x18\x17\x04"))
+	var n int
+	equal(t, []any{decoder.Decode(n) == nil, decoder.Decode(&n), n}, []any{false, nil, 1})
+	equal(t, decoder.Decode(&n).Error(), "dagcbor: int does not take this string, at 1")
+	equal(t, []any{decoder.Decode(&n), n}, []any{nil, 2})
+	for i := 0; i < 2; i++ {
+		isRefused(t, decoder.Decode(&n), -16, 7)
+		equal(t, decoder.InputOffset(), int64(4))
+	}
+	for _, row := range []struct {
+		stream string
+		code   int
+		place  int64
+	}{{"\x82\x01", -3, 2}, {"\x19\x01", -3, 2}, {"\x5b\xff\xff\xff\xff\xff\xff\xff\xff\x00", -3, 10}, {strings.Repeat("\xbb\xff\xff\xff\xff\xff\xff\xff\xff", 300), -4, 9}} {
+		err := NewDecoder(strings.NewReader(row.stream)).Decode(new(any))
+		isRefused(t, err, row.code, row.place)
+		equal(t, errors.Is(err, io.ErrUnexpectedEOF), row.code == -3)
+	}
+	ended := io.MultiReader(strings.NewReader("\x82\xff"), iotest.ErrReader(errors.New("no more is wanted")))
+	decoder = NewDecoder(ended)
+	for i := 0; i < 2; i++ {
+		isRefused(t, decoder.Decode(new(any)), -15, 1)
+	}
+	cut := io.MultiReader(strings.NewReader("\x82\x01"), iotest.ErrReader(iotest.ErrTimeout))
+	equal(t, NewDecoder(cut).Decode(new(any)), iotest.ErrTimeout)
+	holdStream(t, unhex("9bffffffffffffffff8200ff"))
+	holdStream(t, unhex("bb8000000000000000616100ff"))
+
+	decoder = NewDecoder(strings.NewReader("\xa2\x61b\x01\x62ID\x05\xa1\x62ID\x05"))
+	decoder.DisallowUnknownFields()
+	var into struct{ In []inner }
+	err := decoder.Decode(&into.In)
+	equal(t, err == nil, false)
+	var it inner
+	equal(t, []any{decoder.Decode(&it), it}, []any{nil, inner{5}})
+	decoder = NewDecoder(strings.NewReader("\xa1\x62In\x81\xa2\x61b\x01\x62ID\x05"))
+	equal(t, []any{decoder.Decode(&into), into.In}, []any{nil, []inner{{5}}})
+	decoder = NewDecoder(strings.NewReader("\xa1\x62In\x81\xa2\x61b\x01\x62ID\x05"))
+	decoder.DisallowUnknownFields()
+	equal(t, decoder.Decode(&into).Error(), "dagcbor: dagcbor.inner has no field of this name, at 6, in .In[0].b")
+}
+
 type note struct {
 	Text  string            `dagcbor:"text"`
 	Year  *uint16           `json:"year,omitempty"`
@@ -255,7 +324,7 @@ func TestTypes(t *testing.T) {
 		place int64
 		path  []any
 	}{
-		{"1817", new(int), "NonMinimal", 1, nil}, {"f6", new(int), "Type", 0, []any{}},
+		{"1817", new(int), "NonMinimal", 1, nil}, {"f5", new(int), "Type", 0, []any{}},
 		{"820100", new([3]int), "Type", 0, []any{}}, {"8201190100", new([]uint8), "Type", 0, []any{}},
 		{"8201190100", new([]int8), "Type", 2, []any{1}}, {"20", new(uint64), "Type", 0, []any{}},
 		{"3bffffffffffffffff", new(int64), "Type", 0, []any{}}, {"1bffffffffffffffff", new(int64), "Type", 0, []any{}},
@@ -268,12 +337,6 @@ func TestTypes(t *testing.T) {
 		equal(t, errors.As(Unmarshal(unhex(row.block), row.into), &refusal), true)
 		equal(t, []any{refusal.Kind, refusal.Place, refusal.Path}, []any{row.kind, row.place, row.path})
 	}
-	_, err := Marshal(struct {
-		A int `dagcbor:"x"`
-		B int `dagcbor:"x"`
-	}{})
-	var refusal *Error
-	equal(t, []any{errors.As(err, &refusal), refusal.Kind}, []any{true, "Unsupported"})
 }
 
 // What is told of a file, as a row of the table has it.
@@ -511,8 +574,32 @@ func hold(t *testing.T, block []byte) {
 		}
 	}
 	_ = Unmarshal(block, new(note))
+	holdStream(t, block)
 	_, _ = Links(block)
 	equal(t, answered(bytes.NewReader(block), nil), answered(bytes.NewReader(block), sha256.Sum256))
+}
+
+// A stream has the items that UnmarshalFirst finds, one after the other.
+func holdStream(t *testing.T, stream []byte) {
+	decoder := NewDecoder(iotest.HalfReader(bytes.NewReader(stream)))
+	for left := stream; ; {
+		var found, wanted any
+		place := decoder.InputOffset()
+		equal(t, place, int64(len(stream)-len(left)))
+		err := decoder.Decode(&found)
+		if len(left) == 0 {
+			equal(t, err, io.EOF)
+			return
+		}
+		rest, refusal := UnmarshalFirst(left, &wanted)
+		if refusal != nil {
+			refusal.(*Error).Place += place
+			equal(t, err, refusal)
+			return
+		}
+		equal(t, []any{found, err}, []any{wanted, nil})
+		left = rest
+	}
 }
 
 func FuzzUnmarshal(f *testing.F) {
@@ -522,36 +609,4 @@ func FuzzUnmarshal(f *testing.F) {
 		}
 	}
 	f.Fuzz(hold)
-}
-
-func sample() any {
-	posts := make([]any, 100)
-	for i := range posts {
-		posts[i] = map[string]any{"text": "hello world, hello", "likes": int64(i), "root": true, "at": []byte{1, 2, 3, 4}, "of": nil}
-	}
-	return posts
-}
-
-func BenchmarkCheck(b *testing.B) { bench(b, func(block []byte) { _, _ = Check(block) }) }
-
-func BenchmarkUnmarshal(b *testing.B) {
-	bench(b, func(block []byte) { _ = Unmarshal(block, new(any)) })
-}
-
-func BenchmarkMarshal(b *testing.B) {
-	value := sample()
-	bench(b, func([]byte) { _, _ = Marshal(value) })
-}
-
-func bench(b *testing.B, call func([]byte)) {
-	block, err := Marshal(sample())
-	if err != nil {
-		b.Fatal(err)
-	}
-	b.SetBytes(int64(len(block)))
-	b.ReportAllocs()
-	b.ResetTimer()
-	for i := 0; i < b.N; i++ {
-		call(block)
-	}
 }

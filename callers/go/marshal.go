@@ -3,93 +3,173 @@ package dagcbor
 import (
 	"encoding"
 	"encoding/binary"
+	"io"
+	"math"
 	"math/big"
+	"math/bits"
 	"reflect"
 	"sort"
 	"sync"
 	"unicode/utf8"
 )
 
-// So many lists and maps may be around a part, and so many pointers and interfaces before it: more
-// stand in a ring.
+// So many lists and maps may be around a part, and so many pointers: more stand in a ring.
 const (
 	mostLevels   = 127
 	mostPointers = 1000
+	tooDeep      = "lists and maps are in each other too deep"
 )
 
 type writer struct {
-	block  []byte
-	levels int  // of lists and maps around
-	looks  bool // for the text that is not UTF-8
-	last   lastShape
+	block    []byte
+	levels   int   // of lists and maps around
+	pointers int   // around
+	keys     keys  // of the maps around
+	values   []any // of these, where they are of any type
+	sorted   keys
+	looks    bool // for the text that is not UTF-8, or the link that is no CID
+	lastType reflect.Type
+	lastPlan *plan
 }
 
 var writers = sync.Pool{New: func() any { return &writer{} }}
 
 // Marshal is the one block of the data: what Unmarshal gives to an any, all sorts of integers, slices,
-// arrays, maps with keys of string, structs as maps, and what pointers point at; of nil pointers,
-// slices and maps it is null. An entry of a struct has the name of the tag
-// `dagcbor:"name,omitempty"`, else that of the tag for json, else the field's; the fields of an
-// embedded struct are entries of the outer one, as for json. A struct that shows no field, as
-// time.Time, is the text of its MarshalText, or refused; a CID of go-cid is a link. Keys come in the
-// order of blocks.
+// arrays, maps, structs as maps, and what pointers point at; of nil pointers, slices and maps it is
+// null. Keys come in the order of blocks.
+//
+// An entry of a struct has the name of the tag `dagcbor:"name,omitempty"`, else that of the tag for
+// json, else the field's. The rules are json's: of omitempty, omitzero and `-`, and of embedded
+// structs, whose fields are entries of the outer one. The option string is refused.
+//
+// A value with MarshalText is its text, also as a key. A struct that shows no field and has none is
+// the bytes of its MarshalBinary, or a link, as a CID of go-cid, or refused.
 func Marshal(value any) ([]byte, error) {
 	writer := writers.Get().(*writer)
-	defer writers.Put(writer)
-	if err := writer.write(value, false); err != nil {
-		return nil, err
+	if err := writer.marshal(value); err != nil {
+		return nil, err // the writer, which may hold values, is not used again
 	}
-	if code := check(writer.block); code < 0 {
-		if err := writer.write(value, true); err != nil {
-			return nil, err
-		}
-		return nil, refused(code, -1)
-	}
-	return append([]byte{}, writer.block...), nil
+	written := writer.block
+	block := make([]byte, len(written)) // of these two lines the compiler makes one that sets no zeros
+	copy(block, written)
+	writers.Put(writer)
+	return block, nil
 }
 
-// Texts are judged with the block: where a fault is, is looked for when there is one.
+// An Encoder writes blocks one after the other.
+type Encoder struct {
+	into io.Writer
+	err  error // of the writer, which comes again
+}
+
+// NewEncoder writes what Marshal would give.
+func NewEncoder(into io.Writer) *Encoder { return &Encoder{into: into} }
+
+// Encode writes the block of the data, by one call. Of data without a block it writes nothing.
+func (encoder *Encoder) Encode(value any) error {
+	if encoder.err != nil {
+		return encoder.err
+	}
+	writer := writers.Get().(*writer)
+	if err := writer.marshal(value); err != nil {
+		return err
+	}
+	defer writers.Put(writer)
+	_, encoder.err = encoder.into.Write(writer.block)
+	return encoder.err
+}
+
+// Texts and CIDs are judged with the block: where a fault is, is looked for when there is one.
+func (writer *writer) marshal(value any) error {
+	if err := writer.write(value, false); err != nil {
+		return err
+	}
+	code := check(writer.block)
+	if code >= 0 {
+		return nil
+	}
+	if err := writer.write(value, true); err != nil {
+		return err
+	}
+	return refused(code, -1)
+}
+
 func (writer *writer) write(value any, looks bool) error {
 	writer.block, writer.levels, writer.looks = writer.block[:0], 0, looks
-	return writer.add(reflect.ValueOf(value))
+	return writer.any(value)
 }
 
-func refusedValue(kind, said string) error {
-	return &Error{Kind: kind, Place: -1, Path: []any{}, said: said}
+// Some types, which data read into an any has, are written without reflection.
+func (writer *writer) any(value any) error {
+	switch it := value.(type) {
+	case nil:
+		return writer.head(headNull, 0)
+	case string:
+		return writer.text(it)
+	case int64:
+		writer.block = appendInteger(writer.block, it)
+		return nil
+	case int:
+		writer.block = appendInteger(writer.block, int64(it))
+		return nil
+	case bool:
+		writer.block = appendBool(writer.block, it)
+		return nil
+	case map[string]any:
+		return writer.entries(it)
+	case CID:
+		return writer.link(it.bytes)
+	}
+	if of := reflect.TypeOf(value); of != writer.lastType {
+		writer.lastType, writer.lastPlan = of, planOf(of)
+	}
+	return writer.lastPlan.write(writer, reflect.ValueOf(value))
 }
 
-// The error, of what is in a list or map at this step.
-func behind(step any, err error) error {
-	it := err.(*Error)
-	it.Path = append([]any{step}, it.Path...)
-	return it
-}
+// The first byte of a head, without its number.
+const (
+	headInteger  = 0x00
+	headNegative = 0x20
+	headBytes    = 0x40
+	headString   = 0x60
+	headList     = 0x80
+	headMap      = 0xa0
+	headFalse    = 0xf4
+	headNull     = 0xf6
+)
 
-// The first byte of a head that has no number in it.
-var firsts = [...]byte{Null: 0xf6, Bool: 0xf4, Integer: 0, negative: 0x20, Bytes: 0x40, String: 0x60, List: 0x80, Map: 0xa0}
-
-func (writer *writer) head(kind Kind, number uint64) error {
-	writer.block = appendHead(writer.block, kind, number)
+func (writer *writer) head(first byte, number uint64) error {
+	writer.block = appendHead(writer.block, first, number)
 	return nil
 }
 
-func appendHead(block []byte, kind Kind, number uint64) []byte {
-	first := firsts[kind]
-	switch {
-	case number < 24:
+// Of a number in 1 << width bytes eight are put, and those after the first ones cut off: that takes
+// no branch for each width.
+func appendHead(block []byte, first byte, number uint64) []byte {
+	if number < 24 {
 		return append(block, first+byte(number))
-	case number < 1<<8:
-		return append(block, first+24, byte(number))
-	case number < 1<<16:
-		return binary.BigEndian.AppendUint16(append(block, first+25), uint16(number))
-	case number < 1<<32:
-		return binary.BigEndian.AppendUint32(append(block, first+26), uint32(number))
 	}
-	return binary.BigEndian.AppendUint64(append(block, first+27), number)
+	width := bits.Len(uint(bits.Len64(number)-1) >> 3)
+	block = append(block, first+24+byte(width), 0, 0, 0, 0, 0, 0, 0, 0)
+	end := len(block) - 8
+	binary.BigEndian.PutUint64(block[end:], number<<(64-8<<width))
+	return block[:end+1<<width]
 }
 
 func appendText(block []byte, text string) []byte {
-	return append(appendHead(block, String, uint64(len(text))), text...)
+	return append(appendHead(block, headString, uint64(len(text))), text...)
+}
+
+func appendInteger(block []byte, n int64) []byte {
+	sign := n >> 63 // all ones below 0
+	return appendHead(block, headNegative&byte(sign), uint64(n^sign))
+}
+
+func appendBool(block []byte, it bool) []byte {
+	if it {
+		return append(block, headFalse+1)
+	}
+	return append(block, headFalse)
 }
 
 func (writer *writer) text(text string) error {
@@ -100,211 +180,349 @@ func (writer *writer) text(text string) error {
 	return nil
 }
 
-func (writer *writer) integer(n int64) error {
-	if n < 0 {
-		return writer.head(negative, uint64(^n))
-	}
-	return writer.head(Integer, uint64(n))
-}
-
-func (writer *writer) bigInteger(n *big.Int) error {
-	kind := Integer
-	if n.Sign() < 0 {
-		kind, n = negative, new(big.Int).Not(n)
-	}
-	if !n.IsUint64() {
-		return refusedValue("CastOverflow", "an integer that is not in -2^64 .. 2^64 - 1")
-	}
-	return writer.head(kind, n.Uint64())
+func (writer *writer) bytes(bytes []byte) error {
+	writer.block = append(appendHead(writer.block, headBytes, uint64(len(bytes))), bytes...)
+	return nil
 }
 
 func (writer *writer) link(cid string) error {
-	if cid == "" {
-		return refusedValue("InvalidCid", "a CID that names nothing")
+	if cid == "" || writer.looks {
+		if _, err := CIDOf([]byte(cid)); err != nil {
+			return err
+		}
 	}
-	writer.block = appendHead(append(writer.block, 0xd8, 0x2a), Bytes, uint64(len(cid))+1)
-	writer.block = append(append(writer.block, 0), cid...)
+	block := appendHead(append(writer.block, 0xd8, 42), headBytes, uint64(len(cid)+1))
+	writer.block = append(append(block, 0), cid...)
 	return nil
 }
 
-var (
-	ofCID = reflect.TypeOf(CID{})
-	ofBig = reflect.TypeOf(big.Int{})
-)
-
-func (writer *writer) add(value reflect.Value) error {
-	for i := 0; value.Kind() == reflect.Pointer || value.Kind() == reflect.Interface; i++ {
-		if i == mostPointers {
-			return refusedValue("DepthOverflow", "pointers that stand in a ring")
-		}
-		value = value.Elem()
-	}
-	switch value.Kind() {
-	case reflect.Invalid: // behind a nil
-		return writer.head(Null, 0)
-	case reflect.Bool:
-		if value.Bool() {
-			return writer.head(Bool, 1)
-		}
-		return writer.head(Bool, 0)
-	case reflect.String:
-		return writer.text(value.String())
-	case reflect.Int, reflect.Int8, reflect.Int16, reflect.Int32, reflect.Int64:
-		return writer.integer(value.Int())
-	case reflect.Uint, reflect.Uint8, reflect.Uint16, reflect.Uint32, reflect.Uint64:
-		return writer.head(Integer, value.Uint())
-	case reflect.Slice, reflect.Array:
-		if value.Kind() == reflect.Slice && value.IsNil() {
-			return writer.head(Null, 0)
-		}
-		if isOfBytes(value) {
-			return writer.bytes(value)
-		}
-		return writer.list(value)
-	case reflect.Map:
-		if value.IsNil() {
-			return writer.head(Null, 0)
-		}
-		return writer.entries(value)
-	case reflect.Struct:
-		return writer.structure(value)
-	case reflect.Float32, reflect.Float64:
-		return refusedValue("Unsupported", "floats are left out of these blocks")
-	}
-	return refusedValue("Unsupported", value.Type().String()+" is none of the types of data")
-}
-
-// Begins a list or map, behind whose parts the level is left.
-func (writer *writer) open(kind Kind, count int) error {
+// Begins a list or map, after whose parts the level is left.
+func (writer *writer) open(first byte, count int) error {
 	if writer.levels == mostLevels && count > 0 {
-		return refusedValue("DepthOverflow", "lists and maps are in each other too deep")
+		return refusedValue("DepthOverflow", tooDeep)
 	}
 	writer.levels++
-	return writer.head(kind, uint64(count))
+	return writer.head(first, uint64(count))
 }
 
-func (writer *writer) bytes(value reflect.Value) error {
-	writer.head(Bytes, uint64(value.Len()))
-	if value.Kind() == reflect.Slice {
-		writer.block = append(writer.block, value.Bytes()...)
-		return nil
-	}
-	for i := 0; i < value.Len(); i++ {
-		writer.block = append(writer.block, byte(value.Index(i).Uint()))
-	}
-	return nil
-}
-
-func (writer *writer) list(value reflect.Value) error {
-	count := value.Len()
-	if err := writer.open(List, count); err != nil {
-		return err
-	}
-	for i := 0; i < count; i++ {
-		if err := writer.add(value.Index(i)); err != nil {
-			return behind(i, err)
-		}
-	}
-	writer.levels--
-	return nil
-}
-
-// A key, and which of the values is that of its entry.
+// A key of a map: which it is, and a number by which nearly all are sorted: the length of its text,
+// and the first bytes.
 type key struct {
-	text string
+	rank uint64
 	at   int
 }
 
-func (writer *writer) entries(value reflect.Value) error {
-	if value.Type().Key().Kind() != reflect.String {
-		return refusedValue("Mismatch", "keys that are no strings: "+value.Type().String())
+func keyOf(text string, at int) key {
+	if len(text) >= 1<<8-1 {
+		return key{math.MaxUint64, at}
 	}
-	keys, text := make([]key, value.Len()), reflect.New(value.Type().Key()).Elem()
-	values := reflect.MakeSlice(reflect.SliceOf(value.Type().Elem()), len(keys), len(keys))
-	for i, entries := 0, value.MapRange(); entries.Next(); i++ {
-		text.SetIterKey(entries)
-		values.Index(i).SetIterValue(entries)
-		keys[i] = key{text.String(), i}
+	rank := uint64(len(text))
+	for i := 0; i < 7; i++ {
+		rank <<= 8
+		if i < len(text) {
+			rank |= uint64(text[i])
+		}
 	}
-	sort.Slice(keys, func(i, j int) bool {
-		one, other := keys[i].text, keys[j].text
-		return len(one) < len(other) || len(one) == len(other) && one < other
-	})
-	if err := writer.open(Map, len(keys)); err != nil {
+	return key{rank, at}
+}
+
+// Keys that are put in the order of blocks, and their texts, which stay as they are.
+type keys struct {
+	order []key
+	texts []string
+}
+
+func (keys *keys) Len() int      { return len(keys.order) }
+func (keys *keys) Swap(i, j int) { keys.order[i], keys.order[j] = keys.order[j], keys.order[i] }
+func (keys *keys) Less(i, j int) bool {
+	if one, other := keys.order[i].rank, keys.order[j].rank; one != other {
+		return one < other
+	}
+	one, other := keys.texts[keys.order[i].at], keys.texts[keys.order[j].at]
+	return len(one) < len(other) || len(one) == len(other) && one < other
+}
+
+func (writer *writer) entries(entries map[string]any) error {
+	if entries == nil {
+		return writer.head(headNull, 0)
+	}
+	start, first := len(writer.keys.order), len(writer.values)
+	for text, value := range entries {
+		writer.addKey(text, start)
+		writer.values = append(writer.values, value)
+	}
+	err := writer.eachEntry(start, func(at int) error { return writer.any(writer.values[first+at]) })
+	for i := range writer.values[first:] {
+		writer.values[first+i] = nil // and not kept alive
+	}
+	writer.values = writer.values[:first]
+	return err
+}
+
+// A key more of the map whose keys begin there.
+func (writer *writer) addKey(text string, start int) {
+	keys := &writer.keys
+	keys.order = append(keys.order, keyOf(text, len(keys.order)-start))
+	keys.texts = append(keys.texts, text)
+}
+
+// Writes a map of the keys from so many on, and the value of each.
+func (writer *writer) eachEntry(start int, write func(at int) error) error {
+	all := &writer.keys
+	count := len(all.order) - start
+	if err := writer.open(headMap, count); err != nil {
 		return err
 	}
-	for _, key := range keys {
-		if err := writer.text(key.text); err != nil {
+	writer.sorted = keys{all.order[start:], all.texts[start:]}
+	sort.Sort(&writer.sorted)
+	last := ""
+	for i := start; i < start+count; i++ {
+		at := all.order[i].at
+		text := all.texts[start+at]
+		if i > start && text == last {
+			return within(text, refusedValue("UnorderedKey", "a key is there twice"))
+		}
+		if err := writer.text(text); err != nil {
 			return err
 		}
-		if err := writer.add(values.Index(key.at)); err != nil {
-			return behind(key.text, err)
+		if err := write(at); err != nil {
+			return within(text, err)
 		}
+		last = text
 	}
+	for i := range all.texts[start:] {
+		all.texts[start+i] = ""
+	}
+	all.order, all.texts = all.order[:start], all.texts[:start]
 	writer.levels--
 	return nil
 }
 
-func isEmpty(value reflect.Value) bool {
-	switch value.Kind() {
-	case reflect.Slice, reflect.Map, reflect.String, reflect.Array:
-		return value.Len() == 0
+// The plan of a leaf that always has its bytes.
+func leaf(add func([]byte, reflect.Value) []byte, read func(*reader, item, reflect.Value) error) plan {
+	write := func(writer *writer, value reflect.Value) error {
+		writer.block = add(writer.block, value)
+		return nil
 	}
-	return value.IsZero()
+	return plan{add, write, read}
 }
 
-func (writer *writer) structure(value reflect.Value) error {
-	switch value.Type() {
-	case ofCID:
-		return writer.link(value.Field(0).String())
-	case ofBig:
-		n := value.Interface().(big.Int)
-		return writer.bigInteger(&n)
-	}
-	shape := writer.last.of(value.Type())
+func addBool(block []byte, value reflect.Value) []byte { return appendBool(block, value.Bool()) }
+
+func addInt(block []byte, value reflect.Value) []byte { return appendInteger(block, value.Int()) }
+
+func addUint(block []byte, value reflect.Value) []byte {
+	return appendHead(block, headInteger, value.Uint())
+}
+
+func addText(block []byte, value reflect.Value) []byte { return appendText(block, value.String()) }
+
+func writeString(writer *writer, value reflect.Value) error { return writer.text(value.String()) }
+
+func writeBytes(writer *writer, value reflect.Value) error {
 	switch {
-	case (shape.isLink || shape.isText) && !value.CanInterface():
-		return refusedValue("Unsupported", value.Type().String()+" is not exported, and so its methods")
-	case shape.isLink:
-		return writer.link(pointerTo(value).(linker).KeyString())
-	case shape.isText:
-		text, err := pointerTo(value).(encoding.TextMarshaler).MarshalText()
+	case value.Kind() == reflect.Array:
+		writer.head(headBytes, uint64(value.Len()))
+		for i := 0; i < value.Len(); i++ {
+			writer.block = append(writer.block, byte(value.Index(i).Uint()))
+		}
+		return nil
+	case value.IsNil():
+		return writer.head(headNull, 0)
+	}
+	return writer.bytes(value.Bytes())
+}
+
+func writeInterface(writer *writer, value reflect.Value) error {
+	if value.IsNil() {
+		return writer.head(headNull, 0)
+	}
+	return writer.any(value.Interface())
+}
+
+func writeCID(writer *writer, value reflect.Value) error {
+	return writer.link(value.Field(0).String())
+}
+
+func writeBig(writer *writer, value reflect.Value) error {
+	n, first := pointerTo(value).(*big.Int), byte(headInteger)
+	if n.Sign() < 0 {
+		n, first = new(big.Int).Not(n), headNegative
+	}
+	if !n.IsUint64() {
+		return refusedType("CastOverflow", ofBig, "is not within 64 bits and a sign")
+	}
+	return writer.head(first, n.Uint64())
+}
+
+// Writes a value by its method.
+func writesBy(
+	put func(*writer, []byte) error, method func(any) ([]byte, error),
+) func(*writer, reflect.Value) error {
+	return func(writer *writer, value reflect.Value) error {
+		bytes, err := bytesBy(value, method)
 		if err != nil {
-			return refusedValue("Unsupported", err.Error())
+			return err
 		}
-		return writer.text(string(text))
-	case shape.refusal != "":
-		return refusedValue("Unsupported", shape.refusal)
+		return put(writer, bytes)
 	}
-	count := len(shape.fields)
-	for i := range shape.fields {
-		if !shape.fields[i].isSent(value) {
-			count--
+}
+
+func putText(writer *writer, text []byte) error { return writer.text(string(text)) }
+
+func putLink(writer *writer, cid []byte) error { return writer.link(string(cid)) }
+
+func keyString(it any) ([]byte, error) { return []byte(it.(linker).KeyString()), nil }
+
+func marshalText(it any) ([]byte, error) { return it.(encoding.TextMarshaler).MarshalText() }
+
+func marshalBinary(it any) ([]byte, error) { return it.(encoding.BinaryMarshaler).MarshalBinary() }
+
+// The bytes by a method of the value.
+func bytesBy(value reflect.Value, method func(any) ([]byte, error)) ([]byte, error) {
+	if !value.CanInterface() {
+		return nil, refusedType("Unsupported", value.Type(), notCallable)
+	}
+	bytes, cause := method(pointerTo(value))
+	if cause != nil {
+		err := refusedType("Unsupported", value.Type(), "is not written: "+cause.Error())
+		err.cause = cause
+		return nil, err
+	}
+	return bytes, nil
+}
+
+func pointers(target *plan) plan {
+	write := func(writer *writer, value reflect.Value) error {
+		if value.IsNil() {
+			return writer.head(headNull, 0)
 		}
-	}
-	if err := writer.open(Map, count); err != nil {
+		if writer.pointers++; writer.pointers > mostPointers {
+			return refusedType("DepthOverflow", value.Type(), "points into a ring")
+		}
+		err := target.write(writer, value.Elem())
+		writer.pointers--
 		return err
 	}
-	for i := range shape.fields {
-		it := &shape.fields[i]
-		if !it.isSent(value) {
-			continue
+	return plan{write: write, read: readPointer(target)}
+}
+
+func lists(part *plan) plan {
+	write := func(writer *writer, value reflect.Value) error {
+		if value.Kind() == reflect.Slice && value.IsNil() {
+			return writer.head(headNull, 0)
 		}
-		writer.block = append(writer.block, it.key...)
-		if err := writer.add(it.in(value)); err != nil {
-			return behind(it.name, err)
+		count := value.Len()
+		if err := writer.open(headList, count); err != nil {
+			return err
+		}
+		if err := writer.items(part, value, count); err != nil {
+			return err
+		}
+		writer.levels--
+		return nil
+	}
+	return plan{write: write, read: readList(part)}
+}
+
+func (writer *writer) items(part *plan, list reflect.Value, count int) error {
+	if part.add != nil && !writer.looks {
+		block := writer.block
+		for i := 0; i < count; i++ {
+			block = part.add(block, list.Index(i))
+		}
+		writer.block = block
+		return nil
+	}
+	for i := 0; i < count; i++ {
+		if err := part.write(writer, list.Index(i)); err != nil {
+			return within(i, err)
 		}
 	}
-	writer.levels--
 	return nil
 }
 
-// Of the value, or of a copy where it has no place.
-func pointerTo(value reflect.Value) any {
-	if !value.CanAddr() {
-		place := reflect.New(value.Type())
-		place.Elem().Set(value)
-		return place.Interface()
+// Keys of maps are strings, or have a text.
+func (made planner) maps(of reflect.Type) plan {
+	isString, pointer := of.Key().Kind() == reflect.String, reflect.PointerTo(of.Key())
+	it, part := noPlan("Mismatch", "has keys that are no strings, and have no MarshalText"), made.plan(of.Elem())
+	if isString || pointer.Implements(ofText) {
+		it.write = writeMap(isString, part)
 	}
-	return value.Addr().Interface()
+	if isString || pointer.Implements(fromText) {
+		it.read = readMap(isString, part)
+	}
+	return it
+}
+
+func writeMap(isString bool, part *plan) func(*writer, reflect.Value) error {
+	return func(writer *writer, value reflect.Value) error {
+		if value.IsNil() {
+			return writer.head(headNull, 0)
+		}
+		of, start := value.Type(), len(writer.keys.order)
+		key := reflect.New(of.Key()).Elem()
+		values := reflect.MakeSlice(reflect.SliceOf(of.Elem()), value.Len(), value.Len())
+		for i, entries := 0, value.MapRange(); entries.Next(); i++ {
+			key.SetIterKey(entries)
+			values.Index(i).SetIterValue(entries)
+			if isString {
+				writer.addKey(key.String(), start)
+				continue
+			}
+			text, err := bytesBy(key, marshalText)
+			if err != nil {
+				return err
+			}
+			writer.addKey(string(text), start)
+		}
+		return writer.eachEntry(start, func(at int) error { return part.write(writer, values.Index(at)) })
+	}
+}
+
+// The head of the map is written first, and again where fields are left out.
+func writeFields(fields []field) func(*writer, reflect.Value) error {
+	return func(writer *writer, value reflect.Value) error {
+		start, count := len(writer.block), 0
+		writer.block = appendHead(writer.block, headMap, uint64(len(fields)))
+		body := len(writer.block)
+		writer.levels++
+		for i := range fields {
+			isSent, err := writer.field(&fields[i], value)
+			if err != nil {
+				return within(fields[i].name, err)
+			}
+			if isSent {
+				count++
+			}
+		}
+		writer.levels--
+		if count < len(fields) {
+			var room [9]byte
+			front := writer.block[:start+copy(writer.block[start:], appendHead(room[:0], headMap, uint64(count)))]
+			writer.block = append(front, writer.block[body:]...)
+		}
+		return nil
+	}
+}
+
+// Writes the field of the struct. Whether it is an entry.
+func (writer *writer) field(field *field, value reflect.Value) (isSent bool, err error) {
+	if field.outer != nil {
+		if value = field.embeddedIn(value); !value.IsValid() {
+			return false, nil
+		}
+	}
+	value = value.Field(field.at)
+	switch {
+	case field.isLeft != nil && field.isLeft(value):
+		return false, nil
+	case writer.levels > mostLevels:
+		return true, refusedValue("DepthOverflow", tooDeep)
+	case field.add != nil && !writer.looks:
+		writer.block = field.add(append(writer.block, field.key...), value)
+		return true, nil
+	}
+	writer.block = append(writer.block, field.key...)
+	return true, field.write(writer, value)
 }

@@ -3,32 +3,36 @@ package dagcbor
 import (
 	"bytes"
 	"encoding"
+	"encoding/binary"
+	"io"
 	"math/big"
 	"reflect"
 )
 
 // Unmarshal reads a block into what the pointer points at: what Marshal takes, with structs as maps.
 // An any becomes nil, bool, int64, uint64 of 2^63 or more, *big.Int below -2^63, string, []byte,
-// []any, map[string]any or CID. Entries that a struct has no field for are passed, and fields without
-// an entry left as they are; a struct that shows no field takes a text by its UnmarshalText. Null
-// makes pointers, slices, maps and interfaces nil. Where the bytes
-// are a block, and not one of the type, the Error has the kind "Type", and what stood before was
-// read; after other errors the target is as it was.
+// []any, map[string]any or CID. As for json, what pointers point at is read into, and entries are put
+// into a map that is there; entries that a struct has no field for are passed, and fields without an
+// entry left as they are. Null makes pointers, slices, maps and interfaces nil, and leaves others as
+// they are. What Marshal writes by MarshalText or MarshalBinary is read by UnmarshalText or
+// UnmarshalBinary.
+//
+// Where the bytes are a block, and not one of the type, the Error has the kind "Type", and what stood
+// before was read; after other errors the target is as it was.
 func Unmarshal(block []byte, into any) error {
 	_, err := unmarshal(block, into, false)
 	return err
 }
 
-// UnmarshalFirst reads the first item so, and answers the bytes behind it, also where the error has
+// UnmarshalFirst reads the first item so, and answers the bytes after it, also where the error has
 // the kind "Type".
 func UnmarshalFirst(bytes []byte, into any) (rest []byte, err error) {
 	return unmarshal(bytes, into, true)
 }
 
 func unmarshal(bytes []byte, into any, mayFollow bool) (rest []byte, err error) {
-	target := reflect.ValueOf(into)
-	if target.Kind() != reflect.Pointer || target.IsNil() {
-		return bytes, &Error{Kind: "Type", Place: -1, said: "a block is read into a pointer"}
+	if err := settable(into); err != nil {
+		return bytes, err
 	}
 	end := len(bytes)
 	if code := check(bytes); code < 0 {
@@ -37,48 +41,180 @@ func unmarshal(bytes []byte, into any, mayFollow bool) (rest []byte, err error) 
 			return nil, refused(code, int64(end))
 		}
 	}
-	return bytes[end:], (&reader{block: bytes[:end]}).into(target.Elem())
+	return bytes[end:], (&reader{block: bytes[:end]}).data(into)
+}
+
+func settable(into any) error {
+	if target := reflect.ValueOf(into); target.Kind() != reflect.Pointer || target.IsNil() {
+		return &Error{Kind: "Type", Place: -1, Type: reflect.TypeOf(into), said: "a block is read into a pointer"}
+	}
+	return nil
+}
+
+// A Decoder reads blocks that come one after the other. It may read more than it gives, and keeps it.
+type Decoder struct {
+	from     io.Reader
+	left     []byte // read, and not given
+	whole    span   // of the item that it begins with, as far as it is gone through
+	place    int64
+	isStrict bool
+	err      error // of the reader, after what is left
+	refusal  error // of what is left
+}
+
+// NewDecoder reads what an Encoder writes.
+func NewDecoder(from io.Reader) *Decoder {
+	return &Decoder{from: progress{from}, whole: span{left: 1}}
+}
+
+// DisallowUnknownFields makes an entry that a struct has no field for an error, "UnknownField".
+func (decoder *Decoder) DisallowUnknownFields() { decoder.isStrict = true }
+
+// Buffered is what was read, and not given yet. It holds until the next Decode.
+func (decoder *Decoder) Buffered() io.Reader { return bytes.NewReader(decoder.left) }
+
+// InputOffset is where the next block begins.
+func (decoder *Decoder) InputOffset() int64 { return decoder.place }
+
+// More says whether anything follows. It may read.
+func (decoder *Decoder) More() bool {
+	for len(decoder.left) == 0 && decoder.err == nil {
+		decoder.err = decoder.fill()
+	}
+	return len(decoder.left) > 0
+}
+
+// Decode reads the next block as Unmarshal does. At the end the error is io.EOF. After an error of
+// the kind "Type" or "UnknownField" the next block comes; others come again. Places are counted from
+// the first byte that was read.
+func (decoder *Decoder) Decode(into any) error {
+	if err := settable(into); err != nil {
+		return err
+	}
+	block, err := decoder.next()
+	if err != nil {
+		return err
+	}
+	err = decoder.placed((&reader{block: block, isStrict: decoder.isStrict}).data(into))
+	decoder.left, decoder.whole = decoder.left[len(block):], span{left: 1}
+	decoder.place += int64(len(block))
+	return err
+}
+
+// The next block, which the library has judged.
+func (decoder *Decoder) next() ([]byte, error) {
+	if decoder.refusal != nil {
+		return nil, decoder.refusal
+	}
+	for !decoder.whole.pass(decoder.left) {
+		switch {
+		case decoder.err == io.EOF && len(decoder.left) > 0:
+			decoder.whole = span{at: len(decoder.left)} // of which the library says what is missing
+		case decoder.err != nil:
+			return nil, decoder.err
+		default:
+			decoder.err = decoder.fill()
+		}
+	}
+	block := decoder.left[:decoder.whole.at]
+	if code := check(block); code < 0 {
+		decoder.refusal = decoder.placed(refusedIn(block, code))
+	}
+	return block, decoder.refusal
+}
+
+// The error, with its place counted from the first byte.
+func (decoder *Decoder) placed(err error) error {
+	if it, ok := err.(*Error); ok {
+		it.Place += decoder.place
+	}
+	return err
+}
+
+// Reads once, into room that doubles.
+func (decoder *Decoder) fill() error {
+	decoder.left = roomy(decoder.left, 1<<12)
+	count, err := decoder.from.Read(decoder.left[len(decoder.left):cap(decoder.left)])
+	decoder.left = decoder.left[:len(decoder.left)+count]
+	return err
+}
+
+// The bytes, with room for so many more after them.
+func roomy(left []byte, piece int) []byte {
+	if cap(left)-len(left) >= piece {
+		return left
+	}
+	grown := make([]byte, len(left), 2*len(left)+2*piece)
+	copy(grown, left)
+	return grown
 }
 
 // A block, which the library has judged, and where in it the next head stands.
 type reader struct {
-	block []byte
-	at    int
-	last  lastShape
+	block    []byte
+	at       int
+	pointers int // around
+	isStrict bool
+}
+
+func (reader *reader) data(into any) error {
+	target := reflect.ValueOf(into).Elem()
+	return planOf(target.Type()).read(reader, reader.next(), target)
 }
 
 // By the major type of a head.
 var majors = [...]Kind{Integer, negative, Bytes, String, List, Map, Link, Bool}
 
-func (reader *reader) head() (Kind, uint64) {
-	first := reader.block[reader.at]
-	number := uint64(first & 31)
-	reader.at++
-	if number >= 24 {
-		end := reader.at + 1<<(number-24)
-		number = 0
-		for _, it := range reader.block[reader.at:end] {
-			number = number<<8 | uint64(it)
+// The first head of the bytes, and its length: 0 where they end within it, and 1 of a width that is none.
+func headOf(bytes []byte) (kind Kind, number uint64, length int) {
+	kind, number, length = majors[bytes[0]>>5], uint64(bytes[0]&31), 1
+	if number >= 24 && number < 28 {
+		length += 1 << (number - 24)
+		if len(bytes) < length {
+			return kind, 0, 0
 		}
-		reader.at = end
 	}
-	return majors[first>>5], number
+	switch length {
+	case 2:
+		number = uint64(bytes[1])
+	case 3:
+		number = uint64(binary.BigEndian.Uint16(bytes[1:]))
+	case 5:
+		number = uint64(binary.BigEndian.Uint32(bytes[1:]))
+	case 9:
+		number = binary.BigEndian.Uint64(bytes[1:])
+	}
+	return kind, number, length
 }
 
-// The kind of the next item, and its number: of strings, bytes and links how many bytes follow.
-func (reader *reader) next() (Kind, uint64) {
+func (reader *reader) head() (Kind, uint64) {
+	kind, number, length := headOf(reader.block[reader.at:])
+	reader.at += length
+	return kind, number
+}
+
+// An item whose head was read: where it begins, its kind, and its number: of strings, bytes and links
+// how many bytes follow.
+type item struct {
+	start  int
+	kind   Kind
+	number uint64
+}
+
+func (reader *reader) next() item {
+	start := reader.at
 	kind, number := reader.head()
 	switch {
-	case kind == Link: // behind the tag stand bytes, the first of which is 0
+	case kind == Link: // after the tag stand bytes, the first of which is 0
 		_, number = reader.head()
 		reader.at++
-		return Link, number - 1
+		return item{start, Link, number - 1}
 	case kind == Bool && number == 22:
-		return Null, 0
+		return item{start, Null, 0}
 	case kind == Bool:
-		return Bool, number - 20
+		return item{start, Bool, number - 20}
 	}
-	return kind, number
+	return item{start, kind, number}
 }
 
 func (reader *reader) take(count uint64) []byte {
@@ -87,211 +223,353 @@ func (reader *reader) take(count uint64) []byte {
 	return reader.block[start:reader.at]
 }
 
-// Passes an item, with what is in it.
-func (reader *reader) pass() {
-	for left := uint64(1); left > 0; left-- {
-		switch kind, number := reader.next(); kind {
-		case String, Bytes, Link:
-			reader.take(number)
+// How far an item reaches, by its heads alone: where the next one stands, and how many are left.
+type span struct {
+	at   int
+	left uint64
+}
+
+// Goes on through the bytes. Whether the item ends in them, or a head that is none stands there.
+func (span *span) pass(bytes []byte) bool {
+	for span.left > 0 && span.at < len(bytes) {
+		kind, number, length := headOf(bytes[span.at:])
+		if length == 0 {
+			return false
+		}
+		if bytes[span.at]&31 > 27 {
+			span.at++
+			return true
+		}
+		span.at, span.left = span.at+length, span.left-1
+		switch kind {
+		case String, Bytes:
+			span.at += int(capped(number))
 		case List:
-			left += number
+			span.left = capped(span.left + capped(number))
 		case Map:
-			left += 2 * number
+			span.left = capped(span.left + 2*capped(number))
+		case Link:
+			span.left++
 		}
 	}
+	return span.left == 0 && span.at <= len(bytes)
+}
+
+// The number, or one that is greater than any length of bytes that are there.
+func capped(number uint64) uint64 {
+	if number > 1<<60 {
+		return 1 << 60
+	}
+	return number
+}
+
+// Passes an item, with what is in it.
+func (reader *reader) pass() {
+	whole := span{reader.at, 1}
+	whole.pass(reader.block)
+	reader.at = whole.at
 }
 
 func (reader *reader) text() string {
-	_, count := reader.next()
+	_, count := reader.head()
 	return string(reader.take(count))
 }
 
-// The data of the next item: nil, bool, int64, uint64 of 2^63 or more, *big.Int below -2^63, string,
+// The data of the item: nil, bool, int64, uint64 of 2^63 or more, *big.Int below -2^63, string,
 // []byte, []any, map[string]any and CID.
-func (reader *reader) value() any {
-	kind, number := reader.next()
-	switch kind {
+func (reader *reader) value(it item) any {
+	switch it.kind {
 	case Bool:
-		return number == 1
+		return it.number == 1
 	case Integer:
-		if number < 1<<63 {
-			return int64(number)
+		if it.number < 1<<63 {
+			return int64(it.number)
 		}
-		return number
+		return it.number
 	case negative:
-		if number < 1<<63 {
-			return ^int64(number)
+		if it.number < 1<<63 {
+			return ^int64(it.number)
 		}
-		return new(big.Int).Not(new(big.Int).SetUint64(number))
+		return new(big.Int).Not(new(big.Int).SetUint64(it.number))
 	case String:
-		return string(reader.take(number))
+		return string(reader.take(it.number))
 	case Bytes:
-		return append([]byte{}, reader.take(number)...)
+		return append([]byte{}, reader.take(it.number)...)
 	case Link:
-		return CID{string(reader.take(number))}
+		return CID{string(reader.take(it.number))}
 	case List:
-		list := make([]any, number) // each has a byte at least
+		list := make([]any, it.number) // each has a byte at least
 		for i := range list {
-			list[i] = reader.value()
+			list[i] = reader.value(reader.next())
 		}
 		return list
 	case Map:
-		entries := make(map[string]any, number)
-		for ; number > 0; number-- {
+		entries := make(map[string]any, it.number)
+		for ; it.number > 0; it.number-- {
 			key := reader.text()
-			entries[key] = reader.value()
+			entries[key] = reader.value(reader.next())
 		}
 		return entries
 	}
 	return nil
 }
 
-// Reads the next item into what can be set.
-func (reader *reader) into(into reflect.Value) error {
-	start := reader.at
-	kind, number := reader.next()
-	for i := 0; into.Kind() == reflect.Pointer && kind != Null; i++ {
-		if i == mostPointers {
-			return mismatch(start, "pointers that stand in a ring")
-		}
-		into.Set(reflect.New(into.Type().Elem()))
-		into = into.Elem()
+// The error of an item that the type does not take, but for null, which leaves it as it is.
+func unfit(it item, into reflect.Value) error {
+	if it.kind == Null {
+		return nil
 	}
-	target := into.Kind()
-	isAny := target == reflect.Interface && into.NumMethod() == 0
-	switch {
-	case kind == Null && (isAny || target == reflect.Pointer || target == reflect.Slice || target == reflect.Map):
-		into.Set(reflect.Zero(into.Type()))
-	case isAny:
-		reader.at = start
-		into.Set(reflect.ValueOf(reader.value()))
-	case kind == Bool && target == reflect.Bool:
-		into.SetBool(number == 1)
-	case (kind == Integer || kind == negative) && setInteger(into, kind, number):
-	case kind == String && target == reflect.String:
-		into.SetString(string(reader.take(number)))
-	case kind == Link && into.Type() == ofCID:
-		*into.Addr().Interface().(*CID) = CID{string(reader.take(number))}
-	case kind == Bytes && target == reflect.Slice && isOfBytes(into):
-		into.SetBytes(append([]byte{}, reader.take(number)...))
-	case kind == Bytes && target == reflect.Array && isOfBytes(into) && into.Len() == int(number):
-		for i, it := range reader.take(number) {
-			into.Index(i).SetUint(uint64(it))
-		}
-	case kind == List && target == reflect.Slice && !isOfBytes(into):
-		into.Set(reflect.MakeSlice(into.Type(), int(number), int(number)))
-		return reader.list(into)
-	case kind == List && target == reflect.Array && !isOfBytes(into) && into.Len() == int(number):
-		return reader.list(into)
-	case kind == Map && target == reflect.Map && into.Type().Key().Kind() == reflect.String:
-		return reader.entries(number, into)
-	case target == reflect.Struct && into.Type() != ofCID && into.Type() != ofBig:
-		return reader.structure(start, kind, number, into)
-	default:
-		return mismatch(start, into.Type().String()+" takes no "+kind.String())
+	return mismatch(it.start, into.Type(), "does not take this "+it.kind.String())
+}
+
+func mismatch(start int, of reflect.Type, said string) *Error {
+	err := refusedType("Type", of, said)
+	err.Place = int64(start)
+	return err
+}
+
+func readBool(_ *reader, it item, into reflect.Value) error {
+	if it.kind != Bool {
+		return unfit(it, into)
 	}
+	into.SetBool(it.number == 1)
 	return nil
 }
 
-func mismatch(start int, said string) error {
-	return &Error{Kind: "Type", Place: int64(start), Path: []any{}, said: said}
+func readString(reader *reader, it item, into reflect.Value) error {
+	if it.kind != String {
+		return unfit(it, into)
+	}
+	into.SetString(string(reader.take(it.number)))
+	return nil
 }
 
-func isOfBytes(list reflect.Value) bool { return list.Type().Elem().Kind() == reflect.Uint8 }
-
-// Whether the integer is one of the type, which is then set.
-func setInteger(into reflect.Value, kind Kind, number uint64) bool {
-	signed := int64(number)
-	if kind == negative {
+func readInt(_ *reader, it item, into reflect.Value) error {
+	signed := int64(it.number)
+	if it.kind == negative {
 		signed = ^signed
 	}
+	if it.kind != Integer && it.kind != negative || it.number >= 1<<63 || into.OverflowInt(signed) {
+		return unfit(it, into)
+	}
+	into.SetInt(signed)
+	return nil
+}
+
+func readUint(_ *reader, it item, into reflect.Value) error {
+	if it.kind != Integer || into.OverflowUint(it.number) {
+		return unfit(it, into)
+	}
+	into.SetUint(it.number)
+	return nil
+}
+
+func readBig(_ *reader, it item, into reflect.Value) error {
+	if it.kind != Integer && it.kind != negative {
+		return unfit(it, into)
+	}
+	n := into.Addr().Interface().(*big.Int).SetUint64(it.number)
+	if it.kind == negative {
+		n.Not(n)
+	}
+	return nil
+}
+
+func readCID(reader *reader, it item, into reflect.Value) error {
+	if it.kind != Link {
+		return unfit(it, into)
+	}
+	*into.Addr().Interface().(*CID) = CID{string(reader.take(it.number))}
+	return nil
+}
+
+// Reads items of the kind by a method of the value.
+func readsBy(of Kind, method func(any, []byte) error) func(*reader, item, reflect.Value) error {
+	return func(reader *reader, it item, into reflect.Value) error {
+		switch {
+		case it.kind != of:
+			return unfit(it, into)
+		case !into.CanInterface():
+			return mismatch(it.start, into.Type(), notCallable)
+		}
+		return refusedBy(it.start, into.Type(), method(into.Addr().Interface(), reader.take(it.number)))
+	}
+}
+
+func unmarshalText(into any, text []byte) error {
+	return into.(encoding.TextUnmarshaler).UnmarshalText(text)
+}
+
+func unmarshalBinary(into any, bytes []byte) error {
+	return into.(encoding.BinaryUnmarshaler).UnmarshalBinary(bytes)
+}
+
+// The error of a value's own method.
+func refusedBy(start int, of reflect.Type, cause error) error {
+	if cause == nil {
+		return nil
+	}
+	err := mismatch(start, of, "is not read: "+cause.Error())
+	err.cause = cause
+	return err
+}
+
+func readBytes(reader *reader, it item, into reflect.Value) error {
+	isSlice := into.Kind() == reflect.Slice
 	switch {
-	case into.CanUint() && kind == Integer && !into.OverflowUint(number):
-		into.SetUint(number)
-	case into.CanInt() && number < 1<<63 && !into.OverflowInt(signed):
-		into.SetInt(signed)
-	case into.Type() == ofBig:
-		n := into.Addr().Interface().(*big.Int).SetUint64(number)
-		if kind == negative {
-			n.Not(n)
-		}
+	case it.kind == Null && isSlice:
+		into.Set(reflect.Zero(into.Type()))
+	case it.kind == Bytes && isSlice:
+		into.SetBytes(append([]byte{}, reader.take(it.number)...))
+	case it.kind == Bytes && into.Len() == int(it.number):
+		copy(into.Slice(0, into.Len()).Bytes(), reader.take(it.number))
 	default:
-		return false
-	}
-	return true
-}
-
-func (reader *reader) list(into reflect.Value) error {
-	for i := 0; i < into.Len(); i++ {
-		if err := reader.into(into.Index(i)); err != nil {
-			return behind(i, err)
-		}
+		return unfit(it, into)
 	}
 	return nil
 }
 
-func (reader *reader) entries(count uint64, into reflect.Value) error {
-	of := into.Type()
-	into.Set(reflect.MakeMapWithSize(of, int(count)))
-	key, value, none := reflect.New(of.Key()).Elem(), reflect.New(of.Elem()).Elem(), reflect.Zero(of.Elem())
-	for ; count > 0; count-- {
-		key.SetString(reader.text())
-		value.Set(none)
-		if err := reader.into(value); err != nil {
-			return behind(key.String(), err)
-		}
-		into.SetMapIndex(key, value)
-	}
-	return nil
-}
-
-// Reads the item, whose head was read, into a struct.
-func (reader *reader) structure(start int, kind Kind, number uint64, into reflect.Value) error {
-	shape := reader.last.of(into.Type())
-	if shape.refusal == "" && kind == Map {
-		return reader.fields(start, number, shape.fields, into)
-	}
-	if !into.CanInterface() {
-		return mismatch(start, into.Type().String()+" is not exported, and so its methods")
-	}
-	pointer := into.Addr().Interface()
-	ofText, takesText := pointer.(encoding.TextUnmarshaler)
-	ofLink, takesLink := pointer.(encoding.BinaryUnmarshaler)
-	var err error
+// Into what the interface holds, where that is a pointer, as for json.
+func readInterface(reader *reader, it item, into reflect.Value) error {
+	held := into.Elem()
 	switch {
-	case shape.refusal != "" && kind == String && takesText:
-		err = ofText.UnmarshalText(reader.take(number))
-	case shape.isLink && kind == Link && takesLink:
-		err = ofLink.UnmarshalBinary(reader.take(number))
+	case it.kind == Null:
+		into.Set(reflect.Zero(into.Type()))
+	case held.Kind() == reflect.Pointer && !held.IsNil():
+		return planOf(held.Type()).read(reader, it, held)
+	case into.NumMethod() > 0:
+		return unfit(it, into)
 	default:
-		return mismatch(start, into.Type().String()+" takes no "+kind.String())
-	}
-	if err != nil {
-		return mismatch(start, err.Error())
+		into.Set(reflect.ValueOf(reader.value(it)))
 	}
 	return nil
+}
+
+func readPointer(target *plan) func(*reader, item, reflect.Value) error {
+	return func(reader *reader, it item, into reflect.Value) error {
+		switch isNull := it.kind == Null; {
+		case isNull && into.CanSet():
+			into.Set(reflect.Zero(into.Type()))
+			return nil
+		case into.IsNil() && !into.CanSet():
+			return mismatch(it.start, into.Type().Elem(), notSet)
+		case into.IsNil():
+			into.Set(reflect.New(into.Type().Elem()))
+		}
+		if reader.pointers++; reader.pointers > mostPointers {
+			return mismatch(it.start, into.Type(), "points into a ring")
+		}
+		err := target.read(reader, it, into.Elem())
+		reader.pointers--
+		return err
+	}
+}
+
+func readList(part *plan) func(*reader, item, reflect.Value) error {
+	return func(reader *reader, it item, into reflect.Value) error {
+		count, isSlice := int(it.number), into.Kind() == reflect.Slice
+		switch {
+		case it.kind == Null && isSlice:
+			into.Set(reflect.Zero(into.Type()))
+			return nil
+		case it.kind == List && isSlice:
+			into.Set(reflect.MakeSlice(into.Type(), count, count))
+		case it.kind != List || into.Len() != count:
+			return unfit(it, into)
+		}
+		for i := 0; i < count; i++ {
+			if err := part.read(reader, reader.next(), into.Index(i)); err != nil {
+				return within(i, err)
+			}
+		}
+		return nil
+	}
+}
+
+func readMap(isString bool, part *plan) func(*reader, item, reflect.Value) error {
+	return func(reader *reader, it item, into reflect.Value) error {
+		of := into.Type()
+		switch {
+		case it.kind == Null:
+			into.Set(reflect.Zero(of))
+			return nil
+		case it.kind != Map:
+			return unfit(it, into)
+		case into.IsNil():
+			into.Set(reflect.MakeMapWithSize(of, int(it.number)))
+		}
+		key, value := reflect.New(of.Key()).Elem(), reflect.New(of.Elem()).Elem()
+		noKey, none := reflect.Zero(of.Key()), reflect.Zero(of.Elem())
+		for ; it.number > 0; it.number-- {
+			start := reader.at
+			text := reader.text()
+			if isString {
+				key.SetString(text)
+			} else {
+				key.Set(noKey)
+				if err := refusedBy(start, of.Key(), unmarshalText(key.Addr().Interface(), []byte(text))); err != nil {
+					return within(text, err)
+				}
+			}
+			value.Set(none)
+			if err := part.read(reader, reader.next(), value); err != nil {
+				return within(text, err)
+			}
+			into.SetMapIndex(key, value)
+		}
+		return nil
+	}
 }
 
 // Fields and entries are both in the order of blocks.
-func (reader *reader) fields(start int, count uint64, fields []field, into reflect.Value) error {
-	for ; count > 0; count-- {
-		from := reader.at
+func readFields(all []field) func(*reader, item, reflect.Value) error {
+	return func(reader *reader, it item, into reflect.Value) error {
+		if it.kind != Map {
+			return unfit(it, into)
+		}
+		for fields := all; it.number > 0; it.number-- {
+			start := reader.at
+			_, count := reader.head()
+			reader.take(count)
+			var field *field
+			field, fields = fieldOf(reader.block[start:reader.at], fields)
+			if err := reader.field(start, field, into); err != nil {
+				return err
+			}
+		}
+		return nil
+	}
+}
+
+// The field of a key, or nil, and those after.
+func fieldOf(key []byte, fields []field) (*field, []field) {
+	for i := range fields {
+		if order := bytes.Compare(fields[i].key, key); order == 0 {
+			return &fields[i], fields[i+1:]
+		} else if order > 0 {
+			return nil, fields[i:]
+		}
+	}
+	return nil, nil
+}
+
+// Reads a value, whose key was read, into the field of the struct.
+func (reader *reader) field(start int, field *field, into reflect.Value) error {
+	if field == nil && reader.isStrict {
+		err := mismatch(start, into.Type(), "has no field of this name")
+		err.Kind, reader.at = "UnknownField", start
+		return within(reader.text(), err)
+	}
+	if field == nil {
 		reader.pass()
-		key := reader.block[from:reader.at]
-		for len(fields) > 0 && bytes.Compare(fields[0].key, key) < 0 {
-			fields = fields[1:]
-		}
-		if len(fields) == 0 || !bytes.Equal(fields[0].key, key) {
-			reader.pass()
-			continue
-		}
-		part := fields[0].into(into)
-		if !part.IsValid() || part.Kind() == reflect.Pointer && !part.CanSet() {
-			return mismatch(start, "no pointer of an embedded type that is not exported can be set")
-		}
-		if err := reader.into(part); err != nil {
-			return behind(fields[0].name, err)
-		}
+		return nil
+	}
+	part, unset := field.into(into)
+	if unset != nil {
+		return within(field.name, mismatch(start, unset, notSet))
+	}
+	if err := field.read(reader, reader.next(), part); err != nil {
+		return within(field.name, err)
 	}
 	return nil
 }

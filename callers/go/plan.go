@@ -1,0 +1,383 @@
+package dagcbor
+
+import (
+	"bytes"
+	"encoding"
+	"math/big"
+	"reflect"
+	"sort"
+	"strings"
+	"sync"
+	"unicode/utf8"
+)
+
+// A plan is how values of a type are written and read. It is made once for each type.
+type plan struct {
+	add   func([]byte, reflect.Value) []byte // of a leaf that always has its bytes; a text's may be no UTF-8
+	write func(*writer, reflect.Value) error
+	read  func(*reader, item, reflect.Value) error
+}
+
+var (
+	plans    sync.Map // of *plan, by type
+	planning sync.Mutex
+)
+
+func planOf(of reflect.Type) *plan {
+	if known, ok := plans.Load(of); ok {
+		return known.(*plan)
+	}
+	planning.Lock()
+	defer planning.Unlock()
+	made := planner{}
+	it := made.plan(of)
+	for of, it := range made {
+		plans.Store(of, it)
+	}
+	return it
+}
+
+// A planner has the plans that are made at once: each may be of the others, and of itself.
+type planner map[reflect.Type]*plan
+
+func (made planner) plan(of reflect.Type) *plan {
+	if known, ok := plans.Load(of); ok {
+		return known.(*plan)
+	}
+	if it, ok := made[of]; ok {
+		return it
+	}
+	it := &plan{}
+	made[of] = it
+	switch {
+	case of == ofCID:
+		*it = plan{write: writeCID, read: readCID}
+	case of == ofBig:
+		*it = plan{write: writeBig, read: readBig}
+	default:
+		*it = made.planOfKind(of)
+		if write := methodWriter(of); write != nil {
+			it.add, it.write = nil, write
+		}
+		if read := methodReader(of); read != nil {
+			it.read = read
+		}
+	}
+	return it
+}
+
+func (made planner) planOfKind(of reflect.Type) plan {
+	switch of.Kind() {
+	case reflect.Bool:
+		return leaf(addBool, readBool)
+	case reflect.String:
+		return plan{addText, writeString, readString}
+	case reflect.Int, reflect.Int8, reflect.Int16, reflect.Int32, reflect.Int64:
+		return leaf(addInt, readInt)
+	case reflect.Uint, reflect.Uint8, reflect.Uint16, reflect.Uint32, reflect.Uint64:
+		return leaf(addUint, readUint)
+	case reflect.Interface:
+		return plan{write: writeInterface, read: readInterface}
+	case reflect.Pointer:
+		return pointers(made.plan(of.Elem()))
+	case reflect.Slice, reflect.Array:
+		if item := of.Elem(); item.Kind() == reflect.Uint8 && methodWriter(item) == nil {
+			return plan{write: writeBytes, read: readBytes}
+		}
+		return lists(made.plan(of.Elem()))
+	case reflect.Map:
+		return made.maps(of)
+	case reflect.Struct:
+		return made.structs(of)
+	case reflect.Float32, reflect.Float64:
+		return noPlan("Unsupported", "is not written: floats are left out of these blocks")
+	}
+	return noPlan("Unsupported", "is none of the types of data")
+}
+
+// The plan of a type that is not written, nor read.
+func noPlan(kind, said string) plan {
+	write := func(_ *writer, value reflect.Value) error { return refusedType(kind, value.Type(), said) }
+	read := func(_ *reader, it item, into reflect.Value) error {
+		if it.kind == Null {
+			return nil
+		}
+		return mismatch(it.start, into.Type(), said)
+	}
+	return plan{write: write, read: read}
+}
+
+// A CID of github.com/ipfs/go-cid.
+type linker interface {
+	KeyString() string
+	encoding.BinaryUnmarshaler
+}
+
+var (
+	ofCID     = reflect.TypeOf(CID{})
+	ofBig     = reflect.TypeOf(big.Int{})
+	ofLinker  = reflect.TypeOf((*linker)(nil)).Elem()
+	ofText    = reflect.TypeOf((*encoding.TextMarshaler)(nil)).Elem()
+	ofBinary  = reflect.TypeOf((*encoding.BinaryMarshaler)(nil)).Elem()
+	fromText  = reflect.TypeOf((*encoding.TextUnmarshaler)(nil)).Elem()
+	fromBytes = reflect.TypeOf((*encoding.BinaryUnmarshaler)(nil)).Elem()
+)
+
+// How a type is written by its own methods, or those of a pointer to it. MarshalText is asked as by
+// json. Of a struct that shows no field, which json writes as {}, a CID of go-cid is a link, and
+// others are bytes by MarshalBinary.
+func methodWriter(of reflect.Type) func(*writer, reflect.Value) error {
+	pointer, shows := reflect.PointerTo(of), showsFields(of)
+	switch {
+	case pointer.Implements(ofLinker) && !shows:
+		return writesBy(putLink, keyString)
+	case pointer.Implements(ofText):
+		return writesBy(putText, marshalText)
+	case pointer.Implements(ofBinary) && !shows:
+		return writesBy((*writer).bytes, marshalBinary)
+	}
+	return nil
+}
+
+func methodReader(of reflect.Type) func(*reader, item, reflect.Value) error {
+	pointer, shows := reflect.PointerTo(of), showsFields(of)
+	switch {
+	case pointer.Implements(ofLinker) && !shows:
+		return readsBy(Link, unmarshalBinary)
+	case pointer.Implements(fromText):
+		return readsBy(String, unmarshalText)
+	case pointer.Implements(fromBytes) && !shows:
+		return readsBy(Bytes, unmarshalBinary)
+	}
+	return nil
+}
+
+// A field of a struct that is an entry of its map.
+type field struct {
+	*plan
+	of       reflect.Type
+	name     string
+	key      []byte // the name as a block has it
+	outer    []int  // the embedded structs that it is in
+	at       int
+	isTagged bool
+	isLeft   func(reflect.Value) bool // out of a block; nil of one that never is
+	refusal  string
+}
+
+// The embedded struct that the field is in; the zero value where a pointer is nil.
+func (field *field) embeddedIn(value reflect.Value) reflect.Value {
+	for _, it := range field.outer {
+		value = value.Field(it)
+		if value.Kind() == reflect.Pointer {
+			if value = value.Elem(); !value.IsValid() {
+				return value
+			}
+		}
+	}
+	return value
+}
+
+// The field to be set, with pointers that are nil set before; or the type of one that is not exported,
+// and so cannot be.
+func (field *field) into(value reflect.Value) (reflect.Value, reflect.Type) {
+	for _, it := range field.outer {
+		value = value.Field(it)
+		if value.Kind() != reflect.Pointer {
+			continue
+		}
+		if value.IsNil() {
+			if !value.CanSet() {
+				return value, value.Type().Elem()
+			}
+			value.Set(reflect.New(value.Type().Elem()))
+		}
+		value = value.Elem()
+	}
+	return value.Field(field.at), nil
+}
+
+func (made planner) structs(of reflect.Type) plan {
+	fields, hides := fieldsOf(of)
+	for i := range fields {
+		if fields[i].refusal != "" {
+			return noPlan("Unsupported", fields[i].refusal)
+		}
+		fields[i].plan = made.plan(fields[i].of)
+	}
+	if len(fields) == 0 && hides {
+		return noPlan("Unsupported", "shows no field, and has no MarshalText or MarshalBinary")
+	}
+	return plan{write: writeFields(fields), read: readFields(fields)}
+}
+
+// The fields that are entries, in the order of blocks, by the rules of json: of one name the least deep
+// counts, and of those the one that has it of a tag; where two are left, none does. And whether others
+// are there.
+func fieldsOf(of reflect.Type) (fields []field, hides bool) {
+	all, hides := allFieldsOf(of)
+	sort.SliceStable(all, func(i, j int) bool { return all[i].isBefore(&all[j]) })
+	for start, end := 0, 0; start < len(all); start = end {
+		for end = start + 1; end < len(all) && all[end].name == all[start].name; {
+			end++
+		}
+		if end == start+1 || all[start].isBefore(&all[start+1]) {
+			fields = append(fields, all[start])
+		}
+	}
+	return fields, hides || len(all) > 0
+}
+
+func (field *field) isBefore(other *field) bool {
+	if order := bytes.Compare(field.key, other.key); order != 0 {
+		return order < 0
+	}
+	if len(field.outer) != len(other.outer) {
+		return len(field.outer) < len(other.outer)
+	}
+	return field.isTagged && !other.isTagged
+}
+
+// A struct, and the fields that lead to it.
+type embedded struct {
+	reflect.Type
+	index []int
+}
+
+// All fields that are entries, also those that others hide; and whether some are not shown. A struct
+// that is embedded deeper again is passed: its fields are hidden, and it may be its own.
+func allFieldsOf(of reflect.Type) (found []field, hides bool) {
+	depths := map[reflect.Type]int{}
+	for left := []embedded{{of, nil}}; len(left) > 0; left = left[1:] {
+		outer := left[0]
+		if depth, ok := depths[outer.Type]; ok && depth < len(outer.index) {
+			continue
+		}
+		depths[outer.Type] = len(outer.index)
+		entries, inner, isHiding := outer.fields()
+		found, left, hides = append(found, entries...), append(left, inner...), hides || isHiding
+	}
+	return found, hides
+}
+
+// The struct's own entries, the structs that it embeds, and whether some fields are neither.
+func (outer embedded) fields() (entries []field, inner []embedded, hides bool) {
+	for i := 0; i < outer.NumField(); i++ {
+		it := outer.Field(i)
+		tag := tagOf(it)
+		if tag == "-" || it.Name == "_" {
+			continue
+		}
+		name, options, _ := strings.Cut(tag, ",")
+		part := embeddedBy(it)
+		switch {
+		case part != nil && name == "" && showsFields(part):
+			inner = append(inner, embedded{part, append(append([]int{}, outer.index...), i)})
+		case isEntry(it, name, part):
+			entries = append(entries, newField(it, name, options, outer.index))
+		default:
+			hides = true
+		}
+	}
+	return entries, inner, hides
+}
+
+func tagOf(it reflect.StructField) string {
+	if tag, ok := it.Tag.Lookup("dagcbor"); ok {
+		return tag
+	}
+	return it.Tag.Get("json")
+}
+
+func newField(it reflect.StructField, name, options string, outer []int) field {
+	made := field{of: it.Type, name: name, outer: outer, at: it.Index[0], isTagged: name != ""}
+	if name == "" {
+		made.name = it.Name
+	}
+	made.key = appendText(nil, made.name)
+	if !utf8.ValidString(made.name) {
+		made.refusal = "has a field whose name is not UTF-8: " + it.Name
+	}
+	for _, option := range strings.Split(options, ",") {
+		switch option {
+		case "omitempty":
+			made.isLeft = isEmpty
+		case "omitzero":
+			made.isLeft = isZero
+		case "string":
+			made.refusal = `has a field with the option "string", which is json's alone: ` + it.Name
+		}
+	}
+	return made
+}
+
+// As for json; and a CID that names nothing.
+func isEmpty(value reflect.Value) bool {
+	switch value.Kind() {
+	case reflect.Slice, reflect.Map, reflect.String, reflect.Array:
+		return value.Len() == 0
+	case reflect.Struct:
+		return value.Type() == ofCID && value.IsZero()
+	}
+	return value.IsZero()
+}
+
+// By the value's method IsZero, if it has one.
+func isZero(value reflect.Value) bool {
+	if value.IsZero() || !value.CanInterface() {
+		return value.IsZero()
+	}
+	it := value.Interface()
+	if kind := value.Kind(); kind != reflect.Pointer && kind != reflect.Interface {
+		it = pointerTo(value)
+	}
+	zeroer, ok := it.(interface{ IsZero() bool })
+	return ok && zeroer.IsZero()
+}
+
+// Of the value, or of a copy where it has no place.
+func pointerTo(value reflect.Value) any {
+	if !value.CanAddr() {
+		place := reflect.New(value.Type())
+		place.Elem().Set(value)
+		return place.Interface()
+	}
+	return value.Addr().Interface()
+}
+
+// The struct that the field embeds, or nil: CIDs and big integers are no structs of entries.
+func embeddedBy(it reflect.StructField) reflect.Type {
+	part := it.Type
+	if it.Anonymous && part.Kind() == reflect.Pointer {
+		part = part.Elem()
+	}
+	if !it.Anonymous || part.Kind() != reflect.Struct || part == ofCID || part == ofBig {
+		return nil
+	}
+	return part
+}
+
+// Whether the field is an entry. Of embedded structs that show no field those are that have a name or
+// are written by a method, as time.Time, and not sync.Mutex.
+func isEntry(it reflect.StructField, name string, embeds reflect.Type) bool {
+	switch {
+	case embeds == nil:
+		return it.IsExported()
+	case showsFields(embeds):
+		return true
+	}
+	return it.IsExported() && (name != "" || methodWriter(embeds) != nil)
+}
+
+// Whether the type tells what it holds: not so a struct that hides all fields, as time.Time.
+func showsFields(of reflect.Type) bool {
+	if of.Kind() != reflect.Struct {
+		return true
+	}
+	for i := 0; i < of.NumField(); i++ {
+		if it := of.Field(i); it.IsExported() || it.Anonymous {
+			return true
+		}
+	}
+	return false
+}

@@ -22,6 +22,8 @@ SHAPES = {
     "person": "a struct, 66 bytes",
     "people": "1,000 of these",
     "posts": "1,000 structs of six fields, two of them lists",
+    "post": "one of these",
+    "texts": "2,000 Cyrillic texts of 60 bytes or more",
     "integers": "4,744 integers of 3 bytes",
     "map": "a `BTreeMap` of 1,000 entries",
 }

@@ -60,6 +60,11 @@ fn main() {
         "person" => run(person(), call, times),
         "people" => run((0..1000).map(|_| person()).collect::<Vec<_>>(), call, times),
         "posts" => run((0..1000).map(post).collect::<Vec<_>>(), call, times),
+        "post" => run(post(0), call, times),
+        "texts" => {
+            let texts = (0..2000).map(|it| format!("текст номер {it} из слов, которые пишут"));
+            run(texts.collect::<Vec<_>>(), call, times)
+        }
         "integers" => run((256..5000).collect::<Vec<u16>>(), call, times),
         _ => {
             let pairs = (0..1000).map(|it| (format!("key {it}"), it));

@@ -25,6 +25,7 @@ macro_rules! calls {
         }
 
         $(
+            #[allow(unsafe_code)]
             pub(crate) fn $name(
                 $($bytes: &[$item],)*
                 $($room: &mut [$entry],)?

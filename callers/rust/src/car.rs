@@ -29,7 +29,7 @@ impl Verdict {
     }
 }
 
-/// A section of a file of blocks: a name, and the bytes that stand behind it.
+/// A section of a file of blocks: a name, and the bytes that stand after it.
 #[derive(Clone, Copy, Debug, PartialEq, Eq)]
 pub struct Section<'a> {
     /// the name
@@ -107,8 +107,8 @@ pub fn verify(cid: &Cid, block: &[u8]) -> Verdict {
     }
 }
 
-/// The sections of a file of blocks (CAR, of version 1 or 2) in memory, one behind the other. A
-/// refusal comes once, and nothing behind it.
+/// The sections of a file of blocks (CAR, of version 1 or 2) in memory, one after the other. A
+/// refusal comes once, and nothing after it.
 ///
 /// ```
 /// use dagcbor::{name, Car, CarRefusal, Kind, Verdict};
@@ -130,12 +130,12 @@ pub struct Car<'a> {
     header: &'a [u8],
     rest: &'a [u8],
     place: u64,
-    is_cut: bool, // the file of version 1 goes on behind the bytes, as the header of version 2 says
+    is_cut: bool, // the file of version 1 goes on after the bytes, as the header of version 2 says
     is_over: bool,
 }
 
 impl<'a> Car<'a> {
-    /// The file, behind its header.
+    /// The file, after its header.
     pub fn new(bytes: &'a [u8]) -> Result<Car<'a>, CarRefused> {
         let refused = |place| move |refusal| CarRefused { refusal, place };
         let (begin, end) = span_of(bytes).map_err(refused(0))?;

@@ -18,7 +18,7 @@ const MOST_OF_TEXT: usize = 139;
 /// ```
 #[derive(Clone, Copy, PartialEq, Eq, PartialOrd, Ord, Hash)]
 pub struct Cid {
-    bytes: [u8; MOST_OF_CID], // with zeros behind it, so that the order is that of its bytes
+    bytes: [u8; MOST_OF_CID], // with zeros after it, so that the order is that of its bytes
     length: u8,
 }
 
@@ -132,7 +132,7 @@ impl TryFrom<&[u8]> for Cid {
     }
 }
 
-/// `Qm..` of version 0, and of version 1 behind `b`, `B`, `z` or `f`.
+/// `Qm..` of version 0, and of version 1 after `b`, `B`, `z` or `f`.
 impl str::FromStr for Cid {
     type Err = Refusal;
 
@@ -152,7 +152,7 @@ impl TryFrom<&str> for Cid {
     }
 }
 
-/// The text: `Qm..` of version 0, and base32 behind `b` of version 1.
+/// The text: `Qm..` of version 0, and base32 after `b` of version 1.
 impl fmt::Display for Cid {
     fn fmt(&self, f: &mut fmt::Formatter<'_>) -> fmt::Result {
         let (mut room, mut needed) = ([0; MOST_OF_TEXT], 0);

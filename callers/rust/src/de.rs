@@ -1,11 +1,21 @@
 //! Types out of the bytes of a block, which the library has judged before.
 
 use crate::calls::split_item;
-use crate::ser::{BYTES, INTEGER, LIST, MAP, NEGATIVE, NULL, TAG, TEXT, TRUE};
-use crate::{check, Error};
-use core::str;
+use crate::ser::{Name, BYTES, INTEGER, LIST, MAP, NEGATIVE, NULL, TAG, TEXT, TRUE};
+use crate::{check, Error, Refusal};
+use core::{marker::PhantomData, str};
 use serde::de::value::{BorrowedStrDeserializer, BytesDeserializer, MapAccessDeserializer};
 use serde::de::{self, Deserialize, DeserializeSeed, Error as _, Expected, Unexpected, Visitor};
+use serde::forward_to_deserialize_any;
+#[cfg(feature = "std")]
+use {
+    alloc::vec::Vec,
+    serde::de::DeserializeOwned,
+    std::io::{self, BufRead, ErrorKind},
+};
+
+/// Those of a type's fields or variants.
+type Names = &'static [Name];
 
 /// By a newtype of this name serde's formats tell CIDs from bytes. That of the crate `cid` is the
 /// same, so its CIDs are read and written as links too.
@@ -54,31 +64,328 @@ pub fn take_from_slice<'a, T: Deserialize<'a>>(bytes: &'a [u8]) -> Result<(T, &'
 
 /// The value of the block that a reader gives, up to its end.
 #[cfg(feature = "std")]
-pub fn from_reader<T: de::DeserializeOwned>(mut reader: impl std::io::Read) -> Result<T, Error> {
-    let mut block = alloc::vec::Vec::new();
+pub fn from_reader<T: DeserializeOwned, R: io::Read>(mut reader: R) -> Result<T, Error> {
+    let mut block = Vec::new();
     reader.read_to_end(&mut block)?;
     from_slice(&block)
 }
 
-fn read<'de, T: Deserialize<'de>>(block: &'de [u8]) -> Result<T, Error> {
-    let mut reader = Reader {
-        rest: block,
-        length: block.len(),
-        options: 0,
-    };
-    let value = T::deserialize(&mut reader)?;
+/// The value of the first block that a reader gives, which is left right after it.
+///
+/// ```
+/// let mut reader = &b"\x17\x62hi"[..];
+/// assert_eq!(dagcbor::from_reader_once::<u8, _>(&mut reader)?, 23);
+/// assert_eq!(reader, b"\x62hi");
+/// # Ok::<(), dagcbor::Error>(())
+/// ```
+#[cfg(feature = "std")]
+pub fn from_reader_once<T: DeserializeOwned, R: BufRead>(reader: R) -> Result<T, Error> {
+    T::deserialize(&mut Deserializer::from_reader(reader))
+}
+
+/// The values of the blocks that a reader gives, one after the other, up to its end.
+///
+/// ```
+/// let values = dagcbor::iter_from_reader::<String, _>(&b"\x61a\x62hi"[..]);
+/// assert_eq!(values.collect::<Result<Vec<_>, _>>()?, ["a", "hi"]);
+/// # Ok::<(), dagcbor::Error>(())
+/// ```
+#[cfg(feature = "std")]
+pub fn iter_from_reader<T: DeserializeOwned, R: BufRead>(
+    reader: R,
+) -> StreamDeserializer<IoReader<R>, T> {
+    Deserializer::from_reader(reader).into_iter()
+}
+
+/// Reads the value of a block, which is judged.
+pub(crate) fn read<'de, T: Deserialize<'de>>(block: &'de [u8]) -> Result<T, Error> {
+    read_by(block, |reader| T::deserialize(reader))
+}
+
+fn read_by<'de, T>(
+    block: &'de [u8],
+    read: impl FnOnce(&mut Reader<'de>) -> Result<T, Error>,
+) -> Result<T, Error> {
+    let mut reader = Reader::new(block);
+    let value = read(&mut reader)?;
     if !reader.rest.is_empty() {
         return Err(Error::custom("the type leaves bytes").or_at(reader.place()));
     }
     Ok(value)
 }
 
+/// Takes blocks one after the other, each judged before its value is read: of a slice, or of a
+/// reader, which is left right after the last one.
+///
+/// ```
+/// use dagcbor::de::Deserializer;
+/// use serde::Deserialize;
+///
+/// let mut deserializer = Deserializer::from_slice(b"\x62hi\x81\x17");
+/// assert_eq!(<&str>::deserialize(&mut deserializer)?, "hi");
+/// assert!(deserializer.end().is_err());
+/// assert_eq!(Vec::<u8>::deserialize(&mut deserializer)?, [23]);
+/// deserializer.end()?;
+/// # Ok::<(), dagcbor::Error>(())
+/// ```
+#[derive(Debug)]
+pub struct Deserializer<S> {
+    source: S,
+}
+
+impl<'de> Deserializer<SliceReader<'de>> {
+    /// Takes those in a slice, which lends texts and bytes.
+    pub fn from_slice(bytes: &'de [u8]) -> Self {
+        let (rest, place) = (bytes, 0);
+        Deserializer {
+            source: SliceReader { rest, place },
+        }
+    }
+}
+
+#[cfg(feature = "std")]
+impl<R: BufRead> Deserializer<IoReader<R>> {
+    /// Takes those that a reader gives. The deserializer lends texts and bytes of the last one.
+    pub fn from_reader(reader: R) -> Self {
+        Deserializer {
+            source: IoReader {
+                reader,
+                block: Vec::new(),
+                place: 0,
+                at: 0,
+                left: 1,
+                is_given: false,
+            },
+        }
+    }
+}
+
+impl<S: Bytes> Deserializer<S> {
+    /// Refuses bytes that follow, and takes none.
+    pub fn end(&mut self) -> Result<(), Error> {
+        match self.source.have_more()? {
+            true => Err(Refusal::TrailingData.at(self.source.place()).into()),
+            false => Ok(()),
+        }
+    }
+
+    /// The values of the blocks up to the end.
+    #[allow(clippy::should_implement_trait)] // of a type that the caller says
+    pub fn into_iter<T>(self) -> StreamDeserializer<S, T> {
+        StreamDeserializer {
+            blocks: self,
+            is_over: false,
+            value: PhantomData,
+        }
+    }
+}
+
+impl<S> Deserializer<S> {
+    fn read<'a, 'de, T>(
+        &'a mut self,
+        read: impl FnOnce(&mut Reader<'de>) -> Result<T, Error>,
+    ) -> Result<T, Error>
+    where
+        &'a mut S: Source<'de>,
+    {
+        let (place, block) = self.source.next_block()?;
+        read_by(block, read).map_err(|it| it.further(place))
+    }
+}
+
+/// The values of blocks one after the other. An error comes once, and nothing after it.
+#[derive(Debug)]
+pub struct StreamDeserializer<S, T> {
+    blocks: Deserializer<S>,
+    is_over: bool,
+    value: PhantomData<T>,
+}
+
+impl<S: Bytes, T> StreamDeserializer<S, T> {
+    fn next_by(
+        &mut self,
+        read: impl FnOnce(&mut Deserializer<S>) -> Result<T, Error>,
+    ) -> Option<Result<T, Error>> {
+        if self.is_over {
+            return None;
+        }
+        let value = match self.blocks.source.have_more() {
+            Ok(true) => read(&mut self.blocks),
+            Ok(false) => return None,
+            Err(error) => Err(error),
+        };
+        self.is_over = value.is_err();
+        Some(value)
+    }
+}
+
+impl<'de, T: Deserialize<'de>> Iterator for StreamDeserializer<SliceReader<'de>, T> {
+    type Item = Result<T, Error>;
+
+    fn next(&mut self) -> Option<Self::Item> {
+        self.next_by(|it| T::deserialize(it))
+    }
+}
+
+#[cfg(feature = "std")]
+impl<R: BufRead, T: DeserializeOwned> Iterator for StreamDeserializer<IoReader<R>, T> {
+    type Item = Result<T, Error>;
+
+    fn next(&mut self) -> Option<Self::Item> {
+        self.next_by(|it| T::deserialize(it))
+    }
+}
+
+/// What blocks are taken of.
+mod source {
+    pub trait Bytes {
+        /// Where the next block begins.
+        fn place(&self) -> usize;
+
+        /// Whether bytes follow.
+        fn have_more(&mut self) -> Result<bool, crate::Error>;
+    }
+
+    pub trait Source<'de> {
+        /// The next block, judged, and where it begins.
+        fn next_block(self) -> Result<(usize, &'de [u8]), crate::Error>;
+    }
+}
+
+use source::{Bytes, Source};
+
+/// Bytes in memory.
+#[derive(Debug)]
+pub struct SliceReader<'de> {
+    rest: &'de [u8],
+    place: usize,
+}
+
+impl Bytes for SliceReader<'_> {
+    fn place(&self) -> usize {
+        self.place
+    }
+
+    fn have_more(&mut self) -> Result<bool, Error> {
+        Ok(!self.rest.is_empty())
+    }
+}
+
+impl<'de> Source<'de> for &mut SliceReader<'de> {
+    fn next_block(self) -> Result<(usize, &'de [u8]), Error> {
+        let place = self.place;
+        let (first, rest) = split_item(self.rest).map_err(|it| Error::from(it).further(place))?;
+        self.rest = rest;
+        self.place += first.len();
+        Ok((place, first))
+    }
+}
+
+/// At least so many bytes of a reader are looked at, where it has them.
+#[cfg(feature = "std")]
+const PIECE: usize = 512;
+
+/// Bytes that are read.
+#[cfg(feature = "std")]
+#[derive(Debug)]
+pub struct IoReader<R> {
+    reader: R,
+    block: Vec<u8>, // as far as it is read
+    place: usize,   // where it begins
+    at: usize,      // so far its heads are passed
+    left: u64,      // items of it that follow there
+    is_given: bool,
+}
+
+#[cfg(feature = "std")]
+impl<R: BufRead> IoReader<R> {
+    /// Whether no more bytes are wanted: the block's last item ends, or what follows begins none.
+    fn is_read(&mut self) -> bool {
+        while self.left > 0 {
+            let mut rest = Reader::new(self.block.get(self.at..).unwrap_or_default());
+            match (rest.head().map(after_head), rest.first()) {
+                (Ok((payload, items)), _) => {
+                    let payload = usize::try_from(payload).unwrap_or(usize::MAX);
+                    self.at = (self.at + rest.place()).saturating_add(payload);
+                    self.left = items.saturating_add(self.left - 1);
+                }
+                (_, Ok(first)) if first % 32 > 27 => (self.at, self.left) = (self.at + 1, 0),
+                _ => return false,
+            }
+        }
+        self.at <= self.block.len()
+    }
+
+    /// Reads the block, as far as the reader has it, and no byte after it.
+    fn fill(&mut self) -> Result<(), Error> {
+        while !self.is_read() {
+            let piece = match self.reader.fill_buf() {
+                Err(error) if error.kind() == ErrorKind::Interrupted => continue,
+                piece => piece?,
+            };
+            if piece.is_empty() {
+                break;
+            }
+            let before = self.block.len();
+            let count = piece.len().min(before.max(PIECE));
+            self.block.extend_from_slice(&piece[..count]);
+            if self.is_read() {
+                self.block.truncate(self.at);
+            }
+            self.reader.consume(self.block.len() - before);
+        }
+        Ok(())
+    }
+}
+
+#[cfg(feature = "std")]
+impl<R: BufRead> Bytes for IoReader<R> {
+    fn place(&self) -> usize {
+        self.place + self.block.len()
+    }
+
+    fn have_more(&mut self) -> Result<bool, Error> {
+        loop {
+            match self.reader.fill_buf() {
+                Err(error) if error.kind() == ErrorKind::Interrupted => {}
+                piece => return Ok(!piece?.is_empty()),
+            }
+        }
+    }
+}
+
+#[cfg(feature = "std")]
+impl<'de, R: BufRead> Source<'de> for &'de mut IoReader<R> {
+    fn next_block(self) -> Result<(usize, &'de [u8]), Error> {
+        if self.is_given {
+            self.place += self.block.len();
+            self.block.clear();
+            (self.at, self.left, self.is_given) = (0, 1, false);
+        }
+        self.fill()?;
+        check(&self.block).map_err(|it| Error::from(it).further(self.place))?;
+        self.is_given = true;
+        Ok((self.place, &self.block))
+    }
+}
+
 /// What is left of a block. That it is one is judged: here it is only seen that nothing is read
-/// behind its end.
+/// after its end.
 struct Reader<'de> {
     rest: &'de [u8],
     length: usize, // of the block
     options: u32,
+}
+
+/// How many bytes of a payload, and how many items, are of the item with such a head.
+fn after_head((major, argument): (u8, u64)) -> (u64, u64) {
+    match major {
+        BYTES | TEXT => (argument, 0),
+        LIST => (0, argument),
+        MAP => (0, argument.saturating_mul(2)),
+        TAG => (0, 1),
+        _ => (0, 0),
+    }
 }
 
 /// Never, of a block.
@@ -88,6 +395,14 @@ fn no_block() -> Error {
 }
 
 impl<'de> Reader<'de> {
+    fn new(block: &'de [u8]) -> Self {
+        Reader {
+            rest: block,
+            length: block.len(),
+            options: 0,
+        }
+    }
+
     /// The first byte of the next item.
     #[inline(always)]
     fn first(&self) -> Result<u8, Error> {
@@ -97,8 +412,8 @@ impl<'de> Reader<'de> {
     /// Passes the head of an item: its major type, and its argument.
     #[inline(always)]
     fn head(&mut self) -> Result<(u8, u64), Error> {
-        let (first, behind) = self.rest.split_first().ok_or_else(no_block)?;
-        let (argument, rest) = match (first % 32, behind) {
+        let (first, rest) = self.rest.split_first().ok_or_else(no_block)?;
+        let (argument, rest) = match (first % 32, rest) {
             (n @ 0..=23, rest) => (n.into(), rest),
             (24, [a, rest @ ..]) => ((*a).into(), rest),
             (25, [a, b, rest @ ..]) => (u16::from_be_bytes([*a, *b]).into(), rest),
@@ -140,14 +455,9 @@ impl<'de> Reader<'de> {
     fn pass(&mut self) -> Result<(), Error> {
         let mut left = 1;
         while left > 0 {
-            left -= 1;
-            match self.head()? {
-                (BYTES | TEXT, count) => drop(self.bytes(count)?),
-                (LIST, count) => left += count,
-                (MAP, count) => left += 2 * count,
-                (TAG, _) => left += 1,
-                _ => {}
-            }
+            let (payload, items) = after_head(self.head()?);
+            self.bytes(payload)?;
+            left = items.saturating_add(left - 1);
         }
         Ok(())
     }
@@ -201,7 +511,7 @@ impl<'de> Reader<'de> {
             (TAG, _) => {
                 let (_, count) = self.head()?;
                 let cid = self.bytes(count)?.get(1..).unwrap_or_default();
-                visitor.visit_newtype_struct(BytesDeserializer::new(cid))
+                visitor.visit_newtype_struct(Link(cid))
             }
             (_, NULL) => visitor.visit_none(),
             (_, value) => visitor.visit_bool(value == TRUE),
@@ -228,20 +538,110 @@ impl<'de> Reader<'de> {
     }
 }
 
-/// The methods that read an item of one sort, by its first byte.
-macro_rules! of_sort {
-    ($($sort:pat => $($method:ident($($name:ident: $type:ty),*))*;)*) => {$($(
-        #[inline]
-        fn $method<V: Visitor<'de>>(self, $($name: $type,)* visitor: V) -> Result<V::Value, Error> {
-            self.visit(|it| matches!(it, $sort), visitor)
-        }
-    )*)*};
-}
+/// The bytes of a link. What asks for a newtype is shown one, of bytes. What takes anything, as
+/// serde where it holds a value back, is shown a newtype in a newtype: no other item is one.
+struct Link<'a>(&'a [u8]);
 
-impl<'de> de::Deserializer<'de> for &mut Reader<'de> {
+impl<'de> de::Deserializer<'de> for Link<'_> {
     type Error = Error;
 
-    of_sort! {
+    fn deserialize_any<V: Visitor<'de>>(self, visitor: V) -> Result<V::Value, Error> {
+        visitor.visit_newtype_struct(BytesDeserializer::new(self.0))
+    }
+
+    fn deserialize_bytes<V: Visitor<'de>>(self, visitor: V) -> Result<V::Value, Error> {
+        visitor.visit_bytes(self.0)
+    }
+
+    fn deserialize_byte_buf<V: Visitor<'de>>(self, visitor: V) -> Result<V::Value, Error> {
+        visitor.visit_bytes(self.0)
+    }
+
+    fn deserialize_newtype_struct<V: Visitor<'de>>(
+        self,
+        _: &'static str,
+        visitor: V,
+    ) -> Result<V::Value, Error> {
+        visitor.visit_newtype_struct(self)
+    }
+
+    fn is_human_readable(&self) -> bool {
+        false
+    }
+
+    forward_to_deserialize_any! {
+        bool i8 i16 i32 i64 i128 u8 u16 u32 u64 u128 f32 f64 char str string option unit
+        unit_struct seq tuple tuple_struct map struct enum identifier ignored_any
+    }
+}
+
+/// The methods of a reader of a block: those that read an item of one sort, by its first byte, and
+/// others; and those of what takes blocks, which read the next one by these.
+macro_rules! deserializers {
+    (
+        sorts {$(
+            $sort:pat => $($method:ident($($name:ident: $type:ty),*))*;
+        )*}
+        others {$(
+            $other:ident($($part:ident: $of:ty),*) $self:ident, $visitor:ident => $value:expr;
+        )*}
+    ) => {
+        impl<'de> de::Deserializer<'de> for &mut Reader<'de> {
+            type Error = Error;
+
+            $($(#[inline]
+            fn $method<V: Visitor<'de>>(
+                self,
+                $($name: $type,)*
+                visitor: V,
+            ) -> Result<V::Value, Error> {
+                self.visit(|it| matches!(it, $sort), visitor)
+            })*)*
+
+            $(fn $other<V: Visitor<'de>>(
+                $self,
+                $($part: $of,)*
+                $visitor: V,
+            ) -> Result<V::Value, Error> {
+                $value
+            })*
+
+            fn is_human_readable(&self) -> bool {
+                false
+            }
+        }
+
+        impl<'de, 'a, S> de::Deserializer<'de> for &'a mut Deserializer<S>
+        where
+            &'a mut S: Source<'de>,
+        {
+            type Error = Error;
+
+            $($(fn $method<V: Visitor<'de>>(
+                self,
+                $($name: $type,)*
+                visitor: V,
+            ) -> Result<V::Value, Error> {
+                self.read(|it| it.$method($($name,)* visitor))
+            })*)*
+
+            $(fn $other<V: Visitor<'de>>(
+                self,
+                $($part: $of,)*
+                visitor: V,
+            ) -> Result<V::Value, Error> {
+                self.read(|it| it.$other($($part,)* visitor))
+            })*
+
+            fn is_human_readable(&self) -> bool {
+                false
+            }
+        }
+    };
+}
+
+deserializers! {
+    sorts {
         _ => deserialize_any();
         0x00..=0x3b =>
             deserialize_u8() deserialize_u16() deserialize_u32() deserialize_u64()
@@ -252,85 +652,58 @@ impl<'de> de::Deserializer<'de> for &mut Reader<'de> {
             deserialize_char() deserialize_str() deserialize_string() deserialize_identifier();
         0x80..=0x9b =>
             deserialize_seq() deserialize_tuple(_count: usize)
-            deserialize_tuple_struct(_name: &'static str, _count: usize);
-        0xa0..=0xbb =>
-            deserialize_map()
-            deserialize_struct(_name: &'static str, _fields: &'static [&'static str]);
+            deserialize_tuple_struct(_name: Name, _count: usize);
+        0xa0..=0xbb => deserialize_map() deserialize_struct(_name: Name, _fields: Names);
         0xf4 | 0xf5 => deserialize_bool();
         0xf9..=0xfb => deserialize_f32() deserialize_f64(); // which no block has
     }
-
-    fn deserialize_unit<V: Visitor<'de>>(self, visitor: V) -> Result<V::Value, Error> {
-        if self.has_null() {
-            return visitor.visit_unit();
-        }
-        self.unwanted(&visitor)
-    }
-
-    fn deserialize_unit_struct<V: Visitor<'de>>(
-        self,
-        _: &'static str,
-        visitor: V,
-    ) -> Result<V::Value, Error> {
-        self.deserialize_unit(visitor)
-    }
-
-    fn deserialize_option<V: Visitor<'de>>(self, visitor: V) -> Result<V::Value, Error> {
-        if self.has_null() {
-            return visitor.visit_none();
-        }
-        if self.options == MOST_OPTIONS {
-            let said = "the type has too many options in each other";
-            return Err(Error::custom(said).or_at(self.place()));
-        }
-        self.options += 1;
-        let value = visitor.visit_some(&mut *self);
-        self.options -= 1;
-        value
-    }
-
-    fn deserialize_newtype_struct<V: Visitor<'de>>(
-        self,
-        name: &'static str,
-        visitor: V,
-    ) -> Result<V::Value, Error> {
-        if name == CID_NAME {
-            return self.visit(|first| first == FIRST_OF_LINK, visitor);
-        }
-        visitor.visit_newtype_struct(self)
-    }
-
-    /// The name of a variant alone, or a map of one entry from its name to its data.
-    fn deserialize_enum<V: Visitor<'de>>(
-        self,
-        _: &'static str,
-        _: &'static [&'static str],
-        visitor: V,
-    ) -> Result<V::Value, Error> {
-        let place = self.place();
-        let value = match self.first()? {
-            0x60..=0x7b => {
-                let (_, count) = self.head()?;
-                visitor.visit_enum(BorrowedStrDeserializer::new(self.text(count)?))
+    others {
+        deserialize_unit() self, visitor => {
+            if self.has_null() {
+                return visitor.visit_unit();
             }
-            0xa1 => {
-                let (_, count) = self.head()?;
-                self.parts(2 * count, |it| {
-                    visitor.visit_enum(MapAccessDeserializer::new(it))
-                })
-            }
-            _ => return self.unwanted(&visitor),
+            self.unwanted(&visitor)
         };
-        value.map_err(|it| it.or_at(place))
-    }
-
-    fn deserialize_ignored_any<V: Visitor<'de>>(self, visitor: V) -> Result<V::Value, Error> {
-        self.pass()?;
-        visitor.visit_unit()
-    }
-
-    fn is_human_readable(&self) -> bool {
-        false
+        deserialize_unit_struct(_name: Name) self, visitor => self.deserialize_unit(visitor);
+        deserialize_option() self, visitor => {
+            if self.has_null() {
+                return visitor.visit_none();
+            }
+            if self.options == MOST_OPTIONS {
+                let said = "the type has too many options in each other";
+                return Err(Error::custom(said).or_at(self.place()));
+            }
+            self.options += 1;
+            let value = visitor.visit_some(&mut *self);
+            self.options -= 1;
+            value
+        };
+        deserialize_newtype_struct(name: Name) self, visitor => {
+            if name == CID_NAME {
+                return self.visit(|first| first == FIRST_OF_LINK, visitor);
+            }
+            visitor.visit_newtype_struct(self)
+        };
+        // The name of a variant alone, or a map of one entry from its name to its data.
+        deserialize_enum(_name: Name, _variants: Names) self, visitor => {
+            let place = self.place();
+            let value = match self.first()? {
+                0x60..=0x7b => {
+                    let (_, count) = self.head()?;
+                    visitor.visit_enum(BorrowedStrDeserializer::new(self.text(count)?))
+                }
+                0xa1 => {
+                    let (_, count) = self.head()?;
+                    self.parts(2 * count, |it| visitor.visit_enum(MapAccessDeserializer::new(it)))
+                }
+                _ => return self.unwanted(&visitor),
+            };
+            value.map_err(|it| it.or_at(place))
+        };
+        deserialize_ignored_any() self, visitor => {
+            self.pass()?;
+            visitor.visit_unit()
+        };
     }
 }
 

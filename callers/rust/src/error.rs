@@ -1,3 +1,4 @@
+use crate::de::CID_NAME;
 use crate::{Refusal, Refused};
 use alloc::{
     boxed::Box,
@@ -53,6 +54,12 @@ impl Error {
     /// With this place, where there is none.
     pub(crate) fn or_at(mut self, place: usize) -> Error {
         self.0.place.get_or_insert(place);
+        self
+    }
+
+    /// Of bytes of which so many come before.
+    pub(crate) fn further(mut self, before: usize) -> Error {
+        self.0.place = self.0.place.map(|it| before + it);
         self
     }
 
@@ -128,6 +135,14 @@ impl From<Error> for std::io::Error {
 impl serde::de::Error for Error {
     fn custom<T: fmt::Display>(message: T) -> Error {
         Error::new(Cause::Said(message.to_string()), None)
+    }
+
+    /// A CID asks by its name whether what serde held back is of a block.
+    fn missing_field(field: &'static str) -> Error {
+        match field {
+            CID_NAME => serde::de::Error::custom(CID_NAME),
+            _ => serde::de::Error::custom(format_args!("missing field `{field}`")),
+        }
     }
 }
 

@@ -1,13 +1,13 @@
 //! Data without types, and CIDs, by serde.
 
-use crate::de::CID_NAME;
-use crate::Cid;
-use alloc::{collections::BTreeMap, string::String, vec::Vec};
-use core::any::TypeId;
-use core::marker::PhantomData;
-use core::{fmt, mem};
+use crate::de::{read, CID_NAME};
+use crate::{to_vec, Cid, Error};
+use alloc::{collections::BTreeMap, string::String, string::ToString, vec::Vec};
+use core::fmt;
 use serde::de::value::{MapAccessDeserializer, SeqAccessDeserializer};
-use serde::de::{self, Deserialize, Deserializer, MapAccess, SeqAccess, Unexpected, Visitor};
+use serde::de::{
+    self, Deserialize, DeserializeOwned, Deserializer, MapAccess, SeqAccess, Unexpected, Visitor,
+};
 use serde::ser::{Serialize, Serializer};
 
 /// The data of a block.
@@ -101,6 +101,64 @@ impl<T: Into<Ipld>> From<Option<T>> for Ipld {
     }
 }
 
+/// The data of a value's block.
+///
+/// ```
+/// use dagcbor::{from_ipld, ipld, to_ipld};
+///
+/// let data = to_ipld(("hi", 23))?;
+/// assert_eq!(data, ipld!(["hi", 23]));
+/// assert_eq!(from_ipld::<(String, u8)>(data)?, ("hi".into(), 23));
+/// # Ok::<(), dagcbor::Error>(())
+/// ```
+pub fn to_ipld<T: Serialize>(value: T) -> Result<Ipld, Error> {
+    read(&to_vec(&value)?)
+}
+
+/// The value of the data's block. A place in an error is one in that block.
+pub fn from_ipld<T: DeserializeOwned>(data: Ipld) -> Result<T, Error> {
+    read(&to_vec(&data)?)
+}
+
+/// Makes an [`Ipld`], spelled as data: `null`, lists, maps, and what has a `From`. A key is what
+/// has an `Into<String>`.
+///
+/// ```
+/// use dagcbor::{ipld, name, Ipld};
+///
+/// let (key, years) = ("years", vec![Ipld::from(23)]);
+/// let data = ipld!({ "of": name(b"\xf6"), key: years, "more": [null, { "a": -1 + 3 }, true] });
+/// assert_eq!(data.get("of").and_then(Ipld::as_link), Some(&name(b"\xf6")));
+/// assert_eq!(data.get("years/0"), Some(&ipld!(23)));
+/// assert_eq!(data.get("more"), Some(&ipld!([null, { "a": 2 }, true])));
+/// ```
+#[macro_export]
+macro_rules! ipld {
+    (null) => { $crate::Ipld::Null };
+    ([$($parts:tt)*]) => { $crate::Ipld::List($crate::ipld!(@list [] $($parts)*)) };
+    ({$($parts:tt)*}) => { $crate::Ipld::Map($crate::ipld!(@map [] [] $($parts)*)) };
+    // The parts that are left: one token, or an expression of more. Those before are done.
+    (@list [$($done:expr,)*]) => { $crate::__data::Vec::from([$($done,)*]) };
+    (@list [$($done:expr,)*] $next:tt $(, $($left:tt)*)?) => {
+        $crate::ipld!(@list [$($done,)* $crate::ipld!($next),] $($($left)*)?)
+    };
+    (@list [$($done:expr,)*] $next:expr $(, $($left:tt)*)?) => {
+        $crate::ipld!(@list [$($done,)* $crate::ipld!($next),] $($($left)*)?)
+    };
+    // The same of entries, with the tokens of the next key.
+    (@map [$($done:expr,)*] []) => { $crate::__data::BTreeMap::from([$($done,)*]) };
+    (@map [$($done:expr,)*] [$($key:tt)+] : $next:tt $(, $($left:tt)*)?) => {
+        $crate::ipld!(@map [$($done,)* (($($key)+).into(), $crate::ipld!($next)),] [] $($($left)*)?)
+    };
+    (@map [$($done:expr,)*] [$($key:tt)+] : $next:expr $(, $($left:tt)*)?) => {
+        $crate::ipld!(@map [$($done,)* (($($key)+).into(), $crate::ipld!($next)),] [] $($($left)*)?)
+    };
+    (@map [$($done:expr,)*] [$($key:tt)*] $token:tt $($left:tt)*) => {
+        $crate::ipld!(@map [$($done,)*] [$($key)* $token] $($left)*)
+    };
+    ($data:expr) => { $crate::Ipld::from($data) };
+}
+
 impl Serialize for Ipld {
     fn serialize<S: Serializer>(&self, serializer: S) -> Result<S::Ok, S::Error> {
         match self {
@@ -162,7 +220,7 @@ impl<'de> Visitor<'de> for OfIpld {
     }
 
     fn visit_newtype_struct<D: Deserializer<'de>>(self, link: D) -> Result<Ipld, D::Error> {
-        Cid::deserialize(link).map(Ipld::Link)
+        OfCid.visit_newtype_struct(link).map(Ipld::Link)
     }
 
     fn visit_seq<A: SeqAccess<'de>>(self, parts: A) -> Result<Ipld, A::Error> {
@@ -207,58 +265,54 @@ impl<'de> Visitor<'de> for OfCid {
         f.write_str("a CID")
     }
 
-    /// What serde holds back, as for an untagged enum, it says to be for people: a text is asked
-    /// for, and bytes are shown.
+    /// What serde holds back, as for an untagged enum, it says to be for people.
     fn visit_newtype_struct<D: Deserializer<'de>>(self, deserializer: D) -> Result<Cid, D::Error> {
         if deserializer.is_human_readable() {
-            return deserializer.deserialize_str(OfCid);
+            return deserializer.deserialize_any(OfHeldCid);
         }
-        deserializer.deserialize_bytes(OfCid)
+        deserializer.deserialize_bytes(self)
     }
 
     fn visit_bytes<E: de::Error>(self, bytes: &[u8]) -> Result<Cid, E> {
         Cid::try_from(bytes).map_err(E::custom)
     }
 
-    /// The bytes of a link are not lent by a block, but those of a byte string that was held back.
-    fn visit_borrowed_bytes<E: de::Error>(self, bytes: &'de [u8]) -> Result<Cid, E> {
-        if is_of_a_block::<E>() {
-            return Err(E::invalid_type(Unexpected::Bytes(bytes), &self));
-        }
-        self.visit_bytes(bytes)
-    }
-
-    /// No link of a block is a text: one that comes of a block was held back.
     fn visit_str<E: de::Error>(self, text: &str) -> Result<Cid, E> {
-        if is_of_a_block::<E>() {
-            return Err(E::invalid_type(Unexpected::Str(text), &self));
-        }
         text.parse().map_err(E::custom)
     }
 }
 
-/// Whether what is read with such errors is a block.
-fn is_of_a_block<E>() -> bool {
-    type_id::<E>() == TypeId::of::<crate::Error>()
+/// Takes a CID of what is for people, a text, or of what serde held back: where that is of a block,
+/// a newtype in a newtype, and no text and no bytes.
+struct OfHeldCid;
+
+impl<'de> Visitor<'de> for OfHeldCid {
+    type Value = Cid;
+
+    fn expecting(&self, f: &mut fmt::Formatter<'_>) -> fmt::Result {
+        OfCid.expecting(f)
+    }
+
+    fn visit_newtype_struct<D: Deserializer<'de>>(self, link: D) -> Result<Cid, D::Error> {
+        link.deserialize_bytes(OfCid)
+    }
+
+    fn visit_bytes<E: de::Error>(self, bytes: &[u8]) -> Result<Cid, E> {
+        if is_of_a_block::<E>() {
+            return Err(E::invalid_type(Unexpected::Bytes(bytes), &self));
+        }
+        OfCid.visit_bytes(bytes)
+    }
+
+    fn visit_str<E: de::Error>(self, text: &str) -> Result<Cid, E> {
+        if is_of_a_block::<E>() {
+            return Err(E::invalid_type(Unexpected::Str(text), &self));
+        }
+        OfCid.visit_str(text)
+    }
 }
 
-/// What `TypeId::of` tells, also of a type that may have lifetimes, as of an error of some format: types
-/// that differ by these alone have one.
-fn type_id<T>() -> TypeId {
-    trait Told {
-        fn told(&self) -> TypeId
-        where
-            Self: 'static;
-    }
-    impl<T> Told for PhantomData<T> {
-        fn told(&self) -> TypeId
-        where
-            Self: 'static,
-        {
-            TypeId::of::<T>()
-        }
-    }
-    let marker = &PhantomData::<T>;
-    // SAFETY: the call reads nothing of what is lent so for ever, and keeps nothing of it.
-    Told::told(unsafe { mem::transmute::<&dyn Told, &(dyn Told + 'static)>(marker) })
+/// Whether what is read with such errors is a block: of other formats they say more than the name.
+fn is_of_a_block<E: de::Error>() -> bool {
+    E::missing_field(CID_NAME).to_string() == CID_NAME
 }

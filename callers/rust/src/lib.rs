@@ -16,8 +16,9 @@
 //! ```
 //!
 //! With the feature `serde`, `from_slice` reads a type and `to_vec` writes one; `Ipld` is data
-//! without types. [`Car`] goes through a file of blocks in memory, [`CarReader`] through one that
-//! is read, and [`CarWriter`] writes one.
+//! without types, and `ipld` spells it. `de`, `ser` and `codec` have what is named as in the crate
+//! `serde_ipld_dagcbor`. [`Car`] goes through a file of blocks in memory, [`CarReader`] through one
+//! that is read, and [`CarWriter`] writes one.
 //!
 //! Without the feature `alloc`, which `std` brings, there are the calls that take room:
 //! [`tape_into`], [`links_into`] and [`spell_into`].
@@ -26,6 +27,7 @@
 
 #![cfg_attr(not(feature = "std"), no_std)]
 #![warn(missing_docs, unsafe_op_in_unsafe_fn)]
+#![deny(unsafe_code)] // but for the calls of the library
 
 #[cfg(feature = "alloc")]
 extern crate alloc;
@@ -40,14 +42,16 @@ mod paths;
 #[cfg(feature = "std")]
 mod streams;
 
+#[cfg(all(feature = "serde", feature = "std"))]
+pub mod codec;
 #[cfg(feature = "serde")]
-mod de;
+pub mod de;
 #[cfg(feature = "serde")]
 mod error;
 #[cfg(feature = "serde")]
 mod ipld;
 #[cfg(feature = "serde")]
-mod ser;
+pub mod ser;
 
 pub use answer::{CarRefusal, CarRefused, Kind, NodeRefusal, NodeRefused, Refusal, Refused};
 pub use calls::{check, links_into, name, spell_into, tape_into, MOST_OF_CID};
@@ -56,13 +60,13 @@ pub use calls::{links, spell, take_tape, tape, Links, Tape};
 pub use car::{verify, Car, Section, Verdict};
 pub use cid::Cid;
 #[cfg(all(feature = "serde", feature = "std"))]
-pub use de::from_reader;
+pub use de::{from_reader, from_reader_once, iter_from_reader};
 #[cfg(feature = "serde")]
 pub use de::{from_slice, take_from_slice};
 #[cfg(feature = "serde")]
 pub use error::Error;
 #[cfg(feature = "serde")]
-pub use ipld::Ipld;
+pub use ipld::{from_ipld, to_ipld, Ipld};
 pub use item::{Cids, Item, Items, Token};
 #[cfg(feature = "alloc")]
 pub use node::{from_node, node_links, to_node};
@@ -76,3 +80,14 @@ pub use ser::to_vec;
 pub use ser::to_writer;
 #[cfg(feature = "std")]
 pub use streams::{CarError, CarReader, CarWriter, OwnedSection};
+
+#[cfg(all(doctest, feature = "serde"))]
+#[doc = include_str!("../README.md")]
+struct Readme;
+
+/// What the macro `ipld` names.
+#[cfg(feature = "serde")]
+#[doc(hidden)]
+pub mod __data {
+    pub use alloc::{collections::BTreeMap, vec::Vec};
+}

@@ -2,15 +2,28 @@
 
 use crate::de::CID_NAME;
 use crate::{check, Cid, Error, Refusal};
-use alloc::{string::String, string::ToString, vec::Vec};
-use core::{cmp::Ordering, fmt, ops::Range};
+use alloc::{string::String, vec::Vec};
+use core::{cmp::Ordering, ops::Range};
 use serde::ser::{self, Error as _, Serialize};
+#[cfg(feature = "std")]
+use std::io::Write;
 
 /// So many lists and maps may be around a value.
 const MOST_LEVELS: usize = 127;
 
-/// More entries than these are sorted by the lengths of their keys first.
+/// More entries than these are taken by the lengths of their keys at first, which is enough where
+/// texts came in order.
 const FEW_ENTRIES: usize = 20;
+
+/// Texts of no more bytes have a head of one byte.
+const SHORT: usize = 23;
+
+/// A block gets room for so many bytes at first, and the entries of maps for so many.
+const ROOM: usize = 1024;
+const ROOM_OF_ENTRIES: usize = 32;
+
+/// Room for no more entries is taken before they come.
+const MOST_ENTRIES: usize = 1 << 16;
 
 /// The block of a value. Keys of maps come in the order of blocks, whatever the value's.
 ///
@@ -33,21 +46,76 @@ const FEW_ENTRIES: usize = 20;
 pub fn to_vec<T: Serialize + ?Sized>(value: &T) -> Result<Vec<u8>, Error> {
     let mut writer = Writer::default();
     value.serialize(&mut writer)?;
-    check(&writer.block).map_err(|it| it.refusal)?;
-    Ok(writer.block)
+    match writer.judged()? {
+        small if small.len() < ROOM / 2 => Ok(small.to_vec()), // without the room that is left
+        _ => Ok(writer.block),
+    }
 }
 
 /// Writes the block of a value: nothing, where there is none.
 #[cfg(feature = "std")]
-pub fn to_writer<T: Serialize + ?Sized>(
-    mut writer: impl std::io::Write,
-    value: &T,
-) -> Result<(), Error> {
-    Ok(writer.write_all(&to_vec(value)?)?)
+pub fn to_writer<W: Write, T: Serialize + ?Sized>(writer: W, value: &T) -> Result<(), Error> {
+    value.serialize(&mut Serializer::new(writer))
+}
+
+/// Writes blocks one after the other: each when it is whole and judged, and nothing of a value that
+/// has none.
+///
+/// ```
+/// use dagcbor::ser::Serializer;
+/// use serde::Serialize;
+///
+/// let mut serializer = Serializer::new(Vec::new());
+/// "hi".serialize(&mut serializer)?;
+/// assert!([1.5].serialize(&mut serializer).is_err());
+/// [23].serialize(&mut serializer)?;
+/// assert_eq!(serializer.into_inner(), b"\x62hi\x81\x17");
+/// # Ok::<(), dagcbor::Error>(())
+/// ```
+#[cfg(feature = "std")]
+#[derive(Debug)]
+pub struct Serializer<W> {
+    out: W,
+    writer: Writer,
+}
+
+#[cfg(feature = "std")]
+impl<W> Serializer<W> {
+    /// One that writes to the writer.
+    pub fn new(writer: W) -> Serializer<W> {
+        let (out, writer) = (writer, Writer::default());
+        Serializer { out, writer }
+    }
+
+    /// The writer, with all handed over to it.
+    pub fn into_inner(self) -> W {
+        self.out
+    }
+}
+
+#[cfg(feature = "std")]
+impl<W: Write> Serializer<W> {
+    /// Puts a value that is no list and no map, and hands its block over.
+    fn put(&mut self, put: impl FnOnce(&mut Writer) -> Result<(), Error>) -> Result<(), Error> {
+        self.writer.clear();
+        put(&mut self.writer)?;
+        Ok(self.out.write_all(self.writer.judged()?)?)
+    }
+
+    /// Begins a list or a map, whose block is handed over at its end.
+    fn begin<'a>(
+        &'a mut self,
+        begin: impl FnOnce(&'a mut Writer) -> Result<Parts<'a>, Error>,
+    ) -> Result<Parts<'a>, Error> {
+        self.writer.clear();
+        let mut parts = begin(&mut self.writer)?;
+        parts.out = Some(&mut self.out);
+        Ok(parts)
+    }
 }
 
 /// That of a type, a field or a variant.
-type Name = &'static str;
+pub(crate) type Name = &'static str;
 
 // The major types of heads, and arguments of the last one.
 pub(crate) const INTEGER: u8 = 0;
@@ -62,7 +130,7 @@ const FALSE: u64 = 20;
 pub(crate) const TRUE: u64 = 21;
 pub(crate) const NULL: u64 = 22;
 
-/// Puts the shortest head behind the bytes.
+/// Puts the shortest head after the bytes.
 #[inline(always)]
 fn put_head(out: &mut Vec<u8>, major: u8, n: u64) {
     let first = |information| 32 * major + information;
@@ -99,11 +167,21 @@ fn number_of(bytes: &[u8]) -> u64 {
     }
 }
 
-/// An entry of a map that is written: where its key stands, with its head, and where it ends.
+/// An entry of a map that is written: where it begins, with the head of its key, and where it ends,
+/// which is told when entries are sorted.
+#[derive(Clone, Copy, Debug)]
 struct Entry {
-    front: u64, // of the key: eight bytes, zeros behind a shorter one
-    key: Range<usize>,
+    front: u64, // of the key: eight bytes, zeros after a shorter one
+    start: usize,
     end: usize,
+}
+
+/// That of the key of a short name.
+#[inline(always)]
+fn front_of(name: &[u8]) -> u64 {
+    let head = 32 * TEXT + name.len() as u8;
+    let at = |at| *name.get(at).unwrap_or(&0);
+    u64::from_be_bytes([head, at(0), at(1), at(2), at(3), at(4), at(5), at(6)])
 }
 
 impl Entry {
@@ -114,20 +192,68 @@ impl Entry {
         let from = end.min(start + 8).wrapping_sub(8);
         let bytes = block.get(from..).and_then(|it| it.get(..8));
         let front = bytes.map_or_else(|| number_of(&block[start..]), number_of);
-        let front = front << (64 - 8 * (end - start).min(8)); // without what is before a shorter key
-        let key = start..end;
-        Entry { front, key, end }
+        let front = front << (64 - 8 * (end - start).min(8)); // without what is before the key
+        let end = 0;
+        Entry { front, start, end }
     }
 
-    /// The order of keys in blocks: since their heads tell their lengths, that of their bytes.
+    /// The key, without its head.
+    fn key<'a>(&self, block: &'a [u8]) -> &'a [u8] {
+        let (information, rest) = (block[self.start] % 32, &block[self.start + 1..]);
+        let (wide, length) = match information {
+            0..=23 => (0, information.into()),
+            _ => {
+                let wide = 1 << (information - 24);
+                (wide, number_of(&rest[..wide]))
+            }
+        };
+        &rest[wide..][..length as usize]
+    }
+
+    /// The order of keys in blocks: of their lengths, which their heads tell, and of their bytes.
     #[inline]
     fn order(&self, other: &Entry, block: &[u8]) -> Ordering {
-        let keys = || block[self.key.clone()].cmp(&block[other.key.clone()]);
-        self.front.cmp(&other.front).then_with(keys)
+        self.front.cmp(&other.front).then_with(|| {
+            let (one, other) = (self.key(block), other.key(block));
+            one.len().cmp(&other.len()).then_with(|| one.cmp(other))
+        })
     }
 }
 
-/// Whether each key comes behind the one before it.
+/// The entries by the first bytes of their keys, which tell their lengths, and those of one as they
+/// came: in the order of blocks, where texts came in theirs.
+fn by_head(entries: &[Entry]) -> impl Iterator<Item = &Entry> {
+    let head = |it: &Entry| (it.front >> 56) as u8 % 32;
+    let heads = entries
+        .iter()
+        .fold(0_u32, |heads, it| heads | 1 << head(it));
+    let heads = (0..32).filter(move |it| heads >> it & 1 == 1);
+    heads.flat_map(move |one| entries.iter().filter(move |it| head(it) == one))
+}
+
+/// Puts them after the block once more, up to one whose key does not come after the one before it.
+fn put_again<'a>(
+    block: &mut Vec<u8>,
+    mut entries: impl Iterator<Item = &'a Entry>,
+) -> Result<(), &'a Entry> {
+    let (mut last, mut run) = (None::<&Entry>, 0..0); // of entries that stay one after the other
+    entries.try_for_each(|it| {
+        if last.map_or(false, |last| last.order(it, block).is_ge()) {
+            return Err(it);
+        }
+        if it.start != run.end {
+            block.extend_from_within(run.clone());
+            run.start = it.start;
+        }
+        run.end = it.end;
+        last = Some(it);
+        Ok(())
+    })?;
+    block.extend_from_within(run);
+    Ok(())
+}
+
+/// Whether each key comes after the one before it.
 #[inline]
 fn are_in_order(entries: &[Entry], block: &[u8]) -> bool {
     entries
@@ -136,16 +262,40 @@ fn are_in_order(entries: &[Entry], block: &[u8]) -> bool {
 }
 
 /// What is written so far.
-#[derive(Default)]
+#[derive(Debug)]
 struct Writer {
     block: Vec<u8>,
     level: usize,
     payload: usize,      // where the last one begins
     entries: Vec<Entry>, // of the maps that are being written
-    sorted: Vec<u8>,     // the entries of one of them
+}
+
+impl Default for Writer {
+    fn default() -> Writer {
+        Writer {
+            block: Vec::with_capacity(ROOM),
+            level: 0,
+            payload: 0,
+            entries: Vec::with_capacity(ROOM_OF_ENTRIES),
+        }
+    }
 }
 
 impl Writer {
+    /// The block, exactly where it is one.
+    fn judged(&self) -> Result<&[u8], Error> {
+        check(&self.block).map_err(|it| it.refusal)?;
+        Ok(&self.block)
+    }
+
+    /// Lets go of what is written, as far as it came.
+    #[cfg(feature = "std")]
+    fn clear(&mut self) {
+        self.block.clear();
+        self.entries.clear();
+        self.level = 0;
+    }
+
     #[inline]
     fn put(&mut self, major: u8, n: u64) -> Result<(), Error> {
         put_head(&mut self.block, major, n);
@@ -155,7 +305,8 @@ impl Writer {
     #[inline]
     fn put_payload(&mut self, major: u8, payload: &[u8]) -> Result<(), Error> {
         match payload.len() {
-            n @ 0..=23 => self.block.push(32 * major + n as u8),
+            n @ 0..=SHORT => self.block.push(32 * major + n as u8),
+            n @ 24..=0xff => self.block.extend_from_slice(&[32 * major + 24, n as u8]),
             n => put_long_head(&mut self.block, major, n as u64),
         }
         self.payload = self.block.len();
@@ -202,7 +353,7 @@ impl Writer {
         self.put_payload(TEXT, name.as_bytes())
     }
 
-    /// Begins a list or map, of so many parts where that is known, behind the name of the variant
+    /// Begins a list or map, of so many parts where that is known, after the name of the variant
     /// that it is of.
     #[inline]
     fn begin(
@@ -217,6 +368,9 @@ impl Writer {
         let (head, told) = (self.block.len(), parts.unwrap_or(0));
         self.put(major, told as u64)?;
         self.level += 1;
+        if major == MAP {
+            self.entries.reserve(told.min(MOST_ENTRIES));
+        }
         Ok(Parts {
             head: head..self.block.len(),
             told,
@@ -224,6 +378,8 @@ impl Writer {
             first: self.entries.len(),
             variant,
             writer: self,
+            #[cfg(feature = "std")]
+            out: None,
         })
     }
 
@@ -231,46 +387,36 @@ impl Writer {
     #[inline(never)]
     fn sort(&mut self, first: usize) -> Result<(), Error> {
         let (entries, block) = (&mut self.entries[first..], &mut self.block);
-        let mut begin = block.len();
+        let (end, mut begin) = (block.len(), block.len());
         for it in entries.iter_mut().rev() {
             it.end = begin;
-            begin = it.key.start;
+            begin = it.start;
         }
-        let is_sorted = entries.len() > FEW_ENTRIES && {
-            entries.sort_by_key(|it| it.key.len()); // enough, where texts came in order
-            are_in_order(entries, block)
-        };
-        if !is_sorted {
+        block.reserve(end - begin);
+        if entries.len() <= FEW_ENTRIES || put_again(block, by_head(entries)).is_err() {
+            block.truncate(end);
             entries.sort_unstable_by(|one, other| one.order(other, block));
-            let is_twice = |it: &&[Entry]| it[0].order(&it[1], block).is_eq();
-            if let Some(twice) = entries.windows(2).find(is_twice) {
-                let key = String::from_utf8_lossy(&block[twice[0].key.clone()]);
-                return Err(Error::from(Refusal::UnorderedKey).within(&key[1..]));
-            }
+            put_again(block, entries.iter()).map_err(|twice| {
+                let key = String::from_utf8_lossy(twice.key(block));
+                Error::from(Refusal::UnorderedKey).within(key)
+            })?;
         }
-        self.sorted.clear();
-        let mut run = begin..begin; // of entries that stay one behind the other
-        for it in entries {
-            if it.key.start != run.end {
-                self.sorted.extend_from_slice(&block[run]);
-                run = it.key.start..it.end;
-            }
-            run.end = it.end;
-        }
-        self.sorted.extend_from_slice(&block[run]);
-        block[begin..].copy_from_slice(&self.sorted);
+        block.copy_within(end.., begin);
+        block.truncate(end);
         Ok(())
     }
 }
 
 /// A list or map that is written.
-struct Parts<'a> {
+pub struct Parts<'a> {
     writer: &'a mut Writer,
     head: Range<usize>,
     told: usize, // so many parts, in the head
     count: usize,
     first: usize, // of its entries
     variant: Option<Name>,
+    #[cfg(feature = "std")]
+    out: Option<&'a mut dyn Write>, // of a list or map that is a block
 }
 
 impl Parts<'_> {
@@ -291,7 +437,7 @@ impl Parts<'_> {
         Ok(())
     }
 
-    #[inline(always)]
+    #[inline]
     fn put_key<T: Serialize + ?Sized>(&mut self, key: &T) -> Result<(), Error> {
         let start = self.writer.block.len();
         let level = self.writer.check_level();
@@ -306,7 +452,25 @@ impl Parts<'_> {
         Ok(())
     }
 
+    /// Puts the name of a field, which is known where this is inlined.
     #[inline(always)]
+    fn put_name(&mut self, name: Name) -> Result<(), Error> {
+        if name.len() > SHORT {
+            return self.put_key(name);
+        }
+        let level = self.writer.check_level();
+        level.map_err(|it| self.within_variant(it))?;
+        let start = self.writer.block.len();
+        self.writer.put_payload(TEXT, name.as_bytes())?;
+        self.writer.entries.push(Entry {
+            front: front_of(name.as_bytes()),
+            start,
+            end: 0,
+        });
+        self.count += 1;
+        Ok(())
+    }
+
     fn put_value<T: Serialize + ?Sized>(&mut self, value: &T) -> Result<(), Error> {
         let key = self.writer.payload..self.writer.block.len();
         value.serialize(&mut *self.writer).map_err(|it| {
@@ -327,41 +491,79 @@ impl Parts<'_> {
             put_head(&mut head, major, self.count as u64);
             self.writer.block.splice(self.head, head);
         }
+        #[cfg(feature = "std")]
+        if let Some(out) = self.out {
+            out.write_all(self.writer.judged()?)?;
+        }
         Ok(())
     }
 }
 
-/// The methods that write a value by its head, or by a method of another.
-macro_rules! values {
-    ($($method:ident($($name:ident: $type:ty),*) $self:ident => $put:expr;)*) => {$(
-        #[inline]
-        fn $method($self, $($name: $type),*) -> Result<(), Error> {
-            $put
+/// What both serializers are.
+macro_rules! of_both {
+    () => {
+        type Ok = ();
+        type Error = Error;
+        type SerializeSeq = Parts<'a>;
+        type SerializeTuple = Parts<'a>;
+        type SerializeTupleStruct = Parts<'a>;
+        type SerializeTupleVariant = Parts<'a>;
+        type SerializeMap = Parts<'a>;
+        type SerializeStruct = Parts<'a>;
+        type SerializeStructVariant = Parts<'a>;
+
+        fn serialize_some<T: Serialize + ?Sized>(self, value: &T) -> Result<(), Error> {
+            value.serialize(self)
         }
-    )*};
+
+        fn is_human_readable(&self) -> bool {
+            false
+        }
+    };
 }
 
-/// The methods that begin a list or a map.
-macro_rules! begins {
-    ($($method:ident($($name:ident: $type:ty),*) => $major:ident, $count:expr, $variant:expr;)*) => {$(
-        fn $method(self, $($name: $type),*) -> Result<Parts<'a>, Error> {
-            self.begin($major, $count, $variant)
+/// The methods that put a value, which has a type of its own where it says so, and those that begin
+/// a list or a map: of what is put into a block, and of blocks that are handed over.
+macro_rules! serializers {
+    (
+        values {$(
+            $put:ident$(<$T:ident>)?($($name:ident: $type:ty),*) $self:ident => $value:expr;
+        )*}
+        parts {$(
+            $begin:ident($($part:ident: $sort:ty),*) => $major:ident, $count:expr, $variant:expr;
+        )*}
+    ) => {
+        impl<'a> ser::Serializer for &'a mut Writer {
+            of_both!();
+
+            $(#[inline]
+            fn $put$(<$T: Serialize + ?Sized>)?($self, $($name: $type),*) -> Result<(), Error> {
+                $value
+            })*
+
+            $(#[inline]
+            fn $begin(self, $($part: $sort),*) -> Result<Parts<'a>, Error> {
+                self.begin($major, $count, $variant)
+            })*
         }
-    )*};
+
+        #[cfg(feature = "std")]
+        impl<'a, W: Write> ser::Serializer for &'a mut Serializer<W> {
+            of_both!();
+
+            $(fn $put$(<$T: Serialize + ?Sized>)?(self, $($name: $type),*) -> Result<(), Error> {
+                self.put(|it| it.$put($($name),*))
+            })*
+
+            $(fn $begin(self, $($part: $sort),*) -> Result<Parts<'a>, Error> {
+                self.begin(|it| it.$begin($($part),*))
+            })*
+        }
+    };
 }
 
-impl<'a> ser::Serializer for &'a mut Writer {
-    type Ok = ();
-    type Error = Error;
-    type SerializeSeq = Parts<'a>;
-    type SerializeTuple = Parts<'a>;
-    type SerializeTupleStruct = Parts<'a>;
-    type SerializeTupleVariant = Parts<'a>;
-    type SerializeMap = Parts<'a>;
-    type SerializeStruct = Parts<'a>;
-    type SerializeStructVariant = Parts<'a>;
-
-    values! {
+serializers! {
+    values {
         serialize_bool(value: bool) self => self.put(SIMPLE, FALSE + u64::from(value));
         serialize_u8(n: u8) self => self.put(INTEGER, n.into());
         serialize_u16(n: u16) self => self.put(INTEGER, n.into());
@@ -371,6 +573,15 @@ impl<'a> ser::Serializer for &'a mut Writer {
         serialize_i8(n: i8) self => self.serialize_i64(n.into());
         serialize_i16(n: i16) self => self.serialize_i64(n.into());
         serialize_i32(n: i32) self => self.serialize_i64(n.into());
+        serialize_i64(n: i64) self => match u64::try_from(n) {
+            Ok(n) => self.put(INTEGER, n),
+            Err(_) => self.put(NEGATIVE, !n as u64),
+        };
+        serialize_i128(n: i128) self => match (u64::try_from(n), u64::try_from(!n)) {
+            (Ok(n), _) => self.put(INTEGER, n),
+            (_, Ok(n)) => self.put(NEGATIVE, n),
+            _ => Err(Error::custom("an integer is not in -2^64 .. 2^64 - 1")),
+        };
         serialize_f32(_n: f32) self => Err(Error::custom("floats are not written"));
         serialize_f64(_n: f64) self => Err(Error::custom("floats are not written"));
         serialize_char(value: char) self => self.serialize_str(value.encode_utf8(&mut [0; 4]));
@@ -380,9 +591,18 @@ impl<'a> ser::Serializer for &'a mut Writer {
         serialize_unit() self => self.put(SIMPLE, NULL);
         serialize_unit_struct(_name: Name) self => self.put(SIMPLE, NULL);
         serialize_unit_variant(_name: Name, _at: u32, name: Name) self => self.serialize_str(name);
+        serialize_newtype_struct<T>(name: Name, value: &T) self => match name {
+            CID_NAME => self.put_link(value),
+            _ => value.serialize(self),
+        };
+        serialize_newtype_variant<T>(_name: Name, _at: u32, variant: Name, value: &T) self => {
+            self.begin_variant(variant)?;
+            let put = value.serialize(&mut *self);
+            self.level -= 1;
+            put.map_err(|it| it.within(variant))
+        };
     }
-
-    begins! {
+    parts {
         serialize_seq(count: Option<usize>) => LIST, count, None;
         serialize_tuple(count: usize) => LIST, Some(count), None;
         serialize_tuple_struct(_name: Name, count: usize) => LIST, Some(count), None;
@@ -393,72 +613,22 @@ impl<'a> ser::Serializer for &'a mut Writer {
         serialize_struct_variant(_name: Name, _at: u32, variant: Name, count: usize)
             => MAP, Some(count), Some(variant);
     }
-
-    fn serialize_i64(self, n: i64) -> Result<(), Error> {
-        match u64::try_from(n) {
-            Ok(n) => self.put(INTEGER, n),
-            Err(_) => self.put(NEGATIVE, !n as u64),
-        }
-    }
-
-    fn serialize_i128(self, n: i128) -> Result<(), Error> {
-        match (u64::try_from(n), u64::try_from(!n)) {
-            (Ok(n), _) => self.put(INTEGER, n),
-            (_, Ok(n)) => self.put(NEGATIVE, n),
-            _ => Err(Error::custom("an integer is not in -2^64 .. 2^64 - 1")),
-        }
-    }
-
-    fn serialize_some<T: Serialize + ?Sized>(self, value: &T) -> Result<(), Error> {
-        value.serialize(self)
-    }
-
-    fn serialize_newtype_struct<T: Serialize + ?Sized>(
-        self,
-        name: Name,
-        value: &T,
-    ) -> Result<(), Error> {
-        match name {
-            CID_NAME => self.put_link(value),
-            _ => value.serialize(self),
-        }
-    }
-
-    fn serialize_newtype_variant<T: Serialize + ?Sized>(
-        self,
-        _: Name,
-        _: u32,
-        variant: Name,
-        value: &T,
-    ) -> Result<(), Error> {
-        self.begin_variant(variant)?;
-        let put = value.serialize(&mut *self);
-        self.level -= 1;
-        put.map_err(|it| it.within(variant))
-    }
-
-    fn collect_str<T: fmt::Display + ?Sized>(self, value: &T) -> Result<(), Error> {
-        self.serialize_str(&value.to_string())
-    }
-
-    fn is_human_readable(&self) -> bool {
-        false
-    }
 }
 
 /// What a list or a map is, by each trait that says how its parts come.
 macro_rules! of_parts {
-    ($($kind:ident $($method:ident($($key:ident: $type:ty)?) => $put:ident),*;)*) => {$(
+    ($($kind:ident $($method:ident($($name:ident: $type:ty)?) => $put:ident),*;)*) => {$(
         impl ser::$kind for Parts<'_> {
             type Ok = ();
             type Error = Error;
 
-            $(fn $method<T: Serialize + ?Sized>(
+            $(#[inline(always)]
+            fn $method<T: Serialize + ?Sized>(
                 &mut self,
-                $($key: $type,)?
+                $($name: $type,)?
                 value: &T,
             ) -> Result<(), Error> {
-                $(self.put_key($key)?;)?
+                $(self.put_name($name)?;)?
                 self.$put(value)
             })*
 
@@ -474,7 +644,7 @@ of_parts! {
     SerializeTuple serialize_element() => put_item;
     SerializeTupleStruct serialize_field() => put_item;
     SerializeTupleVariant serialize_field() => put_item;
-    SerializeStruct serialize_field(key: Name) => put_value;
-    SerializeStructVariant serialize_field(key: Name) => put_value;
+    SerializeStruct serialize_field(name: Name) => put_value;
+    SerializeStructVariant serialize_field(name: Name) => put_value;
     SerializeMap serialize_key() => put_key, serialize_value() => put_value;
 }

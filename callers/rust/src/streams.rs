@@ -55,9 +55,9 @@ pub struct OwnedSection {
     pub verdict: Verdict,
 }
 
-/// The sections of a file of blocks (CAR, of version 1 or 2) that is read, one behind the
+/// The sections of a file of blocks (CAR, of version 1 or 2) that is read, one after the
 /// other. At most one is in memory beside a piece of 64 KB, and nothing is reserved from a
-/// length that the file announces. A refusal comes once, and nothing behind it; behind an error
+/// length that the file announces. A refusal comes once, and nothing after it; after an error
 /// of the reader the next call goes on.
 #[derive(Debug)]
 pub struct CarReader<R> {
@@ -74,7 +74,7 @@ pub struct CarReader<R> {
 }
 
 impl<R: Read> CarReader<R> {
-    /// The file, behind its header.
+    /// The file, after its header.
     pub fn new(reader: R) -> Result<Self, CarError> {
         let mut car = CarReader {
             reader,

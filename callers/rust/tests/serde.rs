@@ -2,7 +2,8 @@
 #![cfg(feature = "serde")]
 
 use dagcbor::{
-    from_reader, from_slice, name, take_from_slice, to_vec, to_writer, Cid, Error, Ipld, Refusal,
+    from_ipld, from_reader, from_slice, ipld, name, take_from_slice, to_vec, to_writer, Cid, Error,
+    Ipld, Refusal,
 };
 use serde::de::{DeserializeOwned, IntoDeserializer};
 use serde::{Deserialize, Deserializer, Serialize, Serializer};
@@ -38,7 +39,7 @@ impl<'de> Deserialize<'de> for Bytes {
 fn both<T: Serialize + DeserializeOwned + PartialEq + Debug>(value: T, block: &[u8]) {
     assert_eq!(to_vec(&value).unwrap(), block);
     assert_eq!(from_slice::<T>(block).unwrap(), value);
-    assert_eq!(from_reader::<T>(block).unwrap(), value);
+    assert_eq!(from_reader::<T, _>(block).unwrap(), value);
 }
 
 fn refused<T: DeserializeOwned>(block: &[u8]) -> (Option<Refusal>, usize) {
@@ -136,8 +137,14 @@ fn many_keys_of_all_lengths() {
         }
         let lent: HashMap<String, BTreeMap<&str, u64>> = map;
         let block = to_vec(&lent).unwrap();
-        assert_eq!(to_vec(&lent.iter().collect::<BTreeMap<_, _>>()).unwrap(), block);
-        assert_eq!(from_slice::<HashMap<String, BTreeMap<&str, u64>>>(&block).unwrap(), lent);
+        assert_eq!(
+            to_vec(&lent.iter().collect::<BTreeMap<_, _>>()).unwrap(),
+            block
+        );
+        assert_eq!(
+            from_slice::<HashMap<String, BTreeMap<&str, u64>>>(&block).unwrap(),
+            lent
+        );
     }
 }
 
@@ -270,6 +277,14 @@ fn a_read_says_where() {
     );
 
     #[derive(Debug, Deserialize)]
+    struct Named {
+        #[allow(dead_code)]
+        name: u8,
+    }
+    let error = from_slice::<Named>(b"\xa0").unwrap_err();
+    assert_eq!(error.to_string(), "missing field `name`, at 0");
+
+    #[derive(Debug, Deserialize)]
     struct Loop(#[allow(dead_code)] Option<Box<Loop>>);
     assert_eq!(refused::<Loop>(b"\x01"), (None, 0));
     assert!(from_slice::<Loop>(b"\xf6").is_ok());
@@ -317,6 +332,22 @@ fn a_write_says_where() {
     let error = to_vec(&[Twice { a: 1, more }]).unwrap_err();
     assert_eq!(error.refusal(), Some(Refusal::UnorderedKey));
     assert!(error.path().eq(["0", "a"]));
+    struct Entries(Vec<String>);
+    impl Serialize for Entries {
+        fn serialize<S: Serializer>(&self, serializer: S) -> Result<S::Ok, S::Error> {
+            serializer.collect_map(self.0.iter().map(|it| (it, ())))
+        }
+    }
+    for length in [0, 1, 9, 23, 24, 255, 256, 70_000] {
+        for others in [0, 1, 40] {
+            let twice = "b".repeat(length);
+            let mut keys = vec!["zz".into(), twice.clone(), "aaa".into(), twice.clone()];
+            keys.extend((0..others).map(|it| format!("a key {it}")));
+            let error = to_vec(&Entries(keys)).unwrap_err();
+            assert_eq!(error.refusal(), Some(Refusal::UnorderedKey));
+            assert!(error.path().eq([twice]));
+        }
+    }
 }
 
 #[test]
@@ -367,7 +398,7 @@ fn depths_are_those_of_the_library() {
 }
 
 #[test]
-fn items_one_behind_the_other() {
+fn items_one_after_the_other() {
     let bytes = b"\xa1\x62op\x01\xa1\x61t\x62hi\x18";
     let (first, rest) = take_from_slice::<BTreeMap<String, u8>>(bytes).unwrap();
     assert_eq!(first, BTreeMap::from([("op".into(), 1)]));
@@ -451,36 +482,190 @@ fn what_is_held_back_is_no_link_but_by_its_tag() {
         &[b"\xa2\x61t\x61p\x62of", &b"\xd8\x2a\x45\0\x01\x55\0\0"[..]].concat(),
     );
     // Limits of serde, as the page has them: 128 bits are not held back, and bytes may be a text.
-    #[derive(Debug, Serialize, Deserialize)]
+    #[derive(Debug, PartialEq, Serialize, Deserialize)]
     struct Wide {
         #[serde(flatten)]
         rest: BTreeMap<String, i128>,
     }
-    let wide = Wide {
-        rest: BTreeMap::from([("a".into(), 5)]),
-    };
-    assert_eq!(to_vec(&wide).unwrap(), b"\xa1\x61a\x05");
+    let rest = BTreeMap::from([("a".into(), 5)]);
+    assert_eq!(to_vec(&Wide { rest }).unwrap(), b"\xa1\x61a\x05");
     assert!(from_slice::<Wide>(b"\xa1\x61a\x05").is_err());
+    fn by_data<'de, D: Deserializer<'de>, T: DeserializeOwned>(held: D) -> Result<T, D::Error> {
+        from_ipld(Ipld::deserialize(held)?).map_err(serde::de::Error::custom)
+    }
+    #[derive(Debug, PartialEq, Serialize, Deserialize)]
+    struct ByData {
+        #[serde(flatten, deserialize_with = "by_data")]
+        rest: BTreeMap<String, i128>,
+    }
+    let rest = BTreeMap::from([("a".into(), -5), ("b".into(), 1 << 63)]);
+    both(ByData { rest }, b"\xa2\x61a\x24\x61b\x1b\x80\0\0\0\0\0\0\0");
     #[derive(Debug, PartialEq, Deserialize)]
     #[serde(untagged)]
     enum Told {
         Text(String),
     }
-    assert_eq!(from_slice::<Told>(b"\x41a").unwrap(), Told::Text("a".into()));
+    assert_eq!(
+        from_slice::<Told>(b"\x41a").unwrap(),
+        Told::Text("a".into())
+    );
     // Other formats have other errors: of these a text and bytes are one.
     use serde::de::value::{BorrowedBytesDeserializer, Error, StrDeserializer};
     let text = Cid::deserialize(StrDeserializer::<Error>::new("bafkqaaa"));
     let bytes = Cid::deserialize(BorrowedBytesDeserializer::<Error>::new(b"\x01\x55\0\0"));
     assert_eq!((text, bytes), (Ok(cid), Ok(cid)));
+    let text = Value::deserialize(StrDeserializer::<Error>::new("bafkqaaa"));
+    let bytes = Value::deserialize(BorrowedBytesDeserializer::<Error>::new(b"\x01\x55\0\0"));
+    assert_eq!((text, bytes), (Ok(Value::Link(cid)), Ok(Value::Link(cid))));
     for of in [&b"\x68bafkqaaa"[..], b"\x44\x01\x55\0\0"] {
         assert!(from_slice::<Record>(&post(of)).is_err());
         assert!(from_slice::<Flat>(&[b"\xa1\x61x", of].concat()).is_err());
     }
 }
 
+/// A newtype as derive has it takes what is in a newtype that was held back, whatever its name.
+#[test]
+fn no_newtype_takes_a_link() {
+    #[derive(Clone, Debug, PartialEq, Serialize, Deserialize)]
+    struct Signature(Bytes);
+    #[derive(Clone, Debug, PartialEq, Serialize, Deserialize)]
+    struct Title(String);
+    #[derive(Clone, Debug, PartialEq, Serialize, Deserialize)]
+    #[serde(untagged)]
+    enum Value {
+        Signature(Signature),
+        Title(Title),
+        Link(Option<Cid>),
+        Data(Ipld),
+    }
+    #[derive(Debug, PartialEq, Serialize, Deserialize)]
+    #[serde(tag = "t", content = "c")]
+    enum Record {
+        Values(Vec<Value>),
+    }
+    let cid = Cid::try_from(&b"\x01\x55\0\0"[..]).unwrap();
+    let link = b"\xd8\x2a\x45\0\x01\x55\0\0";
+    let values = [
+        (Value::Link(Some(cid)), &link[..]),
+        (Value::Link(None), b"\xf6"),
+        (
+            Value::Signature(Signature(Bytes(cid.to_bytes()))),
+            b"\x44\x01\x55\0\0",
+        ),
+        (Value::Title(Title("bafkqaaa".into())), b"\x68bafkqaaa"),
+        (
+            Value::Data(vec![Ipld::from(cid)].into()),
+            &[b"\x81", &link[..]].concat(),
+        ),
+    ];
+    let (mut all, mut record) = (vec![], b"\xa2\x61c\x85".to_vec());
+    for (value, block) in values {
+        both(value.clone(), block);
+        all.push(value);
+        record.extend(block);
+    }
+    record.extend(b"\x61t\x66Values");
+    both(Record::Values(all), &record);
+}
+
+#[test]
+fn other_fields_are_kept() {
+    #[derive(Debug, PartialEq, Serialize, Deserialize)]
+    struct Note {
+        text: String,
+        #[serde(flatten)]
+        rest: BTreeMap<String, Ipld>,
+    }
+    let link = b"\xd8\x2a\x45\0\x01\x55\0\0";
+    let data = [b"\xa1\x61c\x82\x44\x01\x55\0\0", &link[..]].concat();
+    let front = [b"\xa4\x61a", &link[..], b"\x61b"].concat();
+    let block = [
+        &front,
+        &data[..],
+        b"\x61d\x3b\x7f\xff\xff\xff\xff\xff\xff\xff\x64text\x68bafkqaaa",
+    ];
+    let cid = Cid::try_from(&b"\x01\x55\0\0"[..]).unwrap();
+    let rest = BTreeMap::from([
+        ("a".into(), cid.into()),
+        ("b".into(), ipld!({ "c": [cid.to_bytes(), cid] })),
+        ("d".into(), i64::MIN.into()),
+    ]);
+    let text = "bafkqaaa".into();
+    both(Note { text, rest }, &block.concat());
+}
+
+/// CIDs as the crate `cid` reads and writes them, and data as `ipld-core` reads it.
+#[test]
+fn cids_of_other_crates() {
+    const NAME: &str = "$__serde__private__identifier__for__cid";
+    #[derive(Debug, PartialEq)]
+    struct Other(Vec<u8>);
+    impl Serialize for Other {
+        fn serialize<S: Serializer>(&self, serializer: S) -> Result<S::Ok, S::Error> {
+            serializer.serialize_newtype_struct(NAME, &Bytes(self.0.clone()))
+        }
+    }
+    impl<'de> Deserialize<'de> for Other {
+        fn deserialize<D: Deserializer<'de>>(deserializer: D) -> Result<Other, D::Error> {
+            struct Entry;
+            impl<'de> serde::de::Visitor<'de> for Entry {
+                type Value = Other;
+                fn expecting(&self, f: &mut std::fmt::Formatter<'_>) -> std::fmt::Result {
+                    f.write_str("a CID in a newtype")
+                }
+                fn visit_newtype_struct<D: Deserializer<'de>>(
+                    self,
+                    deserializer: D,
+                ) -> Result<Other, D::Error> {
+                    Bytes::deserialize(deserializer).map(|it| Other(it.0))
+                }
+            }
+            deserializer.deserialize_newtype_struct(NAME, Entry)
+        }
+    }
+    #[derive(Debug, PartialEq)]
+    struct Data(Other);
+    impl Serialize for Data {
+        fn serialize<S: Serializer>(&self, serializer: S) -> Result<S::Ok, S::Error> {
+            self.0.serialize(serializer)
+        }
+    }
+    impl<'de> Deserialize<'de> for Data {
+        fn deserialize<D: Deserializer<'de>>(deserializer: D) -> Result<Data, D::Error> {
+            struct Any;
+            impl<'de> serde::de::Visitor<'de> for Any {
+                type Value = Data;
+                fn expecting(&self, f: &mut std::fmt::Formatter<'_>) -> std::fmt::Result {
+                    f.write_str("data")
+                }
+                fn visit_newtype_struct<D: Deserializer<'de>>(
+                    self,
+                    deserializer: D,
+                ) -> Result<Data, D::Error> {
+                    Other::deserialize(deserializer).map(Data)
+                }
+            }
+            deserializer.deserialize_any(Any)
+        }
+    }
+    let link = b"\xd8\x2a\x45\0\x01\x55\0\0";
+    let cid = || Other(b"\x01\x55\0\0".to_vec());
+    both(cid(), link);
+    both(Data(cid()), link);
+    assert_eq!(refused::<Other>(b"\x44\x01\x55\0\0"), (None, 0));
+    // Where serde holds a link back, data takes it, and such a CID refuses it.
+    #[derive(Debug, PartialEq, Serialize, Deserialize)]
+    #[serde(untagged)]
+    enum Held<T> {
+        Link(T),
+    }
+    both(Held::Link(Data(cid())), link);
+    assert!(from_slice::<Held<Other>>(link).is_err());
+}
+
 #[test]
 fn nothing_is_left() {
-    /// Takes so many keys, and so many values behind each.
+    /// Takes so many keys, and so many values after each.
     #[derive(Debug)]
     struct Odd<const KEYS: usize, const VALUES: usize>;
     impl<'de, const KEYS: usize, const VALUES: usize> Deserialize<'de> for Odd<KEYS, VALUES> {

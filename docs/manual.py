@@ -1,9 +1,9 @@
 #!/usr/bin/env python3
-"""Man pages, and completions for bash: made of what `--help` of each program writes.
+"""Man pages, and completions for bash: made of what `--help` of each program writes; and man pages of the C libraries, of their headers.
 
     docs/manual.py page      makes all of them anew
-    docs/manual.py check     fails where one is another than `--help` says, where docs/PROGRAMS.md has not each of the words in its
-                             tables, or where `--version` is not that of CHANGELOG.md
+    docs/manual.py check     fails where one is another than `--help` or the header says, where docs/PROGRAMS.md has not each of the
+                             words in its tables, or where `--version` is not that of CHANGELOG.md
 
 The texts of `dagcar` and `dagstore` stand in their sources; `dagcbor` answers its two words alone, and has its text here."""
 
@@ -16,6 +16,11 @@ PAGE = ROOT / "docs" / "PROGRAMS.md"
 SOURCES = {"dagcar": "crates/dagcar_lines/src/help.rt", "dagstore": "crates/dagstore_lines/src/words.rt"}
 DOES = {"dagcbor": "judge blocks of DAG-CBOR, a line each", "dagcar": "judge, show and make blocks, and files of blocks",
         "dagstore": "keep blocks in a file that lasts"}
+HEADERS = {"dagcbor": "crates/dagcbor_ffi/include/dagcbor.h", "dagcbor_memory": "crates/dagcbor_memory_ffi/include/dagcbor_memory.h"}
+DECLARES = {"dagcbor": "judge, read and spell blocks of DAG-CBOR, in memory that is lent",
+            "dagcbor_memory": "DAG-JSON, and repositories and events of the AT Protocol"}
+# A comment at the start of a line, and what it is said of, up to the next empty line.
+DECLARED = re.compile(r"^/\* (.*?) \*/\n((?:[^\n]+\n)*)", re.M | re.S)
 DAGCBOR = """usage: dagcbor check|links
 
 Of blocks on standard input, a line each, in hexadecimal:
@@ -65,6 +70,39 @@ def man(name, text):
     return "\n".join(lines) + "\n"
 
 
+def paragraphs(comment):
+    """The paragraphs of a comment; one with a list or a table keeps its lines."""
+    for part in re.split(r"\n\s*\n", re.sub(r"^ {3}", "", comment, flags=re.M)):
+        has_rows = re.search(r"^(- |[A-Z_, ]+ {3,}| {2})", part, re.M)
+        yield from [".PP", ".nf", roff(part), ".fi"] if has_rows else [".PP", roff(part)]
+
+
+def constants(declaration):
+    """Each constant of an enumeration, its number, and what it means."""
+    for name, number, what in re.findall(r"(\w+) = (-?\d+),?(?: *\/\* (.*?) \*\/)?", declaration, re.S):
+        yield from [".TP", f".B {name} = {roff(number)}", roff(" ".join(what.split()))]
+
+
+def library(name):
+    """The page of a header: what it says first, each function, and each enumeration."""
+    text = (ROOT / HEADERS[name]).read_text(encoding="utf-8")
+    (front, _), *declared = DECLARED.findall(text)
+    lines = [f'.TH {name.upper()} 3 "" Cafijolu', ".SH NAME", f"{name} \\- {DECLARES[name]}"]
+    lines += [".SH SYNOPSIS", f".B #include <{name}.h>", ".SH DESCRIPTION", *paragraphs(front)]
+    for comment, declaration in declared:
+        if found := re.match(r"typedef struct (\w+)", declaration):
+            lines += [f".SS {found[1]}", ".nf", roff(declaration.strip()), ".fi", *paragraphs(comment)]
+    lines.append(".SH FUNCTIONS")
+    for comment, declaration in declared:
+        if found := re.match(r"(?:int32_t|void) (dagcbor_\w+)\(", declaration):
+            lines += [f".SS {found[1]}", ".nf", roff(declaration.strip()), ".fi", *paragraphs(comment)]
+    lines.append(".SH CONSTANTS")
+    for comment, declaration in declared:
+        if declaration.startswith("enum"):
+            lines += [*paragraphs(comment), *constants(declaration)]
+    return "\n".join(lines) + "\n"
+
+
 def completion(name, text):
     words = " ".join([*(word for word, _ in words_of(text)), *(["--help", "--version"] if name in SOURCES else [])])
     return f"""# Completion of `{name}` for bash: its words, and files. Source this file.
@@ -86,13 +124,15 @@ def made():
         text = help_of(name)
         yield ROOT / "docs" / "man" / f"{name}.1", man(name, text)
         yield ROOT / "docs" / "completions" / f"{name}.bash", completion(name, text)
+    for name in HEADERS:
+        yield ROOT / "docs" / "man" / f"{name}.3", library(name)
 
 
 def wrong():
     """What is not as it should be."""
     for path, text in made():
         if not path.exists() or path.read_text(encoding="utf-8") != text:
-            yield f"{path.relative_to(ROOT)} is not what --help says: docs/manual.py page"
+            yield f"{path.relative_to(ROOT)} is not what --help or the header says: docs/manual.py page"
     page = PAGE.read_text(encoding="utf-8")
     version = re.search(r"^## (\S+?),? ", (ROOT / "CHANGELOG.md").read_text(encoding="utf-8"), re.M)[1]
     for name in DOES:

@@ -39,6 +39,20 @@ FILE = header(cid(b"\xf6")) + section(BLOCK) + section(dumps(CIDS[:50]))
 MISSING = sorted({CIDS[0], *CIDS, CID(cid(b"\xf6"))})
 VERDICTS = {"ok list": 1, "ok map": 1}
 FRAME = next(row[1] for row in events.frames_of(1) if row[4] == "ok")
+# Keys, and numbers, each a record.
+RECORDS = {f"app.bsky.feed.post/{n}": n for n in range(20)}
+
+
+def repository():
+    """A file of a commit, its tree, and its records."""
+    tree = events.whole({key.encode(): events.record(n) for key, n in RECORDS.items()})
+    commit = events.commit_of(events.name(tree))
+    made = {events.record(n): events.enc({"n": n}) for n in RECORDS.values()}
+    blocks = {events.cid(commit): commit, **events.nodes(tree, {}), **made}
+    return events.car(events.cid(commit), list(blocks.items()))
+
+
+REPOSITORY = repository()
 
 
 def read(file):
@@ -84,10 +98,9 @@ def followed(frame):
     return [event.seq, rest, commit.did, commit.commit, commit.signed, [list(it) for it in commit.changes]]
 
 
-def proved(frame):
-    event, _ = read_event(frame)
-    commit = read_commit(event.blocks)
-    return [commit.cid, commit.did, commit.signed, record_proof(event.blocks, event.ops[0].path)]
+def proved(file):
+    commit = read_commit(file)
+    return [commit.cid, commit.did, commit.signed, record_proof(file, "app.bsky.feed.post/7")]
 
 
 CALLS = [
@@ -105,7 +118,7 @@ CALLS = [
     (dumps, [1.5], "Unsupported"), (CID, b"", "InvalidCid"),
     (loads_first, BLOCK + b"\xf6", (VALUE, len(BLOCK))), (replaced, [(1, {2})], dumps([[1, [2]]])),
     (of_parts, CIDS[0], CIDS[0]), (verified, BLOCK, True), (followed, FRAME, followed(FRAME)),
-    (proved, FRAME, proved(FRAME)),
+    (proved, REPOSITORY, proved(REPOSITORY)),
 ]
 
 

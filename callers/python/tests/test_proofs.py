@@ -108,7 +108,7 @@ def test_a_proof(key):
     assert read_commit(proof) == WANTED
     assert record_proof(proof, key) == record_proof(io.BytesIO(FILE), key) == proof
     reader = read_car(proof)
-    assert reader.roots == (CID(named(BLOCK)),)
+    assert reader.roots == [CID(named(BLOCK))]
     blocks = {bytes(it.cid): it.block for it in reader}
     for name, block in blocks.items():
         assert name == b"\x01\x71\x12\x20" + hashlib.sha256(block).digest()

@@ -12,7 +12,8 @@
      there, and nobody writes them during the call, no other thread either; `length` is below 2^63.
    - `out` likewise, also where `room` is 0 (dagcbor_into), for `room` bytes that nobody else reads or writes
      during the call; `tape` for `room` tokens (dagcbor_tape_into, dagcbor_compact_tape_into), aligned as their numbers,
-     and fewer than 2^58 of them; `needed`, `place` and `behind` for one number each, `places` for three, or two. None of these overlaps another.
+     and fewer than 2^58 of them; `needed`, `place` and `behind` for one number each, `places` for three, or two.
+     None of these overlaps another.
    - The thread has 128 KB of stack left; the CPU is an x86-64-v2.
    Calls on different threads need no lock: nothing is shared between them. */
 #ifndef DAGCBOR_H
@@ -50,7 +51,7 @@ enum dagcbor_kind {
    DAGCBOR_LINK                     how many bytes its CID has; they stand at `place`
    DAGCBOR_LIST                     how many items it has, whose tokens follow
    DAGCBOR_MAP                      how many entries it has; of each the key's token follows, a string, and the value's tokens
-   `place` is counted from the block's front. Of the other kinds it is that behind the head. */
+   `place` is counted from the block's front. Of the other kinds it is that after the head. */
 typedef struct dagcbor_token {
     uint64_t kind;
     uint64_t number;
@@ -75,10 +76,10 @@ enum dagcbor_refusal {
     DAGCBOR_UNSUPPORTED = -5,      /* a float or another simple value, a link without a byte string, or a reserved width (information 28 to 30) */
     DAGCBOR_REQUIRE_UTF8 = -8,     /* a text that is not UTF-8 */
     DAGCBOR_DEPTH_OVERFLOW = -12,  /* too deep: a leaf takes one of 256 steps, and a list or a map two around what is in it */
-    DAGCBOR_TRAILING_DATA = -14,   /* bytes behind the item; not of dagcbor_links */
+    DAGCBOR_TRAILING_DATA = -14,   /* bytes after the item; not of dagcbor_links */
     DAGCBOR_INDEFINITE_SIZE = -15, /* an indefinite length, a break, or information 31 of any other first byte */
     DAGCBOR_NON_MINIMAL = -16,     /* a number or a length in more bytes than it needs */
-    DAGCBOR_UNORDERED_KEY = -17,   /* a key that does not come behind the one before it */
+    DAGCBOR_UNORDERED_KEY = -17,   /* a key that does not come after the one before it */
     DAGCBOR_NO_TOKEN = -20,        /* of dagcbor_spell: a kind or a number that is none, or a payload outside the bytes */
     DAGCBOR_NO_ROOM = -21          /* of dagcbor_spell: what the tape tells has no room; of a CID and its text likewise; of
                                       dagcbor_compact_tape: 2^32 bytes or more */
@@ -99,14 +100,14 @@ int32_t dagcbor_compact_tape(const uint8_t *bytes, size_t length, dagcbor_compac
 
 /* As dagcbor_tape of a block, and *place becomes `length`. Of other bytes the answer is the refusal of dagcbor_check, and
    *place becomes its place, from 0 to `length`: so many bytes might be followed by others, or are a block, and with the
-   one that stands there the refusal comes. DAGCBOR_EOF comes behind all bytes, DAGCBOR_TRAILING_DATA behind the item, and
+   one that stands there the refusal comes. DAGCBOR_EOF comes after all bytes, DAGCBOR_TRAILING_DATA after the item, and
    DAGCBOR_DEPTH_OVERFLOW at the last byte before an item for which no step is left. *needed becomes the number of tokens
    that stand whole before that place, each a head with its payload: at most *place. Where that is at most `room` they are
    put at the front of `tape`, and else `tape` stays as it was. */
 int32_t dagcbor_tokens(const uint8_t *bytes, size_t length, dagcbor_token *tape, size_t room, size_t *needed,
                        size_t *place);
 
-/* The other way: what the `count` tokens tell, each its head and its payload out of `bytes`, one behind the other.
+/* The other way: what the `count` tokens tell, each its head and its payload out of `bytes`, one after the other.
    *needed becomes its length. Where that is at most `room` it is put at the front of `out`, and the answer is that of
    dagcbor_check on it: a kind exactly where it is a block (else the front of `out` holds no block). Without room
    DAGCBOR_NO_ROOM, and `out` stays as it was. Where a token is none DAGCBOR_NO_TOKEN, *needed is 0 and `out` as it was.
@@ -158,7 +159,7 @@ enum dagcbor_section {
     DAGCBOR_NOT_VERIFIED = -23,    /* the CID is by another hash function than SHA-256 and identity; the block was not read */
     DAGCBOR_TRUNCATED = -24,       /* the bytes end inside the length, or before as many follow */
     DAGCBOR_INVALID_LENGTH = -25,  /* the length is no varint in shortest form below 2^64 */
-    DAGCBOR_INVALID_CID = -26,     /* no CID stands there, or behind the length of a section; or it goes on behind that; not of dagcbor_car_header */
+    DAGCBOR_INVALID_CID = -26,     /* no CID stands there, or after the length of a section; or it goes on after that; not of dagcbor_car_header */
     DAGCBOR_OTHER_HEADER = -27,    /* of dagcbor_car_header alone: a block that is not the map of roots and of version 1 */
     DAGCBOR_INVALID_OFFSET = -35   /* of dagcbor_car_span alone: of version 2, a begin below 51, or an end of 2^64 or more */
 };
@@ -171,24 +172,24 @@ int32_t dagcbor_verify(const uint8_t *cid, size_t cid_length, const uint8_t *blo
 
 /* Where the file of version 1 stands within a file of blocks, of which these bytes are the front: 51 of them are enough.
    0, and places[0] becomes where it begins and places[1] where it ends, both counted from the first byte: of version 2
-   what its header says, which may lie behind `length`; of version 1 they are 0 and UINT64_MAX, up to the end of the file.
+   what its header says, which may lie after `length`; of version 1 they are 0 and UINT64_MAX, up to the end of the file.
    Else, below 0, and then `places` stay: DAGCBOR_TRUNCATED where the bytes are fewer than the 11 that begin version 2 and
    begin them, or begin with these and are fewer than 51; DAGCBOR_INVALID_OFFSET. What follows the file of version 1 is no
-   part of it: hand no byte behind places[1] to the calls below. */
+   part of it: hand no byte after places[1] to the calls below. */
 int32_t dagcbor_car_span(const uint8_t *bytes, size_t length, uint64_t places[2]);
 
 /* The header that begins the bytes of a file of blocks, of version 1. 0 exactly where one does: *behind becomes where the
    first section begins, and *needed the length of its roots, packed as dagcbor_links packs links; where that is at most
    `room` they are put at the front of `out`, and else `out` stays as it was. Else, below 0, DAGCBOR_TRUNCATED,
-   DAGCBOR_INVALID_LENGTH, the refusal of the bytes behind the length where they are no block, or DAGCBOR_OTHER_HEADER.
+   DAGCBOR_INVALID_LENGTH, the refusal of the bytes after the length where they are no block, or DAGCBOR_OTHER_HEADER.
    Then *needed is 0, and `out` and *behind are as they were. */
 int32_t dagcbor_car_header(const uint8_t *bytes, size_t length, uint8_t *out, size_t room, size_t *needed, size_t *behind);
 
-/* The section that begins the bytes, as one behind the header of a file of blocks. From 0 where nothing is wrong with its
+/* The section that begins the bytes, as one after the header of a file of blocks. From 0 where nothing is wrong with its
    block: the number of its kind, or DAGCBOR_NOT_READ. Below 0 that of the refusal of the block, which is the one that is
    named, or one of those above. Where a section is there, `places` become where its CID begins, where its block begins,
    which is where the CID ends, and where the section ends with its block: the next one begins there. Else they stay.
-   It is gone through once for its digest, and once by the judge: what is behind it is not looked at. */
+   It is gone through once for its digest, and once by the judge: what is after it is not looked at. */
 int32_t dagcbor_car_section(const uint8_t *bytes, size_t length, size_t places[3]);
 
 /* The greatest length of a CID in its binary form, and of the text that is written. */
@@ -197,22 +198,22 @@ enum { DAGCBOR_CID_MOST = 86, DAGCBOR_CID_TEXT_MOST = 139 };
 /* Why a text is that of no CID, beside DAGCBOR_INVALID_CID: it tells bytes that are none. */
 enum dagcbor_text_fault {
     DAGCBOR_UNKNOWN_BASE = -28,        /* the first character is none of b, B, f, z and Q, or there is none */
-    DAGCBOR_TOO_LONG = -29,            /* more than 172 characters stand behind the prefix: no CID has so many */
+    DAGCBOR_TOO_LONG = -29,            /* more than 172 characters stand after the prefix: no CID has so many */
     DAGCBOR_INVALID_CHARACTER = -30,   /* a character is none of the base's */
     DAGCBOR_INVALID_TEXT_LENGTH = -31, /* the last character begins a byte and does not end it */
-    DAGCBOR_TRAILING_BITS = -32,       /* bits that are not zero stand behind the last byte */
+    DAGCBOR_TRAILING_BITS = -32,       /* bits that are not zero stand after the last byte */
     DAGCBOR_LEADING_ZERO = -33,        /* a 1 stands first in base58btc, which is a zero byte: no CID begins with one */
-    DAGCBOR_INVALID_VERSION = -34      /* version 0 behind a prefix, or version 1 behind none */
+    DAGCBOR_INVALID_VERSION = -34      /* version 0 after a prefix, or version 1 after none */
 };
 
-/* The text of the CID that the bytes are: base32 behind b, and of version 0 base58btc (Qm..). It is ASCII, and no zero
-   stands behind it. 0 exactly where the bytes are a CID, else DAGCBOR_INVALID_CID. *needed becomes the length of the text,
+/* The text of the CID that the bytes are: base32 after b, and of version 0 base58btc (Qm..). It is ASCII, and no zero
+   stands after it. 0 exactly where the bytes are a CID, else DAGCBOR_INVALID_CID. *needed becomes the length of the text,
    at most DAGCBOR_CID_TEXT_MOST. Where that is at most `room` the text is put at the front of `out`, and else the answer is
    DAGCBOR_NO_ROOM and `out` stays as it was. After another refusal *needed is 0 and `out` as it was. */
 int32_t dagcbor_cid_text(const uint8_t *bytes, size_t length, uint8_t *out, size_t room, size_t *needed);
 
-/* The binary form of the CID that the text is one of: of version 0 base58btc (Qm..), of version 1 base32 behind b or B,
-   base58btc behind z, or base16 with small letters behind f. 0 exactly where it is one; else, below 0, the one fault that
+/* The binary form of the CID that the text is one of: of version 0 base58btc (Qm..), of version 1 base32 after b or B,
+   base58btc after z, or base16 with small letters after f. 0 exactly where it is one; else, below 0, the one fault that
    stands in it: that it is too long, or the first from the left. *needed becomes the length of the binary form, at most
    DAGCBOR_CID_MOST. Where that is at most `room` it is put at the front of `out`, and else the answer is DAGCBOR_NO_ROOM and
    `out` stays as it was. After another refusal *needed is 0 and `out` as it was. */
@@ -255,7 +256,7 @@ enum { DAGCBOR_NO_MEMORY = -42 };
 enum dagcbor_json_fault {
     DAGCBOR_JSON_NO_TEXT = -43,       /* the bytes are not UTF-8 */
     DAGCBOR_JSON_NO_JSON = -44,       /* it is no JSON, or half of a surrogate pair is written in it */
-    DAGCBOR_JSON_TRAILING_DATA = -45, /* more stands behind the value */
+    DAGCBOR_JSON_TRAILING_DATA = -45, /* more stands after the value */
     DAGCBOR_JSON_TOO_DEEP = -46,      /* more than 127 lists and maps around a part, or 128 around one that is empty */
     DAGCBOR_JSON_FLOAT = -47,         /* a number with a fraction or an exponent */
     DAGCBOR_JSON_OUT_OF_RANGE = -48,  /* an integer below -2^64, or above 2^64 - 1 */

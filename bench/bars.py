@@ -1,6 +1,6 @@
 #!/usr/bin/env python3
-"""Puts the ratios of all tables of docs/SPEED.md into the one at its top, and those of the codec's calls into README.md, and draws
-some of them as bars (docs/speed.svg).
+"""Puts the ratios of all tables of docs/MEASURED.md into the one of docs/SPEED.md, and those of the codec's calls into README.md, and
+draws some of them as bars (docs/speed.svg).
 
     bench/bars.py          does all anew; so does each script that puts a table into the page
     bench/bars.py check    fails where the table, the sentence or the picture is another than the tables say
@@ -15,7 +15,8 @@ import sys
 from xml.sax.saxutils import escape
 
 ROOT = pathlib.Path(__file__).resolve().parent.parent
-PAGE, PICTURE, README = ROOT / "docs" / "SPEED.md", ROOT / "docs" / "speed.svg", ROOT / "README.md"
+TABLES, PAGE, README = ROOT / "docs" / "MEASURED.md", ROOT / "docs" / "SPEED.md", ROOT / "README.md"
+PICTURE = ROOT / "docs" / "speed.svg"
 
 # A group of bars: its heading, the first cell of its table's head, the columns of ratios, with what each adds to a row's name, and
 # the rows that are drawn.
@@ -88,11 +89,10 @@ def summary(page):
             yield f"| {' | '.join(map(str, cells))} |\n"
 
 
-def summarised(page):
+def summarised(page, measured):
     """The page, with the table of all in its place."""
     before, _, rest = page.partition(BEGIN)
-    after = rest.partition(END)[2]
-    return before + BEGIN + "".join(summary(before + after)) + END + after
+    return before + BEGIN + "".join(summary(measured)) + END + rest.partition(END)[2]
 
 
 def told(readme, page):
@@ -112,7 +112,7 @@ def line(x, top, end, kind):
 
 
 def drawn(page):
-    """The lines of the picture."""
+    """The lines of the picture of these tables."""
     groups = [(heading, list(bars_of(page, *rest))) for heading, *rest in GROUPS]
     groups = [(heading, bars) for heading, bars in groups if bars]
     ratios = [ratio for _, bars in groups for _, ratio in bars]
@@ -143,30 +143,30 @@ def drawn(page):
     yield "</svg>"
 
 
-def picture():
-    return "\n".join(drawn(PAGE.read_text(encoding="utf-8"))) + "\n"
+def made():
+    """Each file that is made of the tables, in whole or in part, and its text."""
+    measured = TABLES.read_text(encoding="utf-8")
+    yield PAGE, summarised(PAGE.read_text(encoding="utf-8"), measured)
+    yield PICTURE, "\n".join(drawn(measured)) + "\n"
+    yield README, told(README.read_text(encoding="utf-8"), measured)
 
 
 def draw():
-    """Draws the picture of the tables that stand in the page, and puts the table of all into it."""
-    PAGE.write_text(summarised(PAGE.read_text(encoding="utf-8")), encoding="utf-8")
-    PICTURE.write_text(picture(), encoding="utf-8")
-    README.write_text(told(README.read_text(encoding="utf-8"), PAGE.read_text(encoding="utf-8")), encoding="utf-8")
+    for path, text_of in list(made()):
+        path.write_text(text_of, encoding="utf-8")
 
 
 def main(words):
     if words != ["check"]:
         draw()
         return 0
-    page = PAGE.read_text(encoding="utf-8")
-    if page != summarised(page) or not PICTURE.exists() or PICTURE.read_text(encoding="utf-8") != picture():
-        print("docs/speed.svg, or the first table of docs/SPEED.md, is not what its tables say: run bench/bars.py")
-        return 1
-    readme = README.read_text(encoding="utf-8")
-    if readme != told(readme, page) or "times as long as those of `serde_cbor`" not in readme:
-        print("README.md has other ratios than docs/SPEED.md: run bench/bars.py")
-        return 1
-    return 0
+    stale = [path.name for path, text_of in made() if not path.exists() or path.read_text(encoding="utf-8") != text_of]
+    if stale:
+        print(f"not what the tables of docs/MEASURED.md say: {', '.join(stale)}. Run bench/bars.py")
+    if "times as long as those of `serde_cbor`" not in README.read_text(encoding="utf-8"):
+        stale.append("README.md")
+        print("README.md has no sentence on the ratios of calls")
+    return 1 if stale else 0
 
 
 if __name__ == "__main__":

@@ -1,11 +1,11 @@
 #!/usr/bin/env python3
-"""Speed of the packages for Python, Go and Node on a file of blocks, beside `dagcar check`.
+"""Speed of the packages for Python, Go and Node on a CAR file, beside `dagcar check`.
 
     bench/car_packages.py [RUNS] [PROGRAM] [page]
 
 Makes a file of 104 MB as bench/cars.py does, goes through it in each way in turn, and prints a
 table of processor time, the least of so many runs (9 where none is given). Without the path of a `dagcar`
-it is proved and built first. With `page` the table is put into docs/SPEED.md too. Nothing here is a
+it is proved and built first. With `page` the table is put into docs/MEASURED.md too. Nothing here is a
 test."""
 
 import os

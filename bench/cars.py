@@ -1,4 +1,4 @@
-"""Files of blocks: what `dagcar` takes for 100 MB of records of 1 KB, beside what SHA-256 alone takes for the same bytes."""
+"""CAR files: what `dagcar` takes for 100 MB of records of 1 KB, beside what SHA-256 alone takes for the same bytes."""
 
 import hashlib
 import os

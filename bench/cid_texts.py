@@ -4,7 +4,7 @@
     bench/cid_texts.py [RUNS] [page]
 
 Prints a table of processor time, the least of so many runs (9 where none is given). With `page` it
-is put into docs/SPEED.md too. Python's `base64` knows nothing of CIDs: it writes large letters and a
+is put into docs/MEASURED.md too. Python's `base64` knows nothing of CIDs: it writes large letters and a
 padding, and judges no CID. Nothing here is a test."""
 
 import subprocess

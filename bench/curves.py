@@ -1,5 +1,5 @@
 #!/usr/bin/env python3
-"""Draws docs/growth.svg and docs/store.svg: the tables of growth that stand in docs/SPEED.md, time against the size of a block, and
+"""Draws docs/growth.svg and docs/store.svg: the tables of growth that stand in docs/MEASURED.md, time against the size of a block, and
 of a store, both scales logarithmic.
 
     bench/curves.py          draws them anew; so do `bench/growth.py page` and `bench/store.py page`
@@ -43,7 +43,7 @@ def time_of(power):
 
 def curves(first):
     """The sizes as powers of ten, and the seconds of each call, of the table whose head begins so."""
-    for head, _, *rows in bars.tables(bars.PAGE.read_text(encoding="utf-8")):
+    for head, _, *rows in bars.tables(bars.TABLES.read_text(encoding="utf-8")):
         if head[0] == first:
             sizes = [size_of(name) for name in head[1:]]
             return sizes, [(row[0], [float(cell) for cell in row[1:] if re.fullmatch(r"[\d.e+-]+", cell)]) for row in rows]
@@ -115,7 +115,7 @@ def main(words):
     status = 0
     for first, (path, _) in PICTURES.items():
         if not path.exists() or path.read_text(encoding="utf-8") != picture(first):
-            print(f"docs/{path.name} is not what the table of docs/SPEED.md says: run bench/curves.py")
+            print(f"docs/{path.name} is not what the table of docs/MEASURED.md says: run bench/curves.py")
             status = 1
     return status
 

@@ -3,7 +3,7 @@
 by `dagcar name`, and a judge in Python that keeps nodes as dicts (conformance/events.py).
 
     bench/events.py [FRAMES]         prints both tables, of so many honest frames (100)
-    bench/events.py [FRAMES] page    puts them into docs/SPEED.md
+    bench/events.py [FRAMES] page    puts them into docs/MEASURED.md
 
 The program is the one that `./dagcar` built, or DAGCAR names it. Each run is a process, of which the time of one without input is taken
 off. The least processor time of five runs counts."""

@@ -5,7 +5,7 @@
 
 Builds crates/dagcbor_ffi, proved, where DAGCBOR_LIBRARY names no other libdagcbor_ffi.a. Prints a
 table of processor time, the least of so many runs (9 where none is given). With `page` it is put
-into docs/SPEED.md too. Nothing here is a test."""
+into docs/MEASURED.md too. Nothing here is a test."""
 
 import os
 import subprocess

@@ -7,7 +7,7 @@
 For each call (or each whose name has one of the words) a line with the processor time an item at each size, and the heap that was
 live at most beyond what was before, as a factor of the block's bytes. The time grows linearly where the numbers of a call stay
 what they are. For a call of `to_vec` the value that is written was before. With `page` the time of some calls over blocks of 1 KB to 100 MB is put
-into docs/SPEED.md, and drawn (bench/curves.py). Nothing here is a test."""
+into docs/MEASURED.md, and drawn (bench/curves.py). Nothing here is a test."""
 
 import random
 import subprocess

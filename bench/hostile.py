@@ -26,7 +26,7 @@ RUNS = 3
 LIMIT = 60
 
 
-# ---- files of blocks
+# ---- CAR files
 
 
 def varint(n):
@@ -50,7 +50,7 @@ def name_of(digest):
 
 
 def file_header(names):
-    """The header of a file of blocks (CAR, version 1), with these roots."""
+    """The header of a CAR file, version 1, with these roots."""
     links = b"".join(b"\xd8\x2a\x58\x25\x00" + name for name in names)
     header = b"\xa2\x65roots" + head(4, len(names)) + links + b"\x67version\x01"
     return varint(len(header)) + header

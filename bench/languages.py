@@ -5,7 +5,7 @@
 
 Builds the packages as docs/OTHER_LANGUAGES.md says, makes its blocks with a fixed seed, runs ours
 and what it is compared with in turn, and prints tables of processor time, the least of so many runs
-(9 where none is given). With `page` the tables are put into docs/SPEED.md too. Python's are
+(9 where none is given). With `page` the tables are put into docs/MEASURED.md too. Python's are
 compared with json and with the accelerator of Debian's python3-cbor2, and Node's with its JSON and
 Debian's node-cbor, with `node` that alone; the judge of the C ABI with Debian's libcbor-dev, and
 with `libcbor` that alone. What is not there is left out. Nothing here is a test."""
@@ -68,7 +68,7 @@ def text(chance, words, count, between):
 
 
 def maps_and_texts():
-    """Wide maps, and texts beyond ASCII: each block's name, and its bytes."""
+    """Wide maps, texts beyond ASCII, and bytes: each block's name, and its bytes."""
     chance = random.Random(1)
     entries = [b"\x65key_" + bytes([97 + n]) + b"\x19" + chance.randrange(256, 65536).to_bytes(2, "big") for n in range(20)]
     yield "500 maps of 20 keys", listed(500, b"\xb4" + b"".join(entries))
@@ -76,6 +76,7 @@ def maps_and_texts():
     yield "500 texts of 100 words of French", head(4, 500) + b"".join(text(chance, FRENCH, 100, " ") for _ in range(500))
     yield "500 texts of 5 words of Japanese", head(4, 500) + b"".join(text(chance, JAPANESE, 5, "") for _ in range(500))
     yield "500 texts of 100 words of Japanese", head(4, 500) + b"".join(text(chance, JAPANESE, 100, "") for _ in range(500))
+    yield "a byte string of 1 MB", head(2, 1_000_000) + chance.randbytes(1_000_000)
 
 
 def printed(words, **how):

@@ -29,8 +29,8 @@ def load():
 
 
 def into_page(begin, lines, end):
-    """Puts the lines into docs/SPEED.md, in the place of those that stand there between the marks, and draws docs/speed.svg."""
-    path = f"{ROOT}/docs/SPEED.md"
+    """Puts the lines into docs/MEASURED.md, in the place of those that stand there between the marks, and draws docs/speed.svg."""
+    path = f"{ROOT}/docs/MEASURED.md"
     with open(path, encoding="utf-8") as file:
         before, _, rest = file.read().partition(begin)
     with open(path, "w", encoding="utf-8") as file:

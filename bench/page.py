@@ -1,12 +1,12 @@
 #!/usr/bin/python3
-"""Speed of the page in the browser on a file of blocks, beside `dagcar check`.
+"""Speed of the page in the browser on a CAR file, beside `dagcar check`.
 
     bench/page.py [RUNS] [MODULE.wasm] [PROGRAM] [page]
 
 Makes a file of 104 MB as bench/cars.py does, gives it to callers/web in Chromium and to `dagcar
 check` in turn, and prints a table, the least of so many runs (5 where none is given). Without the
 module callers/web/build proves and builds it, and without the path of a `dagcar` that is. With
-`page` the table is put into docs/SPEED.md too.
+`page` the table is put into docs/MEASURED.md too.
 It wants chromium, chromium-driver and python3-selenium of Debian. Nothing here is a test."""
 
 import os

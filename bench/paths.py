@@ -4,7 +4,7 @@
     bench/paths.py [RUNS] [page]
 
 The block is a list of 10,000 records, and the path leads to a number in the one in the middle. Prints two tables of processor time,
-the least of so many runs (9 where none is given). With `page` they are put into docs/SPEED.md too. Nothing here is a test."""
+the least of so many runs (9 where none is given). With `page` they are put into docs/MEASURED.md too. Nothing here is a test."""
 
 import subprocess
 import sys

@@ -5,7 +5,7 @@
 
 Builds crates/dagcbor_ffi, proved, where it is not, and bench/languages/package.rs over callers/rust and
 Debian's librust-serde-cbor-dev and librust-serde-derive-dev. With `page` the table is put into
-docs/SPEED.md. Nothing here is a test."""
+docs/MEASURED.md. Nothing here is a test."""
 
 import os
 import re

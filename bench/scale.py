@@ -1,5 +1,5 @@
 #!/usr/bin/env python3
-"""What one core does, for docs/SCALE.md: files of blocks of each size by the package for Python, and
+"""What one core does, for docs/SCALE.md: CAR files of each size by the package for Python, and
 what `verify_folder.py` does with their names.
 
     bench/scale.py [RUNS] [page]

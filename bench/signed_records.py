@@ -4,7 +4,7 @@
     bench/signed_records.py [RUNS] [page]
 
 The repository has 100,000 records of 300 bytes. Prints a table of processor time, the least of so many runs (5 where none is given), and
-one of memory. With `page` they are put into docs/SPEED.md too. Nothing here is a test."""
+one of memory. With `page` they are put into docs/MEASURED.md too. Nothing here is a test."""
 
 import os
 import random

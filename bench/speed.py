@@ -1,12 +1,12 @@
 #!/usr/bin/env python3
 """Speed, beside a Rust program over serde_cbor: the library's calls on small blocks, the program on 20 MB of lines, and the heap;
-files of blocks, beside SHA-256 alone; and a block as DAG-JSON, beside Python.
+CAR files, beside SHA-256 alone; and a block as DAG-JSON, beside Python.
 
     bench/speed.py [RUNS] [cars] [shown] [derives] [page]
 
 Builds what is not built, makes its data with a fixed seed, runs ours and the peer in turn, and prints tables of processor time, the
-least of so many runs (7 where none is given), and of the heap that a tree takes. With `cars` it measures files of blocks alone, with
-`shown` DAG-JSON, with `derives` a type that derives. With `page` the tables are put into docs/SPEED.md too, and docs/speed.svg is drawn of them (bench/bars.py).
+least of so many runs (7 where none is given), and of the heap that a tree takes. With `cars` it measures CAR files alone, with
+`shown` DAG-JSON, with `derives` a type that derives. With `page` the tables are put into docs/MEASURED.md too, and docs/speed.svg is drawn of them (bench/bars.py).
 The peer is built where cargo and Debian's sources of serde_cbor and serde_derive are on the machine, and the one in Go where Go and
 Debian's sources of fxamacker/cbor are; else their columns are left out. Nothing here is a test."""
 
@@ -53,7 +53,7 @@ LINES = 20_000_000
 BEGIN, END = "<!-- made by bench/speed.py page -->\n", "<!-- so far -->\n"
 SHOWN_BEGIN, SHOWN_END = "<!-- made by bench/speed.py shown page -->\n", "<!-- so far, of DAG-JSON -->\n"
 DERIVES_BEGIN, DERIVES_END = "<!-- made by bench/speed.py derives page -->\n", "<!-- so far, of derives -->\n"
-CARS_BEGIN, CARS_END = "<!-- made by bench/speed.py cars page -->\n", "<!-- so far, of files of blocks -->\n"
+CARS_BEGIN, CARS_END = "<!-- made by bench/speed.py cars page -->\n", "<!-- so far, of CAR files -->\n"
 
 told = []
 
@@ -106,14 +106,16 @@ def least_of(runs, calls):
     return [min(column) for column in zip(*times)]
 
 
-def row(name, unit, ours, theirs):
-    """A line of a table; the peer's time and the ratio where there are any."""
-    peers = "" if theirs is None else f" | {theirs * unit:.3g} | {ours / theirs:.2f}"
-    tell(f"| {name} | {ours * unit:.3g}{peers} |")
+def row(name, unit, ours, theirs, counts=()):
+    """A line of a table; the peer's time and the ratio where there are any; and counted instructions, of ours and of the peer."""
+    cells = [f"{ours * unit:.3g}"] + ([] if theirs is None else [f"{theirs * unit:.3g}", f"{ours / theirs:.2f}"])
+    cells += [f"{it:,}" for it in counts] + ([f"{counts[0] / counts[1]:.2f}"] if len(counts) == 2 else [])
+    tell(f"| {name} | {' | '.join(cells)} |")
 
 
-def head(first, unit, folder):
+def head(first, unit, folder, is_counted=False):
     columns = [first, f"ours, {unit}"] + ([f"serde_cbor, {unit}", "ours / serde_cbor"] if folder else [])
+    columns += ["instructions"] * is_counted + ["serde_cbor's", "ours / serde_cbor's"] * (is_counted and bool(folder))
     tell(f"\n| {' | '.join(columns)} |\n|{'---|' * len(columns)}")
 
 
@@ -135,19 +137,19 @@ def calls(folder, runs):
         ("writing the struct", "to_vec::<Record>", "Record", good, 200_000),
         ("writing it, its row in no key order", "to_vec::<Declared>", "Record", good, 200_000),
     )
-    ours = built("dagcbor_bench")
-    head("Call", "ns", folder)
+    ours, is_counted = built("dagcbor_bench"), bool(shutil.which("valgrind"))
+    head("Call", "ns", folder, is_counted)
     for name, call, kind, block, times in rows:
         right = 0 if block is wrong else times
         # A run that calls nothing prepares what the others do, and its time is none of the call's.
         runner = lambda program, call, times, right: lambda: called(program, call, times, block, right)[0]
-        row_calls = [runner(ours, call, times, right), runner(ours, call, 0, 0)]
+        both = [(ours, call)]
         if folder:
             theirs = call.partition("<")[0].replace("check_slice", "from_slice::") + "<"
-            program = f"{folder}/calls"
-            row_calls += [runner(program, f"{theirs}{kind}>", times, right), runner(program, f"{theirs}{kind}>", 0, 0)]
-        best = least_of(runs, row_calls)
-        row(name, 1e9 / times, best[0] - best[1], best[2] - best[3] if folder else None)
+            both.append((f"{folder}/calls", f"{theirs}{kind}>"))
+        best = least_of(runs, [runner(*it, *n) for it in both for n in ((times, right), (0, 0))])
+        counts = [instructions(*it, block, block is not wrong) for it in both if is_counted]
+        row(name, 1e9 / times, best[0] - best[1], best[2] - best[3] if folder else None, counts)
 
 
 def go_peer(scratch):
@@ -235,37 +237,37 @@ def heap(folder, scratch):
         tell(f"| `{item.hex(' ')}` | {' | '.join(factors)} |" if len(item) < 4 else f"| the record | {' | '.join(factors)} |")
 
 
-def instructions(call, given):
+def instructions(program, call, block, succeeds=True):
     """Those of one call, by callgrind: of a thousand, less none."""
     def counted(times):
-        words = ["valgrind", "--tool=callgrind", "--callgrind-out-file=/dev/null", built("dagcbor_bench"), call, str(times)]
-        with open(given, "rb") as block:
-            ran = subprocess.run(words, stdin=block, check=True, capture_output=True, text=True)
-        if int(ran.stdout) != times:
-            sys.exit(f"bench/speed.py: of {times} calls of {call} {ran.stdout.strip()} succeeded")
-        return int(re.search(r"refs:\s*([\d,]+)", ran.stderr)[1].replace(",", ""))
+        words = ["valgrind", "--tool=callgrind", "--callgrind-out-file=/dev/null", program, call, str(times)]
+        ran = subprocess.run(words, input=block, check=True, capture_output=True)
+        if int(ran.stdout) != times * succeeds:
+            sys.exit(f"bench/speed.py: of {times} calls of {call} {ran.stdout.decode().strip()} succeeded")
+        return int(re.search(rb"refs:\s*([\d,]+)", ran.stderr)[1].replace(b",", b""))
     return (counted(1000) - counted(0)) // 1000
 
 
 def derives(words):
-    """The record as a type that derives, beside the type by hand, and a section of the page for them."""
+    """The record as a type that derives, beside the type by hand and serde_cbor's derive, and a section of the page for them."""
     if not shutil.which("valgrind"):
         print("\nderives are skipped, since there is no valgrind")
         return
     told.clear()
     rows = (
-        ("a derive, read", "from_slice::<Derived>", "from_slice::<Record>"),
-        ("a derive, written; by hand in the order of its fields", "to_vec::<Derived>", "to_vec::<Declared>"),
-        ("a derive, written; by hand in key order", "to_vec::<Derived>", "to_vec::<Record>"),
+        ("read", "from_slice::<Derived>", "from_slice::<Record>"),
+        ("written; by hand in the order of its fields", "to_vec::<Derived>", "to_vec::<Declared>"),
+        ("written; by hand in key order", "to_vec::<Derived>", "to_vec::<Record>"),
     )
-    tell("| The record, instructions a call | a derive | by hand | a derive / by hand |\n|---|---|---|---|")
-    with tempfile.TemporaryDirectory(prefix="speed-") as scratch:
-        given = f"{scratch}/block"
-        with open(given, "wb") as file:
-            file.write(record(random.Random(1)))
-        for name, ours, theirs in rows:
-            one, other = instructions(f"dagcbor_serde::{ours}", given), instructions(theirs, given)
-            tell(f"| {name} | {one:,} | {other:,} | {one / other:.2f} |")
+    folder, ours, block = peer(), built("dagcbor_bench"), record(random.Random(1))
+    columns = ["The record, instructions a call", "a derive", "by hand", "a derive / by hand"]
+    columns += ["serde_cbor's derive", "a derive / serde_cbor's"] if folder else []
+    tell(f"| {' | '.join(columns)} |\n|{'---|' * len(columns)}")
+    for name, derived, by_hand in rows:
+        one = instructions(ours, f"dagcbor_serde::{derived}", block)
+        others = [instructions(ours, by_hand, block)]
+        others += [instructions(f"{folder}/calls", f"{derived.partition('<')[0]}<Record>", block)] if folder else []
+        tell(f"| {name} | {one:,} | " + " | ".join(f"{it:,} | {one / it:.2f}" for it in others) + " |")
     if "page" in words:
         into_page(DERIVES_BEGIN, told, DERIVES_END)
 

@@ -2,7 +2,7 @@
 """What the calls of a store on disk take as it grows, beside Python's sqlite3 with hashlib, over the same blocks.
 
     bench/store.py [MB..]          prints a table of seconds, and one of bytes, for stores of so many MB (1, 10, 100 and 1,000)
-    bench/store.py [MB..] page     puts both into docs/SPEED.md, and draws the first (bench/curves.py)
+    bench/store.py [MB..] page     puts both into docs/MEASURED.md, and draws the first (bench/curves.py)
     bench/store.py large MB        prints what calls on one block take over a store of so many MB, which imports of 1,000 MB make
     bench/store.py large MB made   the same over one whose rows Python's sqlite3 puts into an empty store
 

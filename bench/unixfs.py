@@ -5,7 +5,7 @@
 
 Prints a table: a file of 100 MB; and files and directories that are made to cost much, at two sizes each. Each row is the least
 processor time of so many runs (5 where none is given), and the memory of the process at its peak. Without the path of a `dagcar`
-one is proved and built. With `page` the table is put into docs/SPEED.md too. Nothing here is a test."""
+one is proved and built. With `page` the table is put into docs/MEASURED.md too. Nothing here is a test."""
 
 import os
 import subprocess
@@ -100,7 +100,7 @@ def ran(words, path):
 
 
 def make(case, size, path):
-    """Writes the file of blocks, and prints its root. A process of its own does it, since a child begins with the memory of its parent."""
+    """Writes the CAR file, and prints its root. A process of its own does it, since a child begins with the memory of its parent."""
     blocks = {}
     root = CASES[case][2](blocks, size)
     with open(path, "wb") as file:

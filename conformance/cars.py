@@ -1,4 +1,4 @@
-"""Files of blocks (CAR), from the specifications of versions 1 and 2: what is in one, or its first fault; and makers of them."""
+"""CAR files, from the specifications of versions 1 and 2: what is in one, or its first fault; and makers of them."""
 
 import hashlib
 import math

@@ -1,4 +1,4 @@
-"""What stands around blocks: the rows of CIDs as text, of files of blocks, of DAG-JSON and of DAG-PB, each a slug, the text or the bytes, why it is
+"""What stands around blocks: the rows of CIDs as text, of CAR files, of DAG-JSON and of DAG-PB, each a slug, the text or the bytes, why it is
 interesting, and the standard's section. As in grammar.py, what is right of them is not said here."""
 
 import base64

@@ -97,7 +97,7 @@ def of_block(vector):
 
 
 def by_forms(vectors):
-    """Where `dagcar` says something else of data for writers, of a CID as text, of a file of blocks, of DAG-JSON, of DAG-PB or of a path."""
+    """Where `dagcar` says something else of data for writers, of a CID as text, of a CAR file, of DAG-JSON, of DAG-PB or of a path."""
     judged = {"files": of_file, "cid-texts": of_cid_text, "dag-pb": of_node, "paths": of_path}
     yield from differing([judged.get(it["group"], of_json)(it) for it in vectors if it["group"] != "segments" and not is_beyond(it)])
 

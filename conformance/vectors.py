@@ -199,7 +199,7 @@ FORMS = {
     "paths": (forms.paths, paths, "what a path leads to in a block, as a text"),
     "segments": (forms.segments, paths, "the same, of a list of segments, of which each is taken whole"),
     "cid-texts": (forms.cid_texts, cidtexts, "CIDs as text: bases, letters, padding bits"),
-    "files": (forms.files, cars, "files of blocks (CAR) of both versions: headers, offsets, cuts, other bytes"),
+    "files": (forms.files, cars, "CAR files of both versions: headers, offsets, cuts, other bytes"),
     "dag-json": (forms.json_texts, dagjson, "DAG-JSON, to be read"),
     "dag-pb": (forms.nodes, dagpb, "blocks of DAG-PB: fields, orders, numbers, cuts"),
 }

@@ -1,4 +1,4 @@
-"""The program `dagcar`, proved and built, over hostile files of blocks, and over a small one with each place failing in turn.
+"""The program `dagcar`, proved and built, over hostile CAR files, and over a small one with each place failing in turn.
 
 What is wanted of a file is what `Judge` finds, which reads its framing and digests by itself; what its blocks are stands in
 `BLOCKS`, by hand. None is copied from a run."""

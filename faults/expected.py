@@ -282,10 +282,11 @@ for name, answer in WITHOUT_MEMORY.items():
     RUNS[f"no memory: {name}"] = Plain(answer, "memory was asked for")
 
 # Derived types.
-DERIVED = "a4616183016174a0626262" + "d82a450001550000" + "6363636382636f6e656374776f6464646464a26178f662797907"
+DERIVED = "a5616183016174a0626262" + "d82a450001550000" + "6363636382636f6e656374776f6464646464a26178f662797907656565656565816175"
 KEPT = (
     'Kept { dddd: {"x": None, "yy": Some(7)}, ccc: ["one", "two"], '
-    f'bb: Link({cid(1, 85, 0, "")}), a: Any(List([Integer(1), String("t"), Map({{}})])) }}'
+    f'bb: Link({cid(1, 85, 0, "")}), a: Any(List([Integer(1), String("t"), Map({{}})])), '
+    'rest: Rest { entries: Entries({"eeeee": List([String("u")])}) } }'
 )
 RUNS |= {
     "to_vec derived": Plain(f"Ok({listed(DERIVED)})"),

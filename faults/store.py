@@ -543,7 +543,7 @@ def words(program, at, draw):
                 wrong.append(f"put of no DAG-CBOR: {ran.returncode} {ran.stdout} {ran.stderr}")
         name = named(0x71, block)[0]
         ran = run(program, put, "import", given=car_of({name: block}))
-        told = f"dagstore: behind 0 sections\ndagstore: of {text_of(name)}\n{told}"
+        told = f"dagstore: after 0 sections\ndagstore: of {text_of(name)}\n{told}"
         if (ran.returncode, ran.stdout, ran.stderr) != (1, b"", told.encode()):
             wrong.append(f"import of no DAG-CBOR: {ran.returncode} {ran.stdout} {ran.stderr}")
     for word in ("0x", "0x1z", "0x+1", "0x11111111111111111", "dag-pb"):
@@ -582,7 +582,7 @@ def words(program, at, draw):
     # What is no file says which fault it has, and a file that is not there is not made.
     cut = car_of(dict([block_of(draw)]))[:-1]
     ran = run(program, path, "import", given=cut)
-    if (ran.returncode, ran.stderr) != (1, b"dagstore: behind 0 sections\ndagstore: the input is no file of blocks: Truncated\n"):
+    if (ran.returncode, ran.stderr) != (1, b"dagstore: after 0 sections\ndagstore: the input is not a CAR file: Truncated\n"):
         wrong.append(f"import of a cut file: {ran.returncode} {ran.stderr}")
     for word in ("export", "gc", "roots", "check", "list", "count"):
         expect(f"{word} of no file", run(program, f"{at}/none.db", word), 1, b"")

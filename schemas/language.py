@@ -7,7 +7,7 @@ import dataclasses
 import re
 
 from schemas.law import once, parts
-from schemas.parsing import Alias, Case, Enum, Field, Int, Leaf, Link, ListOf, MapOf, Member, Named, Nullable, SchemaError, Struct, Union, Unit
+from schemas.parsing import DEFAULT_WIDTH, Alias, Case, Enum, Field, Int, Leaf, Link, ListOf, MapOf, Member, Named, Nullable, SchemaError, Struct, Union, Unit
 
 WIDTH = 100  # of a line
 COMMENTS = ("#", '"""', "//", "/*", "*")
@@ -25,7 +25,7 @@ KNOWN = {
     Nullable: ("part",),
     Alias: ("name", "of", "text"),
     Field: ("name", "type", "optional", "key", "text", "implicit"),
-    Struct: ("name", "fields", "representation", "open", "text", "of_enum"),
+    Struct: ("name", "fields", "representation", "open", "text", "of_enum", "join"),
     Unit: ("name", "representation", "text"),
     Member: ("name", "data"),
     Enum: ("name", "members", "representation", "text"),
@@ -139,7 +139,13 @@ class Language:
 
     def functions(self, one):
         """The blocks of the functions that read the type and write it."""
-        return [] if isinstance(one, Alias) else getattr(self, maker_name(one))(one)
+        if not isinstance(one, Alias):
+            return getattr(self, maker_name(one))(one)
+        return self.recursive_alias(one) if self.schema.is_recursive_alias(named(one)) else []
+
+    def recursive_alias(self, one):
+        """The functions of a list or a map that holds itself."""
+        raise NotImplementedError
 
     # ---- a type of a value
 
@@ -153,6 +159,8 @@ class Language:
 
     def conversion(self, kind, way):
         """The function that checks a value of the type, and reads it, or writes it: where these differ."""
+        if self.schema.is_recursive_alias(kind):
+            return self.function(way, kind.name)
         kind = self.schema.resolve(kind)
         if isinstance(kind, Int):
             return self.helper(kind.width)
@@ -176,10 +184,16 @@ class Language:
         return str(most) if least == most else f"{least}, {most}"
 
     def others(self, union, case):
-        """The fields of the other members of an inline union, which are looked at even where they are skipped."""
+        """The fields of the other members of an inline union, which are looked at even where they are skipped, if they are of one type."""
         struct = self.schema.by_name[self.schema.resolve(case.type).name]
         own = {field.key for field in struct.fields}
-        return [field for field in self.schema.row_of(union) if struct.open and field.key not in own]
+        others = [field for field in self.schema.row_of(union) if struct.open and field.key not in own]
+        return [field for field in others if self.schema.has_one_type(union, field.key)]
+
+    def case_kind(self, case):
+        """What a member of a kinded union holds: each int of the data, where its type is Int."""
+        kind = self.schema.resolve(case.type)
+        return Int("i128", case.place) if isinstance(kind, Int) and kind.width == DEFAULT_WIDTH else case.type
 
     def has_null(self, kind):
         """Whether null is a value of the type, so that it can't stand for what is left out."""
@@ -193,6 +207,16 @@ class Language:
         if indent + len(head) + len(inside) + len(close) <= WIDTH:
             return [f"{margin}{head}{inside}{close}"]
         return [f"{margin}{head}", *(f"{margin}{' ' * self.step}{item}," for item in items), f"{margin}{close}"]
+
+
+def named(one):
+    """The type that a definition names."""
+    return Named(one.name, one.place)
+
+
+def number_of(enum):
+    """The width of the numbers that an enum's are read as."""
+    return "i128" if any(member.data < 0 for member in enum.members) else "u64"
 
 
 def maker_name(one):

@@ -30,10 +30,10 @@ KINDS = ("bool", "int", "string", "bytes", "list", "map", "link")  # of the memb
 # What a link may lead to, beside the types of the schema.
 DATA_MODEL = ("Any", "Bool", "Bytes", "Float", "Int", "Link", "List", "Map", "String")
 
-# Names that the made code uses, or Rust or the data model has.
-TAKEN = set(
-    """Any Bool Bytes Float Int Link List Map Null String Unit
-    Box Clone Copy Debug Default Drop Eq Err From Hash Into Iterator Model Never None Ok Option Ord PartialEq PartialOrd Result Self
+# Names of the data model, which no type has; and those that made Rattle uses, or Rust has.
+OF_DATA_MODEL = {*DATA_MODEL, "Null", "Unit"}
+TAKEN = OF_DATA_MODEL | set(
+    """Box Clone Copy Debug Default Drop Eq Err From Hash Into Iterator Model Never None Ok Option Ord PartialEq PartialOrd Result Self
     Send Some Sync Vec BTreeMap Cid Ipld Global Closed DecodeError Deserialize DeserializeOwned Deserializer EnumAccessor Field FieldGroup Fields
     Accessor ByKind Enveloped WrittenGroup InGroups NoKind Numbered Omissible OmissibleItem Optional Read ReadResult Required Serialize Serializer Shown Variants Write WriteResult
     EnumShape Lib Made Numbered OneGroup OptionalPart Part Parts PartRow Prim R Shape Syntax TheOwn TheVariants Tree Type W""".split()
@@ -62,7 +62,8 @@ def path_name(module):
 
 
 class Schema:
-    """Definitions that keep the law: where the types are to be proved they are no more than the prover takes."""
+    """Definitions that keep the law: where the types are to be proved they are no more than the prover takes, and than the forms of
+    Rattle have."""
 
     def __init__(self, definitions, is_proved=True):
         self.by_name, self.is_proved = {}, is_proved
@@ -70,42 +71,60 @@ class Schema:
             self.check_name(definition)
         self.definitions = [self.plain(definition) for definition in definitions]
         self.by_name = {definition.name: definition for definition in self.definitions}
-        definitions = self.definitions
-        for definition in definitions:
+        for definition in self.definitions:
+            for kind in held_by(definition):
+                self.check_known(kind)
+        if is_proved:
+            self.refuse_recursion()
+        else:
+            self.refuse_endless()
+        self.recursive = {one.name for one in self.definitions if one.name in self.reached(one)}  # those that hold themselves
+        for definition in self.definitions:
             self.check(definition)
-        self.refuse_recursion()
 
     # -- names
 
     def check_name(self, definition):
         name, place = definition.name, definition.place
-        if not re.fullmatch(r"[A-Z][A-Za-z0-9]{0,39}", name):
-            raise SchemaError(place, f"a type's name is a capital and up to 39 letters and digits, and not `{name}`")
-        if name in TAKEN:
-            raise SchemaError(place, f"`{name}` is a name of the data model, of Rust or of the library: choose another")
+        self.check_capital("type", name, place)
+        if name in (TAKEN if self.is_proved else OF_DATA_MODEL):
+            of = "the data model, of Rust or of the library" if self.is_proved else "the data model"
+            raise SchemaError(place, f"`{name}` is a name of {of}: choose another")
         for other in self.by_name.values():
             if snake(other.name) == snake(name):
                 raise SchemaError(place, f"`{name}` and `{other.name}` (line {other.place.line}) are one name in lower case")
-            if name in (other.name + "View",) or other.name == name + "View":
-                raise SchemaError(place, f"`{name}` and `{other.name}`: what the one is read as has the other's name")
-            for one, part in ((name, other.name), (other.name, name)):
-                if re.fullmatch(one + "(Group|Row|Own|Written)[0-9]+", part):
-                    raise SchemaError(place, f"`{name}` and `{other.name}`: a group of the one may have the other's name")
+            if self.is_proved:
+                refuse_made_name(name, other, place)
         self.by_name[name] = definition
 
+    def check_capital(self, what, name, place):
+        """The name of a type, or of an enum's or a union's member. Rattle's are short."""
+        most = 39 if self.is_proved else len(name)
+        if not re.fullmatch(f"[A-Z][A-Za-z0-9]{{0,{most}}}", name):
+            raise SchemaError(place, f"a {what}'s name is a capital and {'up to 39 ' * self.is_proved}letters and digits, and not `{name}`")
+
     def resolve(self, kind):
-        """The type with its aliases replaced by what they stand for, and a nullable Any by Any, which has null already."""
+        """The type with its aliases replaced by what they stand for, and a nullable Any by Any, which has null already. An alias of
+        what holds itself is replaced where it is the whole type, and keeps its name within."""
         if isinstance(kind, Named):
             definition = self.by_name[kind.name]
             return self.resolve(definition.of) if isinstance(definition, Alias) else kind
         if isinstance(kind, Nullable):
-            part = self.resolve(kind.part)
+            part = self.resolved_part(kind.part)
             return part if isinstance(part, (Leaf, Nullable)) and self.has_null(part) else Nullable(part, kind.place)
         if isinstance(kind, ListOf):
-            return ListOf(self.resolve(kind.item), kind.place)
+            return ListOf(self.resolved_part(kind.item), kind.place)
         if isinstance(kind, MapOf):
-            return MapOf(self.resolve(kind.value), kind.place)
+            return MapOf(self.resolved_part(kind.value), kind.place)
         return kind
+
+    def resolved_part(self, kind):
+        return kind if self.is_recursive_alias(kind) else self.resolve(kind)
+
+    def is_recursive_alias(self, kind):
+        """Whether it is the name of a list or a map that holds itself."""
+        one = self.by_name[kind.name] if isinstance(kind, Named) and kind.name in self.recursive else None
+        return isinstance(one, Alias) and isinstance(one.of, (ListOf, MapOf))
 
     @staticmethod
     def has_null(kind):
@@ -135,9 +154,7 @@ class Schema:
     # -- each definition
 
     def check(self, definition):
-        if isinstance(definition, Alias):
-            self.check_known(definition.of)
-        elif isinstance(definition, Struct):
+        if isinstance(definition, Struct):
             self.check_struct(definition)
         elif isinstance(definition, Enum):
             self.check_enum(definition)
@@ -158,29 +175,28 @@ class Schema:
 
     def check_struct(self, struct):
         names, keys = {}, {}
-        if struct.representation not in ("map", "tuple", "listpairs"):
-            refuse_later(struct, struct.representation)
+        if struct.representation == "stringjoin":
+            self.check_join(struct)
         for field in struct.fields:
-            self.check_known(field.type)
             if field.implicit is not None:
                 field.implicit = self.implied(struct, field)
             if not re.fullmatch(r"[A-Za-z][A-Za-z0-9_]*", field.name):
                 raise SchemaError(field.place, f'a field\'s name begins with a letter here: `x T (rename "{field.name}")`')
             once(names, field_name(field.name), field.place, "two fields have the name")
-            check_key(field.key, field.place)
+            self.check_key(field.key, field.place)
             once(keys, field.key, field.place, "two fields have the key")
-            if len(snake(field.name)) > 40:
+            if self.is_proved and len(snake(field.name)) > 40:
                 raise SchemaError(field.place, f"a field's name has at most 40 letters here: `{field.name}`")
         if self.is_proved:
             self.check_size(struct)
         if struct.representation == "tuple":
             self.check_tuple(struct)
         if struct.representation == "listpairs":
-            check_pairs(struct, MOST_PAIRS if self.is_proved else len(struct.fields))
+            self.check_pairs(struct)
 
     def implied(self, struct, field):
         """What a field means that is left out, as a value of its type."""
-        kind, literal = self.resolve(field.type), field.implicit
+        kind, literal = self.implied_type(field), field.implicit
         value, place = literal.value, literal.place
         if struct.representation != "map":
             raise SchemaError(place, f"a field of a {struct.representation} means nothing where it is left out: `{field.name}`")
@@ -191,6 +207,8 @@ class Schema:
         if isinstance(kind, Int) and isinstance(value, str) and re.fullmatch(r"0|-?[1-9][0-9]*", value):
             value = int(value)
         if isinstance(kind, Leaf) and kind.kind == "Bool" and isinstance(value, bool):
+            return Literal(value, place)
+        if isinstance(kind, Leaf) and kind.kind == "String" and isinstance(value, str) and not self.is_proved:
             return Literal(value, place)
         if isinstance(kind, Int) and isinstance(value, int) and not isinstance(value, bool):
             least, most = bounds(kind.width)
@@ -203,7 +221,13 @@ class Schema:
                 if value == member.data or enum.representation == "int" and value == str(member.data):
                     return Literal(member, place)
             raise SchemaError(place, f"{value} is no member of `{enum.name}`: `{field.name}`")
-        raise SchemaError(place, f"a field that means a value where it is left out is a Bool, an Int or of an enum here: `{field.name}`")
+        others = "a Bool, an Int" if self.is_proved else "a Bool, an Int, a String"
+        raise SchemaError(place, f"a field that means a value where it is left out is {others} or of an enum here: `{field.name}`")
+
+    def implied_type(self, field):
+        """The type of what a field means that is left out. Where nothing is proved, the field may be nullable."""
+        kind = self.resolve(field.type)
+        return self.resolve(kind.part) if isinstance(kind, Nullable) and not self.is_proved else kind
 
     def check_size(self, struct):
         """The prover takes so much for one statement: what is not read in groups may pass it, or one field alone."""
@@ -253,47 +277,108 @@ class Schema:
         if struct.open:
             raise SchemaError(struct.place, f"a tuple has no other keys to skip: `{struct.name}`")
 
-    @staticmethod
-    def check_enum(enum):
+    def check_join(self, struct):
+        """The fields are pieces of a text, which what separates them parts again."""
+        self.refuse_text(struct)
+        if not struct.join or not struct.fields or struct.open:
+            raise SchemaError(struct.place, f"a stringjoin has fields, a text between them, and no other keys to skip: `{struct.name}`")
+        for field in struct.fields:
+            self.check_text(field, field.type)
+            if field.optional or field.key != field.name:
+                raise SchemaError(field.place, f"a field of a stringjoin is always there, and has no name in the data: `{field.name}`")
+
+    def check_prefixes(self, union):
+        self.refuse_text(union)
+        for case in union.cases:
+            self.check_text(case, case.type)
+            for other in union.cases:
+                if other is not case and other.data.startswith(case.data):
+                    raise SchemaError(other.place, f"the prefix `{other.data}` begins with `{case.data}`, which is another's")
+
+    def refuse_text(self, definition):
+        """Refuses what is not made in Rattle, where the pieces of a text would take memory; and a text within itself, whose depth
+        nothing bounds."""
+        if self.is_proved:
+            raise SchemaError(definition.place, f"{definition.representation} is not supported yet: `{definition.name}`")
+        if definition.name in self.recursive:
+            raise SchemaError(definition.place, f"`{definition.name}` is a text that holds itself")
+
+    def check_text(self, part, kind):
+        if self.kind_of(self.resolve(kind)) != "string":
+            raise SchemaError(part.place, f"`{part.name}` is no text")
+
+    def check_pairs(self, struct):
+        """The pairs stand in the schema's order: so each struct has one spelling."""
+        for field in struct.fields:
+            if field.optional and self.is_proved:
+                raise SchemaError(field.place, f"a list of pairs has all of its fields here: `{field.name}` is optional")
+        if self.is_proved and len(struct.fields) > MOST_PAIRS:
+            raise SchemaError(
+                struct.fields[MOST_PAIRS].place,
+                f"a list of pairs has at most {MOST_PAIRS} fields here, which the prover can take at once: `{struct.name}`",
+            )
+        if struct.open:
+            raise SchemaError(struct.place, f"a list of pairs has no other keys to skip: `{struct.name}`")
+
+    def check_key(self, key, place):
+        if self.is_proved and (not re.fullmatch(r"[ -~]{0,40}", key) or '"' in key or "\\" in key):
+            raise SchemaError(place, f"names in the data are up to 40 printable characters of ASCII here, without \" and \\: {key!r}")
+
+    def check_enum(self, enum):
         names, data = {}, {}
         if not enum.members:
             raise SchemaError(enum.place, f"`{enum.name}` has no members")
         for member in enum.members:
-            check_variant(member.name, member.place)
+            self.check_variant(member)
             once(names, member.name.lower(), member.place, "two members have the name")
             once(data, member.data, member.place, "two members have the representation")
             if enum.representation == "string":
-                check_key(member.data, member.place)
+                self.check_key(member.data, member.place)
+            elif self.is_proved and member.data < 0:
+                raise SchemaError(member.place, f"{member.data} is not supported: a number from 0 to 2^64 - 1")
+
+    def check_variant(self, member):
+        self.check_capital("member", member.name, member.place)
+        if self.is_proved and member.name in TAKEN_VARIANTS:
+            raise SchemaError(member.place, f"`{member.name}` is a name of Rust or of the library: choose another")
 
     def check_union(self, union):
         names, data = {}, {}
-        if union.representation not in ("keyed", "kinded", "inline", "envelope"):
-            refuse_later(union, union.representation)
         if not union.cases:
             raise SchemaError(union.place, f"`{union.name}` has no members")
         for case in union.cases:
-            self.check_known(case.type)
-            check_variant(case.name, case.place)
+            self.check_variant(case)
             once(names, case.name.lower(), case.place, "two members have the name")
             once(data, case.data, case.place, "two members have the kind" if union.representation == "kinded" else "two members have the key")
             if union.representation == "kinded":
                 self.check_kind(case)
             else:
-                check_key(case.data, case.place)
+                self.check_key(case.data, case.place)
+        if union.representation == "stringprefix":
+            self.check_prefixes(union)
         if union.representation == "inline":
             self.check_inline(union)
         if union.representation == "envelope":
-            check_envelope(union)
+            self.check_envelope(union)
 
     def check_inline(self, union):
-        """The members are maps of one row: of all their fields, which may be absent, behind the field that tells the member."""
-        check_key(union.discriminant, union.place)
-        seen, first = {}, None
+        """The members are structs that are maps, without the field that tells the member."""
+        self.check_key(union.discriminant, union.place)
         for case in union.cases:
             kind = self.resolve(case.type)
             struct = self.by_name.get(kind.name) if isinstance(kind, Named) else None
             if not isinstance(struct, Struct) or struct.representation != "map":
                 raise SchemaError(case.place, f"a member of an inline union is a struct that is a map: `{case.name}`")
+            if union.discriminant in (field.key for field in struct.fields):
+                raise SchemaError(case.place, f"`{struct.name}` has a field `{union.discriminant}`, which tells the members of `{union.name}`")
+        if self.is_proved:
+            self.check_row(union)
+
+    def check_row(self, union):
+        """The members are read as one row: of all their fields, which may be absent, behind the field that tells the member."""
+        seen, first = {}, None
+        for case in union.cases:
+            struct = self.by_name[self.resolve(case.type).name]
             first = first or struct
             if struct.open != first.open:
                 raise SchemaError(case.place, f"the members of an inline union are all open or none: `{first.name}` and `{struct.name}`")
@@ -301,14 +386,12 @@ class Schema:
                 if field.implicit is not None:
                     raise SchemaError(case.place, f"`{struct.name}` has a field that means a value where it is left out, and is a member of an inline union: `{field.name}`")
                 other = seen.setdefault(field.key, field)
-                if field.key == union.discriminant:
-                    raise SchemaError(case.place, f"`{struct.name}` has a field `{field.key}`, which tells the members of `{union.name}`")
                 if unplaced(self.resolve(field.type)) != unplaced(self.resolve(other.type)):
                     raise SchemaError(
                         case.place,
                         f"the key `{field.key}` is of two types in the members of `{union.name}`: lines {other.place.line} and {field.place.line}",
                     )
-        if self.is_proved and len(seen) >= MOST_FIELDS:
+        if len(seen) >= MOST_FIELDS:
             raise SchemaError(
                 union.place, f"the members of an inline union have at most {MOST_FIELDS - 1} fields in all, and those of `{union.name}` {len(seen)}"
             )
@@ -321,20 +404,39 @@ class Schema:
                 seen.setdefault(field.key, field)
         return list(seen.values())
 
+    def has_one_type(self, union, key):
+        """Whether the key is of one type in all members of an inline union that have it."""
+        structs = [self.by_name[self.resolve(case.type).name] for case in union.cases]
+        return len({unplaced(self.resolve(field.type)) for struct in structs for field in struct.fields if field.key == key}) == 1
+
+    def check_envelope(self, union):
+        """In Rattle the tag stands before the content, in the order of their keys, so that it tells what to read."""
+        tag, content = union.discriminant, union.content
+        for key in (tag, content):
+            self.check_key(key, union.place)
+        if tag == content or self.is_proved and (len(tag), tag) > (len(content), content):
+            raise SchemaError(
+                union.place,
+                f"the tag of `{union.name}` stands behind its content, which it is to tell: in the order of keys `{content}` comes"
+                f" {'before' if tag != content else 'with'} `{tag}`",
+            )
+
     def check_kind(self, case):
-        if case.data not in KINDS:
-            raise SchemaError(case.place, f"the kind {case.data} is not supported: the members of a kinded union are {', '.join(KINDS)}")
+        kinds = KINDS if self.is_proved else (*KINDS, "null")
+        if case.data not in kinds:
+            raise SchemaError(case.place, f"the kind {case.data} is not supported: the members of a kinded union are {', '.join(kinds)}")
         kind = self.resolve(case.type)
         if self.kind_of(kind) != case.data:
             raise SchemaError(case.place, f"`{case.name}` is no {case.data}")
-        if isinstance(kind, Int) and kind.width not in (DEFAULT_WIDTH, "i128"):
+        if self.is_proved and isinstance(kind, Int) and kind.width not in (DEFAULT_WIDTH, "i128"):
             raise SchemaError(case.place, "an int of a kinded union is any of the data model's: it is kept as i128")
 
     def kind_of(self, kind):
         """The kind of all data of a type; none where it has several."""
         if isinstance(kind, Named):
             one = self.by_name[kind.name]
-            kinds = {"int": "int", "string": "string", "true": "bool", "false": "bool", "tuple": "list", "listpairs": "list"}
+            kinds = {"int": "int", "string": "string", "true": "bool", "false": "bool", "null": "null", "tuple": "list", "listpairs": "list"}
+            kinds |= {"stringjoin": "string", "stringprefix": "string"}
             kinds |= {word: "map" for word in ("map", "keyed", "inline", "envelope")}
             return kinds.get(one.representation)
         if isinstance(kind, Leaf):
@@ -347,6 +449,24 @@ class Schema:
         done = set()
         for definition in self.definitions:
             self.walk(definition, [], done)
+
+    def refuse_endless(self):
+        """Refuses a type of which each value holds another, so that none is finite."""
+        finite = set()
+        while new := {one.name for one in self.definitions if one.name not in finite and is_finite(one, finite)}:
+            finite |= new
+        for definition in self.definitions:
+            if definition.name not in finite:
+                raise SchemaError(definition.place, f"`{definition.name}` has no finite value: each holds another")
+
+    def reached(self, definition):
+        """The names of all types that a value of this one may hold."""
+        found, left = set(), [definition]
+        while left:
+            names = {named.name for kind in held_by(left.pop()) for named in named_in(kind)} - found
+            found |= names
+            left += [self.by_name[name] for name in names]
+        return found
 
     def walk(self, definition, path, done):
         names = [step.name for step in path]
@@ -365,12 +485,13 @@ class Schema:
         done.add(definition.name)
 
     def in_order(self):
-        """The definitions, each behind those that it holds."""
-        found = []
+        """The definitions, each behind those that it holds, but for those that hold it."""
+        found, seen = [], set()
 
         def visit(definition):
-            if definition in found:
+            if definition.name in seen:
                 return
+            seen.add(definition.name)
             for kind in held_by(definition):
                 for name in named_in(kind):
                     visit(self.by_name[name.name])
@@ -437,51 +558,33 @@ def held_by(definition):
     return []
 
 
+def is_finite(definition, finite):
+    """Whether it has a finite value, where these types have one. A list or a map may be empty, and what is nullable null."""
+
+    def has(kind):
+        return not isinstance(kind, Named) or kind.name in finite
+
+    if isinstance(definition, Struct):
+        return all(has(field.type) for field in definition.fields if not may_lack(field))
+    return any(map(has, held_by(definition))) if isinstance(definition, Union) else all(map(has, held_by(definition)))
+
+
+def refuse_made_name(name, other, place):
+    """Refuses a type whose name is made of another one, or the other way round."""
+    if name in (other.name + "View",) or other.name == name + "View":
+        raise SchemaError(place, f"`{name}` and `{other.name}`: what the one is read as has the other's name")
+    for one, part in ((name, other.name), (other.name, name)):
+        if re.fullmatch(one + "(Group|Row|Own|Written|Part)[0-9]+", part):
+            raise SchemaError(place, f"`{name}` and `{other.name}`: a group of the one may have the other's name")
+
+
 def unplaced(kind):
     """The type, wherever it stands."""
     words = [type(kind).__name__] + [getattr(kind, name, None) for name in ("name", "kind", "width")]
     return (*words, *map(unplaced, parts(kind)))
 
 
-def refuse_later(definition, what):
-    raise SchemaError(definition.place, f"{what} is not supported yet: `{definition.name}`")
-
-
 def once(seen, word, place, what):
     if word in seen:
         raise SchemaError(place, f"{what} `{word}`: this and line {seen[word].line}")
     seen[word] = place
-
-
-def check_key(key, place):
-    if not re.fullmatch(r"[ -~]{0,40}", key) or '"' in key or "\\" in key:
-        raise SchemaError(place, f"names in the data are up to 40 printable characters of ASCII here, without \" and \\: {key!r}")
-
-
-def check_pairs(struct, most):
-    """The pairs stand in the schema's order, and all are there: so each struct has one spelling."""
-    for field in struct.fields:
-        if field.optional:
-            raise SchemaError(field.place, f"a list of pairs has all of its fields here: `{field.name}` is optional")
-    if len(struct.fields) > most:
-        raise SchemaError(struct.fields[most].place, f"a list of pairs has at most {most} fields here, which the prover can take at once: `{struct.name}`")
-    if struct.open:
-        raise SchemaError(struct.place, f"a list of pairs has no other keys to skip: `{struct.name}`")
-
-
-def check_envelope(union):
-    """The tag stands before the content, in the order of their keys, so that it tells what to read."""
-    tag, content = union.discriminant, union.content
-    for key in (tag, content):
-        check_key(key, union.place)
-    if (len(tag), tag) >= (len(content), content):
-        raise SchemaError(
-            union.place,
-            f"the tag of `{union.name}` stands behind its content, which it is to tell: in the order of keys `{content}` comes"
-            f" {'before' if tag != content else 'with'} `{tag}`",
-        )
-
-
-def check_variant(name, place):
-    if not re.fullmatch(r"[A-Z][A-Za-z0-9]{0,39}", name) or name in TAKEN_VARIANTS:
-        raise SchemaError(place, f"a member's name is a capital and up to 39 letters and digits, and not `{name}`")

@@ -489,8 +489,8 @@ class Parser:
             return data.word if data else token.word
         if data is None:
             raise SchemaError(token.place, f'the number of `{token.word}` is wanted, as `| {token.word} ("1")`')
-        if not re.fullmatch(r"0|[1-9][0-9]*", data.word) or int(data.word) >= 2**64:
-            raise SchemaError(data.place, f'"{data.word}" is not supported: a number from 0 to 2^64 - 1')
+        if not re.fullmatch(r"0|-?[1-9][0-9]*", data.word) or not -(2**64) <= int(data.word) < 2**64:
+            raise SchemaError(data.place, f'"{data.word}" is not supported: a number of the data, from -2^64 to 2^64 - 1')
         return int(data.word)
 
     # -- unions

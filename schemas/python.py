@@ -1,10 +1,11 @@
 """The file of Python that is made of a schema: dataclasses and enums over the package `dagcbor`, with `from_block` and `to_block`."""
 
+import json
 import keyword
 
 from schemas.law import bounds, snake
-from schemas.language import WIDTH, Language, named_blocks
-from schemas.parsing import WIDTHS, Alias, Enum, Int, Leaf, Link, ListOf, MapOf, Member, Named, Nullable, Struct, Union, Unit
+from schemas.language import WIDTH, Language, named, named_blocks, number_of
+from schemas.parsing import WIDTHS, Alias, Enum, Int, Leaf, Link, ListOf, MapOf, Member, Named, Struct, Union, Unit
 
 SCALARS = {"String": "str", "Bytes": "bytes", "Bool": "bool", "Any": "Any"}
 
@@ -31,6 +32,9 @@ _Place: TypeAlias = tuple[str | int, ...]
 
 
 _T = TypeVar("_T")
+
+
+_V = TypeVar("_V")
 
 
 _E = TypeVar("_E", bound=Enum)
@@ -78,8 +82,8 @@ def _omissible(
 
 
 def _implied(
-    entries: dict[_Key, Any], key: _Key, at: _Place, read: _Conversion[_T], value: _T
-) -> _T:
+    entries: dict[_Key, Any], key: _Key, at: _Place, read: _Conversion[_T], value: _V
+) -> _T | _V:
     """What stands under the key, which means the value where it is left out, and is no other then."""
     if key not in entries:
         return value
@@ -113,6 +117,54 @@ def _pair(item: Any, at: _Place, key: str, read: _Conversion[_T]) -> _T:
     return read(value, (*at, 1))
 
 
+def _pairs(value: Any, at: _Place, least: int, *keys: str) -> dict[str, tuple[Any, _Place]]:
+    """The values of a list of pairs, with their places. The keys stand in this order."""
+    found: dict[str, tuple[Any, _Place]] = {}
+    left = iter(keys)
+    for place, item in enumerate(_items(value, at, least, len(keys))):
+        key, part = _items(item, (*at, place), 2)
+        if _text(key, (*at, place, 0)) not in left:  # which takes those before it
+            raise _refused("Msg", (*at, place, 0), "unknown field")
+        found[key] = part, (*at, place, 1)
+    return found
+
+
+def _paired(
+    pairs: dict[str, tuple[Any, _Place]], key: str, at: _Place, read: _Conversion[_T]
+) -> _T:
+    if key not in pairs:
+        raise _refused("Msg", at, f"missing field {key}")
+    return read(*pairs[key])
+
+
+def _optional_paired(
+    pairs: dict[str, tuple[Any, _Place]], key: str, read: _Conversion[_T]
+) -> _T | None:
+    return read(*pairs[key]) if key in pairs else None
+
+
+def _omissible_paired(
+    pairs: dict[str, tuple[Any, _Place]], key: str, read: _Conversion[_T]
+) -> _T | Absent:
+    return read(*pairs[key]) if key in pairs else Absent.ABSENT
+
+
+def _pieces(value: Any, at: _Place, join: str, count: int) -> list[str]:
+    """The pieces of a text, of which there are so many."""
+    pieces = _text(value, at).split(join)
+    if len(pieces) != count:
+        raise _refused("Msg", at, f"{count} pieces are wanted, and not {len(pieces)}")
+    return pieces
+
+
+def _joined(at: _Place, join: str, *pieces: str) -> str:
+    """The text of these pieces, which is parted into them again."""
+    whole = join.join(pieces)
+    if whole.split(join) != list(pieces):
+        raise _refused("Msg", at, "what separates the pieces is in one")
+    return whole
+
+
 def _put(items: list[Any], place: int, at: _Place, item: Any) -> None:
     """Adds an item at its place, before which none is left out."""
     if len(items) != place:
@@ -140,6 +192,12 @@ def _enveloped(value: Any, at: _Place, tag: str, content: str) -> tuple[str, Any
     """What stands under the two keys of a map that has no others."""
     entries = _fields(value, at, tag, content)
     return _field(entries, tag, at, _text), _field(entries, content, at, _anything)
+
+
+def _bounded(at: _Place) -> None:
+    """Refuses what is in more lists and maps than a block has in each other, such as a value that holds itself."""
+    if len(at) > 127:
+        raise _refused("DepthOverflow", at[:127], "too deep")
 
 
 def _unit(one: bool | None, value: Any, at: _Place) -> None:
@@ -228,8 +286,8 @@ def _refused(kind: str, at: _Place, why: str) -> DagCborError:
 class Python(Language):
     called = "Python"
     suffix = ".py"
-    kinds = {"bool": "bool", "int": "int", "string": "str", "bytes": "bytes", "list": "list", "map": "dict", "link": "CID"}  # and the class of each
-    taken = frozenset("CID Callable DagCborError Enum Absent TypeAlias TypeVar ValueError".split())
+    kinds = {"bool": "bool", "int": "int", "string": "str", "bytes": "bytes", "list": "list", "map": "dict", "link": "CID", "null": "None"}  # and the class of each
+    taken = frozenset("CID Callable DagCborError Enum Absent TypeAlias TypeVar ValueError False None True".split())
     closed_modules = frozenset({*keyword.kwlist, "collections", "dagcbor", "dataclasses", "enum", "typing"})
     gap = 2
     front = named_blocks(FRONT, 2)
@@ -289,15 +347,26 @@ class Python(Language):
             rows = [f"    {member_name(one, member)} = {literal(member.data)}" for member in one.members]
             return [[f"class {one.name}(Enum):", *docstring(one.text), *rows, "", *methods(one)]]
         if isinstance(one, Alias):
-            return [alias(one, [self.annotation(one.of)])]
+            return [self.alias(one, [self.annotation(one.of)])]
         if is_kinded(one):
-            return [alias(one, [self.annotation(case.type) for case in one.cases])]
+            return [self.alias(one, [self.annotation(case.type) for case in one.cases])]
         classes = [self.declared_case(one, case) for case in one.cases]
-        return [*classes, alias(one, [case_class(one, case) for case in one.cases])]
+        return [*classes, self.alias(one, [case_class(one, case) for case in one.cases])]
+
+    def alias(self, one, kinds):
+        """A name of other types, in quotation marks where these may come after it."""
+        mark = '"' if one.name in self.schema.recursive else ""
+        line = f"{one.name}: TypeAlias = {mark}{' | '.join(kinds)}{mark}"
+        if len(line) <= WIDTH:
+            return [*comments(one.text, 0), line]
+        rows = [f"    {mark}{'| ' * bool(place)}{kind}{mark}" for place, kind in enumerate(kinds)]
+        return [*comments(one.text, 0), f"{one.name}: TypeAlias = (", *rows, ")"]
 
     def declared_case(self, union, case):
         said = f"The entry {literal(case.data)} of {union.name}."
-        if union.representation != "keyed":
+        if union.representation == "stringprefix":
+            said = f"{union.name}, where {literal(case.data)} comes first."
+        elif union.representation != "keyed":
             said = f"{union.name}, where {literal(union.discriminant)} is {literal(case.data)}."
         head = ["@dataclass(slots=True)", f"class {case_class(union, case)}:"]
         return [*head, f'    """{said}"""', "", f"    value: {self.annotation(case.type)}"]
@@ -322,7 +391,7 @@ class Python(Language):
     def block_functions(self, one):
         """Those of a type that has no class: of another one's name, or a union."""
         word, kind = snake(one.name), one.name
-        read, write = (self.conversion(Named(one.name, one.place), way) for way in ("read", "write"))
+        read, write = (self.conversion(named(one), way) for way in ("read", "write"))
         return [
             [f"def {word}_from_block(block: _Block) -> {kind}:", f"    return {read}(loads(block), ())"],
             [f"def {word}_to_block(value: {kind}) -> bytes:", f"    return dumps({write}(value, ()))"],
@@ -331,10 +400,15 @@ class Python(Language):
     def both(self, one, read, write):
         """The two functions, of their bodies."""
         reads, writes = (self.function(way, one.name) for way in ("read", "write"))
+        bound = ["    _bounded(at)"] if one.name in self.schema.recursive else []
         return [
             [f"def {reads}(value: Any, at: _Place) -> {one.name}:", *read],
-            [f"def {writes}(value: Any, at: _Place) -> Any:", *write],
+            [f"def {writes}(value: Any, at: _Place) -> Any:", *bound, *write],
         ]
+
+    def recursive_alias(self, one):
+        read, write = (f"    return {self.conversion(one.of, way)}(value, at)" for way in ("read", "write"))
+        return self.both(one, [read], [write])
 
     # -- structs
 
@@ -380,8 +454,8 @@ class Python(Language):
         """What a field means that is left out."""
         value = field.implicit.value
         if not isinstance(value, Member):
-            return str(value)
-        enum = self.schema.by_name[self.schema.resolve(field.type).name]
+            return literal(value)
+        enum = self.schema.by_name[self.schema.implied_type(field).name]
         return f"{enum.name}.{member_name(enum, value)}"
 
     def if_there(self, field):
@@ -414,6 +488,8 @@ class Python(Language):
         return [*rows, "    return items"]
 
     def struct_listpairs(self, struct):
+        if any(field.optional for field in struct.fields):
+            return self.both(struct, self.read_pairs(struct), self.written_pairs(struct))
         items = "items = " if struct.fields else ""
         parts, pairs = [], []
         for place, field in enumerate(struct.fields):
@@ -425,6 +501,42 @@ class Python(Language):
         held = "held = " if struct.fields else ""
         return self.both(struct, read, [f"    {held}_is({struct.name}, value, at)", *self.call(4, "return [", pairs, "]")])
 
+    def struct_stringjoin(self, struct):
+        join, count = literal(struct.join), len(struct.fields)
+        rows, pieces = [], []
+        for place, field in enumerate(struct.fields):
+            name = self.field_name(field)
+            rows += self.call(8, f"{name}={self.conversion(field.type, 'read')}(", [f"pieces[{place}]", "at"], "),")
+            pieces.append(f"{self.conversion(field.type, 'write')}(held.{name}, at)")
+        read = [f"    pieces = _pieces(value, at, {join}, {count})", *constructed(struct, rows)]
+        write = [f"    held = _is({struct.name}, value, at)", *self.call(4, "return _joined(", ["at", join, *pieces], ")")]
+        return self.both(struct, read, write)
+
+    def read_pairs(self, struct):
+        """Of a list of pairs of which some may be left out."""
+        keys = [literal(field.key) for field in struct.fields]
+        least = sum(not field.optional for field in struct.fields)
+        rows = []
+        for field, key in zip(struct.fields, keys):
+            read = self.conversion(field.type, "read")
+            if field.optional:
+                how = "_omissible_paired" if self.has_null(field.type) else "_optional_paired"
+                rows += self.call(8, f"{self.field_name(field)}={how}(", ["pairs", key, read], "),")
+            else:
+                rows += self.call(8, f"{self.field_name(field)}=_paired(", ["pairs", key, "at", read], "),")
+        return [*self.call(4, "pairs = _pairs(", ["value", "at", str(least), *keys], ")"), *constructed(struct, rows)]
+
+    def written_pairs(self, struct):
+        rows = [f"    held = _is({struct.name}, value, at)", "    pairs: list[Any] = []"]
+        for field in struct.fields:
+            indent, write = 4, self.conversion(field.type, "write")
+            if field.optional:
+                rows.append(self.if_there(field))
+                indent = 8
+            pair = [literal(field.key), f"{write}(held.{self.field_name(field)}, (*at, len(pairs), 1))"]
+            rows += self.call(indent, "pairs.append([", pair, "])")
+        return [*rows, "    return pairs"]
+
     def written_item(self, place, field):
         return f"{self.conversion(field.type, 'write')}(held.{self.field_name(field)}, (*at, {place}))"
 
@@ -434,7 +546,7 @@ class Python(Language):
         return self.enum(enum, "_text")
 
     def enum_int(self, enum):
-        return self.enum(enum, "_u64")
+        return self.enum(enum, f"_{number_of(enum)}")
 
     def enum(self, enum, data):
         read = [f"    return _member({enum.name}, {data}(value, at), at)"]
@@ -499,14 +611,29 @@ class Python(Language):
         write.append(f'    raise _other("{union.name}", value, at)')
         return self.both(union, read, write)
 
+    def union_stringprefix(self, union):
+        read, write = ["    whole = _text(value, at)"], ["    match value:"]
+        for case in union.cases:
+            prefix, kind = literal(case.data), case_class(union, case)
+            call = f"{self.conversion(case.type, 'read')}(whole.removeprefix({prefix}), at)"
+            read += [f"    if whole.startswith({prefix}):", *self.call(8, f"return {kind}(", [call], ")")]
+            call = f"{self.conversion(case.type, 'write')}(value.value, at)"
+            write += [f"        case {kind}():", f"            return {prefix} + {call}"]
+        read.append('    raise _refused("Msg", at, "unknown variant")')
+        write.append(f'    raise _other("{union.name}", value, at)')
+        return self.both(union, read, write)
+
     def union_kinded(self, union):
-        """Each value stands for itself. A bool is an int to Python, so that it comes first."""
+        """Each value stands for itself. A bool is an int to Python, so that it comes first, or is left out."""
         read, write = ["    match value:"], ["    match value:"]
+        has_bool = any(case.data == "bool" for case in union.cases)
         for case in sorted(union.cases, key=lambda case: case.data != "bool"):
-            kind = Int("i128", case.place) if isinstance(self.schema.resolve(case.type), Int) else case.type
-            read += [f"        case {self.kinds[case.data]}():", f"            return {self.conversion(kind, 'read')}(value, at)"]
+            kind = self.case_kind(case)
+            guard = " if not isinstance(value, bool)" if case.data == "int" and not has_bool else ""
+            pattern = self.kinds[case.data] + "()" * (case.data != "null")
+            read += [f"        case {pattern}{guard}:", f"            return {self.conversion(kind, 'read')}(value, at)"]
             classes = " | ".join(f"{name}()" for name in self.classes(kind))
-            write += [f"        case {classes}:", f"            return {self.conversion(kind, 'write')}(value, at)"]
+            write += [f"        case {classes}{guard}:", f"            return {self.conversion(kind, 'write')}(value, at)"]
         last = '    raise _refused("Msg", at, "unknown kind")'
         return self.both(union, [*read, last], [*write, last])
 
@@ -544,15 +671,7 @@ def member_name(enum, member):
 
 
 def literal(data):
-    return f'"{data}"' if isinstance(data, str) else str(data)
-
-
-def alias(one, kinds):
-    line = f"{one.name}: TypeAlias = {' | '.join(kinds)}"
-    if len(line) > WIDTH:
-        rows = [f"    {'| ' if place else ''}{kind}" for place, kind in enumerate(kinds)]
-        return [*comments(one.text, 0), f"{one.name}: TypeAlias = (", *rows, ")"]
-    return [*comments(one.text, 0), line]
+    return json.dumps(data, ensure_ascii=False) if isinstance(data, str) else str(data)
 
 
 def comments(text, indent):

@@ -6,6 +6,7 @@ from schemas.law import MOST_FIELDS, RESERVED, field_name, held_by, may_lack, pa
 from schemas.layout import INSIDE_STRUCT, SHORT_IF, WIDTH, Group, arm, block_arm, filled, ghost, lines, pairs_of, split, typed
 from schemas.parsing import Alias, Enum, Int, Leaf, Link, ListOf, MapOf, Member, Named, Nullable, Struct, Union, Unit
 from schemas.groups import form, groups_of
+from schemas.members import Members
 from schemas.written import all_groups, written_groups
 
 LEAVES = {
@@ -19,7 +20,7 @@ LEAVES = {
 # Where each word of the specs stands.
 LIBRARY = "Rattle.serde_ipld_dagcbor.specs."
 WORDS = {
-    "Rattle.std.specs.Prelude": "◌≡◌ ℕ ℤ ◌^◌ Bool List [] ◌∷◌ Option Some None option_map if◌then◌else◌ codes pos neg_ℤ string_bytes nat_eq true false refl",
+    "Rattle.std.specs.Prelude": "◌≡◌ ℕ ℤ ◌^◌ Bool ◌||◌ List [] ◌∷◌ Option Some None is_some option_map if◌then◌else◌ codes pos neg_ℤ string_bytes nat_eq true false refl",
     "Rattle.std.specs.Str": "bytes_eq",
     "Rattle.std.specs.Ordering": "int_eq",
     "Rattle.std.specs.Bool": "beq",
@@ -154,8 +155,7 @@ class Module:
         text = re.sub(r'"[^"]*"|kinds\.\w+', "", text)
         words = set(text.translate(PUNCTUATION).split())
         words |= {name for sign, name in LETTERS.items() if sign in words}
-        if "[]" in text:
-            words.add("[]")
+        words |= {name for sign, name in (("[]", "[]"), ("|| ", "◌||◌")) if sign in text}
         if ghost and "≡" in words:
             words.add("◌≡◌")
         made = []
@@ -428,11 +428,15 @@ class Module:
         used, made = set(), []
         for place, field in enumerate(self.schema.row_of(union)):
             name = field_name(field.name)
-            while name in used or name in ("tag", "row", "parts"):
+            while name in used or name in ("tag", "row", "parts") or re.fullmatch("part[0-9]+", name):
                 name += "_"
             used.add(name)
             made.append((field, self.schema.resolve(field.type), name, f"row.1{'.1' * place}.0"))
         return made
+
+    def members(self, union):
+        """The members of an inline union, where they have so many fields that these are put into parts."""
+        return Members(self, union) if len(self.schema.row_of(union)) > MOST_AT_ONCE else None
 
     def inline_member(self, case):
         return self.schema.by_name[self.schema.resolve(case.type).name]
@@ -444,7 +448,7 @@ class Module:
         shown = ["List ℕ", *(f"Option {wrapped(self.view(kind))}" for _, kind, _, _ in row)]
         rows = [f'omissible_field (codes "{field.key}") {wrapped(self.shape(kind))} (' for field, kind, _, _ in row]
         rows.insert(0, f'required_field (codes "{union.discriminant}") (owned_leaf view_text) (')
-        made = []
+        made, members = [], self.members(union)
         for case in union.cases:
             fields = {field.key: field for field in self.inline_member(case).fields}
             test = f'{"else " if made else ""}if bytes_eq row.0 (codes "{case.data}") then'
@@ -460,7 +464,8 @@ class Module:
             shown_by_key = {field.key: (local + "'", path) for field, _, local, path in row}  # the sign keeps it from being antt's own word
             parts = [shown_by_key[key][1 if field.optional else 0] for key, field in fields.items()]
             pairs = "".join(f"({part}, " for part in parts) + "tt" + ")" * len(parts)
-            made += words + [f"    Some ({case_word(union, case)} {pairs}){')' * close}"]
+            member = f"{case_word(union, case)} {pairs}"
+            made += members.spec(case, member) if members else words + [f"    Some ({member}){')' * close}"]
         end = "no_fields" if is_open else "no_other_fields"
         return [
             f"abbrev pub {name}_row : Type 0",
@@ -836,13 +841,15 @@ class Module:
             of.append(f"        let (Omissible({local}), {'row' if place < len(row) - 1 else end}) = row;")
         if not row:
             of[0] = f"        let (Required(tag), {end}) = parts;"
+        members = self.members(union)
+        of += members.parted() if members else []
         of.append("        match tag.as_str() {")
         for case in union.cases:
             struct = self.inline_member(case)
             tree += self.inline_tree(union, case, struct)
             meaning.append(f"{alias(union)}.{case.name} x ↦ {case_word(union, case)} ({self.meaning(Named(struct.name, case.place), 'x')})")
             write += block_arm(f"{name}::{case.name}(x)", lambda at: self.inline_written(union, case, struct, at), 12)
-            of += self.inline_made(union, case, struct, row, is_open)
+            of += self.inline_made(union, case, struct, row, is_open, members)
         write.append("        }")
         of += ["            _ => None,", "        }"]
         names = Group("let names = &[", [f'"{union.discriminant}"', *(f'"{field.key}"' for field, _, _, _ in row)], "]")
@@ -852,6 +859,7 @@ class Module:
             kind = f"(Omissible<{self.code(held)}>, {kind})"
         shown = pairs_of(["string_bytes v.0.0", *(self.inline_shown(row, place) for place in range(len(row)))])
         return [
+            *(members.items() if members else []),
             *self.serialize_impl(union, cases_of(tree), write),
             *self.shown_impl(union, cases_of(meaning)),
             *self.made_impl(union, f"(Required<String>, {kind})", [f"{snake(name)}_row", shown, f"{snake(name)}_row_shape"],
@@ -896,10 +904,11 @@ class Module:
             made += lines(Group("let row = (", [part, "row"], ")"), at, ";")
         return made + [f"{margin}write_struct(alloc, row, ser)"]
 
-    def inline_made(self, union, case, struct, row, is_open):
+    @staticmethod
+    def inline_made(union, case, struct, row, is_open, members):
         fields = {field.key: field for field in struct.fields}
-        made = [f'            "{case.data}" => {{']
-        for field, _, local, _ in row:
+        made = [f'            "{case.data}" => {{', *(members.made(case) if members else [])]
+        for field, _, local, _ in [] if members else row:
             if field.key in fields and not fields[field.key].optional:
                 one = f"                let {local} = {local}?;"
                 made += [one] if len(one) <= WIDTH else [f"                let {local} =", f"                    {local}?;"]
@@ -1427,6 +1436,7 @@ KINDS = {
 }
 
 
+MOST_AT_ONCE = 6  # of an inline union: how many fields its members have that are not put into parts
 SEARCHED_MEMBERS = 3  # of an envelope: how many arms the search proves
 UNTOLD_USES = [
     "use Rattle.std.proofs.Common.{◌≡◌, subst, sym}",

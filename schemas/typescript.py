@@ -1,8 +1,10 @@
 """The file of TypeScript that is made of a schema: types over the package `dagcbor`, each with an object of its name that has
 `decode` and `encode`."""
 
+import json
+
 from schemas.law import bounds
-from schemas.language import WIDTH, Language, camel, named_blocks
+from schemas.language import WIDTH, Language, camel, named, named_blocks, number_of
 from schemas.parsing import WIDTHS, Alias, Enum, Int, Leaf, Link, ListOf, MapOf, Member, Named, SchemaError, Struct, Union, Unit
 
 SCALARS = {"String": "string", "Bytes": "Uint8Array", "Bool": "boolean", "Any": "Data"}
@@ -84,6 +86,57 @@ function pairOf<T>(item: unknown, at: Place, key: string, read: Conversion<T>): 
   return read(value, [...at, 1]);
 }
 
+/** The values of a list of pairs, with their places. The keys stand in this order. */
+function pairsOf(
+  value: unknown,
+  at: Place,
+  least: number,
+  ...keys: string[]
+): Map<string, [unknown, Place]> {
+  const found = new Map<string, [unknown, Place]>();
+  let next = 0;
+  for (const [place, item] of itemsOf(value, at, least, keys.length).entries()) {
+    const [key, part] = itemsOf(item, [...at, place], 2);
+    const name = text(key, [...at, place, 0]);
+    next = keys.indexOf(name, next) + 1;
+    if (next === 0) throw refused('Msg', [...at, place, 0], 'unknown field');
+    found.set(name, [part, [...at, place, 1]]);
+  }
+  return found;
+}
+
+function paired<T>(
+  pairs: Map<string, [unknown, Place]>,
+  key: string,
+  at: Place,
+  read: Conversion<T>,
+): T {
+  const pair = pairs.get(key);
+  if (pair === undefined) throw refused('Msg', at, `missing field ${key}`);
+  return read(...pair);
+}
+
+/** The pieces of a text, of which there are so many. */
+function piecesOf(value: unknown, at: Place, join: string, count: number): string[] {
+  const pieces = text(value, at).split(join);
+  if (pieces.length === count) return pieces;
+  throw refused('Msg', at, `${count} pieces are wanted, and not ${pieces.length}`);
+}
+
+/** The text of these pieces, which is parted into them again. */
+function joined(at: Place, join: string, ...pieces: Data[]): string {
+  const whole = pieces.join(join);
+  const again = whole.split(join);
+  const isSame = again.length === pieces.length && again.every((it, i) => it === pieces[i]);
+  if (!isSame) throw refused('Msg', at, 'what separates the pieces is in one');
+  return whole;
+}
+
+/** A text after its prefix. */
+function prefixed(prefix: string, part: Data): string {
+  return `${prefix}${part as string}`;
+}
+
 /** Adds an item at its place, before which none is left out. */
 function put(items: Data[], place: number, at: Place, item: Data): void {
   if (items.length !== place) throw refused('Msg', [...at, items.length], 'missing field');
@@ -100,6 +153,11 @@ function toldBy(key: string, value: unknown, at: Place): [string, Entries] {
 /** The entries of a member, with the one that tells it. */
 function tagged(key: string, tag: string, entries: Data): Data {
   return { ...(entries as { [key: string]: Data }), [key]: tag };
+}
+
+/** Refuses what is in more lists and maps than a block has, such as a value that holds itself. */
+function bounded(at: Place): void {
+  if (at.length > 127) throw refused('DepthOverflow', at.slice(0, 127), 'too deep');
 }
 
 /** The one value of a unit. */
@@ -203,7 +261,7 @@ class TypeScript(Language):
     called = "TypeScript"
     suffix = ".ts"
     step = 2
-    kinds = ("bool", "int", "string", "bytes", "list", "map", "link")
+    kinds = ("bool", "int", "string", "bytes", "list", "map", "link", "null")
     taken = frozenset("Array CID Conversion DagCborError Data Entries Number Object BigInt Place Uint8Array".split())
     closed_modules = frozenset({"dagcbor"})
     front = named_blocks(FRONT, 1)
@@ -279,7 +337,7 @@ class TypeScript(Language):
 
     def companion(self, one):
         """The object of the type's name."""
-        read, write = (self.conversion(Named(one.name, one.place), way) for way in ("read", "write"))
+        read, write = (self.conversion(named(one), way) for way in ("read", "write"))
         return [
             f"export const {one.name} = {{",
             *self.arrow(f"decode: (block: Uint8Array): {one.name} =>", f"{read}(decode(block), [])"),
@@ -297,10 +355,15 @@ class TypeScript(Language):
     def both(self, one, read, write):
         """The two functions, of their bodies."""
         reads, writes = (self.function(way, one.name) for way in ("read", "write"))
+        bound = ["  bounded(at);"] if one.name in self.schema.recursive else []
         return [
             [f"function {reads}(value: unknown, at: Place): {one.name} {{", *read, "}"],
-            [f"function {writes}(value: unknown, at: Place): Data {{", *write, "}"],
+            [f"function {writes}(value: unknown, at: Place): Data {{", *bound, *write, "}"],
         ]
+
+    def recursive_alias(self, one):
+        read, write = (f"  return {self.conversion(one.of, way)}(value, at);" for way in ("read", "write"))
+        return self.both(one, [read], [write])
 
     # -- structs
 
@@ -342,9 +405,11 @@ class TypeScript(Language):
 
     def meant(self, field):
         """What a field means that is left out."""
-        value, kind = field.implicit.value, self.schema.resolve(field.type)
+        value, kind = field.implicit.value, self.schema.implied_type(field)
         if isinstance(value, Member):
             return quoted(value.name)
+        if isinstance(value, str):
+            return quoted(value)
         if isinstance(value, bool):
             return "true" if value else "false"
         return str(value) if kind.width in NARROW else f"{value}n"
@@ -391,6 +456,8 @@ class TypeScript(Language):
         return [*rows, "  return items;"]
 
     def struct_listpairs(self, struct):
+        if any(field.optional for field in struct.fields):
+            return self.both(struct, self.read_pairs(struct), self.written_pairs(struct))
         items = "const items = " if struct.fields else ""
         parts, pairs = [], []
         for place, field in enumerate(struct.fields):
@@ -402,6 +469,40 @@ class TypeScript(Language):
         held = "const held = " if struct.fields else ""
         return self.both(struct, read, [f"  {held}object<{struct.name}>(value, at);", *self.call(2, "return [", pairs, "];")])
 
+    def struct_stringjoin(self, struct):
+        join, count = quoted(struct.join), len(struct.fields)
+        parts, pieces = [], []
+        for place, field in enumerate(struct.fields):
+            name = self.field_name(field)
+            parts += self.call(4, f"{name}: {self.conversion(field.type, 'read')}(", [f"pieces[{place}]", "at"], "),")
+            pieces.append(f"{self.conversion(field.type, 'write')}(held.{name}, at)")
+        read = [f"  const pieces = piecesOf(value, at, {join}, {count});", *constructed(struct.name, parts, [])]
+        write = [f"  const held = object<{struct.name}>(value, at);", *self.call(2, "return joined(", ["at", join, *pieces], ");")]
+        return self.both(struct, read, write)
+
+    def read_pairs(self, struct):
+        """Of a list of pairs of which some may be left out."""
+        keys = [quoted(field.key) for field in struct.fields]
+        least = sum(not field.optional for field in struct.fields)
+        parts, optional = [], []
+        for field, key in zip(struct.fields, keys):
+            name, given = self.field_name(field), ["pairs", key, "at", self.conversion(field.type, "read")]
+            if field.optional:
+                optional += self.when(f"pairs.has({key})", self.call(2, f"held.{name} = paired(", given, ");"))
+            else:
+                parts += self.call(4, f"{name}: paired(", given, "),")
+        head = self.call(2, "const pairs = pairsOf(", ["value", "at", str(least), *keys], ");")
+        return head + constructed(struct.name, parts, optional)
+
+    def written_pairs(self, struct):
+        rows = [f"  const held = object<{struct.name}>(value, at);", "  const pairs: Data[] = [];"]
+        for field in struct.fields:
+            held = f"held.{self.field_name(field)}"
+            pair = [quoted(field.key), f"{self.conversion(field.type, 'write')}({held}, [...at, pairs.length, 1])"]
+            put = self.call(2, "pairs.push([", pair, "]);")
+            rows += self.when(f"{held} !== undefined", put) if field.optional else put
+        return [*rows, "  return pairs;"]
+
     def written_item(self, place, field):
         return f"{self.conversion(field.type, 'write')}(held.{self.field_name(field)}, [...at, {place}])"
 
@@ -411,7 +512,7 @@ class TypeScript(Language):
         return self.enum(enum, "text(value, at)", quoted)
 
     def enum_int(self, enum):
-        return self.enum(enum, "u64(value, at)", lambda data: f"{data}n")
+        return self.enum(enum, f"{number_of(enum)}(value, at)", lambda data: f"{data}n")
 
     def enum(self, enum, data, literal):
         read, write = [f"  switch ({data}) {{"], ["  switch (value) {"]
@@ -480,9 +581,17 @@ class TypeScript(Language):
         read += otherwise(f"[...at, {tag}]", "unknown variant")
         return self.both(union, read, [*write, *otherwise("at", "unknown variant")])
 
-    def case_kind(self, case):
-        """What a member of a kinded union holds: each int of the data, where its type is Int."""
-        return Int("i128", case.place) if isinstance(self.schema.resolve(case.type), Int) else case.type
+    def union_stringprefix(self, union):
+        read = ["  const whole = text(value, at);"]
+        write = [f"  const held = object<{union.name}>(value, at);", "  switch (held.kind) {"]
+        for case in union.cases:
+            prefix, kind = quoted(case.data), quoted(case.name)
+            call = f"{self.conversion(case.type, 'read')}(whole.slice({prefix}.length), at)"
+            read += self.when(f"whole.startsWith({prefix})", self.call(2, "return { ", [f"kind: {kind}", f"value: {call}"], " };"))
+            call = f"{self.conversion(case.type, 'write')}(held.value, at)"
+            write += [f"    case {kind}:", *self.call(6, "return prefixed(", [prefix, call], ");")]
+        read.append("  throw refused('Msg', at, 'unknown variant');")
+        return self.both(union, read, [*write, *otherwise("at", "unknown variant")])
 
     def union_kinded(self, union):
         """Each value stands for itself."""
@@ -536,7 +645,7 @@ def is_kinded(one):
 
 
 def quoted(text):
-    return "'" + text.replace("'", "\\'") + "'"
+    return "'" + json.dumps(text, ensure_ascii=False)[1:-1].replace('\\"', '"').replace("'", "\\'") + "'"
 
 
 def item_at(place):
@@ -548,7 +657,7 @@ def property_name(key):
     """A key in an object that is spelled out."""
     if key == "__proto__":
         return f"[{quoted(key)}]"
-    return key if key.isidentifier() else quoted(key)
+    return key if key.isascii() and key.isidentifier() else quoted(key)
 
 
 def otherwise(at, why):

@@ -1,4 +1,4 @@
-// Seconds of the processor for one go through a file of blocks: cars FILE COUNT
+// Seconds of the processor for one go through a CAR file: cars FILE COUNT
 //
 // Prints them in a line: of the library's digests, and of those of crypto/sha256.
 package main

@@ -1,4 +1,4 @@
-// Seconds of the processor for one go through a file of blocks, in each way: cars.js PACKAGE FILE
+// Seconds of the processor for one go through a CAR file, in each way: cars.js PACKAGE FILE
 // COUNT. Prints them in a line: `checkCar` of a stream, and of the bytes; `CarBlockIterator` of a
 // stream.
 'use strict';

@@ -1,4 +1,4 @@
-"""Seconds of the processor for one go through a file of blocks, in each way: cars.py FILE
+"""Seconds of the processor for one go through a CAR file, in each way: cars.py FILE
 
 Prints them in a line: `check_car` of the open file, and of its bytes; `read_car`, each section of
 the open file; `check_car` and `read_car` of the open file with digests by hashlib; and reading the

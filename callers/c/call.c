@@ -1,5 +1,6 @@
-/* Calls each export for each row of its table: call TABLE SECTIONS TEXTS HEADERS SPANS PATHS
- * SEGMENTS NODES MODELS. Prints the number of rows, or the row that is answered otherwise. */
+/* Calls each export for each row of its table, but dagcbor_car_next, which walk.c has: call TABLE
+ * SECTIONS TEXTS HEADERS SPANS PATHS SEGMENTS NODES MODELS. Prints the number of rows, or the row
+ * that is answered otherwise. */
 #include "rows.h"
 #include <inttypes.h>
 #include <stdbool.h>

@@ -1,6 +1,6 @@
-/* A file of blocks (CAR, of version 1 or 2), gone through as its bytes come, and the names in it.
-   Not proved, and no part of the library: what the bytes are say its calls, and nothing of a file
-   is parsed here. It is for one thread at a time, and takes its memory by malloc. */
+/* A CAR file (of version 1 or 2), gone through as its bytes come, and the names in it.
+   Not proved, and no part of the library: what the bytes are says dagcbor_car_next, and nothing of
+   a file is parsed here. It is for one thread at a time, and takes its memory by malloc. */
 #ifndef DAGCBOR_CAR_H
 #define DAGCBOR_CAR_H
 
@@ -56,18 +56,15 @@ typedef struct {
     const uint8_t *bytes;
     size_t length;
     uint64_t place;
-    uint64_t end;  /* of the file of version 1 in it, where that is of version 2 */
-    uint64_t skip; /* so many bytes of what comes are not looked at */
-    bool is_plain; /* of version 1, which ends where no bytes follow */
-    bool is_whole; /* no bytes follow those at hand */
-    Bytes gathered, roots; /* the roots are packed as dagcbor_links packs links */
-    Digest *is_digest;     /* or NULL, and the library alone is asked */
+    dagcbor_car_walk walk, before; /* which the last answer moved, and as it was before */
+    bool is_whole;                 /* no bytes follow those at hand */
+    Bytes gathered, roots;         /* the roots are packed as dagcbor_links packs links */
+    Digest *is_digest;             /* or NULL, and the library alone is asked */
     void *host;
 } Car;
 
-/* Why a walk stopped: one of these, or a number of the library that is below DAGCBOR_NOT_VERIFIED
- * (or, of the header, any below 0). */
-enum { CAR_MORE = 100, CAR_END = 101, CAR_NO_MEMORY = 102, CAR_FAILED = 103 };
+/* Why a walk stopped, beside what dagcbor_car_next answers. */
+enum { CAR_NO_MEMORY = 102, CAR_FAILED = 103 };
 
 static inline void car_free(Car *car) {
     bytes_free(&car->gathered);
@@ -86,24 +83,20 @@ static inline void car_lend(Car *car, const uint8_t *bytes, size_t length) {
     car->is_whole = true;
 }
 
-/* Goes so far. */
-static inline void car_pass(Car *car, size_t count) {
+/* Lets go of the bytes that the walk has passed. */
+static inline void car_pass(Car *car) {
+    uint64_t passed = car->walk.place - car->place;
+    size_t count = passed < car->length ? (size_t)passed : car->length;
     car->bytes += count;
     car->length -= count;
     car->place += count;
-}
-
-/* Passes what is at hand and not to be looked at. */
-static inline void car_skip(Car *car) {
-    size_t count = car->skip < car->length ? (size_t)car->skip : car->length;
-    car_pass(car, count);
-    car->skip -= count;
 }
 
 /* Takes bytes that follow. What is at hand stays at the front of what was gathered, where there is
  * room for twice as many once it grows: nothing is reserved from what a file says. */
 static inline bool car_gather(Car *car, const uint8_t *more, size_t count) {
     Bytes *all = &car->gathered;
+    car_pass(car);
     if (car->length && all->start != car->bytes) {
         memmove(all->start, car->bytes, car->length);
         car->bytes = all->start;
@@ -112,87 +105,58 @@ static inline bool car_gather(Car *car, const uint8_t *more, size_t count) {
     if (!bytes_add(all, more, count)) return false;
     car->bytes = dagcbor_from(all->start, all->used);
     car->length = all->used;
-    car_skip(car);
     return true;
 }
 
-/* How many bytes at hand are of the file of version 1, and whether more of them may come. */
-static inline size_t car_shown(const Car *car) {
-    uint64_t left = car->end - car->place;
-    return left < car->length ? (size_t)left : car->length;
+/* What comes next. Its places are counted from the bytes at hand, where they stay until the next
+ * call. At most so many of these are looked at. */
+static inline int32_t car_next(Car *car, size_t most, uint32_t how, size_t places[3]) {
+    car_pass(car);
+    car->before = car->walk;
+    size_t looked = car->length < most ? car->length : most;
+    if (car->is_whole && looked == car->length) how |= DAGCBOR_CAR_LAST;
+    return dagcbor_car_next(&car->walk, car->bytes, looked, how, places);
 }
 
-static inline bool car_may_grow(const Car *car) {
-    return !car->is_whole && car->length < car->end - car->place;
+/* What was answered last did not serve, for want of memory or as the host failed: it is to come
+ * again. */
+static inline int32_t car_back(Car *car, int32_t why) {
+    car->walk = car->before;
+    return why;
 }
 
-/* What is to be answered for a number: more bytes where they may help. */
-static inline int32_t car_answer(const Car *car, int32_t code) {
-    return code == DAGCBOR_TRUNCATED && car_may_grow(car) ? CAR_MORE : code;
-}
-
-/* The front of the file: 0, and the roots are there, and the first section is next. */
-static inline int32_t car_span(Car *car) {
-    uint64_t span[2];
-    car->end = UINT64_MAX;
-    int32_t code = dagcbor_car_span(car->bytes, car->length, span);
-    if (code < 0) return car_answer(car, code);
-    car->skip = span[0];
-    car->end = span[1];
-    car->is_plain = span[0] == 0;
-    car_skip(car);
-    return 0;
-}
-
+/* The front of the file: DAGCBOR_CAR_HEADER, and the roots are there. They take no more bytes than
+ * the header's block. */
 static inline int32_t car_header(Car *car) {
-    size_t needed, behind, shown = car->skip ? 0 : car_shown(car);
-    if (car->skip && !car->is_whole) return CAR_MORE;
-    int32_t code =
-        dagcbor_car_header(car->bytes, shown, dagcbor_into(NULL, 0), 0, &needed, &behind);
-    if (code < 0) return car_answer(car, code);
-    uint8_t *out = bytes_room(&car->roots, needed + 1);
-    if (!out) return CAR_NO_MEMORY;
-    dagcbor_car_header(car->bytes, shown, out, needed, &needed, &behind);
-    car->roots.used = needed;
-    car_pass(car, behind);
-    return 0;
+    size_t places[3];
+    int32_t code = car_next(car, SIZE_MAX, 0, places);
+    if (code != DAGCBOR_CAR_HEADER) return code;
+    size_t length = places[2] - places[1];
+    uint8_t *out = bytes_room(&car->roots, length);
+    if (!out) return car_back(car, CAR_NO_MEMORY);
+    dagcbor_links(car->bytes + places[1], length, out, length, &car->roots.used);
+    return code;
 }
 
-/* Reads a varint in shortest form, and answers in how many bytes; 0 where none stands there. */
-static inline size_t take_varint(const uint8_t *bytes, size_t count, uint64_t *number) {
-    *number = 0;
-    for (size_t at = 0; at < count && at < 10; at++) {
-        *number |= (uint64_t)(bytes[at] & 127) << (7 * at);
-        if (bytes[at] < 128) return (at > 0 && !bytes[at]) || (at == 9 && bytes[at] > 1) ? 0 : at + 1;
-    }
-    return 0;
+/* What is said of a section. Where its CID is of version 1, of DAG-CBOR or raw bytes, by SHA-256,
+ * the program computes the digest. */
+static inline int32_t car_verdict(const Car *car, const size_t places[3]) {
+    const uint8_t *name = car->bytes + places[0], *block = car->bytes + places[1];
+    size_t length = places[2] - places[1];
+    bool is_raw = memcmp(name, "\x01\x55\x12\x20", 4) == 0; /* no CID is shorter */
+    int is_same = 0;
+    if (is_raw || memcmp(name, "\x01\x71\x12\x20", 4) == 0)
+        is_same = car->is_digest(car->host, block, length, name + 4);
+    if (is_same < 0) return CAR_FAILED;
+    if (!is_same) return dagcbor_verify(name, places[1] - places[0], block, length);
+    return is_raw ? DAGCBOR_NOT_READ : dagcbor_check(block, length);
 }
 
-/* What is said of a section whose block is the one that its CID names, of version 1, of DAG-CBOR or
- * raw bytes, as the program's own SHA-256 says. CAR_MORE of any other: the library is to be asked. */
-static inline int32_t digested_section(const Car *car, size_t shown, size_t places[3]) {
-    enum { NAME = 36 };
-    uint64_t length;
-    size_t begin = take_varint(car->bytes, shown, &length);
-    if (!begin || length < NAME || length > shown - begin) return CAR_MORE;
-    const uint8_t *name = car->bytes + begin, *block = name + NAME;
-    bool is_raw = memcmp(name, "\x01\x55\x12\x20", 4) == 0;
-    if (!is_raw && memcmp(name, "\x01\x71\x12\x20", 4) != 0) return CAR_MORE;
-    int is_same = car->is_digest(car->host, block, length - NAME, name + 4);
-    if (is_same <= 0) return is_same ? CAR_FAILED : CAR_MORE;
-    places[0] = begin, places[1] = begin + NAME, places[2] = begin + length;
-    return is_raw ? DAGCBOR_NOT_READ : dagcbor_check(block, length - NAME);
-}
-
-/* What is said of the next section, whose places are counted from the bytes at hand; or why there
- * is none. It is not passed. At most so many of the bytes at hand are looked at. */
-static inline int32_t car_section(const Car *car, size_t most, size_t places[3]) {
-    size_t shown = car_shown(car), looked = shown < most ? shown : most;
-    if (shown == 0 && car->place == car->end) return CAR_END;
-    if (shown == 0 && car->is_whole && car->is_plain) return CAR_END;
-    int32_t code = car->is_digest ? digested_section(car, looked, places) : CAR_MORE;
-    if (code == CAR_MORE) code = dagcbor_car_section(car->bytes, looked, places);
-    return code == DAGCBOR_TRUNCATED && looked < shown ? CAR_MORE : car_answer(car, code);
+/* What is said of the next section, or why there is none. */
+static inline int32_t car_section(Car *car, size_t most, size_t places[3]) {
+    int32_t code = car_next(car, most, car->is_digest ? DAGCBOR_CAR_UNJUDGED : 0, places);
+    if (code == DAGCBOR_CAR_SECTION) code = car_verdict(car, places);
+    return code == CAR_FAILED ? car_back(car, code) : code;
 }
 
 /* Whether the number is that of a verdict, and not of why there is no section. */
@@ -390,23 +354,24 @@ static inline int32_t held_inside(const uint8_t *name, size_t length, size_t at)
     return dagcbor_verify(name, length, name + at, length - at);
 }
 
+/* Notes a section of this verdict. False where there is no memory. */
+static inline bool check_section(Check *check, int32_t code, const size_t places[3]) {
+    const uint8_t *name = check->car.bytes + places[0], *block = check->car.bytes + places[1];
+    bool is_read = code >= 0 && code != DAGCBOR_NOT_READ;
+    if (is_named(code) && !names_note(&check->names, name, places[1] - places[0], true))
+        return false;
+    if (is_read && !check_links(check, block, places[2] - places[1])) return false;
+    check->verdicts[code - DAGCBOR_NOT_VERIFIED]++;
+    return true;
+}
+
 /* Takes the sections at hand, as far as so many bytes. Answers why it stopped, or 0. */
 static inline int32_t check_sections(Check *check, size_t most) {
-    Car *car = &check->car;
-    for (size_t passed = 0; passed < most;) {
-        size_t places[3];
-        int32_t code = car_section(car, SIZE_MAX, places);
+    size_t places[3];
+    for (size_t passed = 0; passed < most; passed += places[2]) {
+        int32_t code = car_section(&check->car, SIZE_MAX, places);
         if (!is_verdict(code)) return code;
-        const uint8_t *at = car->bytes;
-        if (is_named(code) &&
-            !names_note(&check->names, at + places[0], places[1] - places[0], true))
-            return CAR_NO_MEMORY;
-        if (code >= 0 && code != DAGCBOR_NOT_READ &&
-            !check_links(check, at + places[1], places[2] - places[1]))
-            return CAR_NO_MEMORY;
-        check->verdicts[code - DAGCBOR_NOT_VERIFIED]++;
-        car_pass(car, places[2]);
-        passed += places[2];
+        if (!check_section(check, code, places)) return car_back(&check->car, CAR_NO_MEMORY);
     }
     return 0;
 }

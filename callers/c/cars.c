@@ -1,4 +1,4 @@
-/* Goes through a file of blocks, of version 1 or 2, and prints a line for each root, and for each
+/* Goes through a CAR file, of version 1 or 2, and prints a line for each root, and for each
    section its CID and the number of what is said of its block:
 
        cars FILE
@@ -35,9 +35,7 @@ static void print_cid(const char *before, const uint8_t *cid, size_t length) {
 
 static int32_t print_roots(Car *car, FILE *file) {
     int32_t code;
-    while ((code = car_span(car)) == CAR_MORE) fill(car, file);
-    if (code < 0) return code;
-    while ((code = car_header(car)) == CAR_MORE) fill(car, file);
+    while ((code = car_header(car)) == DAGCBOR_CAR_MORE) fill(car, file);
     const uint8_t *roots = car->roots.start;
     for (size_t at = 0; at < car->roots.used; at += 1 + roots[at]) {
         print_cid("root ", roots + at + 1, roots[at]);
@@ -46,16 +44,15 @@ static int32_t print_roots(Car *car, FILE *file) {
     return code;
 }
 
-/* Prints the next section, and passes it; or answers why there is none. */
+/* Prints the next section; or answers why there is none. */
 static int32_t print_section(Car *car, FILE *file) {
     size_t places[3];
     int32_t code;
-    while ((code = car_section(car, SIZE_MAX, places)) == CAR_MORE) fill(car, file);
+    while ((code = car_section(car, SIZE_MAX, places)) == DAGCBOR_CAR_MORE) fill(car, file);
     if (!is_verdict(code)) return code;
     print_cid("", car->bytes + places[0], places[1] - places[0]);
     printf(" %" PRId32 "\n", code);
-    car_pass(car, places[2]);
-    return 0;
+    return DAGCBOR_CAR_SECTION;
 }
 
 int main(int count, char **words) {
@@ -64,11 +61,12 @@ int main(int count, char **words) {
     Car car;
     car_start(&car);
     int32_t code = print_roots(&car, file);
-    while (code == 0) code = print_section(&car, file);
+    while (code == DAGCBOR_CAR_HEADER || code == DAGCBOR_CAR_SECTION)
+        code = print_section(&car, file);
     if (code == CAR_NO_MEMORY) give_up("out of memory");
-    if (code == CAR_END) puts("end");
-    else printf("%" PRId32 " at %" PRIu64 "\n", code, car.place + car.skip);
+    if (code == DAGCBOR_CAR_END) puts("end");
+    else printf("%" PRId32 " at %" PRIu64 "\n", code, car.walk.place);
     car_free(&car);
     fclose(file);
-    return code != CAR_END;
+    return code != DAGCBOR_CAR_END;
 }

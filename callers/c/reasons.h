@@ -15,10 +15,10 @@ static inline const char *reason_of_code(int32_t code) {
         return "a float or another simple value, a link without a byte string, or a reserved width";
     case DAGCBOR_REQUIRE_UTF8: return "a text that is not UTF-8";
     case DAGCBOR_DEPTH_OVERFLOW: return "lists and maps are in each other too deep";
-    case DAGCBOR_TRAILING_DATA: return "bytes behind the item";
+    case DAGCBOR_TRAILING_DATA: return "bytes after the item";
     case DAGCBOR_INDEFINITE_SIZE: return "an indefinite length or a break";
     case DAGCBOR_NON_MINIMAL: return "a number or a length in more bytes than it needs";
-    case DAGCBOR_UNORDERED_KEY: return "a key that does not come behind the one before it";
+    case DAGCBOR_UNORDERED_KEY: return "a key that does not come after the one before it";
     case DAGCBOR_OTHER_BYTES: return "the bytes are not those that the CID names";
     case DAGCBOR_NOT_VERIFIED:
         return "the CID is by another hash function than SHA-256 and the identity";
@@ -32,7 +32,7 @@ static inline const char *reason_of_code(int32_t code) {
     case DAGCBOR_INVALID_CHARACTER: return "a character is not in the alphabet of the base";
     case DAGCBOR_INVALID_TEXT_LENGTH:
         return "the last character of the text begins a byte and does not end it";
-    case DAGCBOR_TRAILING_BITS: return "bits that are not zero stand behind the last byte";
+    case DAGCBOR_TRAILING_BITS: return "bits that are not zero stand after the last byte";
     case DAGCBOR_LEADING_ZERO: return "the text begins with a zero byte, as no CID does";
     case DAGCBOR_INVALID_VERSION: return "version 0 has no prefix, and version 1 has one";
     case DAGCBOR_INVALID_OFFSET: return "the offsets of version 2 are none";
@@ -46,7 +46,7 @@ static inline const char *reason_of_code(int32_t code) {
     case DAGCBOR_UNSORTED_LINKS: return "the links are not sorted by their names";
     case DAGCBOR_JSON_NO_TEXT: return "the text is not UTF-8";
     case DAGCBOR_JSON_NO_JSON: return "the text is not JSON";
-    case DAGCBOR_JSON_TRAILING_DATA: return "more stands behind the value";
+    case DAGCBOR_JSON_TRAILING_DATA: return "more stands after the value";
     case DAGCBOR_JSON_TOO_DEEP: return "lists and maps are in each other too deep";
     case DAGCBOR_JSON_FLOAT: return "a number has a fraction or an exponent";
     case DAGCBOR_JSON_OUT_OF_RANGE: return "an integer is not from -2^64 to 2^64 - 1";

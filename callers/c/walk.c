@@ -1,6 +1,8 @@
-/* Holds car.h, which the packages for Python and Node stand on, over each file of a table: walk
-   FILES. Each is put in one piece and in small ones, and then with each allocation failing in turn:
-   the answer is right, or there is no memory. So it is too where the program computes digests. */
+/* Holds dagcbor_car_next, and car.h, which the packages for Python and Node stand on, over each
+   file of a table: walk FILES. Each file is cut once at each of its bytes: what is answered is what
+   the row says, at the same places. And each is put in one piece and in small ones, and then with
+   each allocation failing in turn: the answer is right, or there is no memory. So it is too where
+   the program computes digests. */
 #include <stdlib.h>
 
 static long left; /* allocations that are granted; below 0 all */
@@ -48,18 +50,16 @@ static bool put_more(Check *check, size_t *at, size_t piece) {
 
 /* Goes through the file, by pieces of that size. Answers why it stopped. */
 static int32_t walked(Check *check, size_t piece) {
-    typedef int32_t Step(Car *);
-    static Step *const steps[] = {car_span, car_header};
     size_t at = 0;
-    for (int step = 0;;) {
-        int32_t code = step < 2 ? steps[step](&check->car) : check_sections(check, 100);
-        if (code == 0 && step < 2) step++;
-        else if (code == CAR_MORE && !put_more(check, &at, piece)) return CAR_NO_MEMORY;
-        else if (code != 0 && code != CAR_MORE) return code;
-        if (code != 0 || step != 2) continue;
-        step++;
-        if (!names_want(&check->names, check->car.roots.start, check->car.roots.used))
+    bool is_begun = false;
+    for (;;) {
+        int32_t code = is_begun ? check_sections(check, 100) : car_header(&check->car);
+        if (code == DAGCBOR_CAR_MORE && put_more(check, &at, piece)) continue;
+        if (code == DAGCBOR_CAR_MORE) return CAR_NO_MEMORY;
+        if (code != 0 && code != DAGCBOR_CAR_HEADER) return code;
+        if (!is_begun && !names_want(&check->names, check->car.roots.start, check->car.roots.used))
             return CAR_NO_MEMORY;
+        is_begun = true;
     }
 }
 
@@ -87,12 +87,11 @@ static bool is_right(size_t piece, const char *fault, const char *missing, bool 
     if (!check_start(&check)) exit(2);
     check.car.is_digest = is_digest;
     int32_t code = walked(&check, piece);
-    *has_memory = code != CAR_NO_MEMORY && (code != CAR_END || check_inside(&check));
+    *has_memory = code != CAR_NO_MEMORY && (code != DAGCBOR_CAR_END || check_inside(&check));
     strcpy(told, "-");
-    uint64_t place = check.car.place + check.car.skip;
-    if (code != CAR_END) sprintf(told, "%" PRId32 ":%" PRIu64, code, place);
+    if (code != DAGCBOR_CAR_END) sprintf(told, "%" PRId32 ":%" PRIu64, code, check.car.walk.place);
     bool is_well = !*has_memory || strcmp(told, fault) == 0;
-    if (*has_memory && code == CAR_END) {
+    if (*has_memory && code == DAGCBOR_CAR_END) {
         tell_missing(&check.names, told);
         is_well = is_well && strcmp(told, missing) == 0;
     }
@@ -119,6 +118,76 @@ static bool holds(const char *fault, const char *missing) {
     return is_right(MOST, fault, missing, &has_memory) && fails_well(fault, missing);
 }
 
+static char *put_hex(char *out, const uint8_t *bytes, size_t count) {
+    while (count--) out += sprintf(out, "%02x", *bytes++);
+    return out;
+}
+
+static void put_roots(char *out, const uint8_t *block, size_t size) {
+    static uint8_t links[MOST];
+    size_t used;
+    dagcbor_links(block, size, links, sizeof links, &used);
+    for (size_t at = 0; at < used; at += 1 + links[at]) {
+        if (at) *out++ = ',';
+        out = put_hex(out, links + at + 1, links[at]);
+    }
+}
+
+/* Whether a section is told so: judged or not. */
+static bool is_section(int32_t code, uint32_t how) {
+    return how & DAGCBOR_CAR_UNJUDGED ? code == DAGCBOR_CAR_SECTION : is_verdict(code);
+}
+
+static char *put_section(char *out, const uint8_t *bytes, const size_t places[3], int32_t code) {
+    const uint8_t *name = bytes + places[0], *block = bytes + places[1];
+    size_t size = places[1] - places[0], count = places[2] - places[1];
+    if (code == DAGCBOR_CAR_SECTION) code = dagcbor_verify(name, size, block, count);
+    return put_hex(out, name, size) + sprintf(out + 2 * size, ":%zu:%" PRId32 ",", count, code);
+}
+
+/* What dagcbor_car_next answers of the file that is cut there: all bytes are at hand once those
+ * before the cut do not tell what comes next. In the words of a row. */
+static void tell_cut(size_t cut, uint32_t how, char *told) {
+    static char roots[2 * MOST], sections[2 * MOST];
+    dagcbor_car_walk walk = {0, 0, 0, 0};
+    size_t end = cut, from, places[3];
+    char *to = sections;
+    int32_t code;
+    strcpy(roots, "-"), strcpy(sections, "-");
+    for (;;) {
+        from = walk.place < end ? (size_t)walk.place : end;
+        uint32_t last = end == length ? DAGCBOR_CAR_LAST : 0;
+        code = dagcbor_car_next(&walk, file + from, end - from, how | last, places);
+        if (code == DAGCBOR_CAR_MORE && !last) end = length;
+        else if (code == DAGCBOR_CAR_HEADER)
+            put_roots(roots, file + from + places[1], places[2] - places[1]);
+        else if (walk.step && is_section(code, how))
+            to = put_section(to, file + from, places, code);
+        else break;
+        if (code != DAGCBOR_CAR_MORE && walk.place != from + places[2]) code = 99;
+        if (code == 99) break;
+    }
+    if (to != sections) to[-1] = 0;
+    told += sprintf(told, "%s %s ", roots, sections);
+    strcpy(told, "-");
+    from = walk.place < length ? (size_t)walk.place : length;
+    if (dagcbor_car_next(&walk, file + from, length - from, how | DAGCBOR_CAR_LAST, places) != code)
+        code = 98;
+    if (code != DAGCBOR_CAR_END) sprintf(told, "%" PRId32 ":%" PRIu64, code, walk.place);
+}
+
+/* Wherever the file is cut, what the row says is answered. */
+static bool are_right_cuts(char *const field[4]) {
+    static char wanted[4 * MOST], told[4 * MOST];
+    sprintf(wanted, "%s %s %s", field[1], field[2], field[3]);
+    for (size_t cut = 0; cut <= length; cut += 1 + length / 1000)
+        for (uint32_t how = 0; how <= DAGCBOR_CAR_UNJUDGED; how += DAGCBOR_CAR_UNJUDGED) {
+            tell_cut(cut, how, told);
+            if (strcmp(told, wanted) != 0) return false;
+        }
+    return true;
+}
+
 static size_t from_hex(const char *text, uint8_t *out) {
     size_t count = 0;
     unsigned byte;
@@ -138,6 +207,7 @@ int main(int count, char **words) {
         if (line[0] == '#') continue;
         for (int i = 0; i < 5; i++) field[i] = strtok(i ? NULL : line, " \n");
         length = from_hex(field[0], bytes);
+        if (!are_right_cuts(field)) return printf("wrong where it is cut: %s\n", field[0]), 1;
         for (int way = 0; way < 2; way++) {
             is_digest = ways[way];
             if (!holds(field[3], field[4])) return printf("wrong: %s\n", field[0]), 1;

@@ -1,7 +1,7 @@
 package dagcbor
 
 /*
-#include "dagcbor.h"
+#include <dagcbor.h>
 */
 import "C"
 
@@ -10,35 +10,31 @@ import "encoding/binary"
 // CID is the name of a block. It is a key of maps, and its zero value names nothing.
 type CID struct{ bytes string }
 
-// ParseCID reads a text: Qm.. of version 0, and of version 1 behind b, B, z or f.
+// ParseCID reads a text: Qm.. of version 0, and of version 1 after b, B, z or f.
 func ParseCID(text string) (CID, error) {
-	bytes, err := converted([]byte(text), false)
-	return CID{bytes}, err
-}
-
-// CIDOf takes the binary form.
-func CIDOf(bytes []byte) (CID, error) {
-	if _, err := converted(bytes, true); err != nil {
-		return CID{}, err
+	at, length := from([]byte(text))
+	bytes, code := putInto(C.DAGCBOR_CID_MOST, func(to *room) C.int32_t {
+		return C.dagcbor_cid_from_text(at, length, to.out, to.size, &to.needed)
+	})
+	if code < 0 {
+		return CID{}, refused(code, -1)
 	}
 	return CID{string(bytes)}, nil
 }
 
-// The text of a CID, or the CID of a text.
-func converted(given []byte, isCID bool) (string, error) {
-	var out [C.DAGCBOR_CID_TEXT_MOST]byte
-	var needed C.size_t
-	var code C.int32_t
-	at, length := from(given)
-	if isCID {
-		code = C.dagcbor_cid_text(at, length, (*C.uint8_t)(&out[0]), C.size_t(len(out)), &needed)
-	} else {
-		code = C.dagcbor_cid_from_text(at, length, (*C.uint8_t)(&out[0]), C.size_t(len(out)), &needed)
+// CIDOf takes the binary form.
+func CIDOf(bytes []byte) (CID, error) {
+	if _, code := textOf(bytes); code < 0 {
+		return CID{}, refused(code, -1)
 	}
-	if code < 0 {
-		return "", refused(code, -1)
-	}
-	return string(out[:needed]), nil
+	return CID{string(bytes)}, nil
+}
+
+func textOf(cid []byte) ([]byte, C.int32_t) {
+	at, length := from(cid)
+	return putInto(C.DAGCBOR_CID_TEXT_MOST, func(to *room) C.int32_t {
+		return C.dagcbor_cid_text(at, length, to.out, to.size, &to.needed)
+	})
 }
 
 // NewCID is that of version 1, of a codec, and a digest by a hash function.
@@ -56,10 +52,10 @@ func (cid CID) Defined() bool { return cid.bytes != "" }
 // Bytes are the binary form.
 func (cid CID) Bytes() []byte { return []byte(cid.bytes) }
 
-// String is the text: Qm.. of version 0, and base32 behind b of version 1.
+// String is the text: Qm.. of version 0, and base32 after b of version 1.
 func (cid CID) String() string {
-	text, _ := converted(cid.Bytes(), true)
-	return text // none of the zero value
+	text, _ := textOf(cid.Bytes())
+	return string(text) // none of the zero value
 }
 
 // Version is 0 or 1.

@@ -1,5 +1,5 @@
 // Package dagcbor is DAG-CBOR by a proved library: whether bytes are a block, what they hold, how
-// data is spelled, and files of blocks (CAR).
+// data is spelled, and CAR files.
 //
 // What this package does by itself is not proved: it reads values out of blocks that the library has
 // judged, and writes values as bytes that it judges then. It parses no text of a CID.
@@ -14,8 +14,8 @@ package dagcbor
 #cgo amd64 LDFLAGS: -L${SRCDIR}/lib/x86_64
 #cgo arm64 LDFLAGS: -L${SRCDIR}/lib/aarch64
 #cgo LDFLAGS: -L${SRCDIR}/../../crates/dagcbor_ffi/out -ldagcbor_ffi
-#include "dagcbor.h"
-#include "reasons.h"
+#include <dagcbor.h>
+#include <reasons.h>
 */
 import "C"
 
@@ -40,12 +40,13 @@ const (
 	List
 	Map
 	Link
-	negative // of a head alone: an integer below 0, which Integer is not then
+	negative  // of a head alone: an integer below 0, which Integer is not then
+	wholeItem // of whatever kind
 )
 
 func (kind Kind) String() string { return C.GoString(C.dagcbor_name_of_code(C.int32_t(kind))) }
 
-// Error says why bytes are no block, no file of blocks or no CID, or why a value has no block, or a
+// Error says why bytes are no block, no CAR file or no CID, or why a value has no block, or a
 // block not the type of one.
 type Error struct {
 	Kind  string       // the reason, as "NonMinimal"
@@ -166,26 +167,26 @@ func Name(block []byte) CID {
 // Links are those of the first item, repeats kept. What follows it is not looked at.
 func Links(block []byte) ([]CID, error) {
 	at, length := from(block)
-	links, code := unpacked(func(out *C.uint8_t, room C.size_t, needed *C.size_t) C.int32_t {
-		return C.dagcbor_links(at, length, out, room, needed)
+	packed, code := putInto(256, func(to *room) C.int32_t {
+		return C.dagcbor_links(at, length, to.out, to.size, &to.needed)
 	})
 	if code < 0 {
 		return nil, refusedIn(block, code)
 	}
-	return links, nil
+	return unpacked(packed), nil
 }
 
 // NodeLinks are the links of a block of DAG-PB, in its order, whatever their names are.
 func NodeLinks(node []byte) ([]CID, error) {
 	var place C.size_t
 	at, length := from(node)
-	links, code := unpacked(func(out *C.uint8_t, room C.size_t, needed *C.size_t) C.int32_t {
-		return C.dagcbor_node_links(at, length, out, room, needed, &place)
+	packed, code := putInto(256, func(to *room) C.int32_t {
+		return C.dagcbor_node_links(at, length, to.out, to.size, &to.needed, &place)
 	})
 	if code < 0 {
 		return nil, refused(code, int64(place))
 	}
-	return links, nil
+	return unpacked(packed), nil
 }
 
 // FromNode is the data model of a block of DAG-PB, as a block of DAG-CBOR: a map of Links and, if
@@ -194,8 +195,8 @@ func NodeLinks(node []byte) ([]CID, error) {
 func FromNode(node []byte) ([]byte, error) {
 	var place C.size_t
 	at, length := from(node)
-	block, code := putInto(2*len(node)+64, func(out *C.uint8_t, room C.size_t, needed *C.size_t) C.int32_t {
-		return C.dagcbor_from_node(at, length, out, room, needed, &place)
+	block, code := putInto(2*len(node)+64, func(to *room) C.int32_t {
+		return C.dagcbor_from_node(at, length, to.out, to.size, &to.needed, &place)
 	})
 	switch {
 	case code == C.DAGCBOR_NAME_NOT_TEXT:
@@ -210,8 +211,8 @@ func FromNode(node []byte) ([]byte, error) {
 // writes it. Links that are not sorted by the bytes of their names are refused: "UnsortedLinks".
 func ToNode(block []byte) ([]byte, error) {
 	at, length := from(block)
-	node, code := putInto(len(block), func(out *C.uint8_t, room C.size_t, needed *C.size_t) C.int32_t {
-		return C.dagcbor_to_node(at, length, out, room, needed)
+	node, code := putInto(len(block), func(to *room) C.int32_t {
+		return C.dagcbor_to_node(at, length, to.out, to.size, &to.needed)
 	})
 	switch {
 	case code < C.DAGCBOR_NO_ROOM:
@@ -222,31 +223,30 @@ func ToNode(block []byte) ([]byte, error) {
 	return node, nil
 }
 
-// The bytes that a call puts into room, of which it is given so much at first.
-func putInto(length int, call func(out *C.uint8_t, room C.size_t, needed *C.size_t) C.int32_t) ([]byte, C.int32_t) {
-	var needed C.size_t
-	room := make([]byte, length+1)
-	code := call((*C.uint8_t)(&room[0]), C.size_t(len(room)), &needed)
-	if code == C.DAGCBOR_NO_ROOM {
-		room = make([]byte, needed)
-		code = call((*C.uint8_t)(&room[0]), needed, &needed)
-	}
-	return room[:needed], code
+// Room for what a call puts, and how much that needs.
+type room struct {
+	out          *C.uint8_t
+	size, needed C.size_t
 }
 
-// The CIDs that a call packs into room: a byte of length before each.
-func unpacked(pack func(out *C.uint8_t, room C.size_t, needed *C.size_t) C.int32_t) (found []CID, code C.int32_t) {
-	var needed C.size_t
-	room := make([]byte, 256)
-	code = pack((*C.uint8_t)(&room[0]), C.size_t(len(room)), &needed)
-	if int(needed) > len(room) {
-		room = make([]byte, needed)
-		code = pack((*C.uint8_t)(&room[0]), needed, &needed)
+// The bytes that a call puts into room, of which it is given so much at first.
+func putInto(length int, call func(*room) C.int32_t) ([]byte, C.int32_t) {
+	for {
+		bytes := make([]byte, length+1)
+		to := room{out: (*C.uint8_t)(&bytes[0]), size: C.size_t(len(bytes))}
+		code := call(&to)
+		if to.needed <= to.size {
+			return bytes[:to.needed], code
+		}
+		length = int(to.needed)
 	}
-	for left := room[:needed]; len(left) > 0; {
-		end := 1 + int(left[0])
-		found = append(found, CID{string(left[1:end])})
-		left = left[end:]
+}
+
+// The CIDs that are packed: each with a byte of its length before it.
+func unpacked(packed []byte) (found []CID) {
+	for len(packed) > 0 {
+		end := 1 + int(packed[0])
+		found, packed = append(found, CID{string(packed[1:end])}), packed[end:]
 	}
-	return found, code
+	return found
 }

@@ -1,10 +1,10 @@
 package dagcbor
 
 import (
+	"bytes"
 	"encoding"
 	"encoding/binary"
 	"io"
-	"math"
 	"math/big"
 	"math/bits"
 	"reflect"
@@ -22,11 +22,8 @@ const (
 
 type writer struct {
 	block    []byte
-	levels   int   // of lists and maps around
-	pointers int   // around
-	keys     keys  // of the maps around
-	values   []any // of these, where they are of any type
-	sorted   keys
+	levels   int  // of lists and maps around
+	pointers int  // around
 	looks    bool // for the text that is not UTF-8, or the link that is no CID
 	lastType reflect.Type
 	lastPlan *plan
@@ -116,7 +113,7 @@ func (writer *writer) any(value any) error {
 		writer.block = appendBool(writer.block, it)
 		return nil
 	case map[string]any:
-		return writer.entries(it)
+		return writer.anyMap(it)
 	case CID:
 		return writer.link(it.bytes)
 	}
@@ -205,95 +202,50 @@ func (writer *writer) open(first byte, count int) error {
 	return writer.head(first, uint64(count))
 }
 
-// A key of a map: which it is, and a number by which nearly all are sorted: the length of its text,
-// and the first bytes.
-type key struct {
-	rank uint64
-	at   int
+// An entry of a map: its key, and which it is.
+type entry struct {
+	key string
+	at  int
 }
 
-func keyOf(text string, at int) key {
-	if len(text) >= 1<<8-1 {
-		return key{math.MaxUint64, at}
-	}
-	rank := uint64(len(text))
-	for i := 0; i < 7; i++ {
-		rank <<= 8
-		if i < len(text) {
-			rank |= uint64(text[i])
-		}
-	}
-	return key{rank, at}
-}
+// Entries that are put in the order of blocks.
+type entries []entry
 
-// Keys that are put in the order of blocks, and their texts, which stay as they are.
-type keys struct {
-	order []key
-	texts []string
-}
-
-func (keys *keys) Len() int      { return len(keys.order) }
-func (keys *keys) Swap(i, j int) { keys.order[i], keys.order[j] = keys.order[j], keys.order[i] }
-func (keys *keys) Less(i, j int) bool {
-	if one, other := keys.order[i].rank, keys.order[j].rank; one != other {
-		return one < other
-	}
-	one, other := keys.texts[keys.order[i].at], keys.texts[keys.order[j].at]
+func (all entries) Len() int      { return len(all) }
+func (all entries) Swap(i, j int) { all[i], all[j] = all[j], all[i] }
+func (all entries) Less(i, j int) bool {
+	one, other := all[i].key, all[j].key
 	return len(one) < len(other) || len(one) == len(other) && one < other
 }
 
-func (writer *writer) entries(entries map[string]any) error {
-	if entries == nil {
+func (writer *writer) anyMap(of map[string]any) error {
+	if of == nil {
 		return writer.head(headNull, 0)
 	}
-	start, first := len(writer.keys.order), len(writer.values)
-	for text, value := range entries {
-		writer.addKey(text, start)
-		writer.values = append(writer.values, value)
+	all, values := make(entries, 0, len(of)), make([]any, 0, len(of))
+	for key, value := range of {
+		all, values = append(all, entry{key, len(values)}), append(values, value)
 	}
-	err := writer.eachEntry(start, func(at int) error { return writer.any(writer.values[first+at]) })
-	for i := range writer.values[first:] {
-		writer.values[first+i] = nil // and not kept alive
-	}
-	writer.values = writer.values[:first]
-	return err
+	return writer.entries(all, func(at int) error { return writer.any(values[at]) })
 }
 
-// A key more of the map whose keys begin there.
-func (writer *writer) addKey(text string, start int) {
-	keys := &writer.keys
-	keys.order = append(keys.order, keyOf(text, len(keys.order)-start))
-	keys.texts = append(keys.texts, text)
-}
-
-// Writes a map of the keys from so many on, and the value of each.
-func (writer *writer) eachEntry(start int, write func(at int) error) error {
-	all := &writer.keys
-	count := len(all.order) - start
-	if err := writer.open(headMap, count); err != nil {
+// Writes a map of the entries, and the value of each.
+func (writer *writer) entries(all entries, write func(at int) error) error {
+	if err := writer.open(headMap, len(all)); err != nil {
 		return err
 	}
-	writer.sorted = keys{all.order[start:], all.texts[start:]}
-	sort.Sort(&writer.sorted)
-	last := ""
-	for i := start; i < start+count; i++ {
-		at := all.order[i].at
-		text := all.texts[start+at]
-		if i > start && text == last {
-			return within(text, refusedValue("UnorderedKey", "a key is there twice"))
+	sort.Sort(all)
+	for i, it := range all {
+		if i > 0 && it.key == all[i-1].key {
+			return within(it.key, refusedValue("UnorderedKey", "a key is there twice"))
 		}
-		if err := writer.text(text); err != nil {
+		if err := writer.text(it.key); err != nil {
 			return err
 		}
-		if err := write(at); err != nil {
-			return within(text, err)
+		if err := write(it.at); err != nil {
+			return within(it.key, err)
 		}
-		last = text
 	}
-	for i := range all.texts[start:] {
-		all.texts[start+i] = ""
-	}
-	all.order, all.texts = all.order[:start], all.texts[:start]
 	writer.levels--
 	return nil
 }
@@ -320,23 +272,17 @@ func addText(block []byte, value reflect.Value) []byte { return appendText(block
 func writeString(writer *writer, value reflect.Value) error { return writer.text(value.String()) }
 
 func writeBytes(writer *writer, value reflect.Value) error {
-	switch {
-	case value.Kind() == reflect.Array:
-		writer.head(headBytes, uint64(value.Len()))
-		for i := 0; i < value.Len(); i++ {
-			writer.block = append(writer.block, byte(value.Index(i).Uint()))
-		}
-		return nil
-	case value.IsNil():
-		return writer.head(headNull, 0)
+	if value.Kind() == reflect.Slice {
+		return writer.bytes(value.Bytes())
 	}
-	return writer.bytes(value.Bytes())
+	writer.head(headBytes, uint64(value.Len()))
+	for i := 0; i < value.Len(); i++ {
+		writer.block = append(writer.block, byte(value.Index(i).Uint()))
+	}
+	return nil
 }
 
 func writeInterface(writer *writer, value reflect.Value) error {
-	if value.IsNil() {
-		return writer.head(headNull, 0)
-	}
 	return writer.any(value.Interface())
 }
 
@@ -356,8 +302,8 @@ func writeBig(writer *writer, value reflect.Value) error {
 }
 
 // Writes a value by its method.
-func writesBy(
-	put func(*writer, []byte) error, method func(any) ([]byte, error),
+func writesBy[T any](
+	put func(*writer, []byte) error, method func(T) ([]byte, error),
 ) func(*writer, reflect.Value) error {
 	return func(writer *writer, value reflect.Value) error {
 		bytes, err := bytesBy(value, method)
@@ -368,22 +314,33 @@ func writesBy(
 	}
 }
 
+// An item that a method spells is judged by itself, so that it is one, and no more.
+func (writer *writer) item(spelled []byte) error {
+	if code := check(spelled); code < 0 {
+		return refusedIn(spelled, code)
+	}
+	writer.block = append(writer.block, spelled...)
+	return nil
+}
+
+func itemOfStream(it streamMarshaler) ([]byte, error) {
+	var spelled bytes.Buffer
+	err := it.MarshalCBOR(&spelled)
+	return spelled.Bytes(), err
+}
+
 func putText(writer *writer, text []byte) error { return writer.text(string(text)) }
 
 func putLink(writer *writer, cid []byte) error { return writer.link(string(cid)) }
 
-func keyString(it any) ([]byte, error) { return []byte(it.(linker).KeyString()), nil }
-
-func marshalText(it any) ([]byte, error) { return it.(encoding.TextMarshaler).MarshalText() }
-
-func marshalBinary(it any) ([]byte, error) { return it.(encoding.BinaryMarshaler).MarshalBinary() }
+func keyString(cid linker) ([]byte, error) { return []byte(cid.KeyString()), nil }
 
 // The bytes by a method of the value.
-func bytesBy(value reflect.Value, method func(any) ([]byte, error)) ([]byte, error) {
+func bytesBy[T any](value reflect.Value, method func(T) ([]byte, error)) ([]byte, error) {
 	if !value.CanInterface() {
 		return nil, refusedType("Unsupported", value.Type(), notCallable)
 	}
-	bytes, cause := method(pointerTo(value))
+	bytes, cause := method(pointerTo(value).(T))
 	if cause != nil {
 		err := refusedType("Unsupported", value.Type(), "is not written: "+cause.Error())
 		err.cause = cause
@@ -394,9 +351,6 @@ func bytesBy(value reflect.Value, method func(any) ([]byte, error)) ([]byte, err
 
 func pointers(target *plan) plan {
 	write := func(writer *writer, value reflect.Value) error {
-		if value.IsNil() {
-			return writer.head(headNull, 0)
-		}
 		if writer.pointers++; writer.pointers > mostPointers {
 			return refusedType("DepthOverflow", value.Type(), "points into a ring")
 		}
@@ -409,9 +363,6 @@ func pointers(target *plan) plan {
 
 func lists(part *plan) plan {
 	write := func(writer *writer, value reflect.Value) error {
-		if value.Kind() == reflect.Slice && value.IsNil() {
-			return writer.head(headNull, 0)
-		}
 		count := value.Len()
 		if err := writer.open(headList, count); err != nil {
 			return err
@@ -447,7 +398,7 @@ func (made planner) maps(of reflect.Type) plan {
 	isString, pointer := of.Key().Kind() == reflect.String, reflect.PointerTo(of.Key())
 	it, part := noPlan("Mismatch", "has keys that are no strings, and have no MarshalText"), made.plan(of.Elem())
 	if isString || pointer.Implements(ofText) {
-		it.write = writeMap(isString, part)
+		it.write = writeMap(part)
 	}
 	if isString || pointer.Implements(fromText) {
 		it.read = readMap(isString, part)
@@ -455,28 +406,29 @@ func (made planner) maps(of reflect.Type) plan {
 	return it
 }
 
-func writeMap(isString bool, part *plan) func(*writer, reflect.Value) error {
+func textOfKey(key reflect.Value) (string, error) {
+	if key.Kind() == reflect.String {
+		return key.String(), nil
+	}
+	text, err := bytesBy(key, encoding.TextMarshaler.MarshalText)
+	return string(text), err
+}
+
+func writeMap(part *plan) func(*writer, reflect.Value) error {
 	return func(writer *writer, value reflect.Value) error {
-		if value.IsNil() {
-			return writer.head(headNull, 0)
-		}
-		of, start := value.Type(), len(writer.keys.order)
-		key := reflect.New(of.Key()).Elem()
-		values := reflect.MakeSlice(reflect.SliceOf(of.Elem()), value.Len(), value.Len())
-		for i, entries := 0, value.MapRange(); entries.Next(); i++ {
-			key.SetIterKey(entries)
-			values.Index(i).SetIterValue(entries)
-			if isString {
-				writer.addKey(key.String(), start)
-				continue
-			}
-			text, err := bytesBy(key, marshalText)
+		of, count := value.Type(), value.Len()
+		key, all := reflect.New(of.Key()).Elem(), make(entries, count)
+		values := reflect.MakeSlice(reflect.SliceOf(of.Elem()), count, count)
+		for i, left := 0, value.MapRange(); left.Next(); i++ {
+			key.SetIterKey(left)
+			values.Index(i).SetIterValue(left)
+			text, err := textOfKey(key)
 			if err != nil {
 				return err
 			}
-			writer.addKey(string(text), start)
+			all[i] = entry{text, i}
 		}
-		return writer.eachEntry(start, func(at int) error { return part.write(writer, values.Index(at)) })
+		return writer.entries(all, func(at int) error { return part.write(writer, values.Index(at)) })
 	}
 }
 
@@ -487,10 +439,17 @@ func writeFields(fields []field) func(*writer, reflect.Value) error {
 		writer.block = appendHead(writer.block, headMap, uint64(len(fields)))
 		body := len(writer.block)
 		writer.levels++
+		isFast := writer.levels <= mostLevels && !writer.looks
 		for i := range fields {
-			isSent, err := writer.field(&fields[i], value)
+			field := &fields[i]
+			if isFast && field.isPlain {
+				writer.block = field.add(append(writer.block, field.key...), value.Field(field.index[0]))
+				count++
+				continue
+			}
+			isSent, err := writer.field(field, value)
 			if err != nil {
-				return within(fields[i].name, err)
+				return within(field.name, err)
 			}
 			if isSent {
 				count++
@@ -508,20 +467,14 @@ func writeFields(fields []field) func(*writer, reflect.Value) error {
 
 // Writes the field of the struct. Whether it is an entry.
 func (writer *writer) field(field *field, value reflect.Value) (isSent bool, err error) {
-	if field.outer != nil {
-		if value = field.embeddedIn(value); !value.IsValid() {
-			return false, nil
-		}
-	}
-	value = value.Field(field.at)
+	value, isNil := value.FieldByIndexErr(field.index)
 	switch {
+	case isNil != nil: // a pointer on the way
+		return false, nil
 	case field.isLeft != nil && field.isLeft(value):
 		return false, nil
 	case writer.levels > mostLevels:
 		return true, refusedValue("DepthOverflow", tooDeep)
-	case field.add != nil && !writer.looks:
-		writer.block = field.add(append(writer.block, field.key...), value)
-		return true, nil
 	}
 	writer.block = append(writer.block, field.key...)
 	return true, field.write(writer, value)

@@ -1,7 +1,7 @@
 package dagcbor
 
 /*
-#include "dagcbor.h"
+#include <dagcbor.h>
 */
 import "C"
 

@@ -3,6 +3,7 @@ package dagcbor
 import (
 	"bytes"
 	"encoding"
+	"io"
 	"math/big"
 	"reflect"
 	"sort"
@@ -56,6 +57,10 @@ func (made planner) plan(of reflect.Type) *plan {
 		*it = plan{write: writeBig, read: readBig}
 	default:
 		*it = made.planOfKind(of)
+		switch of.Kind() {
+		case reflect.Interface, reflect.Pointer, reflect.Slice, reflect.Map:
+			*it = it.orNull()
+		}
 		if write := methodWriter(of); write != nil {
 			it.add, it.write = nil, write
 		}
@@ -95,6 +100,24 @@ func (made planner) planOfKind(of reflect.Type) plan {
 	return noPlan("Unsupported", "is none of the types of data")
 }
 
+// The plan of a type whose values may be nil, which is null.
+func (of plan) orNull() plan {
+	write := func(writer *writer, value reflect.Value) error {
+		if value.IsNil() {
+			return writer.head(headNull, 0)
+		}
+		return of.write(writer, value)
+	}
+	read := func(reader *reader, it item, into reflect.Value) error {
+		if it.kind == Null && into.CanSet() {
+			into.Set(reflect.Zero(into.Type()))
+			return nil
+		}
+		return of.read(reader, it, into)
+	}
+	return plan{write: write, read: read}
+}
+
 // The plan of a type that is not written, nor read.
 func noPlan(kind, said string) plan {
 	write := func(_ *writer, value reflect.Value) error { return refusedType(kind, value.Type(), said) }
@@ -113,15 +136,48 @@ type linker interface {
 	encoding.BinaryUnmarshaler
 }
 
+// Marshaler is a value that spells its own item, as for fxamacker/cbor: one block by itself.
+type Marshaler interface{ MarshalCBOR() ([]byte, error) }
+
+// Unmarshaler is a value that reads its own item, whatever that is, also null. The bytes are lent.
+type Unmarshaler interface{ UnmarshalCBOR(item []byte) error }
+
+// The same as whyrusleeping/cbor-gen makes them.
+type streamMarshaler interface{ MarshalCBOR(io.Writer) error }
+type streamUnmarshaler interface{ UnmarshalCBOR(io.Reader) error }
+
+// RawMessage is an item as it is spelled. It is written as it stands, and null where it is nil.
+type RawMessage []byte
+
+// MarshalCBOR gives the bytes.
+func (raw RawMessage) MarshalCBOR() ([]byte, error) {
+	if raw == nil {
+		return []byte{headNull}, nil
+	}
+	return raw, nil
+}
+
+// UnmarshalCBOR copies the bytes.
+func (raw *RawMessage) UnmarshalCBOR(item []byte) error {
+	*raw = append(RawMessage{}, item...)
+	return nil
+}
+
 var (
-	ofCID     = reflect.TypeOf(CID{})
-	ofBig     = reflect.TypeOf(big.Int{})
-	ofLinker  = reflect.TypeOf((*linker)(nil)).Elem()
-	ofText    = reflect.TypeOf((*encoding.TextMarshaler)(nil)).Elem()
-	ofBinary  = reflect.TypeOf((*encoding.BinaryMarshaler)(nil)).Elem()
-	fromText  = reflect.TypeOf((*encoding.TextUnmarshaler)(nil)).Elem()
-	fromBytes = reflect.TypeOf((*encoding.BinaryUnmarshaler)(nil)).Elem()
+	ofCID      = reflect.TypeOf(CID{})
+	ofBig      = reflect.TypeOf(big.Int{})
+	ofLinker   = typeOf[linker]()
+	ofItem     = typeOf[Marshaler]()
+	ofStream   = typeOf[streamMarshaler]()
+	ofText     = typeOf[encoding.TextMarshaler]()
+	ofBinary   = typeOf[encoding.BinaryMarshaler]()
+	fromItem   = typeOf[Unmarshaler]()
+	fromStream = typeOf[streamUnmarshaler]()
+	fromText   = typeOf[encoding.TextUnmarshaler]()
+	fromBytes  = typeOf[encoding.BinaryUnmarshaler]()
 )
+
+func typeOf[T any]() reflect.Type { return reflect.TypeOf((*T)(nil)).Elem() }
 
 // How a type is written by its own methods, or those of a pointer to it. MarshalText is asked as by
 // json. Of a struct that shows no field, which json writes as {}, a CID of go-cid is a link, and
@@ -129,12 +185,16 @@ var (
 func methodWriter(of reflect.Type) func(*writer, reflect.Value) error {
 	pointer, shows := reflect.PointerTo(of), showsFields(of)
 	switch {
+	case pointer.Implements(ofItem):
+		return writesBy((*writer).item, Marshaler.MarshalCBOR)
+	case pointer.Implements(ofStream):
+		return writesBy((*writer).item, itemOfStream)
 	case pointer.Implements(ofLinker) && !shows:
 		return writesBy(putLink, keyString)
 	case pointer.Implements(ofText):
-		return writesBy(putText, marshalText)
+		return writesBy(putText, encoding.TextMarshaler.MarshalText)
 	case pointer.Implements(ofBinary) && !shows:
-		return writesBy((*writer).bytes, marshalBinary)
+		return writesBy((*writer).bytes, encoding.BinaryMarshaler.MarshalBinary)
 	}
 	return nil
 }
@@ -142,12 +202,16 @@ func methodWriter(of reflect.Type) func(*writer, reflect.Value) error {
 func methodReader(of reflect.Type) func(*reader, item, reflect.Value) error {
 	pointer, shows := reflect.PointerTo(of), showsFields(of)
 	switch {
+	case pointer.Implements(fromItem):
+		return readsBy(wholeItem, Unmarshaler.UnmarshalCBOR)
+	case pointer.Implements(fromStream):
+		return readsBy(wholeItem, streamOfItem)
 	case pointer.Implements(ofLinker) && !shows:
-		return readsBy(Link, unmarshalBinary)
+		return readsBy(Link, encoding.BinaryUnmarshaler.UnmarshalBinary)
 	case pointer.Implements(fromText):
-		return readsBy(String, unmarshalText)
+		return readsBy(String, encoding.TextUnmarshaler.UnmarshalText)
 	case pointer.Implements(fromBytes) && !shows:
-		return readsBy(Bytes, unmarshalBinary)
+		return readsBy(Bytes, encoding.BinaryUnmarshaler.UnmarshalBinary)
 	}
 	return nil
 }
@@ -158,43 +222,29 @@ type field struct {
 	of       reflect.Type
 	name     string
 	key      []byte // the name as a block has it
-	outer    []int  // the embedded structs that it is in
-	at       int
+	index    []int  // of the embedded structs that it is in, and its own
 	isTagged bool
+	isPlain  bool                     // of the struct itself, never left out, and always with its bytes
 	isLeft   func(reflect.Value) bool // out of a block; nil of one that never is
 	refusal  string
-}
-
-// The embedded struct that the field is in; the zero value where a pointer is nil.
-func (field *field) embeddedIn(value reflect.Value) reflect.Value {
-	for _, it := range field.outer {
-		value = value.Field(it)
-		if value.Kind() == reflect.Pointer {
-			if value = value.Elem(); !value.IsValid() {
-				return value
-			}
-		}
-	}
-	return value
 }
 
 // The field to be set, with pointers that are nil set before; or the type of one that is not exported,
 // and so cannot be.
 func (field *field) into(value reflect.Value) (reflect.Value, reflect.Type) {
-	for _, it := range field.outer {
-		value = value.Field(it)
-		if value.Kind() != reflect.Pointer {
-			continue
-		}
-		if value.IsNil() {
-			if !value.CanSet() {
+	for depth, at := range field.index {
+		if depth > 0 && value.Kind() == reflect.Pointer {
+			switch {
+			case value.IsNil() && !value.CanSet():
 				return value, value.Type().Elem()
+			case value.IsNil():
+				value.Set(reflect.New(value.Type().Elem()))
 			}
-			value.Set(reflect.New(value.Type().Elem()))
+			value = value.Elem()
 		}
-		value = value.Elem()
+		value = value.Field(at)
 	}
-	return value.Field(field.at), nil
+	return value, nil
 }
 
 func (made planner) structs(of reflect.Type) plan {
@@ -203,7 +253,9 @@ func (made planner) structs(of reflect.Type) plan {
 		if fields[i].refusal != "" {
 			return noPlan("Unsupported", fields[i].refusal)
 		}
-		fields[i].plan = made.plan(fields[i].of)
+		it := &fields[i]
+		it.plan = made.plan(it.of)
+		it.isPlain = len(it.index) == 1 && it.isLeft == nil && it.add != nil
 	}
 	if len(fields) == 0 && hides {
 		return noPlan("Unsupported", "shows no field, and has no MarshalText or MarshalBinary")
@@ -232,8 +284,8 @@ func (field *field) isBefore(other *field) bool {
 	if order := bytes.Compare(field.key, other.key); order != 0 {
 		return order < 0
 	}
-	if len(field.outer) != len(other.outer) {
-		return len(field.outer) < len(other.outer)
+	if len(field.index) != len(other.index) {
+		return len(field.index) < len(other.index)
 	}
 	return field.isTagged && !other.isTagged
 }
@@ -265,16 +317,16 @@ func (outer embedded) fields() (entries []field, inner []embedded, hides bool) {
 	for i := 0; i < outer.NumField(); i++ {
 		it := outer.Field(i)
 		tag := tagOf(it)
-		if tag == "-" || it.Name == "_" {
+		name, options, _ := strings.Cut(tag, ",")
+		if tag == "-" || it.Name == "_" && options != "toarray" {
 			continue
 		}
-		name, options, _ := strings.Cut(tag, ",")
-		part := embeddedBy(it)
+		part, index := embeddedBy(it), append(append([]int{}, outer.index...), i)
 		switch {
 		case part != nil && name == "" && showsFields(part):
-			inner = append(inner, embedded{part, append(append([]int{}, outer.index...), i)})
+			inner = append(inner, embedded{part, index})
 		case isEntry(it, name, part):
-			entries = append(entries, newField(it, name, options, outer.index))
+			entries = append(entries, newField(it, name, options, index))
 		default:
 			hides = true
 		}
@@ -283,14 +335,16 @@ func (outer embedded) fields() (entries []field, inner []embedded, hides bool) {
 }
 
 func tagOf(it reflect.StructField) string {
-	if tag, ok := it.Tag.Lookup("dagcbor"); ok {
-		return tag
+	for _, key := range []string{"dagcbor", "cbor"} {
+		if tag, ok := it.Tag.Lookup(key); ok {
+			return tag
+		}
 	}
 	return it.Tag.Get("json")
 }
 
-func newField(it reflect.StructField, name, options string, outer []int) field {
-	made := field{of: it.Type, name: name, outer: outer, at: it.Index[0], isTagged: name != ""}
+func newField(it reflect.StructField, name, options string, index []int) field {
+	made := field{of: it.Type, name: name, index: index, isTagged: name != ""}
 	if name == "" {
 		made.name = it.Name
 	}
@@ -306,6 +360,8 @@ func newField(it reflect.StructField, name, options string, outer []int) field {
 			made.isLeft = isZero
 		case "string":
 			made.refusal = `has a field with the option "string", which is json's alone: ` + it.Name
+		case "keyasint", "toarray":
+			made.refusal = `has a field with the option "` + option + `", which no block has: ` + it.Name
 		}
 	}
 	return made
@@ -362,7 +418,7 @@ func embeddedBy(it reflect.StructField) reflect.Type {
 func isEntry(it reflect.StructField, name string, embeds reflect.Type) bool {
 	switch {
 	case embeds == nil:
-		return it.IsExported()
+		return it.IsExported() || it.Name == "_"
 	case showsFields(embeds):
 		return true
 	}

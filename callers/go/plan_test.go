@@ -376,6 +376,88 @@ func TestByMethods(t *testing.T) {
 	equal(t, []any{Unmarshal(mustMarshal(t, value), &same), same}, []any{nil, value})
 }
 
+// An item by its methods, as for fxamacker/cbor, and as cbor-gen makes them.
+type spelled struct{ item string }
+
+func (it spelled) MarshalCBOR() ([]byte, error) { return []byte(it.item), refusing(it.item) }
+func (it *spelled) UnmarshalCBOR(item []byte) error {
+	it.item = string(item)
+	return refusing(it.item[1:])
+}
+
+type streamed struct{ Item string }
+
+func (it *streamed) MarshalCBOR(to io.Writer) error {
+	_, err := io.WriteString(to, it.Item)
+	return err
+}
+func (it *streamed) UnmarshalCBOR(from io.Reader) error {
+	item, err := io.ReadAll(from)
+	it.Item = string(item)
+	return err
+}
+
+func TestItems(t *testing.T) {
+	type items struct {
+		A spelled
+		B *spelled
+		C []streamed
+		D RawMessage
+		E map[string]RawMessage
+		F *streamed `dagcbor:",omitempty"`
+	}
+	list, text := "\x82\xf6\x61a", "\x62hi"
+	full := items{spelled{list}, &spelled{text}, []streamed{{"\xf6"}, {list}}, RawMessage(list), map[string]RawMessage{"x": RawMessage(text)}, nil}
+	block := mustMarshal(t, full)
+	equal(t, string(block), "\xa5\x61A"+list+"\x61B"+text+"\x61C\x82\xf6"+list+"\x61D"+list+"\x61E\xa1\x61x"+text)
+	var again items
+	equal(t, []any{Unmarshal(block, &again), again}, []any{nil, full})
+	equal(t, mustMarshal(t, []any{RawMessage(nil), (*spelled)(nil), &streamed{"\x01"}}), []byte("\x83\xf6\xf6\x01"))
+	var raw RawMessage
+	rest, err := UnmarshalFirst([]byte("\xa1\x61a\x01\x02"), &raw)
+	equal(t, []any{string(raw), rest, err}, []any{"\xa1\x61a\x01", []byte{2}, nil})
+	for _, row := range []struct {
+		item, kind string
+		place      int64
+	}{{"", "Eof", 0}, {"\x01\x01", "TrailingData", 1}, {"\x82\x01\x18\x17", "NonMinimal", 3}, {"\xfa\x00\x00\x00\x00", "Unsupported", 0}} {
+		for _, value := range []any{RawMessage(row.item), spelled{row.item}, streamed{row.item}} {
+			_, err := Marshal(map[string]any{"a": value})
+			refusal := refusalOf(t, err)
+			equal(t, []any{refusal.Kind, refusal.Place, refusal.Path}, []any{row.kind, row.place, []any{"a"}})
+		}
+	}
+	_, err = Marshal(spelled{"no"})
+	equal(t, errors.Is(err, errRefusing), true)
+	err = Unmarshal(unhex("81626e6f"), new([]spelled))
+	equal(t, []any{errors.Is(err, errRefusing), refusalOf(t, err).Path}, []any{true, []any{0}})
+	deep := RawMessage(strings.Repeat("\x81", 127) + "\x01")
+	_ = mustMarshal(t, deep)
+	_, err = Marshal([]RawMessage{deep})
+	equal(t, refusalOf(t, err).Kind, "DepthOverflow")
+}
+
+// The tag for fxamacker/cbor counts before json's, and after our own.
+func TestTags(t *testing.T) {
+	type tagged struct {
+		A int `json:"x" cbor:"a" dagcbor:"b"`
+		B int `json:"y" cbor:"c,omitempty"`
+		C int `json:"d"`
+		D int `json:"z" cbor:"-"`
+	}
+	equal(t, mustMarshal(t, tagged{A: 1}), []byte("\xa2\x61b\x01\x61d\x00"))
+	var read tagged
+	equal(t, []any{Unmarshal([]byte("\xa4\x61A\x01\x61a\x02\x61b\x03\x61x\x04"), &read), read}, []any{nil, tagged{A: 3}})
+	for _, value := range []any{struct {
+		A int `cbor:"1,keyasint"`
+	}{}, struct {
+		_ struct{} `cbor:",toarray"`
+		A int
+	}{}} {
+		_, err := Marshal(value)
+		equal(t, refusalOf(t, err).Kind, "Unsupported")
+	}
+}
+
 func refusalOf(t *testing.T, err error) *Error {
 	t.Helper()
 	var refusal *Error

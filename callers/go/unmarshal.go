@@ -3,7 +3,6 @@ package dagcbor
 import (
 	"bytes"
 	"encoding"
-	"encoding/binary"
 	"io"
 	"math/big"
 	"reflect"
@@ -51,20 +50,56 @@ func settable(into any) error {
 	return nil
 }
 
+// What is read of a reader, and not given yet.
+type input struct {
+	reader io.Reader
+	left   []byte
+	err    error // of the reader, after what is left
+}
+
+// So many bytes are read at once, at least, where the reader has them.
+const piece = 1 << 13
+
+// Reads once, into room that doubles.
+func (input *input) fill() {
+	if count := len(input.left); cap(input.left)-count < piece {
+		input.left = append(input.left, make([]byte, count+piece)...)[:count]
+	}
+	count := 0
+	for i := 0; i < 100 && count == 0 && input.err == nil; i++ {
+		count, input.err = input.reader.Read(input.left[len(input.left):cap(input.left)])
+	}
+	if count == 0 && input.err == nil {
+		input.err = io.ErrNoProgress
+	}
+	input.left = input.left[:len(input.left)+count]
+}
+
+// Passes so many bytes, as far as the reader has them.
+func (input *input) pass(count uint64) {
+	for count > uint64(len(input.left)) && input.err == nil {
+		count -= uint64(len(input.left))
+		input.left = input.left[:0]
+		input.fill()
+	}
+	if held := uint64(len(input.left)); count > held {
+		count = held
+	}
+	input.left = input.left[count:]
+}
+
 // A Decoder reads blocks that come one after the other. It may read more than it gives, and keeps it.
 type Decoder struct {
-	from     io.Reader
-	left     []byte // read, and not given
-	whole    span   // of the item that it begins with, as far as it is gone through
+	input
+	whole    span // of the item that what is left begins with, as far as it is gone through
 	place    int64
 	isStrict bool
-	err      error // of the reader, after what is left
 	refusal  error // of what is left
 }
 
 // NewDecoder reads what an Encoder writes.
 func NewDecoder(from io.Reader) *Decoder {
-	return &Decoder{from: progress{from}, whole: span{left: 1}}
+	return &Decoder{input: input{reader: from}, whole: span{left: 1}}
 }
 
 // DisallowUnknownFields makes an entry that a struct has no field for an error, "UnknownField".
@@ -78,8 +113,8 @@ func (decoder *Decoder) InputOffset() int64 { return decoder.place }
 
 // More says whether anything follows. It may read.
 func (decoder *Decoder) More() bool {
-	for len(decoder.left) == 0 && decoder.err == nil {
-		decoder.err = decoder.fill()
+	if len(decoder.left) == 0 && decoder.err == nil {
+		decoder.fill()
 	}
 	return len(decoder.left) > 0
 }
@@ -108,12 +143,12 @@ func (decoder *Decoder) next() ([]byte, error) {
 	}
 	for !decoder.whole.pass(decoder.left) {
 		switch {
+		case decoder.err == nil:
+			decoder.fill()
 		case decoder.err == io.EOF && len(decoder.left) > 0:
 			decoder.whole = span{at: len(decoder.left)} // of which the library says what is missing
-		case decoder.err != nil:
-			return nil, decoder.err
 		default:
-			decoder.err = decoder.fill()
+			return nil, decoder.err
 		}
 	}
 	block := decoder.left[:decoder.whole.at]
@@ -129,24 +164,6 @@ func (decoder *Decoder) placed(err error) error {
 		it.Place += decoder.place
 	}
 	return err
-}
-
-// Reads once, into room that doubles.
-func (decoder *Decoder) fill() error {
-	decoder.left = roomy(decoder.left, 1<<12)
-	count, err := decoder.from.Read(decoder.left[len(decoder.left):cap(decoder.left)])
-	decoder.left = decoder.left[:len(decoder.left)+count]
-	return err
-}
-
-// The bytes, with room for so many more after them.
-func roomy(left []byte, piece int) []byte {
-	if cap(left)-len(left) >= piece {
-		return left
-	}
-	grown := make([]byte, len(left), 2*len(left)+2*piece)
-	copy(grown, left)
-	return grown
 }
 
 // A block, which the library has judged, and where in it the next head stands.
@@ -173,16 +190,10 @@ func headOf(bytes []byte) (kind Kind, number uint64, length int) {
 		if len(bytes) < length {
 			return kind, 0, 0
 		}
-	}
-	switch length {
-	case 2:
-		number = uint64(bytes[1])
-	case 3:
-		number = uint64(binary.BigEndian.Uint16(bytes[1:]))
-	case 5:
-		number = uint64(binary.BigEndian.Uint32(bytes[1:]))
-	case 9:
-		number = binary.BigEndian.Uint64(bytes[1:])
+		number = 0
+		for _, it := range bytes[1:length] {
+			number = number<<8 | uint64(it)
+		}
 	}
 	return kind, number, length
 }
@@ -263,11 +274,11 @@ func capped(number uint64) uint64 {
 	return number
 }
 
-// Passes an item, with what is in it.
-func (reader *reader) pass() {
+// The length of the next item, with what is in it.
+func (reader *reader) length() uint64 {
 	whole := span{reader.at, 1}
 	whole.pass(reader.block)
-	reader.at = whole.at
+	return uint64(whole.at - reader.at)
 }
 
 func (reader *reader) text() string {
@@ -383,25 +394,25 @@ func readCID(reader *reader, it item, into reflect.Value) error {
 	return nil
 }
 
-// Reads items of the kind by a method of the value.
-func readsBy(of Kind, method func(any, []byte) error) func(*reader, item, reflect.Value) error {
+func streamOfItem(into streamUnmarshaler, item []byte) error {
+	return into.UnmarshalCBOR(bytes.NewReader(item))
+}
+
+// Reads items of the kind by a method of the value, or any item, with its head.
+func readsBy[T any](of Kind, method func(T, []byte) error) func(*reader, item, reflect.Value) error {
 	return func(reader *reader, it item, into reflect.Value) error {
+		if of == wholeItem {
+			reader.at = it.start
+			it = item{it.start, of, reader.length()}
+		}
 		switch {
 		case it.kind != of:
 			return unfit(it, into)
 		case !into.CanInterface():
 			return mismatch(it.start, into.Type(), notCallable)
 		}
-		return refusedBy(it.start, into.Type(), method(into.Addr().Interface(), reader.take(it.number)))
+		return refusedBy(it.start, into.Type(), method(into.Addr().Interface().(T), reader.take(it.number)))
 	}
-}
-
-func unmarshalText(into any, text []byte) error {
-	return into.(encoding.TextUnmarshaler).UnmarshalText(text)
-}
-
-func unmarshalBinary(into any, bytes []byte) error {
-	return into.(encoding.BinaryUnmarshaler).UnmarshalBinary(bytes)
 }
 
 // The error of a value's own method.
@@ -415,11 +426,8 @@ func refusedBy(start int, of reflect.Type, cause error) error {
 }
 
 func readBytes(reader *reader, it item, into reflect.Value) error {
-	isSlice := into.Kind() == reflect.Slice
 	switch {
-	case it.kind == Null && isSlice:
-		into.Set(reflect.Zero(into.Type()))
-	case it.kind == Bytes && isSlice:
+	case it.kind == Bytes && into.Kind() == reflect.Slice:
 		into.SetBytes(append([]byte{}, reader.take(it.number)...))
 	case it.kind == Bytes && into.Len() == int(it.number):
 		copy(into.Slice(0, into.Len()).Bytes(), reader.take(it.number))
@@ -433,8 +441,6 @@ func readBytes(reader *reader, it item, into reflect.Value) error {
 func readInterface(reader *reader, it item, into reflect.Value) error {
 	held := into.Elem()
 	switch {
-	case it.kind == Null:
-		into.Set(reflect.Zero(into.Type()))
 	case held.Kind() == reflect.Pointer && !held.IsNil():
 		return planOf(held.Type()).read(reader, it, held)
 	case into.NumMethod() > 0:
@@ -447,10 +453,7 @@ func readInterface(reader *reader, it item, into reflect.Value) error {
 
 func readPointer(target *plan) func(*reader, item, reflect.Value) error {
 	return func(reader *reader, it item, into reflect.Value) error {
-		switch isNull := it.kind == Null; {
-		case isNull && into.CanSet():
-			into.Set(reflect.Zero(into.Type()))
-			return nil
+		switch {
 		case into.IsNil() && !into.CanSet():
 			return mismatch(it.start, into.Type().Elem(), notSet)
 		case into.IsNil():
@@ -467,12 +470,9 @@ func readPointer(target *plan) func(*reader, item, reflect.Value) error {
 
 func readList(part *plan) func(*reader, item, reflect.Value) error {
 	return func(reader *reader, it item, into reflect.Value) error {
-		count, isSlice := int(it.number), into.Kind() == reflect.Slice
+		count := int(it.number)
 		switch {
-		case it.kind == Null && isSlice:
-			into.Set(reflect.Zero(into.Type()))
-			return nil
-		case it.kind == List && isSlice:
+		case it.kind == List && into.Kind() == reflect.Slice:
 			into.Set(reflect.MakeSlice(into.Type(), count, count))
 		case it.kind != List || into.Len() != count:
 			return unfit(it, into)
@@ -490,9 +490,6 @@ func readMap(isString bool, part *plan) func(*reader, item, reflect.Value) error
 	return func(reader *reader, it item, into reflect.Value) error {
 		of := into.Type()
 		switch {
-		case it.kind == Null:
-			into.Set(reflect.Zero(of))
-			return nil
 		case it.kind != Map:
 			return unfit(it, into)
 		case into.IsNil():
@@ -507,7 +504,8 @@ func readMap(isString bool, part *plan) func(*reader, item, reflect.Value) error
 				key.SetString(text)
 			} else {
 				key.Set(noKey)
-				if err := refusedBy(start, of.Key(), unmarshalText(key.Addr().Interface(), []byte(text))); err != nil {
+				cause := key.Addr().Interface().(encoding.TextUnmarshaler).UnmarshalText([]byte(text))
+				if err := refusedBy(start, of.Key(), cause); err != nil {
 					return within(text, err)
 				}
 			}
@@ -561,7 +559,7 @@ func (reader *reader) field(start int, field *field, into reflect.Value) error {
 		return within(reader.text(), err)
 	}
 	if field == nil {
-		reader.pass()
+		reader.take(reader.length())
 		return nil
 	}
 	part, unset := field.into(into)

@@ -401,7 +401,7 @@ NAPI_MODULE_INIT() {
                {"carOpen", car_open}, {"carPut", car_put}, {"carGo", car_go},
                {"carFound", car_found}};
     napi_value shared = number_of(env, SHARED);
-    if (!has_processor()) return raise(env, "dagcbor wants an x86-64-v2 processor");
+    if (!is_platform(env)) return NULL;
     if (!shared || !put_own(env, exports)) return raise(env, "a call of Node-API failed");
     TRY(napi_set_named_property(env, exports, "shared", shared));
     for (size_t i = 0; i < sizeof all / sizeof *all; i++)

@@ -35,7 +35,7 @@ napi_value doubles(napi_env env, const void *numbers, size_t count); /* a Float6
 napi_value array_of(napi_env env, const napi_value *parts, uint32_t count);
 
 bool put_call(napi_env env, napi_value exports, const char *name, napi_callback call);
-bool has_processor(void); /* for which the code of the libraries is */
+bool is_platform(napi_env env); /* for which the code is; else an exception is thrown */
 
 /* Of texts */
 size_t put_latin1(const uint8_t *text, size_t length, uint8_t *units);
@@ -43,7 +43,7 @@ size_t put_units(const uint8_t *text, size_t length, uint16_t *units);
 bool is_latin1(const uint8_t *text, size_t length);
 uint8_t *put_utf8(const uint16_t *units, size_t count, uint8_t *out);
 
-/* Of files of blocks */
+/* Of CAR files */
 napi_value car_open(napi_env env, napi_callback_info info);
 napi_value car_put(napi_env env, napi_callback_info info);
 napi_value car_go(napi_env env, napi_callback_info info);

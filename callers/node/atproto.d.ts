@@ -34,21 +34,21 @@ export interface RepoCommit extends Signed {
 }
 
 /**
- * The repository that a file of blocks is. The commit and the whole tree are verified; records need
+ * The repository that a CAR file is. The commit and the whole tree are verified; records need
  * not be in the file. Of anything else a DagCborError tells why, in the words of `dagcar records`,
  * and its `kind` is undefined. The file is in memory meanwhile, and a thread of the pool reads it.
  */
 export function readRepo(source: Uint8Array | Source): Promise<Repository>;
 
 /**
- * The commit that the first root of a file of blocks names. No other block need be in the file, so
+ * The commit that the first root of a CAR file names. No other block need be in the file, so
  * that of an event serves, or that of `recordProof`. Of anything else a DagCborError tells why, in
  * the words of `dagcar commit`.
  */
 export function readCommit(source: Uint8Array | Source): Promise<RepoCommit>;
 
 /**
- * A file of blocks that proves which record the key has, or that it has none: the commit, the nodes
+ * A CAR file that proves which record the key has, or that it has none: the commit, the nodes
  * on the way to the key, and the record, if there is one. No other blocks need be in the source. Of
  * anything else a DagCborError tells why, in the words of `dagcar record-proof`.
  */
@@ -82,7 +82,7 @@ export interface RepoOp {
   readonly prev: CID | null;
 }
 
-/** A commit, as the host tells of it. `blocks` is a file of blocks, for `CarReader`. */
+/** A commit, as the host tells of it. `blocks` is a CAR file, for `CarReader`. */
 export class CommitEvent extends Frame {
   readonly seq: number | bigint;
   readonly repo: string;

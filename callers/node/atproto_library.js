@@ -1,13 +1,13 @@
 // What answers the library's calls that take memory: an addon of its own, over one of its own.
 'use strict';
-const { existsSync } = require('fs');
-const { join } = require('path');
+const { addonOf, addonPaths, platform } = require('./addons.js');
 
-const addon = join(__dirname, 'out/dagcbor_memory.node');
-if (!existsSync(addon)) {
-  const made = `\`node build.js\` in ${__dirname} builds it`;
+const { addon, reasons } = addonOf(addonPaths('dagcbor_memory'));
+if (!addon) {
   const from = 'libdagcbor_memory_ffi.a, which DAGCBOR_MEMORY_LIBRARY names';
-  throw new Error(`there is no ${addon}: ${made} of ${from}`);
+  const how = `\`node build.js\` in ${__dirname} compiles one of ${from}`;
+  const lacks = `there is no addon of dagcbor/atproto for ${platform}: ${how}`;
+  throw new Error([lacks, ...reasons].join('; '));
 }
 
-module.exports = { memory: require('./out/dagcbor_memory.node') };
+module.exports = { memory: addon };

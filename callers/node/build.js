@@ -1,15 +1,21 @@
-// Builds the addon, out/dagcbor.node, with the proved library inside. The library is that of the
-// environment variable DAGCBOR_LIBRARY; else that which a release has in lib/, and include/; else
-// that of this repository, which is proved and built first where it is not there and `rt` is. Where
-// the library that takes memory is there, by DAGCBOR_MEMORY_LIBRARY or in one of these places, a
-// second addon goes beside it, out/dagcbor_memory.node, which `dagcbor/atproto` alone wants. Where
-// DAGCBOR_MODULE names a WebAssembly module that is put there, in the place of the addons. The
-// program of stores goes beside them, where it is: that of DAGSTORE, of a release, or of this
+// Compiles the addons into out/, with the proved libraries inside.
+//
+// The library of the first, dagcbor.node, is that of the environment variable DAGCBOR_LIBRARY; else
+// that which a release has in lib/, and include/; else that of this repository, which is proved and
+// built first where it is not there and `rt` is. The second, dagcbor_memory.node, which
+// `dagcbor/atproto` alone wants, is compiled where its library is there: DAGCBOR_MEMORY_LIBRARY, or in
+// one of these places. Where DAGCBOR_MODULE names a WebAssembly module that is put there, in the
+// place of the addons. The program of stores goes beside them: that of DAGSTORE, or of this
 // repository.
+//
+// `node build.js --install`, which npm runs, compiles nothing where an addon of the release loads.
+// Where one is wanted and none is compiled, it leaves the WebAssembly module to answer, if the package
+// has one.
 'use strict';
 const { execFileSync } = require('child_process');
 const { chmodSync, copyFileSync, existsSync, mkdirSync, realpathSync, rmSync } = require('fs');
 const { dirname, join } = require('path');
+const { addonOf, addonPaths, inOut, modulePaths, thereOf } = require('./addons.js');
 
 const crateOf = (name) => join(__dirname, '../../crates', name);
 const machine = { x64: 'x86_64', arm64: 'aarch64' }[process.arch] ?? process.arch;
@@ -53,18 +59,17 @@ const headers = () => {
   return found;
 };
 
-const out = (name) => join(__dirname, 'out', name);
-
 // An addon of these sources, over a library.
 const compile = (name, sources, archive) => {
   const [cc, ...words] = (process.env.CC || 'cc').split(' ');
   const flags = ['-std=c11', '-O3', '-Wall', '-Wextra', '-shared', '-fPIC'];
-  const hidden = ['-fvisibility=hidden', '-Wl,--exclude-libs,ALL'];
+  // Nothing is shown of the library, and all that is wanted is found at once, or the addon does not load.
+  const hidden = ['-fvisibility=hidden', '-Wl,--exclude-libs,ALL', '-Wl,-z,now'];
   const more = (process.env.CFLAGS || '').split(' ').filter(Boolean);
   const crates = ['dagcbor_ffi', 'dagcbor_memory_ffi'].map((it) => join(crateOf(it), 'include'));
   const own = [join(__dirname, 'include'), ...crates, join(__dirname, '../c')];
   const folders = [headers(), ...own].map((it) => `-I${it}`);
-  const files = [...sources.map((it) => join(__dirname, it)), archive, '-lm', '-o', out(name)];
+  const files = [...sources.map((it) => join(__dirname, it)), archive, '-lm', '-o', inOut(name)];
   const all = [...words, ...flags, ...hidden, ...more, ...folders, ...files];
   try {
     execFileSync(cc, all, { stdio: 'inherit' });
@@ -74,27 +79,42 @@ const compile = (name, sources, archive) => {
   }
 };
 
-const build = () => {
+const compileAll = () => {
   compile('dagcbor.node', ['addon.c', 'car.c', 'units.c', 'values.c'], library());
   const archive = memoryLibrary();
   if (archive) compile('dagcbor_memory.node', ['memory.c', 'values.c'], archive);
 };
 
 const putProgram = () => {
-  const built = join(crateOf('dagstore'), 'out/dagstore');
-  const places = [process.env.DAGSTORE, carriedOf('dagstore'), built];
-  const found = places.find((it) => it && existsSync(it));
+  const [found] = thereOf([process.env.DAGSTORE ?? '', join(crateOf('dagstore'), 'out/dagstore')]);
   if (!found) return;
-  copyFileSync(found, out('dagstore'));
-  chmodSync(out('dagstore'), 0o755);
+  copyFileSync(found, inOut('dagstore'));
+  chmodSync(inOut('dagstore'), 0o755);
 };
 
-mkdirSync(join(__dirname, 'out'), { recursive: true });
 const MADE = ['dagcbor.node', 'dagcbor_memory.node', 'dagcbor.wasm', 'dagstore'];
-for (const it of MADE) rmSync(out(it), { force: true });
-try {
+
+const build = () => {
+  mkdirSync(join(__dirname, 'out'), { recursive: true });
+  for (const it of MADE) rmSync(inOut(it), { force: true });
   putProgram();
-  if (process.env.DAGCBOR_MODULE) copyFileSync(process.env.DAGCBOR_MODULE, out('dagcbor.wasm'));
+  if (process.env.DAGCBOR_MODULE) copyFileSync(process.env.DAGCBOR_MODULE, inOut('dagcbor.wasm'));
+  else compileAll();
+};
+
+const install = () => {
+  if (addonOf(addonPaths('dagcbor').slice(0, 1)).addon) return;
+  try {
+    build();
+  } catch (error) {
+    if (!thereOf(modulePaths).length) throw error;
+    require('./library.js'); // which says where this engine does not take the module
+    console.log(`dagcbor: ${error.message}; the WebAssembly module is used`);
+  }
+};
+
+try {
+  if (process.argv[2] === '--install') install();
   else build();
 } catch (e) {
   console.error(`dagcbor: ${e.message}`);

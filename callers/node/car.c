@@ -1,4 +1,4 @@
-/* Files of blocks for Node: pieces are put, and a thread of the pool goes through the sections that
+/* CAR files for Node: pieces are put, and a thread of the pool goes through the sections that
    stand whole in what was put, in memory of its own. car.js asks for one thing at a time. */
 #include "addon.h"
 
@@ -14,8 +14,7 @@ typedef struct {
 typedef struct {
     Check check;
     bool is_check; /* whose names are noted; else its sections are told */
-    bool is_behind_span, is_behind_header;
-    bool is_busy;
+    bool is_behind_header, is_busy;
     napi_async_work work;
     napi_deferred deferred;
     napi_ref kept;
@@ -78,37 +77,31 @@ napi_value car_put(napi_env env, napi_callback_info info) {
 /* Tells the sections at hand, as far as so many bytes. Answers why it stopped, or 0. */
 static int32_t tell_sections(Walk *walk, size_t most) {
     Car *car = &walk->check.car;
+    size_t places[3];
+    car_pass(car);
     walk->front = car->bytes;
-    for (size_t at = 0; at < most;) {
-        size_t places[3];
+    for (size_t at = 0; at < most; at += places[2]) {
         int32_t code = car_section(car, SIZE_MAX, places);
         if (!is_verdict(code)) return code;
         Told told = {code, (double)(at + places[0]), (double)(at + places[1]),
                      (double)(at + places[2])};
-        if (!bytes_add(&walk->told, (const uint8_t *)&told, sizeof told)) return CAR_NO_MEMORY;
-        car_pass(car, places[2]);
-        at += places[2];
+        if (!bytes_add(&walk->told, (const uint8_t *)&told, sizeof told))
+            return car_back(car, CAR_NO_MEMORY);
     }
     return 0;
 }
 
 /* Goes on through what was put. */
 static int32_t go_on(Walk *walk) {
-    Car *car = &walk->check.car;
+    Check *check = &walk->check;
     walk->told.used = 0;
-    if (!walk->is_behind_span) {
-        int32_t code = car_span(car);
-        if (code != 0) return code;
-        walk->is_behind_span = true;
-    }
-    if (!walk->is_behind_header) {
-        int32_t code = car_header(car);
-        if (code != 0) return code;
-        walk->is_behind_header = true;
-        bool has_memory = names_want(&walk->check.names, car->roots.start, car->roots.used);
-        return has_memory ? 0 : CAR_NO_MEMORY;
-    }
-    return walk->is_check ? check_sections(&walk->check, SLICE) : tell_sections(walk, SLICE);
+    if (walk->is_behind_header)
+        return walk->is_check ? check_sections(check, SLICE) : tell_sections(walk, SLICE);
+    int32_t code = car_header(&check->car);
+    if (code != DAGCBOR_CAR_HEADER) return code;
+    walk->is_behind_header = true;
+    bool has_memory = names_want(&check->names, check->car.roots.start, check->car.roots.used);
+    return has_memory ? 0 : CAR_NO_MEMORY;
 }
 
 static void at_work(napi_env env, void *given) {
@@ -128,7 +121,7 @@ static napi_value answer_of(napi_env env, Walk *walk) {
     size_t count = walk->told.used / sizeof(Told);
     napi_value parts[4];
     TRY(napi_create_int32(env, walk->code, &parts[0]));
-    TRY(napi_create_double(env, (double)(walk->check.car.place + walk->check.car.skip), &parts[1]));
+    TRY(napi_create_double(env, (double)walk->check.car.walk.place, &parts[1]));
     if (!(parts[2] = batch_of(env, walk, count))) return NULL;
     if (!(parts[3] = doubles(env, walk->told.start, 4 * count))) return NULL;
     return array_of(env, parts, 4);

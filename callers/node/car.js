@@ -1,15 +1,15 @@
-// Files of blocks: index.d.ts says what each call does.
+// CAR files: index.d.ts says what each call does.
 'use strict';
 const { native } = require('./library.js');
-const { CID, binaryOf, bytesOf, cidOf, unpack } = require('./cid.js');
-const { joined, piecesOf, whole } = require('./bytes.js');
-const { encode } = require('./encode.js');
+const { binaryOf, bytesOf, cidOf, unpack } = require('./cid.js');
+const { piecesOf, whole } = require('./bytes.js');
+const { headerOf } = require('./car_parts.js');
 const { DagCborError, KINDS, REASONS, refusal } = require('./errors.js');
-const { latin1 } = require('./platform.js');
+const { latin1, openFile, readAll, readAt } = require('./platform.js');
 
-const END = 101; // of a walk
+const END = 12; // of a walk
 const CALL_LEAST = 1 << 13; // bytes of a block: of less the library is quicker than a call
-const [OTHER_BYTES, LEAST] = [-22, -23]; // of verdicts, the second the least one
+const [OTHER_BYTES, LEAST, TRUNCATED] = [-22, -23, -24]; // of verdicts, the second the least one
 
 const OTHERS = { 9: 'not read', [-22]: 'other bytes', [-23]: 'not verified' };
 
@@ -36,58 +36,96 @@ const faultOf = (code, place) => {
   return new CarError('NoBlock', `the header is no block: ${reason}`, place);
 };
 
-// A file that is gone through, its front and then batches of its sections: numbers of each, their
-// bytes, and where these begin.
+// The front of a file: its roots, and where the first section begins.
+class Front {
+  constructor(car, place) {
+    this.roots = unpack(native.carFound(car)[0]);
+    this.place = place;
+  }
+
+  // In a file of version 2 more stands before that place than the header of version 1.
+  get version() {
+    return headerOf(this.roots).length === this.place ? 1 : 2;
+  }
+}
+
+// What an answer of a walk has: a batch of sections, which are numbers of each, their bytes, and where
+// these begin; at the front of the file one without sections. Then the fault is thrown, if there is one.
+const batchesIn = function* ([code, place, bytes, numbers]) {
+  if (code === 0 || numbers.length) yield { place: place - bytes.length, bytes, numbers };
+  if (code < 0) throw faultOf(code, place);
+};
+
+// What `make` makes of each section: of its batch, where that and it begin, and its numbers.
+const madeOf = function* ({ place, bytes, numbers }, make) {
+  for (let [i, from] = [0, 0]; i < numbers.length; i += 4) {
+    const told = numbers.subarray(i, i + 4);
+    yield make(bytes, place, from, told);
+    from = told[3];
+  }
+};
+
+const functionOf = ({ sha256 } = {}) => {
+  if (sha256 === undefined || typeof sha256 === 'function') return sha256;
+  throw new TypeError('sha256 is no function');
+};
+
+// A file that is gone through: its front and then its sections, in batches.
 class Walk {
   #sha256;
 
-  constructor(source, { sha256 } = {}, isCheck = false) {
+  constructor(source, options, isCheck = false) {
     const given = piecesOf(source);
-    if (sha256 !== undefined && typeof sha256 !== 'function') {
-      throw new TypeError('sha256 is no function');
-    }
-    this.#sha256 = sha256;
+    this.#sha256 = functionOf(options);
     this.car = native.carOpen(isCheck);
     this.steps = this.#through(given);
   }
 
   async *#through(source) {
-    for await (const piece of source) {
-      native.carPut(this.car, piece ?? null);
-      if (yield* this.#found()) return;
-    }
-    native.carPut(this.car, undefined);
-    yield* this.#found();
+    for await (const piece of source) if (yield* this.#found(piece ?? null)) return;
+    yield* this.#found(undefined);
   }
 
-  // What is found in what was put. Answers whether it is the end, and not that more is wanted.
-  async *#found() {
+  // What is found with the piece. Answers whether it is the end, and not that more is wanted.
+  async *#found(piece) {
+    native.carPut(this.car, piece);
     for (;;) {
-      const [code, place, bytes, numbers] = await native.carGo(this.car, this.#sha256, CALL_LEAST);
-      if (code === 0 || numbers.length) yield { place: place - bytes.length, bytes, numbers };
-      if (code < 0) throw faultOf(code, place);
-      if (code > 0) return code === END;
+      const answer = await native.carGo(this.car, this.#sha256, CALL_LEAST);
+      yield* batchesIn(answer);
+      if (answer[0] > 0) return answer[0] === END;
     }
   }
 
-  // Behind the header, with the roots.
+  // Goes beyond the header.
   async begin() {
-    await this.steps.next();
-    this.roots = unpack(native.carFound(this.car)[0]);
+    const { value } = await this.steps.next();
+    this.front = new Front(this.car, value.place);
     return this;
   }
 
-  // What `make` makes of each section: of its batch, where that and it begin, and its numbers.
   async *sections(make) {
-    for await (const { place, bytes, numbers } of this.steps) {
-      for (let [i, from] = [0, 0]; i < numbers.length; i += 4) {
-        const told = numbers.subarray(i, i + 4);
-        yield make(bytes, place, from, told);
-        from = told[3];
-      }
-    }
+    for await (const batch of this.steps) for (const it of madeOf(batch, make)) yield it;
   }
 }
+
+// The same of bytes in memory, by the calling thread. It is the script that computes digests for which
+// the addon stays on that thread: without one of the caller's there is one that no block is long
+// enough for.
+const NEVER = () => { throw new RangeError('a block of 4 GiB is not read here'); };
+const EVERY = 2 ** 32 - 1;
+
+const batchesOf = function* (car, bytes, sha256) {
+  const given = sha256 ? [sha256, CALL_LEAST] : [NEVER, EVERY];
+  for (const piece of [...piecesOf(bytes), undefined]) {
+    native.carPut(car, piece);
+    for (let code = 0; code === 0;) {
+      const answer = native.carGo(car, ...given);
+      yield* batchesIn(answer);
+      [code] = answer;
+      if (code === END) return;
+    }
+  }
+};
 
 const nameIn = (bytes, from, to) => cidOf(latin1(bytes, from, to));
 
@@ -103,13 +141,29 @@ const indexOf = (bytes, place, from, [code, cid, block, end]) => ({
   verdict: verdictOf(code),
 });
 
+// What is told of the front of a file.
+class Opened {
+  #front;
+
+  constructor(front) {
+    this.#front = front;
+  }
+
+  get version() {
+    return this.#front.version;
+  }
+
+  async getRoots() {
+    return [...this.#front.roots];
+  }
+}
+
 // The class of the iterators over what `make` makes of sections.
-const iteratorOf = (make) => class {
-  #walk;
+const iteratorOf = (make) => class extends Opened {
   #sections;
 
   constructor(walk) {
-    this.#walk = walk;
+    super(walk.front);
     this.#sections = walk.sections(make);
   }
 
@@ -118,10 +172,6 @@ const iteratorOf = (make) => class {
   }
 
   static fromBytes = this.fromIterable;
-
-  async getRoots() {
-    return [...this.#walk.roots];
-  }
 
   [Symbol.asyncIterator]() {
     return this.#sections;
@@ -133,19 +183,76 @@ class CarCIDIterator extends iteratorOf((bytes, place, from, [, cid, block]) =>
   nameIn(bytes, cid, block)) {}
 class CarIndexer extends iteratorOf(indexOf) {}
 
-class CarReader {
-  #roots;
-  #blocks;
-  #named = new Map(); // verified, by their names
+const isVerified = ({ verdict }) => verdict !== 'other bytes' && verdict !== 'not verified';
 
-  constructor(roots, blocks) {
-    this.#roots = roots;
+// Of each name the first section that is verified.
+const byName = (sections) => {
+  const named = new Map();
+  for (const it of sections) {
+    const key = keyOf(it.cid);
+    if (isVerified(it) && !named.has(key)) named.set(key, it);
+  }
+  return named;
+};
+
+class CarBufferReader {
+  #front;
+  #blocks;
+  #named;
+
+  constructor(front, blocks) {
+    this.#front = front;
     this.#blocks = blocks;
-    for (const it of blocks) {
-      const key = keyOf(it.cid);
-      const isVerified = it.verdict !== 'other bytes' && it.verdict !== 'not verified';
-      if (isVerified && !this.#named.has(key)) this.#named.set(key, it);
-    }
+    this.#named = byName(blocks);
+  }
+
+  static fromBytes(bytes, options) {
+    const [sha256, car] = [functionOf(options), native.carOpen(false)];
+    const batches = batchesOf(car, whole(bytes), sha256);
+    const front = new Front(car, batches.next().value.place);
+    const blocks = [];
+    for (const batch of batches) for (const it of madeOf(batch, blockOf)) blocks.push(it);
+    return new CarBufferReader(front, blocks);
+  }
+
+  get version() {
+    return this.#front.version;
+  }
+
+  getRoots() {
+    return [...this.#front.roots];
+  }
+
+  has(cid) {
+    return this.#named.has(keyOf(cid));
+  }
+
+  get(cid) {
+    return this.#named.get(keyOf(cid));
+  }
+
+  blocks() {
+    return [...this.#blocks];
+  }
+
+  cids() {
+    return this.#blocks.map(({ cid }) => cid);
+  }
+}
+
+// The block at a place of an open file, and what is said of it.
+const blockAt = async (file, { cid, blockOffset, blockLength }) => {
+  const bytes = await readAt(file, blockLength, blockOffset);
+  if (bytes.length !== blockLength) throw refusal(TRUNCATED);
+  return { cid, bytes, verdict: verify(cid, bytes) };
+};
+
+class CarReader extends Opened {
+  #reader;
+
+  constructor(front, blocks) {
+    super(front);
+    this.#reader = new CarBufferReader(front, blocks);
   }
 
   static fromBytes(bytes, options) {
@@ -156,27 +263,78 @@ class CarReader {
     const walk = await new Walk(source, options).begin();
     const blocks = [];
     for await (const it of walk.sections(blockOf)) blocks.push(it);
-    return new CarReader(walk.roots, blocks);
+    return new CarReader(walk.front, blocks);
   }
 
-  async getRoots() {
-    return [...this.#roots];
+  static async readRaw(file, index) {
+    const block = await blockAt(file, index);
+    if (!isVerified(block)) throw refusal(block.verdict === 'other bytes' ? OTHER_BYTES : LEAST);
+    return block;
+  }
+
+  async has(cid) {
+    return this.#reader.has(cid);
+  }
+
+  async get(cid) {
+    return this.#reader.get(cid);
+  }
+
+  async *blocks() {
+    yield* this.#reader.blocks();
+  }
+
+  async *cids() {
+    yield* this.#reader.cids();
+  }
+}
+
+class CarIndexedReader extends Opened {
+  #file;
+  #sections;
+  #named;
+
+  constructor(front, file, sections) {
+    super(front);
+    this.#file = file;
+    this.#sections = sections;
+    this.#named = byName(sections);
+  }
+
+  static async fromFile(path, options) {
+    if (typeof path !== 'string') throw new TypeError('the path of a file is wanted');
+    const file = await openFile(path);
+    try {
+      const walk = await new Walk(readAll(file), options).begin();
+      const sections = [];
+      for await (const it of walk.sections(indexOf)) sections.push(it);
+      return new CarIndexedReader(walk.front, file, sections);
+    } catch (error) {
+      await file.close();
+      throw error;
+    }
   }
 
   async has(cid) {
     return this.#named.has(keyOf(cid));
   }
 
+  // The file may have changed since: then the block is refused.
   async get(cid) {
-    return this.#named.get(keyOf(cid));
+    const index = this.#named.get(keyOf(cid));
+    return index && CarReader.readRaw(this.#file, index);
   }
 
   async *blocks() {
-    yield* this.#blocks;
+    for (const it of this.#sections) yield blockAt(this.#file, it);
   }
 
   async *cids() {
-    for (const { cid } of this.#blocks) yield cid;
+    for (const { cid } of this.#sections) yield cid;
+  }
+
+  async close() {
+    await this.#file.close();
   }
 }
 
@@ -203,150 +361,7 @@ const found = ([roots, counts, packed]) => {
   return { roots: unpack(roots), verdicts, missing, isWell: areWell && !missing.length };
 };
 
-// Pieces that one side puts and the other takes: a put ends when the next is asked for.
-const channel = () => {
-  const waiting = [];
-  let [isClosed, wake] = [false, () => {}];
-  const put = (piece) => new Promise((done, fail) => {
-    if (isClosed) fail(new Error('the writer is closed'));
-    else waiting.push({ piece, done });
-    wake();
-  });
-  const close = () => {
-    const ended = put(undefined);
-    isClosed = true;
-    return ended;
-  };
-  const all = async function* () {
-    try {
-      yield;
-      for (;;) {
-        while (!waiting.length) await new Promise((done) => { wake = done; });
-        const { piece, done } = waiting[0];
-        if (!piece) return;
-        yield piece;
-        waiting.shift();
-        done();
-      }
-    } finally {
-      isClosed = true;
-      for (const { done } of waiting) done();
-    }
-  };
-  const out = all();
-  out.next(); // begins it, so that its end is seen also where nobody asks for a piece
-  return { put, close, out };
-};
-
-const lengthOf = (count) => {
-  const groups = [];
-  for (; count >= 128; count = Math.floor(count / 128)) groups.push((count % 128) + 128);
-  return Uint8Array.of(...groups, count);
-};
-
-const headerOf = (roots) => {
-  const own = roots.map((it) => (binaryOf(it) === undefined ? new CID(bytesOf(it)) : it));
-  const header = encode({ roots: own, version: 1 });
-  return joined([lengthOf(header.length), header]);
-};
-
-const sectionOf = ({ cid, bytes }) => {
-  const [name, block] = [bytesOf(cid), bytes].map(whole);
-  const code = native.verify(name, block);
-  if (code === OTHER_BYTES || code < LEAST) throw refusal(code);
-  return joined([lengthOf(name.length + block.length), name, block]);
-};
-
-class CarWriter {
-  #put;
-  #close;
-
-  constructor(put, close) {
-    this.#put = put;
-    this.#close = close;
-  }
-
-  static create(roots = []) {
-    const header = headerOf(Array.isArray(roots) ? roots : [roots]);
-    const { put, close, out } = channel();
-    put(header);
-    return { writer: new CarWriter(put, close), out };
-  }
-
-  async put(block) {
-    return this.#put(sectionOf(block));
-  }
-
-  async close() {
-    return this.#close();
-  }
-}
-
-// A file in memory of a given size: first the room of the header, then sections up to `end`.
-class BufferWriter {
-  #bytes;
-  #roots;
-  #header;
-  #end;
-
-  constructor(bytes, roots, header) {
-    this.#bytes = bytes;
-    this.#roots = roots;
-    this.#header = header;
-    this.#end = header;
-    this.#fits(0);
-  }
-
-  #fits(more) {
-    const room = this.#bytes.length - this.#end;
-    if (more > room) throw new RangeError(`${more} bytes are wanted, and there is room for ${room}`);
-  }
-
-  #sizeHeader(size, resize) {
-    if (!resize) throw new RangeError(`the header has ${size} bytes, and room for ${this.#header}`);
-    this.#fits(size - this.#header);
-    this.#bytes.copyWithin(size, this.#header, this.#end);
-    this.#end += size - this.#header;
-    this.#header = size;
-  }
-
-  addRoot(root, { resize = false } = {}) {
-    const roots = [...this.#roots, root];
-    const size = headerOf(roots).length;
-    if (size > this.#header) this.#sizeHeader(size, resize);
-    this.#roots = roots;
-  }
-
-  write(block) {
-    const section = sectionOf(block);
-    this.#fits(section.length);
-    this.#bytes.set(section, this.#end);
-    this.#end += section.length;
-  }
-
-  close({ resize = false } = {}) {
-    const header = headerOf(this.#roots);
-    if (header.length !== this.#header) this.#sizeHeader(header.length, resize);
-    this.#bytes.set(header);
-    return this.#bytes.subarray(0, this.#end);
-  }
-}
-
-const headerLength = ({ roots }) => headerOf(roots).length;
-const blockLength = ({ cid, bytes }) => {
-  const length = bytesOf(cid).length + bytes.length;
-  return lengthOf(length).length + length;
-};
-
-const createWriter = (buffer, options = {}) => {
-  const { roots = [], byteOffset = 0, byteLength = buffer.byteLength - byteOffset } = options;
-  const bytes = new Uint8Array(buffer, byteOffset, byteLength);
-  return new BufferWriter(bytes, roots, options.headerSize ?? headerLength({ roots }));
-};
-
-const CarBufferWriter = { createWriter, blockLength, headerLength };
-
 module.exports = {
-  CarBlockIterator, CarBufferWriter, CarCIDIterator, CarError, CarIndexer, CarReader, CarWriter,
-  checkCar, verify,
+  CarBlockIterator, CarBufferReader, CarCIDIterator, CarError, CarIndexedReader, CarIndexer, CarReader,
+  Walk, checkCar, verify,
 };

@@ -2,7 +2,7 @@
 // library's judgement.
 'use strict';
 const { native } = require('./library.js');
-const { fromLatin1, isBytes } = require('./bytes.js');
+const { fromLatin1, isBytes, lengthOf, view, whole } = require('./bytes.js');
 const { answered, refusal } = require('./errors.js');
 const { latin1 } = require('./platform.js');
 
@@ -43,29 +43,49 @@ const numberOf = (n) => {
   throw new TypeError('a number of a CID is an integer from 0 to 2^53 - 1');
 };
 
-// The parts of a CID, whose bytes they are.
-const partsOf = (bytes) => {
+// What the front of a CID says, whose bytes they are, and where the multihash and its digest begin. Of
+// other bytes it says something too.
+const frontOf = (bytes) => {
   let at = 0;
   const next = () => {
     for (let [n, unit] = [0, 1]; ; unit *= 128) {
       const byte = bytes[at++];
       n += (byte & 127) * unit;
-      if (byte < 128) return n;
+      if (!(byte >= 128)) return n;
     }
   };
   const isFirst = bytes[0] === 0x12; // of version 0, which is a multihash alone
   const [version, code] = isFirst ? [0, DAG_PB] : [next(), next()];
-  const told = bytes.subarray(at);
+  const begin = at;
   const [hash, size] = [next(), next()];
-  const multihash = { code: hash, size, digest: bytes.subarray(at), bytes: told };
+  return { version, code, hash, size, begin, end: at };
+};
+
+// The parts of a CID, whose bytes they are.
+const partsOf = (bytes) => {
+  const { version, code, hash, size, begin, end } = frontOf(bytes);
+  const multihash = { code: hash, size, digest: bytes.subarray(end), bytes: bytes.subarray(begin) };
   return { version, code, multihash };
+};
+
+// What the front of a CID says at the front of bytes, if that of any digest is a CID.
+const [FRONT, DIGEST] = [40, 64]; // bytes at most, of four numbers and of a digest
+const inspected = (bytes) => {
+  const front = bytes.subarray(0, FRONT);
+  const { version, code: codec, hash, size: digestSize, begin, end } = frontOf(front);
+  if (end > front.length || digestSize > DIGEST) throw refusal(-26);
+  const any = new Uint8Array(end + digestSize);
+  any.set(view(bytes, 0, end));
+  if (!isCid(latin1(any))) throw refusal(-26);
+  const multihashSize = end + digestSize - begin;
+  return { version, codec, multihashCode: hash, digestSize, multihashSize, size: any.length };
 };
 
 // The bytes of a CID, of this package or another: of one's own a copy of what nobody can change.
 const bytesOf = (cid) => {
   const binary = binaryOf(cid) ?? clonedOf(cid);
   if (binary !== undefined) return fromLatin1(binary);
-  const { bytes } = cid;
+  const bytes = cid?.bytes;
   return bytes instanceof Uint8Array ? bytes : cid;
 };
 
@@ -93,9 +113,12 @@ class CID {
     this[MARK] = Object(this.#binary);
   }
 
-  static parse(text) {
+  static parse(text, base) {
     if (typeof text !== 'string') throw new TypeError('a text is wanted');
-    return new CID(text);
+    if (base === undefined || text[0] === 'Q') return new CID(text);
+    const cid = CID.decode(base.decode(text));
+    if (cid.version === 0) throw refusal(-34);
+    return cid;
   }
 
   static decode(bytes) {
@@ -103,7 +126,19 @@ class CID {
     return new CID(bytes);
   }
 
+  static inspectBytes(bytes) {
+    return inspected(whole(bytes));
+  }
+
+  static decodeFirst(bytes) {
+    const [all, length] = [whole(bytes), lengthOf.call(bytes)];
+    const { size } = inspected(all);
+    if (size > length) throw refusal(-26);
+    return [new CID(view(all, 0, size)), view(bytes, size, length)];
+  }
+
   static create(version, code, { bytes }) {
+    if (!isBytes(bytes)) throw new TypeError('a multihash has bytes, which are a Uint8Array');
     const front = version === 0 && code === DAG_PB ? [] : [...numberOf(version), ...numberOf(code)];
     return new CID(Uint8Array.of(...front, ...bytes));
   }
@@ -114,6 +149,10 @@ class CID {
 
   static createV1(code, multihash) {
     return CID.create(1, code, multihash);
+  }
+
+  static equals(one, other) {
+    return CID.asCID(one)?.equals(other) ?? false;
   }
 
   static asCID(value) {

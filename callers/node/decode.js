@@ -7,7 +7,7 @@ const { native } = require('./library.js');
 const { lengthOf, view } = require('./bytes.js');
 const { cidOf } = require('./cid.js');
 const { refusal } = require('./errors.js');
-const { latin1, plain: plainly } = require('./platform.js');
+const { latin1, plain: plainly, unfilled } = require('./platform.js');
 
 // The kinds of tokens; that of a text of ASCII, and of a part of a text of some width.
 const [NULL, BOOL, INTEGER, STRING, BYTES, LIST, MAP, LINK, NEGATIVE, ASCII, LATIN1, WIDE] =
@@ -166,6 +166,15 @@ const nextList = (count) => {
   return list;
 };
 
+// A copy of bytes of the block.
+const bytesAt = (from, length) => {
+  const bytes = view(block, from, from + length);
+  if (length < LONG) return bytes.slice();
+  const made = unfilled(length);
+  made.set(bytes);
+  return made;
+};
+
 // A number where it is a safe one, and else a BigInt.
 const integer = (low, high, isNegative) => {
   const n = high * 2 ** 32 + low;
@@ -188,7 +197,7 @@ const nextValue = () => {
     case LATIN1:
     case WIDE: return textAt(at - 3);
     case LINK: return linkAt(last, number);
-    case BYTES: return view(block, last, last + number).slice();
+    case BYTES: return bytesAt(last, number);
     case NEGATIVE: return integer(number, last, true);
     case BOOL: return number === 1;
     case NULL: return null;

@@ -2,10 +2,10 @@
 // judges what it spelt.
 'use strict';
 const { native } = require('./library.js');
-const { isAlone, isBytes, lengthOf } = require('./bytes.js');
+const { isAlone, isBytes, lengthOf, view } = require('./bytes.js');
 const { MARK, binaryOf, clonedOf, foreignOf } = require('./cid.js');
 const { DagCborError, REASONS, answered } = require('./errors.js');
-const { hasInside, isMap, isProxy, latin1, newPool, utf8 } = require('./platform.js');
+const { hasInside, isMap, isProxy, latin1, newPool, unfilled, utf8 } = require('./platform.js');
 
 const encoder = new TextEncoder();
 const [NULL, BOOL, INTEGER, STRING, BYTES, LIST, MAP, LINK, NEGATIVE] = Array(9).keys();
@@ -14,6 +14,8 @@ const MOST_LEVELS = 128; // of lists and maps in each other, in any block
 const [WORDS, ABSENT] = [6, 2 ** 32 - 1]; // of a token; the place of a payload that is not put yet
 const LARGE = 1 << 20; // words and bytes
 const GATHERED = 1 << 13; // units of texts: the engine moves about what many are put together of
+const APART = 1 << 16; // bytes of a byte string that may be put into the block alone
+const WORTH = 256; // bytes of these for each token
 const { shared: SHARED, spell, words: OWN_WORDS, payload: OWN_PAYLOAD } = native;
 
 // Short blocks, of up to SHARED bytes, lie one behind the other in a pool, up to `used`: memory of
@@ -40,6 +42,8 @@ class Tape {
     this.used = 0; // of the payload
     this.settled = 0; // tokens whose payloads are put
     this.texts = '';
+    this.apart = []; // long byte strings: their tokens, which say that they are empty, and themselves
+    this.more = 0; // bytes of these
     this.levels = 0;
     this.turn = turns += 1;
   }
@@ -63,7 +67,7 @@ class Tape {
 
   room(count) {
     const wanted = this.used + count;
-    if (wanted > ABSENT) this.no(TOO_LONG, 'a block of 4 GiB or more is not written');
+    if (wanted + this.more > ABSENT) this.no(TOO_LONG, 'a block of 4 GiB or more is not written');
     if (wanted > this.payload.length) this.payload = longer(this.payload, wanted);
   }
 
@@ -74,6 +78,35 @@ class Tape {
     if (length) this.payload.set(bytes, used); // those that are detached have none
     this.used += length;
     return used;
+  }
+
+  // Puts a byte string, or the token of one, which is empty until it is known what is done with it.
+  putBytes(bytes, length) {
+    if (length < APART) return this.put(BYTES, length, 0, this.place(bytes, length));
+    this.apart.push({ token: this.at / WORDS, bytes, length });
+    this.more += length;
+    this.room(0);
+    return this.put(BYTES, 0, 0, 0);
+  }
+
+  // The long byte strings, each of the length that it had.
+  *longOnes() {
+    for (const it of this.apart) {
+      if (lengthOf.call(it.bytes) !== it.length) this.no(UNSUPPORTED, CHANGED, [], it.token * WORDS);
+      yield it;
+    }
+  }
+
+  // Puts them as all others, unless they are so long beside the tokens that it is worth it to judge these
+  // once more.
+  join() {
+    if ((this.at / WORDS) * WORTH <= this.more) return;
+    this.more = 0;
+    for (const { token, bytes, length } of this.longOnes()) {
+      this.words[token * WORDS + 4] = this.place(bytes, length);
+      this.words[token * WORDS + 2] = length;
+    }
+    this.apart = [];
   }
 
   enter(kind, count) {
@@ -156,12 +189,6 @@ const putBigInt = (tape, big) => {
   const n = big < 0n ? -1n - big : big;
   if (n >= 1n << 64n) tape.no(OVERFLOW, 'a BigInt that is not in -2^64 .. 2^64 - 1');
   tape.put(big < 0n ? NEGATIVE : INTEGER, Number(n & 0xffffffffn), Number(n >> 32n), 0);
-};
-
-const putBytes = (tape, bytes) => {
-  const length = lengthOf.call(bytes);
-  const place = tape.place(bytes, length);
-  tape.put(BYTES, length, 0, place);
 };
 
 const putList = (tape, list) => {
@@ -289,14 +316,15 @@ const putJsMap = (tape, map) => {
   putEntries(tape, map, values, orderOf(tape, keys));
 };
 
-const [OTHER, PROXY] = [
+const [CHANGED, OTHER, PROXY] = [
+  'a Uint8Array whose length changed while it was written',
   'an object that is no Array, Uint8Array, CID, Map or map',
   'a Proxy of neither an Array nor a plain object',
 ];
 
 // What is neither a list nor a plain object.
 const putOther = (tape, value) => {
-  if (isBytes(value)) return putBytes(tape, value);
+  if (isBytes(value)) return tape.putBytes(value, lengthOf.call(value));
   const binary = binaryOf(value) ?? foreignOf(value);
   if (binary !== undefined) return tape.putUnits(LINK, binary);
   if (isMap(value)) return putJsMap(tape, value);
@@ -332,14 +360,39 @@ const putValue = (tape, value) => {
   }
 };
 
+// The block with the long byte strings in the places of the empty ones, of which the library tells
+// where they stand. It judges this block too.
+const HEAD = 5; // bytes of a head of a length from 2^16 to 2^32
+
+const filled = (tape, empty) => {
+  const tokens = native.tape(empty);
+  const block = unfilled(empty.length + tape.more + (HEAD - 1) * tape.apart.length);
+  let [from, at] = [0, 0]; // in the one and in the other
+  const put = (bytes) => {
+    block.set(bytes, at);
+    at += bytes.length;
+  };
+  for (const { token, bytes, length } of tape.longOnes()) {
+    const end = Number(tokens[3 * token + 2]);
+    put(view(empty, from, end - 1));
+    put([0x5a, length >>> 24, length >>> 16, length >>> 8, length]);
+    put(view(bytes, 0, length));
+    from = end;
+  }
+  put(view(empty, from, empty.length));
+  answered(native.check(block));
+  return block;
+};
+
 // Its block: a part of the pool, or by itself.
 const blockOf = (tape) => {
-  const block = tape.settle(pool, used);
-  if (typeof block === 'number') {
-    used += block;
-    return new Uint8Array(pool.buffer, used - block, block);
-  }
-  if (block.length <= SHARED) [pool, used] = [newPool(POOL), 0];
+  if (tape.apart.length) tape.join();
+  const told = tape.settle(pool, used);
+  const isPooled = typeof told === 'number';
+  const block = isPooled ? new Uint8Array(pool.buffer, used, told) : told;
+  if (tape.apart.length) return filled(tape, block);
+  if (isPooled) used += told;
+  else if (block.length <= SHARED) [pool, used] = [newPool(POOL), 0];
   return block;
 };
 

@@ -113,10 +113,24 @@ export interface Multihash {
   readonly bytes: Uint8Array;
 }
 
-/** A base, as one of `multiformats`. */
+/** A base, as one of `multiformats`: its encoder, and its decoder. */
 export interface Base {
   readonly prefix: string;
   encode(bytes: Uint8Array): string;
+}
+export interface BaseDecoder {
+  decode(text: string): Uint8Array;
+}
+
+/** What the front of a CID says, before its digest. */
+export interface CidFront {
+  readonly version: 0 | 1;
+  readonly codec: number;
+  readonly multihashCode: number;
+  readonly digestSize: number;
+  readonly multihashSize: number;
+  /** Of the whole CID. */
+  readonly size: number;
 }
 
 /** A CID, with the names of `multiformats`, whose `CID.asCID` takes one. */
@@ -124,8 +138,15 @@ export class CID {
   #binary;
   /** Of the binary form, or of the text: Qm.. of version 0, and of version 1 behind b, B, z or f. */
   constructor(value: Uint8Array | string);
-  static parse(text: string): CID;
+  /** Of a text in another base than those above by its decoder. */
+  static parse(text: string, base?: BaseDecoder): CID;
   static decode(bytes: Uint8Array): CID;
+  /** The CID at the front of bytes, and the bytes after it, which lie over the same memory. */
+  static decodeFirst(bytes: Uint8Array): [CID, Uint8Array];
+  /** What the CID at the front of bytes says, of which no more than that need be there. */
+  static inspectBytes(bytes: Uint8Array): CidFront;
+  /** Whether both are one CID, of this package or of another. */
+  static equals(one: unknown, other: unknown): boolean;
   /** The same CID of this package, out of one of another; null where it is none. */
   static asCID(value: unknown): CID | null;
   static create(version: number, code: number, multihash: { readonly bytes: Uint8Array }): CID;
@@ -218,7 +239,7 @@ export function tape(block: Uint8Array): BigUint64Array;
  */
 export function verify(cid: AnyCid, bytes: Uint8Array): Verdict;
 
-// Files of blocks (CAR, of version 1 or 2). The names are those of the package `@ipld/car`.
+// CAR files, of version 1 or 2. The names are those of the package `@ipld/car`.
 
 /** A CID of this package, or of another that has its binary form in `bytes`. */
 export type AnyCid = { readonly bytes: Uint8Array };
@@ -245,6 +266,9 @@ export type Verdict =
   | 'not read'
   | 'not verified';
 
+/** The version of a file. */
+export type CarVersion = 1 | 2;
+
 /** A section of a file. */
 export interface Block {
   readonly cid: CID;
@@ -253,7 +277,7 @@ export interface Block {
 }
 
 /**
- * Bytes that are no file of blocks. `place` is the offset in the file of the header or the section
+ * Bytes that are not a CAR file. `place` is the offset in the file of the header or the section
  * that is none.
  */
 export class CarError extends DagCborError {
@@ -266,14 +290,64 @@ export class CarError extends DagCborError {
 export class CarBlockIterator implements AsyncIterable<Block> {
   static fromBytes(bytes: Uint8Array, options?: CarOptions): Promise<CarBlockIterator>;
   static fromIterable(source: Source, options?: CarOptions): Promise<CarBlockIterator>;
+  readonly version: CarVersion;
   getRoots(): Promise<CID[]>;
   [Symbol.asyncIterator](): AsyncIterator<Block>;
+}
+
+/** A file of Node that is open: its number, or what `open` of `fs/promises` gives. */
+export type OpenFile = number | FileHandle;
+export interface FileHandle {
+  read(into: Uint8Array, at: number, count: number, place: number): Promise<{ bytesRead: number }>;
+  write(of: Uint8Array, at: number, count: number, place: number): Promise<{ bytesWritten: number }>;
+}
+
+/** A file in memory, without promises. It is read by the thread that calls. */
+export class CarBufferReader {
+  static fromBytes(bytes: Uint8Array, options?: CarOptions): CarBufferReader;
+  readonly version: CarVersion;
+  getRoots(): CID[];
+  /** Whether a verified block has the name. */
+  has(cid: AnyCid): boolean;
+  /** The first verified block of the name. */
+  get(cid: AnyCid): Block | undefined;
+  /** All sections, whatever their verdicts. */
+  blocks(): Block[];
+  cids(): CID[];
+}
+
+/**
+ * A file on disk, of which the names and places are in memory. In the package for browsers
+ * `fromFile` rejects.
+ */
+export class CarIndexedReader {
+  /** Opens the file until `close()`, and goes through all of it. */
+  static fromFile(path: string, options?: CarOptions): Promise<CarIndexedReader>;
+  readonly version: CarVersion;
+  getRoots(): Promise<CID[]>;
+  /** Whether a verified block had the name. */
+  has(cid: AnyCid): Promise<boolean>;
+  /** The first block of the name that was verified, read and verified again. */
+  get(cid: AnyCid): Promise<Block | undefined>;
+  /** All sections, read and judged again. */
+  blocks(): AsyncGenerator<Block>;
+  cids(): AsyncGenerator<CID>;
+  close(): Promise<void>;
 }
 
 /** A file in memory. */
 export class CarReader {
   static fromBytes(bytes: Uint8Array, options?: CarOptions): Promise<CarReader>;
   static fromIterable(source: Source, options?: CarOptions): Promise<CarReader>;
+  /**
+   * The block that stands there in an open file of Node, if it is verified. Else it is refused
+   * (`OtherBytes`, `NotVerified`), as where the file ends before (`Truncated`).
+   */
+  static readRaw(
+    file: OpenFile,
+    index: { readonly cid: AnyCid; readonly blockOffset: number; readonly blockLength: number },
+  ): Promise<{ cid: AnyCid; bytes: Uint8Array; verdict: Verdict }>;
+  readonly version: CarVersion;
   getRoots(): Promise<CID[]>;
   /** Whether a verified block has the name. */
   has(cid: AnyCid): Promise<boolean>;
@@ -288,6 +362,7 @@ export class CarReader {
 export class CarCIDIterator implements AsyncIterable<CID> {
   static fromBytes(bytes: Uint8Array, options?: CarOptions): Promise<CarCIDIterator>;
   static fromIterable(source: Source, options?: CarOptions): Promise<CarCIDIterator>;
+  readonly version: CarVersion;
   getRoots(): Promise<CID[]>;
   [Symbol.asyncIterator](): AsyncIterator<CID>;
 }
@@ -306,6 +381,7 @@ export interface BlockIndex {
 export class CarIndexer implements AsyncIterable<BlockIndex> {
   static fromBytes(bytes: Uint8Array, options?: CarOptions): Promise<CarIndexer>;
   static fromIterable(source: Source, options?: CarOptions): Promise<CarIndexer>;
+  readonly version: CarVersion;
   getRoots(): Promise<CID[]>;
   [Symbol.asyncIterator](): AsyncIterator<BlockIndex>;
 }
@@ -337,6 +413,16 @@ export class CarWriter {
     writer: CarWriter;
     out: AsyncIterable<Uint8Array>;
   };
+  /** The same of sections alone, which follow a file that is there. */
+  static createAppender(): { writer: CarWriter; out: AsyncIterable<Uint8Array> };
+  /**
+   * Writes other roots into the header of a file of version 1, if they take as many bytes as those
+   * there. Else it is refused, and nothing is written: `LengthMismatch`, and of a file of version 2
+   * `OtherHeader`. The promise gives the same bytes.
+   */
+  static updateRootsInBytes<T extends Uint8Array>(bytes: T, roots: AnyCid | readonly AnyCid[]): Promise<T>;
+  /** The same in a file of Node that is open to be read and written, and not to be appended to. */
+  static updateRootsInFile(file: OpenFile, roots: AnyCid | readonly AnyCid[]): Promise<void>;
   /**
    * A section. Bytes that are not those of their CID are refused (`OtherBytes`), and nothing is
    * written. The promise is kept when what follows is asked for.
@@ -367,6 +453,8 @@ export const CarBufferWriter: {
   ): BufferWriter;
   /** How many bytes a section has. */
   blockLength(block: { readonly cid: AnyCid; readonly bytes: Uint8Array }): number;
-  /** How many bytes the header has. */
+  /** How many bytes the header has: of these roots, of roots of these lengths, of so many roots. */
   headerLength(header: { readonly roots: readonly AnyCid[] }): number;
+  calculateHeaderLength(rootLengths: readonly number[]): number;
+  estimateHeaderLength(rootCount: number, rootByteLength?: number): number;
 };

@@ -6,6 +6,7 @@ const { DagCborError, KINDS, answered } = require('./errors.js');
 const { decode, decodeFirst } = require('./decode.js');
 const { encode } = require('./encode.js');
 const cars = require('./car.js');
+const { CarBufferWriter, CarWriter } = require('./car_writer.js');
 const { find, resolve } = require('./paths.js');
 
 // What is said of a block, or its refusal with the place.
@@ -16,12 +17,12 @@ const tape = of(native.tape);
 const links = (block) => unpack(of(native.links)(block));
 const name = (block) => cidOf(native.name(block));
 
-const { CarBlockIterator, CarBufferWriter, CarCIDIterator, CarError, CarIndexer } = cars;
-const { CarReader, CarWriter, checkCar, verify } = cars;
+const { CarBlockIterator, CarBufferReader, CarCIDIterator, CarError, CarIndexedReader } = cars;
+const { CarIndexer, CarReader, checkCar, verify } = cars;
 
 // Each is named, so that `import` finds it.
 module.exports = {
-  CID, CarBlockIterator, CarBufferWriter, CarCIDIterator, CarError, CarIndexer, CarReader,
-  CarWriter, DagCborError, check, checkCar, decode, decodeFirst, encode, find, links, name,
-  resolve, tape, verify,
+  CID, CarBlockIterator, CarBufferReader, CarBufferWriter, CarCIDIterator, CarError,
+  CarIndexedReader, CarIndexer, CarReader, CarWriter, DagCborError, check, checkCar, decode,
+  decodeFirst, encode, find, links, name, resolve, tape, verify,
 };

@@ -1,28 +1,27 @@
-// What answers the library's calls: the addon, or where there is none the WebAssembly module.
+// What answers the library's calls: an addon, or where none loads the WebAssembly module.
 'use strict';
-const { existsSync, readFileSync } = require('fs');
-const { join } = require('path');
+const { readFileSync } = require('fs');
+const { addonOf, addonPaths, modulePaths, platform, thereOf } = require('./addons.js');
 
-const [addon, module_] = ['dagcbor.node', 'dagcbor.wasm'].map((it) => join(__dirname, 'out', it));
-
-const byModule = () => {
-  const { callsOf } = require('../wasm/dagcbor.js');
-  const { nativeOf } = require('../wasm/native.js');
-  const bytes = readFileSync(module_);
+const byModule = (path) => {
+  const { callsOf } = require('./wasm/dagcbor.js');
+  const { nativeOf } = require('./wasm/native.js');
+  const bytes = readFileSync(path);
   // Node 20 has memory of 64-bit addresses, and wants to be told.
   if (!WebAssembly.validate(bytes)) {
     require('v8').setFlagsFromString('--experimental-wasm-memory64');
   }
   if (!WebAssembly.validate(bytes)) {
-    throw new Error(`this Node has no memory64 of WebAssembly, or ${module_} is damaged`);
+    throw new Error(`this Node has no memory64 of WebAssembly, or ${path} is damaged`);
   }
   return nativeOf(callsOf(new WebAssembly.Module(bytes)));
 };
 
-const isThere = existsSync(addon);
-if (!isThere && !existsSync(module_)) {
-  throw new Error(`there is no ${addon}, which \`node build.js\` in ${__dirname} builds, and npm where scripts run`);
+const { addon, reasons } = addonOf(addonPaths('dagcbor'));
+const [path] = thereOf(modulePaths);
+if (!addon && !path) {
+  const how = `\`node build.js\` in ${__dirname} compiles one`;
+  throw new Error([`there is no addon of dagcbor for ${platform}: ${how}`, ...reasons].join('; '));
 }
-const native = isThere ? require('./out/dagcbor.node') : byModule();
 
-module.exports = { native };
+module.exports = { native: addon ?? byModule(path) };

@@ -10,6 +10,17 @@
 #include "heap.c"
 #include <pthread.h>
 
+/* glibc has moved these two since. By their first versions each glibc loads the addon that Node does. */
+#if defined(__GLIBC__) && defined(__x86_64__)
+#define FIRST "GLIBC_2.2.5"
+#elif defined(__GLIBC__) && defined(__aarch64__)
+#define FIRST "GLIBC_2.17"
+#endif
+#ifdef FIRST
+__asm__(".symver pthread_getattr_np, pthread_getattr_np@" FIRST);
+__asm__(".symver pthread_attr_getstack, pthread_attr_getstack@" FIRST);
+#endif
+
 enum { STACK = 1 << 20 }; /* bytes that a call of the library wants */
 enum { MORE = 1024 };     /* bytes of an answer, beside as many as what is asked about has */
 
@@ -272,7 +283,7 @@ NAPI_MODULE_INIT() {
                {"recordProof", record_proof},
                {"eventFrame", event_frame},
                {"verifyEvent", verify_event}};
-    if (!has_processor()) return raise(env, "dagcbor wants an x86-64-v2 processor");
+    if (!is_platform(env)) return NULL;
     TRY(napi_set_instance_data(env, end_of_stack(), NULL, NULL));
     for (size_t i = 0; i < sizeof all / sizeof *all; i++)
         if (!put_call(env, exports, all[i].name, all[i].call))

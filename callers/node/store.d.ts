@@ -28,7 +28,7 @@ export class StoreEnded extends StoreError {}
 /** Bytes that are no block of their codec, or not the one that the CID names. */
 export class InvalidBlock extends StoreError {}
 
-/** Bytes that are no file of blocks, or one that has a block that is none. */
+/** Bytes that are not a CAR file, or one that has a block that is none. */
 export class InvalidCar extends StoreError {}
 
 /** What is stored under `cid` are not the bytes that it names. */
@@ -61,7 +61,7 @@ export interface Pair {
   readonly block: Uint8Array;
 }
 
-/** The same, as files of blocks have it. */
+/** The same, as CAR files have it. */
 export interface Section {
   readonly cid: AnyCid;
   readonly bytes: Uint8Array;
@@ -106,7 +106,7 @@ export class Store implements AsyncIterable<CID> {
   addRoots(...cids: AnyCid[]): Promise<void>;
   /** Takes each out of the roots, if it is one. The blocks stay. */
   dropRoots(...cids: AnyCid[]): Promise<void>;
-  /** Keeps the blocks and the roots of a file of blocks (CAR), all of them or none. */
+  /** Keeps the blocks and the roots of a CAR file, all of them or none. */
   importCar(path: string | URL): Promise<{ roots: CID[]; sections: number }>;
   /** Makes a file of all blocks (CAR, version 1), with the roots. No file is written over. */
   exportCar(path: string | URL): Promise<void>;

@@ -2,14 +2,17 @@
 'use strict';
 const { spawn } = require('child_process');
 const { existsSync } = require('fs');
-const { join } = require('path');
+const { programPaths, thereOf } = require('./addons.js');
 const { joined } = require('./bytes.js');
 const { CID } = require('./cid.js');
 const errors = require('./store_errors.js');
 
-const BESIDE = join(__dirname, 'out', 'dagstore');
+const [CARRIED = 'dagstore'] = thereOf(programPaths);
 const LINE_FEED = 10;
-const NO_PROGRAM = 'there is no program `dagstore`: name it, or set DAGSTORE, or put it on PATH';
+const HOW = 'name it, or set DAGSTORE, or put it on PATH';
+const missing = (program) => (existsSync(program)
+  ? `the program ${program} is for another platform than this: ${HOW}`
+  : `there is no program \`dagstore\`: ${HOW}`);
 
 // How the last line of what is said begins, which tells why.
 const REFUSALS = [
@@ -21,14 +24,14 @@ const REFUSALS = [
   [/^out of memory/, 'StoreMemoryError'],
   [/^what is stored under the name/, 'DamagedBlock'],
   [/^the block (is (?!too long)|has other bytes)/, 'InvalidBlock'],
-  [/^the input is no file of blocks/, 'InvalidCar'],
+  [/^the input is not a CAR file/, 'InvalidCar'],
 ];
 
 const refusalOf = (said) => {
   const lines = said.trim().split('\n').map((it) => it.replace(/^dagstore: /, ''));
   const [first, why] = [lines[0], lines.at(-1)];
   const [, found = 'StoreError'] = REFUSALS.find(([start]) => start.test(why)) ?? [];
-  const error = new errors[first.startsWith('behind ') ? 'InvalidCar' : found](lines.join(', '));
+  const error = new errors[first.startsWith('after ') ? 'InvalidCar' : found](lines.join(', '));
   if (found === 'DamagedBlock' && lines.length > 1) error.cid = new CID(first.split(' ')[0]);
   return error;
 };
@@ -44,7 +47,7 @@ class Program {
   #asked = 0; // how many answers are awaited
 
   constructor(path, given) {
-    const program = given ?? (process.env.DAGSTORE || (existsSync(BESIDE) ? BESIDE : 'dagstore'));
+    const program = given ?? (process.env.DAGSTORE || CARRIED);
     // In a group of its own, so that an interrupt at the terminal does not end it within a request.
     this.#child = spawn(program, [path, 'serve'], { detached: true });
     this.#child.stdin.on('error', () => {}); // its end tells why
@@ -52,7 +55,7 @@ class Program {
     this.#pieces = this.#child.stdout[Symbol.asyncIterator]();
     this.#end = new Promise((keep) => {
       this.#child.on('error', (error) => {
-        keep(error.code === 'ENOENT' ? Object.assign(error, { message: NO_PROGRAM }) : error);
+        keep(error.code === 'ENOENT' ? Object.assign(error, { message: missing(program) }) : error);
       });
       this.#child.on('close', (status, signal) => keep(this.#whyOf(status ?? signal)));
     });

@@ -1,5 +1,8 @@
 /* What both addons make of values, and take of them. */
 #include "addon.h"
+#if defined(__GLIBC__)
+#include <gnu/libc-version.h>
+#endif
 
 void *raise(napi_env env, const char *said) {
     bool is_pending = false;
@@ -69,13 +72,24 @@ napi_value doubles(napi_env env, const void *numbers, size_t count) {
     return array;
 }
 
-bool has_processor(void) {
-#if defined(__x86_64__)
-    __builtin_cpu_init();
-    return __builtin_cpu_supports("sse4.2") && __builtin_cpu_supports("popcnt");
+/* glibc alone has such a call: so no other C library loads what was compiled over it. */
+static bool has_library(void) {
+#if defined(__GLIBC__)
+    return *gnu_get_libc_version() != '\0';
 #else
     return true;
 #endif
+}
+
+bool is_platform(napi_env env) {
+    bool has_processor = true;
+#if defined(__x86_64__)
+    __builtin_cpu_init();
+    has_processor = __builtin_cpu_supports("sse4.2") && __builtin_cpu_supports("popcnt");
+#endif
+    if (has_processor && has_library()) return true;
+    raise(env, "dagcbor wants an x86-64-v2 processor");
+    return false;
 }
 
 bool put_call(napi_env env, napi_value exports, const char *name, napi_callback call) {

@@ -1,5 +1,5 @@
-// Types with more than the prover takes, of large.ipldsch beside this: each is written and read again. The argument is
-// the folder of what the compiler made.
+// Types with more than the prover takes, of large.ipldsch and others.ipldsch beside this: each is written and read again,
+// and what holds itself is refused. The argument is the folder of what the compiler made.
 'use strict';
 const assert = require('node:assert');
 const { join, resolve } = require('node:path');
@@ -7,6 +7,7 @@ const { join, resolve } = require('node:path');
 const folder = resolve(process.argv[2]);
 const { decode } = require(join(folder, '../node_modules/dagcbor'));
 const { Row, Pairs, Implied, Told } = require(join(folder, 'large'));
+const { Id, Name, Person, Tree, Wrapped } = require(join(folder, 'others'));
 
 const names = (letter, count) => Array.from({ length: count }, (_, i) => `${letter}${i}`);
 const numbered = (keys) => Object.fromEntries(keys.map((key, i) => [key, BigInt(i)]));
@@ -27,3 +28,38 @@ for (const [made, value, wanted] of rows) {
   assert.deepStrictEqual(made.decode(block), value);
 }
 assert.throws(() => Row.encode({ ...numbered(keys), b6: deep('5') }), { name: 'DagCborError' });
+
+const name = (first, value) => ({ first, side: 'Left', last: { kind: 'String', value } });
+assert.strictEqual(Buffer.from(Name.encode(name('a', 'b'))).toString(), 'ha/l/id:b');
+const pair = { kind: 'Pair', value: { one: 'a.', two: 'b' } };
+for (const write of [() => Name.encode(name('a/b', 'b')), () => Name.encode(name('a', 'b/')), () => Id.encode(pair)]) {
+  assert.throws(write, { name: 'DagCborError', kind: 'Msg', place: [] });
+}
+
+const nested = (levels) => {
+  let tree = [];
+  for (let i = 1; i < levels; i++) tree = [tree];
+  return tree;
+};
+const around = (count, ...steps) => Array.from({ length: count }, () => steps).flat();
+const tree = [{}];
+tree[0].a = tree;
+const ann = { name: '', friends: [], boss: { name: '', friends: [] } };
+ann.boss.friends.push(ann);
+const wrapped = { kind: 'Wrapped' };
+wrapped.value = wrapped;
+const endless = [
+  [Tree, tree, [...around(63, 0, 'a'), 0]],
+  [Person, ann, [...around(42, 'boss', 'friends', 0), 'boss']],
+  [Wrapped, wrapped, around(127, 'data')],
+  [Tree, nested(129), around(127, 0)],
+  [Tree, nested(1e4), around(127, 0)],
+];
+for (const [made, value, place] of endless) {
+  assert.throws(() => made.encode(value), { name: 'DagCborError', kind: 'DepthOverflow', place });
+}
+assert.deepStrictEqual(Tree.decode(Tree.encode(nested(128))), nested(128));
+for (const count of [128, 1e5]) {
+  const block = Buffer.from([...around(count, 0x81), 0x80]);
+  assert.throws(() => Tree.decode(block), { name: 'DagCborError', kind: 'DepthOverflow' });
+}

@@ -7,9 +7,9 @@ const { basename, join } = require('path');
 const [, , folder, module_] = process.argv;
 if (!module_) throw new Error('node build.js FOLDER MODULE');
 const [node, esm] = [join(__dirname, '../node'), join(__dirname, 'esm')];
-const ALONE = /^(build|library|platform|(atproto|store)\w*)\.js$/; // Node's alone
-const shared = readdirSync(node).filter((it) => it.endsWith('.js') && !ALONE.test(it));
-const own = ['dagcbor.js', 'native.js', 'walk.js'];
+const ALONE = /^(addons|build|library|platform|(atproto|store)\w*)\.js$/; // Node's alone
+const scriptsIn = (folder) => readdirSync(folder).filter((it) => it.endsWith('.js')).map((it) => join(folder, it));
+const shared = [...scriptsIn(node), ...scriptsIn(join(node, 'wasm'))].filter((it) => !ALONE.test(basename(it)));
 
 const names = (inside) => inside.replace(/(\w+): (\w+)/g, '$1 as $2');
 
@@ -25,7 +25,7 @@ const asModule = (text, path) => {
 };
 
 mkdirSync(folder, { recursive: true });
-for (const path of [...shared.map((it) => join(node, it)), ...own.map((it) => join(__dirname, it))]) {
+for (const path of shared) {
   writeFileSync(join(folder, basename(path)), asModule(readFileSync(path, 'utf8'), path));
 }
 for (const it of readdirSync(esm)) copyFileSync(join(esm, it), join(folder, it));

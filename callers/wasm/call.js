@@ -1,9 +1,12 @@
-// node --experimental-wasm-memory64 call.js dagcbor_ffi.wasm TABLE TEXTS HEADERS SECTIONS SPANS PATHS
-// SEGMENTS NODES MODELS (later versions want no flag). Holds the module against each row of the tables.
+// node --experimental-wasm-memory64 call.js dagcbor_ffi.wasm TABLE TEXTS HEADERS SECTIONS PATHS
+// SEGMENTS NODES MODELS FILES (later versions want no flag). Holds the module against each row of the
+// tables.
 'use strict';
 const { readFileSync } = require('fs');
+const { load, unpacked } = require('../node/wasm/dagcbor.js');
 
 const hex = (bytes) => Buffer.from(bytes).toString('hex');
+const bytesOf = (text) => Buffer.from(text === '-' ? '' : text, 'hex');
 const told = (answer) =>
   typeof answer === 'number' ? String(answer) : answer.map(hex).join(',') || '-';
 
@@ -30,33 +33,49 @@ const isRight = ({ check, tape, tokens, spell, links, name }, row) => {
   return hex(spell(block, words)) === hex(block);
 };
 
-const isRightHeader = ({ carHeader, carSection }, [text, code, roots, behind]) => {
-  const bytes = Buffer.from(text === '-' ? '' : text, 'hex');
-  const read = carHeader(bytes);
-  if (Number(code) < 0) return String(read) === code;
-  if (told(read.roots) !== roots || String(read.behind) !== behind) return false;
-  // Behind a header that is the file, no section begins; the header is none, but for its length.
-  const { code: cut, places } = carSection(bytes.subarray(read.behind, read.behind + 1));
-  return cut < 0 && places === null && carSection(bytes).code === -26;
+const [MORE, HEADER, END] = [10, 11, 12]; // what comes next, beside sections
+const EMPTY = bytesOf('11a265726f6f7473806776657273696f6e01'); // the header of no roots
+
+const SECOND = '0aa16776657273696f6e02'; // begins a file of version 2, which is no header of version 1
+const isRightHeader = ({ carWalk, carNext }, [text, code, roots, end]) => {
+  const walk = carWalk();
+  if (text.startsWith(SECOND)) return code === '-27';
+  const { cause, links } = carNext(walk, bytesOf(text), true);
+  if (Number(code) < 0) return String(cause) === code;
+  return cause === HEADER && told(unpacked(links)) === roots && String(walk[0]) === end;
 };
 
-const isRightSection = ({ carSection, carSections }, [text, code, wanted]) => {
-  const bytes = Buffer.from(text === '-' ? '' : text, 'hex');
-  const { code: found, places } = carSection(bytes);
-  const of = places && [places.cid, places.block, places.end];
-  if (String(found) !== code || (of?.join(':') ?? '-') !== wanted) return false;
-  // The same twice, one behind the other, and then the rest, which begins none here.
-  const [one, rest] = places ? [bytes.subarray(0, places.end), bytes.subarray(places.end)] : [bytes];
-  const all = carSections(places ? Buffer.concat([one, one, rest]) : bytes);
-  if (!places) return all.codes.length === 0 && all.cause === (bytes.length ? found : 0);
-  const twice = [...of, ...of.map((it) => it + places.end)];
-  return String(all.codes) === `${code},${code}` && String(all.places) === String(twice)
-    && (all.cause < 0) === (rest.length > 0);
+// The section after a header.
+const isRightSection = ({ carWalk, carNext }, [text, code, wanted]) => {
+  const walk = carWalk();
+  const file = Buffer.concat([EMPTY, bytesOf(text)]);
+  if (carNext(walk, file, true).cause !== HEADER) return false;
+  const { cause, codes, places } = carNext(walk, file.subarray(EMPTY.length), true);
+  if (text === '-') return cause === END;
+  return String(codes[0] ?? cause) === code && (places.slice(0, 3).join(':') || '-') === wanted;
 };
 
-const isRightSpan = ({ carSpan }, [text, code, wanted]) => {
-  const found = carSpan(Buffer.from(text === '-' ? '' : text, 'hex'));
-  return Number(code) < 0 ? String(found) === code : `${found.begin}:${found.end}` === wanted;
+// The roots, the sections and the fault of a file, as its row tells them, if its bytes come in two parts.
+const walked = ({ carWalk, carNext }, file, cut) => {
+  const [walk, sections] = [carWalk(), []];
+  for (let [roots, to] = ['-', cut]; ;) {
+    const from = Math.min(Number(walk[0]), to);
+    const isLast = to === file.length;
+    const { cause, codes, places, links } = carNext(walk, file.subarray(from, to), isLast);
+    codes.forEach((code, i) => {
+      const [cid, block, end] = places.slice(3 * i, 3 * i + 3).map((it) => from + it);
+      sections.push(`${hex(file.subarray(cid, block))}:${end - block}:${code}`);
+    });
+    if (cause === HEADER) roots = told(unpacked(links));
+    else if (cause === MORE && !isLast) to = file.length;
+    else return `${roots} ${sections.join(',') || '-'} ${cause === END ? '-' : `${cause}:${walk[0]}`}`;
+  }
+};
+
+const isRightFile = (module, [text, roots, sections, fault]) => {
+  const file = bytesOf(text);
+  const cuts = Array.from({ length: Math.min(file.length + 1, 1000) }, (_, i) => i);
+  return cuts.every((cut) => walked(module, file, cut) === `${roots} ${sections} ${fault}`);
 };
 
 const isRightText = ({ cidText, cidFromText }, [text, code, cid, written]) => {
@@ -86,7 +105,6 @@ const areRightSegments = ({ check, part }, [block, segments, code, begin, end]) 
   return `${found.kind} ${place} ${place + item.length}` === `${code} ${begin} ${end}`;
 };
 
-const bytesOf = (text) => Buffer.from(text === '-' ? '' : text, 'hex');
 const put = (answer) => (typeof answer === 'number' ? `${answer} -` : `0 ${hex(answer) || '-'}`);
 
 const isRightNode = ({ fromNode, placeInNode, nodeLinks }, [text, code, place, wanted, ...linked]) => {
@@ -104,11 +122,11 @@ const rowsOf = (table) => {
 };
 
 const main = async () => {
-  const module = await require('./dagcbor.js').load(readFileSync(process.argv[2]));
+  const module = await load(readFileSync(process.argv[2]));
   const tables = process.argv.slice(3).map(rowsOf);
   const holds = [
-    isRight, isRightText, isRightHeader, isRightSection, isRightSpan, isRightPath, areRightSegments,
-    isRightNode, isRightModel,
+    isRight, isRightText, isRightHeader, isRightSection, isRightPath, areRightSegments,
+    isRightNode, isRightModel, isRightFile,
   ];
   const wrong = tables.flatMap((rows, i) => rows.filter((it) => !holds[i](module, it)))[0];
   const counts = tables.map((rows) => rows.length);

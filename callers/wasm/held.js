@@ -12,8 +12,8 @@ const same = (found, wanted, of) => {
 };
 
 export const hold = async (dagcbor, read) => {
-  const { CID, CarBlockIterator, CarReader, CarWriter, DagCborError, check, checkCar, decode } = dagcbor;
-  const { decodeFirst, encode, find, links, name, resolve, tape, verify } = dagcbor;
+  const { CID, CarBlockIterator, CarBufferReader, CarIndexedReader, CarReader, CarWriter } = dagcbor;
+  const { DagCborError, check, checkCar, decode, decodeFirst, encode, find, links, name, resolve, tape, verify } = dagcbor;
   const index = JSON.parse(await read('index.json'));
   const rowsOf = async (group) => (await read(`${group}.jsonl`)).trim().split('\n').map(JSON.parse);
   const causeOf = (group, { cause }) => (index.forms[group] ?? index).variants[cause];
@@ -48,6 +48,9 @@ export const hold = async (dagcbor, read) => {
     const bytes = bytesOf(row);
     const pieces = Array.from(bytes, (it) => Uint8Array.of(it));
     const told = (row.sections ?? []).map((it) => `${it.cid} ${it.end - it.block}`);
+    const held = refusal(() => CarBufferReader.fromBytes(bytes).blocks().map((it) => `${it.cid} ${it.bytes.length}`));
+    const atOnce = held instanceof DagCborError ? `${held.kind} ${held.place}` : held;
+    same(atOnce, row.verdict === 'refused' ? `${causeOf('files', row)} ${row.at}` : `answered ${told}`, hexOf(bytes));
     for (const source of [bytes, [bytes], pieces]) {
       const found = [];
       let [fault, missing] = ['', row.missing ?? []];
@@ -102,5 +105,7 @@ export const hold = async (dagcbor, read) => {
   writer.close();
   const reader = await CarReader.fromIterable(out);
   same(hexOf((await reader.get(CID.parse(String(name(leaf))))).bytes), hexOf(leaf), 'a file');
+  const noFile = await CarIndexedReader.fromFile('a.car').catch((error) => error.message);
+  same(noFile, 'files are opened by the package for Node alone', 'a file on disk');
   return `${count} vectors`;
 };

@@ -14,7 +14,7 @@ import { Tabs } from './tabs.js';
 import { KINDS, refusalOf, sectionOf } from './verdicts.js';
 
 export class BlockView {
-  // `judged` is the worker's answer; `section` what a file of blocks says of it, if it is of one;
+  // `judged` is the worker's answer; `section` what a CAR file says of it, if it is of one;
   // `note` a sentence about where it is from.
   constructor(asker, judged, { section, canFollow, follow, edited, note }) {
     Object.assign(this, judged, { asker, section, canFollow, follow, edited });

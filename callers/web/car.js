@@ -1,15 +1,16 @@
-// A file of blocks (CAR), gone through by a window over the file: never more of it is in
+// A CAR file, gone through by a window over the file: never more of it is in
 // memory than its longest section needs.
 
-import { CUT, NOT_VERIFIED, OTHER_BYTES, TOO_LONG } from './kinds.js';
-import { IDENTITY, cidKey, cidOfKey, cidParts } from './cid.js';
+import {
+  MORE_BYTES, NOT_VERIFIED, OTHER_BYTES, OTHER_CODEC, THE_END, THE_HEADER, TOO_LONG,
+} from './kinds.js';
+import { unpacked } from './dagcbor.js';
+import { cidKey, cidOfKey } from './cid.js';
 
 const WINDOW = 2 << 20;
 const FIRST_HEADER = 64 << 10;
 const MOST_HEADER = 16 << 20;
 const MOST = 1 << 30;
-const FIRST_BYTES = 51; // says where a file of version 1 is in one of version 2
-const HELD = 4; // behind 01 71 00 and a byte of length, in a CID that holds a block of DAG-CBOR
 
 const read = async (file, from, length) =>
   new Uint8Array(await file.slice(from, from + length).arrayBuffer());
@@ -21,51 +22,47 @@ const ahead = (file, from, length) => {
   return coming;
 };
 
-// The roots, and where the first section begins: of the header that begins the file, or null.
-export const headerOf = async (library, file) => {
+// The front of a CAR file: its roots, its version, and the walk that goes on behind the header;
+// or null, where it does not begin with one.
+export const frontOf = async (library, file) => {
+  const steps = library.carWalk();
   for (let length = FIRST_HEADER; ; length *= 4) {
-    const header = library.carHeader(await read(file, 0, length));
-    if (typeof header !== 'number') return header;
-    if (header !== CUT || length >= file.size || length >= MOST_HEADER) return null;
+    const from = Number(steps[0]);
+    const bytes = await read(file, from, length);
+    const { cause, links, version } = library.carNext(steps, bytes, from + length >= file.size);
+    if (cause === THE_HEADER) return { roots: unpacked(links), version, steps };
+    if (cause !== MORE_BYTES || length >= MOST_HEADER) return null;
   }
-};
-
-// Where the file of version 1 is inside one of version 2, or null.
-export const innerOf = async (library, file) => {
-  const span = library.carSpan(await read(file, 0, FIRST_BYTES));
-  const isInside = typeof span !== 'number' && span.begin > 0n && span.end <= BigInt(file.size);
-  return isInside ? { from: Number(span.begin), end: Number(span.end) } : null;
 };
 
 // Hands out sections in batches, and answers what is missing, and why it stopped before the end.
 // While a window is judged the bytes behind it are read.
-export const walk = async (library, file, header, { told, isStopped }) => {
-  const names = new Names(header.roots);
+export const walk = async (library, file, { roots, steps }, { told, isStopped }) => {
+  const names = new Names(roots);
   const ended = (fault) => {
     const missing = fault ? [] : names.missing(library);
     return { fault, missing, links: names.links };
   };
-  let [at, next, bytes] = [header.behind, header.behind, new Uint8Array()];
+  let [at, next, bytes] = [Number(steps[0]), Number(steps[0]), new Uint8Array()];
   const coming = (length) => {
     const more = ahead(file, next, length);
     next += length;
     return more;
   };
   let more = coming(WINDOW);
-  while (at < file.size && !isStopped()) {
+  while (!isStopped()) {
     const cut = bytes.length; // of a section that is longer
     bytes = joined(bytes, await more);
     const isLast = next >= file.size;
-    more = isLast ? null : coming(Math.max(WINDOW, 2 * cut));
-    const sections = library.carSections(bytes);
-    const behind = sections.places[sections.places.length - 1] ?? 0;
-    const batch = batchOf(bytes, at, sections);
-    names.take(batch, sections.links);
-    at += behind;
+    if (!isLast) more = coming(Math.max(WINDOW, 2 * cut));
+    const found = library.carNext(steps, bytes, isLast);
+    const batch = batchOf(bytes, at, found);
+    names.take(batch, found.links);
+    bytes = bytes.subarray(Number(steps[0]) - at);
+    at = Number(steps[0]);
     told(batch, at);
-    bytes = bytes.subarray(behind);
-    const isCut = sections.cause === CUT && !isLast;
-    if (sections.cause && !isCut) return ended({ code: sections.cause, at });
+    if (found.cause === THE_END) break;
+    if (found.cause !== MORE_BYTES) return ended({ code: found.cause, at });
     if (bytes.length > MOST) return ended({ code: TOO_LONG, at });
   }
   return ended(null);
@@ -134,18 +131,14 @@ class Names {
     const lost = [];
     for (const key of this.wanted) {
       const cid = cidOfKey(key);
-      const { codec, hash } = cidParts(cid);
-      if (hash !== IDENTITY) lost.push(cid);
-      else if (codec === 'DAG-CBOR') this.follow(library, cid.subarray(HELD));
+      const held = library.heldIn(cid);
+      if (held === null) lost.push(cid);
+      else if (held.code >= 0 && held.code !== OTHER_CODEC) this.follow(library.links(held.block));
     }
     return lost;
   }
 
-  // Of a block alone: other bytes may begin with an item that has links.
-  follow(library, bytes) {
-    if (library.check(bytes) < 0) return;
-    for (const it of library.links(bytes).map(cidKey)) {
-      if (!this.held.has(it)) this.wanted.add(it);
-    }
+  follow(links) {
+    for (const it of links.map(cidKey)) if (!this.held.has(it)) this.wanted.add(it);
   }
 }

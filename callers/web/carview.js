@@ -1,4 +1,4 @@
-// A file of blocks: its roots, its sections, and what is missing.
+// A CAR file: its roots, its sections, and what is missing.
 
 import { cidKey, cidText } from './cid.js';
 import { button, growing, make, withAttributes } from './dom.js';
@@ -14,8 +14,8 @@ const ROOTS_AT_ONCE = 20;
 let walks = 0;
 
 export class CarView {
-  constructor(asker, file, header, { open }) {
-    Object.assign(this, { asker, file, header, open });
+  constructor(asker, file, front, { open }) {
+    Object.assign(this, { asker, file, front, open });
     this.sections = new Sections();
     this.group = 'all';
     this.filtered = 0;
@@ -23,7 +23,7 @@ export class CarView {
     this.number = walks;
     const parts = [this.summary(), this.rootList(), this.filters(), this.table()];
     this.element = make('article.car', ...parts, this.missingList());
-    this.readTo = header.behind;
+    this.readTo = Number(front.steps[0]);
     this.tell(this.readTo);
     this.walk();
   }
@@ -51,7 +51,7 @@ export class CarView {
     const { counts } = this.sections;
     this.bar.value = this.file.size ? at / this.file.size : 1;
     if (!this.done) {
-      this.title.textContent = 'Reading the file of blocks';
+      this.title.textContent = 'Reading the CAR file';
       const read = `${sizeOf(at)} of ${sizeOf(this.file.size)}`;
       this.said.textContent = `${counted(counts.all, 'section')}, ${read}`;
     }
@@ -72,7 +72,7 @@ export class CarView {
     const size = `${counted(counts.all, 'section')} in ${sizeOf(this.file.size)}`;
     const all = `${size}, with ${counted(links, 'link')}.`;
     if (isWell) {
-      this.title.textContent = 'A file of blocks, and all is well';
+      this.title.textContent = 'A CAR file, and all is well';
       this.said.textContent = `${all} ${ALL_WELL}`;
       return;
     }
@@ -81,7 +81,7 @@ export class CarView {
     if (counts.bytes) parts.push(`${grouping(counts.bytes)} with other bytes than their CID names`);
     if (counts.unknown) parts.push(`${grouping(counts.unknown)} not verified`);
     if (missing.length) parts.push(`${counted(missing.length, 'CID')} missing`);
-    this.title.textContent = `A file of blocks, and ${fault ? 'it breaks off' : 'not all is well'}`;
+    this.title.textContent = `A CAR file, and ${fault ? 'it breaks off' : 'not all is well'}`;
     this.said.textContent = `${all} ${parts.length ? `${parts.join(', ')}.` : ''}`;
     if (fault) {
       const { name, asks } = faultOf(fault.code);
@@ -92,7 +92,7 @@ export class CarView {
   }
 
   rootList() {
-    const { roots } = this.header;
+    const { roots } = this.front;
     const list = make('ul.roots');
     if (!roots.length) list.append(make('li.hint', 'none'));
     const title = make('h3', roots.length === 1 ? 'Root' : 'Roots');
@@ -166,7 +166,7 @@ export class CarView {
     if (!missing.length) return;
     this.lost = new Set(missing.map(cidKey));
     this.element.querySelectorAll('.roots li').forEach((it, i) => {
-      const root = this.header.roots[i];
+      const root = this.front.roots[i];
       if (root && this.lost.has(cidKey(root))) it.append(make('span.is-bad', 'missing'));
     });
     const title = make('h3', `Missing ${grouping(missing.length)}`);
@@ -185,8 +185,8 @@ export class CarView {
       this.planned ??= setTimeout(() => this.refresh(), BETWEEN_LOOKS);
     };
     try {
-      const { file, header, number } = this;
-      const done = await this.asker.ask('walk', { file, header, walk: number }, told);
+      const { file, front, number } = this;
+      const done = await this.asker.ask('walk', { file, front, walk: number }, told);
       if (this.isEnded) return;
       clearTimeout(this.planned);
       this.done = done;

@@ -16,9 +16,8 @@ const CODECS = [
   ['0151', 'CBOR'], ['018004', 'JSON'], ['0172', 'libp2p key'], ['0178', 'Git'],
   ['018501', 'DAG-JOSE'],
 ];
-export const IDENTITY = 'identity';
 const HASHES = [
-  ['00', IDENTITY], ['11', 'SHA-1'], ['12', 'SHA-256'], ['13', 'SHA-512'],
+  ['00', 'identity'], ['11', 'SHA-1'], ['12', 'SHA-256'], ['13', 'SHA-512'],
   ['16', 'SHA3-256'], ['1b', 'Keccak-256'], ['1e', 'BLAKE3'], ['a0e402', 'BLAKE2b-256'],
 ];
 

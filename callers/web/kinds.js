@@ -15,8 +15,10 @@ export const OTHER_CODEC = 9;
 export const OTHER_BYTES = -22;
 export const NOT_VERIFIED = -23;
 
-// The bytes end too early for a section or a header.
-export const CUT = -24;
+// What comes next in a CAR file, beside sections.
+export const MORE_BYTES = 10; // are wanted before it is known
+export const THE_HEADER = 11;
+export const THE_END = 12;
 
 // Of this page alone: a section that it does not read.
 export const TOO_LONG = -100;

@@ -98,7 +98,7 @@ const busyWith = async (title, act) => {
 
 // What is given.
 
-const NO_HEADER = 'By its name this is a file of blocks (CAR), but it does not begin with the header'
+const NO_HEADER = 'By its name this is a CAR file, but it does not begin with the header'
   + ' of one: it was judged as one block.';
 
 const blockView = async (file, title, more = {}) => {
@@ -140,14 +140,13 @@ const openFile = async (file, title) => {
   const mine = opened;
   say('');
   await busyWith(title, async () => {
-    const { header, inner } = await asker.ask('look', { file });
+    const { front } = await asker.ask('look', { file });
     if (mine !== opened) return;
-    if (header) {
-      const whole = inner ? file.slice(inner.from, inner.end) : file;
+    if (front) {
       const open = (cid, number) => openIn(car, cid, number);
-      const car = new CarView(asker, whole, header, { open });
+      const car = new CarView(asker, file, front, { open });
       begin({
-        title: inner ? `inside ${title}` : title, element: car.element, car,
+        title: front.version === 2 ? `inside ${title}` : title, element: car.element, car,
         afterShown: () => car.afterShown(), leave: () => car.leave(),
       });
       return;

@@ -1,4 +1,4 @@
-// The sections of a file of blocks: what is told of them, batch by batch, and the table of them.
+// The sections of a CAR file: what is told of them, batch by batch, and the table of them.
 
 import { NOT_VERIFIED, OTHER_BYTES, OTHER_CODEC } from './kinds.js';
 import { cidKey, cidParts, cidText } from './cid.js';

@@ -4,7 +4,7 @@
 import { load } from './dagcbor.js';
 import { readBy } from './cid.js';
 import { judge } from './judge.js';
-import { headerOf, innerOf, walk } from './car.js';
+import { frontOf, walk } from './car.js';
 import { writeJson } from './json.js';
 import { tokensOf } from './spell.js';
 
@@ -18,11 +18,9 @@ const calls = {
     return {};
   },
 
-  // Whether it is a file of blocks, by its front, or has one inside.
+  // Whether it is a CAR file, by its front.
   async look({ file }) {
-    const inner = await innerOf(library, file);
-    const whole = inner ? file.slice(inner.from, inner.end) : file;
-    return { header: await headerOf(library, whole), inner };
+    return { front: await frontOf(library, file) };
   },
 
   async judge({ file }) {
@@ -46,9 +44,9 @@ const calls = {
   },
 
   // Walks may go on beside each other: no call of the library keeps anything for the next.
-  async walk({ file, header, walk: mine }, post) {
+  async walk({ file, front, walk: mine }, post) {
     const told = (batch, at) => post({ batch, at });
-    return walk(library, file, header, { told, isStopped: () => stopped.has(mine) });
+    return walk(library, file, front, { told, isStopped: () => stopped.has(mine) });
   },
 
   async stop({ walk: which }) {

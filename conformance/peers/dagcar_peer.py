@@ -1,4 +1,4 @@
-"""The program `dagcar`, asked for each line: DAG-JSON both ways, which is also data to be written, and files of blocks."""
+"""The program `dagcar`, asked for each line: DAG-JSON both ways, which is also data to be written, and CAR files."""
 
 import os
 import subprocess

@@ -1,4 +1,4 @@
-// Our package for Node, which stands in callers/node: blocks; data to be written; paths; files of blocks; CIDs as text.
+// Our package for Node, which stands in callers/node: blocks; data to be written; paths; CAR files; CIDs as text.
 'use strict';
 const { dataOf, serve } = require('./lines.js');
 const { CID, CarReader, decode, encode, find } = require(`${process.env.REPO}/callers/node`);

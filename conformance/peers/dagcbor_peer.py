@@ -1,4 +1,4 @@
-"""Our package for Python: blocks; data to be written; paths; files of blocks; CIDs as text."""
+"""Our package for Python: blocks; data to be written; paths; CAR files; CIDs as text."""
 
 from dagcbor import CID, dumps, find, loads, read_car
 from lines import data_of, serve

@@ -160,6 +160,18 @@ HOUR_MORE = {
     "doorOpen": True,
     "visits": {"a": 1, "b": 0},
 }
+PAGE = {
+    "views": 2**32 - 1,
+    "title": "",
+    "pinned": False,
+    "tags": [],
+    "digest": b"\0",
+    "rating": None,
+    "author": CID,
+    "created": -(2**63),
+    "counts": {},
+}
+IMAGE = {"$type": "app.image", "width": 640, "alt": "a"}
 
 BLOCKS = {
     "album": {
@@ -289,6 +301,22 @@ BLOCKS = {
         "HOUR_COLD": {**HOUR, "temperature": -(2**15) - 1},
         "HOUR_SIGNED_TEXT": {**HOUR, "signature": "ab"},
         "HOUR_LIST": [HOUR],
+    },
+    "embeds": {
+        "PAGE": PAGE,
+        "PAGE_IMAGE": {**PAGE, "embed": {**IMAGE, "caption": ""}},
+        "PAGE_PLAIN": {**PAGE, "embed": IMAGE},
+        "PAGE_VIDEO": {**PAGE, "embed": {"$type": "app.video", "sound": True, "tracks": ["", "b"], "poster": b"\x01"}},
+        "PAGE_QUOTE": {**PAGE, "embed": {"$type": "app.quote", "score": None, "of": CID, "lines": [-1], "at": -1}},
+        "PAGE_POLL": {**PAGE, "embed": {"$type": "app.poll", "votes": {"b": 1, "aa": 2}, "extra": [None, {}], "open": 0}},
+        "PAGE_IMAGE_MORE": {**PAGE, "embed": {**IMAGE, "sound": True}},
+        "PAGE_IMAGE_LATE": {**PAGE, "embed": {**IMAGE, "open": 0}},
+        "PAGE_IMAGE_OF": {**PAGE, "embed": {**IMAGE, "of": CID}},
+        "PAGE_IMAGE_LESS": {**PAGE, "embed": {"$type": "app.image", "width": 640}},
+        "PAGE_BARE": {**PAGE, "embed": {"$type": "app.video"}},
+        "PAGE_UNKNOWN": {**PAGE, "embed": {**IMAGE, "$type": "Image"}},
+        "PAGE_UNTOLD": {**PAGE, "embed": {"width": 640, "alt": "a"}},
+        "PAGE_OTHER": {**PAGE, "embed": {**IMAGE, "height": 1}},
     },
 }
 

@@ -1,7 +1,7 @@
 #!/usr/bin/env python3
 """What the types of these schemas answer to the blocks of blocks.py, and to some more, for tests in other languages:
 
-    schemas/examples/verdicts.py album repository atproto ledger forms
+    schemas/examples/verdicts.py album repository atproto ledger forms large others
 
 A line is a schema, a type, a block in hexadecimal, and what it is written again as; or in place of that the kind of the error and the
 path that it names, as `Mismatch tracks/1/seconds`, or `Mismatch -` for the whole."""
@@ -11,6 +11,21 @@ import sys
 from blocks import BLOCKS, CHORD, CID, DEMO, FIGURES, IMAGES, LEDGER, POINT, POST, REF, UNITS, spelled
 
 RECORD = {"$type": "app.bsky.embed.record", "record": REF}
+NUMBERED = {f"{letter}{place}": 10 * at + place for at, letter in enumerate("ab") for place in range(10 if letter == "a" else 6)}
+TOLD = {"t": "x"} | {f"c{place}": place for place in range(8)}
+LAST = 'the "last" ü'
+WORD = {"op": "word", "it": "a"}
+ANN = {"name": "Ann", "friends": []}
+BOB = {"name": "Bob", "friends": [ANN], "boss": ANN, "next": None, "part": {"group": [[{"int": -1}, {"person": ANN}], ANN]}}
+LONG_KEY = "com.example.collection.definitions#thePartOfAUnion"
+
+
+def within(levels, inner, around):
+    """A value in so many others."""
+    for _ in range(levels):
+        inner = around(inner)
+    return inner
+
 
 MORE = {
     "album": {
@@ -98,10 +113,122 @@ MORE = {
         "LEDGER_TRUE_LEVEL": {**LEDGER, "level": True},
         "LEDGER_NO_REST": {key: value for key, value in LEDGER.items() if key != "rest"},
     },
+    "large": {
+        "ROW": list(range(15)),
+        "ROW_LONG": [*range(16), [[5]]],
+        "ROW_SHORT": list(range(14)),
+        "ROW_LATE": [*range(16), [5]],
+        "PAIRS": [["a", 0], ["b", 1], ["c", 2], ["d", 3], ["e", [[5]]]],
+        "PAIRS_TURNED": [["b", 1], ["a", 0], ["c", 2], ["d", 3], ["e", [[5]]]],
+        "IMPLIED": {key: value for key, value in NUMBERED.items() if value > 1},
+        "IMPLIED_OTHERS": {**NUMBERED, "a0": 1, "a1": 0},
+        "IMPLIED_ONE": {**NUMBERED, "a0": 1},
+        "TOLD": TOLD,
+        "TOLD_OTHER": {**TOLD, "t": "y"},
+    },
+    "others": {
+        "TREE": [1, "a", None, [[], {"b": None, "aa": [255]}]],
+        "TREE_DEEP": within(127, [], lambda it: [it]),
+        "TREE_MIXED": within(42, [], lambda it: [None, {"": [it]}, 0]),
+        "TREE_BOOL": [[], [0, True]],
+        "TREE_WIDE": [[], {"a": [256]}],
+        "TREE_MAP": {},
+        "BRANCH": {"a": [], "b": {"a": "a"}},
+        "BRANCH_DEEP": within(127, {}, lambda it: {"a": it}),
+        "BRANCH_LINK": {"a": {"b": CID}},
+        "WAY": None,
+        "WAYS": [None, -1, [-(2**64), 2**64 - 1, []]],
+        "WAY_OTHER": [[-2]],
+        "WAY_BOOL": [False],
+        "PERSON": ANN,
+        "PERSON_BOB": BOB,
+        "PERSON_DEEP": within(127, {"name": "", "friends": []}, lambda it: {"name": "", "friends": [], "boss": it})["boss"],
+        "PERSON_LATE": {**BOB, "boss": {**ANN, "friends": [ANN, {"name": "Cid"}]}},
+        "PERSON_NULL": {**BOB, "boss": None},
+        "PART": {"group": [[{"group": [[]]}]]},
+        "PART_LATE": {"group": [[{"group": [[{"int": "a"}]]}]]},
+        "GROUP": [[{"int": 0}], BOB],
+        "SAY": {"op": "not", "it": WORD},
+        "SAY_BOTH": {"op": "both", "left": {**WORD, "weight": None}, "it": [WORD, {"op": "not", "it": {**WORD, "weight": 6}}], "note": ""},
+        "SAY_MORE": {"op": "both", "left": WORD, "it": [], "more": 1},
+        "SAY_LESS": {"op": "both", "left": WORD, "it": []},
+        "SAY_OTHER": {"op": "both", "left": WORD, "it": [], "weight": "a"},
+        "SAY_CLOSED": {"op": "not", "it": WORD, "more": 1},
+        "SAY_NOTE": {"op": "both", "left": WORD, "it": [], "note": "a 'b\" \\ é"},
+        "SAY_WEIGHT": {"op": "not", "it": {**WORD, "weight": 5}},
+        "SAY_LEFT": {"op": "both", "left": {**WORD, "it": []}, "it": []},
+        "SAY_DEEP": within(126, WORD, lambda it: {"op": "not", "it": it}),
+        "WRAPPED": {"type": "last", "data": 1},
+        "WRAPPED_DEEP": within(126, {"type": "last", "data": 1}, lambda it: {"type": "again", "data": it}),
+        "WRAPPED_LATE": {"type": "again", "data": {"type": "again", "data": 1}},
+        "ENTRY": [["kind", "a"]],
+        "ENTRY_FULL": [["kind", "a"], ["wide", 1], ["far", [["kind", "b"], [LAST, "c"]]], [LAST, "d"]],
+        "ENTRY_NULL": [["kind", "a"], ["far", None]],
+        "ENTRY_DEEP": within(62, [["kind", ""]], lambda it: [["kind", ""], ["far", it]]),
+        "ENTRY_NONE": [],
+        "ENTRY_LONG": [["kind", "a"]] * 5,
+        "ENTRY_TWICE": [["kind", "a"], ["wide", 1], ["wide", 1]],
+        "ENTRY_TURNED": [["kind", "a"], ["far", None], ["wide", 1]],
+        "ENTRY_OTHER": [["kind", "a"], ["more", 1]],
+        "ENTRY_NO_KIND": [["wide", 1]],
+        "ENTRY_LATE": [["kind", "a"], ["far", [["kind", 1]]]],
+        "NAME": "é/right/id:",
+        "NAME_EMPTY": "/l/side:right",
+        "NAME_SHORT": "a/right",
+        "NAME_LONG": "a/right/id:/",
+        "NAME_SIDE": "a/up/id:",
+        "NAME_ID": "a/l/right",
+        "NAME_BYTES": b"a/l/id:",
+        "ID": "id:id:",
+        "ID_PAIR": "id;a..b",
+        "ID_PAIR_DOTS": "id;.....",
+        "ID_NONE": "",
+        "ID_SIDE": "side:r",
+        "ID_LIST": ["id:"],
+        "BOX": {"result": {LONG_KEY: 1}},
+        "BOX_LONG": {"result": {LONG_KEY: ""}},
+    },
 }
 
 # Of the blocks that are refused.
 REFUSED = {
+    "ROW_SHORT": "LengthMismatch -",
+    "ROW_LATE": "Mismatch 16/0",
+    "PAIRS_TURNED": "Msg 0/0",
+    "IMPLIED_ONE": "Msg a1",
+    "TOLD_OTHER": "Msg c0",
+    "TREE_BOOL": "Msg 1/1",
+    "TREE_WIDE": "CastOverflow 1/a/0",
+    "TREE_MAP": "Mismatch -",
+    "BRANCH_LINK": "Msg a/b",
+    "WAY_OTHER": "Msg 0/0",
+    "WAY_BOOL": "Msg 0",
+    "PERSON_LATE": "Msg boss/friends/1/friends",
+    "PERSON_NULL": "Mismatch boss",
+    "PART_LATE": "Mismatch group/0/0/group/0/0/int",
+    "SAY_OTHER": "Mismatch weight",
+    "SAY_CLOSED": "Msg more",
+    "SAY_NOTE": "Msg note",
+    "SAY_WEIGHT": "Msg it/weight",
+    "SAY_LEFT": "Mismatch left/it",
+    "WRAPPED_LATE": "Mismatch data/data",
+    "ENTRY_NONE": "LengthMismatch -",
+    "ENTRY_LONG": "LengthMismatch -",
+    "ENTRY_TWICE": "Msg 2/0",
+    "ENTRY_TURNED": "Msg 2/0",
+    "ENTRY_OTHER": "Msg 1/0",
+    "ENTRY_NO_KIND": "Msg -",
+    "ENTRY_LATE": "Mismatch 1/1/0/1",
+    "NAME_SHORT": "Msg -",
+    "NAME_LONG": "Msg -",
+    "NAME_SIDE": "Msg -",
+    "NAME_ID": "Msg -",
+    "NAME_BYTES": "Mismatch -",
+    "ID_PAIR_DOTS": "Msg -",
+    "ID_NONE": "Msg -",
+    "ID_SIDE": "Msg -",
+    "ID_LIST": "Mismatch -",
+    "BOX_LONG": f"Mismatch result/{LONG_KEY}",
     "DEMO_NULL_YEAR": "Mismatch year",
     "DEMO_WIDE_YEAR": "CastOverflow year",
     "DEMO_TEXT_YEAR": "Mismatch year",
@@ -225,7 +352,7 @@ REFUSED = {
 }
 
 # Blocks with keys that are skipped, by what is left of them.
-SKIPPED = {"POST_MORE": "POST", "POST_RECORD_MORE": "POST_RECORD"}
+SKIPPED = {"POST_MORE": "POST", "POST_RECORD_MORE": "POST_RECORD", "SAY_MORE": "SAY_LESS"}
 
 # The types of a schema that has no type of its name, by the names of their blocks.
 OTHERS = {"COMMIT_UNSIGNED": "UnsignedCommit", "REPLY": "Post"}
@@ -233,9 +360,9 @@ OTHERS = {"COMMIT_UNSIGNED": "UnsignedCommit", "REPLY": "Post"}
 
 def type_of(schema, name):
     first = name.split("_")[0]
-    if schema in ("atproto", "repository", "forms"):
-        return OTHERS.get(name) or OTHERS.get(first) or first.capitalize()
-    return schema.capitalize()
+    if schema in ("album", "ledger"):
+        return schema.capitalize()
+    return OTHERS.get(name) or OTHERS.get(first) or first.capitalize()
 
 
 def block_of(value):
@@ -244,7 +371,7 @@ def block_of(value):
 
 def main():
     for schema in sys.argv[1:]:
-        blocks = BLOCKS[schema] | MORE[schema]
+        blocks = BLOCKS.get(schema, {}) | MORE[schema]
         for name, value in blocks.items():
             block = block_of(value)
             answer = REFUSED.get(name) or block_of(blocks[SKIPPED.get(name, name)])

@@ -498,7 +498,6 @@ test('a package that has no library that takes memory', () => {
     const made = join(folder, 'callers/node');
     const others = (path) => path !== addon && !/[/](test|node_modules)$/.test(path);
     fs.cpSync(package_, made, { recursive: true, filter: others });
-    fs.symlinkSync(join(package_, '../wasm'), join(folder, 'callers/wasm'));
     const script = `
       const { decode } = require(${JSON.stringify(made)});
       if (decode(Uint8Array.of(5)) !== 5) process.exit(1);
@@ -508,7 +507,7 @@ test('a package that has no library that takes memory', () => {
         console.log(message);
       }`;
     const said = execFileSync(process.execPath, ['-e', script], { encoding: 'utf8' });
-    assert.match(said, /^there is no .*dagcbor_memory[.]node: .*DAGCBOR_MEMORY_LIBRARY names\n$/);
+    assert.match(said, /^there is no addon of dagcbor.atproto for .*: .*DAGCBOR_MEMORY_LIBRARY names\n$/);
   } finally {
     fs.rmSync(folder, { recursive: true });
   }

@@ -1,24 +1,28 @@
-// Files of blocks: each source is answered as the vectors say.
+// CAR files: each source is answered as the vectors say.
 'use strict';
 const assert = require('assert');
 const { execFileSync } = require('child_process');
 const { createHash } = require('crypto');
-const { createReadStream, mkdtempSync, rmSync, writeFileSync } = require('fs');
+const { closeSync, createReadStream, mkdtempSync, openSync, readFileSync, rmSync, writeFileSync } = require('fs');
+const { open } = require('fs/promises');
 const { tmpdir } = require('os');
 const { join } = require('path');
 const { Readable } = require('stream');
 const { test } = require('node:test');
 const {
-  CID, CarBlockIterator, CarError, CarReader, CarWriter, DagCborError, checkCar, encode, name,
+  CID, CarBlockIterator, CarBufferReader, CarError, CarIndexedReader, CarReader, CarWriter, DagCborError, checkCar,
+  encode, name,
 } = require('..');
 const { native } = require('../library.js');
 const { vectorsOf, verdictOf } = require('./vectors.js');
 
 const HEADER = Buffer.from('\x11\xa2eroots\x80gversion\x01', 'latin1');
 const hex = (bytes) => Buffer.from(bytes).toString('hex');
+const PRAGMA = Buffer.from('\x0a\xa1gversion\x02', 'latin1'); // begins a file of version 2
 const rows = vectorsOf('files').map(({ bytes, roots = [], sections = [], missing, variant, at }) => {
   const told = sections.map((it) => [it.cid, it.end - it.block, verdictOf(it)]);
-  return { bytes, roots, told, fault: variant ? [variant, at] : null, missing };
+  const version = bytes.subarray(0, PRAGMA.length).equals(PRAGMA) ? 2 : 1;
+  return { bytes, roots, told, fault: variant ? [variant, at] : null, missing, version };
 });
 
 // Sources of the bytes: in pieces of each size, by generators and by a stream.
@@ -60,7 +64,7 @@ const ways = [undefined, { sha256: host }, { sha256: () => new Uint8Array(32) }]
 test('the vectors hold', async () => {
   assert.ok(rows.length > 40);
   for (const options of ways) {
-    for (const { bytes, missing, ...wanted } of rows) {
+    for (const { bytes, missing, version, ...wanted } of rows) {
       const opened = sources(bytes).map((it) => () => CarBlockIterator.fromIterable(it, options));
       for (const open of [() => CarBlockIterator.fromBytes(bytes, options), ...opened]) {
         assert.deepStrictEqual(await told(open), wanted);
@@ -68,9 +72,10 @@ test('the vectors hold', async () => {
       for (const source of [bytes, ...sources(bytes)]) {
         await checks(source, wanted, missing, options);
       }
-      await reads(bytes, wanted, options);
+      await reads(bytes, { ...wanted, version }, options);
     }
   }
+  assert.ok(rows.some((it) => it.version === 2 && !it.fault));
 });
 
 const checks = async (source, wanted, missing, options) => {
@@ -91,15 +96,37 @@ const checks = async (source, wanted, missing, options) => {
   return assert.deepStrictEqual(found.roots.map(String), wanted.roots);
 };
 
+const inFolder = async (call) => {
+  const folder = mkdtempSync(join(tmpdir(), 'cars-'));
+  try {
+    await call(folder);
+  } finally {
+    rmSync(folder, { recursive: true });
+  }
+};
+
+// What reads a whole file, of the bytes: by promises, without, and from the disk.
 const reads = async (bytes, wanted, options) => {
+  const isSync = await readsBy(async () => CarBufferReader.fromBytes(bytes, options), wanted);
+  assert.strictEqual(isSync, wanted.fault === null);
+  await readsBy(() => CarReader.fromBytes(bytes, options), wanted);
+  await inFolder(async (folder) => {
+    writeFileSync(join(folder, 'it.car'), bytes);
+    await readsBy(() => CarIndexedReader.fromFile(join(folder, 'it.car'), options), wanted);
+  });
+};
+
+const readsBy = async (opened, wanted) => {
   let reader;
   try {
-    reader = await CarReader.fromBytes(bytes, options);
+    reader = await opened();
   } catch (error) {
-    return assert.deepStrictEqual(faultOf(error), wanted.fault);
+    assert.deepStrictEqual(faultOf(error), wanted.fault);
+    return false;
   }
   assert.strictEqual(wanted.fault, null);
   assert.deepStrictEqual((await reader.getRoots()).map(String), wanted.roots);
+  assert.strictEqual(reader.version, wanted.version);
   const blocks = [];
   for await (const it of reader.blocks()) blocks.push(it);
   const found = blocks.map((it) => [String(it.cid), it.bytes.length, it.verdict]);
@@ -109,10 +136,13 @@ const reads = async (bytes, wanted, options) => {
     const isHere = verified.some((it) => it.cid.equals(cid));
     assert.strictEqual(await reader.has(cid), isHere);
     const got = await reader.get({ bytes: cid.bytes }); // of another package
-    if (isHere) assert.ok(verified.includes(got) && got.cid.equals(cid));
-    else assert.strictEqual(got, undefined);
+    assert.deepStrictEqual(got, verified.find((it) => it.cid.equals(cid)));
   }
-  return assert.strictEqual(await reader.get(name(Buffer.of(9))), undefined);
+  assert.strictEqual(await reader.get(name(Buffer.of(9))), undefined);
+  await reader.close?.();
+  const long = reader.close && verified.find((it) => it.bytes.length); // of which something is to be read
+  if (long) await assert.rejects(reader.get(long.cid), { code: 'EBADF' });
+  return true;
 };
 
 test('each byte damaged', async () => {
@@ -202,6 +232,55 @@ test('sections of each size', async () => {
   }
 });
 
+test('a file that is read where it lies', () => inFolder(async (folder) => {
+  const path = join(folder, 'it.car');
+  const blocks = [[1], new Uint8Array(300000)].map((it) => Buffer.from(encode(it)));
+  const [one, other] = blocks.map((it) => name(it));
+  const file = Buffer.concat([HEADER, ...blocks.map((it) => section(it))]);
+  writeFileSync(path, file);
+  for (const it of [undefined, Buffer.from(path), 1, new URL(`file://${path}`)]) {
+    await assert.rejects(CarIndexedReader.fromFile(it), TypeError);
+  }
+  await assert.rejects(CarIndexedReader.fromFile(join(folder, 'none')), { code: 'ENOENT' });
+  const reader = await CarIndexedReader.fromFile(path);
+  assert.deepStrictEqual((await reader.get(other)).bytes, Uint8Array.from(blocks[1]));
+  const [place, length] = [file.length - blocks[1].length, blocks[1].length];
+  const index = { cid: other, blockOffset: place, blockLength: length };
+  const [number, handle] = [openSync(path), await open(path)];
+  for (const it of [number, handle]) {
+    const read = await CarReader.readRaw(it, index);
+    assert.deepStrictEqual(read, { cid: other, bytes: Uint8Array.from(blocks[1]), verdict: 'ok bytes' });
+    const far = { ...index, blockOffset: place + 1 };
+    await assert.rejects(CarReader.readRaw(it, far), { kind: 'Truncated' });
+    await assert.rejects(CarReader.readRaw(it, { ...index, cid: one }), { kind: 'OtherBytes' });
+    const unknown = { ...index, cid: CID.createV1(0x55, { bytes: Uint8Array.of(0x11, 1, 0) }) };
+    await assert.rejects(CarReader.readRaw(it, unknown), { kind: 'NotVerified' });
+  }
+  for (const it of [undefined, null, path, {}]) await assert.rejects(CarReader.readRaw(it, index), TypeError);
+  file[place + 9] ^= 1; // changed since
+  writeFileSync(path, file);
+  assert.ok(await reader.has(other));
+  await assert.rejects(reader.get(other), { kind: 'OtherBytes' });
+  const verdicts = [];
+  for await (const it of reader.blocks()) verdicts.push(it.verdict);
+  assert.deepStrictEqual(verdicts, ['ok list', 'other bytes']);
+  writeFileSync(path, file.subarray(0, place));
+  await assert.rejects(reader.get(other), { kind: 'Truncated' });
+  await reader.close();
+  closeSync(number);
+  await handle.close();
+}));
+
+test('many small sections at once', () => {
+  const small = section(Buffer.of(5));
+  const file = Buffer.concat([HEADER, ...Array(200000).fill(small)]);
+  const reader = CarBufferReader.fromBytes(file);
+  assert.strictEqual(reader.cids().length, 200000);
+  assert.strictEqual(new Set(reader.cids().map(String)).size, 1);
+  reader.blocks().length = reader.cids().length = reader.getRoots().length = 0; // copies
+  assert.strictEqual(reader.blocks().length, 200000);
+});
+
 test('headers that are none', async () => {
   for (const [text, kind] of [['00', 'NoBlock'], ['021817', 'NoBlock'], ['0180', 'OtherHeader']]) {
     const file = Buffer.from(text, 'hex');
@@ -289,6 +368,64 @@ test('files are written', async () => {
   })()).equals(HEADER));
   assert.throws(() => CarWriter.create([{ bytes: Buffer.of(1) }]), { kind: 'InvalidCid' });
 });
+
+test('sections for a file that is there', async () => {
+  const blocks = [[1], [2]].map((it) => Buffer.from(encode(it)));
+  const { writer, out } = CarWriter.createAppender();
+  const file = collected(out);
+  await assert.rejects(() => writer.put({ cid: name(blocks[0]), bytes: blocks[1] }), { kind: 'OtherBytes' });
+  for (const bytes of blocks) writer.put({ cid: name(bytes), bytes });
+  writer.close();
+  const whole = Buffer.concat([HEADER, await file]);
+  assert.ok(whole.equals(Buffer.concat([HEADER, ...blocks.map((it) => section(it))])));
+  for (const it of [{}, { cid: name(blocks[0]) }, { bytes: blocks[0] }, { cid: 1, bytes: blocks[0] }]) {
+    await assert.rejects(() => CarWriter.createAppender().writer.put(it), TypeError);
+  }
+  for (const it of [1, 'bafy', {}, [{}], null, [undefined]]) assert.throws(() => CarWriter.create(it), TypeError);
+});
+
+test('other roots in the place of those there', () => inFolder(async (folder) => {
+  const path = join(folder, 'it.car');
+  const blocks = [[1], [2], [3]].map((it) => Buffer.from(encode(it)));
+  const cids = blocks.map((it) => name(it));
+  const fileOf = async (roots) => {
+    const { writer, out } = CarWriter.create(roots);
+    for (const bytes of blocks) writer.put({ cid: name(bytes), bytes });
+    writer.close();
+    return collected(out);
+  };
+  const wanted = await fileOf(cids.slice(1));
+  const file = await fileOf(cids.slice(0, 2));
+  const kept = Buffer.from(file);
+  assert.strictEqual(await CarWriter.updateRootsInBytes(file, cids.slice(1)), file);
+  assert.ok(file.equals(wanted));
+  const second = Buffer.concat([PRAGMA, Buffer.alloc(40), kept]);
+  second.writeBigUInt64LE(51n, 27);
+  second.writeBigUInt64LE(BigInt(kept.length), 35);
+  const refusals = [
+    [kept, cids, 'LengthMismatch'], [kept, cids[0], 'LengthMismatch'], [second, cids.slice(1), 'OtherHeader'],
+    [kept.subarray(0, 20), cids, 'Truncated'], [Buffer.from('0180', 'hex'), cids, 'OtherHeader'],
+  ];
+  for (const [bytes, roots, kind] of refusals) {
+    const before = Buffer.from(bytes);
+    await assert.rejects(CarWriter.updateRootsInBytes(bytes, roots), { kind });
+    writeFileSync(path, bytes);
+    const handle = await open(path, 'r+');
+    await assert.rejects(CarWriter.updateRootsInFile(handle, roots), { kind });
+    await handle.close();
+    assert.ok(bytes.equals(before) && readFileSync(path).equals(before));
+  }
+  for (const opened of [() => openSync(path, 'r+'), () => open(path, 'r+')]) {
+    writeFileSync(path, kept);
+    const it = await opened();
+    assert.strictEqual(await CarWriter.updateRootsInFile(it, cids.slice(1)), undefined);
+    assert.ok(readFileSync(path).equals(wanted));
+    if (typeof it === 'number') closeSync(it);
+    else await it.close();
+  }
+  for (const it of [undefined, path, {}]) await assert.rejects(CarWriter.updateRootsInFile(it, cids), TypeError);
+  await assert.rejects(CarWriter.updateRootsInBytes(path, cids), TypeError);
+}));
 
 test('who takes a file may leave', async () => {
   const { writer, out } = CarWriter.create();

@@ -1,8 +1,6 @@
 'use strict';
 const assert = require('node:assert');
-const { execFileSync, spawnSync } = require('node:child_process');
-const { copyFileSync, mkdtempSync, readdirSync, rmSync } = require('node:fs');
-const { tmpdir } = require('node:os');
+const { execFileSync } = require('node:child_process');
 const { join } = require('node:path');
 const { test } = require('node:test');
 const vm = require('node:vm');
@@ -349,6 +347,57 @@ test('much and long', () => {
   assert.deepStrictEqual(decode(encode(map)), map);
 });
 
+test('long byte strings, which are put into the block alone', () => {
+  const long = (size, byte = size & 255) => new Uint8Array(size).fill(byte);
+  for (const size of [65534, 65535, 65536, 65537, 1 << 20]) {
+    const one = long(size);
+    const cid = name(one);
+    const values = [
+      one, [one], [one, one], [cid, one, 'é'.repeat(size % 97)], { a: one, '': [one, long(3), 1], é: cid },
+      [[], one, {}, long(65536, 1), [long(65537, 2)], new Map([['x', long(65538, 3)]])],
+      [Array(5000).fill('x'), one, Array(300).fill({ é: long(70000, 9) })[7], Buffer.from(one)],
+    ];
+    for (const value of values) {
+      const plain = value.at?.(-1) instanceof Map ? [...value.slice(0, -1), Object.fromEntries(value.at(-1))] : value;
+      const block = encode(value);
+      assert.ok(Buffer.from(block).equals(spelling(plain)));
+      assert.ok(Buffer.from(encode(decode(block))).equals(block));
+      assert.strictEqual(block.buffer.byteLength, block.length); // of its own
+      structuredClone(0, { transfer: [block.buffer] });
+    }
+  }
+  const before = encode('short');
+  encode([long(70000)]);
+  assert.strictEqual(toHex(encode('other') && before), toHex(spelling('short')));
+});
+
+test('long byte strings that change', () => {
+  const long = () => new Uint8Array(70000).fill(7);
+  const changing = (change) => {
+    const bytes = long();
+    return { a: [bytes, { get b() { change(bytes); return 1; } }] };
+  };
+  const filled = decode(encode(changing((it) => it.fill(9)))).a[0]; // as it is when the block is made
+  assert.ok(filled.length === 70000 && filled.every((it) => it === 9));
+  const gone = (it) => structuredClone(it.buffer, { transfer: [it.buffer] });
+  refuses(() => encode(changing(gone)), 'Unsupported', ['a', 0]);
+  if (ArrayBuffer.prototype.resize) {
+    const buffer = new ArrayBuffer(70000, { maxByteLength: 80000 });
+    const shown = new Uint8Array(buffer);
+    for (const size of [80000, 0, 69999]) {
+      buffer.resize(70000);
+      refuses(() => encode([1, shown, { get b() { buffer.resize(size); return 1; } }]), 'Unsupported', [1]);
+    }
+  }
+  const inner = { get a() { return encode([long()]); }, b: long() };
+  assert.strictEqual(decode(decode(encode(inner)).a)[0].length, 70000);
+  refuses(() => encode([long(), 0.5]), 'Unsupported', [1]);
+  refuses(() => encode([long(), { a: '\ud800' }]), 'RequireUtf8', [1, 'a']);
+  const nested = (levels) => (levels ? [nested(levels - 1)] : [long()]);
+  assert.strictEqual(encode(nested(126)).length, 127 + 70005);
+  refuses(() => encode(nested(127)), 'DepthOverflow');
+});
+
 test('a value keeps no block alive', () => {
   const script = `
     const { decode, encode, name } = require(process.argv[1]);
@@ -395,23 +444,4 @@ test('nothing is kept', () => {
     if (more > 20e6) throw new Error('more by ' + more);`;
   const words = ['--expose-gc', '-e', script, join(__dirname, '..')];
   execFileSync(process.execPath, words, { stdio: ['ignore', 'ignore', 'inherit'] });
-});
-
-test('what is not built says how', () => {
-  const folder = mkdtempSync(join(tmpdir(), 'dagcbor-'));
-  try {
-    for (const it of readdirSync(join(__dirname, '..')).filter((it) => /\.(js|c|h)$/.test(it))) {
-      copyFileSync(join(__dirname, '..', it), join(folder, it));
-    }
-    const run = (words, env) => {
-      const how = { encoding: 'utf8', env: { ...process.env, DAGCBOR_MODULE: '', ...env } };
-      return spawnSync(process.execPath, [join(folder, words)], how);
-    };
-    assert.match(run('index.js').stderr, /there is no .*dagcbor\.node, which `node build\.js` in .* builds/);
-    const { status, stderr } = run('build.js', { DAGCBOR_LIBRARY: __filename, CC: 'no-compiler' });
-    assert.strictEqual(status, 1);
-    assert.match(stderr, /^dagcbor: there is no (C compiler no-compiler|node_api\.h)[^\n]*\n$/);
-  } finally {
-    rmSync(folder, { recursive: true });
-  }
 });

@@ -114,6 +114,58 @@ test('versions and bases', () => {
   assert.strictEqual(toHex(wide.bytes), `01a902a0e40220${toHex(DIGEST)}`);
 });
 
+test('CIDs at the front of bytes', () => {
+  const cases = [
+    ['1220', { version: 0, codec: 0x70, multihashCode: 0x12, digestSize: 32, multihashSize: 34, size: 34 }],
+    ['01711220', { version: 1, codec: 0x71, multihashCode: 0x12, digestSize: 32, multihashSize: 34, size: 36 }],
+    ['01a902a0e40220', { version: 1, codec: 0x129, multihashCode: 0xb220, digestSize: 32, multihashSize: 36, size: 39 }],
+    ['01550000', { version: 1, codec: 0x55, multihashCode: 0, digestSize: 0, multihashSize: 2, size: 4 }],
+  ];
+  for (const [front, wanted] of cases) {
+    const digest = DIGEST.subarray(0, wanted.digestSize);
+    const whole = hex(`${front}${toHex(digest)}`);
+    for (const it of [hex(front), whole, hex(`${toHex(whole)}ff`)]) assert.deepStrictEqual(CID.inspectBytes(it), wanted);
+    const behind = Buffer.concat([whole, hex('d82a')]);
+    const [cid, rest] = CID.decodeFirst(behind.subarray(0));
+    assert.ok(cid.equals(CID.decode(whole)) && rest.buffer === behind.buffer);
+    assert.strictEqual(toHex(rest), 'd82a');
+    assert.strictEqual(CID.decodeFirst(whole)[1].length, 0);
+    const { version, code, multihash } = cid;
+    assert.deepStrictEqual([version, code, multihash.code, multihash.size], [...Object.values(wanted).slice(0, 4)]);
+    assert.deepStrictEqual(CID.create(version, code, multihash), cid);
+    if (digest.length) refuses(() => CID.decodeFirst(whole.subarray(0, -1)), 'InvalidCid', undefined);
+  }
+  const none = ['', '01', '0171', '017112', '12', '1221', '0271122000', '01711241', '01f1001220', 'ff'.repeat(99)];
+  for (const it of [...none, '0171ffffffffffffffffff7f1220', '80'.repeat(1000)]) {
+    refuses(() => CID.inspectBytes(hex(it)), 'InvalidCid', undefined);
+    refuses(() => CID.decodeFirst(hex(it)), 'InvalidCid', undefined);
+  }
+  for (const it of [undefined, 'f01711220', [1, 0x71]]) {
+    for (const call of [CID.inspectBytes, CID.decodeFirst]) assert.throws(() => call(it), TypeError);
+  }
+});
+
+test('CIDs are made of what they have, and compared', () => {
+  for (const it of [undefined, {}, { bytes: 'x' }, { bytes: [0x12] }]) {
+    assert.throws(() => CID.createV1(0x71, it), TypeError);
+  }
+  for (const it of ['113', undefined, NaN, -1, 1.5, 2 ** 53]) {
+    assert.throws(() => CID.createV1(it, digestOf(0x12, DIGEST)), TypeError);
+  }
+  for (const [version, code] of [[0, 0x71], [2, 0x71]]) {
+    refuses(() => CID.create(version, code, digestOf(0x12, DIGEST)), 'InvalidCid', undefined);
+  }
+  refuses(() => CID.createV0(digestOf(0x13, DIGEST)), 'InvalidCid', undefined);
+  assert.ok(CID.equals(ours(), theirs()) && CID.equals(theirs(), ours()) && !CID.equals(ours(), name(Buffer.of(1))));
+  for (const it of [undefined, null, 1, {}]) assert.ok(!CID.equals(it, ours()) && !CID.equals(ours(), it));
+  const decoder = { decode: (text) => hex(text.slice(1)) }; // of base16, say
+  assert.deepStrictEqual(CID.parse(`x01711220${toHex(DIGEST)}`, decoder), ours());
+  refuses(() => CID.parse(`x1220${toHex(DIGEST)}`, decoder), 'InvalidVersion', undefined);
+  refuses(() => CID.parse('x0171', decoder), 'InvalidCid', undefined);
+  const first = 'QmdfTbBqBPQ7VNxZEYEj14VmRuZBkqFbiwReogJgS1zR1n';
+  assert.deepStrictEqual(CID.parse(first, decoder), CID.parse(first));
+});
+
 test('Maps, and objects of other classes', () => {
   class Note {
     #secret = 1;
@@ -207,7 +259,15 @@ test('files in memory of a given size', async () => {
     for await (const it of out) pieces.push(it);
     return toHex(Buffer.concat(pieces));
   };
-  const { createWriter, blockLength, headerLength } = CarBufferWriter;
+  const { calculateHeaderLength, createWriter, blockLength, estimateHeaderLength, headerLength } = CarBufferWriter;
+  for (const count of [0, 1, 23, 24, 300]) {
+    const some = Array.from({ length: count }, (_, i) => name(Buffer.of(i)));
+    assert.strictEqual(estimateHeaderLength(count), headerLength({ roots: some }));
+  }
+  const [long, short] = [CID.createV1(0x0129, digestOf(0xb220, DIGEST)), CID.createV1(0x55, digestOf(0, new Uint8Array()))];
+  const lengths = [long, short].map((it) => it.byteLength);
+  assert.strictEqual(calculateHeaderLength(lengths), headerLength({ roots: [long, short] }));
+  assert.strictEqual(estimateHeaderLength(2, 4), headerLength({ roots: [short, short] }));
   const size = headerLength({ roots }) + blocks.map(blockLength).reduce((one, it) => one + it);
   const whole = createWriter(new ArrayBuffer(size), { roots });
   for (const block of blocks) whole.write(block);

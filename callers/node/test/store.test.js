@@ -188,7 +188,7 @@ over('many, as blockstores have them', async ({ store }) => {
   assert.strictEqual(await store.count(), 1);
 });
 
-over('files of blocks', async ({ at, store }) => {
+over('CAR files', async ({ at, store }) => {
   const [blocks, roots] = [[text('a'), text('b'.repeat(1000)), text('c')], [text('c'), text('elsewhere')]];
   const [made, out] = [join(at, 'made.car'), join(at, 'out.car')];
   fs.writeFileSync(made, carOf(blocks, roots));
@@ -284,7 +284,7 @@ over('where the program is found', async ({ at, path, store }) => {
   if (!fs.existsSync(addon)) return; // the package for WebAssembly has no store
   const out = join(at, 'package', 'out');
   fs.mkdirSync(out, { recursive: true });
-  const files = ['bytes', 'cid', 'errors', 'library', 'platform', 'store', 'store_errors', 'store_program'];
+  const files = ['addons', 'bytes', 'cid', 'errors', 'library', 'platform', 'store', 'store_errors', 'store_program'];
   for (const it of files) fs.copyFileSync(join(__dirname, `../${it}.js`), join(at, 'package', `${it}.js`));
   fs.copyFileSync(addon, join(out, 'dagcbor.node'));
   const code = `require(${JSON.stringify(join(at, 'package', 'store.js'))}).Store.open(${JSON.stringify(path)})
@@ -296,6 +296,12 @@ over('where the program is found', async ({ at, path, store }) => {
   assert.strictEqual(String(opened({ PATH: at })), 'opened\n');
   fs.renameSync(join(at, 'dagstore'), join(out, 'dagstore'));
   assert.strictEqual(String(opened({ PATH: '/none' })), 'opened\n');
+  const carried = join(at, 'package', 'prebuilds', `${process.platform}-${process.arch}`); // as in a release
+  fs.mkdirSync(carried, { recursive: true });
+  fs.renameSync(join(out, 'dagstore'), join(carried, 'dagstore'));
+  assert.strictEqual(String(opened({ PATH: '/none' })), 'opened\n');
+  fs.writeFileSync(join(carried, 'dagstore'), '#!/none/such\n', { mode: 0o755 });
+  assert.match(String(opened({ PATH: '/none' })), /dagstore is for another platform than this: .* DAGSTORE/);
 });
 
 over('the end of a script that closes nothing', async ({ path, store, again }) => {
@@ -327,7 +333,7 @@ test('what is said', () => {
     ['dagstore: no number is left for a row\n', 'StoreError'],
     ['dagstore: the index of names has a wrong entry at row 7\n', 'StoreUnreadable'],
     ['dagstore: the table of roots has a wrong row at row 9\n', 'StoreUnreadable'],
-    [`dagstore: behind 2 sections\ndagstore: of ${a}\ndagstore: the block has other bytes than its name says\n`, 'InvalidCar'],
+    [`dagstore: after 2 sections\ndagstore: of ${a}\ndagstore: the block has other bytes than its name says\n`, 'InvalidCar'],
     [`dagstore: ${a} other bytes\ndagstore: what is stored under the name has other bytes than it says\n`, 'DamagedBlock'],
   ]) {
     const error = refusalOf(said);

@@ -90,6 +90,22 @@ const follow = async (source: AsyncIterable<Uint8Array>): Promise<Map<string, at
   }
   return known;
 };
+const files = async (handle: dagcbor.FileHandle, base: { decode(text: string): Uint8Array }): Promise<(CID | Uint8Array)[]> => {
+  const indexed = await dagcbor.CarIndexedReader.fromFile('blocks.car');
+  const held: dagcbor.Block | undefined = await indexed.get(theirs);
+  const read: dagcbor.CarBufferReader = dagcbor.CarBufferReader.fromBytes(block);
+  const version: 1 | 2 = read.version;
+  const { bytes } = await dagcbor.CarReader.readRaw(handle, { cid: theirs, blockOffset: 0, blockLength: version });
+  await dagcbor.CarWriter.updateRootsInFile(version, [ours, theirs]); // by its number
+  const same: Uint8Array = await dagcbor.CarWriter.updateRootsInBytes(bytes, ours);
+  const { writer, out } = dagcbor.CarWriter.createAppender();
+  await writer.put(held ?? { cid: ours, bytes: same });
+  for await (const piece of out) read.has(CID.parse(String(piece), base));
+  const [cid, rest] = CID.decodeFirst(bytes);
+  // @ts-expect-error: what is read without promises has none
+  await read.get(cid).then();
+  return CID.equals(cid, theirs) ? [cid] : [rest.subarray(CID.inspectBytes(rest).size), ...read.cids()];
+};
 const missing = (error: unknown): CID | undefined =>
   error instanceof atproto.EventError && error.kind === 'MissingNode' ? error.node : undefined;
 const proven = async (file: Uint8Array): Promise<Uint8Array> => {
@@ -102,5 +118,5 @@ const proven = async (file: Uint8Array): Promise<Uint8Array> => {
   return atproto.recordProof(left, key);
 };
 const isLocked = (error: unknown): boolean => error instanceof StoreLocked && error.name === 'StoreLocked';
-export { follow, isLocked, kept, missing, proven };
+export { files, follow, isLocked, kept, missing, proven };
 export { check, data, first, none, read, rest, taken };

@@ -1,5 +1,5 @@
 #!/usr/bin/env python3
-"""Verifies files of blocks (CAR) on many machines: a Dask bag of files, each of which goes to a
+"""Verifies CAR files on many machines: a Dask bag of files, each of which goes to a
 worker.
 
     verify_folder.py [--scheduler ADDRESS] [--parts N] PATH..

@@ -1,4 +1,4 @@
-/* Files of blocks for Python: sections one at a time, and the check of a whole file.
+/* CAR files for Python: sections one at a time, and the check of a whole file.
 
    What the library reads is a `bytes`, or was copied into memory that is this module's own: so the
    interpreter's lock is let go while it reads, unless digests are computed in Python. */
@@ -99,21 +99,17 @@ static PyObject *error_in(State *state, const Car *car, int32_t code) {
     bool has_name = code <= DAGCBOR_TRUNCATED;
     PyObject *said = PyUnicode_FromFormat("%s%s", has_name ? "" : "the header is no block: ",
                                           reason_of_code(code));
-    PyObject *place = said ? PyLong_FromUnsignedLongLong(car->place + car->skip) : NULL;
+    PyObject *place = said ? PyLong_FromUnsignedLongLong(car->walk.place) : NULL;
     return new_error(state->car_error, said, has_name ? dagcbor_name_of_code(code) : "NoBlock",
                      place);
 }
 
 /* Takes the front of the file as far as its roots, which it answers. */
 static PyObject *take_roots(State *state, Source *source, Car *car) {
-    typedef int32_t Step(Car *);
-    static Step *const steps[] = {car_span, car_header};
-    for (int i = 0; i < 2;) {
-        int32_t code = steps[i](car);
-        if (code == 0) i++;
-        else if (code != CAR_MORE) return raise_error(error_in(state, car, code));
-        else if (refill(source, car) < 0) return NULL;
-    }
+    int32_t code;
+    while ((code = car_header(car)) == DAGCBOR_CAR_MORE)
+        if (refill(source, car) < 0) return NULL;
+    if (code != DAGCBOR_CAR_HEADER) return raise_error(error_in(state, car, code));
     return unpack(state, car->roots.start, car->roots.used);
 }
 
@@ -164,6 +160,7 @@ static int reader_clear(PyObject *self) {
     car_free(&reader->car);
     car_start(&reader->car);
     reader->car.is_whole = true;
+    reader->car.walk.step = 1;
     Py_CLEAR(reader->roots);
     return 0;
 }
@@ -177,9 +174,9 @@ static void reader_dealloc(PyObject *self) {
 }
 
 /* What is said of the next section, or why there is none, where all of it is at hand. */
-static int32_t next_section(const Car *car, size_t places[3]) {
+static int32_t next_section(Car *car, size_t places[3]) {
     int32_t code = car_section(car, car->is_digest ? SIZE_MAX : SHORT_CALL, places);
-    if (code != CAR_MORE || car->is_digest || car->length <= SHORT_CALL) return code;
+    if (code != DAGCBOR_CAR_MORE || car->is_digest || car->length <= SHORT_CALL) return code;
     Py_BEGIN_ALLOW_THREADS
     code = car_section(car, SIZE_MAX, places);
     Py_END_ALLOW_THREADS
@@ -209,12 +206,12 @@ static PyObject *take_section(State *state, CarReader *reader) {
     Car *car = &reader->car;
     size_t places[3];
     int32_t code;
-    while ((code = next_section(car, places)) == CAR_MORE)
+    while ((code = next_section(car, places)) == DAGCBOR_CAR_MORE)
         if (refill(&reader->source, car) < 0) return NULL;
-    if (code == CAR_END) return NULL;
+    if (code == DAGCBOR_CAR_END) return NULL;
     if (!is_verdict(code)) return raise_error(error_in(state, car, code));
     PyObject *section = new_section(state, car, code, places);
-    if (section) car_pass(car, places[2]);
+    if (!section) car_back(car, code);
     return section;
 }
 
@@ -242,7 +239,7 @@ static PyGetSetDef reader_members[] = {
 };
 
 static PyType_Slot reader_slots[] = {
-    {Py_tp_doc, "The sections of a file of blocks, one at a time, and its roots."},
+    {Py_tp_doc, "The sections of a CAR file, one at a time, and its roots."},
     {Py_tp_dealloc, reader_dealloc},
     {Py_tp_traverse, reader_traverse},
     {Py_tp_clear, reader_clear},
@@ -269,7 +266,7 @@ static PyStructSequence_Field section_fields[] = {
 
 PyStructSequence_Desc section_desc = {
     .name = "dagcbor.Section",
-    .doc = "A section of a file of blocks: a name, a block, and the verdict on them.",
+    .doc = "A section of a CAR file: a name, a block, and the verdict on them.",
     .fields = section_fields,
     .n_in_sequence = 3,
 };
@@ -330,9 +327,9 @@ static int32_t check_all(Source *source, Check *check) {
         PyThreadState *held = check->car.is_digest ? NULL : PyEval_SaveThread();
         int32_t code = check_sections(check, SLICE);
         if (held) PyEval_RestoreThread(held);
-        if (code == CAR_MORE && refill(source, &check->car) < 0) return CAR_FAILED;
+        if (code == DAGCBOR_CAR_MORE && refill(source, &check->car) < 0) return CAR_FAILED;
         if (code == 0 && PyErr_CheckSignals() < 0) return CAR_FAILED;
-        if (code != 0 && code != CAR_MORE) return code;
+        if (code != 0 && code != DAGCBOR_CAR_MORE) return code;
     }
 }
 
@@ -342,7 +339,7 @@ static PyObject *checked(State *state, Source *source, Check *check) {
     int32_t code = CAR_NO_MEMORY;
     if (names_want(&check->names, check->car.roots.start, check->car.roots.used))
         code = check_all(source, check);
-    if (code == CAR_END) error = Py_NewRef(Py_None);
+    if (code == DAGCBOR_CAR_END) error = Py_NewRef(Py_None);
     else error = error_in(state, &check->car, code);
     if (error) found = found_in(state, check, roots, error);
     Py_XDECREF(error);

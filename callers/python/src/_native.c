@@ -151,13 +151,15 @@ typedef struct {
 } CidParts;
 
 static CidParts cid_parts(PyObject *self) {
-    PyObject *cid = ((Cid *)self)->bytes;
-    const uint8_t *bytes = bytes_of(cid);
+    const uint8_t *bytes = bytes_of(((Cid *)self)->bytes);
     if (bytes[0] == 0x12) return (CidParts){{0, 0x70, 0x12, 32}, 2};
     CidParts parts = {{0}, 0};
     for (int i = 0; i < 4; i++)
-        parts.digest += take_varint(bytes + parts.digest, length_of(cid) - parts.digest,
-                                    &parts.numbers[i]);
+        for (int by = 0, more = 128; more; by += 7) {
+            uint8_t byte = bytes[parts.digest++];
+            parts.numbers[i] |= (uint64_t)(byte & 127) << by;
+            more = byte & 128;
+        }
     return parts;
 }
 
@@ -877,7 +879,7 @@ static PyMethodDef methods[] = {
     {"from_node", from_node, METH_O, "The data model of a block of DAG-PB, as a block of DAG-CBOR."},
     {"to_node", to_node, METH_O, "The block of DAG-PB whose data model a block of DAG-CBOR has."},
     {"read_car", (PyCFunction)(void (*)(void))read_car, METH_VARARGS | METH_KEYWORDS,
-     "read_car(source, *, sha256=None): the roots of a file of blocks (CAR), and its sections one "
+     "read_car(source, *, sha256=None): the roots of a CAR file, and its sections one "
      "at a time. sha256, as that of hashlib, computes digests in the place of the library."},
     {"check_car", check_car, METH_VARARGS,
      "The roots, the verdicts' counts, what is missing, the names held, packed; and an error."},

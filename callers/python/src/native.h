@@ -53,7 +53,7 @@ PyObject *new_error(PyObject *type, PyObject *said, const char *kind, PyObject *
 /* Raises it, and lets it go. */
 void *raise_error(PyObject *error);
 
-/* Of files of blocks */
+/* Of CAR files */
 extern PyType_Spec car_reader_spec;
 extern PyStructSequence_Desc section_desc;
 PyObject *read_car(PyObject *module, PyObject *args, PyObject *named);

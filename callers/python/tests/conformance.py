@@ -1,4 +1,4 @@
-"""The vectors that all codecs can be held against, and what makes and reads files of blocks apart from the library."""
+"""The vectors that all codecs can be held against, and what makes and reads CAR files apart from the library."""
 
 import os
 import sys

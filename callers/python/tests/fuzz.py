@@ -164,7 +164,7 @@ def frames(rng):
 
 
 def proves(event):
-    """A damaged file of blocks has its commit or not, and proves each record or not; what is proved is proved again."""
+    """A damaged CAR file has its commit or not, and proves each record or not; what is proved is proved again."""
     own = told(read_commit, event.blocks)
     for op in event.ops:
         proof = told(record_proof, event.blocks, op.path)

@@ -1,4 +1,4 @@
-"""Files of blocks: each source of bytes is answered as conformance/cars.py answers, which knows
+"""CAR files: each source of bytes is answered as conformance/cars.py answers, which knows
 nothing of the library, and as the program `dagcar` does where it is built."""
 
 import hashlib

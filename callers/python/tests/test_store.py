@@ -48,7 +48,7 @@ def name_of(block, code):
 
 
 def car_of(blocks, roots=()):
-    """A file of blocks of the codec raw, whose header has less than 24 roots."""
+    """A CAR file of the codec raw, whose header has less than 24 roots."""
     links = b"".join(b"\xd8\x2a\x58\x25\x00" + form_of(it, 0x55) for it in roots)
     header = b"\xa2\x65roots" + bytes([0x80 + len(roots)]) + links + b"\x67version\x01"
     parts = [form_of(it, 0x55) + it for it in blocks]
@@ -316,7 +316,7 @@ def test_what_is_said():
         ("dagstore: database disk image is malformed\n", "StoreDiskError"),
         ("dagstore: out of memory\n", "StoreMemoryError"),
         ("dagstore: no number is left for a row\n", "StoreError"),
-        (f"dagstore: behind 2 sections\ndagstore: of {a}\ndagstore: the block has other bytes than its name says\n", "InvalidCar"),
+        (f"dagstore: after 2 sections\ndagstore: of {a}\ndagstore: the block has other bytes than its name says\n", "InvalidCar"),
         (f"dagstore: {a} other bytes\ndagstore: what is stored under the name has other bytes than it says\n", "DamagedBlock"),
     ):
         assert type(refusal_of(text)).__name__ == kind

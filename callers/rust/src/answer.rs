@@ -71,6 +71,18 @@ macro_rules! causes {
                     Self::$other { .. } => $other_words,
                 }
             }
+
+            /// The refusal at a place.
+            pub const fn at(self, place: $place) -> $refused {
+                let refusal = self;
+                $refused { refusal, place }
+            }
+        }
+
+        impl From<$refused> for $causes {
+            fn from(refused: $refused) -> Self {
+                refused.refusal
+            }
         }
 
         $(#[$refused_doc])*
@@ -105,17 +117,17 @@ causes! {
         -5 Unsupported "a float or another simple value, a link without a byte string, or a reserved width",
         -8 RequireUtf8 "a text that is not UTF-8",
         -12 DepthOverflow "lists and maps are in each other too deep",
-        -14 TrailingData "bytes behind the item",
+        -14 TrailingData "bytes after the item",
         -15 IndefiniteSize "an indefinite length or a break",
         -16 NonMinimal "a number or a length in more bytes than it needs",
-        -17 UnorderedKey "a key that does not come behind the one before it",
+        -17 UnorderedKey "a key that does not come after the one before it",
         -20 NoToken "a token that is none",
         -26 InvalidCid "the bytes are no CID",
         -28 UnknownBase "the first character names no base that is read here",
         -29 TooLong "the text is longer than that of any CID",
         -30 InvalidCharacter "a character is not in the alphabet of the base",
         -31 InvalidLength "the last character begins a byte and does not end it",
-        -32 TrailingBits "bits that are not zero stand behind the last byte",
+        -32 TrailingBits "bits that are not zero stand after the last byte",
         -33 LeadingZero "the text begins with a zero byte, as no CID does",
         -34 InvalidVersion "version 0 has no prefix, and version 1 has one",
         NoRoom {
@@ -132,7 +144,7 @@ causes! {
 }
 
 causes! {
-    /// Why bytes are no file of blocks.
+    /// Why bytes are no CAR file.
     enum CarRefusal {
         -24 Truncated "the file is cut short",
         -25 InvalidLength "a length is not in shortest form or too large",
@@ -141,7 +153,7 @@ causes! {
         -35 InvalidOffset "the offsets of version 2 are none",
         NoBlock(Refusal) "the header is no block"
     }
-    /// Why bytes are no file of blocks, and where.
+    /// Why bytes are no CAR file, and where.
     struct CarRefused {
         /// the offset in the file of the header or the section that is none
         place: u64
@@ -177,14 +189,15 @@ impl fmt::Display for NodeRefusal {
     }
 }
 
-/// What a number of the library says of a node, where what is put needs so much room.
-pub(crate) fn node_answer(code: i32, needed: usize) -> Result<(), NodeRefusal> {
-    if code == 0 {
-        return Ok(());
+/// What a number of the library says of a node, at this place, where what is put needs so much room.
+pub(crate) fn node_answer(code: i32, needed: usize, place: usize) -> Result<(), NodeRefused> {
+    match NodeRefusal::of_code(code) {
+        Some(refusal) => Err(refusal.at(place)),
+        None => match answer_of(code, needed) {
+            Ok(_) => Ok(()), // 0
+            Err(refusal) => Err(NodeRefusal::NoBlock(refusal).at(place)),
+        },
     }
-    Err(NodeRefusal::of_code(code).unwrap_or_else(|| {
-        NodeRefusal::NoBlock(answer_of(code, needed).expect_err("a refusal is below 0"))
-    }))
 }
 
 impl fmt::Display for Refusal {
@@ -200,22 +213,6 @@ impl fmt::Display for CarRefusal {
             CarRefusal::NoBlock(refusal) => write!(f, ": {refusal}"),
             _ => Ok(()),
         }
-    }
-}
-
-impl Refusal {
-    /// The refusal at a place.
-    pub const fn at(self, place: usize) -> Refused {
-        Refused {
-            refusal: self,
-            place,
-        }
-    }
-}
-
-impl From<Refused> for Refusal {
-    fn from(refused: Refused) -> Refusal {
-        refused.refusal
     }
 }
 

@@ -1,24 +1,29 @@
 //! The calls of the library, and what they give as values of Rust.
 
 use crate::answer::answer_of;
+use crate::car::Walk;
 use crate::item::{Cids, Items, Token};
 use crate::{Cid, Kind, Refusal, Refused};
 use core::ops::Range;
 #[cfg(feature = "alloc")]
 use {crate::Item, alloc::vec, alloc::vec::Vec};
 
-/// Declares functions of the library, and a call of each, which takes slices to read, at most one
-/// slice as room, and places of numbers. `include/dagcbor.h` says what each answers.
+/// Declares functions of the library, and a call of each, which takes a walk where it is one of a
+/// walk, slices to read, at most one slice as room, at most one number, and places of numbers.
+/// `include/dagcbor.h` says what each answers.
 macro_rules! calls {
-    ($($name:ident($($bytes:ident: $item:ty),*; $($room:ident: $entry:ty)?; $($put:ident: $number:ty),*)
+    ($($name:ident($(&$walk:ident,)? $($bytes:ident: $item:ty),*;
+        $($room:ident: $entry:ty)? $(= $how:ident)?; $($put:ident: $number:ty),*)
         $(-> $answer:ty)?;)*) => {
         mod library {
             use super::*;
 
             extern "C" {$(
                 pub fn $name(
+                    $($walk: *mut Walk,)?
                     $($bytes: *const $item, _: usize,)*
                     $($room: *mut $entry, _: usize,)?
+                    $($how: u32,)?
                     $($put: *mut $number,)*
                 ) $(-> $answer)?;
             )*}
@@ -27,8 +32,10 @@ macro_rules! calls {
         $(
             #[allow(unsafe_code)]
             pub(crate) fn $name(
+                $($walk: &mut Walk,)?
                 $($bytes: &[$item],)*
                 $($room: &mut [$entry],)?
+                $($how: u32,)?
                 $($put: &mut $number,)*
             ) $(-> $answer)? {
                 // SAFETY: what goes in are slices and references. So pointers are not null, also
@@ -38,8 +45,10 @@ macro_rules! calls {
                 // more than 57 bits, and a token 24 bytes.
                 unsafe {
                     library::$name(
+                        $($walk,)?
                         $($bytes.as_ptr(), $bytes.len(),)*
                         $($room.as_mut_ptr(), $room.len(),)?
+                        $($how,)?
                         $($put,)*
                     )
                 }
@@ -61,9 +70,7 @@ calls! {
     dagcbor_to_node(block: u8; out: u8; needed: usize) -> i32;
     dagcbor_name(block: u8;; out: [u8; 36]);
     dagcbor_verify(cid: u8, block: u8;;) -> i32;
-    dagcbor_car_span(bytes: u8;; places: [u64; 2]) -> i32;
-    dagcbor_car_header(bytes: u8; out: u8; needed: usize, behind: usize) -> i32;
-    dagcbor_car_section(bytes: u8;; places: [usize; 3]) -> i32;
+    dagcbor_car_next(&walk, bytes: u8; = how; places: [usize; 3]) -> i32;
     dagcbor_cid_text(cid: u8; out: u8; needed: usize) -> i32;
     dagcbor_cid_from_text(text: u8; out: u8; needed: usize) -> i32;
 }
@@ -201,14 +208,26 @@ pub fn take_tape(bytes: &[u8]) -> Result<(Tape<'_>, &[u8]), Refused> {
 /// What is said of the bytes, and where; and the tokens before that place.
 #[cfg(feature = "alloc")]
 fn tokens_of(block: &[u8]) -> (Result<Kind, Refusal>, Tape<'_>, usize) {
-    let (mut needed, mut place) = (0, 0);
-    let mut tokens = vec![Token::default(); block.len().min(FEW_TOKENS)];
+    let mut place = 0;
+    let (tokens, code) = filled(block.len().min(FEW_TOKENS), |tape, needed| {
+        dagcbor_tokens(block, tape, needed, &mut place)
+    });
+    (answer_of(code, 0), Tape { block, tokens }, place)
+}
+
+/// What a call puts into room, of which it is given so much at first, and its number.
+#[cfg(feature = "alloc")]
+pub(crate) fn filled<T: Clone + Default>(
+    first: usize,
+    mut call: impl FnMut(&mut [T], &mut usize) -> i32,
+) -> (Vec<T>, i32) {
+    let (mut room, mut needed) = (vec![T::default(); first], 0);
     loop {
-        let code = dagcbor_tokens(block, &mut tokens, &mut needed, &mut place);
-        let is_whole = needed <= tokens.len();
-        tokens.resize(needed, Token::default());
+        let code = call(&mut room, &mut needed);
+        let is_whole = needed <= room.len();
+        room.resize(needed, T::default());
         if is_whole {
-            return (answer_of(code, needed), Tape { block, tokens }, place);
+            return (room, code);
         }
     }
 }
@@ -239,10 +258,8 @@ impl<'a> IntoIterator for &'a Links {
 /// The links of the first item. What follows it is not looked at.
 #[cfg(feature = "alloc")]
 pub fn links(block: &[u8]) -> Result<Links, Refusal> {
-    let (mut packed, mut needed) = (Vec::new(), 0);
-    answer_of(dagcbor_links(block, &mut [], &mut needed), needed)?;
-    packed.resize(needed, 0);
-    links_into(block, &mut packed)?;
+    let (packed, code) = filled(0, |out, needed| dagcbor_links(block, out, needed));
+    answer_of(code, 0)?;
     Ok(Links(packed))
 }
 

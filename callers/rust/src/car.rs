@@ -1,11 +1,10 @@
 use crate::answer::answer_of;
+use crate::calls::{dagcbor_car_next, dagcbor_verify, links_into};
 #[cfg(feature = "alloc")]
-use crate::calls::Links;
-use crate::calls::{dagcbor_car_header, dagcbor_car_section, dagcbor_car_span, dagcbor_verify};
+use crate::calls::{links, Links};
 use crate::item::Cids;
 use crate::{CarRefusal, CarRefused, Cid, Kind, Refusal};
-#[cfg(feature = "alloc")]
-use alloc::vec;
+use core::ops::Range;
 
 /// What is said of the block of a section.
 #[derive(Clone, Copy, Debug, PartialEq, Eq, Hash)]
@@ -29,70 +28,94 @@ impl Verdict {
     }
 }
 
-/// A section of a file of blocks: a name, and the bytes that stand after it.
+/// A section of a CAR file: a name, and the bytes that stand after it.
 #[derive(Clone, Copy, Debug, PartialEq, Eq)]
-pub struct Section<'a> {
+pub struct Section<B> {
     /// the name
     pub cid: Cid,
     /// the bytes
-    pub block: &'a [u8],
+    pub block: B,
     /// what is said of them
     pub verdict: Verdict,
 }
 
-/// What a number of the library says of bytes that are no file of blocks. Of the header it may be
-/// that of the refusal of a block.
-fn refusal_of(code: i32) -> CarRefusal {
-    CarRefusal::of_code(code).unwrap_or_else(|| match answer_of(code, 0) {
-        Err(refusal) => CarRefusal::NoBlock(refusal),
-        Ok(kind) => unreachable!("the library answers no {kind:?} of a header"),
-    })
+impl<B> Section<B> {
+    pub(crate) fn map<C>(self, map: impl FnOnce(B) -> C) -> Section<C> {
+        Section {
+            cid: self.cid,
+            block: map(self.block),
+            verdict: self.verdict,
+        }
+    }
 }
 
-/// What a number of the library says of the block of a section, or why there is no section.
-fn verdict_of(code: i32) -> Result<Verdict, CarRefusal> {
+/// What a number of the library says of the block under a name.
+fn verdict_of(code: i32) -> Verdict {
     match code {
-        9 => Ok(Verdict::NotRead),
-        -22 => Ok(Verdict::OtherBytes),
-        -23 => Ok(Verdict::NotVerified),
-        -26..=-24 => Err(refusal_of(code)),
-        _ => Ok(answer_of(code, 0).map_or_else(Verdict::Refused, Verdict::Ok)),
+        9 => Verdict::NotRead,
+        -22 => Verdict::OtherBytes,
+        -23 => Verdict::NotVerified,
+        _ => answer_of(code, 0).map_or_else(Verdict::Refused, Verdict::Ok),
     }
 }
 
-/// Of the front of a file: where the file of version 1 is in it, and where it ends.
-pub(crate) fn span_of(front: &[u8]) -> Result<(u64, u64), CarRefusal> {
-    let mut places = [0; 2];
-    match dagcbor_car_span(front, &mut places) {
-        0 => Ok((places[0], places[1])),
-        code => Err(refusal_of(code)),
+/// A walk through a file, as the library keeps it: zeros at the beginning.
+#[repr(C)]
+#[derive(Clone, Debug, Default)]
+pub(crate) struct Walk {
+    pub(crate) place: u64,
+    end: u64,
+    version: u32,
+    step: u32, // 0 before the header
+}
+
+/// What a walk comes to. Places are counted from the bytes that it was given.
+pub(crate) enum Part {
+    /// more bytes are needed, from the place of the walk on
+    More,
+    /// the block of the header, which comes first
+    Header(Range<usize>),
+    /// a section, by the place of its block
+    Section(Section<Range<usize>>),
+    /// the end of the file
+    End,
+}
+
+impl Part {
+    pub(crate) fn header(self) -> Range<usize> {
+        match self {
+            Part::Header(block) => block,
+            _ => unreachable!("a file begins with its header"),
+        }
     }
 }
 
-/// The length of the packed roots of the header that begins the bytes, and where it ends. They
-/// stand in the room where it has place for all.
-pub(crate) fn header_of(bytes: &[u8], room: &mut [u8]) -> Result<(usize, usize), CarRefusal> {
-    let (mut needed, mut behind) = (0, 0);
-    match dagcbor_car_header(bytes, room, &mut needed, &mut behind) {
-        0 => Ok((needed, behind)),
-        code => Err(refusal_of(code)),
+impl Walk {
+    /// The next part of the file, whose bytes from the place of the walk on these are: the last
+    /// ones, or others may follow.
+    pub(crate) fn next(&mut self, bytes: &[u8], are_last: bool) -> Result<Part, CarRefused> {
+        let mut places = [0; 3];
+        let code = dagcbor_car_next(self, bytes, u32::from(are_last), &mut places);
+        let [begin, block, end] = places;
+        match (code, CarRefusal::of_code(code), self.step) {
+            (10, ..) => Ok(Part::More),
+            (11, ..) => Ok(Part::Header(block..end)),
+            (12, ..) => Ok(Part::End),
+            (_, Some(refusal), _) => Err(refusal.at(self.place)),
+            (_, None, 0) => {
+                let refusal = answer_of(code, 0).expect_err("it is no header");
+                Err(CarRefusal::NoBlock(refusal).at(self.place))
+            }
+            _ => Ok(Part::Section(Section {
+                cid: Cid::held(&bytes[begin..block]),
+                block: block..end,
+                verdict: verdict_of(code),
+            })),
+        }
     }
 }
 
-/// The section that begins the bytes, and how long it is.
-pub(crate) fn section_of(bytes: &[u8]) -> Result<(Section<'_>, usize), CarRefusal> {
-    let mut places = [0; 3];
-    let verdict = verdict_of(dagcbor_car_section(bytes, &mut places))?;
-    let [cid, block, end] = places;
-    let section = Section {
-        cid: Cid::held(&bytes[cid..block]),
-        block: &bytes[block..end],
-        verdict,
-    };
-    Ok((section, end))
-}
-
-/// What is said of a block under a name, as of a section of a file of blocks.
+/// What is said of a block under a name, as of a section of a CAR file.
 ///
 /// ```
 /// use dagcbor::{name, verify, Kind, Verdict};
@@ -101,13 +124,10 @@ pub(crate) fn section_of(bytes: &[u8]) -> Result<(Section<'_>, usize), CarRefusa
 /// assert_eq!(verify(&name(b"\x05"), b"\x06"), Verdict::OtherBytes);
 /// ```
 pub fn verify(cid: &Cid, block: &[u8]) -> Verdict {
-    match verdict_of(dagcbor_verify(cid.as_bytes(), block)) {
-        Ok(verdict) => verdict,
-        Err(refusal) => unreachable!("it is a CID: {refusal}"),
-    }
+    verdict_of(dagcbor_verify(cid.as_bytes(), block))
 }
 
-/// The sections of a file of blocks (CAR, of version 1 or 2) in memory, one after the other. A
+/// The sections of a CAR file (version 1 or 2) in memory, one after the other. A
 /// refusal comes once, and nothing after it.
 ///
 /// ```
@@ -127,79 +147,65 @@ pub fn verify(cid: &Cid, block: &[u8]) -> Verdict {
 /// ```
 #[derive(Clone, Debug)]
 pub struct Car<'a> {
+    file: &'a [u8],
     header: &'a [u8],
-    rest: &'a [u8],
-    place: u64,
-    is_cut: bool, // the file of version 1 goes on after the bytes, as the header of version 2 says
+    walk: Walk,
     is_over: bool,
 }
 
 impl<'a> Car<'a> {
     /// The file, after its header.
-    pub fn new(bytes: &'a [u8]) -> Result<Car<'a>, CarRefused> {
-        let refused = |place| move |refusal| CarRefused { refusal, place };
-        let (begin, end) = span_of(bytes).map_err(refused(0))?;
-        let length = bytes.len() as u64;
-        let inner = &bytes[begin.min(length) as usize..end.min(length) as usize];
-        let (_, behind) = header_of(inner, &mut []).map_err(refused(begin))?;
-        let (header, rest) = inner.split_at(behind);
-        Ok(Car {
+    pub fn new(file: &'a [u8]) -> Result<Car<'a>, CarRefused> {
+        let (header, walk, is_over) = (file, Walk::default(), false);
+        let mut car = Car {
+            file,
             header,
-            rest,
-            place: begin + behind as u64,
-            is_cut: begin > 0 && end > length,
-            is_over: false,
-        })
+            walk,
+            is_over,
+        };
+        let (rest, first) = car.next_part()?;
+        car.header = &rest[first.header()];
+        Ok(car)
+    }
+
+    /// The next part, and the bytes from which its places are counted.
+    fn next_part(&mut self) -> Result<(&'a [u8], Part), CarRefused> {
+        let rest = &self.file[self.walk.place as usize..];
+        Ok((rest, self.walk.next(rest, true)?))
     }
 
     /// The roots, which are put into the room: each with a byte in front. Room for as many bytes as
     /// the header has is enough.
     pub fn roots_into<'r>(&self, room: &'r mut [u8]) -> Result<Cids<'r>, Refusal> {
-        let needed = header_of(self.header, room).map_or(0, |it| it.0); // it is a header
-        match room.get(..needed) {
-            Some(packed) => Ok(Cids(packed)),
-            None => Err(Refusal::NoRoom { needed }),
-        }
+        links_into(self.header, room)
     }
 
     /// The roots.
     #[cfg(feature = "alloc")]
     pub fn roots(&self) -> Links {
-        roots_of(self.header)
+        links(self.header).expect("a header is a block")
     }
 
     /// The offset in the file of the next section.
     pub fn place(&self) -> u64 {
-        self.place
+        self.walk.place
     }
 }
 
-#[cfg(feature = "alloc")]
-pub(crate) fn roots_of(header: &[u8]) -> Links {
-    let mut packed = vec![0; header.len()];
-    let needed = header_of(header, &mut packed).map_or(0, |it| it.0);
-    packed.truncate(needed);
-    Links(packed)
-}
-
 impl<'a> Iterator for Car<'a> {
-    type Item = Result<Section<'a>, CarRefused>;
+    type Item = Result<Section<&'a [u8]>, CarRefused>;
 
     fn next(&mut self) -> Option<Self::Item> {
-        if self.is_over || (self.rest.is_empty() && !self.is_cut) {
+        if self.is_over {
             return None;
         }
-        let place = self.place;
-        Some(match section_of(self.rest) {
-            Ok((section, end)) => {
-                self.rest = &self.rest[end..];
-                self.place += end as u64;
-                Ok(section)
-            }
-            Err(refusal) => {
+        match self.next_part() {
+            Ok((rest, Part::Section(it))) => Some(Ok(it.map(|block| &rest[block]))),
+            Ok(_) => None,
+            Err(refused) => {
                 self.is_over = true;
-                Err(CarRefused { refusal, place })
+                Some(Err(refused))
             }
-        })
+        }
     }
 }

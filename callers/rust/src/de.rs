@@ -9,9 +9,10 @@ use serde::de::{self, Deserialize, DeserializeSeed, Error as _, Expected, Unexpe
 use serde::forward_to_deserialize_any;
 #[cfg(feature = "std")]
 use {
+    crate::streams::has_more,
     alloc::vec::Vec,
     serde::de::DeserializeOwned,
-    std::io::{self, BufRead, ErrorKind},
+    std::io::{self, BufRead},
 };
 
 /// Those of a type's fields or variants.
@@ -318,14 +319,8 @@ impl<R: BufRead> IoReader<R> {
 
     /// Reads the block, as far as the reader has it, and no byte after it.
     fn fill(&mut self) -> Result<(), Error> {
-        while !self.is_read() {
-            let piece = match self.reader.fill_buf() {
-                Err(error) if error.kind() == ErrorKind::Interrupted => continue,
-                piece => piece?,
-            };
-            if piece.is_empty() {
-                break;
-            }
+        while !self.is_read() && has_more(&mut self.reader)? {
+            let piece = self.reader.fill_buf()?;
             let before = self.block.len();
             let count = piece.len().min(before.max(PIECE));
             self.block.extend_from_slice(&piece[..count]);
@@ -345,12 +340,7 @@ impl<R: BufRead> Bytes for IoReader<R> {
     }
 
     fn have_more(&mut self) -> Result<bool, Error> {
-        loop {
-            match self.reader.fill_buf() {
-                Err(error) if error.kind() == ErrorKind::Interrupted => {}
-                piece => return Ok(!piece?.is_empty()),
-            }
-        }
+        Ok(has_more(&mut self.reader)?)
     }
 }
 

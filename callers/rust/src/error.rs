@@ -125,10 +125,12 @@ impl From<std::io::Error> for Error {
 #[cfg(feature = "std")]
 impl From<Error> for std::io::Error {
     fn from(error: Error) -> std::io::Error {
-        match error.0.cause {
-            Cause::Io(error) => error,
-            _ => std::io::Error::new(std::io::ErrorKind::InvalidData, error),
-        }
+        let kind = match error.0.cause {
+            Cause::Io(error) => return error,
+            Cause::Refused(Refusal::Eof) => std::io::ErrorKind::UnexpectedEof,
+            _ => std::io::ErrorKind::InvalidData,
+        };
+        std::io::Error::new(kind, error)
     }
 }
 

@@ -17,7 +17,7 @@
 //!
 //! With the feature `serde`, `from_slice` reads a type and `to_vec` writes one; `Ipld` is data
 //! without types, and `ipld` spells it. `de`, `ser` and `codec` have what is named as in the crate
-//! `serde_ipld_dagcbor`. [`Car`] goes through a file of blocks in memory, [`CarReader`] through one
+//! `serde_ipld_dagcbor`. [`Car`] goes through a CAR file in memory, [`CarReader`] through one
 //! that is read, and [`CarWriter`] writes one.
 //!
 //! Without the feature `alloc`, which `std` brings, there are the calls that take room:
@@ -79,7 +79,7 @@ pub use ser::to_vec;
 #[cfg(all(feature = "serde", feature = "std"))]
 pub use ser::to_writer;
 #[cfg(feature = "std")]
-pub use streams::{CarError, CarReader, CarWriter, OwnedSection};
+pub use streams::{CarError, CarReader, CarWriter};
 
 #[cfg(all(doctest, feature = "serde"))]
 #[doc = include_str!("../README.md")]

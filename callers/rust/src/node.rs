@@ -5,19 +5,19 @@ use crate::calls::{dagcbor_from_node, dagcbor_node_links, dagcbor_to_node};
 use crate::item::Cids;
 use crate::{NodeRefusal, NodeRefused, Refusal};
 #[cfg(feature = "alloc")]
-use {crate::calls::Links, alloc::vec, alloc::vec::Vec};
+use {
+    crate::calls::{filled, Links},
+    alloc::vec::Vec,
+};
 
 /// The links of a block of DAG-PB, whatever their names are, which are put into the room: each with a
 /// byte in front. As much room as the node has bytes is enough.
 pub fn node_links_into<'a>(node: &[u8], room: &'a mut [u8]) -> Result<Cids<'a>, NodeRefused> {
     let (mut needed, mut place) = (0, 0);
     let code = dagcbor_node_links(node, room, &mut needed, &mut place);
-    node_answer(code, needed).map_err(|refusal| NodeRefused { refusal, place })?;
+    node_answer(code, needed, place)?;
     let no_room = NodeRefusal::NoBlock(Refusal::NoRoom { needed });
-    room.get(..needed).map(Cids).ok_or(NodeRefused {
-        refusal: no_room,
-        place,
-    })
+    room.get(..needed).map(Cids).ok_or(no_room.at(place))
 }
 
 /// The data model of a block of DAG-PB, as a block of DAG-CBOR in the room: a map of `Links` and, if the
@@ -25,10 +25,8 @@ pub fn node_links_into<'a>(node: &[u8], room: &'a mut [u8]) -> Result<Cids<'a>, 
 pub fn from_node_into<'a>(node: &[u8], room: &'a mut [u8]) -> Result<&'a [u8], NodeRefused> {
     let (mut needed, mut place) = (0, 0);
     let code = dagcbor_from_node(node, room, &mut needed, &mut place);
-    match node_answer(code, needed) {
-        Ok(()) => Ok(&room[..needed]),
-        Err(refusal) => Err(NodeRefused { refusal, place }),
-    }
+    node_answer(code, needed, place)?;
+    Ok(&room[..needed])
 }
 
 /// The one canonical block of DAG-PB whose data model the block of DAG-CBOR has, in the room. As much
@@ -36,7 +34,7 @@ pub fn from_node_into<'a>(node: &[u8], room: &'a mut [u8]) -> Result<&'a [u8], N
 pub fn to_node_into<'a>(block: &[u8], room: &'a mut [u8]) -> Result<&'a [u8], NodeRefusal> {
     let mut needed = 0;
     let code = dagcbor_to_node(block, room, &mut needed);
-    node_answer(code, needed)?;
+    node_answer(code, needed, 0)?;
     Ok(&room[..needed])
 }
 
@@ -49,28 +47,22 @@ pub fn to_node_into<'a>(block: &[u8], room: &'a mut [u8]) -> Result<&'a [u8], No
 /// ```
 #[cfg(feature = "alloc")]
 pub fn from_node(node: &[u8]) -> Result<Vec<u8>, NodeRefused> {
-    let mut block = vec![0; 2 * node.len() + 64];
-    let length = match from_node_into(node, &mut block) {
-        Ok(put) => put.len(),
-        Err(NodeRefused {
-            refusal: NodeRefusal::NoBlock(Refusal::NoRoom { needed }),
-            ..
-        }) => {
-            block.resize(needed, 0);
-            from_node_into(node, &mut block)?.len()
-        }
-        Err(refused) => return Err(refused),
-    };
-    block.truncate(length);
+    let mut place = 0;
+    let (block, code) = filled(2 * node.len() + 64, |out, needed| {
+        dagcbor_from_node(node, out, needed, &mut place)
+    });
+    node_answer(code, 0, place)?;
     Ok(block)
 }
 
 /// The links of a block of DAG-PB, in its order, whatever their names are.
 #[cfg(feature = "alloc")]
 pub fn node_links(node: &[u8]) -> Result<Links, NodeRefused> {
-    let mut packed = vec![0; node.len()];
-    let needed = node_links_into(node, &mut packed)?.0.len();
-    packed.truncate(needed);
+    let mut place = 0;
+    let (packed, code) = filled(node.len(), |out, needed| {
+        dagcbor_node_links(node, out, needed, &mut place)
+    });
+    node_answer(code, 0, place)?;
     Ok(Links(packed))
 }
 
@@ -78,8 +70,9 @@ pub fn node_links(node: &[u8]) -> Result<Links, NodeRefused> {
 /// Links that are not sorted by the bytes of their names are refused.
 #[cfg(feature = "alloc")]
 pub fn to_node(block: &[u8]) -> Result<Vec<u8>, NodeRefusal> {
-    let mut node = vec![0; block.len()];
-    let length = to_node_into(block, &mut node)?.len();
-    node.truncate(length);
+    let (node, code) = filled(block.len(), |out, needed| {
+        dagcbor_to_node(block, out, needed)
+    });
+    node_answer(code, 0, 0)?;
     Ok(node)
 }

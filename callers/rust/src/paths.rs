@@ -8,11 +8,13 @@ use {
 };
 
 /// A path, or a list of segments, each taken whole.
-trait Path: Copy {
+trait Path: Copy + Default + PartialEq {
     /// The kind and the bytes of the last item to which a front of it leads, and what is left of it.
     fn follow(self, block: &[u8]) -> Result<(Kind, &[u8], Self), Refused>;
 
-    fn is_at_end(self) -> bool;
+    fn is_at_end(self) -> bool {
+        self == Self::default()
+    }
 }
 
 impl Path for &str {
@@ -22,10 +24,6 @@ impl Path for &str {
         let kind = answer_in(block, code)?;
         let [begin, end, passed] = places;
         Ok((kind, &block[begin..end], &self[passed..]))
-    }
-
-    fn is_at_end(self) -> bool {
-        self.is_empty()
     }
 }
 
@@ -39,10 +37,6 @@ impl Path for &[&str] {
             }
         }
         Ok((kind, item, left))
-    }
-
-    fn is_at_end(self) -> bool {
-        self.is_empty()
     }
 }
 

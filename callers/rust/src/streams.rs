@@ -1,24 +1,24 @@
-//! Files of blocks that are read and written piece by piece.
+//! CAR files that are read and written piece by piece.
 
 use crate::calls::Links;
-use crate::car::{header_of, roots_of, section_of, span_of};
+use crate::car::{Part, Walk};
 use crate::cid::put_varint;
 use crate::item::Cids;
-use crate::{spell, verify, CarRefusal, CarRefused, Cid, Item, Verdict};
+use crate::{links, spell, verify, CarRefused, Cid, Item, Section, Verdict};
 use std::error::Error;
 use std::fmt;
-use std::io::{self, ErrorKind, Read, Write};
+use std::io::{self, BufRead, BufReader, ErrorKind, Read, Write};
 
 /// So much is read at once, at most.
 const PIECE: usize = 1 << 16;
 
-/// Why a file of blocks is not read on, or not written.
+/// Why a CAR file is not read on, or not written.
 #[derive(Debug)]
 #[non_exhaustive]
 pub enum CarError {
     /// the reader's error, or the writer's
     Io(io::Error),
-    /// the bytes are no file of blocks
+    /// the bytes are no CAR file
     Refused(CarRefused),
     /// the bytes are not those that the CID names; they are not written
     OtherBytes,
@@ -44,30 +44,29 @@ impl Error for CarError {
     }
 }
 
-/// A section of a file that is read: a name, and a block that is the caller's own.
-#[derive(Clone, Debug, PartialEq, Eq)]
-pub struct OwnedSection {
-    /// the name
-    pub cid: Cid,
-    /// the bytes
-    pub block: Vec<u8>,
-    /// what is said of them
-    pub verdict: Verdict,
+impl From<io::Error> for CarError {
+    fn from(error: io::Error) -> CarError {
+        CarError::Io(error)
+    }
 }
 
-/// The sections of a file of blocks (CAR, of version 1 or 2) that is read, one after the
+impl From<CarRefused> for CarError {
+    fn from(refused: CarRefused) -> CarError {
+        CarError::Refused(refused)
+    }
+}
+
+/// The sections of a CAR file (version 1 or 2) that is read, one after the
 /// other. At most one is in memory beside a piece of 64 KB, and nothing is reserved from a
 /// length that the file announces. A refusal comes once, and nothing after it; after an error
 /// of the reader the next call goes on.
 #[derive(Debug)]
 pub struct CarReader<R> {
-    reader: R,
-    bytes: Vec<u8>, // of which those from `at` to `used` are left
+    reader: BufReader<R>,
+    bytes: Vec<u8>, // of which those from `at` on are left
     at: usize,
-    used: usize,
-    place: u64,
-    end: u64,       // of the file of version 1 in it
-    is_plain: bool, // of version 1, which ends where no bytes follow
+    place: u64, // of those
+    walk: Walk,
     roots: Links,
     is_whole: bool,
     is_over: bool,
@@ -77,25 +76,17 @@ impl<R: Read> CarReader<R> {
     /// The file, after its header.
     pub fn new(reader: R) -> Result<Self, CarError> {
         let mut car = CarReader {
-            reader,
+            reader: BufReader::with_capacity(PIECE, reader),
             bytes: Vec::new(),
             at: 0,
-            used: 0,
             place: 0,
-            end: u64::MAX,
-            is_plain: true,
+            walk: Walk::default(),
             roots: Links(Vec::new()),
             is_whole: false,
             is_over: false,
         };
-        let (begin, end) = car.front(|bytes| span_of(bytes).map(|span| (span, 0)))?;
-        car.end = end;
-        car.is_plain = begin == 0;
-        car.go_to(begin)?;
-        car.roots = car.front(|bytes| {
-            let (_, behind) = header_of(bytes, &mut [])?;
-            Ok((roots_of(&bytes[..behind]), behind))
-        })?;
+        let block = car.next_part()?.header();
+        car.roots = links(&car.bytes[car.at..][block]).expect("a header is a block");
         Ok(car)
     }
 
@@ -106,113 +97,81 @@ impl<R: Read> CarReader<R> {
 
     /// The offset in the file of the next section.
     pub fn place(&self) -> u64 {
-        self.place
+        self.walk.place
     }
 
-    /// What is read, as far as it is of the file of version 1.
-    fn shown(&self) -> &[u8] {
-        let left = self.end - self.place;
-        let bytes = &self.bytes[self.at..self.used];
-        &bytes[..left.min(bytes.len() as u64) as usize]
-    }
-
-    /// Reads once, into room that doubles.
-    fn fill(&mut self) -> Result<(), CarError> {
-        self.bytes.copy_within(self.at..self.used, 0);
-        self.used -= self.at;
+    /// Reads a piece.
+    fn fill(&mut self) -> io::Result<()> {
+        self.bytes.drain(..self.at);
         self.at = 0;
-        if self.bytes.len() - self.used < PIECE {
-            self.bytes.resize(2 * self.bytes.len() + PIECE, 0);
+        if !has_more(&mut self.reader)? {
+            self.is_whole = true;
+            return Ok(());
         }
-        let count = self.read_once(self.used).map_err(CarError::Io)?;
-        self.used += count;
-        self.is_whole = count == 0;
+        let piece = self.reader.fill_buf()?;
+        self.bytes.extend_from_slice(piece);
+        let count = piece.len();
+        self.reader.consume(count);
         Ok(())
     }
 
-    fn read_once(&mut self, from: usize) -> io::Result<usize> {
+    /// Passes what is read and stands before the place of the walk. Whether that is reached, or
+    /// the file ends before it.
+    fn pass(&mut self) -> bool {
+        let left = (self.bytes.len() - self.at) as u64;
+        let count = left.min(self.walk.place - self.place);
+        self.at += count as usize;
+        self.place += count;
+        self.is_whole || self.place == self.walk.place
+    }
+
+    /// The next part, whose places are counted from the bytes that are left.
+    fn next_part(&mut self) -> Result<Part, CarError> {
         loop {
-            match self.reader.read(&mut self.bytes[from..]) {
-                Err(error) if error.kind() == ErrorKind::Interrupted => {}
-                read => return read,
+            while !self.pass() {
+                self.fill()?;
+            }
+            match self.walk.next(&self.bytes[self.at..], self.is_whole)? {
+                Part::More if self.walk.place == self.place => self.fill()?,
+                Part::More => {}
+                part => return Ok(part),
             }
         }
-    }
-
-    fn pass(&mut self, count: usize) {
-        self.at += count;
-        self.place += count as u64;
-    }
-
-    /// Goes as far as the place.
-    fn go_to(&mut self, place: u64) -> Result<(), CarError> {
-        loop {
-            let left = (place - self.place).min((self.used - self.at) as u64);
-            self.pass(left as usize);
-            if self.place == place || self.is_whole {
-                self.place = place;
-                return Ok(());
-            }
-            self.fill()?;
-        }
-    }
-
-    /// Takes what the bytes begin with, and tells how long it is. More are read where they end
-    /// too early.
-    fn front<T>(
-        &mut self,
-        read: impl Fn(&[u8]) -> Result<(T, usize), CarRefusal>,
-    ) -> Result<T, CarError> {
-        loop {
-            let shown = self.shown();
-            let is_all = self.is_whole || shown.len() as u64 == self.end - self.place;
-            match read(shown) {
-                Ok((value, count)) => {
-                    self.pass(count);
-                    return Ok(value);
-                }
-                Err(CarRefusal::Truncated) if !is_all => self.fill()?,
-                Err(refusal) => {
-                    self.is_over = true;
-                    let place = self.place;
-                    return Err(CarError::Refused(CarRefused { refusal, place }));
-                }
-            }
-        }
-    }
-
-    /// Whether a section follows, or a part of one.
-    fn has_more(&mut self) -> Result<bool, CarError> {
-        if self.shown().is_empty() && !self.is_whole && self.place < self.end {
-            self.fill()?;
-        }
-        let is_end = self.place == self.end || self.is_plain;
-        Ok(!self.is_over && (!self.shown().is_empty() || !is_end))
     }
 }
 
 impl<R: Read> Iterator for CarReader<R> {
-    type Item = Result<OwnedSection, CarError>;
+    type Item = Result<Section<Vec<u8>>, CarError>;
 
     fn next(&mut self) -> Option<Self::Item> {
-        match self.has_more() {
-            Ok(true) => {}
-            Ok(false) => return None,
-            Err(error) => return Some(Err(error)),
+        if self.is_over {
+            return None;
         }
-        Some(self.front(|bytes| {
-            let (section, end) = section_of(bytes)?;
-            let owned = OwnedSection {
-                cid: section.cid,
-                block: section.block.to_vec(),
-                verdict: section.verdict,
-            };
-            Ok((owned, end))
-        }))
+        match self.next_part() {
+            Ok(Part::Section(it)) => {
+                let bytes = &self.bytes[self.at..];
+                Some(Ok(it.map(|block| bytes[block].to_vec())))
+            }
+            Ok(_) => None,
+            Err(error) => {
+                self.is_over = matches!(error, CarError::Refused(_));
+                Some(Err(error))
+            }
+        }
     }
 }
 
-/// Writes a file of blocks, of version 1.
+/// Whether bytes follow. It reads where none are at hand.
+pub(crate) fn has_more(reader: &mut impl BufRead) -> io::Result<bool> {
+    loop {
+        match reader.fill_buf() {
+            Err(error) if error.kind() == ErrorKind::Interrupted => {}
+            piece => return Ok(!piece?.is_empty()),
+        }
+    }
+}
+
+/// Writes a CAR file of version 1.
 ///
 /// ```
 /// use dagcbor::{name, Car, CarWriter, Kind, Verdict};
@@ -252,7 +211,7 @@ impl<W: Write> CarWriter<W> {
             return Err(CarError::OtherBytes);
         }
         put_length_and(&mut self.section, &[cid.as_bytes(), block]);
-        self.writer.write_all(&self.section).map_err(CarError::Io)?;
+        self.writer.write_all(&self.section)?;
         Ok(verdict)
     }
 

@@ -116,6 +116,14 @@ fn streams_end_with_an_error() {
     let error = io::Error::from(values.next().unwrap().unwrap_err());
     assert_eq!(error.kind(), ErrorKind::TimedOut);
     assert!(values.next().is_none());
+    for (bytes, kind) in [
+        (&b"\x18"[..], ErrorKind::UnexpectedEof),
+        (b"\x18\x17", ErrorKind::InvalidData),
+        (b"\x61a", ErrorKind::InvalidData),
+    ] {
+        let error = from_reader_once::<u8, _>(bytes).unwrap_err();
+        assert_eq!(io::Error::from(error).kind(), kind);
+    }
 }
 
 #[test]

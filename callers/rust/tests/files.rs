@@ -1,4 +1,4 @@
-//! Files of blocks, over the vectors of all callers: in memory, and by readers that give few bytes.
+//! CAR files, over the vectors of all callers: in memory, and by readers that give few bytes.
 
 use dagcbor::{
     name, Car, CarError, CarReader, CarRefusal, CarRefused, Cid, Kind, Refusal, Verdict,

@@ -6,6 +6,14 @@ const [fromUtf8, fromPlain] = ['utf-8', 'latin1'].map((it) =>
 
 // Nothing holds others back from transferring memory: so no two blocks share any.
 export const newPool = () => new Uint8Array();
+export const unfilled = (size) => new Uint8Array(size);
+
+// Files are Node's.
+const noFiles = async () => { throw new Error('files are opened by the package for Node alone'); };
+export const openFile = noFiles;
+export const readAt = noFiles;
+export const writeAt = noFiles;
+export const readAll = async function* () { yield noFiles(); };
 
 const sizeOf = (of) => Object.getOwnPropertyDescriptor(of.prototype, 'size').get;
 const takes = (call) => (value) => {

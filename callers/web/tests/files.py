@@ -1,4 +1,4 @@
-"""Files of blocks: sections with each kind of damage, and the way through them."""
+"""CAR files: sections with each kind of damage, and the way through them."""
 
 import os
 import time
@@ -83,7 +83,7 @@ def broken_off(page):
 
 
 def headers(page):
-    """Each row of the table of headers begins a file of blocks, with its roots, or is told to be none."""
+    """Each row of the table of headers begins a CAR file, with its roots, or is told to be none."""
     for given, code, roots, _ in rows("headers"):
         page.give_bytes(bytes.fromhex(given.replace("-", "")), "blocks.car")
         if int(code) < 0:

@@ -1,4 +1,4 @@
-"""Blocks and files of blocks, made apart from the library, and the tables that all callers share."""
+"""Blocks and CAR files, made apart from the library, and the tables that all callers share."""
 
 import hashlib
 import os

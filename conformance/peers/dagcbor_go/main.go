@@ -1,4 +1,4 @@
-// Our package for Go: blocks, CIDs as text, and files of blocks; data to be written is in json.go.
+// Our package for Go: blocks, CIDs as text, and CAR files; data to be written is in json.go.
 package main
 
 import "dagcbor"

@@ -1,4 +1,4 @@
-//! The index of a file of blocks of version 2: where the section of each multihash begins; and bytes
+//! The index of a CAR file of version 2: where the section of each multihash begins; and bytes
 //! that are read at places.
 #![tactic(auto)]
 

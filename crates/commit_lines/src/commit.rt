@@ -103,8 +103,8 @@ pub(crate) fn commit_of(alloc: Global, held: &Held) -> Result<CommitFound, Alloc
     }
 }
 
-/// The commit that the first root of the file names which the input is, or the line that tells why
-/// there is none. Of the blocks the commit's alone need be there. They are in memory until it is read.
+/// Reads the commit that the first root of a CAR file names, or the line that says why there is none. Of
+/// the file's blocks only the commit's is needed. All blocks are in memory until it is read.
 pub fn read_commit<R: BufRead>(alloc: Global, input: &mut R) -> Result<CommitFound, ToolError>
     ensures { IfSome (R.remaining input.old) (λ b. IfOk result (λ r. MatchResult r
         (λ p. IsCommitFile b p.0 p.1) (λ line. IsNoCommitFile b line.items))) }
@@ -119,7 +119,7 @@ pub fn read_commit<R: BufRead>(alloc: Global, input: &mut R) -> Result<CommitFou
     }
 }
 
-/// What is said of the commit of the file that the input is.
+/// What `commit` prints of a CAR file.
 fn commit_in<R: BufRead>(alloc: Global, input: &mut R) -> Result<Answer, ToolError>
     ensures { IfSome (R.remaining input.old)
         (λ b. IfOk result (λ p. OfFile IsCommitSaid b p.0.1 p.0.0.items p.1.items)) }

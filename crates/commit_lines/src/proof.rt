@@ -24,7 +24,7 @@ use dagcbor_resolve::each_once;
 use held_lines::{Held, Kept, held_of};
 use ipld_links::{Verdict, stored_bytes, verify};
 use ipld_tree::Cid;
-use record_lines::{first_root, named_key, told_alone, tree_line};
+use record_lines::{named_key, told_alone, tree_line};
 use std::alloc::{AllocError, Global};
 use std::collections::BTreeMap;
 use std::io::{BufRead, Write};

@@ -1,4 +1,4 @@
-//! The program `dagcar`: judges files of blocks (CAR, versions 1 and 2), and blocks.
+//! The program `dagcar`: judges CAR files (versions 1 and 2), and blocks.
 #![tactic(auto)]
 
 mod commits;

@@ -6,7 +6,7 @@ use Rattle.dagcbor_car.specs.Car.{Section}
 use Rattle.dagcbor_car.specs.Checks.{IsAfter, TakesSection, ListsMissingInFile}
 use Rattle.ipld_links.specs.Verdicts.{IsVerdict}
 use Rattle.dagcbor_car.specs.Told.{Told}
-use Rattle.dagcbor_car.proofs.Files.{sections_push, told_push}
+use Rattle.dagcbor_car.proofs.Told.{sections_push, told_push}
 use Rattle.ipld_links.specs.declared.verdict.Verdict.{Verdict}
 use Rattle.dagcar_lines.specs.Answers.{summary_speech}
 use Rattle.dagcar_lines.specs.Steps.{KnowsMore, SaysAtEnd}

@@ -1,4 +1,4 @@
--- What is said of a file of blocks, whatever is said of its roots, of a section and at its end.
+-- What is said of a CAR file, whatever is said of its roots, of a section and at its end.
 use Rattle.std.specs.Prelude.{◌≡◌, ◌⊎◌, ℕ, List, [], ◌++◌, Bool, false, ◌&&◌, Option, Some, Result, MatchResult}
 use Rattle.std.specs.Io.KnownBytes.{Appends}
 use Rattle.std.specs.declared.convert.Infallible.{Infallible}

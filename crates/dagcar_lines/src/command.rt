@@ -52,17 +52,17 @@ pub const OUT_OF_MEMORY: &str = "dagcar: out of memory\n";
 /// What the program can be told to do.
 #[derive(Clone, Copy, Debug, PartialEq, Eq)]
 pub enum Command {
-    /// To judge a file of blocks.
+    /// To judge a CAR file.
     Check,
-    /// To judge a file of blocks, and to tell no more than how many sections have which verdict.
+    /// To judge a CAR file, and to tell no more than how many sections have which verdict.
     Summary,
-    /// To judge the sections of a file of blocks, and follow no link.
+    /// To judge the sections of a CAR file, and follow no link.
     Verify,
     /// To tell of the program.
     Help,
     /// To tell its version.
     Version,
-    /// To list a file of blocks.
+    /// To list a CAR file.
     List,
     /// To name a block.
     Name,

@@ -23,7 +23,7 @@ const HELP: &str = "usage: dagcar check [--summary] [FILE]
        dagcar check|list --index FILE
        dagcar event [FILE]
 
-Of a file of blocks (CAR, version 1 or 2); without FILE, or with -, standard input:
+Of a CAR file (version 1 or 2); without FILE, or with -, standard input:
   check    the verdict on each block, and which links lead nowhere; --summary counts them;
            the index of a named file is judged too, and --index judges that alone
   inspect  what it holds, in numbers; --json writes them as JSON

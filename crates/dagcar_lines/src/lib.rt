@@ -1,4 +1,4 @@
-//! The lines of the program `dagcar`: files of blocks (CAR, version 1) are judged or listed, and
+//! The lines of the program `dagcar`: CAR files (version 1) are judged or listed, and
 //! blocks are named, judged, shown and made.
 #![tactic(auto)]
 

@@ -1,4 +1,4 @@
-//! A file of blocks, section by section: what a teller says of it goes out as it comes.
+//! A CAR file, section by section: what a teller says of it goes out as it comes.
 
 ghost use Rattle.std.specs.Prelude.{◌≡◌, [], List, ℕ, true, Ok, IfOk, OnOk};
 ghost use Rattle.held_lines.specs.declared.take.Ended.TheVariants.{Whole};

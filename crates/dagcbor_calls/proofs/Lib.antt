@@ -13,3 +13,8 @@ pub mod HeaderRoots
 pub mod Finding
 pub mod Placing
 pub mod Decoding
+pub mod WalkRuns
+pub mod WalksAgree
+pub mod Walking
+pub mod WalkedFiles
+pub mod LongerCalls

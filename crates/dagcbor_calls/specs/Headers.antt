@@ -1,4 +1,4 @@
--- What callers in other languages are answered of the header of a file of blocks.
+-- What callers in other languages are answered of the header of a CAR file.
 use Rattle.std.specs.Prelude.{◌≡◌, ◌≢◌, ◌⊎◌, ℕ, ℤ, pos, List, length}
 use Rattle.std.specs.declared.convert.Infallible.{Infallible}
 use Rattle.dagcbor_car.specs.Car.{header_bytes}

@@ -15,3 +15,5 @@ pub mod CidTexts
 pub mod Spans
 pub mod Finds
 pub mod Nodes
+pub mod Walks
+pub mod WalkRuns

@@ -1,4 +1,4 @@
--- What callers in other languages are answered of where the file of version 1 stands in a file of blocks.
+-- What callers in other languages are answered of where the file of version 1 stands in a CAR file.
 use Rattle.std.specs.Prelude.{◌≡◌, ◌⊎◌, ℕ, ◌+◌, ◌-◌, ◌^◌, ℤ, pos, List, [], ◌∷◌}
 use Rattle.std.specs.declared.convert.Infallible.{Infallible}
 use Rattle.dagcbor_car.specs.Versions.{MayBeVersion2, HasSpan, begin_of, length_of, SpanRefused}

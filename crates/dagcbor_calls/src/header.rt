@@ -9,7 +9,7 @@ use crate::links::put_links;
 use dagcbor_car::{CarError, judge_header};
 
 /// The number of the cause for which no header stands.
-fn header_code<E>(fault: &CarError<E>) -> i32
+pub(crate) fn header_code<E>(fault: &CarError<E>) -> i32
     ensures { result ≡ header_code fault.now }
 {
     match fault {

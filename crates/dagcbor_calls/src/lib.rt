@@ -17,6 +17,7 @@ mod span;
 mod spell;
 mod tape;
 mod told;
+mod walk;
 
 pub use cid::{put_cid_of_text, put_cid_text, put_front};
 pub use code::{check, kind_code, refusal_code};
@@ -30,3 +31,4 @@ pub use section::{judge_named, judge_section};
 pub use span::put_span;
 pub use spell::spell_tape;
 pub use tape::{Token, put_front_tape, put_tape};
+pub use walk::{CarWalk, next_of_car};

@@ -6,12 +6,16 @@ ghost use Rattle.ipld_tree.specs.Cid.{cid_bytes};
 ghost use Rattle.dagcbor_car.specs.Splits.{SplitsSection};
 ghost use Rattle.dagcbor_calls.specs.Codes.{verdict_code};
 ghost use Rattle.dagcbor_calls.specs.Sections.{section_places, IsSectionAnswer, IsVerifyAnswer};
+ghost use Rattle.dagcbor_calls.specs.Walks.{IsSectionCode};
 
 use crate::code::{NO_CID, fault_code, kind_code, refusal_code};
 use arrayvec::ArrayVec;
 use dagcbor_car::{Section, split_section};
 use ipld_links::{Verdict, verify};
 use ipld_tree::Cid;
+
+/// What is answered for a section that is not judged.
+const SECTION: i32 = 13;
 
 /// The number of a verdict. Blocks of DAG-PB are not told apart from those that are not read.
 fn verdict_code(verdict: &Verdict) -> i32
@@ -49,13 +53,23 @@ fn cid_length(cid: &Cid) -> usize
 }
 
 /// Where the parts of the section stand that begins the bytes, and behind which the rest follows.
-fn places_of(bytes: &[u8], section: &Section<'_>, rest: &[u8]) -> [usize; 3]
+pub(crate) fn places_of(bytes: &[u8], section: &Section<'_>, rest: &[u8]) -> [usize; 3]
     requires { SplitsSection bytes.now (section.now.cid, section.now.block.now) rest.now }
     ensures { result ≡ section_places (section.now.cid, section.now.block.now) }
 {
     let end = bytes.len() - rest.len();
     let block = end - section.block.len();
     [block - cid_length(&section.cid), block, end]
+}
+
+/// The number of the verdict on the section's block, unless that is not to be judged.
+pub(crate) fn section_code(section: &Section<'_>, is_unjudged: bool) -> i32
+    ensures { IsSectionCode is_unjudged (section.now.cid, section.now.block.now) result }
+{
+    if is_unjudged {
+        return SECTION;
+    }
+    verdict_code(&verify(&section.cid, section.block))
 }
 
 /// What is said of the block of the section at the front, whose places are put, or why none stands

@@ -1,4 +1,4 @@
-//! Where the file of version 1 stands in a file of blocks.
+//! Where the file of version 1 stands in a CAR file.
 
 ghost use Rattle.dagcbor_calls.specs.Spans.{IsSpanAnswer};
 

@@ -1,4 +1,4 @@
--- Bytes are read as a file of blocks in one way at most.
+-- Bytes are read as a CAR file in one way at most.
 use Rattle.std.proofs.Common.{◌≡◌, inl, inr, ℕ, ◌^◌, ◌<◌, List, [], ◌∷◌, ◌++◌, map, length, length-append, refl, sym, ap, ap₂, ◌∙◌, arith, append_assoc, append-nil, flat_map}
 use Rattle.std.specs.List.{AllByRecursion}
 use Rattle.ipld_tree.specs.Cid.{varint, CidParts, AreCidParts, cid_bytes}

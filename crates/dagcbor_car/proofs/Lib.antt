@@ -6,7 +6,7 @@ pub mod Counts
 pub mod Headers
 pub mod Checking
 pub mod Places
-pub mod Files
+pub mod Told
 pub mod Pulling
 pub mod Pushing
 pub mod Starting

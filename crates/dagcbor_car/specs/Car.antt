@@ -1,4 +1,4 @@
--- What a file of blocks is (CARv1 specification). A length is a varint, as in a CID.
+-- What a CAR file is (CARv1 specification). A length is a varint, as in a CID.
 use Rattle.std.specs.Prelude.{ℕ, ◌^◌, ◌<◌, ◌≡◌, pos, List, ◌++◌, length, map, codes, flat_map}
 use Rattle.std.specs.List.{AllByRecursion}
 use Rattle.ipld_tree.specs.Cid.{varint, CidParts, AreCidParts, cid_bytes}

@@ -1,4 +1,4 @@
--- What holds of all files of blocks.
+-- What holds of all CAR files.
 use Rattle.std.specs.Prelude.{◌≡◌, ℕ, List}
 use Rattle.dagcbor_car.specs.Car.{Section, IsCar}
 use Rattle.dagcbor_car.specs.Versions.{IsFile}

@@ -1,5 +1,5 @@
 -- The verdicts that were told on the sections of a file.
-use Rattle.std.specs.Prelude.{List, [], ◌∷◌, ◌++◌, map}
+use Rattle.std.specs.Prelude.{List, map}
 use Rattle.std.specs.List.{AllByRecursion}
 use Rattle.ipld_links.specs.Verdicts.{IsVerdict}
 use Rattle.dagcbor_car.specs.Car.{Section}
@@ -16,11 +16,3 @@ sections_of told = map (λ p. p.0) told
 -- the verdicts are those on their sections
 abbrev pub AreTold : List Told → Type 0
 AreTold told = AllByRecursion (λ p. IsVerdict p.0 p.1) told
-
--- what was told stands behind what was told before
-abbrev pub TellsAll : {S : Type 0} → (S → List Told → Type 0) → S → List Told → S → Type 0
-TellsAll holds old told new = (before : List Told) → holds old before → holds new (before ++ told)
-
--- one section and its verdict stand behind what was told before
-abbrev pub Tells : {S : Type 0} → (S → List Told → Type 0) → S → Told → S → Type 0
-Tells holds old p new = TellsAll holds old (p ∷ []) new

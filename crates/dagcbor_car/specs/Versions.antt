@@ -1,4 +1,4 @@
--- The two versions of a file of blocks (CARv2 specification): version 2 is a header before a file of
+-- The two versions of a CAR file (CARv2 specification): version 2 is a header before a file of
 -- version 1, with any bytes between them and behind.
 use Rattle.std.specs.Prelude.{◌≡◌, ◌⊎◌, ℕ, ◌+◌, ◌-◌, ◌^◌, ◌<◌, ◌≤◌, List, [], ◌∷◌, ◌++◌, length, take, drop}
 use Rattle.std.specs.Int.{w64, from_le_bytes}
@@ -41,7 +41,7 @@ HoldsCar b car wanting = ((¬ IsVersion2 b) × (car ≡ b) × (wanting ≡ 0))
     ⊎ (HasSpan b × (car ≡ take (length_of b) (drop (begin_of b) b))
     × (wanting ≡ length_of b - length car))
 
--- The bytes are a file of blocks, of either version, of these roots and sections.
+-- The bytes are a CAR file, of either version, of these roots and sections.
 abbrev pub IsFile : List ℕ → List (List ℕ) → List Section → Type 0
 IsFile b roots sections = (car : List ℕ) × HoldsCar b car 0 × IsCar car roots sections
 

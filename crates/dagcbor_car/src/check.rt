@@ -1,31 +1,17 @@
-//! A whole file: the verdicts on its sections, and what leads to no block of it.
+//! A file, section by section: the verdicts, and the links that lead to no block of it.
 
-ghost use Rattle.std.specs.Prelude.{◌≡◌, ◌≢◌, ◌⊎◌, [], IfOk, OnOk, OnErr, MatchResult, List, ℕ};
-ghost use Rattle.std.specs.Prelude.{true, false, is_err};
-ghost use Rattle.dagcbor_heads.specs.Inputs.{input_reading};
+ghost use Rattle.std.specs.Prelude.{◌≡◌, ◌≢◌, ◌⊎◌, [], IfOk, OnOk, OnErr, List, ℕ, true, false, is_err};
 ghost use Rattle.dagcbor_items.specs.Walks.{forms};
 ghost use Rattle.dagcbor_car.specs.Car.{Section as CarSection};
 ghost use Rattle.ipld_links.specs.Verdicts.{IsVerified, IsVerdict};
-ghost use Rattle.dagcbor_car.specs.Told.{TellsAll};
 ghost use Rattle.ipld_links.specs.Blocks.{IsBlockOf};
-ghost use Rattle.dagcbor_car.specs.Splits.{CountsBlock};
-ghost use Rattle.dagcbor_car.specs.Versions.{HoldsCar};
-ghost use Rattle.dagcbor_car.specs.Sources.{LacksMemoryIf};
 ghost use Rattle.dagcbor_car.specs.Checks.{HoldsName, FollowsLinks};
-ghost use Rattle.dagcbor_car.specs.Checks.{IsAfter, TakesSection, ListsMissingInFile, TellsVerdict};
-ghost use Rattle.dagcbor_car.specs.Checks.{HandsOnVerdict, of_run, ChecksCar, ChecksInput};
-ghost use Rattle.dagcbor_car.specs.declared.error.CarError.TheVariants.{OutOfMemory};
+ghost use Rattle.dagcbor_car.specs.Checks.{IsAfter, TakesSection, ListsMissingInFile};
 
-use crate::each::{ReadCarError, SectionSink, each_section};
-use crate::error::CarError;
-use crate::pull::pull_header;
 use crate::section::Section;
-use crate::sink::VerdictSink;
-use dagcbor_heads::{Input, Read, SliceReader};
 use ipld_links::{CidSet, HeldNames, Verdict, verify};
 use ipld_tree::Cid;
 use std::alloc::{AllocError, Global};
-use std::convert::Infallible;
 
 /// What is known of a file behind some of its sections: which blocks it has, and which of its roots
 /// and links lead to none of them so far. A name by the identity holds its block itself: it is never
@@ -137,89 +123,5 @@ impl CarCheck {
             return Err(AllocError);
         }
         self.missing.into_vec(alloc)
-    }
-}
-
-/// Goes through a whole file: hands each section and the verdict on it to the sink, and answers the
-/// roots and the links that lead to no verified block of the file, each once, in their order.
-pub fn check_car<S: VerdictSink>(
-    alloc: Global,
-    bytes: &[u8],
-    verdicts: &mut S,
-) -> Result<Vec<Cid>, CarError<Infallible>>
-    ensures checked { ChecksCar S.holds bytes.now verdicts.old result verdicts.new }
-    ensures memory { LacksMemoryIf ((car : List ℕ) × (n : ℕ) × HoldsCar bytes.now car n
-        × CountsBlock car) result }
-{
-    let mut input = Input::<SliceReader>::Slice(SliceReader::new(bytes));
-    check_input(alloc, &mut input, verdicts)
-}
-
-/// As `check_car`, of what a slice or a reader has left. At most one section is in memory.
-pub fn check_input<'de, R: Read, S: VerdictSink>(
-    alloc: Global,
-    input: &mut Input<'de, R>,
-    verdicts: &mut S,
-) -> Result<Vec<Cid>, CarError<R::Error>>
-    ensures { ChecksInput S.holds (input_reading R.reading input.old) verdicts.old result
-        (input_reading R.reading input.new) verdicts.new }
-{
-    let (roots, mut left) = pull_header(alloc, input)?;
-    let Ok(check) = CarCheck::new(alloc, &roots) else {
-        return Err(CarError::OutOfMemory);
-    };
-    let mut checking = Checking { check, verdicts };
-    let ran = each_section(alloc, input, &mut left, &mut checking);
-    let Checking { check, verdicts } = checking;
-    // No effect at run time. The proof reads what the sink was told from this use of it.
-    let _ = &*verdicts;
-    match ran {
-        Ok(_count) => missing_of(alloc, check),
-        Err(error) => Err(of_run(error)),
-    }
-}
-
-/// Why not all sections were checked: that the sink takes no more is want of memory.
-fn of_run<E: Drop>(error: ReadCarError<E, AllocError>) -> CarError<E>
-    ensures { result ≡ of_run error }
-{
-    match error {
-        ReadCarError::Header(error) => error,
-        ReadCarError::Section(_, error) => error,
-        ReadCarError::Block(_, _, _) => CarError::OutOfMemory,
-    }
-}
-
-/// The roots and the links that lead to no verified block.
-fn missing_of<E: Drop>(alloc: Global, check: CarCheck) -> Result<Vec<Cid>, CarError<E>>
-    ensures { MatchResult result
-        (λ v. (roots : List (List ℕ)) (sections : List CarSection)
-        → IsAfter check roots sections → ListsMissingInFile roots sections v)
-        (λ e. e ≡ OutOfMemory) }
-{
-    match check.missing(alloc) {
-        Ok(missing) => Ok(missing),
-        Err(_) => Err(CarError::OutOfMemory),
-    }
-}
-
-/// What checks sections, and the sink, which is lent, that it hands them and the verdicts on to.
-#[derive(Drop)]
-pub(crate) struct Checking<'a, S> {
-    check: CarCheck,
-    verdicts: &'a mut S,
-}
-
-impl<S: VerdictSink> SectionSink for Checking<'_, S> {
-    type Stop = AllocError;
-
-    ghost takes = { λ s old result new. HandsOnVerdict S.holds s old result new };
-
-    #[tactic(auto, using(crate::proofs::Files::section_told, crate::proofs::Files::tells_none))]
-    fn take(&mut self, section: &Section<'_>) -> Result<(), AllocError> {
-        match self.check.take(section) {
-            Ok(verdict) => self.verdicts.take(section, &verdict),
-            Err(_) => Err(AllocError),
-        }
     }
 }

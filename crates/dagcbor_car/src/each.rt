@@ -34,10 +34,10 @@ pub enum ReadCarError<E, T> {
     Header(CarError<E>),
     /// Behind so many sections that were taken none stands, though bytes do or are wanting; or the
     /// next was not read.
-    #[error("behind {0} sections: {1}")]
+    #[error("after {0} sections: {1}")]
     Section(u64, CarError<E>),
     /// Behind so many sections that were taken the one of this name was not.
-    #[error("behind {0} sections: the next was not taken")]
+    #[error("after {0} sections: the next was not taken")]
     Block(u64, Cid, T),
 }
 

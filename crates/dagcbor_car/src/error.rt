@@ -1,11 +1,11 @@
-//! Why bytes are no file of blocks, and why a file is not written.
+//! Why bytes are not a CAR file, and why a file is not written.
 
 use dagcbor_heads::DecodeError;
 use ipld_tree::CidError;
 use std::convert::Infallible;
 use thiserror::Error;
 
-/// Why bytes are no file of blocks, at the first place where they are none; or why they were not
+/// Why bytes are not a CAR file, at the first place where they are none; or why they were not
 /// read. `E` is the reader's error.
 #[derive(Debug, Drop, Error)]
 pub enum CarError<E> {

@@ -1,4 +1,4 @@
-//! Files of blocks: CAR, versions 1 and 2.
+//! CAR files, versions 1 and 2.
 #![tactic(auto)]
 
 mod check;
@@ -11,12 +11,11 @@ mod push;
 mod read_section;
 mod reader;
 mod section;
-mod sink;
 mod tree;
 mod version;
 mod writer;
 
-pub use check::{CarCheck, check_car, check_input};
+pub use check::CarCheck;
 pub use each::{ReadCarError, SectionSink, each_section};
 pub use error::{CarError, CarWriteError};
 pub use header::{judge_header, split_header};
@@ -25,7 +24,6 @@ pub use push::{push_header, push_section};
 pub use read_section::ReadSection;
 pub use reader::{Begun, CarReader};
 pub use section::{Section, split_section};
-pub use sink::VerdictSink;
 pub use tree::push_tree;
 pub use version::{Span, file_span};
 pub use writer::CarWriter;

@@ -1,5 +1,5 @@
 /* DAG-CBOR for C: whether bytes are a block, what it holds, where they are none, how it is spelled, the links of an item,
-   a block's name, the header and the sections of a file of blocks (CAR, version 1, and where it stands in one of version
+   a block's name, the header and the sections of a CAR file (version 1, and where it stands in one of version
    2), and the text of CIDs.
 
    A block is the one spelling of a DAG-CBOR item that reading takes at most 256 steps of depth: one for a leaf, and
@@ -12,7 +12,7 @@
      there, and nobody writes them during the call, no other thread either; `length` is below 2^63.
    - `out` likewise, also where `room` is 0 (dagcbor_into), for `room` bytes that nobody else reads or writes
      during the call; `tape` for `room` tokens (dagcbor_tape_into, dagcbor_compact_tape_into), aligned as their numbers,
-     and fewer than 2^58 of them; `needed`, `place` and `behind` for one number each, `places` for three, or two.
+     and fewer than 2^58 of them; `needed`, `place` and `behind` for one number each, `places` for three, or two; `walk` for one walk.
      None of these overlaps another.
    - The thread has 128 KB of stack left; the CPU is an x86-64-v2.
    Calls on different threads need no lock: nothing is shared between them. */
@@ -160,8 +160,8 @@ enum dagcbor_section {
     DAGCBOR_TRUNCATED = -24,       /* the bytes end inside the length, or before as many follow */
     DAGCBOR_INVALID_LENGTH = -25,  /* the length is no varint in shortest form below 2^64 */
     DAGCBOR_INVALID_CID = -26,     /* no CID stands there, or after the length of a section; or it goes on after that; not of dagcbor_car_header */
-    DAGCBOR_OTHER_HEADER = -27,    /* of dagcbor_car_header alone: a block that is not the map of roots and of version 1 */
-    DAGCBOR_INVALID_OFFSET = -35   /* of dagcbor_car_span alone: of version 2, a begin below 51, or an end of 2^64 or more */
+    DAGCBOR_OTHER_HEADER = -27,    /* of dagcbor_car_header and dagcbor_car_next: a block that is not the map of roots and of version 1 */
+    DAGCBOR_INVALID_OFFSET = -35   /* of dagcbor_car_span and dagcbor_car_next: of version 2, a begin below 51, or an end of 2^64 or more */
 };
 
 /* What is said of a block under the name that the bytes `cid` are. From 0 where nothing is wrong: the number of its kind, or
@@ -170,7 +170,7 @@ enum dagcbor_section {
    same. `cid` may not be NULL either. */
 int32_t dagcbor_verify(const uint8_t *cid, size_t cid_length, const uint8_t *block, size_t length);
 
-/* Where the file of version 1 stands within a file of blocks, of which these bytes are the front: 51 of them are enough.
+/* Where the file of version 1 stands within a CAR file, of which these bytes are the front: 51 of them are enough.
    0, and places[0] becomes where it begins and places[1] where it ends, both counted from the first byte: of version 2
    what its header says, which may lie after `length`; of version 1 they are 0 and UINT64_MAX, up to the end of the file.
    Else, below 0, and then `places` stay: DAGCBOR_TRUNCATED where the bytes are fewer than the 11 that begin version 2 and
@@ -178,19 +178,60 @@ int32_t dagcbor_verify(const uint8_t *cid, size_t cid_length, const uint8_t *blo
    part of it: hand no byte after places[1] to the calls below. */
 int32_t dagcbor_car_span(const uint8_t *bytes, size_t length, uint64_t places[2]);
 
-/* The header that begins the bytes of a file of blocks, of version 1. 0 exactly where one does: *behind becomes where the
+/* The header that begins the bytes of a CAR file, of version 1. 0 exactly where one does: *behind becomes where the
    first section begins, and *needed the length of its roots, packed as dagcbor_links packs links; where that is at most
    `room` they are put at the front of `out`, and else `out` stays as it was. Else, below 0, DAGCBOR_TRUNCATED,
    DAGCBOR_INVALID_LENGTH, the refusal of the bytes after the length where they are no block, or DAGCBOR_OTHER_HEADER.
    Then *needed is 0, and `out` and *behind are as they were. */
 int32_t dagcbor_car_header(const uint8_t *bytes, size_t length, uint8_t *out, size_t room, size_t *needed, size_t *behind);
 
-/* The section that begins the bytes, as one after the header of a file of blocks. From 0 where nothing is wrong with its
+/* The section that begins the bytes, as one after the header of a CAR file. From 0 where nothing is wrong with its
    block: the number of its kind, or DAGCBOR_NOT_READ. Below 0 that of the refusal of the block, which is the one that is
    named, or one of those above. Where a section is there, `places` become where its CID begins, where its block begins,
    which is where the CID ends, and where the section ends with its block: the next one begins there. Else they stay.
    It is gone through once for its digest, and once by the judge: what is after it is not looked at. */
 int32_t dagcbor_car_section(const uint8_t *bytes, size_t length, size_t places[3]);
+
+/* Where a walk through a CAR file is. All zeros at its beginning. */
+typedef struct dagcbor_car_walk {
+    uint64_t place;   /* the offset in the file of the next byte that the walk needs */
+    uint64_t end;     /* after the header: the offset at which the sections end; of version 1 UINT64_MAX */
+    uint32_t version; /* 0 until it is known; then 1 or 2 */
+    uint32_t step;    /* 0: the header comes next; 1: sections do */
+} dagcbor_car_walk;
+
+/* What the caller says of the bytes at hand; `how` is a sum of these, and other bits of it are not looked at. */
+enum dagcbor_car_how {
+    DAGCBOR_CAR_LAST = 1,    /* no bytes of the file follow them */
+    DAGCBOR_CAR_UNJUDGED = 2 /* a section is to be found, and its block not hashed and not judged */
+};
+
+/* What comes next in a CAR file, beside the number of a verdict, and of a fault. */
+enum dagcbor_car_answer {
+    DAGCBOR_CAR_MORE = 10,   /* more bytes are needed */
+    DAGCBOR_CAR_HEADER = 11, /* the header */
+    DAGCBOR_CAR_END = 12,    /* nothing: the sections are at their end */
+    DAGCBOR_CAR_SECTION = 13 /* a section; answered with DAGCBOR_CAR_UNJUDGED alone, in place of a verdict */
+};
+
+/* What comes next in a CAR file, of version 1 or 2. `bytes` are those of the file from the offset walk->place on, as that is
+   when the call begins: as many as are at hand. The caller calls again and again, each time with the bytes from where walk->place
+   is then. However the file is cut, the answers are the same, and so are their places in the file. The answer is
+   - DAGCBOR_CAR_MORE where these bytes do not tell it: more are needed. Never with DAGCBOR_CAR_LAST. walk->place may have moved, to
+     where the part of version 1 begins in a file of version 2, perhaps past the bytes at hand: those before it are not needed.
+   - DAGCBOR_CAR_HEADER first. `places` become where it begins (0, or in a file of version 2 where the part of version 1 does), where
+     its block does, after the length, and where it ends. The links of that block are the roots.
+   - then for each section what dagcbor_car_section says of it: from 0 a kind or DAGCBOR_NOT_READ, below 0 a refusal of its block,
+     DAGCBOR_OTHER_BYTES or DAGCBOR_NOT_VERIFIED; with DAGCBOR_CAR_UNJUDGED for each DAGCBOR_CAR_SECTION. `places` are also the same.
+   - then DAGCBOR_CAR_END: of version 1 where no bytes are at hand and none follow; of version 2 at walk->end, after which no byte is
+     looked at.
+   - or the fault: DAGCBOR_TRUNCATED, DAGCBOR_INVALID_LENGTH, DAGCBOR_INVALID_CID; and before the header DAGCBOR_INVALID_OFFSET,
+     DAGCBOR_OTHER_HEADER, and the refusals of the header's block.
+   After a header and a section walk->place moves to its end. `places` are counted from `bytes`, and stay after every other answer.
+   walk->place is the offset of a fault: of one in the header of a file of version 2 it moves to where the part of version 1 begins.
+   At the end and after a fault the answer is the same again. While walk->version is 0 the file begins at walk->place, which
+   need not be 0; no value of the walk is refused. */
+int32_t dagcbor_car_next(dagcbor_car_walk *walk, const uint8_t *bytes, size_t length, uint32_t how, size_t places[3]);
 
 /* The greatest length of a CID in its binary form, and of the text that is written. */
 enum { DAGCBOR_CID_MOST = 86, DAGCBOR_CID_TEXT_MOST = 139 };

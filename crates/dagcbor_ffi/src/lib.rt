@@ -1,5 +1,5 @@
 //! DAG-CBOR for callers in other languages: the judge of blocks, what a path leads to, the links of an
-//! item, a block's name, the header and the sections of a file of blocks, and the text of CIDs, by the C ABI.
+//! item, a block's name, the header and the sections of a CAR file, and the text of CIDs, by the C ABI.
 //!
 //! A slice crosses as a pointer and a length. `include/dagcbor.h` has what C declares, and
 //! `docs/OTHER_LANGUAGES.md` what a caller owes.
@@ -15,14 +15,16 @@ ghost use Rattle.dagcbor_calls.specs.CompactTapes.{compact_tape_answer};
 ghost use Rattle.dagcbor_calls.specs.Headers.{IsHeaderAnswer};
 ghost use Rattle.dagcbor_calls.specs.Sections.{IsSectionAnswer, IsVerifyAnswer};
 ghost use Rattle.dagcbor_calls.specs.Spans.{IsSpanAnswer};
+ghost use Rattle.dagcbor_calls.specs.Walks.{IsNextAnswer};
 ghost use Rattle.dagcbor_calls.specs.Finds.{IsFindAnswer, IsPartAnswer, IsFollowAnswer};
 ghost use Rattle.dagcbor_calls.specs.CidTexts.{IsCidTextAnswer, IsCidFromTextAnswer};
 ghost use Rattle.dagcbor_calls.specs.Nodes.{IsFromNodeAnswer, IsNodeLinksAnswer, IsToNodeAnswer};
 
 use dagcbor_calls::{
-    CompactToken, Token, check, judge_named, judge_section, name_of, put_cid_of_text, put_cid_text,
-    put_compact_tape, put_followed, put_found, put_from_node, put_front_tape, put_header,
-    put_links, put_node_links, put_part, put_span, put_tape, put_to_node, spell_tape,
+    CarWalk, CompactToken, Token, check, judge_named, judge_section, name_of, next_of_car,
+    put_cid_of_text, put_cid_text, put_compact_tape, put_followed, put_found, put_from_node,
+    put_front_tape, put_header, put_links, put_node_links, put_part, put_span, put_tape,
+    put_to_node, spell_tape,
 };
 
 /// The number of the kind of a block, from 0; below 0 that of the refusal.
@@ -160,7 +162,7 @@ pub extern "C" fn dagcbor_verify(cid: &[u8], block: &[u8]) -> i32
     judge_named(cid, block)
 }
 
-/// What is said of the block of the section that begins the bytes of a file of blocks: from 0 the
+/// What is said of the block of the section that begins the bytes of a CAR file: from 0 the
 /// number of its kind, or 9 where its CID is of another codec; below 0 that of the refusal, or -22
 /// where the CID is not the block's, or -23 where it is by a hash function that is not known here.
 /// `places` become those of the section: where its CID begins, where its block does, and where it
@@ -173,7 +175,7 @@ pub extern "C" fn dagcbor_car_section(bytes: &[u8], places: &mut [usize; 3]) -> 
     judge_section(bytes, places)
 }
 
-/// Where the file of version 1 stands in a file of blocks, of which the bytes are the front: 51 of them
+/// Where the file of version 1 stands in a CAR file, of which the bytes are the front: 51 of them
 /// are enough. 0, and `places` become where it begins and where it ends: of version 2 what its header
 /// says, and of version 1 0 and 2^64 - 1. Below 0 the number of the cause, and then they stay: -24
 /// where more bytes are wanted, -35 where the offsets are none.
@@ -184,7 +186,7 @@ pub extern "C" fn dagcbor_car_span(bytes: &[u8], places: &mut [u64; 2]) -> i32
     put_span(bytes, places)
 }
 
-/// The header that begins the bytes of a file of blocks, of version 1. 0 where one does: `behind`
+/// The header that begins the bytes of a CAR file, of version 1. 0 where one does: `behind`
 /// becomes where the first section begins, and `needed` the length of its roots, packed as
 /// `dagcbor_links` packs links; where `out` has room for them all they are put at its front, and else it
 /// stays. Below 0 the number of the cause: -24 and -25 as of a section, that of the refusal where no
@@ -200,6 +202,26 @@ pub extern "C" fn dagcbor_car_header(
     ensures { IsHeaderAnswer bytes.now out.old out.new needed.new behind.old behind.new result }
 {
     put_header(bytes, out, needed, behind)
+}
+
+/// What comes next in a CAR file, of version 1 or 2, of which the bytes are those from `walk.place`
+/// on, as that is when the call begins. `how` is the sum of 1, where no bytes follow them, and of 2, where
+/// blocks are not to be judged. The answer is 10 where more bytes are needed; 11 for the header, first; for
+/// a section what `dagcbor_car_section` answers, and 13 where it is not judged; 12 at the end of the
+/// sections; or, below 0, the cause for which none of these comes, as the calls above tell it. `places`
+/// become those of the header, where it begins, where its block does and where it ends, and those of a
+/// section, counted from these bytes; and `walk.place` moves to its end. Else the places stay. Once the
+/// offsets of version 2 are known `walk.place` moves to where the file of version 1 begins.
+#[unsafe(no_mangle)]
+pub extern "C" fn dagcbor_car_next(
+    walk: &mut CarWalk,
+    bytes: &[u8],
+    how: u32,
+    places: &mut [usize; 3],
+) -> i32
+    ensures { IsNextAnswer how walk.old bytes.now places.old walk.new places.new result }
+{
+    next_of_car(walk, bytes, how, places)
 }
 
 /// Puts the text of the CID that the bytes are at the front of `out`, where there is room for it:

@@ -48,7 +48,7 @@ enum dagcbor_repository_answer {
     DAGCBOR_NO_REPOSITORY = 1 /* `out` has a line that tells why there is none */
 };
 
-/* Of a file of blocks (CAR, version 1 or 2) with one root, whose commit and tree are whole, and each block of them the one
+/* Of a CAR file (version 1 or 2) with one root, whose commit and tree are whole, and each block of them the one
    of its name: a block of DAG-CBOR, the map of
      "did", "rev"  texts
      "sig"         bytes: the signature
@@ -60,7 +60,7 @@ enum dagcbor_repository_answer {
    what `dagcar records` tells (docs/REPOSITORIES.md). */
 int32_t dagcbor_repository(const uint8_t *file, size_t length, uint8_t *out, size_t room, size_t *needed);
 
-/* Of a file of blocks (CAR, version 1 or 2) whose first root names a commit, the block of its name: a block of DAG-CBOR, the
+/* Of a CAR file (version 1 or 2) whose first root names a commit, the block of its name: a block of DAG-CBOR, the
    map of
      "cid"         a link: the commit's name
      "did", "rev", "sig", "data", "prev", "signed"  as dagcbor_repository has them
@@ -68,7 +68,7 @@ int32_t dagcbor_repository(const uint8_t *file, size_t length, uint8_t *out, siz
    one line, what `dagcar commit` tells. The number is DAGCBOR_REPOSITORY, or DAGCBOR_NO_REPOSITORY. */
 int32_t dagcbor_commit(const uint8_t *file, size_t length, uint8_t *out, size_t room, size_t *needed);
 
-/* Of a file of blocks whose first root names a commit, a file (CAR, version 1) that proves which record the key has, or that it
+/* Of a CAR file whose first root names a commit, a file (CAR, version 1) that proves which record the key has, or that it
    has none: its root is the commit, and its blocks are the commit, the nodes on the way to the key, and the record, if there
    is one, each once. These blocks need be in the file, each the one of its name, and no others. `key` is the key itself, of
    any bytes. Else one line, what `dagcar record-proof` tells. The number is DAGCBOR_REPOSITORY, or DAGCBOR_NO_REPOSITORY. */

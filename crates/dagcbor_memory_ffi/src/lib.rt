@@ -49,7 +49,7 @@ pub extern "C" fn dagcbor_from_json(
     put_block(alloc, text, out, needed, place)
 }
 
-/// Of a file of blocks with one root, a block that tells of the repository whose commit the root names,
+/// Of a CAR file with one root, a block that tells of the repository whose commit the root names,
 /// where its commit and its tree are whole: 0 is answered; else a line that tells why there is none, and
 /// 1. `needed` becomes its length; where `out` has room for it it is put at its front, and else `out`
 /// stays, and -21 is answered. -42 is answered where memory is wanted; then `needed` becomes 0, and `out`
@@ -66,7 +66,7 @@ pub extern "C" fn dagcbor_repository(
     put_repo(alloc, file, out, needed)
 }
 
-/// Of a file of blocks a block that tells of the commit which its first root names: 0 is answered; else a
+/// Of a CAR file a block that tells of the commit which its first root names: 0 is answered; else a
 /// line that tells why there is none, and 1. Of the blocks the commit's alone need be there. `needed`,
 /// `out` and the other numbers are as of `dagcbor_repository`. `memory_calls::commit_answer` says what the
 /// block holds.
@@ -82,7 +82,7 @@ pub extern "C" fn dagcbor_commit(
     put_commit(alloc, file, out, needed)
 }
 
-/// Of a file of blocks the file that proves which record the key has, or that it has none, in the tree of
+/// Of a CAR file the file that proves which record the key has, or that it has none, in the tree of
 /// the commit which the first root names: 0 is answered; else a line that tells why there is none, and 1.
 /// The commit, the nodes on the way to the key and the record need be there, and no others. `needed`,
 /// `out` and the other numbers are as of `dagcbor_repository`.

@@ -20,13 +20,13 @@ use Rattle.dagcbor_resolve.proofs.Reading.{read_as_one}
 
 -- ---- the bytes under a name
 
-one_named : (name : CidParts) (x y : List ℕ) → IsVerified (name, x) → IsVerified (name, y) → (x ≡ y) ⊎ Collides
+pub one_named : (name : CidParts) (x y : List ℕ) → IsVerified (name, x) → IsVerified (name, y) → (x ≡ y) ⊎ Collides
 one_named name x y h k = elim h [
   | inl a ↦ elim k [ inl b ↦ of_one_hash x y (sym a.1 ∙ b.1) | inr b ↦ absurd (omega (arith, a.0.0, b.0)) ]
   | inr a ↦ elim k [ inl b ↦ absurd (omega (arith, a.0, b.0.0)) | inr b ↦ inl (sym a.1 ∙ b.1) ]
 ]
 
-same_block : (s o : Stored) (name : CidParts) (x y : List ℕ) → IsReadUnder s name x → IsReadUnder o name y → (x ≡ y) ⊎ Collides
+pub same_block : (s o : Stored) (name : CidParts) (x y : List ℕ) → IsReadUnder s name x → IsReadUnder o name y → (x ≡ y) ⊎ Collides
 same_block s o name x y h k = elim (one_named name h.0 k.0 h.2 k.2) [
   | inl is ↦ inl (read_as_one name k.0 x y (subst (λ z. IsReadAs name z x) is h.3) k.3)
   | inr c ↦ inr c

@@ -1,10 +1,10 @@
 -- Which events make a tree: of leaves, of lists, of maps and of links.
-use Rattle.std.proofs.Common.{◌≡◌, ℕ, ℤ, List, [], ◌∷◌, ◌++◌, map, Option, Some, None, Bool, IsTrue, refl, sym, ap, ◌∙◌, subst, append_assoc, append-nil, codes, rules, pos, string_bytes, string_cmp, String, Global, Vec, BTreeMap, option_map, option_and_then, IsSomeAnd, Result, OnOk}
+use Rattle.std.proofs.Common.{◌≡◌, ℕ, ℤ, List, [], ◌∷◌, ◌++◌, map, Option, Some, None, Bool, IsTrue, refl, sym, ap, ◌∙◌, subst, append_assoc, append-nil, codes, rules, pos, string_bytes, string_cmp, String, Global, Vec, BTreeMap, option_map, option_and_then, suc, IsSomeAnd, Result, OnOk}
 use Rattle.std.specs.List.Sorted.{IsStrictlySortedBy}
 use Rattle.std.specs.Map.{keys_of}
 use Rattle.std.proofs.lemmas.Result.{on_ok_weaker}
 use Rattle.serde.specs.Event as event
-use Rattle.serde.specs.Event.{Event, Log, Logs, seq_begins, seq_ends, map_begins, map_ends, field_key, key_begins, key_ends, octets, WritesEach, WritesSeq, WritesEntry, WritesMap}
+use Rattle.serde.specs.Event.{Event, Log, Logs, seq_begins, seq_ends, map_begins, map_ends, field_key, key_begins, key_ends, flattens, octets, Sends, Then, WritesEach, WritesSeq, WritesEntry, WritesMap}
 use Rattle.serde.specs.declared.name.Case.TheVariants.{Kebab}
 use Rattle.ipld_tree.specs.Tree.{Tree, null, boolean, integer, text, bytes, list, mapping, link, items_of, ordered_entries, entries_tree}
 use Rattle.ipld_tree.specs.Cid.{CidParts, cid_bytes}
@@ -16,7 +16,7 @@ use Rattle.ipld_tree.specs.Spelling.{IsSpelling}
 use Rattle.dagcbor_write.specs.Trees.{Pair}
 use Rattle.dagcbor_serde.specs.Building.{Level, in_list, in_map, in_link, rests, for_value, for_map, State, state, start, put, put_unit, put_bytes, on_top, begin_map, close, step, steps, finished, events_tree}
 use Rattle.dagcbor_serde.specs.Links.{WritesLink, link_events}
-use Rattle.dagcbor_serde.specs.Making.{takes_items, MakesTree, GrowsBy, WritesEvents, TreesAreWritten, LeavesAreWritten, ListsAreWritten}
+use Rattle.dagcbor_serde.specs.Making.{takes_items, MakesTree, GrowsBy, WritesEvents, fields_of, WritesEntries, TreesAreWritten, EntriesAreAdded, LeavesAreWritten, ListsAreWritten}
 
 -- ---- logs
 
@@ -136,39 +136,65 @@ sends_list tree xs a b h =
 -- ---- maps
 
 abbrev MakesEntries : List Event → List Pair → Type 0
-MakesEntries es qs = (ps : List Pair) (ls : List Level) → steps es (state (in_map ps rests 0) ls) ≡ Some (state (in_map (ps ++ qs) rests 0) ls)
+MakesEntries es qs = (ps : List Pair) (n : ℕ) (ls : List Level) → steps es (state (in_map ps rests n) ls) ≡ Some (state (in_map (ps ++ qs) rests n) ls)
 
-entries_made : {K V : Type 0} (key : K → List ℕ) (tree : V → Tree) (xs : List (K × V)) (a b : Log) → WritesEach (WritesEntry (λ k old new. Logs old new (event.text (key k))) (λ v. WritesEvents (tree v))) xs a b → (es : List Event) × GrowsBy es a b × MakesEntries es (map (λ e. (Some (text (key e.0)), Some (tree e.1))) xs)
-entries_made key tree [] a b h = ([], grows_none a b h, λ ps ls. ap (λ qs. Some (state (in_map qs rests 0) ls)) (sym (append-nil ps)))
-entries_made key tree (x ∷ xs) a b h =
+-- the entries of a map of data
+abbrev entries_in : List (String Global × Ipld) → List Pair
+entries_in xs = map (λ e. (Some (text (string_bytes e.0)), Some (tree_of e.1))) xs
+
+entries_made : (xs : List (String Global × Ipld)) (a b : Log) → WritesEach (WritesEntry (λ k old new. Logs old new (event.text (string_bytes k))) (λ v. WritesEvents (tree_of v))) xs a b → (es : List Event) × GrowsBy es a b × MakesEntries es (entries_in xs)
+entries_made [] a b h = ([], grows_none a b h, λ ps n ls. ap (λ qs. Some (state (in_map qs rests n) ls)) (sym (append-nil ps)))
+entries_made (x ∷ xs) a b h =
     let one = h.1 in
     let value = one.6 in
-    let more = entries_made key tree xs h.0 b h.2 in
-    let front : List Event = key_begins ∷ event.text (key x.0) ∷ key_ends ∷ [] in
-    let began = grows_then (key_begins ∷ []) (event.text (key x.0) ∷ key_ends ∷ []) a one.0 one.2 (grows_one _ _ _ one.3) (grows_then (event.text (key x.0) ∷ []) (key_ends ∷ []) one.0 one.1 one.2 (grows_one _ _ _ one.4) (grows_one _ _ _ one.5)) in
+    let more = entries_made xs h.0 b h.2 in
+    let front : List Event = key_begins ∷ event.text (string_bytes x.0) ∷ key_ends ∷ [] in
+    let began = grows_then (key_begins ∷ []) (event.text (string_bytes x.0) ∷ key_ends ∷ []) a one.0 one.2 (grows_one _ _ _ one.3) (grows_then (event.text (string_bytes x.0) ∷ []) (key_ends ∷ []) one.0 one.1 one.2 (grows_one _ _ _ one.4) (grows_one _ _ _ one.5)) in
     let this = grows_then front value.0 a one.2 h.0 began value.1 in (
       (front ++ value.0) ++ more.0,
       grows_then (front ++ value.0) more.0 a h.0 b this more.1,
-      λ ps ls.
-          steps_then (front ++ value.0) more.0 (state (in_map ps rests 0) ls)
-          ∙ ap (option_and_then (steps more.0)) (value.2 (state (in_map ps (for_value (key x.0)) 0) ls) refl)
-          ∙ more.2 (ps ++ (Some (text (key x.0)), Some (tree x.1)) ∷ []) ls
-          ∙ ap (λ qs. Some (state (in_map qs rests 0) ls)) (append_assoc ps ((Some (text (key x.0)), Some (tree x.1)) ∷ []) (map (λ e. (Some (text (key e.0)), Some (tree e.1))) xs)),
+      λ ps n ls.
+          steps_then (front ++ value.0) more.0 (state (in_map ps rests n) ls)
+          ∙ ap (option_and_then (steps more.0)) (value.2 (state (in_map ps (for_value (string_bytes x.0)) n) ls) refl)
+          ∙ more.2 (ps ++ (Some (text (string_bytes x.0)), Some (tree_of x.1)) ∷ []) n ls
+          ∙ ap (λ qs. Some (state (in_map qs rests n) ls)) (append_assoc ps ((Some (text (string_bytes x.0)), Some (tree_of x.1)) ∷ []) (entries_in xs)),
     )
 
--- the entries in turn make their map, where no key repeats
-pub sends_map : {K V : Type 0} (key : K → List ℕ) (tree : V → Tree) (xs : List (K × V)) (t : Tree) (a b : Log) → entries_tree (map (λ e. (Some (text (key e.0)), Some (tree e.1))) xs) ≡ Some t → WritesMap (λ k old new. Logs old new (event.text (key k))) (λ v. WritesEvents (tree v)) xs a b → WritesEvents t a b
-sends_map key tree xs t a b is h =
-    let each = entries_made key tree xs h.0 h.1 h.3 in (
+fields_same : (xs : List (String Global × Ipld)) → entries_in xs ≡ fields_of (pairs_of xs)
+fields_same [] = refl
+fields_same (x ∷ xs) = ap (λ more. (Some (text (string_bytes x.0)), Some (tree_of x.1)) ∷ more) (fields_same xs)
+
+-- the tree of a map
+map_made : (m : BTreeMap (String Global) Ipld) → IsStrictlySortedBy string_cmp (keys_of m.entries) → entries_tree (entries_in m.entries) ≡ Some (mapping (ordered_entries (pairs_of m.entries)))
+map_made m sorted = map_kind (Map' m) m refl sorted ∙ ap Some (tree_of_Map m)
+
+-- the entries in turn make their map, and are added where it is flattened
+pub sends_map : (m : BTreeMap (String Global) Ipld) (a b : Log) → IsStrictlySortedBy string_cmp (keys_of m.entries) → WritesMap (λ k old new. Logs old new (event.text (string_bytes k))) (λ v. WritesEvents (tree_of v)) m.entries a b → WritesEntries (pairs_of m.entries) a b
+sends_map m a b sorted h =
+    let each = entries_made m.entries h.0 h.1 h.3 in (
       map_begins (Some _) ∷ (each.0 ++ map_ends ∷ []),
       grows_then (map_begins (Some _) ∷ []) (each.0 ++ map_ends ∷ []) a h.0 b (grows_one _ a h.0 h.2) (grows_then each.0 (map_ends ∷ []) h.0 h.1 b each.1 (grows_one map_ends h.1 b h.4)),
-      λ s k.
+      (λ s k.
           in_map_begun (each.0 ++ map_ends ∷ []) s k
           ∙ steps_then each.0 (map_ends ∷ []) (state (in_map [] rests 0) (s.top ∷ s.around))
-          ∙ ap (option_and_then (steps (map_ends ∷ []))) (each.2 [] (s.top ∷ s.around))
-          ∙ some_same (close (entries_tree (map (λ e. (Some (text (key e.0)), Some (tree e.1))) xs)) (s.top ∷ s.around))
-          ∙ ap (λ o. close o (s.top ∷ s.around)) is,
+          ∙ ap (option_and_then (steps (map_ends ∷ []))) (each.2 [] 0 (s.top ∷ s.around))
+          ∙ some_same (close (entries_tree (entries_in m.entries)) (s.top ∷ s.around))
+          ∙ ap (λ o. close o (s.top ∷ s.around)) (map_made m sorted)),
+      λ qs n ls.
+          steps_then each.0 (map_ends ∷ []) (state (in_map qs rests (suc n)) ls)
+          ∙ ap (option_and_then (steps (map_ends ∷ []))) (each.2 qs (suc n) ls)
+          ∙ ap (λ ps. Some (state (in_map (qs ++ ps) rests n) ls)) (fields_same m.entries),
     )
+
+pub added_entries : EntriesAreAdded
+added_entries ps before after qs n ls h k =
+    let es = h.2.0 in
+    let grown : Some after ≡ Some (before ++ flattens ∷ es) = grows_then (flattens ∷ []) es (Some before) h.0 (Some after) (grows_one flattens (Some before) h.0 h.1) h.2.1 in
+    let same : after ≡ before ++ flattens ∷ es = ap (λ o. elim o [ None ↦ after | Some x ↦ x ]) grown in
+    ap (λ fs. steps fs start) same
+    ∙ steps_then before (flattens ∷ es) start
+    ∙ ap (option_and_then (steps (flattens ∷ es))) k
+    ∙ h.2.3 qs n ls
 
 -- ---- whole values
 
@@ -206,9 +232,8 @@ link_kind j c is = sym (search (rules, the_lemmas)) ∙ ap tree_of (sym is)
 pub of_kind : {T E : Type 0} (r : Result T E) (sent : Type 0) (t u : Tree) (a b : Log) → t ≡ u → (sent → WritesEvents t a b) → OnOk r sent → OnOk r (WritesEvents u a b)
 of_kind r sent t u a b is f h = on_ok_weaker r (λ s. subst (λ x. WritesEvents x a b) is (f s)) h
 
--- the tree of a map
-pub map_made : (m : BTreeMap (String Global) Ipld) → IsStrictlySortedBy string_cmp (keys_of m.entries) → entries_tree (map (λ e. (Some (text (string_bytes e.0)), Some (tree_of e.1))) m.entries) ≡ Some (mapping (ordered_entries (pairs_of m.entries)))
-map_made m sorted = map_kind (Map' m) m refl sorted ∙ ap Some (tree_of_Map m)
+pub map_is : (j : Ipld) (m : BTreeMap (String Global) Ipld) → j ≡ Map' m → mapping (ordered_entries (pairs_of m.entries)) ≡ tree_of j
+map_is j m is = sym (tree_of_Map m) ∙ ap tree_of (sym is)
 
 -- ---- what std's types send
 

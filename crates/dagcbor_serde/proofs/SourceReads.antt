@@ -1,5 +1,5 @@
 -- Sources that are read as one block, or whose first block is.
-use Rattle.std.proofs.Common.{◌≡◌, ℕ, ◌+◌, ◌≤◌, List, [], Bool, true, false, refl, arith, Option, Some, None, IfSome, IfErr, MatchBool, Result, Ok, Err, Vec, Global}
+use Rattle.std.proofs.Common.{◌≡◌, ℕ, ◌+◌, List, Bool, true, false, Option, Some, None, IfSome, IfErr, MatchBool, Result, Ok, Err, Vec, Global}
 use Rattle.dagcbor_heads.specs.Reading.{Reading}
 use Rattle.dagcbor_heads.specs.Fronts.{ShowsByte}
 use Rattle.dagcbor_heads.specs.Refusals.{RefusesOrLacksMemory}

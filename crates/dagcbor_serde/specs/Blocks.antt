@@ -1,10 +1,9 @@
 -- What whole values are written as, and why bytes are refused.
-use Rattle.std.specs.Prelude.{◌≢◌, ◌≤◌, List, length, ℕ, IsSomeAnd}
+use Rattle.std.specs.Prelude.{◌≤◌, List, length, ℕ, IsSomeAnd}
 use Rattle.std.specs.declared.convert.Infallible.{Infallible}
 use Rattle.serde.specs.Event.{Log}
 use Rattle.ipld_tree.specs.Tree.{Tree}
 use Rattle.ipld_tree.specs.Spelling.{IsSpelling}
-use Rattle.dagcbor_heads.specs.declared.error.DecodeError.TheVariants.{OutOfMemory}
 use Rattle.dagcbor_decode.specs.Verdicts.{IsRefusedFor}
 use Rattle.dagcbor_decode.specs.Blocks.{IsBlock}
 use Rattle.dagcbor_serde.specs.Building.{events_tree}

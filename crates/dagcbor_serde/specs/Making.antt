@@ -1,10 +1,11 @@
 -- Events that make a tree, wherever it is put.
 use Rattle.std.specs.Prelude.{◌≡◌, ℕ, ℤ, pos, map, List, [], ◌++◌, Bool, true, false, IsTrue, Some, None, ⊤}
-use Rattle.serde.specs.Event.{Event, Log, Logs, WritesSeq, nothing, boolean, unsigned, signed, text, octets}
+use Rattle.serde.specs.Event.{Event, Log, Logs, Sends, Then, WritesSeq, flattens, nothing, boolean, unsigned, signed, text, octets}
 use Rattle.ipld_tree.specs.Tree as tree
-use Rattle.ipld_tree.specs.Tree.{Tree, null, list, items_of}
+use Rattle.ipld_tree.specs.Tree.{Tree, null, list, mapping, items_of, ordered_entries}
 use Rattle.ipld_tree.specs.Spelling.{IsSpelling}
-use Rattle.dagcbor_serde.specs.Building.{Level, in_map, in_link, for_map, State, put, on_top, steps}
+use Rattle.dagcbor_write.specs.Trees.{Pair, field}
+use Rattle.dagcbor_serde.specs.Building.{Level, in_map, in_link, rests, for_map, State, state, start, put, on_top, steps}
 use Rattle.dagcbor_serde.specs.Blocks.{IsBlockOfLog}
 use Rattle.dagcbor_serde.specs.Links.{WritesLink}
 
@@ -27,10 +28,32 @@ GrowsBy es (Some before) new = new ≡ Some (before ++ es)
 abbrev pub WritesEvents : Tree → Log → Log → Type 0
 WritesEvents t old new = (es : List Event) × GrowsBy es old new × MakesTree es t
 
+-- the entries as a map that is open has them
+abbrev pub fields_of : List (List ℕ × Tree) → List Pair
+fields_of ps = map (λ p. field p.0 (Some p.1)) ps
+
+-- where the next map is flattened, the entries come after those that are there
+abbrev pub AddsEntries : List Event → List (List ℕ × Tree) → Type 0
+AddsEntries es ps = (qs : List Pair) (n : ℕ) (around : List Level)
+    → steps es (state (in_map qs for_map n) around)
+    ≡ Some (state (in_map (qs ++ fields_of ps) rests n) around)
+
+-- events are sent that make the map of the entries, or add them where they are flattened
+abbrev pub WritesEntries : List (List ℕ × Tree) → Log → Log → Type 0
+WritesEntries ps old new = (es : List Event) × GrowsBy es old new
+    × MakesTree es (mapping (ordered_entries ps)) × AddsEntries es ps
+
 -- What is sent as a tree has the spelling of that tree.
 abbrev pub TreesAreWritten : Type 0
 TreesAreWritten = (t : Tree) (log : Log) (b : List ℕ) → WritesEvents t (Some []) log → IsBlockOfLog log b
     → IsSpelling b t
+
+-- What is flattened into a map adds its entries to those of the map.
+abbrev pub EntriesAreAdded : Type 0
+EntriesAreAdded = (ps : List (List ℕ × Tree)) (before after : List Event) (qs : List Pair) (n : ℕ)
+    (around : List Level) → Then (Sends flattens) (WritesEntries ps) (Some before) (Some after)
+    → steps before start ≡ Some (state (in_map qs rests n) around)
+    → steps after start ≡ Some (state (in_map (qs ++ fields_of ps) rests n) around)
 
 -- What sends these events alone sends a leaf.
 abbrev pub LeavesAreWritten : Type 0

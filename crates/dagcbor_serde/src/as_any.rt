@@ -1,11 +1,12 @@
 //! An `Ipld` as a field: `#[serde(with = "dagcbor_serde::as_any")]`.
 
-ghost use Rattle.std.specs.Prelude.{OnOk};
-ghost use Rattle.ipld_tree.specs.Tree.{list, mapping, ordered_entries, items_of};
+ghost use Rattle.std.specs.Prelude.{◌≡◌, ◌-◌, ◌^◌, OnOk, Some, option_and_then};
+ghost use Rattle.ipld_tree.specs.Tree.{list, items_of};
 ghost use Rattle.ipld_tree.specs.Ipld.{tree_of, trees_of, pairs_of};
-ghost use Rattle.dagcbor_serde.specs.Making.{WritesEvents};
+ghost use Rattle.dagcbor_serde.specs.Making.{WritesEvents, WritesEntries};
 
 use crate::as_link;
+use crate::taken::{ALL, Taken};
 use ipld_tree::{Cid, Ipld};
 use serde::{Deserializer, Format, Kind, Serializer};
 use std::alloc::Global;
@@ -43,12 +44,13 @@ fn send_items<S: Serializer>(items: &Vec<Ipld>, out: &mut S) -> Result<(), S::Er
     out.end_seq()
 }
 
+/// Writes the entries: as a map, or among those of a map into which the next is flattened.
 #[cycle(send)]
-fn send_entries<S: Serializer>(
+pub(crate) fn send_entries<S: Serializer>(
     entries: &BTreeMap<String, Ipld>,
     out: &mut S,
 ) -> Result<(), S::Error>
-    ensures { OnOk result (WritesEvents (mapping (ordered_entries (pairs_of entries.now.entries)))
+    ensures { OnOk result (WritesEntries (pairs_of entries.now.entries)
         (S.written out.old) (S.written out.new)) }
 {
     out.begin_map(Some(entries.len()))?;
@@ -102,7 +104,22 @@ fn fetch_map_or_link<F: Format>(
     if depth == 0 {
         return Err(from.invalid());
     }
-    Ok(Ipld::Map(fetch_entries(alloc, from, depth - 1)?))
+    Ok(Ipld::Map(fetch_entries(alloc, from, depth - 1, Taken::new(0))?))
+}
+
+/// Reads the entries of the map that fields did not take before. After them all are taken.
+pub(crate) fn fetch_rest<F: Format>(
+    alloc: Global,
+    from: &mut Deserializer<'_, '_, F>,
+) -> Result<BTreeMap<String, Ipld>, F::Error>
+    ensures { OnOk result
+        (from.new.taken ≡ option_and_then (λ _. Some (2 ^ 64 - 1)) from.old.taken) }
+{
+    let taken = from.swap_taken(None);
+    let before = Taken::new(taken.unwrap_or(0));
+    let entries = fetch_entries(alloc, from, MAX_DEPTH - 1, before)?;
+    from.swap_taken(taken.and(Some(ALL)));
+    Ok(entries)
 }
 
 /// The link, where one comes: else the place stays.
@@ -152,6 +169,7 @@ fn fetch_entries<F: Format>(
     alloc: Global,
     from: &mut Deserializer<'_, '_, F>,
     depth: usize,
+    mut taken: Taken,
 ) -> Result<BTreeMap<String, Ipld>, F::Error> {
     from.begin_map()?;
     let mut entries = BTreeMap::new(alloc);
@@ -160,11 +178,29 @@ fn fetch_entries<F: Format>(
         if !from.next_entry()? {
             break;
         }
-        let key = from.string(alloc)?;
-        let value = fetch(alloc, from, depth)?;
-        if entries.insert(key, value).is_err() {
-            return Err(from.no_memory());
+        match taken.next() {
+            Some(false) => {
+                let key = from.string(alloc)?;
+                let value = fetch(alloc, from, depth)?;
+                if entries.insert(key, value).is_err() {
+                    return Err(from.no_memory());
+                }
+            }
+            Some(true) => pass_entry(from)?,
+            None => return Err(too_late(from)),
         }
     }
     Ok(entries)
+}
+
+fn pass_entry<F: Format>(from: &mut Deserializer<'_, '_, F>) -> Result<(), F::Error> {
+    from.skip()?;
+    from.skip()
+}
+
+/// Why no entry is read where a field may have taken it. No other variant of an untagged enum is
+/// tried after that.
+fn too_late<F: Format>(from: &mut Deserializer<'_, '_, F>) -> F::Error {
+    from.swap_taken(Some(ALL));
+    from.custom("a field after the 63rd entry")
 }

@@ -1,7 +1,7 @@
 //! Laws of the events of links. Each function does nothing: its contract is the law.
 
 ghost use Rattle.dagcbor_serde.specs.Links.{LinksAreLinks, FieldsAreNoLinks};
-ghost use Rattle.dagcbor_serde.specs.Making.{TreesAreWritten, LeavesAreWritten, ListsAreWritten};
+ghost use Rattle.dagcbor_serde.specs.Making.{TreesAreWritten, LeavesAreWritten, ListsAreWritten, EntriesAreAdded};
 
 use serde::Described;
 
@@ -30,4 +30,11 @@ pub fn leaves_are_written()
 /// A list whose items are sent as trees is sent as the list of these.
 pub fn lists_are_written<T: Described>()
     ensures { ListsAreWritten T.writes }
+{}
+
+/// The entries of a `Rest` that is flattened come after those of the map around it. Where a key is
+/// there twice, that map has no tree.
+#[tactic(auto, using(crate::proofs::Making::added_entries))]
+pub fn entries_are_added()
+    ensures { EntriesAreAdded }
 {}

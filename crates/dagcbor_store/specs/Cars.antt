@@ -1,4 +1,4 @@
--- What is read into a store from a file of blocks.
+-- What is read into a store from a CAR file.
 use Rattle.std.specs.Prelude.{◌≡◌, ◌≢◌, ◌↔◌, ◌⊎◌, ℕ, ◌-◌, ◌^◌, List, [], length, Option, None, Some, IsTrue, Result, Err, MatchResult, Vec}
 use Rattle.std.specs.List.{AllByRecursion}
 use Rattle.std.specs.declared.alloc.Global.{Global}

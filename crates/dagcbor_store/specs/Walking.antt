@@ -67,7 +67,7 @@ abbrev pub IsNamedNext : Option (CidParts × Vec ℕ Global) → Type 0
 IsNamedNext None = ⊤
 IsNamedNext (Some p) = IsNamedBy p.0 p.1.items
 
--- ---- a file of blocks
+-- ---- a CAR file
 
 -- The file of these roots and of sections that are so is appended, and nothing has changed.
 pub record WritesFile {S : Type 0} (g : Ghosts S) (roots : List (List ℕ))

@@ -1,4 +1,4 @@
-//! Why a file of blocks was not read into a store.
+//! Why a CAR file was not read into a store.
 
 ghost use Rattle.std.specs.Prelude.{◌≡◌};
 ghost use Rattle.dagcbor_store.specs.Cars.{TellsOfFile, TellsOfRun, of_block, of_refusal};
@@ -10,7 +10,7 @@ use dagcbor_heads::EncodeError;
 use ipld_tree::Cid;
 use thiserror::Error;
 
-/// Why a file of blocks was not read into a store. `E` is the reader's error.
+/// Why a CAR file was not read into a store. `E` is the reader's error.
 #[derive(Debug, Drop, Error)]
 pub enum ReadCarError<E> {
     /// No file begins there, or its header was not read. Never want of memory.
@@ -18,11 +18,11 @@ pub enum ReadCarError<E> {
     Header(CarError<E>),
     /// Behind so many sections none stands, though bytes do or are wanting; or the next was not read.
     /// Never want of memory.
-    #[error("behind {0} sections: {1}")]
+    #[error("after {0} sections: {1}")]
     Section(u64, CarError<E>),
     /// Behind so many sections the block of the one of this name is not kept under it, or too long
     /// for a row.
-    #[error("behind {0} sections: {2}")]
+    #[error("after {0} sections: {2}")]
     Block(u64, Cid, StoreRefusal),
     /// The store failed, or no number is left for a row; or the file has roots, and the store is of
     /// the earlier version, or one of them too long for a row. Never want of memory.
@@ -33,7 +33,7 @@ pub enum ReadCarError<E> {
     OutOfMemory,
 }
 
-/// Why a store was not written as a file of blocks. `E` is the writer's error.
+/// Why a store was not written as a CAR file. `E` is the writer's error.
 #[derive(Debug, Drop, Error)]
 pub enum WriteCarError<E> {
     /// The writer faulted, or memory was wanting for it or for the header.

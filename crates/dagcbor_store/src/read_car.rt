@@ -1,4 +1,4 @@
-//! Reading a file of blocks into a store.
+//! Reading a CAR file into a store.
 
 ghost use Rattle.std.specs.Prelude.{◌≡◌, ◌⊎◌, List, length, IfOk, IfErr, OnErr};
 ghost use Rattle.dagcbor_heads.specs.Inputs.{input_reading};

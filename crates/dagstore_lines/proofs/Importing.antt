@@ -11,7 +11,7 @@ use Rattle.dagcbor_car.specs.declared.error.CarError.TheVariants as file
 use Rattle.block_lines.specs.Names.{fault_name}
 use Rattle.dagstore_lines.specs.Files.{file_text, file_status}
 
-pub no_file : {E : Type 0} (e : CarError E) → ((x : E) → e ≡ file.Read x → ⊥) → codes "the input is no file of blocks: " ++ fault_name e ≡ file_text e
+pub no_file : {E : Type 0} (e : CarError E) → ((x : E) → e ≡ file.Read x → ⊥) → codes "the input is not a CAR file: " ++ fault_name e ≡ file_text e
 no_file (file.Read x) not = absurd (not x refl)
 no_file file.Truncated not = refl
 no_file file.InvalidLength not = refl

@@ -77,7 +77,7 @@ AreNamesOf _ names = names ≡ []
 abbrev pub NamesCommand : List ℕ → List CidParts → Command → Type 0
 NamesCommand word names command = (word ≡ command_word command) × AreNamesOf command names
 
--- the source of a file of blocks: a path; or - or nothing, which is standard input
+-- the source of a CAR file: a path; or - or nothing, which is standard input
 abbrev pub IsSource : List (List ℕ) → Option (Bor (List ℕ)) → Type 0
 IsSource rest None = (rest ≡ []) ⊎ (rest ≡ codes "-" ∷ [])
 IsSource rest (Some source) = (rest ≡ source.now ∷ []) × (source.now ≢ codes "-")

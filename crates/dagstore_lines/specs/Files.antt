@@ -87,7 +87,7 @@ Exports g roots old before result new after = MatchResult result
 -- what is told of a file that is none, or was not read
 abbrev pub file_text : {E : Type 0} → CarError E → List ℕ
 file_text (file.Read e) = tool_text Input
-file_text e = codes "the input is no file of blocks: " ++ fault_name e
+file_text e = codes "the input is not a CAR file: " ++ fault_name e
 
 -- 1 where the bytes are the cause, else 2
 abbrev pub file_status : {E : Type 0} → CarError E → ℕ
@@ -96,7 +96,7 @@ file_status e = 1
 
 -- of how many sections stand before the place where a file stopped
 abbrev pub behind_line : ℕ → List ℕ
-behind_line count = line (codes "dagstore: behind " ++ (decimal count ++ codes " sections"))
+behind_line count = line (codes "dagstore: after " ++ (decimal count ++ codes " sections"))
 
 -- what is told of a file that is not kept
 abbrev pub unread_lines : {E : Type 0} → ReadCarError E → List ℕ

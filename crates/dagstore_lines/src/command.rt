@@ -23,7 +23,7 @@ const MOST_DIGITS: usize = 16;
 /// What is to be done with the blocks in a file that is there.
 #[derive(Debug, Drop)]
 pub enum Command {
-    /// To write all of them as a file of blocks, with these roots, or with those that are stored where
+    /// To write all of them as a CAR file, with these roots, or with those that are stored where
     /// none is given.
     Export(Vec<Cid>),
     /// To write the one under the name.
@@ -41,7 +41,7 @@ pub enum Command {
     DropRoots(Vec<Cid>),
     /// To list the roots.
     Roots,
-    /// To write those that links lead to from the one under the name, as a file of blocks.
+    /// To write those that links lead to from the one under the name, as a CAR file.
     Tree(Cid),
     /// To judge each, and its links.
     Check,
@@ -69,7 +69,7 @@ pub struct Beginning {
 /// What the words are.
 #[derive(Debug, Drop)]
 pub enum Words<'a> {
-    /// To keep, in the file at the path, the blocks of a file of blocks: of the one at the other path,
+    /// To keep, in the file at the path, the blocks of a CAR file: of the one at the other path,
     /// or of standard input.
     Import(&'a str, Option<&'a str>),
     /// To keep there the block that standard input has, under its name of this codec.

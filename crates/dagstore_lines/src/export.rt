@@ -1,4 +1,4 @@
-//! `export` and `tree`: files of blocks.
+//! `export` and `tree`: CAR files.
 
 ghost use Rattle.std.specs.Prelude.{◌≡◌, ◌↔◌, [], IsTrue, false, flat_map};
 ghost use Rattle.dagcbor_items.specs.Walks.{forms};

@@ -1,4 +1,4 @@
-//! `import`: a file of blocks is kept, all of it or none.
+//! `import`: a CAR file is kept, all of it or none.
 
 ghost use Rattle.std.specs.Prelude.{◌≡◌, ◌++◌, codes, IfOk, false, []};
 ghost use Rattle.cid_text.specs.Texts.{cid_text};
@@ -32,7 +32,7 @@ fn file_words<E>(error: &CarError<E>) -> (&'static str, &'static str)
 {
     match error {
         CarError::Read(_) => ("the input failed", ""),
-        _ => ("the input is no file of blocks: ", fault_name(error)),
+        _ => ("the input is not a CAR file: ", fault_name(error)),
     }
 }
 
@@ -75,7 +75,7 @@ fn behind_line(alloc: Global, count: u64) -> Result<Vec<u8>, AllocError>
     ensures { IfOk result (λ v. v.items ≡ behind_line count) }
 {
     let count = format!(in alloc; "{count}")?;
-    line_of(alloc, b"dagstore: behind ", count.as_bytes(), b" sections")
+    line_of(alloc, b"dagstore: after ", count.as_bytes(), b" sections")
 }
 
 /// Writes how many sections stand before the place where a file stopped.

@@ -16,7 +16,7 @@ pub const HELP: &str = "usage: dagstore FILE import [SOURCE]
        dagstore FILE serve
 
 Into the file, which these two make where there is none:
-  import   the blocks of a file of blocks (CAR, version 1 or 2), all or none; without SOURCE, or
+  import   the blocks of a CAR file (version 1 or 2), all or none; without SOURCE, or
            with -, of standard input
   put      the block on standard input, under its name, which is written
 

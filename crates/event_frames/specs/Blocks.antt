@@ -1,4 +1,4 @@
--- The file of blocks in the body of an event, as bytes that are lent.
+-- The CAR file in the body of an event, as bytes that are lent.
 use Rattle.std.specs.Prelude.{ℕ, List, codes}
 use Rattle.serde_ipld_dagcbor.specs.Tree.{Tree}
 use Rattle.serde_ipld_dagcbor.specs.Shapes.{Shape, lent_leaf, view_bytes}

@@ -76,7 +76,7 @@ error_told v = (string_bytes v.error, (option_map string_bytes v.message, tt))
 
 -- ---- the body
 
--- the bytes are a body that has this file of blocks
+-- the bytes are a body that has this CAR file
 abbrev pub HasFile : List ℕ → List ℕ → Type 0
 HasFile body file = IsWhole event_blocks_shape default_steps body (file, tt)
 

@@ -7,7 +7,7 @@ use serde_ipld_dagcbor::{
 };
 use std::alloc::Global;
 
-/// The field `blocks` of an event: a file of blocks, which is not copied.
+/// The field `blocks` of an event: a CAR file, which is not copied.
 #[derive(Clone, Copy, Debug, Drop)]
 pub struct EventBlocks<'a> {
     pub blocks: ByteSlice<'a>,

@@ -15,14 +15,14 @@ use dagcbor_read::{Deserialize, from_slice};
 use event_types::{AccountEvent, CommitEvent, ErrorEvent, IdentityEvent, InfoEvent, SyncEvent};
 use std::alloc::Global;
 
-/// A commit, and the file of blocks with it.
+/// A commit, and the CAR file with it.
 #[derive(Debug, Drop)]
 pub struct CommitFrame<'a> {
     pub event: CommitEvent,
     pub blocks: &'a [u8],
 }
 
-/// A repository as it is, and the file of blocks with its commit.
+/// A repository as it is, and the CAR file with its commit.
 #[derive(Debug, Drop)]
 pub struct SyncFrame<'a> {
     pub event: SyncEvent,

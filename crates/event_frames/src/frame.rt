@@ -54,7 +54,7 @@ fn read_kind(alloc: Global, header: &[u8]) -> Result<Kind, FrameError>
     }
 }
 
-/// The frame that the two items are. Its file of blocks is lent.
+/// The frame that the two items are. Its CAR file is lent.
 pub fn read_parts<'a>(alloc: Global, parts: &FrameParts<'a>) -> Result<Frame<'a>, FrameError>
     ensures { MatchResult result (IsFrameOf parts.now.header.now parts.now.body.now)
         (PartsRefused parts.now.header.now parts.now.body.now) }
@@ -63,7 +63,7 @@ pub fn read_parts<'a>(alloc: Global, parts: &FrameParts<'a>) -> Result<Frame<'a>
     read_body(alloc, kind, parts.body)
 }
 
-/// The frame at the front, and the bytes after it. The frame's file of blocks is lent.
+/// The frame at the front, and the bytes after it. The frame's CAR file is lent.
 pub fn read_frame(alloc: Global, bytes: &[u8]) -> Result<(Frame<'_>, &[u8]), FrameError>
     ensures read { IfOk result (λ p. IsFrame bytes.now p.0 p.1.now) }
     ensures refused { IfErr result (FrameRefused bytes.now) }

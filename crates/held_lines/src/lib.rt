@@ -1,4 +1,4 @@
-//! Files of blocks that are taken section by section, and the blocks of a file held in memory.
+//! CAR files that are taken section by section, and the blocks of a file held in memory.
 #![tactic(auto)]
 
 mod holding;

@@ -1,4 +1,4 @@
-//! A file of blocks that is taken section by section, until it ends, or what takes a section refuses
+//! A CAR file that is taken section by section, until it ends, or what takes a section refuses
 //! it.
 
 ghost use Rattle.std.specs.Prelude.{IfOk, IfSome, ◌≡◌};

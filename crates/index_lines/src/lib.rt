@@ -1,4 +1,4 @@
-//! Files of blocks of version 2, with an index: made, and read at places.
+//! CAR files of version 2, with an index: made, and read at places.
 #![tactic(auto)]
 
 mod copy;

@@ -1,5 +1,5 @@
 -- What is refused over blocks that their names say, no other blocks have.
-use Rattle.std.proofs.Common.{◌≡◌, ◌⊎◌, inl, inr, ℕ, zero, suc, List, sym, ◌∙◌, subst, arith, Option, None, Some}
+use Rattle.std.proofs.Common.{◌≡◌, ◌⊎◌, inl, inr, ℕ, zero, suc, List, sym, subst, Option, None, Some}
 use Rattle.std.specs.Bool.{⊤}
 use Rattle.ipld_tree.specs.Cid.{CidParts, cid_bytes}
 use Rattle.ipld_tree.specs.Tree.{Tree, link}
@@ -12,30 +12,17 @@ use Rattle.dagcbor_paths.proofs.Ends.{no_part_of_link}
 use Rattle.ipld_links.specs.Verdicts.{IsVerified, IsVerdict}
 use Rattle.ipld_links.specs.Reaching.{Stored, AreBytesOf}
 use Rattle.ipld_links.specs.Collisions.{Collides}
-use Rattle.ipld_links.proofs.Colliding.{of_one_hash}
-use Rattle.dagcbor_resolve.specs.Resolving.{IsReadAs, IsReadUnder, LeadsOn, EndsAs, ResolvesIn, Resolves}
+use Rattle.dagcbor_resolve.specs.Resolving.{IsReadUnder, LeadsOn, EndsAs, ResolvesIn, Resolves}
 use Rattle.dagcbor_resolve.specs.Laws.{LeadsInBlock, Leads, IsNothing}
 use Rattle.dagcbor_resolve.specs.declared.resolution.End.{End}
 use Rattle.dagcbor_resolve.specs.declared.resolution.End.TheVariants as ends
 use Rattle.dagcbor_resolve.specs.declared.resolution.Resolved.{Resolved}
-use Rattle.dagcbor_resolve.proofs.Binding.{into_unique, no_end_at_link, paths_bind}
-use Rattle.dagcbor_resolve.proofs.Reading.{read_as_one, none_read, not_modelled}
+use Rattle.dagcbor_resolve.proofs.Binding.{one_named, same_block, into_unique, no_end_at_link, paths_bind}
+use Rattle.dagcbor_resolve.proofs.Reading.{none_read, not_modelled}
 use Rattle.dagcbor_resolve.proofs.Telling.{nothing_is_led_to}
 use Rattle.index_ways.specs.Ways.{AreVerified}
 
--- ---- one name
-
-pub one_named : (name : CidParts) (x y : List ℕ) → IsVerified (name, x) → IsVerified (name, y) → (x ≡ y) ⊎ Collides
-one_named name x y h k = elim h [
-  | inl a ↦ elim k [ inl b ↦ of_one_hash x y (sym a.1 ∙ b.1) | inr b ↦ absurd (omega (arith, a.0.0, b.0)) ]
-  | inr a ↦ elim k [ inl b ↦ absurd (omega (arith, a.0, b.0.0)) | inr b ↦ inl (sym a.1 ∙ b.1) ]
-]
-
-same_block : (s o : Stored) (name : CidParts) (x y : List ℕ) → IsReadUnder s name x → IsReadUnder o name y → (x ≡ y) ⊎ Collides
-same_block s o name x y h k = elim (one_named name h.0 k.0 h.2 k.2) [
-  | inl is ↦ inl (read_as_one name k.0 x y (subst (λ z. IsReadAs name z x) is h.3) k.3)
-  | inr c ↦ inr c
-]
+-- ---- the same way
 
 -- where the one goes on, the other does
 follows : (n : ℕ) (s o : Stored) (name next : CidParts) (path left : List (List ℕ)) (found : Option Tree) → LeadsOn s name path next left → Leads n o name path found → ((m : ℕ) × Leads m o next left found) ⊎ Collides

@@ -1,4 +1,4 @@
--- What a file of blocks holds, in numbers.
+-- What a CAR file holds, in numbers.
 use Rattle.std.specs.Prelude.{◌≡◌, ◌⊎◌, ℕ, ◌-◌, ◌==◌, List, [], ◌∷◌, ◌++◌, length, take, map, Bool, true, false, not, ◌&&◌, nat_le, if◌then◌else◌, bytes_eq, ⊤, Vec, Option, None, Some, Result, OnOk, MatchResult}
 use Rattle.std.specs.declared.alloc.Global.{Global}
 use Rattle.std.specs.declared.alloc.AllocError.{AllocError}

@@ -1,4 +1,4 @@
-//! What a file of blocks holds, in numbers.
+//! What a CAR file holds, in numbers.
 
 ghost use Rattle.std.specs.Prelude.{◌≡◌, ℕ, List, [], Some, IfOk, IfSome, map, take};
 ghost use Rattle.dagcbor_heads.specs.Reading.{Reading};

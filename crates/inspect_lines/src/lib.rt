@@ -1,4 +1,4 @@
-//! What files of blocks hold, in numbers.
+//! What CAR files hold, in numbers.
 #![tactic(auto)]
 
 mod counts;

@@ -1,4 +1,4 @@
--- What is answered of a file of blocks as a repository, of its commit, and of a record.
+-- What is answered of a CAR file as a repository, of its commit, and of a record.
 use Rattle.std.specs.Prelude.{◌≡◌, ◌⊎◌, ℕ, ℤ, pos, negsuc, List, [], true, false, Result, MatchResult, Vec}
 use Rattle.std.specs.declared.alloc.Global.{Global}
 use Rattle.ipld_tree.specs.Cid.{CidParts}

@@ -1,4 +1,4 @@
-//! What is answered of a file of blocks as a repository, of its commit, and of a record.
+//! What the calls answer of a CAR file: as a repository, of its commit, and of a record.
 
 ghost use Rattle.std.specs.Prelude.{◌≡◌, true, false, IfOk, MatchResult};
 ghost use Rattle.record_lines.specs.Repositories.{IsNoRepoFile};
@@ -12,14 +12,13 @@ use commit_lines::{read_commit, record_proof};
 use record_lines::read_file;
 use std::alloc::{AllocError, Global};
 
-/// What is made, or the line that tells why it is not.
+/// The bytes that were made, or the line that says why none were.
 pub type Made = Result<Vec<u8>, Vec<u8>>;
 
-/// A block that tells of the repository that the file is, whole: a map of `did` and `rev`, texts, `sig`
-/// and `signed`, bytes, of which the first is the signature of the second, `data`, the link to the
-/// tree, `prev`, a link or null, and `records`, a list of lists of a key, as bytes, and of the link to
-/// its record, in the order of the keys. Else the line that tells why the file is none. Records
-/// themselves need not be in the file.
+/// Makes a block that describes a whole repository: a map of the texts `did` and `rev`, the bytes
+/// `sig` and `signed` (`sig` is the signature of `signed`), the link `data` to the tree, `prev`, a
+/// link or null, and `records`, a list of pairs: a key, as bytes, and the link to its record, in the
+/// order of keys. If the file is no repository, the line says why. The records need not be in the file.
 pub fn repo_answer(alloc: Global, file: &[u8]) -> Result<Made, AllocError>
     ensures { IfOk result (IsMadeOrTold (IsRepoBlock file.now) (IsNoRepoFile file.now)) }
 {
@@ -35,9 +34,9 @@ pub fn repo_answer(alloc: Global, file: &[u8]) -> Result<Made, AllocError>
     }
 }
 
-/// A block that tells of the commit that the file's first root names: a map of `cid`, the link to it,
-/// and of what `repo_answer` has but for `records`. Else the line that tells why there is none. Of the
-/// file's blocks the commit's alone need be there.
+/// Makes a block that describes the commit that the file's first root names: a map of `cid`, the link
+/// to it, and of all entries of `repo_answer` but `records`. If there is no commit, the line says why.
+/// Of the file's blocks only the commit's is needed.
 pub fn commit_answer(alloc: Global, file: &[u8]) -> Result<Made, AllocError>
     ensures { IfOk result (IsMadeOrTold (IsCommitBlock file.now) (IsNoCommitFile file.now)) }
 {
@@ -52,7 +51,7 @@ pub fn commit_answer(alloc: Global, file: &[u8]) -> Result<Made, AllocError>
     }
 }
 
-/// What is said, where that tells of nothing wrong; else what is told.
+/// Standard output's bytes if the answer is well, else standard error's.
 fn made_of(answer: Answer) -> Made
     ensures { MatchResult result (λ v. (answer.0.1 ≡ true) × (v.items ≡ answer.0.0.items))
         (λ line. (answer.0.1 ≡ false) × (line.items ≡ answer.1.items)) }
@@ -61,8 +60,8 @@ fn made_of(answer: Answer) -> Made
     if well { Ok(said) } else { Err(told) }
 }
 
-/// The file that proves which record the key has, or that it has none, as `commit_lines::record_proof`
-/// has it. Else the line that tells why there is none.
+/// Makes the CAR file that proves which record the key has, or that it has none, by
+/// `commit_lines::record_proof`. If there is none, the line says why.
 pub fn proof_answer(alloc: Global, file: &[u8], key: &[u8]) -> Result<Made, AllocError>
     ensures { IfOk result (IsMadeOrTold (IsProofFile file.now key.now) (IsNoProofFile file.now key.now)) }
 {

@@ -1,4 +1,4 @@
-//! The answer, put into memory of the caller.
+//! Answers, put into the caller's memory.
 
 ghost use Rattle.std.specs.Prelude.{pos, MatchResult};
 ghost use Rattle.dagcbor_calls.specs.CidTexts.{IsPutText};
@@ -9,10 +9,10 @@ use crate::answer::{Made, commit_answer, proof_answer, repo_answer};
 use dagcbor_calls::put_front;
 use std::alloc::{AllocError, Global};
 
-/// What is answered where memory is wanted.
+/// The answer if the call ran out of memory.
 pub(crate) const NO_MEMORY: i32 = -42;
 
-/// Puts what is made, and answers 0, or the line, and answers 1.
+/// Puts what was made and answers 0, or puts the line and answers 1.
 fn put_answer(answer: &Result<Made, AllocError>, out: &mut [u8], needed: &mut usize) -> i32
     ensures { MatchResult answer.now (λ it. MatchResult it
         (λ made. IsPutText (pos 0) made.items out.old out.new needed.new result)
@@ -29,7 +29,7 @@ fn put_answer(answer: &Result<Made, AllocError>, out: &mut [u8], needed: &mut us
     }
 }
 
-/// Puts the block that tells of the repository that the file is, or the line that tells why it is none.
+/// Puts the block that describes the repository, or the line that says why the file is none.
 #[tactic(auto, using(crate::proofs::Putting::put_so))]
 pub fn put_repo(alloc: Global, file: &[u8], out: &mut [u8], needed: &mut usize) -> i32
     ensures { IsRepositoryAnswer file.now out.old out.new needed.new result }
@@ -37,7 +37,7 @@ pub fn put_repo(alloc: Global, file: &[u8], out: &mut [u8], needed: &mut usize) 
     put_answer(&repo_answer(alloc, file), out, needed)
 }
 
-/// Puts the block that tells of the commit that the file's first root names, or the line that tells why
+/// Puts the block that describes the commit that the file's first root names, or the line that says why
 /// there is none.
 #[tactic(auto, using(crate::proofs::Putting::put_so))]
 pub fn put_commit(alloc: Global, file: &[u8], out: &mut [u8], needed: &mut usize) -> i32
@@ -46,8 +46,8 @@ pub fn put_commit(alloc: Global, file: &[u8], out: &mut [u8], needed: &mut usize
     put_answer(&commit_answer(alloc, file), out, needed)
 }
 
-/// Puts the file that proves which record the key has, or that it has none, or the line that tells why
-/// there is none.
+/// Puts the CAR file that proves which record the key has, or that it has none, or the line that says
+/// why there is none.
 #[tactic(auto, using(crate::proofs::Putting::put_so))]
 pub fn put_proof(alloc: Global, file: &[u8], key: &[u8], out: &mut [u8], needed: &mut usize) -> i32
     ensures { IsProofAnswer file.now key.now out.old out.new needed.new result }

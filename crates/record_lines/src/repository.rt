@@ -70,7 +70,7 @@ pub(crate) fn repo_of(
     }
 }
 
-/// The whole repository that the input is, a file of blocks, or the line that tells why it is none.
+/// The whole repository that the input is, a CAR file, or the line that tells why it is none.
 /// Records themselves need not be in the file. Its blocks are in memory until it is read.
 pub fn read_file<R: BufRead>(alloc: Global, input: &mut R) -> Result<RepoFound, ToolError>
     ensures { IfSome (R.remaining input.old) (λ b. IfOk result (λ r. MatchResult r

@@ -1,4 +1,4 @@
-//! Files of blocks, and the store that keeps them.
+//! CAR files, and the store that keeps them.
 
 mod files;
 mod held;

@@ -5,6 +5,7 @@ mod data;
 mod devices;
 mod forms;
 mod note;
+mod records;
 mod refusals;
 
 use dagcbor_serde::{Link, from_slice, from_slice_owned, to_vec};

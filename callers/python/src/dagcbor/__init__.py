@@ -17,13 +17,13 @@
     iter_loads(bytes)    the data of the items that stand one after the other
     load(file), dump(value, file)  the same of a binary file as `loads` and `dumps`
 
-    read_car(source)                the roots of a file of blocks (CAR), and its sections in turn
+    read_car(source)                the roots of a CAR file, and its sections in turn
     check_car(source)               its verdicts, and what is missing
     write_car(file, roots, blocks)  writes one
 
     read_repo(source)    a repository of signed records (AT Protocol): its commit, and its records
     read_commit(source)  its commit alone
-    record_proof(source, key)  a file of blocks that proves which record a key has, or that it has none
+    record_proof(source, key)  a CAR file that proves which record a key has, or that it has none
 
     dag_pb.loads(block), dag_pb.dumps(node)  blocks of DAG-PB, which files of IPFS are made of
 
@@ -33,7 +33,7 @@
 
     Store(path)          blocks in a file that lasts, by the program `dagstore`
 
-Whether bytes are a block or a file of blocks is the library's judgement, which is proved. So
+Whether bytes are a block or a CAR file is the library's judgement, which is proved. So
 is whether a file is a whole repository, or has its commit, the file that proves a record, whether the commit
 of a frame is verified, and DAG-JSON both ways. The rest, which makes objects from what the library tells
 and tells it what the objects are, is two small extensions in C, and not proved."""

@@ -1,4 +1,4 @@
-"""Files of blocks: what the check of one found, and the writing of one."""
+"""CAR files: what the check of one found, and the writing of one."""
 
 from __future__ import annotations
 
@@ -20,7 +20,7 @@ OTHER_BYTES, NOT_VERIFIED = -22, -23
 
 
 class CarCheck:
-    """What was found in a file of blocks.
+    """What was found in a CAR file.
 
     `roots` are those of its header, `verdicts` has how often each verdict was given, and `missing`
     are the roots and links that lead to no verified block of the file, each once, in the order of
@@ -54,7 +54,7 @@ class CarCheck:
 
 
 def check_car(source: Buffer | mmap | Readable, *, sha256: Sha256 | None = None) -> CarCheck:
-    """What is found in a file of blocks, of bytes or a binary file.
+    """What is found in a CAR file, of bytes or a binary file.
 
     `sha256`, as `hashlib.sha256`, computes digests in the place of the library, and is trusted.
     """
@@ -88,7 +88,7 @@ def write_car(
     roots: Iterable[CID | ForeignCID],
     blocks: Mapping[CID, Buffer] | Iterable[tuple[CID | ForeignCID, Buffer]],
 ) -> None:
-    """Writes a file of blocks, of version 1, to a binary file.
+    """Writes a CAR file, of version 1, to a binary file.
 
     `blocks` is a dict of blocks by their CIDs, or pairs of a CID and a block, in the order in which
     they are to stand. Bytes that are not those of their CID are refused before they are written.

@@ -1,4 +1,4 @@
-"""Why bytes are no block or no file of blocks, why data has none, why a text is that of no CID, or no
+"""Why bytes are no block or no CAR file, why data has none, why a text is that of no CID, or no
 data."""
 
 from __future__ import annotations
@@ -35,7 +35,7 @@ class DagCborError(ValueError):
 
 
 class CarError(DagCborError):
-    """Bytes that are no file of blocks.
+    """Bytes that are not a CAR file.
 
     `kind` names the variant, as `dagcar check` does, and `place` is the offset in the file of the
     header or the section that is none. Of `check_car`, `checked` is what was found before it; else,

@@ -64,7 +64,7 @@ class Frame:
 
 @dataclass(frozen=True)
 class CommitEvent(Frame):
-    """A commit, as the host tells of it. `blocks` is a file of blocks, for `read_car`."""
+    """A commit, as the host tells of it. `blocks` is a CAR file, for `read_car`."""
 
     seq: int
     repo: str

@@ -51,7 +51,7 @@ class Repository:
 
 
 def read_repo(source: Buffer | mmap | Readable) -> Repository:
-    """The repository that a file of blocks is, of bytes or a binary file.
+    """The repository that a CAR file is, of bytes or a binary file.
 
     The commit and the whole tree are verified; records need not be in the file. Of anything else a
     DagCborError tells why, in the words of `dagcar records`. The file is in memory meanwhile.
@@ -62,7 +62,7 @@ def read_repo(source: Buffer | mmap | Readable) -> Repository:
 
 
 def read_commit(source: Buffer | mmap | Readable) -> RepoCommit:
-    """The commit that the first root of a file of blocks names, of bytes or a binary file.
+    """The commit that the first root of a CAR file names, of bytes or a binary file.
 
     The commit is verified, and no other block need be in the file: the blocks of an event serve, and
     a file that proves a record. Of anything else a DagCborError tells why, in the words of
@@ -72,7 +72,7 @@ def read_commit(source: Buffer | mmap | Readable) -> RepoCommit:
 
 
 def record_proof(source: Buffer | mmap | Readable, key: str | Buffer) -> bytes:
-    """A file of blocks that proves which record the key has in a repository, or that it has none.
+    """A CAR file that proves which record the key has in a repository, or that it has none.
 
     It has the commit, the nodes on the way to the key, and the record, if there is one; the source
     need have no other blocks. A key that is a str stands for its UTF-8, with surrogate escapes as

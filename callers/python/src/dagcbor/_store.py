@@ -62,7 +62,7 @@ class InvalidBlock(StoreError, ValueError):
 
 
 class InvalidCar(StoreError, ValueError):
-    """Bytes that are no file of blocks, or one that has a block that is none."""
+    """Bytes that are not a CAR file, or one that has a block that is none."""
 
 
 class DamagedBlock(StoreError):
@@ -74,7 +74,7 @@ class DamagedBlock(StoreError):
 
 
 class Imported(NamedTuple):
-    """What a file of blocks had: the roots of its header, and how many sections."""
+    """What a CAR file had: the roots of its header, and how many sections."""
 
     roots: list[CID]
     sections: int
@@ -96,7 +96,7 @@ REFUSALS: tuple[tuple[str, type[StoreError]], ...] = (
     ("the block is too long for a row", StoreError),
     ("the block is ", InvalidBlock),
     ("the block has other bytes", InvalidBlock),
-    ("the input is no file of blocks", InvalidCar),
+    ("the input is not a CAR file", InvalidCar),
 )
 
 
@@ -108,7 +108,7 @@ def refusal_of(said: str) -> StoreError:
     if why.startswith("what is stored under the name"):
         name = lines[0].partition(" ")[0] if len(lines) > 1 else ""
         return DamagedBlock(text, CID(name) if name else None)
-    if any(it.startswith("behind ") for it in lines[:-1]):
+    if any(it.startswith("after ") for it in lines[:-1]):
         return InvalidCar(text)
     return next((kind(text) for start, kind in REFUSALS if why.startswith(start)), StoreError(text))
 
@@ -308,10 +308,10 @@ class Store:
             finally:
                 self._in_batch, self._failed = False, None
 
-    # ---- files of blocks
+    # ---- CAR files
 
     def import_car(self, source: str | os.PathLike[str] | Buffer | IO[bytes]) -> Imported:
-        """Keeps the blocks and the roots of a file of blocks, all of them or none. The source is a
+        """Keeps the blocks and the roots of a CAR file, all of them or none. The source is a
         path, or bytes, or a binary file, which goes to a temporary file first."""
         if isinstance(source, (str, os.PathLike)):
             with open(source, "rb"):
@@ -327,7 +327,7 @@ class Store:
     def _import(self, path: str) -> Imported:
         with self._lock:
             if self._in_batch:
-                raise RuntimeError("a file of blocks is a batch of its own")
+                raise RuntimeError("a CAR file is a batch of its own")
             *roots, count = (self._ask(f"import {path}") or b"").decode().splitlines()
         return Imported([CID(it.removeprefix("root ")) for it in roots], int(count.removeprefix("stored ")))
 

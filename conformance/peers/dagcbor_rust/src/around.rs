@@ -1,4 +1,4 @@
-//! CIDs as text, and files of blocks.
+//! CIDs as text, and CAR files.
 
 use crate::lines::hex;
 use dagcbor::{Car, Cid};

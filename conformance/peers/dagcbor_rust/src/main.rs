@@ -1,4 +1,4 @@
-//! Our package for Rust: blocks, and data to be written; around.rs has CIDs as text and files of blocks.
+//! Our package for Rust: blocks, and data to be written; around.rs has CIDs as text and CAR files.
 
 mod around;
 mod json;

@@ -1,14 +1,12 @@
 //! Whole files. What else is told of files, and of what is none, are rows of `conformance/` and of
 //! `faults/run`.
 
-ghost use Rattle.std.specs.Prelude.{⊤, true};
-
 use crate::tests::sections::{CHANGED, EMPTY, HEADER, NUMBERS, SECTION, UNORDERED};
-use dagcbor_car::{CarError, Section, VerdictSink, check_car};
+use dagcbor_car::{CarCheck, CarReader};
+use dagcbor_heads::SliceReader;
 use ipld_links::Verdict;
 use ipld_tree::Cid;
-use std::alloc::{AllocError, Global};
-use std::convert::Infallible;
+use std::alloc::Global;
 use std::test::Fail;
 use tests_shared::{agree, joined};
 
@@ -38,42 +36,28 @@ const INLINE_TWICE: &[u8] =
     b"\x38\x01\x71\x00\x1a\xd8\x2a\x57\x00\x01\x71\x00\x12\xd8\x2a\x4f\x00\x01\x71\x00\x0a\xd8\x2a\x47\x00\x01\x55\x13\x02\x05\x06\xd8\x2a\x57\x00\x01\x71\x00\x12\xd8\x2a\x4f\x00\x01\x71\x00\x0a\xd8\x2a\x47\x00\x01\x55\x13\x02\x05\x06";
 
 /// A letter for each verdict.
-#[derive(Drop)]
-struct Letters {
-    letters: Vec<u8>,
-}
-
-impl VerdictSink for Letters {
-    ghost holds = { λ _ _. ⊤ };
-
-    ghost takes_memory = { true };
-
-    fn take(&mut self, _section: &Section<'_>, verdict: &Verdict) -> Result<(), AllocError> {
-        let letter = match verdict {
-            Verdict::Block(_) => b'B',
-            Verdict::Refused(_) => b'R',
-            Verdict::Node => b'P',
-            Verdict::NoNode(_) => b'Q',
-            Verdict::OtherBytes => b'O',
-            Verdict::NotRead => b'N',
-            Verdict::LinksNotRead => b'L',
-            Verdict::Unverified => b'U',
-        };
-        match self.letters.push(letter) {
-            Ok(()) => Ok(()),
-            Err(_) => Err(AllocError),
-        }
+fn letter_of(verdict: &Verdict) -> u8 {
+    match verdict {
+        Verdict::Block(_) => b'B',
+        Verdict::Refused(_) => b'R',
+        Verdict::Node => b'P',
+        Verdict::NoNode(_) => b'Q',
+        Verdict::OtherBytes => b'O',
+        Verdict::NotRead => b'N',
+        Verdict::LinksNotRead => b'L',
+        Verdict::Unverified => b'U',
     }
 }
 
-/// The letters of the sections' verdicts, and what leads nowhere.
-fn told(alloc: Global, file: &[u8]) -> Result<(Vec<u8>, Vec<Cid>), CarError<Infallible>> {
-    let mut letters = Letters {
-        letters: Vec::new(alloc),
-    };
-    let missing = check_car(alloc, file, &mut letters)?;
-    let Letters { letters } = letters;
-    Ok((letters, missing))
+/// The letter of the next section's verdict. Fails where there is no section.
+fn next_letter(
+    reader: &mut CarReader<'_, SliceReader<'_>>,
+    check: &mut CarCheck,
+) -> Result<u8, Fail> {
+    match reader.next() {
+        Some(Ok(section)) => Ok(letter_of(&check.take(&section.section())?)),
+        _ => Err(Fail::new("no section")),
+    }
 }
 
 /// The CIDs of these binary forms.
@@ -85,12 +69,16 @@ pub(crate) fn cids_of(alloc: Global, names: &[&[u8]]) -> Result<Vec<Cid>, Fail> 
     Ok(cids)
 }
 
-/// Fails where the letters are others, or what leads nowhere is.
+/// Fails where the file has other sections than those of these letters, or lacks other blocks.
 fn tells(alloc: Global, file: &[u8], letters: &[u8], missing: &[&[u8]]) -> Result<(), Fail> {
-    let (told_letters, told_missing) = told(alloc, file)?;
-    agree(told_letters.as_slice(), letters)?;
+    let (roots, mut reader) = CarReader::from_slice(alloc, file)?;
+    let mut check = CarCheck::new(alloc, &roots)?;
+    for letter in letters {
+        agree(next_letter(&mut reader, &mut check)?, *letter)?;
+    }
+    agree(reader.next().is_none(), true)?;
     let missing = cids_of(alloc, missing)?;
-    agree(told_missing.as_slice(), missing.as_slice())
+    agree(check.missing(alloc)?.as_slice(), missing.as_slice())
 }
 
 /// The parts of files, the letters of their sections, and what leads nowhere.

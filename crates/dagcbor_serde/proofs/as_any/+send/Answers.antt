@@ -5,7 +5,7 @@ use Rattle.serde.specs.Event.{Logs, map_begins, text, octets, signed, WritesEntr
 use Rattle.serde.proofs.Events.{WritesEach-more, WritesSeq-ends, WritesUpTo-more, WritesUpTo-all}
 use Rattle.ipld_tree.specs.Ipld.{tree_of}
 use Rattle.dagcbor_serde.specs.Making.{WritesEvents}
-use Rattle.dagcbor_serde.proofs.Making.{sends_null, sends_boolean, sends_integer, sends_text, sends_bytes, sends_link, sends_list, sends_map, null_kind, bool_kind, integer_kind, text_kind, bytes_kind, link_kind, of_kind, map_made}
+use Rattle.dagcbor_serde.proofs.Making.{sends_null, sends_boolean, sends_integer, sends_text, sends_bytes, sends_link, sends_list, sends_map, null_kind, bool_kind, integer_kind, text_kind, bytes_kind, link_kind, map_is, of_kind}
 use Rattle.dagcbor_serde.proofs.as_any.+send.Goals as goal
 
 pub send_items-loop-item-preserved : goal.send_items-loop-item-preserved
@@ -24,7 +24,7 @@ send_entries-returns g t c =
     let len : c.len.result ≡ length c.args.entries.now.entries = search rules in
     let begun = subst (λ n. Logs (g.S.Serializer.written c.args.out.now) (g.S.Serializer.written c.begin_map.new.self) (map_begins (Some n))) len c.in_ok-begin_map.ensures in
     let each = WritesUpTo-all (WritesEntry (λ k old new. Logs old new (text (string_bytes k))) (λ v. WritesEvents (tree_of v))) _ _ _ _ c.loop-key.invariant (grind (arith, common_steps, c.in-None.ensures.steps.0)) in
-    on_ok_weaker c.end_map.result (λ ended. sends_map string_bytes tree_of c.args.entries.now.entries _ _ _ (map_made c.args.entries.now c.len.ensures.ordered) (_, _, begun, each, ended)) c.end_map.ensures
+    on_ok_weaker c.end_map.result (λ ended. sends_map c.args.entries.now _ _ c.len.ensures.ordered (_, _, begun, each, ended)) c.end_map.ensures
 
 pub serialize-returns-in-Null : goal.serialize-returns-in-Null
 serialize-returns-in-Null g t c = of_kind c.unit.result _ _ _ _ _ (null_kind c.args.value.now c.in-Null.is) (sends_null _ _) c.unit.ensures
@@ -45,3 +45,6 @@ serialize-returns-in-Bytes g t c = of_kind c.bytes.result _ _ _ _ _ (bytes_kind 
 
 pub serialize-returns-in-Link : goal.serialize-returns-in-Link
 serialize-returns-in-Link g t c = of_kind c.serialize.result _ _ _ _ _ (link_kind c.args.value.now c.in-Link.cid c.in-Link.is) (sends_link _ _ _) c.serialize.ensures
+
+pub serialize-returns-in-Map : goal.serialize-returns-in-Map
+serialize-returns-in-Map g t c = of_kind c.send_entries.result _ _ _ _ _ (map_is c.args.value.now c.in-Map.entries c.in-Map.is) (λ s. (s.0, s.1, s.2)) c.send_entries.ensures

@@ -1,14 +1,17 @@
 // The WebAssembly module for JavaScript, in Node and in a browser:
 // const { check, tape, compactTape, tokens, follow, part, spell, links, nodeLinks, fromNode,
-// placeInNode, toNode, name, verify, cidText, cidFromText, carSpan, carHeader, carSection, carSections } = await load(module), which is the
-// module's bytes, or a WebAssembly.Module; of that callsOf(module) has them at once.
+// placeInNode, toNode, name, verify, heldIn, cidText, cidFromText, carWalk, carNext } = await load(module),
+// which is the module's bytes, or a WebAssembly.Module; of that callsOf(module) has them at once.
 // It imports nothing, and has a 64-bit memory: addresses and lengths are BigInts.
 const PAGE = 65536;
 const FRONT = 64;
 const NO_ROOM = -21;
-const TRUNCATED = -24;
+const LEAST = -23; // of verdicts on sections
+const HEADER = 11; // of a walk
+const WALK = 24; // bytes of a walk, which stand at this place of the front
 const ROOM_TOKENS = 1 << 20; // that are given room before they are counted
 const NOT_READ = 9;
+const OTHERS = -22; // bytes than those that are named
 const CID_MOST = 86;
 const CID_TEXT_MOST = 139;
 
@@ -65,6 +68,17 @@ const unpacked = (packed) => {
     found.push(packed.subarray(at + 1, at + 1 + packed[at]));
   }
   return found;
+};
+
+// The block that a CID by the identity holds itself, and what is said of it, or null: what it ends with,
+// behind the byte that says how long, if the library says that this is the block of this name.
+const heldBy = (verify) => (cid) => {
+  for (let at = 4; at <= cid.length; at++) {
+    const block = cid.subarray(at);
+    const code = cid[at - 1] === block.length ? verify(cid, block) : OTHERS;
+    if (code > OTHERS) return { block, code };
+  }
+  return null;
 };
 
 // The addresses and the lengths of both, the text behind the block.
@@ -226,73 +240,54 @@ const naming = (calls, room) => {
   };
 };
 
-const walking = (calls, room) => {
-  const section = (at, length) =>
-    calls.dagcbor_car_section(room.address(at), BigInt(length), room.front);
-  return {
-    // Of the front of a file: the number of a refusal, or where the file of version 1 begins in it,
-    // and where it ends, which are BigInts.
-    carSpan: (bytes) => {
-      const code = calls.dagcbor_car_span(...room.put(bytes), room.front);
-      if (code < 0) return code;
-      const numbers = new DataView(room.memory.buffer, room.base);
-      const [begin, end] = [0, 8].map((at) => numbers.getBigUint64(at, true));
-      return { begin, end };
-    },
-    // Of a file of blocks: the number of a refusal, or the roots, and where the first section begins.
-    carHeader: (bytes) => {
-      const out = bytes.length;
-      const given = room.put(bytes, out + 1); // packed they are shorter than the header
-      const place = room.front + 8n;
-      const code = calls.dagcbor_car_header(
-        ...given, room.address(out), BigInt(out), room.front, place);
-      if (code < 0) return code;
-      return { roots: unpacked(room.copy(out, room.number())), behind: room.number(1) };
-    },
-    // What is said of the section that begins the bytes, and where its CID and its block begin and
-    // where it ends, or null where none begins them.
-    carSection: (bytes) => {
-      room.put(bytes);
-      const code = section(0, bytes.length);
-      if (code <= TRUNCATED) return { code, places: null };
-      const [cid, block, end] = [0, 1, 2].map((n) => room.number(n));
-      return { code, places: { cid, block, end } };
-    },
-    // The sections at the front of the bytes, one behind the other: what is said of each; three
-    // places of each; the links of those that are blocks of DAG-CBOR, a byte of length before each;
-    // and the number of what is refused behind them, which is 0 at the end.
-    carSections: (bytes) => {
-      const out = bytes.length;
-      room.put(bytes, out + 1); // packed they are shorter than the blocks
-      const numbers = new DataView(room.memory.buffer, room.base);
-      const number = (n) => Number(numbers.getBigUint64(8 * n, true));
-      const [codes, places] = [[], []];
-      let [at, packed, cause] = [0, 0, 0];
-      while (at < bytes.length) {
-        const code = section(at, bytes.length - at);
-        if (code <= TRUNCATED) {
-          cause = code;
-          break;
-        }
-        const [cid, block, end] = [at + number(0), at + number(1), at + number(2)];
-        codes.push(code);
-        places.push(cid, block, end);
-        if (code >= 0 && code !== NOT_READ) {
-          calls.dagcbor_links(room.address(block), BigInt(end - block), room.address(out + packed),
-            BigInt(out - packed), room.front);
-          packed += number(0);
-        }
-        at = end;
+const walking = (calls, room) => ({
+  // A walk through a CAR file of which no byte was seen. Its first number is the place in the
+  // file of the next byte that it wants.
+  carWalk: () => new BigUint64Array(3),
+  // What comes next in the file, of which the bytes are those from the walk's place on, and the last
+  // ones if `isLast`: the header, or as many sections as are there. `codes` is what is said of each;
+  // `places` where its CID and its block begin and where it ends; `links` those of the header's block
+  // or of the blocks of DAG-CBOR, a byte of length before each. `cause` is the number of what comes
+  // after them: 10 if that is not known before more bytes are, 11 the header, 12 the end, or a fault.
+  // `version` is that of the file, if it is known.
+  carNext: (walk, bytes, isLast) => {
+    const { length } = bytes;
+    room.put(bytes, length + 1); // packed links are shorter than the blocks
+    const state = new BigUint64Array(room.memory.buffer, room.base + WALK, walk.length);
+    state.set(walk);
+    const isBegun = state[2] >> 32n !== 0n; // else a refusal is of the header's block
+    const [codes, places] = [[], []];
+    let packed = 0;
+    for (;;) {
+      const passed = state[0] - walk[0];
+      const at = passed < length ? Number(passed) : length;
+      const cause = calls.dagcbor_car_next(room.front + BigInt(WALK), room.address(at),
+        BigInt(length - at), isLast ? 1 : 0, room.front);
+      const [cid, block, end] = [0, 1, 2].map((n) => at + room.number(n));
+      const isSection = isBegun && cause >= LEAST && cause <= NOT_READ;
+      if (cause === HEADER || (isSection && cause >= 0 && cause < NOT_READ)) {
+        const needed = room.front + BigInt(2 * WALK);
+        calls.dagcbor_links(room.address(block), BigInt(end - block),
+          room.address(length + packed), BigInt(length - packed), needed);
+        packed += room.number(2 * WALK / 8);
       }
-      return { codes, places, links: room.copy(out, packed), cause };
-    },
-  };
-};
+      if (!isSection) {
+        walk.set(state);
+        const version = Number(state[2] & 0xffffffffn);
+        return { cause, codes, places, version, links: room.copy(length, packed) };
+      }
+      codes.push(cause);
+      places.push(cid, block, end);
+    }
+  },
+});
 
 const instanceOf = (module) => {
   const { exports: calls } = new WebAssembly.Instance(module);
   const room = new Room(calls);
-  return Object.assign({}, ...[judging, spelling, converting, naming, walking].map((it) => it(calls, room)));
+  const parts = [judging, spelling, converting, naming, walking].map((it) => it(calls, room));
+  const all = Object.assign({}, ...parts);
+  return { ...all, heldIn: heldBy(all.verify) };
 };
 
 // A call that is broken off, as where the stack is at its end, leaves its own stack behind: so the
@@ -312,4 +307,4 @@ const callsOf = (module) => {
 const load = async (module) =>
   callsOf(module instanceof WebAssembly.Module ? module : await WebAssembly.compile(module));
 
-module.exports = { callsOf, load };
+module.exports = { callsOf, load, unpacked };

@@ -1,7 +1,7 @@
 // What the addon of callers/node answers, by the WebAssembly module.
 'use strict';
-const { fromLatin1, isAlone, joined, view, whole } = require('../node/bytes.js');
-const { latin1, utf8 } = require('../node/platform.js');
+const { fromLatin1, isAlone, joined, view, whole } = require('../bytes.js');
+const { latin1, utf8 } = require('../platform.js');
 const { walking } = require('./walk.js');
 
 const [LINK, WIDE, UTF8, ABSENT] = [7, 11, -8, 2 ** 32 - 1];

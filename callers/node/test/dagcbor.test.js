@@ -45,7 +45,7 @@ test('the vectors hold', () => {
 
 test('random data goes both ways', async () => {
   const seed = Date.now();
-  assert.ok(await fuzz(2, seed).catch((error) => { throw new Error(`seed ${seed}`, { cause: error }); }) > 50);
+  await fuzz((rounds) => rounds === 100, seed).catch((error) => { throw new Error(`seed ${seed}`, { cause: error }); });
 });
 
 test('integers', () => {

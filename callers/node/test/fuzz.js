@@ -59,10 +59,11 @@ const section = (block) => {
   return Buffer.concat([Buffer.from(all.length < 128 ? [all.length] : [all.length % 128 + 128, all.length >> 7]), all]);
 };
 
-const fuzz = async (seconds, seed) => {
-  const [random, end] = [generator(seed), Date.now() + 1000 * seconds];
+// As many rounds as wanted: by their number, and not by time, where a test runs it.
+const fuzz = async (isEnough, seed) => {
+  const random = generator(seed);
   let rounds = 0;
-  for (; Date.now() < end; rounds++) {
+  for (; !isEnough(rounds); rounds++) {
     const value = randomData(random);
     const block = spelling(value);
     assert.strictEqual(Buffer.from(encode(value)).toString('hex'), block.toString('hex'));
@@ -80,7 +81,8 @@ module.exports = { damagedBy, fuzz };
 
 const main = async ([seconds, seed = Date.now()]) => {
   console.log(`seed ${seed}`);
-  console.log(`${await fuzz(Number(seconds), Number(seed))} values, of each 8 damaged blocks`);
+  const end = Date.now() + 1000 * seconds;
+  console.log(`${await fuzz(() => Date.now() >= end, Number(seed))} values, of each 8 damaged blocks`);
 };
 
 if (require.main === module) main(process.argv.slice(2));

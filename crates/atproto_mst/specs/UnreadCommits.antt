@@ -1,6 +1,6 @@
 -- Why a block is no commit.
 use Rattle.std.specs.Prelude.{◌≢◌, ℕ, List, ⊤}
-use Rattle.dagcbor_heads.specs.Reading.{default_steps}
+use Rattle.dagcbor_heads.specs.Steps.{default_steps}
 use Rattle.dagcbor_heads.specs.declared.error.DecodeError.TheVariants as unread
 use Rattle.dagcbor_read.specs.Whole.{HoldsNoValue, OfWhole, IsForBehind}
 use Rattle.repository_types.specs.Repository.{commit_shape}

@@ -3,10 +3,10 @@
 ghost use Rattle.std.specs.Prelude.{◌≡◌, ◌<◌, ◌≤◌, ◌+◌, ◌*◌, ◌^◌, [], ◌∷◌, ◌++◌, length, false, Some, ℕ};
 ghost use Rattle.std.specs.Prelude.{MatchResult, MatchBool, IfOk, OnOk, List};
 ghost use Rattle.std.specs.Cow.{cow_slice_items};
-ghost use Rattle.dagcbor_heads.specs.Reading.{Fails};
-ghost use Rattle.dagcbor_heads.specs.Fronts.{Takes};
-ghost use Rattle.dagcbor_heads.specs.Inputs.{input_reading, OverInput};
-ghost use Rattle.dagcbor_heads.specs.Looking.{Looks, LooksSome, LooksOnce, LooksAtLeft, LooksAtMost};
+ghost use Rattle.dagcbor_io.specs.Reading.{Fails};
+ghost use Rattle.dagcbor_io.specs.Fronts.{Takes};
+ghost use Rattle.dagcbor_io.specs.Inputs.{input_reading, OverInput};
+ghost use Rattle.dagcbor_io.specs.Looking.{Looks, LooksSome, LooksOnce, LooksAtLeft, LooksAtMost};
 ghost use Rattle.ipld_tree.specs.Cid.{varint};
 ghost use Rattle.dagcbor_items.specs.Walks.{forms};
 ghost use Rattle.dagcbor_car.specs.Car.{counted, section_bytes};
@@ -25,9 +25,8 @@ use crate::header::read_header;
 use crate::read_section::ReadSection;
 use crate::version::{HEADER_LENGTH, is_version_2, span_of};
 use arrayvec::ArrayVec;
-use dagcbor_heads::{
-    DecodeError, Input, Read, is_at_end, pull_one, pull_payload, pull_short_payload,
-};
+use dagcbor_heads::DecodeError;
+use dagcbor_io::{Input, Read, is_at_end, pull_one, pull_payload, pull_short_payload};
 use ipld_tree::{Cid, CidError, split_varint};
 use std::alloc::Global;
 use std::borrow::CowSlice;

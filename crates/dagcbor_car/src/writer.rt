@@ -7,7 +7,8 @@ ghost use Rattle.dagcbor_car.specs.Writers.{writer_refusal, BeginsCar, WritesSec
 
 use crate::error::CarWriteError;
 use crate::push::{push_header, push_section};
-use dagcbor_heads::{EncodeError, Write};
+use dagcbor_heads::EncodeError;
+use dagcbor_io::Write;
 use ipld_tree::Cid;
 use std::alloc::Global;
 use std::marker::Model;

@@ -1,14 +1,5 @@
 pub mod Bytes
 pub mod Heads
-pub mod Sending
-pub mod Writing
-pub mod Windows
-pub mod Taking
-pub mod Looking
-pub mod Refusing
 pub mod HeadForms
 pub mod Splitting
-pub mod Arguments
-pub mod HeadFaults
 pub mod Keeping
-pub mod Slices

@@ -4,12 +4,7 @@ pub mod Texts
 pub mod Names
 pub mod Messages
 pub mod Lengths
-pub mod Reading
-pub mod Fronts
 pub mod Splits
-pub mod Looking
 pub mod Causes
-pub mod Refusals
-pub mod Inputs
-pub mod IoReading
-pub mod Written
+pub mod Steps
+pub mod Appends

@@ -2,10 +2,8 @@
 
 ghost use Rattle.std.specs.Prelude.{◌≡◌, ◌<◌, ◌≤◌, length, MatchOption};
 ghost use Rattle.std.specs.Int.{bytes_high_first};
-ghost use Rattle.dagcbor_heads.specs.Causes.{argument_width};
+ghost use Rattle.dagcbor_heads.specs.Causes.{argument_width, least_argument};
 ghost use Rattle.dagcbor_heads.specs.Splits.{SplitsNumber, SplitsHead, BeginsWithHead};
-
-use crate::pull::least_argument;
 
 #[inline(always)]
 fn split_one(bytes: &[u8]) -> Option<(u64, &[u8])>
@@ -82,6 +80,20 @@ fn split_argument(information: u8, bytes: &[u8]) -> Option<(u64, &[u8])>
         25 => split_two(bytes),
         26 => split_four(bytes),
         _ => split_eight(bytes),
+    }
+}
+
+/// The least argument that needs the width of an additional information from 24 to 27.
+pub fn least_argument(information: u8) -> u64
+    requires low { 24 ≤ information }
+    requires high { information ≤ 27 }
+    ensures { result ≡ least_argument (argument_width information) }
+{
+    match information {
+        24 => 24,
+        25 => 1 << 8,
+        26 => 1 << 16,
+        _ => 1 << 32,
     }
 }
 

@@ -1,45 +1,21 @@
-//! Heads of DAG-CBOR items, and the readers, writers and errors below them.
+//! Heads of DAG-CBOR items at the front of bytes, and why a value is not read or not written.
 //!
-//! The beginning of a list of three items, whose first is 1 (`src/tests/writers.rt` of `tests_io`):
+//! The head of a list of three items, with the first of them after it:
 //!
 //! ```rust
-//! push_head(&mut writer, 4, 3)?;
-//! push_head(&mut writer, 0, 1)?;
+//! let (major, argument, rest) = split_head(&[0x83, 1, 2, 3]).unwrap();
+//! assert!(major == 4 && argument == 3 && rest == [1, 2, 3]);
 //! ```
 #![tactic(auto)]
 
 mod error;
 mod front;
-mod input;
-mod io_read;
-mod io_ref_read;
-mod io_ref_write;
-mod io_write;
 pub mod laws;
 mod name;
-mod pull;
-mod push;
-mod read;
 mod steps;
-mod tally;
 mod text;
-mod window;
-mod write;
 
 pub use error::{ArithmeticOverflow, DecodeError, EncodeError, Len};
-pub use front::split_head;
-pub use input::Input;
-pub use io_read::IoReader;
-pub use io_ref_read::IoRefReader;
-pub use io_ref_write::IoRefWriter;
-pub use io_write::IoWriter;
+pub use front::{least_argument, split_head};
 pub use name::{Message, Name};
-pub use pull::{
-    is_at_end, is_indefinite, peek_one, pull_head, pull_head_argument, pull_one, pull_payload,
-    pull_short_payload,
-};
-pub use push::{head_bytes, push_head, push_head_at_once, push_headed_at_once};
-pub use read::{Read, ReadResult, Reference, SliceReader};
-pub use steps::{DEFAULT_STEPS, spend_step};
-pub use tally::Tally;
-pub use write::{BufWriter, Write, WriteResult};
+pub use steps::DEFAULT_STEPS;

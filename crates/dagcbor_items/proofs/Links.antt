@@ -5,16 +5,16 @@ use Rattle.std.proofs.Common.{◌≡◌, ◌==◌, inl, inr, ℕ, zero, suc, Boo
 use Rattle.dagcbor_heads.specs.Head.{head}
 use Rattle.dagcbor_heads.specs.Lengths.{len_of}
 use Rattle.dagcbor_heads.specs.Names.{Names}
-use Rattle.dagcbor_heads.specs.Reading.{Reading}
-use Rattle.dagcbor_heads.specs.Fronts.{HasByte, HasHead, HasPayload, ShowsByte, Takes}
+use Rattle.dagcbor_io.specs.Reading.{Reading}
+use Rattle.dagcbor_io.specs.Fronts.{HasByte, HasHead, HasPayload, ShowsByte, Takes}
 use Rattle.dagcbor_heads.specs.Causes.{ByteCause, HeadCause, PayloadCause, IsEndNamed, IsPayloadNamed, IsNamed}
-use Rattle.dagcbor_heads.specs.Refusals.{RefusesPlainly}
+use Rattle.dagcbor_io.specs.Refusals.{RefusesPlainly}
 use Rattle.dagcbor_heads.specs.declared.name.Name.{Name}
 use Rattle.dagcbor_heads.specs.declared.error.DecodeError.{DecodeError}
 use Rattle.dagcbor_heads.specs.declared.error.DecodeError.TheVariants.{Msg, Read, Eof, Unsupported, OutOfMemory}
 use Rattle.dagcbor_heads.proofs.Heads.{head_unique, head_first}
-use Rattle.dagcbor_heads.proofs.Taking.{stays, stays_both}
-use Rattle.dagcbor_heads.proofs.Refusing.{passed_on}
+use Rattle.dagcbor_io.proofs.Taking.{stays, stays_both}
+use Rattle.dagcbor_io.proofs.Refusing.{passed_on}
 use Rattle.ipld_tree.specs.Cid.{CidParts, AreCidParts, IsCid, cid_bytes}
 use Rattle.ipld_tree.specs.Tree.{Tree, link}
 use Rattle.ipld_tree.specs.Spelling.{bytes_spelling, IsFront}

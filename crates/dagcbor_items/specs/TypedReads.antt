@@ -1,7 +1,7 @@
 -- What reading a value of a type answers and refuses.
 use Rattle.std.specs.Prelude.{◌≡◌, ℕ, ◌≤◌, Bool, true, List, Some, is_some, Result, MatchResult, ⊤}
-use Rattle.dagcbor_heads.specs.Reading.{Reading, Stays}
-use Rattle.dagcbor_heads.specs.Refusals.{Refuses}
+use Rattle.dagcbor_io.specs.Reading.{Reading, Stays}
+use Rattle.dagcbor_io.specs.Refusals.{Refuses}
 use Rattle.dagcbor_heads.specs.declared.error.DecodeError.{DecodeError}
 use Rattle.dagcbor_heads.specs.declared.error.DecodeError.TheVariants.{DepthOverflow}
 use Rattle.ipld_tree.specs.Tree.{Tree}

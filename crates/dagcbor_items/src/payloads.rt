@@ -4,7 +4,7 @@
 ghost use Rattle.std.specs.Prelude.{◌≡◌, ◌<◌, ◌↔◌, ℕ, List, true, false, IsTrue, option_map, IfErr};
 ghost use Rattle.std.specs.Prelude.{◌+◌, [], length, MatchBool, IfSome};
 ghost use Rattle.std.specs.Cow.{cow_str_bytes};
-ghost use Rattle.dagcbor_heads.specs.Looking.{Looks, LooksBehind, LooksAtTaken};
+ghost use Rattle.dagcbor_io.specs.Looking.{Looks, LooksBehind, LooksAtTaken};
 ghost use Rattle.ipld_tree.specs.Tree.{Tree, any_need, links_of};
 ghost use Rattle.ipld_tree.specs.Spelling.{IsFront};
 ghost use Rattle.dagcbor_items.specs.Majors.{ReadsString};
@@ -20,9 +20,8 @@ use crate::order::follows;
 use crate::strings::{no_text, pull_peeked_slice, pull_peeked_str};
 use crate::utf8::as_text;
 use dagcbor_decode::behind_leaf;
-use dagcbor_heads::{
-    DecodeError, Input, Len, Name, Read, ReadResult, SliceReader, pull_head, split_head,
-};
+use dagcbor_heads::{DecodeError, Len, Name, split_head};
+use dagcbor_io::{Input, Read, ReadResult, SliceReader, pull_head};
 use std::alloc::Global;
 use std::borrow::CowStr;
 use std::convert::Infallible;

@@ -13,7 +13,8 @@ ghost use Rattle.dagcbor_paths.specs.Finding.{FindsItemIn, IsFoundIn, StopsInBlo
 use crate::parts::part_at;
 use crate::segments::next_segment;
 use dagcbor_decode::{Kind, check_slice, kind_at};
-use dagcbor_heads::{DecodeError, SliceReader};
+use dagcbor_heads::DecodeError;
+use dagcbor_io::SliceReader;
 use dagcbor_items::{behind_item, pull_link};
 use ipld_tree::Cid;
 use std::convert::Infallible;

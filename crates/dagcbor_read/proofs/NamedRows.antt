@@ -12,7 +12,7 @@ use Rattle.dagcbor_read.specs.Named.{TakesName, TakesKnown, TakesField, ReadsNam
 use Rattle.dagcbor_read.proofs.Answered.{KeyRead}
 use Rattle.dagcbor_read.proofs.EntryRows.{FieldsSoFar, one_more_field, value_not_read}
 use Rattle.dagcbor_read.proofs.ItemRows.{same_reader}
-use Rattle.dagcbor_heads.proofs.Refusing.{refusal_carried}
+use Rattle.dagcbor_io.proofs.Refusing.{refusal_carried}
 use Rattle.dagcbor_read.proofs.Passing.{or_right, lacks_before}
 
 pub name_taken : {last : Option (List ℕ)} {name : List ℕ} {old mid : DeState} → TakesName last name old mid → TakesKnown (λ k. HasName last k old.input) last old name mid

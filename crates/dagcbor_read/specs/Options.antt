@@ -1,8 +1,8 @@
 -- What reading a value that may be null answers and refuses.
 use Rattle.std.specs.Prelude.{◌≡◌, ◌≢◌, ℕ, ◌+◌, ◌<◌, ◌⊎◌, Bool, List, [], ◌∷◌, Option, Some, option_map, Result, MatchResult, MatchBool, codes}
-use Rattle.dagcbor_heads.specs.Reading.{Reading, Keeps}
-use Rattle.dagcbor_heads.specs.Fronts.{Takes}
-use Rattle.dagcbor_heads.specs.Refusals.{RefusesPlainly}
+use Rattle.dagcbor_io.specs.Reading.{Reading, Keeps}
+use Rattle.dagcbor_io.specs.Fronts.{Takes}
+use Rattle.dagcbor_io.specs.Refusals.{RefusesPlainly}
 use Rattle.dagcbor_heads.specs.Names.{Names}
 use Rattle.dagcbor_heads.specs.declared.error.DecodeError.{DecodeError}
 use Rattle.dagcbor_heads.specs.declared.error.DecodeError.TheVariants.{Eof, DepthOverflow}

@@ -7,7 +7,7 @@ ghost use Rattle.dagcbor_read.specs.Values.{ReadsValue};
 
 use crate::deserializer::Deserializer;
 use crate::shown::Shown;
-use dagcbor_heads::{Read, ReadResult};
+use dagcbor_io::{Read, ReadResult};
 use std::alloc::Global;
 
 /// A value that can be read from a `Deserializer` whose input lives for `'de`.

@@ -1,7 +1,7 @@
 //! Reading one value from a slice.
 
 ghost use Rattle.std.specs.Prelude.{◌≡◌, ◌⊎◌, ◌≤◌, true, false, Some, IfOk, IfErr};
-ghost use Rattle.dagcbor_heads.specs.Reading.{default_steps};
+ghost use Rattle.dagcbor_heads.specs.Steps.{default_steps};
 ghost use Rattle.dagcbor_heads.specs.declared.error.DecodeError.TheVariants.{OutOfMemory};
 ghost use Rattle.dagcbor_read.specs.Whole.{IsWhole, HoldsNoValue, OfWhole};
 ghost use Rattle.dagcbor_read.specs.Whole.{IsForBehind, LacksMemoryIf};
@@ -9,7 +9,8 @@ ghost use Rattle.dagcbor_read.specs.Parts.{HandsWholeOn};
 
 use crate::deserialize::{Deserialize, DeserializeOwned};
 use crate::deserializer::Deserializer;
-use dagcbor_heads::{DEFAULT_STEPS, DecodeError, SliceReader};
+use dagcbor_heads::{DEFAULT_STEPS, DecodeError};
+use dagcbor_io::SliceReader;
 use std::alloc::Global;
 use std::convert::Infallible;
 

@@ -5,7 +5,7 @@ ghost use Rattle.dagcbor_heads.specs.Head.{head};
 ghost use Rattle.dagcbor_serde.specs.Refusing.{LacksMemory, LacksMemoryOrPlace, ItemRefused};
 
 use crate::error::Refusal;
-use dagcbor_heads::{Write, push_head, push_head_at_once, push_headed_at_once};
+use dagcbor_io::{Write, push_head, push_head_at_once, push_headed_at_once};
 
 /// What is open, and what it wants next.
 #[derive(Clone, Copy, Default, Drop, PartialEq, Eq)]

@@ -8,7 +8,7 @@ use Rattle.std.proofs.lemmas.Map.Keys.{IsDistinct-IsPermutation}
 use Rattle.dagcbor_heads.specs.declared.error.EncodeError.{EncodeError}
 use Rattle.dagcbor_heads.specs.declared.error.EncodeError.TheVariants.{Msg}
 use Rattle.dagcbor_heads.specs.Messages.{message_bytes}
-use Rattle.dagcbor_heads.specs.Written.{Written, Stops}
+use Rattle.dagcbor_io.specs.Written.{Written, Stops}
 use Rattle.ipld_tree.specs.Tree.{Tree, null, text, pair_of, all_some, repeats_key}
 use Rattle.ipld_tree.specs.Spelled.{spelled, spelled_tree}
 use Rattle.ipld_tree.proofs.Ordered.{AreDistinct, same_place, same_place_flips}

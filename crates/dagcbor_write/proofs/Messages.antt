@@ -3,7 +3,7 @@ use Rattle.std.proofs.Common.{Bool, ◌≡◌, ℕ, ◌^◌, ◌<◌, List, leng
 use Rattle.std.specs.Fmt.{◌++?◌}
 use Rattle.dagcbor_heads.specs.declared.error.EncodeError.{EncodeError}
 use Rattle.dagcbor_heads.specs.declared.error.EncodeError.TheVariants.{Msg, Write, OutOfMemory}
-use Rattle.dagcbor_heads.specs.Written.{Written, WroteAll, Writes, Stops, WantsMemoryOnlyIf}
+use Rattle.dagcbor_io.specs.Written.{Written, WroteAll, Writes, Stops, WantsMemoryOnlyIf}
 use Rattle.ipld_tree.specs.Tree.{Tree, text}
 use Rattle.ipld_tree.specs.Spelling.{text_spelling}
 use Rattle.ipld_tree.specs.Spelled.{spelled_head, spelled_tree}

@@ -6,7 +6,8 @@ use Rattle.dagcbor_heads.specs.declared.error.EncodeError.{EncodeError}
 use Rattle.dagcbor_heads.specs.declared.error.EncodeError.TheVariants.{Msg, Write, OutOfMemory}
 use Rattle.dagcbor_heads.specs.Head.{head}
 use Rattle.dagcbor_heads.specs.declared.name.Message.{Message}
-use Rattle.dagcbor_heads.specs.Written.{Written, Writes, Stops, AppendsSome, WroteFront}
+use Rattle.dagcbor_heads.specs.Appends.{AppendsSome}
+use Rattle.dagcbor_io.specs.Written.{Written, Writes, Stops, WroteFront}
 use Rattle.ipld_tree.specs.Tree.{Tree, IsTree}
 use Rattle.ipld_tree.specs.Spelling.{IsSpellable, IsSpelling, spelling}
 use Rattle.ipld_tree.specs.Spelled.{spelled, spelled_tree, spelled_head}

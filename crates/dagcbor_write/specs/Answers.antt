@@ -4,7 +4,7 @@ use Rattle.std.specs.Io.KnownBytes.{Appends}
 use Rattle.dagcbor_heads.specs.declared.error.EncodeError.{EncodeError}
 use Rattle.dagcbor_heads.specs.declared.error.EncodeError.TheVariants.{Msg, Write, OutOfMemory}
 use Rattle.dagcbor_heads.specs.Messages.{message_bytes}
-use Rattle.dagcbor_heads.specs.Written.{AppendsSome, AppendsFront}
+use Rattle.dagcbor_heads.specs.Appends.{AppendsSome, AppendsFront}
 use Rattle.ipld_tree.specs.Tree.{Tree}
 use Rattle.ipld_tree.specs.Spelling.{spelling, IsSpellable, IsSpelling}
 use Rattle.ipld_tree.specs.Spelled.{spelled_tree}

@@ -2,7 +2,7 @@
 use Rattle.std.specs.Prelude.{◌≡◌, ℕ, ◌+◌, Bool, List, Option, Result, IfOk, IfErr, OnOk, IfSome}
 use Rattle.std.specs.Borrow.{MutBor}
 use Rattle.dagcbor_heads.specs.declared.error.EncodeError.{EncodeError}
-use Rattle.dagcbor_heads.specs.Written.{Written, Writes, WroteAll, WantsMemoryOnlyIf}
+use Rattle.dagcbor_io.specs.Written.{Written, Writes, WroteAll, WantsMemoryOnlyIf}
 use Rattle.ipld_tree.specs.Tree.{Tree, IsTree}
 use Rattle.ipld_tree.specs.Spelled.{spelled_tree}
 use Rattle.dagcbor_write.specs.declared.collect.bounded.BoundedCollect.{BoundedCollect}

@@ -1,7 +1,7 @@
 //! Writing one value.
 
 ghost use Rattle.std.specs.Prelude.{◌≡◌, ◌⊎◌, IfOk, IfErr, false, ◌||◌};
-ghost use Rattle.dagcbor_heads.specs.Written.{WantsMemoryOnlyIf};
+ghost use Rattle.dagcbor_io.specs.Written.{WantsMemoryOnlyIf};
 ghost use Rattle.dagcbor_heads.specs.declared.error.EncodeError.TheVariants.{OutOfMemory};
 ghost use Rattle.dagcbor_write.specs.Answers.{HasNoSpelling, AreSpellingOf, GrewBySpelling};
 ghost use Rattle.dagcbor_write.specs.Answers.{GrewByFront, IsWriteExcuse, OnMessage};
@@ -9,7 +9,8 @@ ghost use Rattle.dagcbor_write.specs.Answers.{GrewByFront, IsWriteExcuse, OnMess
 use crate::collect::buffer::FIRST_ROOM;
 use crate::serialize::Serialize;
 use crate::serializer::Serializer;
-use dagcbor_heads::{BufWriter, EncodeError, IoRefWriter};
+use dagcbor_heads::EncodeError;
+use dagcbor_io::{BufWriter, IoRefWriter};
 use std::alloc::Global;
 use std::convert::Infallible;
 use std::io;

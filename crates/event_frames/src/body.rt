@@ -1,7 +1,7 @@
 //! The bodies of frames.
 
 ghost use Rattle.std.specs.Prelude.{MatchResult};
-ghost use Rattle.dagcbor_heads.specs.Reading.{default_steps};
+ghost use Rattle.dagcbor_heads.specs.Steps.{default_steps};
 ghost use Rattle.dagcbor_read.specs.Whole.{IsWhole, HoldsNoValue};
 ghost use Rattle.event_frames.specs.Bodies.{IsCommitBody, IsSyncBody, IsBody, IsNoBody, BodyRefused};
 ghost use Rattle.event_frames.specs.declared.kind.Kind.TheVariants as kinds;

@@ -13,7 +13,7 @@ use Rattle.ipld_tree.specs.declared.cid_iter.CidIter.{CidIter}
 use Rattle.ipld_tree.proofs.Fronts.{front_unique}
 use Rattle.dagcbor_items.proofs.SliceReads.{whole_front}
 use Rattle.dagcbor_write.specs.Answers.{HasNoSpelling, GrewByFront, IsWriteExcuse, OnMessage}
-use Rattle.dagcbor_heads.specs.Written.{WantsMemoryOnlyIf}
+use Rattle.dagcbor_io.specs.Written.{WantsMemoryOnlyIf}
 use Rattle.dagcbor_read.specs.Deserializers.{DeState}
 use Rattle.dagcbor_read.specs.Parts.{HandsWholeOn}
 use Rattle.dagcbor_read.specs.Whole.{HoldsNoValue, IsReadExcuse, OfWhole}
@@ -24,7 +24,7 @@ use Rattle.dagcbor_decode.specs.Verdicts.{AnswersLinks}
 use Rattle.serde_ipld_dagcbor.specs.declared.error.CodecError.{CodecError}
 use Rattle.serde_ipld_dagcbor.specs.declared.error.CodecError.TheVariants.{Decode, Encode, DecodeIo, EncodeIo}
 use Rattle.dagcbor_items.specs.Shapes.{Shape}
-use Rattle.dagcbor_heads.specs.Reading.{default_steps}
+use Rattle.dagcbor_heads.specs.Steps.{default_steps}
 
 -- the tree shows v to the type, within 256 steps
 abbrev pub IsReadAs : {V : Type 0} → Shape Tree V → Tree → V → Type 0

@@ -1,7 +1,7 @@
 //! DAG-CBOR as a codec.
 
 ghost use Rattle.std.specs.Prelude.{Some, IfErr, IfSome, false, ◌||◌};
-ghost use Rattle.dagcbor_heads.specs.Reading.{default_steps};
+ghost use Rattle.dagcbor_heads.specs.Steps.{default_steps};
 ghost use Rattle.ipld_tree.specs.Codecs.{Decodes, Encodes, EncodesAsVec, FindsLinks};
 ghost use Rattle.ipld_tree.specs.Tree.{Tree};
 ghost use Rattle.ipld_tree.specs.Spelling.{IsSpelling};

@@ -21,8 +21,10 @@ pub mod ser;
 
 pub use dagcbor_decode::{Kind, check_slice, links_from_slice};
 pub use dagcbor_heads::{
-    ArithmeticOverflow, BufWriter, DEFAULT_STEPS, DecodeError, EncodeError, Input, IoReader,
-    IoRefReader, IoRefWriter, IoWriter, Len, Message, Name, Read, ReadResult, Reference,
+    ArithmeticOverflow, DEFAULT_STEPS, DecodeError, EncodeError, Len, Message, Name,
+};
+pub use dagcbor_io::{
+    BufWriter, Input, IoReader, IoRefReader, IoRefWriter, IoWriter, Read, ReadResult, Reference,
     SliceReader, Tally, Write, WriteResult, is_at_end, is_indefinite, peek_one, pull_head,
     pull_one, pull_payload, pull_short_payload, push_head,
 };

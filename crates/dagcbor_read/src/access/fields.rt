@@ -20,7 +20,8 @@ ghost use Rattle.dagcbor_read.specs.Structs.{texts};
 use crate::access::accessor::Accessor;
 use crate::deserialize::Deserialize;
 use crate::deserializer::Deserializer;
-use dagcbor_heads::{DecodeError, Read, ReadResult};
+use dagcbor_heads::DecodeError;
+use dagcbor_io::{Read, ReadResult};
 use std::alloc::Global;
 
 /// What the entries of a map make: the fields of a struct, or a map of the caller's.

@@ -23,7 +23,8 @@ use crate::access::accessor::Accessor;
 use crate::access::fields::{Fields, read_into};
 use crate::deserialize::Deserialize;
 use crate::deserializer::Deserializer;
-use dagcbor_heads::{DecodeError, Read, ReadResult};
+use dagcbor_heads::DecodeError;
+use dagcbor_io::{Read, ReadResult};
 use dagcbor_items::is_name;
 use std::alloc::Global;
 

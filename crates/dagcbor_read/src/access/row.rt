@@ -16,7 +16,8 @@ ghost use Rattle.dagcbor_items.specs.Shapes.{Shape};
 use crate::access::accessor::Accessor;
 use crate::deserialize::Deserialize;
 use crate::deserializer::Deserializer;
-use dagcbor_heads::{DecodeError, Read, ReadResult};
+use dagcbor_heads::DecodeError;
+use dagcbor_io::{Read, ReadResult};
 use std::alloc::Global;
 
 /// What the items of a list make, one after another: all of one type, in a vector, or each of a

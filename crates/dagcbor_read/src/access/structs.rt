@@ -21,7 +21,8 @@ use crate::access::accessor::Accessor;
 use crate::access::enum_accessor::EnumAccessor;
 use crate::access::fields::{Fields, read_entries_left, skip_value};
 use crate::deserializer::Deserializer;
-use dagcbor_heads::{DecodeError, Read, ReadResult};
+use dagcbor_heads::DecodeError;
+use dagcbor_io::{Read, ReadResult};
 use std::alloc::Global;
 
 /// No other field: any other key is refused. Use it in place of `()`, which skips the values of

@@ -10,7 +10,7 @@ ghost use Rattle.dagcbor_read.specs.EnumViews.{EnumShape, enum_of, ReadsVariant}
 
 use crate::access::enum_accessor::EnumAccessor;
 use crate::deserializer::Deserializer;
-use dagcbor_heads::{Read, ReadResult};
+use dagcbor_io::{Read, ReadResult};
 use std::alloc::Global;
 
 /// An enum that is read through a match on its variant's name.

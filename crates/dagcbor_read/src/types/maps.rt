@@ -9,7 +9,8 @@ use crate::access::fields::{Fields, read_fields};
 use crate::deserialize::{Deserialize, DeserializeOwned};
 use crate::deserializer::Deserializer;
 use crate::shown::Shown;
-use dagcbor_heads::{DecodeError, Read, ReadResult};
+use dagcbor_heads::DecodeError;
+use dagcbor_io::{Read, ReadResult};
 use std::alloc::Global;
 use std::collections::{BTreeMap, HashMap};
 

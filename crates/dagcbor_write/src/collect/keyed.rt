@@ -4,7 +4,7 @@ ghost use Rattle.std.specs.Prelude.{◌≡◌, ◌<◌, ◌++◌, List, [], leng
 ghost use Rattle.std.specs.Prelude.{slice_index_or, codes, ℕ, Option};
 ghost use Rattle.std.specs.Prelude.{None, Bool, Err, IfSome, ◌||◌};
 ghost use Rattle.std.specs.Fmt.{◌++?◌};
-ghost use Rattle.dagcbor_heads.specs.Written.{Written, Writes, Stops, WantsMemoryOnlyIf};
+ghost use Rattle.dagcbor_io.specs.Written.{Written, Writes, Stops, WantsMemoryOnlyIf};
 ghost use Rattle.ipld_tree.specs.Tree.{IsTree};
 ghost use Rattle.ipld_tree.specs.Spelled.{spelled_head, spelled_tree};
 ghost use Rattle.dagcbor_write.specs.Answers.{IsMessage, OnMessage};
@@ -19,7 +19,8 @@ use crate::collect::buffer::FIRST_ROOM;
 use crate::collect::gathered::{BAD_KEY, BAD_VALUE, NO_TEXT, begins_text, range};
 use crate::serialize::Serialize;
 use crate::serializer::Serializer;
-use dagcbor_heads::{BufWriter, EncodeError, Write, WriteResult};
+use dagcbor_heads::EncodeError;
+use dagcbor_io::{BufWriter, Write, WriteResult};
 use std::alloc::{AllocError, Global};
 use std::convert::Infallible;
 use std::marker::Model;

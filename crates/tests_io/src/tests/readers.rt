@@ -1,9 +1,10 @@
 //! Bytes, heads and payloads through buffered sources.
 
 use arrayvec::ArrayVec;
-use dagcbor_heads::{
-    DecodeError, Input, IoReader, IoRefReader, Read, is_at_end, peek_one, pull_head, pull_one,
-    pull_payload, pull_short_payload,
+use dagcbor_heads::DecodeError;
+use dagcbor_io::{
+    Input, IoReader, IoRefReader, Read, is_at_end, peek_one, pull_head, pull_one, pull_payload,
+    pull_short_payload,
 };
 use std::alloc::Global;
 use std::borrow::CowSlice;

@@ -1,5 +1,5 @@
 use Rattle.std.proofs.Common.{◌≡◌, subst, ◌⊎◌}
-use Rattle.dagcbor_heads.specs.Reading.{default_steps}
+use Rattle.dagcbor_heads.specs.Steps.{default_steps}
 use Rattle.dagcbor_heads.specs.declared.error.DecodeError.TheVariants.{OutOfMemory}
 use Rattle.dagcbor_read.specs.Whole.{IsWhole, HoldsNoValue}
 use Rattle.dagcbor_store.proofs.store.BlockStore.get.Goals as goal

@@ -3,7 +3,7 @@
 
     docs/way.py          draws it anew
     docs/way.py check    fails where the picture is another, or names a file that its crate has not, or docs/DESIGN.md one that
-                         nothing has"""
+                         nothing has; or where crates/README.md lists other crates than crates.txt, or one below what it stands on"""
 
 import pathlib
 import re
@@ -125,8 +125,29 @@ def lost_files():
             yield f"docs/DESIGN.md: {name}"
 
 
+def floors_of(page):
+    """Each crate of the page's table, with the number of its floor."""
+    floor = 0
+    for row in re.findall(r"^\| (.*?) \|", page, re.MULTILINE):
+        floor += row.startswith("**")
+        yield from ((name, floor) for name in re.findall(r"`(\w+)`", row))
+
+
+def misplaced():
+    """The crates that the page of the crates and crates.txt do not list alike, or that stand below what they stand on."""
+    lines = re.findall(r"^(\w+).*?:(.*)$", (ROOT / "crates.txt").read_text(encoding="utf-8"), re.MULTILINE)
+    listed = list(floors_of((ROOT / "crates" / "README.md").read_text(encoding="utf-8")))
+    floors, below = dict(listed), {name: words.split() for name, words in lines}
+    for name in sorted(set(floors) ^ set(below)) + [name for name in floors if sum(it == name for it, _ in listed) > 1]:
+        yield f"crates/README.md: {name} is not once there and in crates.txt"
+    for name, words in below.items():
+        for low in words:
+            if floors.get(low, 0) > floors.get(name, len(lines)):
+                yield f"crates/README.md: {name} stands on {low}, which is on a higher floor"
+
+
 def main(words):
-    picture, lost = "\n".join(drawn()) + "\n", [*strangers(), *lost_files()]
+    picture, lost = "\n".join(drawn()) + "\n", [*strangers(), *lost_files(), *misplaced()]
     if words != ["check"]:
         PICTURE.write_text(picture, encoding="utf-8")
     elif not PICTURE.exists() or PICTURE.read_text(encoding="utf-8") != picture:

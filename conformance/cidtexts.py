@@ -13,7 +13,7 @@ CAUSES = {
     "too long": (f"more than {MOST} characters stand behind the prefix", "no standard bounds a CID; this codec does"),
     "no character": ("a character is none of the base's", "RFC 4648, 3.3: characters outside the alphabet are refused", "base58btc, 4: an alphabet of 58 characters"),
     "length": ("the last character begins a byte and does not end it", "RFC 4648, 6: no bytes have so many characters in base32", "RFC 4648, 8: nor in base16"),
-    "padding bits": ("bits that are not zero stand behind the last byte", "RFC 4648, 3.5: an encoder sets them to zero; a decoder may refuse others"),
+    "padding bits": ("bits that are not zero stand after the last byte", "RFC 4648, 3.5: an encoder sets them to zero; a decoder may refuse others"),
     "leading zero": ("a 1 stands first in base58btc", "base58btc, 4: a 1 in front is a zero byte", "CID, Binary format: none begins with one"),
     "version": ("version 0 behind a prefix, or version 1 behind none", "CID, Decoding algorithm: version 0 is base58btc with no multibase prefix, and version 1 has one"),
     "no CID": ("the bytes are no binary CID", "CID, Binary format: a version, a codec and a multihash, and nothing behind them"),

@@ -14,7 +14,7 @@ from judge import DEEPEST, Link, parts_of, spell
 CAUSES = {
     "no UTF-8": ("the bytes are not UTF-8", "RFC 8259, 8.1: a text is encoded in UTF-8"),
     "no JSON": ("it is no JSON; half of a surrogate pair, or a byte order mark, is none here", "RFC 8259, 2: the grammar of JSON", "RFC 8259, 8.1: no byte order mark is added", "RFC 8259, 8.2: what half of a pair means is not predictable"),
-    "trailing data": ("more stands behind the value", "RFC 8259, 2: a text is one value"),
+    "trailing data": ("more stands after the value", "RFC 8259, 2: a text is one value"),
     "too deep": OF_BLOCKS["too deep"],
     "float": ("a number with a fraction or an exponent", "DAG-JSON, Floats: with a point it is a float", "no standard has DAG-JSON without floats; a codec may have none"),
     "range": ("an integer below -2^64, or above 2^64 - 1", "RFC 8949, 3.1: major types 0 and 1 hold -2^64 to 2^64 - 1", "DAG-CBOR, Strictness 1: no tags, and so no bignums"),

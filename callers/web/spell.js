@@ -85,7 +85,7 @@ class Reader {
   whole() {
     const value = this.value(0);
     this.space();
-    if (this.at < this.text.length) this.fail('something stands behind the value');
+    if (this.at < this.text.length) this.fail('something stands after the value');
     return value;
   }
 

@@ -46,7 +46,7 @@ const TEXT_FAULTS = new Map([
   [-29, 'it is longer than that of any CID'],
   [-30, 'a character is not in the alphabet of its base'],
   [-31, 'its last character begins a byte and does not end it'],
-  [-32, 'bits that are not zero stand behind its last byte'],
+  [-32, 'bits that are not zero stand after its last byte'],
   [-33, 'it begins with a zero byte'],
   [-34, 'version 0 has no prefix, and version 1 has one'],
 ]);

@@ -45,7 +45,7 @@ tops_by : (n : ℕ) (p : PieceParts) (ps : List PieceParts) (b : Bool) → nat_l
 tops_by n p ps true q ih = ih
 tops_by n p ps false q ih = ap (λ x. if x then p ∷ lower_pieces n ps else []) q
 
--- what stands behind the run begins with no lower piece
+-- what follows the run begins with no lower piece
 pub upper_tops : (n : ℕ) (ps : List PieceParts) → lower_pieces n (upper_pieces n ps) ≡ []
 upper_tops n [] = refl
 upper_tops n (p ∷ ps) = tops_by n p ps (nat_lt p.layer n) refl (upper_tops n ps)
@@ -66,12 +66,12 @@ skip_by : (N : List PieceParts → Option CidParts → Type 0) (n : ℕ) (previo
 skip_by N n previous p ps ts true q ih h = inl (ltb-true p.layer n q, ih h)
 skip_by N n previous p ps ts false q ih h = h
 
--- the rows behind the run are those of all
+-- the rows after the run are those of all
 pub rows_skip : (N : List PieceParts → Option CidParts → Type 0) (n : ℕ) (previous : List ℕ) (ps : List PieceParts) (ts : List Tree) → NamesRows N n previous (upper_pieces n ps) ts → NamesRows N n previous ps ts
 rows_skip N n previous [] ts h = h
 rows_skip N n previous (p ∷ ps) ts h = skip_by N n previous p ps ts (nat_lt p.layer n) refl (rows_skip N n previous ps ts) h
 
--- the rows of the pieces that are left come behind those that are made
+-- the rows of the pieces that are left come after those that are made
 abbrev pub RowsGoOn : ℕ → List PieceParts → List ℕ → List PieceParts → List Row → Type 0
 RowsGoOn n all previous ps rows = (ts : List Tree) → NamesRows (NamesBelow n) n previous ps ts → NamesRows (NamesBelow n) n [] all (map tree_of_row (map row_told rows) ++ ts)
 

@@ -68,7 +68,7 @@ fault_more a ps b all error.OutOfMemory whole h = tt
 fault_more a ps b all (error.MissingNode name) whole h = hides_more name a ps b all whole h
 fault_more a ps b all _ whole h = absurd h
 
--- ---- one that stands first, or behind others
+-- ---- one that stands first, or after others
 
 ends_lower : (n : ℕ) (p : PieceParts) (ps : List PieceParts) → AreLower (suc n) (p ∷ ps) → EndsWithin n (p ∷ ps)
 ends_lower n p [] h = omega (arith, h.0)
@@ -85,7 +85,7 @@ lower_rest : (n : ℕ) (a b : List PieceParts) → AreLower n (a ++ b) → AreLo
 lower_rest n [] b h = h
 lower_rest n (x ∷ a) b h = lower_rest n a b h.1
 
--- a subtree of layer n stands behind these
+-- a subtree of layer n stands after these
 pub met_subtree : (n : ℕ) (all done rest : List PieceParts) (name : CidParts) → AreLower (suc n) all → all ≡ done ++ (subtree_piece n name ∷ rest) → FirstOrFault n all (error.MissingNode name)
 met_subtree n all [] rest name low is = inr (name, rest, refl, is)
 met_subtree n all (p ∷ done) rest name low is =

@@ -1,4 +1,4 @@
--- Changes that are done on entries, one behind the other, and undone.
+-- Changes that are done on entries, one after the other, and undone.
 use Rattle.std.specs.Prelude.{◌≡◌, ℕ, List, [], ◌∷◌, Option, None, Some}
 use Rattle.ipld_tree.specs.Cid.{CidParts}
 use Rattle.ipld_links.specs.Reaching.{Stored}
@@ -21,7 +21,7 @@ Does c before after = (lookup c.0 before ≡ c.1.0) × (after ≡ set_record c.0
 abbrev pub turned : Changed → Changed
 turned c = (c.0, (c.1.1, c.1.0))
 
--- one behind the other
+-- one after the other
 abbrev pub DoesAll : List Changed → List Entry → List Entry → Type 0
 DoesAll [] before after = after ≡ before
 DoesAll (c ∷ cs) before after = (between : List Entry) × Does c before between × DoesAll cs between after

@@ -10,7 +10,7 @@ use Rattle.atproto_events.specs.Pieces.{PieceParts, subtree_piece, lower_pieces,
 use Rattle.atproto_events.specs.declared.error.UndoError.{UndoError}
 use Rattle.atproto_events.specs.declared.error.UndoError.TheVariants as error
 
--- The rows of a node of layer n, behind a key: of the pieces of that layer, which are entries, where N
+-- The rows of a node of layer n, after a key: of the pieces of that layer, which are entries, where N
 -- names what stands between them.
 abbrev pub NamesRows : (List PieceParts → Option CidParts → Type 0) → ℕ → List ℕ → List PieceParts → List Tree → Type 0
 NamesRows N n previous [] ts = ts ≡ []

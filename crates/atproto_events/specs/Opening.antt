@@ -32,7 +32,7 @@ abbrev pub last_key : List PieceParts → Option (List ℕ)
 last_key [] = None
 last_key (p ∷ ps) = if is_some (last_key ps) then last_key ps else p.key
 
--- the key comes behind this one, if there is one
+-- the key comes after this one, if there is one
 abbrev pub comes_behind : List ℕ → Option (List ℕ) → Bool
 comes_behind key None = true
 comes_behind key (Some other) = is_lt (slice_cmp nat_cmp other key)
@@ -46,10 +46,10 @@ HoldsSubtree name (p ∷ ps) = ((p.key ≡ None) × (p.cid ≡ name)) ⊎ HoldsS
 abbrev pub AreHeld : CidSet → List PieceParts → Type 0
 AreHeld lost ps = (q : CidParts) → Among q (members lost) → HoldsSubtree q ps
 
--- ---- why the walk stops, behind the pieces that it has
+-- ---- why the walk stops, after the pieces that it has
 
 -- The row of a node of layer n shares more bytes than the key before it in its node has, its key is no
--- key, is of another layer, or comes not behind the last key.
+-- key, is of another layer, or comes not after the last key.
 abbrev pub RowUnfit : ℕ → List PieceParts → List ℕ → NodeRow → Type 0
 RowUnfit n before previous r = (length previous < r.shared) ⊎ ((¬ IsKey (key_of_row previous r))
     ⊎ ((key_layer (key_of_row previous r) ≢ n) ⊎ (comes_behind (key_of_row previous r) (last_key before) ≡ false)))
@@ -59,7 +59,7 @@ abbrev pub LinkStops : (List PieceParts → CidParts → UndoError → Type 0) �
 LinkStops S before None e = ⊥
 LinkStops S before (Some name) e = S before name e
 
--- at a row; else in the tree behind it; else at a later row, where links are opened so
+-- at a row; else in the tree after it; else at a later row, where links are opened so
 abbrev pub RowsStop : (CidParts → List PieceParts → Type 0) → (List PieceParts → CidParts → UndoError → Type 0)
     → ℕ → List PieceParts → List ℕ → List NodeRow → UndoError → Type 0
 RowsStop F S n before previous [] e = ⊥

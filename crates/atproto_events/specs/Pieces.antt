@@ -38,7 +38,7 @@ StandsFor n cid (Some key) es = (n ≡ key_layer key) × (es ≡ (key, cid) ∷ 
 StandsFor n cid None es = (subtree (suc n) (leaves es) ≡ Some cid)
     × AllByRecursion (λ e. e.layer < suc n) (leaves es)
 
--- one behind the other
+-- one after the other
 abbrev pub Fills : List PieceParts → List Entry → Type 0
 Fills [] es = es ≡ []
 Fills (p ∷ ps) es = (first more : List Entry) × StandsFor p.layer p.cid p.key first × Fills ps more
@@ -68,7 +68,7 @@ abbrev pub OpensLink : (CidParts → List PieceParts → Type 0) → Option CidP
 OpensLink F None ps = ps ≡ []
 OpensLink F (Some name) ps = F name ps
 
--- rows of layer n behind a key, where links are opened so
+-- rows of layer n after a key, where links are opened so
 abbrev pub OpensRows : (CidParts → List PieceParts → Type 0) → ℕ → List ℕ → List NodeRow → List PieceParts → Type 0
 OpensRows F n previous [] ps = ps ≡ []
 OpensRows F n previous (r ∷ rs) ps = (below more : List PieceParts) × OpensLink F r.after below

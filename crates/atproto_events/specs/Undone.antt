@@ -22,7 +22,7 @@ EndsBefore key [] = ⊤
 EndsBefore key (p ∷ []) = (k : List ℕ) × (p.key ≡ Some k) × (slice_cmp nat_cmp k key ≡ Less)
 EndsBefore key (p ∷ (q ∷ ps)) = EndsBefore key (q ∷ ps)
 
--- the first of the pieces, if there is one, is an entry whose key comes behind this key
+-- the first of the pieces, if there is one, is an entry whose key comes after this key
 abbrev pub BeginsBehind : List ℕ → List PieceParts → Type 0
 BeginsBehind key [] = ⊤
 BeginsBehind key (p ∷ ps) = (k : List ℕ) × (p.key ≡ Some k) × (slice_cmp nat_cmp key k ≡ Less)
@@ -41,7 +41,7 @@ abbrev pub StepsBackAll : List Changed → List PieceParts → List PieceParts �
 StepsBackAll [] old new = new ≡ old
 StepsBackAll (c ∷ cs) old new = (between : List PieceParts) × StepsBackAll cs old between × StepsBack c between new
 
--- the piece behind so many is an entry of the key
+-- the piece after so many is an entry of the key
 abbrev pub IsOfKey : List ℕ → ℕ → List PieceParts → Type 0
 IsOfKey key i [] = ⊥
 IsOfKey key zero (p ∷ ps) = p.key ≡ Some key
@@ -97,7 +97,7 @@ StepFault c ps error.KeyLength = ¬ IsKey c.0
 StepFault c ps error.OtherState = (value : Option CidParts) × HasRecord c.0 value ps × (value ≢ c.1.1)
 StepFault c ps _ = ⊥
 
--- those behind one are undone, and it is not
+-- those after one are undone, and it is not
 pub record StepsFault (cs : List Changed) (ps : List PieceParts) (e : UndoError) : Type 0 where
   pub before : List Changed
   pub this : Changed

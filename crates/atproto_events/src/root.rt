@@ -103,7 +103,7 @@ fn rows_of(alloc: Global, all: &[Piece], layer: u8) -> Result<Vec<Entry>, UndoEr
     Ok(rows)
 }
 
-/// The row of an entry behind this key, before the node.
+/// The row of an entry after this key, before the node.
 fn row_of(
     alloc: Global,
     previous: &[u8],

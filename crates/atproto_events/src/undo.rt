@@ -18,7 +18,7 @@ use ipld_tree::Cid;
 use std::alloc::Global;
 use std::collections::BTreeMap;
 
-/// The root of the tree from which these changes, one behind the other, lead to the tree of this
+/// The root of the tree from which these changes, one after the other, lead to the tree of this
 /// root. Of that one the nodes must be stored on which the answer depends, and no others.
 pub fn undo_changes(
     alloc: Global,

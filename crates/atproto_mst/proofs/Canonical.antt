@@ -34,7 +34,7 @@ split_by : (n : ℕ) (e : Leaf) (es : List Leaf) (b : Bool) → entries_under es
 split_by n e es true h = ap (λ xs. (e.key, e.value) ∷ xs) h
 split_by n e es false h = refl
 
--- the lower run, and what stands behind it
+-- the lower run, and what follows it
 runs_split : (n : ℕ) (es : List Leaf) → entries_under es ≡ entries_under (lower_run n es) ++ entries_under (upper_rest n es)
 runs_split n [] = refl
 runs_split n (e ∷ es) = split_by n e es (nat_lt e.layer n) (runs_split n es)
@@ -101,7 +101,7 @@ rows_by W stored n previous e es false skip below next h =
       ),
     )
 
--- the rows of a node, behind a key: the entries of its first leaf of the layer, and of all behind it
+-- the rows of a node, after a key: the entries of its first leaf of the layer, and of all after it
 rows_walked : (W : CidParts → List Entry → Type 0) (stored : Stored) (n : ℕ) → WalksBelow stored n W → (previous : List ℕ) (es : List Leaf) → AreLeaves es
     → AreStored stored (nodes_between (subtree_nodes n) n es) → WalksRows W previous (rows_over (subtree n) n previous es) (entries_under (upper_rest n es))
 rows_walked W stored n f previous [] l s = refl

@@ -61,7 +61,7 @@ Holds stored name es = (m : ℕ) × WalksTree m stored name es
 one_holding : (stored : Stored) (name : CidParts) (es fs : List Entry) → Holds stored name es → Holds stored name fs → es ≡ fs
 one_holding stored name es fs (m, h) (n, k) = one_walk stored m n name es fs h k
 
--- ---- keys that rise, each before all behind it
+-- ---- keys that rise, each before all after it
 
 abbrev AllBehind : List ℕ → List Entry → Type 0
 AllBehind k es = AllByRecursion (λ e. Below k e.0) es

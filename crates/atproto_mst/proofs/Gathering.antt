@@ -42,7 +42,7 @@ gathers_none W v h = record { found = []; walked = h; behind = record { keys = t
 pub gathers_no_link : (W : CidParts → List Entry → Type 0) (l : Option CidParts) → l ≡ None → (v : Found) → GathersEntries (WalksLink W l) v v
 gathers_no_link W l h v = subst (λ x. GathersEntries (WalksLink W x) v v) (sym h) (gathers_none (WalksLink W None) v refl)
 
--- behind a link there is an entry
+-- after a link there is an entry
 module _ (W : CidParts → List Entry → Type 0) (l : Option CidParts) (name : CidParts) (is : l ≡ Some name) (old new : Found) (g : GathersEntries (W name) old new) where
   added : length new.items ≡ length old.items + length g.found
   added = omega (arith, length-map old.items entry_of, length-map new.items entry_of, ap length g.all, length-append (entries old.items) g.found)

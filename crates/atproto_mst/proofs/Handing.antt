@@ -1,4 +1,4 @@
--- What was handed over, one part behind the other.
+-- What was handed over, one part after the other.
 use Rattle.std.proofs.Common.{◌≡◌, List, [], ◌∷◌, ◌++◌, refl, sym, ap, ◌∙◌, subst, inl, inr}
 use Rattle.std.proofs.lemmas.List.{append_assoc}
 use Rattle.dagcbor_car.specs.Car.{Section}
@@ -47,7 +47,7 @@ first_none holds s all = ([], all, refl, takes_none holds s)
 pub first_kept : {S W : Type 0} (holds : S → W → List Section → Type 0) (old new : S) (all : List Section) → HandsOver holds old [] new → HandsOverFirst holds old all new
 first_kept holds old new all h = ([], all, refl, h)
 
--- the first of a part, behind another part
+-- the first of a part, after another part
 pub first_within : {S W : Type 0} (holds : S → W → List Section → Type 0) (old mid new : S) (a b d all : List Section)
     → HandsOver holds old a mid → a ++ (b ++ d) ≡ all → HandsOverFirst holds mid b new → HandsOverFirst holds old all new
 first_within holds old mid new a b d all h same k = (

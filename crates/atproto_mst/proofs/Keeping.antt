@@ -52,7 +52,7 @@ among_kept stored x (s ∷ ss) none (inr m) = by (among_kept stored x ss none m)
     by more true e = subst (Among x) (sym (one_kept stored s ss true e)) more
     by more false e = subst (Among x) (sym (one_kept stored s ss false e)) (inr more)
 
--- of nodes one behind the other, those of the first that are not stored stand before those of the others
+-- of nodes one after the other, those of the first that are not stored stand before those of the others
 pub kept_of_both : (stored : Stored) (a b : List Section) → not_stored stored (a ++ b) ≡ not_stored stored a ++ not_stored stored b
 kept_of_both stored [] b = refl
 kept_of_both stored (x ∷ a) b = by (kept_of_both stored a b) (is_some (stored x.0)) refl

@@ -48,7 +48,7 @@ stored_joined : (stored : Stored) (a b : List Section) → AreStored stored a �
 stored_joined stored [] b h k = k
 stored_joined stored (x ∷ xs) b h k = (h.0, stored_joined stored xs b h.1 k)
 
--- the bytes of a key behind its front
+-- the bytes of a key after its front
 rest_again : (s : ℕ) (previous rest : List ℕ) → s ≤ length previous → drop s (take s previous ++ rest) ≡ rest
 rest_again zero previous rest h = refl
 rest_again (suc s) [] rest h = absurd (omega (arith, h))
@@ -62,7 +62,7 @@ tree_again previous r within e =
 
 -- ---- what stands in layers, over the entries that are walked
 
--- the tree behind a link is that of the entries
+-- the tree under a link is that of the entries
 pub record IsOver (stored : Stored) (n : ℕ) (l : Option CidParts) (es : List Entry) : Type 0 where
   pub link : l ≡ subtree n (leaves es)
   pub held : AreStored stored (subtree_nodes n (leaves es))

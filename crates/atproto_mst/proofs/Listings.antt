@@ -59,7 +59,7 @@ refused_by_fault stored root error.OutOfMemory h = absurd h
 refused_by_fault stored root error.OtherTree h = absurd h
 refused_by_fault stored root _ h = inl h
 
--- ---- what is gathered of the root, behind nothing
+-- ---- what is gathered of the root, after nothing
 
 pub refused_by : (stored : Stored) (root : CidParts) (e : MstError) (p : NodeParts) → IsNodeAt stored root p → (e ≡ error.OutOfMemory) ⊎ StopsWalk most_layers stored [] root e → MstRefused stored root e
 refused_by stored root e p at (inl m) = subst (MstRefused stored root) (sym m) (at.block, at.is, at.named)

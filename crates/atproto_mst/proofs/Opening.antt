@@ -205,7 +205,7 @@ node_opened stored dropped link name is not r h =
 
 -- ---- a level
 
--- the entries opened so far, behind the rows of the node on the left
+-- the entries opened so far, after the rows of the node on the left
 pub level_next : (stored : Stored) (dropped : List CidParts) (hs : List LevelEntry) (h : LevelEntry) (rows old new : List LevelItem)
     → (more : List LevelItem) × OpensItems stored dropped (held_items hs) more × (old ≡ rows ++ more)
     → (more : List LevelItem) × OpensItems stored dropped (held_items (h ∷ [])) more × (new ≡ old ++ more)

@@ -15,7 +15,7 @@ use Rattle.atproto_mst.specs.Keys.{IsKey, key_layer}
 use Rattle.atproto_mst.specs.Trees.{Leaf, lower_run, shared, link_tree, entry_tree, entry_trees, node_map, node_over, subtree, node}
 use Rattle.atproto_mst.specs.Nodes.{NodeRow, NodeParts, tree_of_row, tree_of_node, IsCidIfAny, IsNode}
 
--- the row of a leaf behind this key
+-- the row of a leaf after this key
 abbrev pub row_at : List ℕ → Leaf → Option CidParts → NodeRow
 row_at previous e t = record { shared = shared previous e.key; rest = drop (shared previous e.key) e.key; value = e.value; after = t }
 

@@ -1,4 +1,4 @@
--- Runs of lower leaves, and what stands behind them.
+-- Runs of lower leaves, and what follows them.
 use Rattle.std.proofs.Common.{◌≡◌, ℕ, ◌<◌, ◌≤◌, Bool, true, false, List, [], ◌∷◌, ◌++◌, length, take, drop, refl, sym, ap, ◌∙◌}
 use Rattle.std.specs.Prelude.{if◌then◌else◌, nat_lt, Option}
 use Rattle.std.proofs.lemmas.Bool.{lt-ltb, le-ltb}
@@ -36,7 +36,7 @@ tops_by : (n : ℕ) (e : Leaf) (es : List Leaf) (b : Bool) → nat_lt e.layer n 
 tops_by n e es true q ih = ih
 tops_by n e es false q ih = ap (λ x. if x then e ∷ lower_run n es else []) q
 
--- what stands behind the run begins with no lower leaf
+-- what follows the run begins with no lower leaf
 pub upper_tops : (n : ℕ) (es : List Leaf) → lower_run n (upper_rest n es) ≡ []
 upper_tops n [] = refl
 upper_tops n (e ∷ es) = tops_by n e es (nat_lt e.layer n) refl (upper_tops n es)
@@ -47,7 +47,7 @@ skip_by : (sub : List Leaf → Option CidParts) (n : ℕ) (previous : List ℕ) 
 skip_by sub n previous e es true q ih = ih
 skip_by sub n previous e es false q ih = ap (λ b. if b then entry_trees sub n previous es else entry_tree previous e (sub (lower_run n es)) ∷ entry_trees sub n e.key es) q
 
--- the entries of the leaves behind the run are those of all
+-- the entries of the leaves after the run are those of all
 pub entries_skip : (sub : List Leaf → Option CidParts) (n : ℕ) (previous : List ℕ) (es : List Leaf) → entry_trees sub n previous (upper_rest n es) ≡ entry_trees sub n previous es
 entries_skip sub n previous [] = refl
 entries_skip sub n previous (e ∷ es) = skip_by sub n previous e es (nat_lt e.layer n) refl (entries_skip sub n previous es)

@@ -67,14 +67,14 @@ before_more e [] fs r = r.0
 before_more e (f ∷ es) [] r = tt
 before_more e (f ∷ es) (g ∷ fs) r = below_trans e.0 f.0 g.0 r.0 (before_more f es (g ∷ fs) r.1)
 
--- a key that does not come before what stands behind has no record in front
+-- a key that does not come before what follows has no record in front
 none_in_front : (key k : List ℕ) (v : CidParts) (es fs : List Entry) → Rise (es ++ (k, v) ∷ fs) → (slice_cmp nat_cmp key k ≢ Less) → lookup key (es ++ (k, v) ∷ fs) ≡ lookup key ((k, v) ∷ fs)
 none_in_front key k v [] fs r not = refl
 none_in_front key k v (e ∷ es) fs r not =
     other_first key e.0 e.1 (es ++ (k, v) ∷ fs) (λ is. not (subst (λ x. Below x k) is (before_more e es ((k, v) ∷ fs) r)))
     ∙ none_in_front key k v es fs r.1 not
 
--- a key before what stands behind has its record in front
+-- a key before what follows has its record in front
 record_in_front : (key : List ℕ) (es fs : List Entry) → ComesBefore key fs → Rise (es ++ fs) → lookup key (es ++ fs) ≡ lookup key es
 record_in_front key [] fs b r = no_record_before key fs b r
 record_in_front key (e ∷ es) fs b r = ap (λ found. if bytes_eq e.0 key then Some e.1 else found) (record_in_front key es fs b r.1)
@@ -92,7 +92,7 @@ decides_more W key (sought.Record v) es fs e d = e ∙ d
 decides_more W key (sought.Below link) es fs e d = (d.0, d.1, d.2, e ∙ d.3)
 decides_more W key sought.KeyFront es fs e d = d
 
--- at a row, where what stands behind it is decided
+-- at a row, where what follows it is decided
 row_decides : (W : CidParts → List Entry → Type 0) (key k : List ℕ) (v : CidParts) (before : Option CidParts) (more : Sought) (below rest : List Entry) (o : Ordering) → slice_cmp nat_cmp key k ≡ o
     → WalksLink W before below → Rise (below ++ (k, v) ∷ rest) → (Rise rest → Decides W key more rest) → Decides W key (by_order o (sought.Below before) (sought.Record v) more) (below ++ (k, v) ∷ rest)
 row_decides W key k v before more below rest Less e l r d = (below, l, rise_left below ((k, v) ∷ rest) r, record_in_front key below ((k, v) ∷ rest) e r)

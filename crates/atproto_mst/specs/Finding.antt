@@ -27,7 +27,7 @@ by_order Less x y z = x
 by_order Equal x y z = y
 by_order Greater x y z = z
 
--- What rows behind a key say of the key that is sought, where the tree before them is this: the
+-- What rows after a key say of the key that is sought, where the tree before them is this: the
 -- record of a row whose key it is, or the tree in which its record stands, if there is one.
 abbrev pub seek : List ℕ → List ℕ → Option CidParts → List NodeRow → Sought
 seek key previous before [] = sought.Below before

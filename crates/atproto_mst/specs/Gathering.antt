@@ -7,7 +7,7 @@ use Rattle.atproto_mst.specs.Nodes.{NodeRow, key_of_row}
 use Rattle.atproto_mst.specs.Stops.{last_entry_key, ComeBehind, IsRow}
 use Rattle.atproto_mst.specs.declared.entries.MstEntry.{MstEntry}
 
--- entries that are so stand behind those that there were, and their keys come behind the last key
+-- entries that are so stand after those that there were, and their keys come after the last key
 pub record GathersEntries (W : List Entry → Type 0) (old new : Vec MstEntry Global) : Type 0 where
   pub found : List Entry
   pub walked : W found
@@ -18,7 +18,7 @@ pub record GathersEntries (W : List Entry → Type 0) (old new : Vec MstEntry Gl
 abbrev pub key_behind : ℕ → List MstEntry → List ℕ
 key_behind n es = last_entry_key [] (entries (take n es))
 
--- the row's entry stands behind those that there were
+-- the row's entry stands after those that there were
 pub record AddsRow (r : NodeRow) (previous : List ℕ) (old new : Vec MstEntry Global) : Type 0 where
   pub row : IsRow previous (last_entry_key [] (entries old.items)) r
   pub all : entries new.items ≡ entries old.items ++ (key_of_row previous r, r.value) ∷ []

@@ -13,12 +13,12 @@ abbrev pub IsLayerRow : ℕ → List ℕ → NodeRow → Type 0
 IsLayerRow n previous r = (key_layer (key_of_row previous r) ≡ n)
     × (r.shared ≡ shared previous (key_of_row previous r))
 
--- the node behind the link, if there is one, is so
+-- the node under the link, if there is one, is so
 abbrev pub IfLinked : (CidParts → Type 0) → Option CidParts → Type 0
 IfLinked F None = ⊤
 IfLinked F (Some name) = F name
 
--- rows of layer n behind a key, where nodes behind links are so
+-- rows of layer n after a key, where nodes under links are so
 abbrev pub AreRowsOf : (CidParts → Type 0) → ℕ → List ℕ → List NodeRow → Type 0
 AreRowsOf F n previous [] = ⊤
 AreRowsOf F n previous (r ∷ rs) = IsLayerRow n previous r × IfLinked F r.after

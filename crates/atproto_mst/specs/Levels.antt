@@ -21,7 +21,7 @@ abbrev pub link_items : Option CidParts → List LevelItem
 link_items None = []
 link_items (Some name) = a_link name ∷ []
 
--- of rows behind a key
+-- of rows after a key
 abbrev pub row_items : List ℕ → List NodeRow → List LevelItem
 row_items previous [] = []
 row_items previous (r ∷ rs) = an_entry (key_of_row previous r, r.value)

@@ -47,7 +47,7 @@ pub record IsNodeAt (stored : Stored) (name : CidParts) (p : NodeParts) : Type 0
   pub named : name ≡ block_name block
   pub node : IsNode block p
 
--- the key of an entry behind this key
+-- the key of an entry after this key
 abbrev pub key_of_row : List ℕ → NodeRow → List ℕ
 key_of_row previous r = take r.shared previous ++ r.rest
 

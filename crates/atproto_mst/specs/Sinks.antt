@@ -6,7 +6,7 @@ use Rattle.ipld_links.specs.Reaching.{Stored}
 use Rattle.atproto_mst.specs.declared.error.MstError.{MstError}
 use Rattle.atproto_mst.specs.declared.error.MstError.TheVariants.{OutOfMemory}
 
--- these were handed over behind those that were before
+-- these were handed over after those that were before
 abbrev pub HandsOver : {S W : Type 0} → (S → W → List Section → Type 0) → S → List Section → S → Type 0
 HandsOver {S} {W} holds old taken new = (world : W) (before : List Section) → holds old world before
     → holds new world (before ++ taken)

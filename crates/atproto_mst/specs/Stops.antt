@@ -26,7 +26,7 @@ NodeFault stored name (error.NoNode other) = (other ≡ name)
     × ((b : List ℕ) × (stored name ≡ Some b) × (name ≡ block_name b) × ((p : NodeParts) → ¬ IsNode b p))
 NodeFault stored name _ = ⊥
 
--- what is wrong with a row behind this key of its node, where this key comes before it in the tree
+-- what is wrong with a row after this key of its node, where this key comes before it in the tree
 abbrev pub RowFault : List ℕ → List ℕ → NodeRow → MstError → Type 0
 RowFault previous before r error.KeyFront = length previous < r.shared
 RowFault previous before r error.KeyLength = (r.shared ≤ length previous)
@@ -41,7 +41,7 @@ pub record IsRow (previous before : List ℕ) (r : NodeRow) : Type 0 where
   pub is_key : IsKey (key_of_row previous r)
   pub behind : slice_cmp nat_cmp before (key_of_row previous r) ≡ Less
 
--- the entries have keys, which rise, and come behind this key
+-- the entries have keys, which rise, and come after this key
 pub record ComeBehind (before : List ℕ) (es : List Entry) : Type 0 where
   pub keys : HaveKeys es
   pub rise : Rise es
@@ -54,13 +54,13 @@ last_entry_key before (e ∷ es) = last_entry_key e.0 es
 
 -- ---- the walk
 
--- In the tree behind a link; or that tree has no entry.
+-- In the tree under a link; or that tree has no entry.
 abbrev pub StopsBehind : (CidParts → List Entry → Type 0) → (List ℕ → CidParts → MstError → Type 0)
     → List ℕ → Option CidParts → MstError → Type 0
 StopsBehind W S before None e = ⊥
 StopsBehind W S before (Some name) e = S before name e ⊎ ((e ≡ error.OtherTree) × W name [])
 
--- At a row; else in the tree behind it; else, behind that tree, at a later row.
+-- At a row; else in the tree after it; else, after that tree, at a later row.
 abbrev pub StopsInRows : (CidParts → List Entry → Type 0) → (List ℕ → CidParts → MstError → Type 0)
     → List ℕ → List ℕ → List NodeRow → MstError → Type 0
 StopsInRows W S before previous [] e = ⊥
@@ -69,14 +69,14 @@ StopsInRows W S before previous (r ∷ rs) e = RowFault previous before r e
     ⊎ ((below : List Entry) × WalksLink W r.after below × ComeBehind (key_of_row previous r) below
     × StopsInRows W S (last_entry_key (key_of_row previous r) below) (key_of_row previous r) rs e)))
 
--- In the tree before the first key; else behind it.
+-- In the tree before the first key; else after it.
 abbrev pub StopsInNode : (CidParts → List Entry → Type 0) → (List ℕ → CidParts → MstError → Type 0)
     → List ℕ → NodeParts → MstError → Type 0
 StopsInNode W S before p e = StopsBehind W S before p.left e
     ⊎ ((below : List Entry) × WalksLink W p.left below × ComeBehind before below
     × StopsInRows W S (last_entry_key before below) [] p.rows e)
 
--- From the root of this name, behind this key, where at most so many nodes stand below each other.
+-- From the root of this name, after this key, where at most so many nodes stand below each other.
 abbrev pub StopsWalk : ℕ → Stored → List ℕ → CidParts → MstError → Type 0
 StopsWalk zero stored before name e = e ≡ error.TooDeep name
 StopsWalk (suc m) stored before name e = NodeFault stored name e

@@ -38,7 +38,7 @@ abbrev pub row_tree : ℕ → List ℕ → CidParts → Option CidParts → Tree
 row_tree p k v t = mapping (entry (codes "k") (bytes k) (entry (codes "p") (integer (pos p))
     (entry (codes "t") (link_tree t) (entry (codes "v") (link (cid_bytes v)) no_entries))))
 
--- the entry of a leaf behind this key
+-- the entry of a leaf after this key
 abbrev pub entry_tree : List ℕ → Leaf → Option CidParts → Tree
 entry_tree previous e t = row_tree (shared previous e.key) (drop (shared previous e.key) e.key) e.value t
 
@@ -69,9 +69,9 @@ subtree (suc n) (e ∷ es) = Some (block_name (spelling (node_over (subtree n) n
 unfoldable pub node : ℕ → List Leaf → Tree
 node n es = node_over (subtree n) n es
 
--- ---- the nodes of a tree, as sections: each behind those below it
+-- ---- the nodes of a tree, as sections: each after those below it
 
--- the nodes between and behind the leaves of layer n
+-- the nodes between and after the leaves of layer n
 abbrev pub nodes_between : (List Leaf → List Section) → ℕ → List Leaf → List Section
 nodes_between nodes n [] = []
 nodes_between nodes n (e ∷ es) =

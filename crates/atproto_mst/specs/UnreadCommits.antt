@@ -7,7 +7,7 @@ use Rattle.repository_types.specs.Repository.{commit_shape}
 use Rattle.atproto_mst.specs.declared.repo_error.RepoError.{RepoError}
 use Rattle.atproto_mst.specs.declared.repo_error.RepoError.TheVariants as error
 
--- it shows no commit; where one stands first in it, the cause is what stands behind
+-- it shows no commit; where one stands first in it, the cause is what follows
 abbrev pub UnreadCommit : List ℕ → RepoError → Type 0
 UnreadCommit b error.OutOfMemory = ⊤
 UnreadCommit b (error.NoCommit e) = HoldsNoValue commit_shape default_steps b

@@ -7,12 +7,12 @@ use Rattle.ipld_links.specs.Reaching.{Stored}
 use Rattle.atproto_mst.specs.Keys.{Entry}
 use Rattle.atproto_mst.specs.Nodes.{NodeRow, NodeParts, IsNodeAt, key_of_row}
 
--- the entries of the tree behind a link, which has some; no link has none
+-- the entries of the tree under a link, which has some; no link has none
 abbrev pub WalksLink : (CidParts → List Entry → Type 0) → Option CidParts → List Entry → Type 0
 WalksLink W None es = es ≡ []
 WalksLink W (Some name) es = W name es × (es ≢ [])
 
--- the entries of these rows behind a key, and of the trees behind them
+-- the entries of these rows after a key, and of the trees after them
 abbrev pub WalksRows : (CidParts → List Entry → Type 0) → List ℕ → List NodeRow → List Entry → Type 0
 WalksRows W previous [] es = es ≡ []
 WalksRows W previous (r ∷ rs) es = (r.shared ≤ length previous)

@@ -67,7 +67,7 @@ pub(crate) fn name_node<S: NodeSink>(
     hand_over(alloc, &Node { l: left, e: rows }, sink)
 }
 
-/// Hands over the nodes between and behind the leaves of the layer, of which the first is one, and
+/// Hands over the nodes between and after the leaves of the layer, of which the first is one, and
 /// answers the entries of these.
 #[cycle(build)]
 fn name_rows<S: NodeSink>(
@@ -103,7 +103,7 @@ fn name_rows<S: NodeSink>(
     Ok(rows)
 }
 
-/// The entry of a leaf behind this key, before the node.
+/// The entry of a leaf after this key, before the node.
 fn row_of(
     alloc: Global,
     previous: &[u8],

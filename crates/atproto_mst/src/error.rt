@@ -15,7 +15,7 @@ pub enum MstError {
     /// A key has no byte, or more than 1024.
     #[error("a key has no byte, or more than 1024")]
     KeyLength,
-    /// A key does not come behind the one before it in the order of bytes.
+    /// A key does not come after the one before it in the order of bytes.
     #[error("the keys do not rise")]
     KeyOrder,
     /// An entry shares more bytes with the key before it than that has.

@@ -166,7 +166,7 @@ fn open_level(
     })
 }
 
-/// Appends the entry, and what stands behind it in the level below.
+/// Appends the entry, and what follows it in the level below.
 fn open_entry(
     alloc: Global,
     blocks: &BTreeMap<Cid, Vec<u8>>,
@@ -232,7 +232,7 @@ fn no_node(alloc: Global) -> Node
     }
 }
 
-/// Appends the entries of a node, and the links behind them.
+/// Appends the entries of a node, and the links after them.
 fn push_rows(alloc: Global, node: &Node, opened: &mut Vec<LevelEntry>) -> Result<(), MstError>
     ensures pushed { OnOk result (held_items opened.new.items
         ≡ held_items opened.old.items ++ row_items [] (node_told node.now).rows) }
@@ -245,7 +245,7 @@ fn push_rows(alloc: Global, node: &Node, opened: &mut Vec<LevelEntry>) -> Result
     Ok(())
 }
 
-/// Appends the entry of a row, and the link behind it, and makes its key of the one before it.
+/// Appends the entry of a row, and the link after it, and makes its key of the one before it.
 fn push_row(
     alloc: Global,
     row: &Row,
@@ -271,7 +271,7 @@ fn push_row(
     push_entry(MstEntry { key, value }, row.t, opened)
 }
 
-/// Appends the entry and the link behind it, if its key comes behind that of the last.
+/// Appends the entry and the link after it, if its key comes after that of the last.
 fn push_entry(
     entry: MstEntry,
     after: Option<Cid>,

@@ -61,7 +61,7 @@ pub(crate) fn root_layer(root: &Node) -> u8
     }
 }
 
-/// Appends the entries of the tree of this root, whose keys come behind the last, and answers
+/// Appends the entries of the tree of this root, whose keys come after the last, and answers
 /// whether its nodes stand in the layers right below this one.
 #[cycle(gather)]
 fn gather(
@@ -153,7 +153,7 @@ fn gather_below(
     Ok(fits)
 }
 
-/// Appends the entries of the rows of a node and of the trees behind them, and answers whether they
+/// Appends the entries of the rows of a node and of the trees after them, and answers whether they
 /// are of the layer, and the trees right below.
 #[cycle(gather)]
 fn gather_rows(
@@ -185,7 +185,7 @@ fn gather_rows(
     Ok(fits)
 }
 
-/// Appends the entry of the row behind that entry of its node, and answers whether it is one of the
+/// Appends the entry of the row after that entry of its node, and answers whether it is one of the
 /// layer.
 fn add_row(
     alloc: Global,
@@ -218,7 +218,7 @@ fn add_row(
     Ok(fits)
 }
 
-/// The key of the row behind this key of its node.
+/// The key of the row after this key of its node.
 fn make_key(alloc: Global, previous: &[u8], row: &Row) -> Result<Vec<u8>, MstError>
     ensures made { IfOk result (λ key. (row.now.p ≤ length previous.now)
         × (key.items ≡ key_of_row previous.now (row_told row.now)) × IsKey key.items) }

@@ -7,7 +7,7 @@ ghost use Rattle.atproto_mst.specs.Sinks.{HandsOver, RefusesOne};
 use crate::error::MstError;
 use ipld_tree::Cid;
 
-/// What is done with the nodes of a tree, each behind those below it.
+/// What is done with the nodes of a tree, each after those below it.
 pub trait NodeSink {
     ghost use Rattle.atproto_mst.specs.declared.error.MstError.{MstError};
 

@@ -13,7 +13,7 @@ use crate::sink::NodeSink;
 use ipld_tree::Cid;
 use std::alloc::Global;
 
-/// Hands over the nodes of the tree of these entries, each once and behind those below it, and
+/// Hands over the nodes of the tree of these entries, each once and after those below it, and
 /// answers the name of the root, which is the last. Where entries are refused none is handed over;
 /// where memory is wanted or a node refused, the first of them were, and no others.
 pub fn write_mst<S: NodeSink>(

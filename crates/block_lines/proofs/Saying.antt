@@ -49,7 +49,7 @@ pub known_anyway : {A E X : Type 0} (r : Result A E) → X → OnOk r X
 known_anyway (Ok v) x = x
 known_anyway (Err e) x = tt
 
--- ---- each, one behind the other
+-- ---- each, one after the other
 
 -- one more
 pub each_push : {X : Type 0} (IsSaid : X → Bool → List ℕ → Type 0) (xs : List X) (x : X) (all well : Bool) (lines line : List ℕ) → IsSaidOfEach IsSaid xs all lines → IsSaid x well line → IsSaidOfEach IsSaid (xs ++ x ∷ []) (all && well) (lines ++ line)

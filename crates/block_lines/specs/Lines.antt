@@ -46,7 +46,7 @@ verdict_line p = line (cid_text p.0.0 ++ (32 ∷ verdict_text p.1))
 abbrev pub listed_line : Section → List ℕ
 listed_line s = line (cid_text s.0 ++ (32 ∷ decimal (length s.1)))
 
--- of a name behind a word, by its binary form
+-- of a name after a word, by its binary form
 abbrev pub named_line : List ℕ → List ℕ → List ℕ
 named_line word form = line (word ++ text_of_form form)
 
@@ -66,7 +66,7 @@ refused_line e = line (codes "refused " ++ fault_name e)
 abbrev pub no_cid_line : CidTextError → List ℕ
 no_cid_line e = line (codes "no CID: " ++ cid_fault_name e)
 
--- what is said of each, one behind the other, and whether all of it tells of nothing wrong
+-- what is said of each, one after the other, and whether all of it tells of nothing wrong
 abbrev pub IsSaidOfEach : {X : Type 0} → (X → Bool → List ℕ → Type 0) → List X → Bool → List ℕ → Type 0
 IsSaidOfEach IsSaid [] well out = (well ≡ true) × (out ≡ [])
 IsSaidOfEach IsSaid (x ∷ xs) well out = (first others : Bool) × (line lines : List ℕ)

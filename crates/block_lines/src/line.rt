@@ -49,7 +49,7 @@ pub fn say_both<W: Write, V: Write>(
 /// Room for a line of a CID and two words, so that most lines take memory once.
 const ROOM: usize = 160;
 
-/// The texts, one behind the other, and a line feed.
+/// The texts, one after the other, and a line feed.
 pub fn line_of(
     alloc: Global,
     first: &[u8],
@@ -74,7 +74,7 @@ pub fn listed_line(alloc: Global, cid: &Cid, block: &[u8]) -> Result<Vec<u8>, Al
     line_of(alloc, &cid_text(cid), b" ", length.as_bytes())
 }
 
-/// The line of a name behind a word.
+/// The line of a name after a word.
 pub fn named_line(alloc: Global, word: &[u8], cid: &Cid) -> Result<Vec<u8>, AllocError>
     ensures { IfOk result (λ v. v.items ≡ named_line word.now (cid_bytes cid.now)) }
 {

@@ -8,7 +8,7 @@ use Rattle.block_trees.specs.RootRows.{IsRootTooLong}
 use Rattle.sqlite_trees.specs.declared.error.StoreError.{StoreError}
 use Rattle.sqlite_trees.specs.declared.error.StoreError.TheVariants.{OutOfMemory, Io, Corrupt, Full, Broken, Unstorable}
 
--- a later step failed, behind steps that left the transaction as sound as it was
+-- a later step failed, after steps that left the transaction as sound as it was
 pub cause_then : (old mid : View) (a b c : ℕ) (U V : Type 0) (e : StoreError) → a ≤ b → mid.is_broken ≡ old.is_broken → (U → V) → HasCause mid (MoreFaults b c) U e → HasCause old (MoreFaults a c) V e
 cause_then old mid a b c U V OutOfMemory up same f h = tt
 cause_then old mid a b c U V Io up same f h = omega arith

@@ -119,7 +119,7 @@ none_from bound (e ∷ es) h q l = by (is_lt (prefix_cmp plain e (Blob bound ∷
     ]
     by false t none more = absurd (cc none)
 
--- the entry that a seek stands at is not below the bound, and each other such is behind it
+-- the entry that a seek stands at is not below the bound, and each other such is after it
 first_behind : (bound : List ℕ) (es left : List Row) (e : Row) (n : List ℕ) (id : ℤ) → IsIndex plain es → from_key plain (Blob bound ∷ []) es ≡ e ∷ left → e ≡ name_entry n id
     → (is_lt (name_cmp n bound) ≡ false) × ((q : List ℕ) → IsListed es q → is_lt (name_cmp q bound) ≡ false → (q ≡ n) ⊎ (name_cmp n q ≡ Less))
 first_behind bound [] left e n id up h is = absurd (cc h)

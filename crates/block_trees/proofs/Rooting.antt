@@ -99,7 +99,7 @@ kept_all : (id : ℤ) (rows : List Row) → AllByRecursion (λ r. has_rowid id r
 kept_all id [] free = refl
 kept_all id (r ∷ rows) free = rw free.0 (ap (λ l. r ∷ l) (kept_all id rows free.1))
 
--- rows behind one with this number have another
+-- rows after one with this number have another
 others_behind : (id : ℤ) (r : Row) (rows : List Row) → rowid r ≡ Int id → AllByRecursion (λ x. value_cmp (rowid r) (rowid x) ≡ Less) rows → AllByRecursion (λ x. has_rowid id x ≡ false) rows
 others_behind id r [] is up = tt
 others_behind id r (x ∷ rows) is up = (by, others_behind id r rows is up.1)

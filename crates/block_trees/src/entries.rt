@@ -162,7 +162,7 @@ pub(crate) fn free_number<S: Store>(
     }
 }
 
-/// The next number. None behind the greatest, and behind what is no number.
+/// The next number. None after the greatest, and after what is no number.
 fn number_above(value: ValueRef<'_>) -> Option<i64>
     ensures { MatchOption result ((id : _) → owned value.entry ≡ Int id → id ≡ last_id)
         (λ n. (id : _) × (owned value.entry ≡ Int id) × (n ≡ id +ℤ pos 1)) }

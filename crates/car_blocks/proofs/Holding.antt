@@ -42,7 +42,7 @@ all_push : (ss : List Section) (s : Section) → AllByRecursion IsSection ss →
 all_push [] s h p = (p, tt)
 all_push (x ∷ ss) s h p = (h.0, all_push ss s h.1 p)
 
--- behind some sections this is left, and their blocks are stored
+-- after some sections this is left, and their blocks are stored
 pub record SoFar (b rest : List ℕ) (stored : Stored) : Type 0 where
   pub sections : List Section
   pub splits : SplitsSections b sections rest
@@ -104,7 +104,7 @@ header_for b faults.InvalidOffset h = no_header b h.0
 pub header_refused : (b : List ℕ) (e : CarError Infallible) → HeaderRefused e b → BlocksRefused b e
 header_refused b e h = (header_for b e h, inl h)
 
--- where a header stands, and behind it sections, and then none though bytes do, the bytes are no file
+-- where a header stands, and after it sections, and then none though bytes do, the bytes are no file
 no_sections : (b rest left : List ℕ) (roots : List (List ℕ)) (ss : List Section) → SplitsHeader b roots rest → SplitsSections rest ss left → BeginsNoSection left → 0 < length left → IsNoCar b
 no_sections b rest left roots ss h split none some others ts car =
     let same = header_unique roots others rest (flat_map section_bytes ts) h.0 car.header (sym h.1 ∙ car.is) in

@@ -43,7 +43,7 @@ SplitsSections b ss rest = AllByRecursion IsSection ss × (b ≡ flat_map sectio
 abbrev pub HoldsSections : List ℕ → Stored → Type 0
 HoldsSections b stored = (ss : List Section) × SplitsSections b ss [] × (stored ≡ stored_of ss)
 
--- behind some sections memory is wanted for the next, or none stands, though bytes do, for this cause
+-- after some sections memory is wanted for the next, or none stands, though bytes do, for this cause
 abbrev pub StopsAt : List ℕ → CarError Infallible → Type 0
 StopsAt b OutOfMemory = (s : Section) × (rest : List ℕ) × SplitsSection b s rest
 StopsAt b e = BeginsNoSection b × SectionFault e b × (0 < length b)
@@ -61,7 +61,7 @@ abbrev pub IsNoCarFor : List ℕ → CarError Infallible → Type 0
 IsNoCarFor b OutOfMemory = ⊤
 IsNoCarFor b e = IsNoCar b
 
--- why no blocks are held: the header is refused, or what stands behind it
+-- why no blocks are held: the header is refused, or what follows it
 abbrev pub BlocksRefused : List ℕ → CarError Infallible → Type 0
 BlocksRefused b e = IsNoCarFor b e × (HeaderRefused e b
     ⊎ ((roots : List (List ℕ)) × (rest : List ℕ) × SplitsHeader b roots rest × NoSections rest e))

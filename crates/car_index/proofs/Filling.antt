@@ -1,4 +1,4 @@
--- A room that is filled, one read behind the other.
+-- A room that is filled, one read after the other.
 use Rattle.std.proofs.Common.{◌≡◌, ℕ, ◌+◌, ◌-◌, ◌^◌, ◌<◌, ◌≤◌, min, List, [], ◌++◌, length, take, drop, Option, None, Some, IfSome, sym, ap, ◌∙◌, arith}
 use Rattle.std.proofs.lemmas.List.{take-append-le, drop-drop, length-take, length-drop}
 use Rattle.std.proofs.Math.Seq.{take-add, take-append-add}

@@ -15,7 +15,7 @@ use Rattle.car_index.proofs.Lookups.{number_some}
 
 -- ---- bytes at a place
 
--- the bytes behind the first of those at a place
+-- the bytes after the first of those at a place
 pub behind_front : (b xs rest : List ℕ) (p n : ℕ) → n ≡ length xs → drop p b ≡ xs ++ rest → drop (p + n) b ≡ rest
 behind_front b xs rest p n long is =
     sym (drop-drop n p b) ∙ (ap (drop n) is ∙ (ap (λ m. drop m (xs ++ rest)) long ∙ drop-append_seam xs rest))
@@ -67,7 +67,7 @@ entries_long w (e ∷ es) h =
 abbrev pub bucket_there : ℕ → Run → Bucket
 bucket_there p r = record { begin = p + 12; width = r.0; count = length r.1 }
 
--- the head of a run, its entries, and what stands behind them
+-- the head of a run, its entries, and what follows them
 pub record IsRunAt (b rest : List ℕ) (p : ℕ) (r : Run) : Type 0 where
   pub head : bucket_at b p ≡ Some (bucket_there p r, (p + 12) + r.0 * length r.1)
   pub entries : drop (p + 12) b ≡ flat_map entry_bytes r.1 ++ rest
@@ -99,7 +99,7 @@ run_front b rest p r fits run is =
         ∙ (ap (λ v. cond v (Some (record { begin = begin; width = width; count = long / width }, begin + long)) None) (lt-ltb (begin + long) (2 ^ 64) ends)
         ∙ ap (λ n. Some (record { begin = begin; width = width; count = n }, begin + long)) is)
 
--- what stands behind all runs
+-- what follows all runs
 pub runs_behind : (b rest : List ℕ) (p : ℕ) (rs : List Run) → length b < 2 ^ 64 → AllByRecursion IsWidthRun rs → drop p b ≡ flat_map bucket_bytes rs ++ rest → (q : ℕ) × (after_heads b (length rs) p ≡ Some q) × (drop q b ≡ rest)
 runs_behind b rest p [] fits each is = (p, refl, is)
 runs_behind b rest p (r ∷ rs) fits each is =
@@ -151,7 +151,7 @@ buckets_front : (b rest : List ℕ) (p : ℕ) (es : List EntryParts) → length 
 buckets_front b rest p es few is =
     count_front b (flat_map bucket_bytes (runs width_of es) ++ rest) p (length (runs width_of es)) few (is ∙ append_assoc (to_le_bytes w32 (length (runs width_of es))) (flat_map bucket_bytes (runs width_of es)) rest)
 
--- the code of a run, its entries, and what stands behind them
+-- the code of a run, its entries, and what follows them
 pub record IsCodeAt (b rest : List ℕ) (p : ℕ) (s : Run) : Type 0 where
   pub code : number_in w64 b p ≡ Some s.0
   pub buckets : drop (p + 8) b ≡ buckets_bytes s.1 ++ rest

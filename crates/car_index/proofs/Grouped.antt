@@ -236,7 +236,7 @@ module _ (key : EntryParts → ℕ) where
       ∙ (ap (λ v. cond v ((key e, e ∷ (x ∷ xs)) ∷ runs key more) ((key e, e ∷ []) ∷ ((k, x ∷ xs) ∷ runs key more))) (eq-eqb k (key e) (sym same.0))
       ∙ ap (λ n. (n, e ∷ (x ∷ xs)) ∷ runs key more) same.0)
 
-  -- those behind entries of other keys stand behind their runs
+  -- those after entries of other keys stand after their runs
   pub run_parted : (k : ℕ) (below : List EntryParts) (e : EntryParts) (es above : List EntryParts) → AllByRecursion (λ x. key x ≡ k → ⊥) below → AllByRecursion (λ x. key x ≡ k) (e ∷ es) → AllByRecursion (λ x. key x ≡ k → ⊥) above → runs key (below ++ ((e ∷ es) ++ above)) ≡ runs key below ++ ((k, e ∷ es) ∷ runs key above)
   run_parted k [] e es above others same more = one_run k e es above same more
   run_parted k (b ∷ []) e es above others same more =

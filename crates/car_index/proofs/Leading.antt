@@ -75,7 +75,7 @@ module _ (b : List ℕ) (w : ℕ) (es : List EntryParts) (found : Option Bucket)
       (behind_front b k.at.digest (to_le_bytes w64 k.at.offset ++ (flat_map entry_bytes k.behind ++ h.rest)) (entry_place h.bucket n) long (omega (arith, is, entry_wide n k))
       (entry_stands n k ∙ append_assoc k.at.digest (to_le_bytes w64 k.at.offset) (flat_map entry_bytes k.behind ++ h.rest)))).0
 
-  -- no entry ends behind the bytes
+  -- no entry ends after the bytes
   none_ends : (digest : List ℕ) → length digest + 8 ≡ w → EndsWithin b h.bucket digest → ⊥
   none_ends digest is (n, less, short) =
       let k = parted es n (omega (arith, less, h.count)) in
@@ -115,7 +115,7 @@ abbrev moved : {X : Type 0} (xs ys : List X) (n : ℕ) → xs ≡ ys → Parted 
 moved xs ys n same k = record { before = k.before; at = k.at; behind = k.behind; is = same ∙ k.is; long = k.long }
 
 module _ (b : List ℕ) (w : ℕ) (es : List EntryParts) (found : Option Bucket) (h : FindsRun b (w, es) found) (wide : AllByRecursion (λ e. width_of e ≡ w) es) (room : AllByRecursion HasRoom es) (digest : List ℕ) (is : length digest + 8 ≡ w) (t : InThree (rank digest) 1 es) where
-  -- the first entry of the digest stands behind those below it
+  -- the first entry of the digest stands after those below it
   first_there : (n : ℕ) → IsFirst b h.bucket digest n → n ≡ length t.below
   first_there n f = elim (cases_lt n (length t.below)) [
     | inl less ↦ too_low less
@@ -163,12 +163,12 @@ module _ (b : List ℕ) (w : ℕ) (es : List EntryParts) (found : Option Bucket)
 
 -- ---- where an entry stands among those of its multihash
 
--- an element that is so, behind ones that are not
+-- an element that is so, after ones that are not
 not_among : {X : Type 0} (P : X → Type 0) (xs ys : List X) (x : X) → x ∷ xs ≡ ys → P x → AllByRecursion (λ y. P y → ⊥) ys → ⊥
 not_among P xs ys x is p none = (subst (AllByRecursion (λ y. P y → ⊥)) (sym is) none).0 p
 
 module _ {X : Type 0} (P : X → Type 0) (there above : List X) (so : AllByRecursion P there) (none : AllByRecursion (λ y. P y → ⊥) above) where
-  -- behind the same elements that are not so the same stand
+  -- after the same elements that are not so the same stand
   same_behind : (x : X) (xs before below : List X) → P x → AllByRecursion (λ y. P y → ⊥) before → AllByRecursion (λ y. P y → ⊥) below → before ++ (x ∷ xs) ≡ below ++ (there ++ above) → x ∷ xs ≡ there ++ above
   same_behind x xs [] [] p h k is = is
   same_behind x xs [] (y ∷ ys) p h k is = let same : x ≡ y = cc is in absurd (k.0 (subst P same p))
@@ -179,7 +179,7 @@ module _ {X : Type 0} (P : X → Type 0) (there above : List X) (so : AllByRecur
       by (t ∷ ts) s i = let same : y ≡ t = cc i in absurd (h.0 (subst P (sym same) s.0))
   same_behind x xs (y ∷ ys) (z ∷ zs) p h k is = let rest : ys ++ (x ∷ xs) ≡ zs ++ (there ++ above) = cc is in same_behind x xs ys zs p h.1 k.1 rest
 
-  -- elements that are so, behind which one stands that is so too, are the first of those
+  -- elements that are so, after which one stands that is so too, are the first of those
   first_among : (same ts behind : List X) (x : X) → P x → AllByRecursion P same → same ++ (x ∷ behind) ≡ ts ++ above → AllByRecursion P ts → (more : List X) × (ts ≡ same ++ (x ∷ more))
   first_among [] [] behind x p h is s = absurd (not_among P behind above x is p none)
   first_among [] (t ∷ ts) behind x p h is s = let it : x ≡ t = cc is in (ts, ap (λ v. v ∷ ts) (sym it))

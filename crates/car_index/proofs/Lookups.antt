@@ -66,7 +66,7 @@ pub ok_map : {A E : Type 0} {P Q : A → Type 0} (r : Result A E) → IfOk r P �
 ok_map (Ok a) h f = f a h
 ok_map (Err e) h f = tt
 
--- ---- one head behind the other
+-- ---- one head after the other
 
 pub after_more : (b : List ℕ) (count i next behind : ℕ) (bucket : Bucket) (whole : Option ℕ) → i < count → after_heads b (count - i) next ≡ whole → Some (bucket, behind) ≡ bucket_at b next → after_heads b (count - (i + 1)) behind ≡ whole
 after_more b count i next behind bucket whole more was is =
@@ -101,7 +101,7 @@ module _ (b : List ℕ) (width : ℕ) where
         let one : count - i ≡ suc (count - (i + 1)) = omega arith in
         ap (option_and_then (λ c. cond (c == code) (bucket_in b width (next + 8)) (option_and_then (bucket_under_from b code width (count - (i + 1))) (after_buckets b (next + 8))))) is ∙ (sym (ap (λ n. bucket_under_from b code width n next) one) ∙ was)
 
-    -- the place behind the code
+    -- the place after the code
     behind_code : (next buckets c : ℕ) → length b < 2 ^ 64 → Some c ≡ number_in w64 b next → buckets ≡ min (next + 8) (2 ^ 64 - 1) → buckets ≡ next + 8
     behind_code next buckets c below is at =
         let there : next + 8 ≤ length b = number_there w64 b next c is in omega arith
@@ -133,7 +133,7 @@ equal_reversed Greater is = cc is
 pub same_equal : {K : Type 0} {R : K → K → Ordering} → IsTotalOrder R → (x : K) → R x x ≡ Equal
 same_equal {K} {R} o x = equal_reversed (R x x) (o.antisymm x x)
 
--- what stands behind a place that can be named, or stands behind all that can be
+-- what follows a place that can be named, or stands after all that can be
 pub capped : (b : List ℕ) (place next : ℕ) → length b < 2 ^ 64 → next ≡ min place (2 ^ 64 - 1) → drop next b ≡ drop place b
 capped b place next below is = elim (cases_lt place (2 ^ 64)) [
   | inl named ↦ let same : next ≡ place = omega arith in ap (λ p. drop p b) same

@@ -10,11 +10,11 @@ abbrev pub front_of : (EntryParts → ℕ) → ℕ → List EntryParts → ℕ
 front_of key n es = prefix_len (λ e. key e == n) es
 
 module _ (key : EntryParts → ℕ) where
-  -- the first run, and those behind it, where it has so many entries behind the first
+  -- the first run, and those after it, where it has so many entries after the first
   abbrev split_there : EntryParts → List EntryParts → ℕ → List Run
   split_there e es n = (key e, take n (e ∷ es)) ∷ runs key (drop n (e ∷ es))
 
-  -- the runs are the first one, and those behind it
+  -- the runs are the first one, and those after it
   pub front_run : (e : EntryParts) (es : List EntryParts) → runs key (e ∷ es) ≡ split_there e es (suc (front_of key (key e) es))
   front_run e [] = refl
   front_run e (d ∷ es) = go (key d == key e) refl (front_run d es)
@@ -39,7 +39,7 @@ module _ (key : EntryParts → ℕ) where
       go : (b : Bool) → (key d == key e) ≡ b → runs key (d ∷ es) ≡ split_there d es (suc (front_of key (key d) es)) → runs key (e ∷ (d ∷ es)) ≡ split_there e (d ∷ es) (suc (front_of key (key e) (d ∷ es)))
       go b is h = ap (before_runs (key e) e) h ∙ (by b is h ∙ (none_else b is h ∙ ap (λ v. split_there e (d ∷ es) (suc (cond v (1 + front_of key (key e) es) 0))) (sym is)))
 
-  -- the same, by the entries behind the first that are of its key
+  -- the same, by the entries after the first that are of its key
   pub run_split : (xs : List EntryParts) (e : EntryParts) (m n : ℕ) → 1 ≤ length xs → e ≡ get_or xs 0 e → m ≡ key e → n ≡ length (take_while (λ x. key x == m) (take (length xs - 1) (drop 1 xs))) → (length (drop (1 + n) xs) < length xs) × (runs key xs ≡ (m, take (1 + n) xs) ∷ runs key (drop (1 + n) xs))
   run_split [] e m n some is at count = absurd (omega arith)
   run_split (d ∷ es) e m n some is at count =

@@ -26,7 +26,7 @@ entry_cmp = then_cmp (on hash_code_of nat_cmp)
     (then_cmp (on (λ e. length e.digest) nat_cmp)
     (then_cmp (on (λ e. e.digest) (slice_cmp nat_cmp)) (on (λ e. e.offset) nat_cmp)))
 
--- entries of one key that stand one behind the other, behind that key
+-- entries of one key that stand one after the other, after that key
 abbrev pub Run : Type 0
 Run = ℕ × List EntryParts
 
@@ -55,7 +55,7 @@ abbrev pub buckets_bytes : List EntryParts → List ℕ
 buckets_bytes es = to_le_bytes w32 (length (runs width_of es))
     ++ flat_map bucket_bytes (runs width_of es)
 
--- entries of one hash code, behind that
+-- entries of one hash code, after that
 abbrev pub code_bytes : Run → List ℕ
 code_bytes r = to_le_bytes w64 r.0 ++ buckets_bytes r.1
 

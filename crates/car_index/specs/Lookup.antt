@@ -29,7 +29,7 @@ bucket_from b width zero place = None
 bucket_from b width (suc n) place = option_and_then
     (λ f. if f.0.width == width then Some f.0 else bucket_from b width n f.1) (bucket_at b place)
 
--- those behind their count
+-- those after their count
 abbrev pub bucket_in : List ℕ → ℕ → ℕ → Option Bucket
 bucket_in b width place = option_and_then (λ n. bucket_from b width n (place + 4)) (number_in w32 b place)
 
@@ -52,7 +52,7 @@ bucket_under_from b code width (suc n) place = option_and_then
     else option_and_then (bucket_under_from b code width n) (after_buckets b (place + 8)))
     (number_in w64 b place)
 
--- those behind their count
+-- those after their count
 abbrev pub bucket_under : List ℕ → ℕ → ℕ → ℕ → Option Bucket
 bucket_under b code width place =
     option_and_then (λ n. bucket_under_from b code width n (place + 4)) (number_in w32 b place)

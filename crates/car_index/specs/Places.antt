@@ -2,7 +2,7 @@
 use Rattle.std.specs.Prelude.{◌≡◌, ℕ, ◌+◌, ◌<◌, List, [], length, take, drop, Bool, if◌then◌else◌, nat_lt, Option, None, Some, Result, IfOk, IfSome, MatchBool}
 use Rattle.std.specs.Int.{Width, byte_len, from_le_bytes}
 
--- what was read is what stands at the place, where the bytes are known; nothing is read only behind
+-- what was read is what stands at the place, where the bytes are known; nothing is read only after
 -- them, or into no room
 abbrev pub ReadsThere : {E : Type 0} → Option (List ℕ) → ℕ → Result ℕ E → List ℕ → Type 0
 ReadsThere known place result buf = IfSome known (λ b. IfOk result

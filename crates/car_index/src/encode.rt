@@ -59,7 +59,7 @@ fn push_bucket(out: &mut Vec<u8>, width: u64, entries: &[Entry]) -> Result<(), A
     push_entries(out, entries)
 }
 
-/// Appends the runs of one width, behind their count.
+/// Appends the runs of one width, after their count.
 fn push_buckets(out: &mut Vec<u8>, entries: &[Entry]) -> Result<(), AllocError>
     ensures { OnOk result (out.new.items ≡ out.old.items ++ buckets_bytes entries.now) }
 {
@@ -80,7 +80,7 @@ fn push_code(out: &mut Vec<u8>, code: u64, entries: &[Entry]) -> Result<(), Allo
     push_buckets(out, entries)
 }
 
-/// Appends the runs of one hash code, behind their count.
+/// Appends the runs of one hash code, after their count.
 fn push_codes(out: &mut Vec<u8>, entries: &[Entry]) -> Result<(), AllocError>
     ensures { OnOk result (out.new.items ≡ out.old.items ++ codes_bytes entries.now) }
 {

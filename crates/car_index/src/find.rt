@@ -26,7 +26,7 @@ const BUCKET_HEAD: u64 = 12;
 /// The greatest length of a digest.
 const LONGEST_DIGEST: usize = 64;
 
-/// Entries of one width, one behind the other.
+/// Entries of one width, one after the other.
 #[derive(Clone, Copy, Drop)]
 pub struct Bucket {
     begin: u64,
@@ -34,7 +34,7 @@ pub struct Bucket {
     count: u64,
 }
 
-/// The entries of this width that begin at a place and have so many bytes, and the place behind them.
+/// The entries of this width that begin at a place and have so many bytes, and the place after them.
 fn bucket_of(begin: u64, width: u64, length: u64) -> Option<(Bucket, u64)>
     ensures { result ≡ bucket_of begin width length }
 {
@@ -54,7 +54,7 @@ fn bucket_of(begin: u64, width: u64, length: u64) -> Option<(Bucket, u64)>
     }
 }
 
-/// The entries of a width, and the place behind them. `place` is where their head stands.
+/// The entries of a width, and the place after them. `place` is where their head stands.
 fn bucket_at<S: ReadAt>(source: &S, place: u64) -> io::Result<Option<(Bucket, u64)>>
     ensures { Looks (S.bytes source.now) result (λ b r. r ≡ bucket_at b place) }
 {
@@ -68,7 +68,7 @@ fn bucket_at<S: ReadAt>(source: &S, place: u64) -> io::Result<Option<(Bucket, u6
     Ok(bucket_of(begin, u64::from(width), length))
 }
 
-/// The entries of this width, if there are some: their heads stand behind their count.
+/// The entries of this width, if there are some: their heads stand after their count.
 fn bucket_in<S: ReadAt>(source: &S, place: u64, width: u64) -> io::Result<Option<Bucket>>
     ensures { Looks (S.bytes source.now) result (λ b r. r ≡ bucket_in b width place) }
 {
@@ -86,7 +86,7 @@ fn bucket_in<S: ReadAt>(source: &S, place: u64, width: u64) -> io::Result<Option
     Ok(None)
 }
 
-/// The place behind the entries of each width.
+/// The place after the entries of each width.
 fn behind_buckets<S: ReadAt>(source: &S, place: u64) -> io::Result<Option<u64>>
     ensures { Looks (S.bytes source.now) result (λ b r. r ≡ after_buckets b place) }
 {
@@ -168,7 +168,7 @@ pub fn find_bucket<S: ReadAt>(
 }
 
 impl Bucket {
-    /// Where the entry of this number begins. No bytes stand as far behind as where such a sum stops.
+    /// Where the entry of this number begins. No bytes stand as far on as where such a sum stops.
     fn place_of(&self, number: u64) -> u64
         ensures { result ≡ min (entry_place self.now number) (2 ^ 64 - 1) }
     {

@@ -13,7 +13,7 @@ pub fn fill<S: ReadAt>(source: &S, place: u64, room: &mut [u8]) -> io::Result<bo
 {
     let mut filled = 0;
     while filled < room.len() {
-        // No bytes stand as far behind as where such a sum stops.
+        // No bytes stand as far on as where such a sum stops.
         let next = place.saturating_add(filled as u64);
         let count = source.read_at(&mut room[filled..], next)?;
         if count == 0 {

@@ -18,7 +18,7 @@ pub trait ReadAt {
     /// The bytes, where they are known.
     ghost bytes: { Self → Option (List ℕ) } = { λ _. None };
 
-    /// Reads some bytes from the place on, and answers how many: none behind the last.
+    /// Reads some bytes from the place on, and answers how many: none after the last.
     fn read_at(&self, buf: &mut [u8], place: u64) -> io::Result<usize>
         ensures bound { ReadsAtMost result buf.new }
         ensures bytes { ReadsThere (bytes self.now) place result buf.new }

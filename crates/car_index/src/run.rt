@@ -1,4 +1,4 @@
-//! Entries of one key, that stand one behind the other.
+//! Entries of one key, that stand one after the other.
 
 ghost use Rattle.std.specs.Prelude.{◌≡◌, ◌==◌, ◌∷◌, [], ◌<◌, ◌≤◌, length, take_while, MatchOption};
 ghost use Rattle.car_index.specs.Index.{runs};
@@ -13,7 +13,7 @@ pub(crate) enum Key {
     Width,
 }
 
-/// Entries of one key, and those behind them.
+/// Entries of one key, and those after them.
 #[derive(Clone, Copy)]
 pub(crate) struct Front<'a> {
     pub key: u64,

@@ -9,7 +9,7 @@ use Rattle.cid_text.specs.Alphabets.{IsBase, IsNoSymbol, AreBytes}
 use Rattle.cid_text.proofs.Bits.{all_append, all_push, same_front, length-bits, join, bits_of_zero, length-all_bits, all_bits_below, same_from_bits, bits_of_groups, groups_below}
 use Rattle.cid_text.proofs.Alphabet.{same_from_symbols, no_other_symbol, alphabet_length}
 
--- the numbers are those of the bytes' bits in groups of w, with some zero bits behind
+-- the numbers are those of the bytes' bits in groups of w, with some zero bits after
 pub record IsGrouping (w : ℕ) (bytes values : List ℕ) : Type 0 where
   pub below : AllBelowBase (2 ^ w) values
   pub fill : ℕ

@@ -60,7 +60,7 @@ no_bytes_in bases.Bitcoin58 text e = no_bytes_in_58 text e
 
 -- ---- one fault of a base
 
--- behind whole bytes fewer bits are left than a symbol has
+-- after whole bytes fewer bits are left than a symbol has
 whole_end : (w : ℕ) (symbols text last : List ℕ) → IsBase w symbols → EndsIn w symbols text last → w ≤ (w * length text) % 8 → ⊥
 whole_end w symbols text last base e h =
     let lengths = ends_length e in

@@ -161,7 +161,7 @@ fault_told bases.Lower16 text rest faults.InvalidVersion is h = absurd h.1
 fault_told _ text rest faults.InvalidVersion is h = absurd h.1
 fault_told base text rest _ is h = (base, rest, is, h)
 
--- behind its prefix the text is that of no other CID
+-- after its prefix the text is that of no other CID
 pub only_in : (base : Base) (text rest : List ℕ) (c : CidParts) → text ≡ prefix_of base ∷ rest → IsTextOf text c → (c.version ≡ 1) × IsTextIn base rest c
 only_in base text rest c e h = by h.told
   where

@@ -12,7 +12,7 @@ use Rattle.cid_text.specs.declared.error.CidTextError.TheVariants.{InvalidCharac
 abbrev pub HasOtherCharacter : List ℕ → List ℕ → Type 0
 HasOtherCharacter symbols text = (s : ℕ) × Contains text s × IsNoSymbol symbols s
 
--- behind the last whole byte of a text of these symbols stand such bits, fewer than w
+-- after the last whole byte of a text of these symbols stand such bits, fewer than w
 pub record EndsIn (w : ℕ) (symbols text last : List ℕ) : Type 0 where
   pub values : List ℕ
   pub below : AllBelowBase (2 ^ w) values

@@ -41,7 +41,7 @@ text_in bases.Bitcoin58 bytes = text_in_58 bytes
 -- ---- CIDs
 
 -- a CID as it is written, by its binary form: version 0, which begins with 12, in base58btc with no
--- prefix; version 1 in base32, behind b
+-- prefix; version 1 in base32, after b
 unfoldable pub text_of_form : List ℕ → List ℕ
 text_of_form form = if slice_index form 0 == 0x12 then text_in_58 form
     else 98 ∷ text_in_groups 5 lower_32 form
@@ -50,7 +50,7 @@ text_of_form form = if slice_index form 0 == 0x12 then text_in_58 form
 abbrev pub cid_text : CidParts → List ℕ
 cid_text c = text_of_form (cid_bytes c)
 
--- version 0 is told in base58btc with no prefix, and version 1 in any of the bases behind its prefix
+-- version 0 is told in base58btc with no prefix, and version 1 in any of the bases after its prefix
 abbrev pub IsTold : List ℕ → CidParts → Type 0
 IsTold text c = ((c.version ≡ 0) × (text ≡ text_in_58 (cid_bytes c)))
     ⊎ ((c.version ≡ 1) × ((base : Base) × (text ≡ prefix_of base ∷ text_in base (cid_bytes c))))
@@ -63,7 +63,7 @@ pub record IsTextOf (text : List ℕ) (c : CidParts) : Type 0 where
 
 -- ---- refusals
 
--- behind the prefix, if there is one, the text is that of this CID's bytes in a base
+-- after the prefix, if there is one, the text is that of this CID's bytes in a base
 pub record IsTextIn (base : Base) (text : List ℕ) (c : CidParts) : Type 0 where
   pub valid : AreCidParts c
   pub are_bytes : AreBytes (cid_bytes c)
@@ -73,7 +73,7 @@ pub record IsTextIn (base : Base) (text : List ℕ) (c : CidParts) : Type 0 wher
 abbrev pub BeginsWithQ : List ℕ → Type 0
 BeginsWithQ text = (rest : List ℕ) × (text ≡ 81 ∷ rest)
 
--- behind its prefix, or behind none where Q stands first, the text is read in this base
+-- after its prefix, or after none where Q stands first, the text is read in this base
 abbrev pub IsInBase : List ℕ → Base → List ℕ → Type 0
 IsInBase text base rest = (text ≡ prefix_of base ∷ rest)
     ⊎ ((base ≡ bases.Bitcoin58) × (text ≡ rest) × BeginsWithQ text)

@@ -52,7 +52,7 @@ fn of_version(version: u64, read: Result<Cid, CidTextError>) -> Result<Cid, CidT
     }
 }
 
-/// The CID of the text: of version 0 in base58btc, and of version 1 behind the prefix of its base.
+/// The CID of the text: of version 0 in base58btc, and of version 1 after the prefix of its base.
 #[tactic(auto, using(crate::proofs::Texting::no_characters))]
 pub fn cid_from_text(text: &[u8]) -> Result<Cid, CidTextError>
     ensures { ReadsCidText text.now result }

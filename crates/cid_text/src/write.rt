@@ -19,7 +19,7 @@ fn are_bytes(bytes: &[u8])
     let _bytes = bytes;
 }
 
-/// The text of the CID: base32 with small letters behind `b`, and of version 0 base58btc.
+/// The text of the CID: base32 with small letters after `b`, and of version 0 base58btc.
 pub fn cid_text(cid: &Cid) -> CidText
     ensures text { result.items ≡ cid_text cid.now }
     ensures told { IsTextOf result.items cid.now }

@@ -70,7 +70,7 @@ after_all : (ds : List ℕ) → 48 < get_or ds 0 0 → AllDigits 10 ds → after
 after_all [] first h = absurd (omega (arith, first))
 after_all (d ∷ ds) first h = rw (ne_eqb d 48 (λ e. omega (arith, first, e)), all_prefix (d ∷ ds) h, ne_eqb (suc (length ds)) 0 (λ e. omega arith)) (ap Some (drop_all (length (d ∷ ds)) (d ∷ ds) (omega arith)))
 
--- digits behind a minus, the first of which is not 0
+-- digits after a minus, the first of which is not 0
 negative_number : (ds : List ℕ) → 48 < get_or ds 0 0 → AllDigits 10 ds → IsNumber (45 ∷ ds)
 unfolding after_number
 negative_number ds first h = ap (λ o. option_and_then after_exponent (option_and_then after_fraction o)) (after_all ds first h)

@@ -57,7 +57,7 @@ data_object v m xs r is same h = subst (λ j. ReadsData j r) (sym (ap value_view
 
 -- ---- items
 
--- what is read of the values from a place on gives what is read of all, behind those before it
+-- what is read of the values from a place on gives what is read of all, after those before it
 abbrev pub ItemsFrom : List JsonValue → ℕ → List Ipld → Type 0
 ItemsFrom values i items = (more : Read (List Tree)) → ReadsElements (items_view (drop i values)) more → ReadsElements (items_view values) (read_map (λ ts. trees_of items ++ ts) more)
 

@@ -24,7 +24,7 @@ all_digits : (cs : List ℕ) → are_digits cs ≡ true → AllDigits 10 cs
 all_digits [] h = tt
 all_digits (c ∷ cs) h = let k = both _ _ h in (digit_below c k.0, all_digits cs k.1)
 
--- behind a digit no sign is dropped
+-- after a digit no sign is dropped
 pub no_sign : (c : ℕ) (cs : List ℕ) → is_ascii_digit c ≡ true → without_leading_sign (c ∷ cs) ≡ c ∷ cs
 no_sign c cs h =
     let k = digit_bounds c h in

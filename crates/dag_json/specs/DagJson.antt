@@ -14,7 +14,7 @@ use Rattle.cid_text.specs.Texts.{text_of_form}
 abbrev pub digit_16 : ℕ → ℕ
 digit_16 n = slice_index (codes "0123456789abcdef") n
 
--- A byte of a text (RFC 8259, section 7): behind a backslash (92) stand a quote, a backslash, and b, t,
+-- A byte of a text (RFC 8259, section 7): after a backslash (92) stand a quote, a backslash, and b, t,
 -- n, f or r for what they name; of other control characters u00 and two digits of base 16.
 abbrev pub escaped : ℕ → List ℕ
 escaped b =

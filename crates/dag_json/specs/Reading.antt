@@ -33,7 +33,7 @@ abbrev pub are_digits : List ℕ → Bool
 are_digits [] = true
 are_digits (c ∷ cs) = is_ascii_digit c && are_digits cs
 
--- digits alone, behind a minus (45) or none: in any other number a fraction or an exponent follows
+-- digits alone, after a minus (45) or none: in any other number a fraction or an exponent follows
 abbrev pub is_whole : List ℕ → Bool
 is_whole [] = false
 is_whole (c ∷ []) = is_ascii_digit c
@@ -126,7 +126,7 @@ abbrev mutual
 abbrev pub most_levels : ℕ
 most_levels = 129
 
--- whether more than the most lists and maps stand open at once, where n more may: what stands behind
+-- whether more than the most lists and maps stand open at once, where n more may: what follows
 -- a bracket that closes none is not looked at
 abbrev pub opens_past : ℕ → List Token → Bool
 opens_past n [] = false
@@ -138,7 +138,7 @@ opens_past n (Token.end_object ∷ ts) = if n == most_levels then false else ope
 opens_past n (Token.end_array ∷ ts) = if n == most_levels then false else opens_past (suc n) ts
 opens_past n (t ∷ ts) = opens_past n ts
 
--- the value with no token behind it
+-- the value with no token after it
 abbrev pub alone : List Token → Option (Json × List Token) → Read Json
 alone ts None = if opens_past most_levels ts then Err TooDeep else Err NoJson
 alone ts (Some (j, [])) = Ok j

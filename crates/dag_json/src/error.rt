@@ -12,8 +12,8 @@ pub enum DagJsonError {
     /// The text is not JSON, or half of a surrogate pair is written in it.
     #[error("the text is not JSON")]
     NoJson,
-    /// More stands behind the value.
-    #[error("more stands behind the value")]
+    /// More follows the value.
+    #[error("more stands after the value")]
     TrailingData,
     /// More than 127 lists and maps stand around a part, or 128 around a list or a map that is empty.
     #[error("lists and maps nest too deep")]

@@ -3,7 +3,7 @@
 use json::{Reader, Scratch, Token};
 use std::alloc::{AllocError, Global};
 
-/// The byte behind so many tokens, where the next one begins.
+/// The byte after so many tokens, where the next one begins.
 pub fn offset_behind(alloc: Global, text: &str, tokens: usize) -> Result<usize, AllocError> {
     let mut scratch = Scratch::new(alloc);
     let mut reader = Reader::new(text, &mut scratch)?;

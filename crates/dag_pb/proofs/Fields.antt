@@ -32,7 +32,7 @@ one_bytes b t u p q r s (c, h, k) (d, i, j) =
     let same : p ≡ q = sym (take_at p r (length p) refl) ∙ ap (take (length p)) counts.1 ∙ take_at q s (length p) (sym counts.0) in
     (tags.0, same, append_cancel_left p r s (counts.1 ∙ ap (λ x. x ++ s) (sym same)))
 
--- how far the rest lies behind
+-- how far on the rest lies
 pub bytes_parts : (t : ℕ) (b p r : List ℕ) → BeginsWithBytes t b p r → (front : List ℕ) × (b ≡ front ++ (p ++ r))
 bytes_parts t b p r (c, (f, v, e), (g, w, d)) = (f ++ g, e ∙ ap (λ x. f ++ x) d ∙ sym (append_assoc f g (p ++ r)))
 

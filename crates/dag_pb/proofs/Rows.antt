@@ -102,7 +102,7 @@ pub field_shorter : (b : List ℕ) (f : Field) (r : List ℕ) → BeginsWithFiel
 field_shorter b (link_field k) r (m, h, l) = bytes_shorter 0x12 b m r h
 field_shorter b (data_field p) r h = bytes_shorter 0x0a b p r h
 
--- what is behind a link is shorter by more than its CID
+-- what follows a link is shorter by more than its CID
 pub link_shorter : (b : List ℕ) (link : LinkParts) (r : List ℕ) → BeginsWithField b (link_field link) r → length (cid_bytes link.hash) + length r < length b
 link_shorter b link r (m, (c, (f, v, e), (g, w, d)), l) =
     let k = bytes_parts 0x0a m (cid_bytes link.hash) l.behind l.hash in

@@ -49,7 +49,7 @@ one_varint b m n x y (s, p, e) (t, q, f) =
     let same = one_form s t x y p.groups q.groups (sym e ∙ f) in
     (p.number ∙ ap number_of same.0 ∙ sym q.number, same.1)
 
--- behind groups with the high bit stands what is left of a form
+-- after groups with the high bit stands what is left of a form
 pub form_left : (xs t y z : List ℕ) → AreOpen xs → AreGroups t → t ++ y ≡ xs ++ z → (u : List ℕ) × (t ≡ xs ++ u) × AreGroups u × (u ++ y ≡ z)
 form_left [] t y z high_bits h e = (t, refl, h, e)
 form_left (x ∷ xs) [] y z high_bits h e = absurd h

@@ -30,6 +30,6 @@ CauseIn cause b left = (before at behind : List ℕ) × (b ≡ before ++ (at ++ 
 abbrev pub StopsIn : List ℕ → Stop → Type 0
 StopsIn b stop = CauseIn stop.cause b stop.left
 
--- the bytes are no block of DAG-PB, for this cause, which stands behind so many of them
+-- the bytes are no block of DAG-PB, for this cause, which follows so many of them
 abbrev pub IsNoNode : List ℕ → PbError → Type 0
 IsNoNode b e = ¬ HasNode b × ((left : ℕ) × (e.place + left ≡ length b) × CauseIn e.cause b left)

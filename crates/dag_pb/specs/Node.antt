@@ -32,7 +32,7 @@ pub record LinkParts : Type 0 where
   pub name : Option (List ℕ)
   pub tsize : Option ℕ
 
--- the bytes are what stands behind the CID: the field 2 of the name and 3 of the size, each of which may
+-- the bytes are what follows the CID: the field 2 of the name and 3 of the size, each of which may
 -- be left out
 abbrev pub IsLinkEnd : List ℕ → Option (List ℕ) → Option ℕ → Type 0
 IsLinkEnd b name tsize = (behind : List ℕ) × MayBeginWithBytes 0x12 b name behind
@@ -103,7 +103,7 @@ BeginsNoBytes tag b = (inner rest : List ℕ) → ¬ BeginsWithBytes tag b inner
 abbrev pub BeginsNoField : List ℕ → Type 0
 BeginsNoField b = (field : Field) (rest : List ℕ) → ¬ BeginsWithField b field rest
 
--- behind a name which stands first, these bytes are left
+-- after a name which stands first, these bytes are left
 abbrev pub HasOneEnd : List ℕ → List ℕ → Type 0
 HasOneEnd b behind = (name : Option (List ℕ)) (tsize : Option ℕ) (rest : List ℕ)
     → MayBeginWithBytes 0x12 b name rest → MayBeNumber 0x18 rest tsize → rest ≡ behind

@@ -27,6 +27,6 @@ BeginsWithVarint b n rest = (form : List ℕ) × IsVarint form n × (b ≡ form 
 abbrev pub BeginsNoVarint : List ℕ → Type 0
 BeginsNoVarint b = (n : ℕ) (rest : List ℕ) → ¬ BeginsWithVarint b n rest
 
--- the bytes begin with no number behind which so many bytes follow
+-- the bytes begin with no number after which so many bytes follow
 abbrev pub BeginsNoCounted : List ℕ → Type 0
 BeginsNoCounted b = (inner rest : List ℕ) → ¬ BeginsWithVarint b (length inner) (inner ++ rest)

@@ -24,7 +24,7 @@ pub enum PbCause {
     InvalidCid(CidError),
 }
 
-/// Why bytes are no block of DAG-PB, and behind how many of them the cause stands: before the number,
+/// Why bytes are no block of DAG-PB, and after how many of them the cause stands: before the number,
 /// the tag or the CID that is wrong.
 #[derive(Copy, Clone, Debug, PartialEq, Eq, Error)]
 #[error("{cause} at byte {place}")]

@@ -23,7 +23,7 @@ pub enum PbField<'a> {
     Data(&'a [u8]),
 }
 
-/// The field at the front, and the bytes behind it.
+/// The field at the front, and the bytes after it.
 pub(crate) fn split_field(bytes: &[u8]) -> Result<(PbField<'_>, &[u8]), Stop>
     ensures { MatchResult result
         (λ p. BeginsWithField bytes.now (field_of p.0) p.1.now)

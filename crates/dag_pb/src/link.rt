@@ -54,7 +54,7 @@ pub(crate) fn read_link(message: &[u8]) -> Result<PbLink<'_>, Stop>
     }
 }
 
-/// The name and the size that may stand behind the CID, and nothing else.
+/// The name and the size that may follow the CID, and nothing else.
 fn read_link_end(bytes: &[u8]) -> Result<(Option<&[u8]>, Option<u64>), Stop>
     ensures { MatchResult result
         (λ p. IsLinkEnd bytes.now (option_map (λ b. b.now) p.0) p.1)
@@ -66,7 +66,7 @@ fn read_link_end(bytes: &[u8]) -> Result<(Option<&[u8]>, Option<u64>), Stop>
     Ok((name, tsize))
 }
 
-/// The field of bytes at the front, and the bytes behind it.
+/// The field of bytes at the front, and the bytes after it.
 fn split_bytes(tag: u64, bytes: &[u8]) -> Result<(&[u8], &[u8]), Stop>
     ensures { MatchResult result
         (λ p. BeginsWithBytes tag bytes.now p.0.now p.1.now)
@@ -79,7 +79,7 @@ fn split_bytes(tag: u64, bytes: &[u8]) -> Result<(&[u8], &[u8]), Stop>
     split_counted(behind)
 }
 
-/// The name that may stand first, and the bytes behind it.
+/// The name that may stand first, and the bytes after it.
 fn split_name(bytes: &[u8]) -> Result<(Option<&[u8]>, &[u8]), Stop>
     ensures { MatchResult result
         (λ p. MayBeginWithBytes 0x12 bytes.now (option_map (λ b. b.now) p.0) p.1.now

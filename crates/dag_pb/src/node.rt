@@ -22,7 +22,7 @@ enum Order {
 }
 
 impl Order {
-    /// With this field behind them. None where it can't stand there.
+    /// With this field after them. None where it can't stand there.
     fn after(self, field: &PbField<'_>) -> Option<Order>
         ensures { result ≡ order_after self (field_of field.now) }
     {
@@ -81,7 +81,7 @@ fn tag_of(field: &PbField<'_>) -> u64
     }
 }
 
-/// The first field of fields in a row, and the fields behind it.
+/// The first field of fields in a row, and the fields after it.
 pub fn next_field(fields: &[u8]) -> Option<(PbField<'_>, &[u8])>
     requires { (row : List Field) × BeginsWithFields fields.now row [] }
     ensures field { (row : List Field) → BeginsWithFields fields.now row []
@@ -100,7 +100,7 @@ pub fn next_field(fields: &[u8]) -> Option<(PbField<'_>, &[u8])>
     Some(found)
 }
 
-/// The first link of fields in a row, and the fields behind it.
+/// The first link of fields in a row, and the fields after it.
 pub fn next_link(fields: &[u8]) -> Option<(PbLink<'_>, &[u8])>
     requires { (row : List Field) × BeginsWithFields fields.now row [] }
     ensures link { (row : List Field) → BeginsWithFields fields.now row []

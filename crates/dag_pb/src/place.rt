@@ -36,7 +36,7 @@ pub fn data_length(data: Option<&[u8]>) -> usize
     }
 }
 
-/// Puts the field of the link at the place: the place behind it.
+/// Puts the field of the link at the place: the place after it.
 pub fn put_link(out: &mut [u8], at: usize, link: &PbLink<'_>) -> usize
     requires { at + length (link_spelling (link_of link.now)) ≤ length out.old }
     ensures { PutsAt (link_spelling (link_of link.now)) at out.old out.new result }
@@ -67,7 +67,7 @@ fn put_linked(
     put_ends(out, behind, name, tsize)
 }
 
-/// Puts the field of the data at the place: the place behind it.
+/// Puts the field of the data at the place: the place after it.
 pub fn put_data(out: &mut [u8], at: usize, data: Option<&[u8]>) -> usize
     requires { at + length (data_field_bytes (option_map (λ b. b.now) «data»))
         ≤ length out.old }

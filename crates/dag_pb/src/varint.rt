@@ -1,4 +1,4 @@
-//! Numbers, and bytes behind their count.
+//! Numbers, and bytes after their count.
 
 ghost use Rattle.std.specs.Prelude.{◌≡◌, ◌↔◌, ◌<◌, ◌++◌, length, IsTrue, MatchResult};
 ghost use Rattle.dag_pb.specs.Varint.{BeginsWithVarint, BeginsNoVarint, BeginsNoCounted};
@@ -10,7 +10,7 @@ use crate::stop::Stop;
 /// How many groups a number has before its last one, at most.
 const LAST_GROUP: usize = 9;
 
-/// The number at the front, and the bytes behind it.
+/// The number at the front, and the bytes after it.
 pub(crate) fn split_varint(bytes: &[u8]) -> Result<(u64, &[u8]), Stop>
     ensures { MatchResult result
         (λ p. BeginsWithVarint bytes.now p.0 p.1.now)
@@ -38,7 +38,7 @@ fn is_too_large(group: u8, place: usize) -> bool
     place == LAST_GROUP && group > 1
 }
 
-/// As many bytes as the number at the front says, and those behind them.
+/// As many bytes as the number at the front says, and those after them.
 pub(crate) fn split_counted(bytes: &[u8]) -> Result<(&[u8], &[u8]), Stop>
     ensures { MatchResult result
         (λ p. BeginsWithVarint bytes.now (length p.0.now) (p.0.now ++ p.1.now))

@@ -134,7 +134,7 @@ no_first rest left some none (m ∷ ms) k = none m (items_spelling (link_models 
 pub no_link_walked : (all rest : List ℕ) (count left size : ℕ) (sorted : Bool) (last : List ℕ) → 0 < left → BeginsNoLinkModel rest → Walked all count left rest size sorted last → AreNoLinkModels all count
 no_link_walked all rest count left size sorted last some none w = w.none (no_first rest left some none)
 
--- bytes are left behind the last link
+-- bytes are left after the last link
 no_end : (rest : List ℕ) (left : ℕ) → left ≡ 0 → rest ≢ [] → AreNoLinkModels rest left
 no_end rest left over there [] k = there k.1.is
 no_end rest left over there (m ∷ ms) k = omega (arith, over, k.0)

@@ -6,7 +6,7 @@ ghost use Rattle.dag_pb_model.specs.Reading.{HasRoomForLinks, FillsLinks, HasRoo
 use crate::read::next_model_link;
 use dag_pb::{put_data, put_link};
 
-/// Puts the links of these data models: the place behind them.
+/// Puts the links of these data models: the place after them.
 fn fill_links(links: &[u8], out: &mut [u8]) -> usize
     requires { HasRoomForLinks links.now out.old }
     ensures { FillsLinks links.now out.old out.new result }

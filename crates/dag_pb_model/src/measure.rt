@@ -65,7 +65,7 @@ fn measure_fields(node: &[u8]) -> Option<Measure<'_>>
 }
 
 impl<'a> Measure<'a> {
-    /// With this field behind the others. None where it is a link whose name is no text.
+    /// With this field after the others. None where it is a link whose name is no text.
     fn with(self, field: &PbField<'a>) -> Option<Measure<'a>>
         requires links { self.links < 2 ^ 63 }
         requires length { self.length < 2 ^ 127 }

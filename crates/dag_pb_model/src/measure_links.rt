@@ -17,7 +17,7 @@ fn sort_name<'a>(link: &PbLink<'a>) -> &'a [u8]
     link.name.unwrap_or(&[])
 }
 
-/// Whether links that were sorted still are, with one of this name behind one of the last name.
+/// Whether links that were sorted still are, with one of this name after one of the last name.
 fn are_still_sorted(sorted: bool, name: &[u8], last: &[u8]) -> bool
     ensures { result ≡ (sorted && not (is_lt (slice_cmp nat_cmp name.now last.now))) }
 {

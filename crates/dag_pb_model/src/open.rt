@@ -7,7 +7,7 @@ ghost use Rattle.dag_pb_model.specs.Reading.{IsEntry, IsLinksFront, AreNodeEnds,
 use crate::read::{behind_front, split_bytes};
 use dagcbor_heads::split_head;
 
-/// The data of a node, and the bytes behind it.
+/// The data of a node, and the bytes after it.
 fn split_data(block: &[u8]) -> Option<(&[u8], &[u8])>
     ensures { MatchOption result
         (¬ ((s : List ℕ) × (rest : List ℕ) × IsEntry block.now (codes "Data") (bytes s) rest))

@@ -14,7 +14,7 @@ use dagcbor_decode::{is_text, split_payload};
 use dagcbor_heads::split_head;
 use ipld_tree::Cid;
 
-/// The bytes behind these, where they stand first.
+/// The bytes after these, where they stand first.
 pub(crate) fn behind_front<'a>(bytes: &'a [u8], front: &[u8]) -> Option<&'a [u8]>
     ensures { MatchOption result ((rest : List ℕ) → bytes.now ≢ front.now ++ rest)
         (λ rest. bytes.now ≡ front.now ++ rest.now) }
@@ -22,7 +22,7 @@ pub(crate) fn behind_front<'a>(bytes: &'a [u8], front: &[u8]) -> Option<&'a [u8]
     bytes.strip_prefix(front)
 }
 
-/// The bytes of a byte string, and the bytes behind it.
+/// The bytes of a byte string, and the bytes after it.
 pub(crate) fn split_bytes(block: &[u8]) -> Option<(&[u8], &[u8])>
     ensures { MatchOption result
         (¬ ((s : List ℕ) × (rest : List ℕ) × IsFront block.now (bytes s) rest))
@@ -35,7 +35,7 @@ pub(crate) fn split_bytes(block: &[u8]) -> Option<(&[u8], &[u8])>
     split_payload(more, count)
 }
 
-/// The bytes of a text of n bytes, and the bytes behind it.
+/// The bytes of a text of n bytes, and the bytes after it.
 fn split_payload_text(bytes: &[u8], n: u64) -> Option<(&[u8], &[u8])>
     ensures { MatchOption result
         (¬ ((s : List ℕ) × (rest : List ℕ) × SplitsText bytes.now n s rest))
@@ -48,7 +48,7 @@ fn split_payload_text(bytes: &[u8], n: u64) -> Option<(&[u8], &[u8])>
     Some((payload, rest))
 }
 
-/// The bytes of a text, and the bytes behind it.
+/// The bytes of a text, and the bytes after it.
 fn split_text(bytes: &[u8]) -> Option<(&[u8], &[u8])>
     ensures { MatchOption result
         (¬ ((s : List ℕ) × (rest : List ℕ) × IsFront bytes.now (text s) rest))
@@ -61,7 +61,7 @@ fn split_text(bytes: &[u8]) -> Option<(&[u8], &[u8])>
     split_payload_text(more, count)
 }
 
-/// A number that is not below zero, and the bytes behind it.
+/// A number that is not below zero, and the bytes after it.
 fn split_number(bytes: &[u8]) -> Option<(u64, &[u8])>
     ensures { MatchOption result
         (¬ ((n : ℕ) × (rest : List ℕ) × IsFront bytes.now (integer (pos n)) rest))
@@ -90,14 +90,14 @@ fn cid_behind_zero(payload: &[u8]) -> Option<Cid>
     }
 }
 
-/// A CID, and the bytes behind its link.
+/// A CID, and the bytes after its link.
 #[derive(Clone, Copy, Debug)]
 struct Linked<'a> {
     cid: Cid,
     rest: &'a [u8],
 }
 
-/// The CID of a link, and the bytes behind it.
+/// The CID of a link, and the bytes after it.
 fn split_link(bytes: &[u8]) -> Option<Linked<'_>>
     ensures { MatchOption result
         (¬ ((cid : List ℕ) × (rest : List ℕ) × IsFront bytes.now (link cid) rest))
@@ -109,7 +109,7 @@ fn split_link(bytes: &[u8]) -> Option<Linked<'_>>
     Some(Linked { cid, rest })
 }
 
-/// The CID of the first entry of a link, and the bytes behind it.
+/// The CID of the first entry of a link, and the bytes after it.
 fn split_hash(bytes: &[u8]) -> Option<Linked<'_>>
     ensures { MatchOption result
         (¬ ((cid : List ℕ) × (rest : List ℕ) × IsEntry bytes.now (codes "Hash") (link cid) rest))
@@ -120,7 +120,7 @@ fn split_hash(bytes: &[u8]) -> Option<Linked<'_>>
     split_link(behind)
 }
 
-/// The name of a link, and the bytes behind it.
+/// The name of a link, and the bytes after it.
 fn split_name(bytes: &[u8]) -> Option<(&[u8], &[u8])>
     ensures { MatchOption result
         (¬ ((name : List ℕ) × (rest : List ℕ) × IsEntry bytes.now (codes "Name") (text name) rest))
@@ -131,7 +131,7 @@ fn split_name(bytes: &[u8]) -> Option<(&[u8], &[u8])>
     Some((name, rest))
 }
 
-/// The size of a link, and the bytes behind it.
+/// The size of a link, and the bytes after it.
 fn split_size(bytes: &[u8]) -> Option<(u64, &[u8])>
     ensures { MatchOption result
         (¬ ((n : ℕ) × (rest : List ℕ)
@@ -143,7 +143,7 @@ fn split_size(bytes: &[u8]) -> Option<(u64, &[u8])>
     Some((size, rest))
 }
 
-/// The name or the size, one of them, and the bytes behind it.
+/// The name or the size, one of them, and the bytes after it.
 fn split_one_end(bytes: &[u8]) -> Option<(Option<&[u8]>, Option<u64>, &[u8])>
     ensures { MatchOption result (HasNoEnds 2 bytes.now)
         (λ p. AreEnds 2 bytes.now (option_map (λ b. b.now) p.0) p.1 p.2.now) }
@@ -157,7 +157,7 @@ fn split_one_end(bytes: &[u8]) -> Option<(Option<&[u8]>, Option<u64>, &[u8])>
     }
 }
 
-/// The name and the size, and the bytes behind them.
+/// The name and the size, and the bytes after them.
 fn split_both_ends(bytes: &[u8]) -> Option<(Option<&[u8]>, Option<u64>, &[u8])>
     ensures { MatchOption result (HasNoEnds 3 bytes.now)
         (λ p. AreEnds 3 bytes.now (option_map (λ b. b.now) p.0) p.1 p.2.now) }
@@ -167,7 +167,7 @@ fn split_both_ends(bytes: &[u8]) -> Option<(Option<&[u8]>, Option<u64>, &[u8])>
     Some((Some(name), Some(size), rest))
 }
 
-/// The name and the size of a link of so many entries, and the bytes behind them.
+/// The name and the size of a link of so many entries, and the bytes after them.
 fn split_ends(count: u64, bytes: &[u8]) -> Option<(Option<&[u8]>, Option<u64>, &[u8])>
     ensures { MatchOption result (HasNoEnds count bytes.now)
         (λ p. AreEnds count bytes.now (option_map (λ b. b.now) p.0) p.1 p.2.now) }
@@ -180,7 +180,7 @@ fn split_ends(count: u64, bytes: &[u8]) -> Option<(Option<&[u8]>, Option<u64>, &
     }
 }
 
-/// The link whose data model stands first, and the bytes behind it.
+/// The link whose data model stands first, and the bytes after it.
 pub(crate) fn next_model_link(bytes: &[u8]) -> Option<(PbLink<'_>, &[u8])>
     ensures { MatchOption result (BeginsNoLinkModel bytes.now)
         (λ p. IsLinkModel bytes.now (link_of p.0) p.1.now) }

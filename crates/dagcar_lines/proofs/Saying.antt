@@ -39,7 +39,7 @@ none_yet speech roots text is = ([], (refl, refl), is ∙ sym (append-nil (speec
 whole_front : {b : List ℕ} {roots : List (List ℕ)} {ss : List Section} → IsFile b roots ss → IsFileFront b roots ss 0 []
 whole_front {b} {roots} {ss} h = (h.0, h.1, record { header = h.2.header; all = h.2.all; is = h.2.is ∙ sym (append-nil (car_bytes roots ss)) })
 
--- ---- a line behind others
+-- ---- a line after others
 
 -- the run broke off in, or before, what is said next
 broken : (speech : Speech) (b whole : List ℕ) (before between after : Option (List ℕ)) (IsLine : List ℕ → Type 0) (e : ToolError) → AreFirstLines speech b whole → Appends before between whole → ((text : List ℕ) → IsLine text → AreLines speech b (whole ++ text)) → BreaksLine IsLine between after e

@@ -41,7 +41,7 @@ pub counted_anyway : {X E : Type 0} (s : Section) (old new : Summing) (r : Resul
 counted_anyway s old new (Ok x) takes h = counted_more s old new takes h
 counted_anyway s old new (Err e) takes h = tt
 
--- one behind the other
+-- one after the other
 pub join : (old mid new a b : List ℕ) → mid ≡ old ++ a → new ≡ mid ++ b → new ≡ old ++ (a ++ b)
 join old mid new a b h k = k ∙ ap (λ x. x ++ b) h ∙ append_assoc old a b
 

@@ -162,7 +162,7 @@ abbrev pub SaysWithPlaces : Speech → List ℕ → Option (List ℕ) → Option
 SaysWithPlaces speech b old heard ended new after = SaysBytes speech b old ended new
     × SaysBytes (beside TellsPlace) b heard ended after
 
--- a run of a command on these bytes, and on the text behind its words, by what the output and the errors
+-- a run of a command on these bytes, and on the text after its words, by what the output and the errors
 -- hold
 abbrev pub RunsCommand : Command → List ℕ → List ℕ → Option (List ℕ) → Option (List ℕ)
     → Result Bool ToolError → Option (List ℕ) → Option (List ℕ) → Type 0

@@ -29,7 +29,7 @@ command_name (commands.Cat name) = codes "cat"
 command_name commands.Records = codes "records"
 command_name commands.Record = codes "record"
 
--- a name and a path: what stands before the first slash of a text, and behind it
+-- a name and a path: what stands before the first slash of a text, and after it
 abbrev pub name_part : List ℕ → List ℕ
 name_part text = before_first (λ b. b == 0x2f) text
 
@@ -72,7 +72,7 @@ IsMistypedIn word text e = (((word ≡ codes "get") ⊎ (word ≡ codes "tree"))
     ⊎ ((((word ≡ codes "at") × (text ≢ codes "--raw")) ⊎ ((word ≡ codes "prove") ⊎ ((word ≡ codes "ls") ⊎ (word ≡ codes "cat"))))
     × IsTextFault e (name_part text))
 
--- none stands in the words, or behind `at --raw`
+-- none stands in the words, or after `at --raw`
 abbrev pub IsMistyped : List (List ℕ) → CidTextError → Type 0
 IsMistyped (word ∷ text ∷ []) e = IsMistypedIn word text e
 IsMistyped (word ∷ option ∷ text ∷ []) e = (word ≡ codes "at") × (option ≡ codes "--raw")

@@ -20,7 +20,7 @@ pub record Speech : Type 1 where
   pub of_section : Section → Bool → List ℕ → Type 0
   -- at the end of a file of these roots and sections
   pub of_end : List (List ℕ) → List Section → Bool → List ℕ → Type 0
-  -- of bytes behind which no section stands, by the line that says why
+  -- of bytes after which no section stands, by the line that says why
   pub of_fault : List ℕ → List ℕ
 
 -- What is told beside that, of each section alone.

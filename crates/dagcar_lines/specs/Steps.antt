@@ -14,16 +14,16 @@ use Rattle.dagcbor_cli.specs.declared.fault.ToolError.{ToolError}
 
 -- ---- what a teller knows
 
--- what a teller knows behind these sections of a file of these roots
+-- what a teller knows after these sections of a file of these roots
 abbrev pub Knowing : Type 0 → Type 1
 Knowing T = T → List (List ℕ) → List Section → Type 0
 
--- what is known behind this section, whatever stood before
+-- what is known after this section, whatever stood before
 abbrev pub KnowsMore : {T : Type 0} → Knowing T → Section → T → T → Type 0
 KnowsMore knows s old new = (roots : List (List ℕ)) (sections : List Section)
     → knows old roots sections → knows new roots (sections ++ s ∷ [])
 
--- what is said at the end of each file behind whose sections this is known
+-- what is said at the end of each file after whose sections this is known
 abbrev pub SaysAtEnd : {T E : Type 0} → Speech → Knowing T → T → Result (Vec ℕ Global × Bool) E
     → Type 0
 SaysAtEnd speech knows teller result = (roots : List (List ℕ)) (sections : List Section)
@@ -72,7 +72,7 @@ SaysSection speech knows s old result new = (new.through ≡ old.through) × Mat
 
 -- ---- the end
 
--- what is said behind the sections: at the end of a file; or of what stands there, which is none
+-- what is said after the sections: at the end of a file; or of what stands there, which is none
 abbrev pub SaysRest : {T : Type 0} → Speech → Knowing T → T → Bool → Result (Ended ToolError) ToolError
     → Option (List ℕ) → Result Bool ToolError → Option (List ℕ) → Type 0
 SaysRest speech knows teller well (Ok ended.Whole) before result after =
@@ -88,7 +88,7 @@ SaysRest speech knows teller well (Err e) before result after = (result ≡ Err 
 
 -- ---- the whole
 
--- what stands behind a file's header: how many bytes of the file, where that is told, and the input
+-- what follows a file's header: how many bytes of the file, where that is told, and the input
 -- that has them
 pub record Behind : Type 0 where
   pub extent : Option ℕ
@@ -106,14 +106,14 @@ pub record Run : Type 0 where
 abbrev pub run : Option (List ℕ) → Result Bool ToolError → Option (List ℕ) → Run
 run before answer after = record { before = before; answer = answer; after = after }
 
--- all is said of a file behind its header, of whose roots it was said before
+-- all is said of a file after its header, of whose roots it was said before
 abbrev pub SaysSections : {T : Type 0} → Speech → Knowing T → Behind → T → Run → Type 0
 SaysSections speech knows at teller said =
     (start : Reading) (roots : List (List ℕ)) (old : Option (List ℕ))
     → TakesStart start roots at.extent at.source → knows teller roots []
     → Appends old said.before (speech.of_roots roots) → SaysFile speech start old said.answer said.after
 
--- all is said of a file behind its header, of whose roots this is said first
+-- all is said of a file after its header, of whose roots this is said first
 abbrev pub SaysHeader : {T : Type 0} → Speech → Knowing T → Behind → List ℕ → T → Run → Type 0
 SaysHeader speech knows at text teller said =
     (start : Reading) (roots : List (List ℕ))

@@ -105,7 +105,7 @@ pub record CountsOne (v : Verdict) (old new : Counts) : Type 0 where
 abbrev pub CountsSection : Section → Counts → Counts → Type 0
 CountsSection s old new = (v : Verdict) × IsVerdict s v × CountsOne v old new
 
--- what is known behind these sections of a file of these roots
+-- what is known after these sections of a file of these roots
 abbrev pub KnowsCounts : Summing → List (List ℕ) → List Section → Type 0
 KnowsCounts it roots sections = IsAfter it.check roots sections × ((told : List Told)
     × (sections_of told ≡ sections) × AreTold told × AreCounts it.counts told)

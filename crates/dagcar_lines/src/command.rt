@@ -124,7 +124,7 @@ fn command_on(word: &str, name: Cid) -> Option<Command>
     }
 }
 
-/// A name and a path: the text before its first slash, and behind it.
+/// A name and a path: the text before its first slash, and after it.
 pub fn split_path(text: &str) -> (&str, &str)
     ensures name { result.0.now ≡ name_part text.now }
     ensures path { result.1.now ≡ path_part text.now }
@@ -135,7 +135,7 @@ pub fn split_path(text: &str) -> (&str, &str)
     }
 }
 
-/// The root in a text: a CID, and a path behind it.
+/// The root in a text: a CID, and a path after it.
 fn root_in(text: &str) -> Option<Cid>
     ensures { MatchOption result ((n : CidParts) → ¬ IsTextOf (name_part text.now) n)
         (λ n. IsTextOf (name_part text.now) n) }
@@ -156,7 +156,7 @@ fn command_with(word: &str, option: &str, text: &str) -> Option<Command>
     Some(Command::Raw(root_in(text)?))
 }
 
-/// The command `check` with this word behind it.
+/// The command `check` with this word after it.
 fn check_with(option: &str) -> Option<Command>
     ensures { MatchOption result (option.now ≢ codes "--summary")
         (λ c. (c ≡ Summary) × (option.now ≡ codes "--summary")) }
@@ -167,7 +167,7 @@ fn check_with(option: &str) -> Option<Command>
     }
 }
 
-/// The text behind the word of a command, and behind an option.
+/// The text after the word of a command, and after an option.
 fn text_of(args: &[String]) -> &str
     ensures { result.now ≡ text_of (map string_bytes args.now) }
 {
@@ -178,8 +178,8 @@ fn text_of(args: &[String]) -> &str
     }
 }
 
-/// The command of a word and a text: a CID, with a path behind it where the word is `at`, `prove`,
-/// `ls` or `cat`; or what stands behind `check` or `record`.
+/// The command of a word and a text: a CID, with a path after it where the word is `at`, `prove`,
+/// `ls` or `cat`; or what follows `check` or `record`.
 fn command_on_text(word: &str, text: &str) -> Option<Command>
     ensures { MatchOption result ((c : Command) → ¬ IsCommand (word.now ∷ text.now ∷ []) c)
         (λ c. IsCommand (word.now ∷ text.now ∷ []) c) }
@@ -232,7 +232,7 @@ fn text_fault(text: &str) -> Option<CidTextError>
     }
 }
 
-/// Why no CID stands where one should, behind this word.
+/// Why no CID stands where one should, after this word.
 fn no_cid_behind(word: &str, text: &str) -> Option<CidTextError>
     ensures { (e : CidTextError) → IsMistyped (word.now ∷ text.now ∷ []) e → result ≡ Some e }
 {
@@ -244,7 +244,7 @@ fn no_cid_behind(word: &str, text: &str) -> Option<CidTextError>
     }
 }
 
-/// Why no CID stands where one should, behind this word and this option.
+/// Why no CID stands where one should, after this word and this option.
 fn no_cid_with(word: &str, option: &str, text: &str) -> Option<CidTextError>
     ensures { (e : CidTextError) → IsMistyped (word.now ∷ option.now ∷ text.now ∷ []) e
         → result ≡ Some e }
@@ -286,7 +286,7 @@ fn begin_so(words: &[String]) -> bool
     command_of(words).is_some() || no_cid_in(words).is_some()
 }
 
-/// The words of a command, and the file that is named behind them, if one is. Words that are a command
+/// The words of a command, and the file that is named after them, if one is. Words that are a command
 /// name none.
 pub fn split_words(args: &[String]) -> (&[String], Option<&str>)
     ensures split { MatchOption result.1 (map string_bytes result.0.now ≡ map string_bytes args.now)

@@ -65,7 +65,7 @@ impl SectionSink for Search {
 }
 
 /// The block of the name in the file that the input is, or what is told of a file that has none. What
-/// stands behind the block is not read.
+/// stands after the block is not read.
 pub fn got<R: BufRead>(alloc: Global, name: &Cid, input: &mut R) -> Result<Answer, ToolError>
     ensures { IfSome (R.remaining input.old) (λ b. IfOk result
         (λ p. IsGot name.now b p.0.1 p.0.0.items p.1.items)) }

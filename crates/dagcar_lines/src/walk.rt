@@ -18,7 +18,7 @@ use ipld_tree::Cid;
 use std::alloc::{AllocError, Global};
 use std::io::Write;
 
-/// What is said of a file: behind its header, of each section as it comes, and at the end.
+/// What is said of a file: after its header, of each section as it comes, and at the end.
 pub trait Teller: Sized + Drop {
     /// What is said, in the words of contracts.
     ghost speech: { Speech };
@@ -26,10 +26,10 @@ pub trait Teller: Sized + Drop {
     /// What is told of a section beside that.
     ghost tells: { CarSection → List ℕ → Type 0 };
 
-    /// What is known behind these sections of a file of these roots.
+    /// What is known after these sections of a file of these roots.
     ghost knows: { Self → List (List ℕ) → List CarSection → Type 0 };
 
-    /// Behind the header, with these roots, and what is said of them.
+    /// After the header, with these roots, and what is said of them.
     fn begin(alloc: Global, roots: &[Cid]) -> Result<(Self, Vec<u8>), AllocError>
         ensures known { IfOk result (λ p. Self.knows p.0 (forms roots.now) []) }
         ensures said { IfOk result (λ p. p.1.items ≡ Self.speech.of_roots (forms roots.now)) };
@@ -63,7 +63,7 @@ struct Telling<'a, 'b, T, W, V> {
 }
 
 impl<'a, 'b, T: Teller, W: Write, V: Write> Telling<'a, 'b, T, W, V> {
-    /// A teller behind the header, of which nothing is wrong so far.
+    /// A teller after the header, of which nothing is wrong so far.
     fn new(
         alloc: Global,
         teller: T,
@@ -122,7 +122,7 @@ fn say_end<T: Teller, W: Write>(
     }
 }
 
-/// Writes what is said behind the sections. Whether nothing is wrong.
+/// Writes what is said after the sections. Whether nothing is wrong.
 fn say_rest<T: Teller, W: Write>(
     alloc: Global,
     teller: T,
@@ -140,7 +140,7 @@ fn say_rest<T: Teller, W: Write>(
     }
 }
 
-/// Says what is behind the header, of so much of the file. Whether nothing is wrong.
+/// Says what follows the header, of so much of the file. Whether nothing is wrong.
 fn say_sections<'de, T: Teller, R: Read, W: Write, V: Write>(
     alloc: Global,
     teller: T,
@@ -170,7 +170,7 @@ fn say_sections<'de, T: Teller, R: Read, W: Write, V: Write>(
     say_rest(alloc, teller, well, ended, output)
 }
 
-/// Says this of the roots, and then what is behind the header. Whether nothing is wrong.
+/// Says this of the roots, and then what follows the header. Whether nothing is wrong.
 fn say_header<'de, T: Teller, R: Read, W: Write, V: Write>(
     alloc: Global,
     teller: T,

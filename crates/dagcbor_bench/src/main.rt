@@ -12,7 +12,7 @@ use calls::successes;
 use std::io::{ErrorKind, Read};
 use std::{env, io};
 
-/// The call's name and the number of times, behind the program's name.
+/// The call's name and the number of times, after the program's name.
 fn main(rt: HostRuntime) -> io::Result<()> {
     let alloc = rt.alloc();
     let mut words = Vec::new(alloc);

@@ -13,7 +13,7 @@ front_unique law b x y t u h k = law t u x y h.spellable k.spellable (sym h.is �
 pub cid_unique : CidEqualityIsOfBytes → (c d : CidParts) → AreCidParts c → AreCidParts d → cid_bytes c ≡ cid_bytes d → c ≡ d
 cid_unique law c d p q e = same_cid c d (is_equal (cid_cmp c d) ((law c d p q).1 e))
 
--- a spelling is a front with nothing behind it
+-- a spelling is a front with nothing after it
 pub whole_front : {b : List ℕ} {t : Tree} → IsSpelling b t → IsFront b t []
 whole_front {b} {t} h = record { well_formed = h.well_formed; spellable = h.spellable; is = h.is ∙ sym (append-nil (spelling t)) }
 

@@ -31,7 +31,7 @@ pub record IsKeptTo (roots : List (List ℕ)) (sections : List Section) (old : R
   pub holds : HoldsAlso before sections after
 
 -- the bytes left, where they are known, are the file of these roots and sections, and it is taken, and
--- nothing behind it
+-- nothing after it
 abbrev pub TakesCar : Reading → List (List ℕ) → List Section → Reading → Type 0
 TakesCar old roots sections new = (b : List ℕ) → old.left ≡ Some b
     → IsFile b roots sections × ((rest : List ℕ) × StandBehind b rest × (new.left ≡ Some rest))
@@ -45,7 +45,7 @@ pub record KeepsAll (roots : List (List ℕ)) (sections : List Section) (old : R
   pub blocks : AllByRecursion IsSound sections
   pub holds : HoldsAlso before sections after
 
--- why no section more is kept, behind so many: none stands there, though bytes do, or are wanting; or
+-- why no section more is kept, after so many: none stands there, though bytes do, or are wanting; or
 -- the next, which was taken, is refused
 abbrev pub KeepsNoneNext : {E : Type 0} → ℕ → Option ℕ → Reading → Held → ReadCarError E PutBlockError → Reading
     → Type 0

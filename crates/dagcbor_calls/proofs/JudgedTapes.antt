@@ -55,7 +55,7 @@ if_some P Q (Some a) f h = f a h
 abbrev pub Splits : Type 1
 Splits = List ℕ → List ℕ → Type 0
 
--- one token, and what others tell behind it
+-- one token, and what others tell after it
 pub token_tells : (b s : List ℕ) (tape : List Token) (first : Token) (at old new : ℕ) → at < length tape → drop at tape ≡ first ∷ drop (at + 1) tape → token_bytes b first.kind first.number first.place ≡ Some s → length s + new ≡ old
     → TellsMore (λ x rest. x ≡ s ++ rest) b tape at (at + 1) old new
 token_tells b s tape first at old new inside is told room rest e = (s ++ rest, ap (tape_told b) is ∙ told_first b s rest first (drop (at + 1) tape) told e, refl, omega (arith, room, length-append s rest))

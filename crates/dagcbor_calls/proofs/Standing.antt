@@ -1,4 +1,4 @@
--- Tokens that stand in bytes, one behind the other.
+-- Tokens that stand in bytes, one after the other.
 use Rattle.std.proofs.Common.{◌≡◌, ◌≢◌, ◌⊎◌, inl, inr, ℕ, suc, ◌+◌, ◌-◌, ◌^◌, ◌<◌, ◌≤◌, List, [], ◌∷◌, ◌++◌, length, take, drop, set, if◌then◌else◌, refl, sym, ap, ap₂, ◌∙◌, subst, arith, append_assoc, append-nil, length-append, length-take, map, Bool, le-ltb, take-append-drop, Option, Some, None, nat_eq}
 use Rattle.std.proofs.lemmas.List.{length-map}
 use Rattle.dagcbor_heads.specs.Head.{head}
@@ -121,7 +121,7 @@ list_stands whole n b c t h e = subst (λ x. StandsToken whole b x c) (sym e) re
 pub map_stands : (whole n : ℕ) (b c : List ℕ) (t : Token) → SplitsHead b 5 n c → t ≡ token 6 n (whole - length c) → StandsToken whole b t c
 map_stands whole n b c t h e = subst (λ x. StandsToken whole b x c) (sym e) record { front = head 5 n; payload = []; fits = h.1; head_is = mapping refl refl refl; is = h.2; place_is = refl }
 
--- the payload and what is behind it
+-- the payload and what follows it
 abbrev payload_split : (n : ℕ) (c : List ℕ) → take n c ++ drop n c ≡ c
 payload_split n c = take-append-drop n c
 

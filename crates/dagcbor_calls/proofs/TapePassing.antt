@@ -58,7 +58,7 @@ map_passed n steps b c rest some h k = (
   omega (arith, some, k.3),
 )
 
--- the last key of entries behind this one
+-- the last key of entries after this one
 unfoldable pub last_after : Option (List ℕ) → Entries → Option (List ℕ)
 last_after previous no_entries = previous
 last_after previous (entry k t es) = last_after (Some k) es

@@ -37,7 +37,7 @@ parts_told at (entry k t es) =
     let first = length (text_spelling k) in
     ap (λ x. text_token at k ∷ (tokens_of (at + first) t ++ x)) (parts_told (at + first + length (spelling t)) es)
 
--- ---- rows of items, one behind the other
+-- ---- rows of items, one after the other
 
 abbrev joined : Items → Items → Items
 joined no_items us = us
@@ -72,7 +72,7 @@ head_there m n b c t ts h f =
     let k = by_head m n b c (items_spelling ts ++ []) t h.1 (item_opened b [] t ts f).0 h.2 in
     (k.0, k.1, sym k.2 ∙ ap (λ x. payload t ++ x) (append-nil (items_spelling ts)))
 
--- the token of an item with these parts, which stand behind so many of its bytes
+-- the token of an item with these parts, which stand after so many of its bytes
 first_token : (whole : ℕ) (b rest front : List ℕ) (first : Token) (t : Tree) (inside ts : Items) → length b ≤ whole → AreFronts b (item t ts) [] → AreItems inside → AreSpellableItems inside
     → spelling t ≡ front ++ items_spelling inside → tokens_of (whole - length b) t ≡ first ∷ items_tokens (whole - length b + length front) inside → rest ≡ items_spelling inside ++ items_spelling ts
     → (more : Items) × AreFronts rest more [] × (items_tokens (whole - length b) (item t ts) ≡ first ∷ items_tokens (whole - length rest) more)
@@ -132,7 +132,7 @@ negative_token whole n b c fits h t ts f =
     let same = is_negative t n k.0 k.1 in
     leaf_token whole b c _ t (integer (negsuc n)) ts fits f same (ap (λ x. x ∷ []) (token_told whole 1 n 8 n b c fits h)) (k.2 ∙ ap (λ u. payload u ++ items_spelling ts) same)
 
--- what is behind a payload
+-- what follows a payload
 dropped : (n : ℕ) (c s more : List ℕ) → length s ≡ n → c ≡ s ++ more → drop n c ≡ more
 dropped n c s more e is = ap (λ k. drop k c) (sym e) ∙ ap (drop (length s)) is ∙ drop-append_seam s more
 
@@ -186,7 +186,7 @@ map_token whole n b c fits h t ts f =
     (first_token whole b c front _ (mapping es) (parts_of es) ts fits g (parts_formed es g.well_formed.0) (parts_spellable es g.spellable.0.1) (ap (λ s. front ++ s) (parts_spelled es))
     (ap₂ (λ x y. x ∷ y) first (parts_told (at + length front) es)) (k.2 ∙ ap (λ u. payload u ++ items_spelling ts) l.1 ∙ ap (λ s. s ++ items_spelling ts) (parts_spelled es)))
 
--- a token that is this one, and what is behind it
+-- a token that is this one, and what follows it
 pub exactly : (whole m n : ℕ) (b c rest : List ℕ) (first exact : Token) → SplitsHead b m n c → length rest ≤ length c → first ≡ exact → SplitsToken whole b exact rest → (length rest < length b) × SplitsToken whole b first rest
 exactly whole m n b c rest first exact h short same k = (omega (arith, short, behind_shorter m n b c h), subst (λ x. SplitsToken whole b x rest) (sym same) k)
 
@@ -267,7 +267,7 @@ link_split whole m n byte b c d cid more h e f =
     let long : length cid ≡ n - 1 = omega (arith, k.0) in
     (ap₂ (λ x y. token 7 x (whole - length y)) (sym long) is, dropped (n - 1) d cid more long is)
 
--- the string of a link, behind its tag
+-- the string of a link, after its tag
 link_string : (n : ℕ) (b c : List ℕ) (t : Tree) (ts : Items) → SplitsHead b 6 n c → AreFronts b (item t ts) [] → (cid : List ℕ) × (t ≡ link cid) × BeginsWithZeroAnd c cid (items_spelling ts)
 link_string n b c t ts h f =
     let k = head_there 6 n b c t ts h f in
@@ -324,7 +324,7 @@ none_told made b t old s = record {
   stands = λ room. refl;
 }
 
--- an entry behind those at the front of a tape
+-- an entry after those at the front of a tape
 put_behind : {T : Type 0} (done old : List T) (first : T) → length done < length old → set (done ++ drop (length done) old) (length done) first ≡ (done ++ first ∷ []) ++ drop (length done + 1) old
 put_behind done old first room =
     ap (λ x. set (done ++ x) (length done) first) (drop-cons old (length done) first room)

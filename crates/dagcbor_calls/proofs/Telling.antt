@@ -8,7 +8,7 @@ use Rattle.dagcbor_calls.specs.Tapes.{token_at, tokens_of, items_tokens, entries
 use Rattle.dagcbor_calls.specs.Told.{payload_at, token_bytes, tape_told, TapeTellsBlock}
 use Rattle.dagcbor_calls.specs.declared.tape.Token.{Token}
 
--- a payload behind what stands before it
+-- a payload after what stands before it
 payload_there : (b x s y : List ℕ) (place : ℕ) → b ≡ x ++ (s ++ y) → length x ≡ place → payload_at b place (length s) ≡ Some s
 payload_there b x s y place is e =
     let room : place + length s ≤ length b = omega (arith, e, ap length is, length-append x (s ++ y), length-append s y) in
@@ -18,11 +18,11 @@ payload_there b x s y place is e =
     ∙ ap (λ z. Some (take (length s) z)) (drop-append_seam x (s ++ y))
     ∙ ap Some (take-append_seam s y)
 
--- a token and those behind it
+-- a token and those after it
 pub told_first : (b s r : List ℕ) (first : Token) (more : List Token) → token_bytes b first.kind first.number first.place ≡ Some s → tape_told b more ≡ Some r → tape_told b (first ∷ more) ≡ Some (s ++ r)
 told_first b s r first more p q = ap₂ (λ o u. option_and_then (λ x. option_map (λ y. x ++ y) u) o) p q
 
--- tokens behind others
+-- tokens after others
 told_both : (b s r : List ℕ) (first more : List Token) → tape_told b first ≡ Some s → tape_told b more ≡ Some r → tape_told b (first ++ more) ≡ Some (s ++ r)
 told_both b s r [] more p q = let none : [] ≡ s = cc p in q ∙ ap (λ x. Some (x ++ r)) none
 told_both b s r (x ∷ xs) more p q = by (λ u f. told_both b u r xs more f q) (token_bytes b x.kind x.number x.place) refl (tape_told b xs) refl
@@ -35,7 +35,7 @@ told_both b s r (x ∷ xs) more p q = by (λ u f. told_both b u r xs more f q) (
         let is : o ++ u ≡ s = cc k in
         told_first b o (u ++ r) x (xs ++ more) (sym e) (behind u (sym f)) ∙ ap Some (sym (append_assoc o u r)) ∙ ap (λ z. Some (z ++ r)) is
 
--- ---- what stands behind some bytes, part by part
+-- ---- what follows some bytes, part by part
 
 inside_first : (b x s r y : List ℕ) → b ≡ x ++ ((s ++ r) ++ y) → b ≡ x ++ (s ++ (r ++ y))
 inside_first b x s r y is = is ∙ ap (λ z. x ++ z) (append_assoc s r y)

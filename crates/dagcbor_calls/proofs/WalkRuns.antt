@@ -61,7 +61,7 @@ drop_on n b more = elim (cases_lt (length b) n) [ inl short ↦ by short | inr l
         let none : n - length b ≡ 0 = omega (arith, long) in
         drop-append-le n b more long ∙ ap (λ k. drop n b ++ drop k more) (sym none)
 
--- ---- what is behind a front
+-- ---- what follows a front
 
 -- the bytes of the file from there on, up to the end
 abbrev part_of : List ℕ → ℕ → ℕ → List ℕ
@@ -312,7 +312,7 @@ module _ (unjudged : Bool) (file : List ℕ) (call : Call) (calls : List Call) (
       let first : told_by w after new code ≡ (fault_code f.0, w.place ∷ []) = stayed w after new code (omega (arith, same)) ∙ (λ i. (is i, same i ∷ [])) in
       subst (AreToldOfSections unjudged wanting w.place (part_of file w.place w.end)) (sym n.2) (inr (inr (f.0, (some, stays.0, stays.1), first, next w n.1 step stands (subst (λ v. Tell unjudged file v calls n.1) f.5 n.3))))
 
--- what a call answers behind the header
+-- what a call answers after the header
 at_section : (how : ℕ) (w after : CarWalk) (b old new : List ℕ) (code : ℤ) → w.step ≡ 1 → IsNextAnswer how w b old after new code → IsSectionStep (is_last how) (is_unjudged how) w b old after new code
 at_section how w after b old new code step (inl h) = h.1
 at_section how w after b old new code step (inr (inl h)) = absurd (omega (arith, step, h.0))

@@ -8,7 +8,7 @@ use Rattle.dagcbor_decode.specs.Rows.{HoldsLinks}
 use Rattle.lent_memory.specs.Puts.{put_at, with_front}
 use Rattle.dagcbor_calls.specs.declared.links.PackedLinks.{PackedLinks}
 
--- each CID behind a byte of its length, one behind the other
+-- each CID after a byte of its length, one after the other
 abbrev pub packed_cids : List (List ℕ) → List ℕ
 packed_cids [] = []
 packed_cids (cid ∷ more) = (length cid ∷ cid) ++ packed_cids more
@@ -21,7 +21,7 @@ packed_links t = packed_cids (links_of t)
 abbrev pub packed_fields : List Field → List ℕ
 packed_fields row = packed_cids (map (λ link. cid_bytes link.hash) (links_in row))
 
--- the bytes were put behind those before, and counted
+-- the bytes were put after those before, and counted
 pub record PacksBytes (bytes : List ℕ) (old new : PackedLinks) : Type 0 where
   pub same_reference : new.out.ghost_name ≡ old.out.ghost_name
   pub counted : new.needed ≡ min (old.needed + length bytes) (2 ^ 64 - 1)

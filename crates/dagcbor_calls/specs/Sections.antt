@@ -17,7 +17,7 @@ IsVerifyAnswer name block code =
     × (code ≡ verdict_code v))
     ⊎ ((¬ IsCid name) × (code ≡ negsuc 25))
 
--- where the CID of a section begins, behind the length; where it ends and the block begins; and
+-- where the CID of a section begins, after the length; where it ends and the block begins; and
 -- where the block ends and the section
 abbrev pub section_places : Section → List ℕ
 section_places s = length (varint (length (section_body s)))

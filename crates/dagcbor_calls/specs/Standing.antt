@@ -1,4 +1,4 @@
--- The tokens that stand in bytes, one behind the other from the front, whether these are a block or
+-- The tokens that stand in bytes, one after the other from the front, whether these are a block or
 -- not.
 use Rattle.std.specs.Prelude.{◌≡◌, ◌⊎◌, ℕ, suc, ◌-◌, ◌^◌, ◌<◌, ◌≤◌, List, [], ◌∷◌, ◌++◌, length, map, take, drop, Option, MatchOption}
 use Rattle.dagcbor_heads.specs.Head.{head}
@@ -8,7 +8,7 @@ use Rattle.dagcbor_decode.specs.Verdicts.{place_of}
 use Rattle.dagcbor_calls.specs.Tapes.{token, tape_of}
 use Rattle.dagcbor_calls.specs.declared.tape.Token.{Token}
 
--- a token of this kind and number has this head, and so many bytes of payload behind it
+-- a token of this kind and number has this head, and so many bytes of payload after it
 pub data IsHeadOf (kind number : ℕ) (front : List ℕ) (size : ℕ) : Type 0 where
   null : kind ≡ 0 → number ≡ 0 → front ≡ 0xf6 ∷ [] → size ≡ 0 → IsHeadOf kind number front size
   no : kind ≡ 1 → number ≡ 0 → front ≡ 0xf4 ∷ [] → size ≡ 0 → IsHeadOf kind number front size
@@ -32,7 +32,7 @@ pub record StandsToken (whole : ℕ) (b : List ℕ) (t : Token) (rest : List ℕ
   pub is : b ≡ front ++ (payload ++ rest)
   pub place_is : t.place ≡ whole - length (payload ++ rest)
 
--- one behind the other from the front, as many as there are: behind them none stands whole
+-- one after the other from the front, as many as there are: after them none stands whole
 abbrev pub AreTokensOf : (whole : ℕ) → List ℕ → List Token → Type 0
 AreTokensOf whole b [] = (t : Token) (rest : List ℕ) → ¬ StandsToken whole b t rest
 AreTokensOf whole b (t ∷ ts) = (rest : List ℕ) × StandsToken whole b t rest × AreTokensOf whole rest ts
@@ -71,7 +71,7 @@ pub record HasLinkBytes (b : List ℕ) (n : ℕ) (cid rest : List ℕ) : Type 0 
   pub long : length cid ≡ n
   pub is : b ≡ (head 2 (suc n) ++ 0x00 ∷ []) ++ (cid ++ rest)
 
--- the token of a link, behind its tag, or none
+-- the token of a link, after its tag, or none
 abbrev pub StandsLinkIfThere : {P : Type 0} → (P → Token) → (P → List ℕ) → ℕ → List ℕ → Option P
     → Type 0
 StandsLinkIfThere first rest whole b result = MatchOption result
@@ -79,7 +79,7 @@ StandsLinkIfThere first rest whole b result = MatchOption result
     (λ p. (n : ℕ) × (cid : List ℕ) × HasLinkBytes b n cid (rest p)
     × (first p ≡ token 7 n (whole - length (cid ++ rest p))))
 
--- the token of a link behind a tag of this number, which is 42; or none
+-- the token of a link after a tag of this number, which is 42; or none
 abbrev pub StandsTaggedIfThere : {P : Type 0} → (P → Token) → (P → List ℕ) → ℕ → ℕ → List ℕ
     → Option P → Type 0
 StandsTaggedIfThere first rest number whole b result = MatchOption result

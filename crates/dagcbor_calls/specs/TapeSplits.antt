@@ -9,7 +9,7 @@ use Rattle.dagcbor_items.specs.Places.{Follows}
 abbrev pub SplitsKey : List ℕ → List ℕ → List ℕ → Type 0
 SplitsKey b key rest = IsFront b (text key) rest
 
--- a key that may stand behind the one before it
+-- a key that may follow the one before it
 abbrev pub SplitsKeyAfter : Option (List ℕ) → List ℕ → List ℕ → List ℕ → Type 0
 SplitsKeyAfter previous b key rest = SplitsKey b key rest × Follows previous key
 

@@ -17,7 +17,7 @@ abbrev pub boolean_number : Bool → ℕ
 boolean_number false = 0
 boolean_number true = 1
 
--- a token of a head that begins at a place: its own place is behind that head
+-- a token of a head that begins at a place: its own place is after that head
 abbrev pub token_at : ℕ → List ℕ → ℕ → ℕ → Token
 token_at at bs kind number = token kind number (at + length bs)
 
@@ -31,7 +31,7 @@ integer_token at (pos n) = token_at at (head 0 n) 2 n
 integer_token at (negsuc n) = token_at at (head 1 n) 8 n
 
 -- The tokens of a tree whose spelling begins at a place: of each head its kind, its number, and the
--- place behind it, where a payload or the first part begins; of a link the place of its CID.
+-- place after it, where a payload or the first part begins; of a link the place of its CID.
 abbrev mutual
   pub tokens_of : ℕ → Tree → List Token
   tokens_of at null = token 0 0 (at + 1) ∷ []
@@ -66,12 +66,12 @@ with_tokens tokens old = if nat_lt (length old) (length tokens) then old
     else tokens ++ drop (length tokens) old
 
 -- The first of the trees that the bytes spell, to the end of so many bytes, begins with the token;
--- behind it and its payload the rest of its tokens and those of the others follow.
+-- after it and its payload the rest of its tokens and those of the others follow.
 abbrev pub SplitsToken : ℕ → List ℕ → Token → List ℕ → Type 0
 SplitsToken whole b first rest = (t : Tree) (ts : Items) → AreFronts b (item t ts) []
     → (more : Items) × AreFronts rest more [] × (items_tokens (whole - length b) (item t ts) ≡ first ∷ items_tokens (whole - length rest) more)
 
--- A token or none, and the bytes behind it, of which there are fewer.
+-- A token or none, and the bytes after it, of which there are fewer.
 abbrev pub SplitsTokenIfThere : {P : Type 0} → (P → Token) → (P → List ℕ) → ℕ → List ℕ → Option P → Type 0
 SplitsTokenIfThere first rest whole b result = MatchOption result
     ((t : Tree) (ts : Items) → ¬ AreFronts b (item t ts) [])

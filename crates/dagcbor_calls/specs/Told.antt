@@ -1,4 +1,4 @@
--- What a tape tells: its heads and their payloads, one behind the other.
+-- What a tape tells: its heads and their payloads, one after the other.
 use Rattle.std.specs.Prelude.{◌≡◌, ℕ, suc, ◌+◌, ◌-◌, ◌^◌, ◌≤◌, min, List, [], ◌∷◌, ◌++◌, length, take, drop, Option, Some, None, if◌then◌else◌, nat_eq, nat_lt, option_map, option_and_then, MatchOption}
 use Rattle.dagcbor_heads.specs.Head.{head}
 use Rattle.ipld_tree.specs.Tree.{Tree}
@@ -19,7 +19,7 @@ null_told n = if nat_eq n 0 then Some (0xf6 ∷ []) else None
 abbrev pub boolean_told : ℕ → Option (List ℕ)
 boolean_told n = if nat_eq n 0 then Some (0xf4 ∷ []) else if nat_eq n 1 then Some (0xf5 ∷ []) else None
 
--- a string of the major type, and a link: their head, and the payload behind it
+-- a string of the major type, and a link: their head, and the payload after it
 abbrev pub string_told : ℕ → List ℕ → ℕ → ℕ → Option (List ℕ)
 string_told major b n place = option_map (λ s. head major n ++ s) (payload_at b place n)
 

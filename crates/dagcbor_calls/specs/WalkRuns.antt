@@ -25,7 +25,7 @@ offsets from places = map (λ n. from + n) places
 abbrev pub Told : Type 0
 Told = ℤ × List ℕ
 
--- what a call tells: of a header and of a section, behind which the walk is then, where its parts stand; of the
+-- what a call tells: of a header and of a section, after which the walk is then, where its parts stand; of the
 -- end and of a fault where the walk is
 abbrev pub told_by : CarWalk → CarWalk → List ℕ → ℤ → Told
 told_by w after places code = (
@@ -56,8 +56,8 @@ Tell unjudged file w (call ∷ calls) told =
 
 -- ---- what stands in the file
 
--- These bytes of a file of version 1 stand at this offset, and so many are wanting behind them. What is told: the
--- section that stands first, and then what is told of the bytes behind it; or, again and again, that they are at
+-- These bytes of a file of version 1 stand at this offset, and so many are wanting after them. What is told: the
+-- section that stands first, and then what is told of the bytes after it; or, again and again, that they are at
 -- their end, or the fault for which no section stands first, at that offset.
 abbrev pub AreToldOfSections : Bool → ℕ → ℕ → List ℕ → List Told → Type 0
 AreToldOfSections unjudged wanting place b [] = ⊤

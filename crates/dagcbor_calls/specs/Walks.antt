@@ -42,16 +42,16 @@ code_or_more e more code = code
 
 -- ---- the header
 
--- behind so many bytes: where the header of these roots begins, where its block does, and where it ends
+-- after so many bytes: where the header of these roots begins, where its block does, and where it ends
 abbrev pub header_places : ℕ → List (List ℕ) → List ℕ
 header_places n roots = n ∷ (n + length (varint (length (spelling (header_tree roots)))))
     ∷ (n + length (header_bytes roots)) ∷ []
 
--- the walk behind the header of these roots, where sections come next
+-- the walk after the header of these roots, where sections come next
 abbrev pub behind_header : CarWalk → List (List ℕ) → CarWalk
 behind_header w roots = record w { place = w.place + length (header_bytes roots); step = 1 }
 
--- The header stands first, behind so many bytes that were passed: 11. Or none does, for this cause, and then
+-- The header stands first, after so many bytes that were passed: 11. Or none does, for this cause, and then
 -- nothing changed.
 abbrev pub IsHeaderStep : Bool → ℕ → CarWalk → List ℕ → List ℕ → CarWalk → List ℕ → ℤ → Type 0
 IsHeaderStep last n w b old after new code =
@@ -114,7 +114,7 @@ IsFrontStep last w b old after new code =
 
 -- ---- what comes next
 
--- what a call answers, over bytes at hand: the walk behind it, the places, and the number
+-- what a call answers, over bytes at hand: the walk after it, the places, and the number
 abbrev pub IsNextAnswer : ℕ → CarWalk → List ℕ → List ℕ → CarWalk → List ℕ → ℤ → Type 0
 IsNextAnswer how w b old after new code =
     ((w.step ≢ 0) × IsSectionStep (is_last how) (is_unjudged how) w b old after new code)

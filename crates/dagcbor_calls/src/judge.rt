@@ -58,7 +58,7 @@ fn leaf_length(bytes: &[u8], token: &Token) -> Option<usize>
     }
 }
 
-/// The place behind the tokens of the item at the place, where these surely tell one that takes no
+/// The place after the tokens of the item at the place, where these surely tell one that takes no
 /// more than these steps. Its bytes are taken off the room.
 #[cycle(judge)]
 #[inline(always)]
@@ -99,7 +99,7 @@ fn behind_item(
     }
 }
 
-/// The place behind so many items.
+/// The place after so many items.
 #[cycle(judge)]
 #[inline(never)]
 fn behind_items(
@@ -123,7 +123,7 @@ fn behind_items(
     Some(next)
 }
 
-/// The key at the place, where the token there surely tells one that may stand behind the one before
+/// The key at the place, where the token there surely tells one that may follow the one before
 /// it.
 #[inline(always)]
 fn key_at<'b>(
@@ -153,7 +153,7 @@ fn key_at<'b>(
     Some(key)
 }
 
-/// The place behind so many entries.
+/// The place after so many entries.
 #[cycle(judge)]
 #[inline(never)]
 fn behind_entries(

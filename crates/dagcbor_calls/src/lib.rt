@@ -1,4 +1,4 @@
-//! What the C library does behind its calls: answers as numbers, links and tokens in a caller's own
+//! What the C library does for its calls: answers as numbers, links and tokens in a caller's own
 //! room. No memory is taken.
 #![tactic(auto)]
 

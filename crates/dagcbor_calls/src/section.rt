@@ -52,7 +52,7 @@ fn cid_length(cid: &Cid) -> usize
     form.len()
 }
 
-/// Where the parts of the section stand that begins the bytes, and behind which the rest follows.
+/// Where the parts of the section stand that begins the bytes, and after which the rest follows.
 pub(crate) fn places_of(bytes: &[u8], section: &Section<'_>, rest: &[u8]) -> [usize; 3]
     requires { SplitsSection bytes.now (section.now.cid, section.now.block.now) rest.now }
     ensures { result ≡ section_places (section.now.cid, section.now.block.now) }

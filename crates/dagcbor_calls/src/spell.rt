@@ -48,7 +48,7 @@ fn put_told_link(out: &mut [u8], at: usize, bytes: &[u8], token: &Token) -> usiz
     put_link(out, at, payload_told(bytes, token.place, token.number))
 }
 
-/// Puts what the token tells at the place, which has room for it: the place behind it.
+/// Puts what the token tells at the place, which has room for it: the place after it.
 #[inline(always)]
 fn put_told(out: &mut [u8], at: usize, bytes: &[u8], token: &Token) -> usize
     requires { HasRoomAt (token_bytes bytes.now token.now.kind token.now.number token.now.place) at

@@ -17,7 +17,7 @@ use crate::code::{kind_code, refusal_code};
 use dagcbor_decode::{check_slice, judge_slice};
 use dagcbor_heads::split_head;
 
-/// A head of a block: its kind, its number, and the place behind it.
+/// A head of a block: its kind, its number, and the place after it.
 #[repr(C)]
 #[derive(Clone, Copy, Debug, PartialEq, Eq)]
 pub struct Token {
@@ -62,7 +62,7 @@ impl TapeEntry for Token {
     }
 }
 
-/// A token whose place is that of what is behind it, in so many bytes.
+/// A token whose place is that of what follows it, in so many bytes.
 fn token_before(kind: u64, number: u64, whole: usize, behind: &[u8]) -> Token
     requires { length behind.now ≤ whole }
     ensures { result ≡ token kind number (whole - length behind.now) }
@@ -74,7 +74,7 @@ fn token_before(kind: u64, number: u64, whole: usize, behind: &[u8]) -> Token
     }
 }
 
-/// What is behind n bytes.
+/// What follows n bytes.
 fn behind_payload(bytes: &[u8], n: u64) -> Option<&[u8]>
     ensures { MatchOption result (length bytes.now < n)
         (λ rest. (n ≤ length bytes.now) × (rest.now ≡ drop n bytes.now)) }
@@ -99,7 +99,7 @@ fn simple_token(value: u64, whole: usize, behind: &[u8]) -> Option<Token>
     }
 }
 
-/// The token of a link, whose tag was split off, and what is behind its CID.
+/// The token of a link, whose tag was split off, and what follows its CID.
 fn split_link(bytes: &[u8], whole: usize) -> Option<(Token, &[u8])>
     requires { length bytes.now ≤ whole }
     ensures tokens { SplitsLinkIfThere (λ p. p.0) (λ p. p.1.now) whole bytes.now result }
@@ -120,7 +120,7 @@ fn split_link(bytes: &[u8], whole: usize) -> Option<(Token, &[u8])>
     Some((token_before(LINK, count - 1, whole, cid), rest))
 }
 
-/// The token of a link behind a tag of this number, and what is behind its CID: only 42 tags a link.
+/// The token of a link after a tag of this number, and what follows its CID: only 42 tags a link.
 fn split_tagged(number: u64, bytes: &[u8], whole: usize) -> Option<(Token, &[u8])>
     requires { length bytes.now ≤ whole }
     ensures tokens { number ≡ 42
@@ -133,7 +133,7 @@ fn split_tagged(number: u64, bytes: &[u8], whole: usize) -> Option<(Token, &[u8]
     split_link(bytes, whole)
 }
 
-/// The token of the head at the front, and what is behind it and its payload.
+/// The token of the head at the front, and what follows it and its payload.
 #[inline(always)]
 fn split_token(bytes: &[u8], whole: usize) -> Option<(Token, &[u8])>
     requires { length bytes.now ≤ whole }
@@ -171,7 +171,7 @@ fn put_entry<T: TapeEntry>(tape: &mut [T], at: usize, entry: T)
     }
 }
 
-/// Puts what is made of the tokens that stand one behind the other from the front, as those of a block
+/// Puts what is made of the tokens that stand one after the other from the front, as those of a block
 /// do, at the front of the tape, where there is room for it all: how many there are.
 fn put_tokens<T: TapeEntry>(bytes: &[u8], tape: &mut [T]) -> usize
     ensures few { result ≤ length bytes.now }

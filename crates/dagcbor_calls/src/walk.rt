@@ -61,7 +61,7 @@ fn code_or_more<E>(fault: &CarError<E>, may_grow: bool, code: i32) -> i32
     }
 }
 
-/// The header, behind so many bytes that were passed, or why none stands first.
+/// The header, after so many bytes that were passed, or why none stands first.
 fn next_header(
     walk: &mut CarWalk,
     bytes: &[u8],

@@ -23,7 +23,7 @@ two_fields {s} {r} {t} j k h i = one_varint_more k t (one_field j h) i
 pub three_fields : {s r t d : List ℕ} (j k n : ℕ) → Read s j r → Read r k t → Read t n d → HasVarints (0x01 ∷ s) (j ∷ k ∷ n ∷ []) d
 three_fields {s} {r} {t} {d} j k n h i l = one_varint_more n d (two_fields j k h i) l
 
--- where a fault stands that is not of bytes behind a CID, no CID stands first
+-- where a fault stands that is not of bytes after a CID, no CID stands first
 pub no_front : (e : CidError) (s : List ℕ) → (e ≡ TrailingBytes → ⊥) → IsFault e (0x01 ∷ s) → BeginsNoCid e (0x01 ∷ s)
 no_front e s other fault = (λ c rest h. by c rest h.0 h.1, fault)
   where

@@ -1,4 +1,4 @@
--- The shape of a header: its bytes before the list of roots and behind it, and the links of the list.
+-- The shape of a header: its bytes before the list of roots and after it, and the links of the list.
 use Rattle.std.proofs.Common.{◌≡◌, ◌≢◌, ℕ, suc, ◌+◌, ◌-◌, ◌<◌, List, [], ◌∷◌, ◌++◌, map, length, take, codes, Bool, refl, sym, ap, ◌∙◌, subst, arith, append_assoc, ◌↔◌, IsTrue, Option, Some, None, MatchOption, bytes_eq, take-append-drop}
 use Rattle.std.specs.List.{IsSplitAt}
 use Rattle.std.proofs.lemmas.Slice.Eq.{bytes_eq-Decides}
@@ -15,7 +15,7 @@ use Rattle.dagcbor_car.specs.Splits.{AreLinkFronts, CountFault}
 use Rattle.dagcbor_car.specs.declared.error.CarError.{CarError}
 use Rattle.dagcbor_car.specs.declared.error.CarError.TheVariants.{Truncated, InvalidLength, OutOfMemory}
 
--- ---- links, one behind the other
+-- ---- links, one after the other
 
 links_count : (roots : List (List ℕ)) → item_count (items_of (map link roots)) ≡ length roots
 links_count [] = refl

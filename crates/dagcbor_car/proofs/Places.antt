@@ -1,4 +1,4 @@
--- A place in a file of either version, behind some of its sections.
+-- A place in a file of either version, after some of its sections.
 use Rattle.std.proofs.Common.{◌≡◌, inl, inr, ℕ, ◌+◌, ◌<◌, List, [], ◌∷◌, ◌++◌, length, length-append, take, drop, refl, sym, ap, ap₂, ◌∙◌, subst, arith, append_assoc, append-nil, Option, None, Some, option_map, flat_map}
 use lib.Seq.{drop-append-add}
 use Rattle.std.specs.List.{AllByRecursion}
@@ -44,7 +44,7 @@ whole_car b rest roots ss none h = record { header = h.header; all = h.all; is =
 
 -- ---- what is no file
 
--- behind the same sections stand others
+-- after the same sections stand others
 pub others_behind : (ss ts : List Section) (rest : List ℕ) → AllByRecursion IsSection ss → AllByRecursion IsSection ts → flat_map section_bytes ss ++ rest ≡ flat_map section_bytes ts
     → (more : List Section) × AllByRecursion IsSection more × (rest ≡ flat_map section_bytes more) × (ts ≡ ss ++ more)
 others_behind [] ts rest p q e = (ts, q, e, refl)
@@ -73,7 +73,7 @@ no_file e b (inr w) roots ss file =
 
 -- ---- a place in a file
 
--- Behind the header and these sections this is left of the bytes, and so much of the file.
+-- After the header and these sections this is left of the bytes, and so much of the file.
 pub record IsPlace (b : List ℕ) (roots : List (List ℕ)) (ss : List Section) (extent : Option ℕ) (rest : List ℕ) : Type 0 where
   pub car : List ℕ
   pub inside : HoldsCar b car (wanting extent rest)
@@ -109,7 +109,7 @@ place_none e b rest roots ss extent h r others ts file =
     let same = holds_one b file.0 h.car 0 (wanting extent rest) file.1 h.inside in
     no_car_behind h.car (bytes_within extent rest) roots ss h.front (omega (arith, r.0, same.1)) r.1 others ts (subst (λ c. IsCar c others ts) same.0 file.2)
 
--- the front of the file, without what stands behind it
+-- the front of the file, without what follows it
 pub place_front : (b rest : List ℕ) (roots : List (List ℕ)) (ss : List Section) (extent : Option ℕ) → IsPlace b roots ss extent rest → IsFileFront b roots ss (wanting extent rest) (bytes_within extent rest)
 place_front b rest roots ss extent h = (h.car, h.inside, h.front)
 
@@ -127,7 +127,7 @@ place_whole b rest roots ss extent more mid now h end l =
     let e = ended extent more mid now rest end l in
     (h.car, subst (λ n. HoldsCar b h.car n) e.1 h.inside, whole_car h.car (bytes_within extent rest) roots ss e.0 h.front)
 
--- what stands behind the file
+-- what follows the file
 pub place_end : (b rest : List ℕ) (roots : List (List ℕ)) (ss : List Section) (extent more : Option ℕ) (mid now : Reading) → IsPlace b roots ss extent rest → EndsThere extent mid more now → mid.left ≡ Some rest → StandBehind b rest
 place_end b rest roots ss None more mid now h end l = inl (h.all refl, end.0.none_left rest l)
 place_end b rest roots ss (Some n) more mid now h end l = let k = h.behind n refl in inr (k.0, sym (k.1 ∙ ap (λ j. drop j rest) end.0))

@@ -73,7 +73,7 @@ without_last (w ∷ xs) x (z ∷ ys) y more e =
     let h = without_last xs x ys y more tail in
     (h.0, ap (λ a. a ∷ xs) head ∙ ap (λ more. z ∷ more) h.1)
 
--- a varint that ends in one byte behind the beginning of one ends there
+-- a varint that ends in one byte after the beginning of one ends there
 pub ends_there : (groups : List ℕ) (byte number : ℕ) (rest : List ℕ) → IsCutVarint groups → number < 2 ^ 64 → groups ++ byte ∷ [] ≡ varint number ++ rest → rest ≡ []
 ends_there groups byte number [] cut fits e = refl
 ends_there groups byte number (x ∷ xs) cut fits e =
@@ -111,7 +111,7 @@ group_more {x} {y} {z} {old} {mid} {new} {groups} {more} {n} {byte} h t looked m
   most = omega (arith, h.most, most);
 }
 
--- a byte was taken behind some, perhaps none
+-- a byte was taken after some, perhaps none
 pub last_looked : {old mid new : Reading} → LooksAtSome 2 old mid → LooksAtTaken 2 0 mid new → LooksAtTaken 2 0 old new
 last_looked {old} {mid} {new} h k = let both = some_both h (some_taken k) in record { grows = both.grows; most = λ b l. let p = both.most b l in (p.0, p.1, p.2, p.3, omega (arith, p.4)); none_shown = k.none_shown }
 
@@ -160,7 +160,7 @@ varint_some : (n : ℕ) → 1 ≤ length (varint n)
 unfolding varint
 varint_some n = elim (cases_lt n 128) [ inl h ↦ omega (arith, ap length (one_group 9 n h)) | inr h ↦ omega (arith, ap length (more_groups 9 n h)) ]
 
--- behind a length memory may be wanting for what it counts
+-- after a length memory may be wanting for what it counts
 pub counted_lacks : {T E : Type 0} (r : Result T (CarError E)) (n : ℕ) {x y : Option ℕ} {old mid : Reading} → TakesOff x old (varint n) y mid → LacksMemoryIf (mid.lends ≡ false) r → LacksMemoryIf (SectionLacks (of_file x old)) r
 counted_lacks (Ok v) n {x} {y} {old} {mid} t l = tt
 counted_lacks (Err OutOfMemory) n {x} {y} {old} {mid} t l = (sym t.takes.same.lends ∙ l, λ e. let w = (off_within t).taken [] e in omega (arith, ap length w.1, length-append (varint n) w.0, varint_some n))

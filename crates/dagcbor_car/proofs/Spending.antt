@@ -18,7 +18,7 @@ pub known : (x : Option ℕ) (o : Option (List ℕ)) (c : List ℕ) → option_m
 known x None c e = absurd (cc e)
 known x (Some b) c e = let same : bytes_within x b ≡ c = cc e in (b, refl, sym same)
 
--- behind the front the rest of the file is left
+-- after the front the rest of the file is left
 pub within_behind : (x y : Option ℕ) (front rest : List ℕ) → Spends x (length front) y → bytes_within x (front ++ rest) ≡ front ++ bytes_within y rest
 within_behind None None front rest e = refl
 within_behind None (Some m) front rest e = absurd (cc e)

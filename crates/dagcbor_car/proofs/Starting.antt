@@ -30,7 +30,7 @@ use Rattle.dagcbor_car.proofs.Pulling.{zero_form, refused_behind}
 
 -- ---- which version
 
--- what stands behind its length there
+-- what follows its length there
 abbrev pub version_2 : List ℕ
 version_2 = drop 1 pragma
 
@@ -128,7 +128,7 @@ header_version roots rest h v =
     let same = (counted_unique (spelling (header_tree roots)) version_2 rest (drop 11 (header_bytes roots ++ rest)) h.fits k.0 k.1).0 in
     other_heads 0xa2 0xa1 _ _ (omega arith) (sym (header_spelled roots) ∙ same)
 
--- behind the start of a file the rest of it is left
+-- after the start of a file the rest of it is left
 pub start_holds : (front rest : List ℕ) (roots : List (List ℕ)) (x : Option ℕ) → IsHeader roots → IsStartOfFile front roots x → HoldsCar (front ++ rest) (header_bytes roots ++ bytes_within x rest) (wanting x rest)
 start_holds front rest roots x header (inl h) =
     let none = subst (λ y. bytes_within y rest ≡ rest) (sym h.1) refl in
@@ -163,7 +163,7 @@ start_holds front rest roots x header (inr h) = inr (span_on front rest h.0, is,
     lacks : wanting x rest ≡ length_of (front ++ rest) - length (header_bytes roots ++ bytes_within x rest)
     lacks = wanting_behind (Some (length_of front)) x (header_bytes roots) rest h.1.3 ∙ fewer (length_of front) (header_bytes roots ++ rest) (header_bytes roots ++ bytes_within x rest) (sym (within_behind (Some (length_of front)) x (header_bytes roots) rest h.1.3)) ∙ ap (λ n. n - length (header_bytes roots ++ bytes_within x rest)) (sym long)
 
--- and behind the file of version 1 of version 2 stands what is behind that
+-- and after the file of version 1 of version 2 stands what follows that
 pub start_behind : (front rest : List ℕ) (roots : List (List ℕ)) (x : Option ℕ) → IsStartOfFile front roots x → (n : ℕ) → x ≡ Some n → HasSpan (front ++ rest) × (drop (begin_of (front ++ rest) + length_of (front ++ rest)) (front ++ rest) ≡ drop n rest)
 start_behind front rest roots x (inl h) n e = let clash = sym h.1 ∙ e in absurd (cc clash)
 start_behind front rest roots x (inr h) n e = (span_on front rest h.0, ap (λ k. drop k (front ++ rest)) sum ∙ drop-append-add front rest n)
@@ -223,7 +223,7 @@ lent_looked {n} {bytes} {old} {new} long t looked none = record {
   none_shown = λ e. none;
 }
 
--- ---- behind the bytes that begin version 2
+-- ---- after the bytes that begin version 2
 
 -- what is there of the file of version 1
 span_holds : (front rest : List ℕ) (n : ℕ) → HasSpan (pragma ++ front) → 11 + length front ≡ begin_of (pragma ++ front) → n ≡ length_of (pragma ++ front) → HoldsCar (pragma ++ (front ++ rest)) (take n rest) (n - length (take n rest))

@@ -34,7 +34,7 @@ sections_left stored names i name lt is = ap (sections_at stored) (drop-cons nam
 
 -- ---- how far a file was written
 
--- some of the sections were written behind the header, and the rest is to come
+-- some of the sections were written after the header, and the rest is to come
 pub record WrittenTo (roots : List (List ℕ)) (sections rest : List Section) (old now : Written) : Type 0 where
   pub seen : List Section
   pub all : sections ≡ seen ++ rest

@@ -5,7 +5,7 @@ use Rattle.ipld_tree.specs.Cid.{varint, CidParts, AreCidParts, cid_bytes}
 use Rattle.ipld_tree.specs.Tree.{Tree, integer, list, mapping, link, no_entries, entry, items_of, IsTree}
 use Rattle.ipld_tree.specs.Spelling.{spelling, IsSpellable}
 
--- the bytes behind their length
+-- the bytes after their length
 abbrev pub counted : List ℕ → List ℕ
 counted b = varint (length b) ++ b
 
@@ -15,7 +15,7 @@ abbrev pub header_tree : List (List ℕ) → Tree
 header_tree roots = mapping (entry (codes "roots") (list (items_of (map link roots)))
     (entry (codes "version") (integer (pos 1)) no_entries))
 
--- the spelling of the header's map, behind its length
+-- the spelling of the header's map, after its length
 abbrev pub header_bytes : List (List ℕ) → List ℕ
 header_bytes roots = counted (spelling (header_tree roots))
 
@@ -27,11 +27,11 @@ Section = CidParts × List ℕ
 abbrev pub section_body : Section → List ℕ
 section_body s = cid_bytes s.0 ++ s.1
 
--- the name and the block, behind their length
+-- the name and the block, after their length
 abbrev pub section_bytes : Section → List ℕ
 section_bytes s = counted (section_body s)
 
--- the header, and then the sections, one behind the other
+-- the header, and then the sections, one after the other
 abbrev pub car_bytes : List (List ℕ) → List Section → List ℕ
 car_bytes roots sections = header_bytes roots ++ flat_map section_bytes sections
 

@@ -47,7 +47,7 @@ ListsMissingInFile roots sections v = IsStrictlySortedBy cid_cmp v.items
 
 -- ---- section by section
 
--- what is known behind these sections of a file of these roots
+-- what is known after these sections of a file of these roots
 pub record IsAfter (check : CarCheck) (roots : List (List ℕ)) (sections : List Section) : Type 0 where
   pub held : (c : CidParts) → IsHeldName c check.held ↔ IsHeldInFile c sections
   pub names : AreNames check.held
@@ -65,7 +65,7 @@ abbrev pub FollowsLinks : ℕ → List ℕ → CarCheck → CarCheck → Type 0
 FollowsLinks codec b old new = (new.held ≡ old.held) × ((links : List (List ℕ)) × HasLinks codec b links
     × AddsReached links old.held old.missing new.missing)
 
--- what is known behind a section, whatever stood before
+-- what is known after a section, whatever stood before
 abbrev pub TakesSection : Section → CarCheck → CarCheck → Type 0
 TakesSection s old new = (roots : List (List ℕ)) (sections : List Section)
     → IsAfter old roots sections → IsAfter new roots (sections ++ s ∷ [])
@@ -88,7 +88,7 @@ IsFileFront b roots sections n rest = (car : List ℕ) × HoldsCar b car n
 abbrev pub IsNoFile : List ℕ → Type 0
 IsNoFile b = (roots : List (List ℕ)) (sections : List Section) → ¬ IsFile b roots sections
 
--- these bytes of the whole stand behind the file: none, or of version 2 all that do
+-- these bytes of the whole stand after the file: none, or of version 2 all that do
 abbrev pub StandBehind : List ℕ → List ℕ → Type 0
 StandBehind b rest = ((¬ IsVersion2 b) × (rest ≡ []))
     ⊎ (HasSpan b × (rest ≡ drop (begin_of b + length_of b) b))

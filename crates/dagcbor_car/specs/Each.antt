@@ -13,7 +13,7 @@ use Rattle.dagcbor_car.specs.declared.each.ReadCarError.TheVariants as stop
 abbrev pub SinkTakes : Type 0 → Type 0 → Type 1
 SinkTakes S Stop = Section → S → Result (Unit {0}) Stop → S → Type 0
 
--- the sections stood one behind the other, and the sink took each
+-- the sections stood one after the other, and the sink took each
 abbrev pub TakesEach : {S Stop : Type 0} → SinkTakes S Stop → Option ℕ → Reading → S → List Section
     → Option ℕ → Reading → S → Type 0
 TakesEach takes extent source old [] more behind new =
@@ -27,7 +27,7 @@ abbrev pub NoneNext : {E : Type 0} → Option ℕ → Reading → CarError E →
 NoneNext extent source e behind = CarRefuses (RefusesNext extent) source e behind
     × LacksMemoryIf {T = Unit {0}} (SectionLacks (of_file extent source)) (Err e)
 
--- why no section more is taken, behind so many: none stands next; or it stands there, and the sink
+-- why no section more is taken, after so many: none stands next; or it stands there, and the sink
 -- refused it
 abbrev pub StopsEach : {S Stop E : Type 0} → SinkTakes S Stop → ℕ → Option ℕ → Reading → S
     → ReadCarError E Stop → Option ℕ → Reading → S → Type 0
@@ -46,11 +46,11 @@ TakesNext takes count extent source old result more behind new = MatchResult res
     (EndsThere extent source more behind × (new ≡ old)))
     (λ e. StopsEach takes count extent source old e more behind new)
 
--- the call gives up behind so many sections
+-- the call gives up after so many sections
 abbrev pub AreTooMany : {E Stop : Type 0} → List Section → ReadCarError E Stop → Type 0
 AreTooMany sections e = (e ≡ stop.Section (length sections) OutOfMemory) × (length sections ≡ 2 ^ 64 - 1)
 
--- All sections up to the end are taken, so many; or some, behind which there is a cause, which tells
+-- All sections up to the end are taken, so many; or some, after which there is a cause, which tells
 -- how many.
 abbrev pub RunsEach : {S Stop E : Type 0} → SinkTakes S Stop → Option ℕ → Reading → S
     → Result ℕ (ReadCarError E Stop) → Option ℕ → Reading → S → Type 0

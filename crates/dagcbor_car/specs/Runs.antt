@@ -39,9 +39,9 @@ GivesUpOnFile lends b (Read e) = ⊤
 GivesUpOnFile lends b OutOfMemory = (lends ≡ false) × (b ≢ [])
 GivesUpOnFile lends b _ = ⊥
 
--- The sections that stand one behind the other at the front of the bytes come one by one. Then
+-- The sections that stand one after the other at the front of the bytes come one by one. Then
 -- comes the end, where no bytes are left, nor wanting; or one error: its cause stands there, and no
--- section, or it says nothing of the bytes. Nothing comes behind that.
+-- section, or it says nothing of the bytes. Nothing follows that.
 abbrev pub AreItemsOf : {E : Type 0} → Bool → ℕ → List ℕ → List (Item E) → Type 0
 AreItemsOf lends n b [] = ⊤
 AreItemsOf lends n b (Some (Ok s) ∷ items) = (rest : List ℕ) × SplitsSection b s rest
@@ -59,7 +59,7 @@ RunsAreExact E = (s : SectionStream) (b : List ℕ) (items : List (Item E)) → 
 -- ---- what is read of a file
 
 -- These sections come one by one, and then the end; or some of them, and then an error that says
--- nothing of the bytes. Nothing comes behind that.
+-- nothing of the bytes. Nothing follows that.
 abbrev pub AreSections : {E : Type 0} → Bool → List (Item E) → List Section → Type 0
 AreSections lends [] sections = ⊤
 AreSections lends (Some (Ok s) ∷ items) sections = (more : List Section) × (sections ≡ s ∷ more)
@@ -95,7 +95,7 @@ WritesSections {W} E written takes_memory old (s ∷ sections) new = (mid : Writ
     × WritesSection {T = Unit {0}} {E = E} written takes_memory s old (Ok tt) mid
     × WritesSections E written takes_memory mid sections new
 
--- Behind the header and these sections the writer has the file of these roots and sections behind
+-- After the header and these sections the writer has the file of these roots and sections after
 -- what it had.
 abbrev pub CarsAreWritten : {W : Type 0} → Type 0 → (W → Written) → Bool → Type 0
 CarsAreWritten {W} E written takes_memory = (old : W) (begun new : WriterState W)

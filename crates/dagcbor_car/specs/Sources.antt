@@ -34,7 +34,7 @@ LacksMemoryIf lacks (Err OutOfMemory) = lacks
 LacksMemoryIf lacks (Err e) = ⊤
 LacksMemoryIf lacks (Ok v) = ⊤
 
--- where memory may be wanting for the header of a file of either version: over a slice only behind
+-- where memory may be wanting for the header of a file of either version: over a slice only after
 -- a block, which stands whole
 abbrev pub FileLacks : Reading → Type 0
 FileLacks old = old.lends ≡ true → (b : List ℕ) → old.left ≡ Some b
@@ -84,7 +84,7 @@ IsStartOfFile front roots extent = ((front ≡ header_bytes roots) × (extent �
     × Spends (Some (length_of front)) (length (header_bytes roots)) extent))
 
 -- the start of a file of these roots stood first, and was taken, and so much of the file is left; each
--- byte was looked at twice, and none behind them
+-- byte was looked at twice, and none after them
 pub record TakesStart (old : Reading) (roots : List (List ℕ)) (extent : Option ℕ) (new : Reading) : Type 0 where
   pub front : List ℕ
   pub header : IsHeader roots
@@ -117,7 +117,7 @@ PullsSection extent old result rest new = MatchResult result
     (λ e. CarRefuses (RefusesNext extent) old e new)
 
 -- how often bytes of the file are looked at: each of the section's twice, the first once more, and
--- none behind it, of which none is shown
+-- none after it, of which none is shown
 abbrev pub LooksAtSection : {E : Type 0} → Reading → Result (Option Section) (CarError E) → Reading
     → Type 0
 LooksAtSection old result new = MatchResult result
@@ -150,7 +150,7 @@ as_pulled None = Ok None
 as_pulled (Some (Ok s)) = Ok (Some s)
 as_pulled (Some (Err e)) = Err e
 
--- whether nothing comes behind what was given
+-- whether nothing follows what was given
 abbrev pub is_last : {S E : Type 0} → Option (Result S E) → Bool
 is_last None = true
 is_last (Some r) = is_err r
@@ -162,7 +162,7 @@ pub record GivesNextSection {E : Type 0} (extent : Option ℕ) (old : Reading)
   pub memory : LacksMemoryIf (SectionLacks (of_file extent old)) result
   pub looked : LooksAtSection (of_file extent old) result (of_file rest new)
 
--- What `next` does: nothing comes behind the end, or behind an error; else what is taken next.
+-- What `next` does: nothing follows the end, or after an error; else what is taken next.
 abbrev pub GivesSection : {E : Type 0} → SectionStream → Option (Result Section (CarError E))
     → SectionStream → Type 0
 GivesSection old item new = MatchBool old.done
@@ -176,7 +176,7 @@ NotBegun old (Read e) = ⊤
 NotBegun old OutOfMemory = FileLacks old
 NotBegun old e = (b : List ℕ) → old.left ≡ Some b → RefusesStart e b
 
--- The start of a file was taken, and the sections behind it are to come; or nothing was begun.
+-- The start of a file was taken, and the sections after it are to come; or nothing was begun.
 abbrev pub Begins : {R E : Type 0} → (R → Reading) → Reading
     → Result (Vec CidParts Global × CarReader R) (CarError E) → Type 0
 Begins reading old result = MatchResult result

@@ -16,7 +16,7 @@ use Rattle.dagcbor_car.specs.declared.error.CarError.TheVariants.{Truncated, Inv
 
 -- ---- what is counted
 
--- the bytes begin with others behind their length, and the rest follows
+-- the bytes begin with others after their length, and the rest follows
 abbrev pub SplitsCounted : List ℕ → List ℕ → List ℕ → Type 0
 SplitsCounted b inner rest = (length inner < 2 ^ 64) × (b ≡ counted inner ++ rest)
 
@@ -25,7 +25,7 @@ abbrev pub IsCutPart : List ℕ → Type 0
 IsCutPart b = IsCutVarint b
     ⊎ ((n : ℕ) × (rest : List ℕ) × (n < 2 ^ 64) × (length rest < n) × (b ≡ varint n ++ rest))
 
--- why no bytes stand behind their length
+-- why no bytes stand after their length
 abbrev pub CountFault : {E : Type 0} → CarError E → List ℕ → Type 0
 CountFault Truncated b = IsCutPart b
 CountFault InvalidLength b = IsNoVarint b
@@ -70,7 +70,7 @@ BeginsNoHeader b = (roots : List (List ℕ)) (rest : List ℕ) → ¬ SplitsHead
 abbrev pub AreLinkFronts : List ℕ → ℕ → List (List ℕ) → List ℕ → Type 0
 AreLinkFronts b count roots rest = (length roots ≡ count) × AreFronts b (items_of (map link roots)) rest
 
--- a block stands behind its length
+-- a block stands after its length
 abbrev pub CountsBlock : List ℕ → Type 0
 CountsBlock b = (inner rest : List ℕ) × SplitsCounted b inner rest × HasBlock inner
 
@@ -91,7 +91,7 @@ HeaderFault (NoBlock e) b = (inner rest : List ℕ) × SplitsCounted b inner res
 HeaderFault OtherHeader b = CountsBlock b
 HeaderFault e b = CountFault e b
 
--- why a header is not read: memory is wanted only where a block stands behind its length
+-- why a header is not read: memory is wanted only where a block stands after its length
 abbrev pub HeaderRefused : {E : Type 0} → CarError E → List ℕ → Type 0
 HeaderRefused OutOfMemory b = CountsBlock b
 HeaderRefused e b = BeginsNoHeader b × HeaderFault e b

@@ -20,7 +20,7 @@ pub record IsDue (extent : Option ℕ) (old new : Reading) : Type 0 where
   pub kept : Keeps old new
   pub same : Stays old new
 
--- Behind the bytes that begin version 2: the fields of the header, and what stands before the file of
+-- After the bytes that begin version 2: the fields of the header, and what stands before the file of
 -- version 1, were taken, and so long that is.
 pub record TakesSpan (old : Reading) (n : ℕ) (new : Reading) : Type 0 where
   pub front : List ℕ
@@ -30,7 +30,7 @@ pub record TakesSpan (old : Reading) (n : ℕ) (new : Reading) : Type 0 where
   pub long : n ≡ length_of (pragma ++ front)
   pub looked : LooksAtMost (2 * length front) old new
 
--- Behind the same bytes: the rest of the start of a file was taken.
+-- After the same bytes: the rest of the start of a file was taken.
 pub record TakesEnclosed (old : Reading) (roots : List (List ℕ)) (extent : Option ℕ) (new : Reading) : Type 0 where
   pub front : List ℕ
   pub header : IsHeader roots
@@ -39,7 +39,7 @@ pub record TakesEnclosed (old : Reading) (roots : List (List ℕ)) (extent : Opt
   pub looked : LooksAtMost (2 * length front) old new
   pub none_shown : new.shown ≡ []
 
--- where memory may be wanting there: over a slice only behind a block
+-- where memory may be wanting there: over a slice only after a block
 abbrev pub EnclosedLacks : Reading → Type 0
 EnclosedLacks old = old.lends ≡ true → (b : List ℕ) → old.left ≡ Some b
     → (car : List ℕ) × (n : ℕ) × HoldsCar (pragma ++ b) car n × CountsBlock car

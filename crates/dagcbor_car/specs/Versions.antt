@@ -1,12 +1,12 @@
 -- The two versions of a CAR file (CARv2 specification): version 2 is a header before a file of
--- version 1, with any bytes between them and behind.
+-- version 1, with any bytes between them and after.
 use Rattle.std.specs.Prelude.{◌≡◌, ◌⊎◌, ℕ, ◌+◌, ◌-◌, ◌^◌, ◌<◌, ◌≤◌, List, [], ◌∷◌, ◌++◌, length, take, drop}
 use Rattle.std.specs.Int.{w64, from_le_bytes}
 use Rattle.dagcbor_car.specs.Car.{Section, IsCar}
 use Rattle.dagcbor_car.specs.declared.error.CarError.{CarError}
 use Rattle.dagcbor_car.specs.declared.error.CarError.TheVariants.{Truncated, InvalidOffset}
 
--- the bytes that begin version 2: the map of the version alone, behind its length
+-- the bytes that begin version 2: the map of the version alone, after its length
 abbrev pub pragma : List ℕ
 pragma = 0x0a ∷ 0xa1 ∷ 0x67 ∷ 0x76 ∷ 0x65 ∷ 0x72 ∷ 0x73 ∷ 0x69 ∷ 0x6f ∷ 0x6e ∷ 0x02 ∷ []
 
@@ -18,15 +18,15 @@ IsVersion2 b = take 11 b ≡ pragma
 abbrev pub number_behind : ℕ → List ℕ → ℕ
 number_behind n b = from_le_bytes w64 (take 8 (drop n b))
 
--- where the file of version 1 begins: that stands behind the eleven bytes, and 16 of characteristics
+-- where the file of version 1 begins: that follows the eleven bytes, and 16 of characteristics
 abbrev pub begin_of : List ℕ → ℕ
 begin_of b = number_behind 27 b
 
--- how long it is: that stands behind where it begins
+-- how long it is: that follows where it begins
 abbrev pub length_of : List ℕ → ℕ
 length_of b = number_behind 35 b
 
--- the header of version 2 stands whole, and the file of version 1 begins behind it, and ends below
+-- the header of version 2 stands whole, and the file of version 1 begins after it, and ends below
 -- 2 ^ 64
 pub record HasSpan (b : List ℕ) : Type 0 where
   pub version : IsVersion2 b

@@ -42,7 +42,7 @@ BeginsCar {W} written old roots result = MatchResult result
     (λ e. (last : W) × IsSomeAnd (writer_refusal e)
     (Stops (Some (header_bytes roots)) (written old) (written last)))
 
--- What `write` does: behind a refusal nothing is sent; else the section is appended, or a beginning
+-- What `write` does: after a refusal nothing is sent; else the section is appended, or a beginning
 -- of it, and then the writer's refusal is handed on.
 abbrev pub WritesSection : {W T E : Type 0} → (W → Written) → Bool → Section → WriterState W
     → Result T (CarWriteError E) → WriterState W → Type 0

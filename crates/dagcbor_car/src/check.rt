@@ -13,7 +13,7 @@ use ipld_links::{CidSet, HeldNames, Verdict, verify};
 use ipld_tree::Cid;
 use std::alloc::{AllocError, Global};
 
-/// What is known of a file behind some of its sections: which blocks it has, and which of its roots
+/// What is known of a file after some of its sections: which blocks it has, and which of its roots
 /// and links lead to none of them so far. A name by the identity holds its block itself: it is never
 /// missing, and the links in that block are followed, however deep such names stand in one another.
 /// Each digest is shorter than the block that it stands in, so this ends. After a refusal of `take`
@@ -26,7 +26,7 @@ pub struct CarCheck {
 }
 
 impl CarCheck {
-    /// Behind the header, with these roots.
+    /// After the header, with these roots.
     pub fn new(alloc: Global, roots: &[Cid]) -> Result<CarCheck, AllocError>
         ensures after { IfOk result (λ check. IsAfter check (forms roots.now) []) }
         ensures sound { IfOk result (λ check. check.failed ≡ false) }

@@ -21,7 +21,7 @@ pub trait SectionSink {
     /// What taking a section does to it, and answers.
     ghost takes: { CarSection → Self → Result (Unit {0}) Self.Stop → Self → Type 0 };
 
-    /// Takes the next section. Behind a refusal it is handed no more.
+    /// Takes the next section. After a refusal it is handed no more.
     fn take(&mut self, section: &Section<'_>) -> Result<(), Self::Stop>
         ensures { Self.takes (section.now.cid, section.now.block.now) self.old result self.new };
 }
@@ -32,11 +32,11 @@ pub enum ReadCarError<E, T> {
     /// No file begins there, or its header was not read. `each_section` never answers it.
     #[error("{0}")]
     Header(CarError<E>),
-    /// Behind so many sections that were taken none stands, though bytes do or are wanting; or the
+    /// After so many sections that were taken none stands, though bytes do or are wanting; or the
     /// next was not read.
     #[error("after {0} sections: {1}")]
     Section(u64, CarError<E>),
-    /// Behind so many sections that were taken the one of this name was not.
+    /// After so many sections that were taken the one of this name was not.
     #[error("after {0} sections: the next was not taken")]
     Block(u64, Cid, T),
 }
@@ -62,7 +62,7 @@ pub fn each_section<'de, R: Read, S: SectionSink>(
     Err(ReadCarError::Section(u64::MAX, CarError::OutOfMemory))
 }
 
-/// Hands the next section to the sink, behind so many, and answers whether there is one.
+/// Hands the next section to the sink, after so many, and answers whether there is one.
 fn take_next<'de, R: Read, S: SectionSink>(
     alloc: Global,
     count: u64,

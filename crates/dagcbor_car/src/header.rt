@@ -56,7 +56,7 @@ pub(crate) fn spell_header(alloc: Global, roots: &[Cid]) -> Result<Vec<u8>, Allo
     to_vec(alloc, &Header { roots }).map_err(|_| AllocError)
 }
 
-/// The roots of the header at the front, and the bytes behind it.
+/// The roots of the header at the front, and the bytes after it.
 pub fn split_header(alloc: Global, bytes: &[u8]) -> Result<(Vec<Cid>, &[u8]), CarError<Infallible>>
     ensures { MatchResult result
         (λ p. SplitsHeader bytes.now (forms p.0.items) p.1.now)
@@ -67,7 +67,7 @@ pub fn split_header(alloc: Global, bytes: &[u8]) -> Result<(Vec<Cid>, &[u8]), Ca
     Ok((roots, rest))
 }
 
-/// The block of the header at the front, and the bytes behind it. No memory is taken: the roots are
+/// The block of the header at the front, and the bytes after it. No memory is taken: the roots are
 /// the links of that block.
 pub fn judge_header(bytes: &[u8]) -> Result<(&[u8], &[u8]), CarError<Infallible>>
     ensures header { MatchResult result
@@ -115,7 +115,7 @@ fn is_header(bytes: &[u8]) -> bool
     version == wanted.as_slice()
 }
 
-/// The bytes behind the list of links at the front.
+/// The bytes after the list of links at the front.
 fn behind_link_list(bytes: &[u8]) -> Option<&[u8]>
     ensures { MatchOption result
         (¬ ((roots : List (List ℕ)) × (rest : List ℕ)
@@ -130,7 +130,7 @@ fn behind_link_list(bytes: &[u8]) -> Option<&[u8]>
     behind_links(behind, count)
 }
 
-/// The bytes behind so many links.
+/// The bytes after so many links.
 #[tactic(auto, using(crate::proofs::HeaderShape::no_link_passed))]
 fn behind_links(bytes: &[u8], count: u64) -> Option<&[u8]>
     ensures { MatchOption result

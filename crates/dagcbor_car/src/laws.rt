@@ -28,7 +28,7 @@ pub fn runs_are_exact<R: Read>()
     ensures { RunsAreExact R.Error }
 {}
 
-/// The header and the sections that a writer has taken are a file behind what it held.
+/// The header and the sections that a writer has taken are a file after what it held.
 pub fn cars_are_written<W: Write>()
     ensures { CarsAreWritten W.Error W.written W.takes_memory }
 {}

@@ -173,7 +173,7 @@ fn pull_body<'de, R: Read>(
     pull_bytes(alloc, input, n)
 }
 
-/// The bytes behind the length at the front. All of them are taken.
+/// The bytes after the length at the front. All of them are taken.
 fn pull_counted<'de, R: Read>(
     alloc: Global,
     input: &mut Input<'de, R>,
@@ -251,7 +251,7 @@ fn skip<R: Read>(input: &mut Input<'_, R>, count: u64) -> Result<(), CarError<R:
     }
 }
 
-/// Behind the bytes that begin version 2: takes the header's fields, and what stands before the file of
+/// After the bytes that begin version 2: takes the header's fields, and what stands before the file of
 /// version 1, and answers how long that is.
 fn pull_span<R: Read>(input: &mut Input<'_, R>) -> Result<u64, CarError<R::Error>>
     ensures taken { MatchResult result
@@ -270,8 +270,8 @@ fn pull_span<R: Read>(input: &mut Input<'_, R>) -> Result<u64, CarError<R::Error
     Ok(span.length)
 }
 
-/// Behind the bytes that begin version 2: the roots of the file, and how many bytes of it are left
-/// behind its header, which is taken.
+/// After the bytes that begin version 2: the roots of the file, and how many bytes of it are left
+/// after its header, which is taken.
 fn pull_enclosed<'de, R: Read>(
     alloc: Global,
     input: &mut Input<'de, R>,
@@ -292,7 +292,7 @@ fn pull_enclosed<'de, R: Read>(
     Ok((roots, left))
 }
 
-/// The roots of the file at the front, of version 1 or 2, and how many bytes of it are left behind
+/// The roots of the file at the front, of version 1 or 2, and how many bytes of it are left after
 /// its header, which is taken: none is told of version 1, which goes on to the end.
 pub fn pull_header<'de, R: Read>(
     alloc: Global,

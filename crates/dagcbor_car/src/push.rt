@@ -31,7 +31,7 @@ pub fn push_header<W: Write>(alloc: Global, writer: &mut W, roots: &[Cid]) -> Wr
     push_counted(writer, &spelled)
 }
 
-/// Appends the bytes behind their length.
+/// Appends the bytes after their length.
 fn push_counted<W: Write>(writer: &mut W, bytes: &[u8]) -> WriteResult<(), W>
     ensures written { Writes (Some (counted bytes.now))
         (W.written writer.old) (W.written writer.new) result }

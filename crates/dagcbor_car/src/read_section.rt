@@ -14,7 +14,7 @@ use std::marker::Model;
 #[derive(Drop)]
 pub struct ReadSection<'de> {
     cid: Cid,
-    /// The name, and the block behind it.
+    /// The name, and the block after it.
     body: CowSlice<'de, u8>,
     /// Where the block begins.
     start: usize,

@@ -25,7 +25,7 @@ pub struct CarReader<'de, R> {
     done: bool,
 }
 
-/// The roots of a file, and the sections behind its header; or why there are none.
+/// The roots of a file, and the sections after its header; or why there are none.
 pub type Begun<'de, R> = Result<(Vec<Cid>, CarReader<'de, R>), CarError<<R as Read>::Error>>;
 
 impl<'de> CarReader<'de, SliceReader<'de>> {

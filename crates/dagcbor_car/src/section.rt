@@ -19,7 +19,7 @@ pub struct Section<'a> {
     pub block: &'a [u8],
 }
 
-/// The section at the front, and the bytes behind it.
+/// The section at the front, and the bytes after it.
 pub fn split_section(bytes: &[u8]) -> Result<(Section<'_>, &[u8]), CarError<Infallible>>
     ensures { MatchResult result
         (λ p. SplitsSection bytes.now (p.0.cid, p.0.block.now) p.1.now)
@@ -32,7 +32,7 @@ pub fn split_section(bytes: &[u8]) -> Result<(Section<'_>, &[u8]), CarError<Infa
     }
 }
 
-/// The bytes behind the length at the front, and those behind them.
+/// The bytes after the length at the front, and those after them.
 pub(crate) fn split_counted(bytes: &[u8]) -> Result<(&[u8], &[u8]), CarError<Infallible>>
     ensures { MatchResult result
         (λ p. SplitsCounted bytes.now p.0.now p.1.now)
@@ -45,7 +45,7 @@ pub(crate) fn split_counted(bytes: &[u8]) -> Result<(&[u8], &[u8]), CarError<Inf
     }
 }
 
-/// So many bytes, and those behind them.
+/// So many bytes, and those after them.
 fn split_bytes(bytes: &[u8], count: u64) -> Result<(&[u8], &[u8]), CarError<Infallible>>
     ensures { MatchResult result
         (λ p. (length p.0.now ≡ count) × (bytes.now ≡ p.0.now ++ p.1.now))
@@ -69,7 +69,7 @@ pub(crate) fn measure_cid(bytes: &[u8]) -> Result<(Cid, usize), CidError>
     }
 }
 
-/// The CID at the front, and the bytes behind it. The fault is that of `Cid::try_from`.
+/// The CID at the front, and the bytes after it. The fault is that of `Cid::try_from`.
 fn split_cid(bytes: &[u8]) -> Result<(Cid, &[u8]), CidError>
     ensures { MatchResult result
         (λ p. BeginsWithCid bytes.now p.0 p.1.now)
@@ -83,7 +83,7 @@ fn split_cid(bytes: &[u8]) -> Result<(Cid, &[u8]), CidError>
     }
 }
 
-/// What stands behind the first two bytes of version 0.
+/// What follows the first two bytes of version 0.
 #[tactic(auto, using(crate::proofs::Fronts::front_of_digest))]
 fn split_version_0(bytes: &[u8]) -> Result<(Cid, &[u8]), CidError>
     ensures { MatchResult result
@@ -96,7 +96,7 @@ fn split_version_0(bytes: &[u8]) -> Result<(Cid, &[u8]), CidError>
     }
 }
 
-/// What stands behind the first byte of version 1.
+/// What follows the first byte of version 1.
 fn split_version_1(fields: &[u8]) -> Result<(Cid, &[u8]), CidError>
     ensures { MatchResult result
         (λ p. BeginsWithCid (0x01 ∷ fields.now) p.0 p.1.now)

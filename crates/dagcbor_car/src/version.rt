@@ -24,7 +24,7 @@ pub struct Span {
 }
 
 /// Where the file of version 1 stands, if the bytes begin one of version 2: 51 of them tell it, and
-/// it may lie behind these bytes. None where they cannot begin one.
+/// it may lie after these bytes. None where they cannot begin one.
 pub fn file_span(bytes: &[u8]) -> Result<Option<Span>, CarError<Infallible>>
     ensures { MatchResult result
         (λ found. MatchOption found
@@ -53,7 +53,7 @@ fn may_be_version_2(bytes: &[u8]) -> bool
     bytes[..count] == PRAGMA[..count]
 }
 
-/// Whether the bytes stand behind their length where version 2 begins.
+/// Whether the bytes stand after their length where version 2 begins.
 pub(crate) fn is_version_2(bytes: &[u8]) -> bool
     ensures { IsTrue result ↔ (0x0a ∷ bytes.now ≡ pragma) }
 {

@@ -3,7 +3,7 @@
 use std::rt::Env;
 use std::{env, io};
 
-/// The arguments behind the program's name.
+/// The arguments after the program's name.
 pub fn arguments(rt: &(impl Env + AllocGlobal)) -> io::Result<Vec<String>> {
     let mut words = Vec::new(rt.alloc());
     for word in env::args(rt)?.skip(1) {

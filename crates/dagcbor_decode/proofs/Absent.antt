@@ -41,7 +41,7 @@ key_judged key rest n b c (Some p) h k = text_passed n b c (key p) (rest p) h k
 
 -- ---- CIDs
 
--- a byte string with another beginning, or no CID behind its zero
+-- a byte string with another beginning, or no CID after its zero
 pub no_cid_of : (m n : ℕ) (b c : List ℕ) → SplitsHead b m n c → ¬ (m ≡ 2) → ¬ ((cid : List ℕ) × (rest : List ℕ) × SplitsCid b cid rest)
 no_cid_of m n b c h other k = other (bytes_opened m n b c (0x00 ∷ k.0) k.1 h k.2.1).0
 

@@ -15,7 +15,7 @@ pub unskimmed : {A : Type 0} (q : Decoded A) (rest : List ℕ) → skim q ≡ go
 unskimmed (got a r) rest e = let same : r ≡ rest = cc e in (a, ap (got a) same)
 unskimmed (refused why left) rest e = absurd (cc e)
 
--- behind one that is refused
+-- after one that is refused
 pub skim_no : {A B : Type 0} (r : Decoded A) (f : A → List ℕ → Decoded B) (w : Why) (k : ℕ) → skim r ≡ refused w k → skim (after r f) ≡ refused w k
 skim_no (got a x) f w k e = absurd (cc e)
 skim_no (refused why behind) f w k e = e

@@ -81,7 +81,7 @@ pub byte_refused : {E : Type 0} (kept name : List ℕ) (e : DecodeError E) (b : 
 byte_refused {E} kept name (Eof m x) b k named h = ended E kept name m x 1 (head_read kept b) 0 k named h.0 (ap (head_read kept) h.1)
 byte_refused kept name _ b k named h = absurd h
 
--- the additional information of a first byte behind which an argument stands
+-- the additional information of a first byte after which an argument stands
 data Wide (i : ℕ) : Type 0 where
   one : i ≡ 24 → Wide i
   two : i ≡ 25 → Wide i

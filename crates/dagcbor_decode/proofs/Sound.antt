@@ -163,7 +163,7 @@ items_got any steps sound (suc count) b us rest r e =
     got_in (λ us rest. (item_count us ≡ suc count) × AreFronts b us rest × (items_need us ≤ steps)) (item h.0 m.0) us m.1 rest m.3
     (ap suc l.0, item_closed b h.1 m.1 h.0 m.0 k.0 l.1, omega (arith, k.1, l.2))
 
--- the first key may stand behind the one before
+-- the first key may follow the one before
 abbrev pub ComesFirst : Option (List ℕ) → Entries → Type 0
 ComesFirst None es = ⊤
 ComesFirst (Some k) es = Precedes k es

@@ -167,7 +167,7 @@ pub extern "C" fn dagcbor_verify(cid: &[u8], block: &[u8]) -> i32
 /// where the CID is not the block's, or -23 where it is by a hash function that is not known here.
 /// `places` become those of the section: where its CID begins, where its block does, and where it
 /// ends. Where no section begins the bytes they stay: -24 where the bytes end too early, -25 where no
-/// length stands first, and -26 where no CID stands behind it.
+/// length stands first, and -26 where no CID stands after it.
 #[unsafe(no_mangle)]
 pub extern "C" fn dagcbor_car_section(bytes: &[u8], places: &mut [usize; 3]) -> i32
     ensures { IsSectionAnswer bytes.now places.old places.new result }
@@ -190,7 +190,7 @@ pub extern "C" fn dagcbor_car_span(bytes: &[u8], places: &mut [u64; 2]) -> i32
 /// becomes where the first section begins, and `needed` the length of its roots, packed as
 /// `dagcbor_links` packs links; where `out` has room for them all they are put at its front, and else it
 /// stays. Below 0 the number of the cause: -24 and -25 as of a section, that of the refusal where no
-/// block stands behind the length, and -27 where it is another one than that of roots and of version
+/// block stands after the length, and -27 where it is another one than that of roots and of version
 /// 1. Then `needed` becomes 0, and the rest stays.
 #[unsafe(no_mangle)]
 pub extern "C" fn dagcbor_car_header(
@@ -225,7 +225,7 @@ pub extern "C" fn dagcbor_car_next(
 }
 
 /// Puts the text of the CID that the bytes are at the front of `out`, where there is room for it:
-/// base32 behind `b`, and of version 0 base58btc, in ASCII, at most 139 bytes. 0 is answered then,
+/// base32 after `b`, and of version 0 base58btc, in ASCII, at most 139 bytes. 0 is answered then,
 /// and `needed` becomes its length. -21 is answered where there is no room, and -26 where the bytes
 /// are no CID, and then nothing is needed; after both `out` stays.
 #[unsafe(no_mangle)]

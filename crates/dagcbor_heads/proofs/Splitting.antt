@@ -1,4 +1,4 @@
--- Bytes that are all there, split behind a number or a head.
+-- Bytes that are all there, split after a number or a head.
 use Rattle.std.proofs.Common.{◌≡◌, ℕ, ◌+◌, ◌*◌, ◌/◌, ◌%◌, ◌<◌, ◌≤◌, List, ◌∷◌, ◌++◌, length, take, drop, sym, ap, ap₂, ◌∙◌, subst, arith, length-append, take-append-drop}
 use Rattle.std.specs.Int.{bytes_high_first}
 use Rattle.dagcbor_heads.specs.Head.{head}

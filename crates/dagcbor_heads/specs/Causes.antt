@@ -8,7 +8,7 @@ use Rattle.dagcbor_heads.specs.declared.error.Len.TheVariants.{Small}
 use Rattle.dagcbor_heads.specs.declared.error.DecodeError.{DecodeError}
 use Rattle.dagcbor_heads.specs.declared.error.DecodeError.TheVariants.{Read, Eof, Unsupported, DepthOverflow, OutOfMemory, IndefiniteSize, NonMinimal}
 
--- how many bytes of argument stand behind a first byte with this additional information
+-- how many bytes of argument stand after a first byte with this additional information
 abbrev pub argument_width : ℕ → ℕ
 argument_width information =
     if information == 24 then 1

@@ -53,7 +53,7 @@ pub slice_at_most : (before now : ℕ) {b : List ℕ} (rest : List ℕ) {major a
 slice_at_most before now {b} rest {major} {argument} h counted =
     omega (arith, ap length h.2, counted, length-append (head major argument) rest, head_short major argument h.1)
 
--- a payload behind a head
+-- a payload after a head
 pub slice_payload : {b payload rest : List ℕ} (front behind : List ℕ) (n : ℕ) → b ≡ front ++ behind → payload ≡ take n behind → rest ≡ drop n behind → b ≡ (front ++ payload) ++ rest
 slice_payload {b} {payload} {rest} front behind n e at past =
     e ∙ ap (λ x. front ++ x) (sym (take-append-drop n behind) ∙ ap₂ (λ x y. x ++ y) (sym at) (sym past)) ∙ sym (append_assoc front payload rest)

@@ -1,4 +1,4 @@
--- Copies of a source's first bytes, and what is known of its bytes behind those that were taken.
+-- Copies of a source's first bytes, and what is known of its bytes after those that were taken.
 use Rattle.std.proofs.Common.{◌≡◌, ℕ, ◌+◌, ◌-◌, ◌<◌, ◌≤◌, min, List, [], ◌∷◌, ◌++◌, length, take, drop, Bool, true, false, ◌&&◌, Option, None, Some, IfSome, refl, sym, ap, ap₂, subst, ◌∙◌, arith, length-append, append_assoc, length-take, length-drop, drop-drop, take-append-drop, le-leb, bytes_eq, nat_le, if◌then◌else◌, MatchOption, MatchBool}
 use Rattle.std.proofs.lemmas.List.{take_min, take-append-le, drop-append-le}
 use Rattle.std.proofs.lemmas.Slice.Eq.{bytes_eq-Decides}

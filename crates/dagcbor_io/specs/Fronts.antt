@@ -48,7 +48,7 @@ pub record Takes (old : Reading) (bytes : List ℕ) (new : Reading) : Type 0 whe
       × (new.left ≡ Some rest)
   pub same : Stays old new
 
--- so many bytes stood at the front, and were taken, each looked at once and none behind them shown
+-- so many bytes stood at the front, and were taken, each looked at once and none after them shown
 pub record TakesSome (n : ℕ) (old new : Reading) : Type 0 where
   pub bytes : List ℕ
   pub counted : length bytes ≡ n
@@ -64,7 +64,7 @@ pub record TakesHead (old : Reading) (major argument first : ℕ) (new : Reading
   pub starts : StartsWith old first
   pub takes : Takes old (head major argument) new
 
--- some bytes were taken, at most as many as were wanted, and put behind those that were gathered
+-- some bytes were taken, at most as many as were wanted, and put after those that were gathered
 -- before: none only at the end
 pub record Gathers (old : Reading) (before : List ℕ) (want count : ℕ) (after : List ℕ) (new : Reading) : Type 0 where
   pub bytes : List ℕ

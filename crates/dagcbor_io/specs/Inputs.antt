@@ -4,7 +4,7 @@ use Rattle.dagcbor_io.specs.Reading.{Reading}
 use Rattle.dagcbor_io.specs.declared.input.Input.{Input}
 use Rattle.dagcbor_io.specs.declared.input.Input.TheVariants.{Slice, Reader}
 
--- a reader behind an input does not lend
+-- a reader after an input does not lend
 abbrev pub not_lending : Reading → Reading
 not_lending r = record r { lends = false }
 

@@ -7,7 +7,7 @@ abbrev pub may_consume : ℕ → Option ℕ → Bool
 may_consume n None = true
 may_consume n (Some most) = nat_le n most
 
--- the bytes of the source behind those that were taken, where it tells them, they begin with the
+-- the bytes of the source after those that were taken, where it tells them, they begin with the
 -- copies, and those may be consumed. Where they do not, nothing is told: what the reader hands out
 -- are its copies, and these bytes would be no account of them. It is so only of a source that did not
 -- tell its bytes when they were copied.
@@ -16,7 +16,7 @@ bytes_told copies taken None most = None
 bytes_told copies taken (Some b) most = if bytes_eq (take (length copies) b) copies && may_consume (length copies) most then Some (drop taken b) else None
 
 -- the copies that a window has of its source's first bytes, how many of these were taken, what it
--- shows behind them, how often its source faulted, and how many bytes were looked at
+-- shows after them, how often its source faulted, and how many bytes were looked at
 pub record Windowed : Type 0 where
   pub copies : List ℕ
   pub taken : ℕ

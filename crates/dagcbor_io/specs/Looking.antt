@@ -13,7 +13,7 @@ pub record LooksOnce (old new : Reading) : Type 0 where
   pub left : (b : List ℕ) → old.left ≡ Some b → new.looked ≤ old.looked + length b
 
 -- n bytes were taken, and at most so many times n looked at, counted with those that were looked at
--- before the call. None is shown then: no byte behind those that were taken was asked for, whether
+-- before the call. None is shown then: no byte after those that were taken was asked for, whether
 -- or not the bytes left are known.
 pub record LooksAtTaken (times before : ℕ) (old new : Reading) : Type 0 where
   pub grows : old.looked ≤ new.looked

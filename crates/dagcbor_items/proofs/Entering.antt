@@ -27,7 +27,7 @@ no_step_inside {E} {old = old} e (inl (starts, called)) h =
 no_step_inside {E} {old = old} e (inr (starts, called)) h =
     too_deep ⊥ 1 e h (λ i. omega (arith, ap any_need (is_map_at (definite old starts) i).1)) (λ n named b l. let s = starts b l in map_step E n s.0 b s.1 s.2 s.4 s.3 (subst (Names n) called named))
 
--- behind the spent step no head stands
+-- after the spent step no head stands
 pub parts_head_refused : {E : Type 0} {text : List ℕ} {old stepped : Reading} (new : Reading) (e : DecodeError E) → StartsWithParts text old → SpentStep old stepped → IsNamed text e → RefusesPlainly (HasHead stepped) HeadCause stepped e new
     → RefusesPlainly (HasItem 2 stepped) (ItemCause (stepped.steps + 2)) stepped e new
 parts_head_refused {E} {text} {old} {stepped} new e starts s named r =

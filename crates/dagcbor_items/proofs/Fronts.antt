@@ -85,7 +85,7 @@ number_head {E} steps name e first b more some is few called named h = elim (eqb
     one (suc zero) few other = refl
     one (suc (suc n)) few other = absurd (omega (arith, few))
 
--- behind the first byte of a number
+-- after the first byte of a number
 pub number_head_refused : {E : Type 0} (lacks : Type 0) {name : List ℕ} (old new : Reading) (e : DecodeError E) (first : ℕ) → StartsWith old first → first / 32 ≤ 1 → name ≡ number_name (first / 32) → IsNamed name e → RefusesPlainly (HasHead old) HeadCause old e new
     → Refuses (record { could = HasItem 1 old; lacks = lacks; borrows = ⊥; stands = ItemCause (old.steps + 1) }) old e new
 number_head_refused lacks {name} old new e first starts few called named r =
@@ -118,7 +118,7 @@ head_of {old} {mid} {m} {n} expected starts h = record {
   same = h.takes.same;
 }
 
--- ---- behind a byte that was shown
+-- ---- after a byte that was shown
 
 -- an item that was taken as one tree was taken as an equal one
 pub as_tree : {spent : ℕ} {old new : Reading} (t u : Tree) → u ≡ t → TakesItem spent old t new → TakesItem spent old u new

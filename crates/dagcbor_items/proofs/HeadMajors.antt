@@ -66,7 +66,7 @@ other_kind E name low high {old} {new} {first} kept named starts same other = (
   λ b l. let s = starts b l in major_other E name low high kept first b s.0 s.1 other named,
 )
 
--- the head behind the byte that was shown
+-- the head after the byte that was shown
 kind_head : {low high : ℕ} {old mid : Reading} {first : ℕ} → high < 8 → ShowsByte old first mid → HasMajor low high old → HasHead mid
 kind_head few h k = record { major = k.major; argument = k.argument; rest = k.rest; major_fits = omega (arith, few, k.highest); argument_fits = k.argument_fits; left = h.kept _ k.left }
 
@@ -85,7 +85,7 @@ kind_taken {low} {high} {old} {mid} {new} {first} h least most t =
       takes = record { taken = λ b l. k.taken b (h.kept b l); same = stays_both h.same k.same };
     }
 
--- the head behind a first byte of the major type
+-- the head after a first byte of the major type
 pub head_kind : {kind m n first : ℕ} {old mid : Reading} → StartsWithMajor old kind → TakesHead old m n first mid → TakesMajor kind kind old kind n mid
 head_kind {kind} {m} {n} {first} {old} {mid} starts t =
     let k = head_of kind starts t in

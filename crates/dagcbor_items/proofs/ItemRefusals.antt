@@ -134,7 +134,7 @@ in_map {E} count steps e b c fits opens h = at_steps {E = E} e b (suc (suc steps
     is = ap (item_of (suc (suc steps))) opens ∙ led (suc steps) 5 count c _ fits (λ first more m i r. item_map (list_of (suc steps)) (map_of (suc steps)) first more i m
         ∙ ap (λ x. after x (λ n rest. after (entries_of (item_of steps) n None rest) (λ es. got (mapping es)))) (r (codes "map")))
 
--- ---- behind whole ones
+-- ---- after whole ones
 
 pub behind_items : {E : Type 0} (ts : Items) (count steps : ℕ) (e : DecodeError E) (b c : List ℕ) → AreFronts b ts c → item_count ts < count → items_need ts ≤ steps → ItemCause steps e c → ItemsCause count steps e b
 behind_items ts zero steps e b c f few need h = absurd (omega (arith, few))
@@ -144,7 +144,7 @@ behind_items (item t ts) (suc count) steps e b c f few need h =
     refused_then (item_of steps b) (λ t rest. after (items_of (item_of steps) count rest) λ ts. got (item t ts)) t _ e (any_reads steps b t _ o.0 (omega (arith, need)))
     (refused_after (items_of (item_of steps) count _) (λ ts. got (item t ts)) e (behind_items ts count steps e _ c o.1 (omega (arith, few)) (omega (arith, need)) h))
 
--- the last key, behind a key that stands before them all
+-- the last key, after a key that stands before them all
 pub last_after : Option (List ℕ) → Entries → Option (List ℕ)
 last_after previous no_entries = previous
 last_after previous (entry k t es) = last_after (Some k) es
@@ -162,7 +162,7 @@ key_stands : (previous : Option (List ℕ)) (k : List ℕ) (t : Tree) (es : Entr
 key_stands None k t es f = refl
 key_stands (Some l) k t es f = f
 
--- what refuses the entry behind whole ones refuses them all
+-- what refuses the entry after whole ones refuses them all
 after_entries : {E : Type 0} (es : Entries) (count steps : ℕ) (previous : Option (List ℕ)) (e : DecodeError E) (b c : List ℕ) → AreEntryFronts b es c → AllFollow previous es → entry_count es < count → entries_need es ≤ steps
     → ((more : ℕ) → IsRefusal (entries_of (item_of steps) (suc more) (last_after previous es) c) e) → IsRefusal (entries_of (item_of steps) count previous b) e
 unfolding last_after

@@ -32,7 +32,7 @@ payload_lacks {T} {E} {kind} {m} {n} (Err OutOfMemory) t some = λ b l.
     positive (suc n) none = omega arith
 payload_lacks (Err _) t some = tt
 
--- behind a byte that was shown
+-- after a byte that was shown
 pub shown_lacks : {T E : Type 0} (kind : ℕ) {first : ℕ} {old mid : Reading} (r : Result T (DecodeError E)) → ShowsByte old first mid → IfErr r (LacksForString kind mid.left) → IfErr r (LacksForString kind old.left)
 shown_lacks kind (Ok v) h k = tt
 shown_lacks kind (Err OutOfMemory) h k = λ b l. k b (h.kept b l)

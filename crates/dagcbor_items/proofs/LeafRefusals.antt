@@ -69,7 +69,7 @@ pub string_cut : {E : Type 0} (name : List ℕ) (kind n : ℕ) (e : DecodeError 
 string_cut name kind n e b c fits is named h = λ kept k.
     refused_then (head_at kept kind kind b) (λ h. payload kept h.1) (kind, n) c e (head_stands kept kind kind kind n b c fits (omega arith) (omega arith) is) (payload_refused kept name n e c k named h)
 
--- behind its first byte
+-- after its first byte
 after_same : {A B C : Type 0} (r : Decoded A) (f : A → B) (g : B → List ℕ → Decoded C) → after (after r (λ a. got (f a))) g ≡ after r (λ a. g (f a))
 after_same (got a rest) f g = refl
 after_same (refused why left) f g = refl

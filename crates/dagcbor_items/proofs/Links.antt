@@ -50,7 +50,7 @@ no_byte name other wanted _ b named h = absurd h
 pub wanted_refused : {E : Type 0} (name other : List ℕ) (wanted : ℕ) (old new : Reading) (e : DecodeError E) → IsEndNamed name e → RefusesPlainly (HasByte old) ByteCause old e new → RefusesPlainly (HasWanted wanted old) (WantedCause name other wanted) old e new
 wanted_refused name other wanted old new e named r = passed_on ByteCause (WantedCause name other wanted) old old new e (stays old) wanted_byte (λ x. x) (λ x. x) (λ b l. (b, l, no_byte name other wanted e b named)) r
 
--- ---- behind the tag
+-- ---- after the tag
 
 -- the byte string as its head and its payload
 cid_spelled : (cid rest : List ℕ) → bytes_spelling (0x00 ∷ cid) ++ rest ≡ head 2 (length (0x00 ∷ cid)) ++ ((0x00 ∷ cid) ++ rest)
@@ -98,7 +98,7 @@ no_byte_string E {old} {new} {first} name named h other = (
     unlike : (first / 32 == 2) ≡ false
     unlike = elim (eqb_tells (first / 32) 2) [ inl a ↦ absurd (other a.1) | inr a ↦ a.0 ]
 
--- behind its head
+-- after its head
 cid_opened : (b c : List ℕ) (n : ℕ) → n < 2 ^ 64 → b ≡ head 2 n ++ c → cid_of b ≡ cid_bytes_of n c
 cid_opened b c n fits is =
     let h = head_front 2 n c fits in
@@ -108,7 +108,7 @@ cid_opened b c n fits is =
 invalid : {E A : Type 0} (r : Decoded A) (left : ℕ) (e : DecodeError E) → r ≡ refused (msg (codes "Invalid CID")) left → (n : Name) × (e ≡ Msg n) × Names n (codes "Invalid CID") → IsRefusal r e
 invalid {E} r left e is told = refused_as r (msg (codes "Invalid CID")) left e is (ap why_of told.1 ∙ ap (λ s. Some (msg s)) (named_short told.0 (codes "Invalid CID") (codes "Invalid CID") told.2 refl (omega arith)))
 
--- the head was taken, and a CID stands behind it
+-- the head was taken, and a CID stands after it
 record StandsBehind (n : ℕ) (mid : Reading) : Type 0 where
   cid : List ℕ
   rest : List ℕ
@@ -214,7 +214,7 @@ link_stands h =
     is_accepted (link cid) a = (cid, refl)
     is_accepted _ a = absurd (cc a)
 
--- what stands behind the first byte of a link
+-- what follows the first byte of a link
 behind_first : {old mid : Reading} → Takes old (0xd8 ∷ []) mid → (i : HasLink old) → mid.left ≡ Some (0x2a ∷ (bytes_spelling (0x00 ∷ i.cid) ++ i.rest))
 behind_first h i =
     let k = h.taken i.bytes i.left in

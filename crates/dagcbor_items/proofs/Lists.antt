@@ -72,7 +72,7 @@ fronts_push (u ∷ ts) t b c d h f =
     let o = item_opened b c u (items_of ts) h in
     item_closed b _ d u (items_of (ts ++ t ∷ [])) o.0 (fronts_push ts t _ c d o.1 f)
 
--- the items of a row that are left behind those that were read
+-- the items of a row that are left after those that were read
 record ItemsLeft (us : Items) (ts : List Tree) (c rest : List ℕ) : Type 0 where
   others : Items
   fronts : AreFronts c others rest
@@ -111,7 +111,7 @@ one_item_read {old} {now} {new} {count} {left} {left'} {t} ts us is e s a = subs
   };
 }
 
--- where so many items stand, those that were not read stand behind those that were
+-- where so many items stand, those that were not read stand after those that were
 next_items : {old now : Reading} {count left : ℕ} (ts : List Tree) → ReadSome count left old ts now → HasItems count old → HasItems left now
 next_items {old} {now} {count} {left} ts s i =
     let k = s.takes.taken i.bytes i.left in

@@ -22,7 +22,7 @@ taken_more {times} {before} {old} {new} less few h = record {
   none_shown = h.none_shown;
 }
 
--- what a call looks at behind another one
+-- what a call looks at after another one
 pub looks_behind : {T E : Type 0} {times before : ℕ} {old mid : Reading} (new : Reading) (r : Result T E) → LooksAtTaken times before old mid → Looks times mid r new → LooksBehind times before old r new
 looks_behind new (Ok v) h k = looks_both h k
 looks_behind new (Err e) h k = looks_then h k
@@ -64,7 +64,7 @@ major_left {times} {m} {old} {new} starts h = left_first h (λ b l. let s = star
 pub major_unread : {m : ℕ} {old new : Reading} → StartsWithMajor old m → new.looked ≡ old.looked → LooksAtLeft 3 1 old new
 major_unread {m} {old} {new} starts e = record { grows = omega (arith, e); most = λ b l. let s = starts b l in omega (arith, e, ap length s.2) }
 
--- ---- behind a byte that was looked at, and stayed
+-- ---- after a byte that was looked at, and stayed
 
 pub once_left_more : {old new : Reading} (times : ℕ) → 1 ≤ times → LooksOnce old new → LooksAtLeft times 0 old new
 once_left_more {old} {new} times some o = record { grows = o.grows; most = λ b l. omega (arith, o.left b l, mul-le-mul_right (length b) some) }
@@ -83,13 +83,13 @@ pub looks_behind_peek : {T E : Type 0} {byte : ℕ} {old mid : Reading} (times :
 looks_behind_peek times new (Ok v) o s h = peeked_taken o s h
 looks_behind_peek times new (Err e) o s h = peeked_left o s h
 
--- a value behind a byte that was peeked at
+-- a value after a byte that was peeked at
 pub peeked_value : {T V E : Type 0} (times : ℕ) (meaning : T → V) (view : Tree → Option V) (lacks : Reading → Type 0) (stands : DecodeError E → List ℕ → Type 0) {first : ℕ} {old mid : Reading} (new : Reading) (r : Result T (DecodeError E)) → LooksOnce old mid → ShowsByte old first mid
     → Reads meaning (leaf view) (lacks mid) ⊥ stands mid r new → Looks times mid r new → Looks (times + 1) old r new
 peeked_value times meaning view lacks stands new (Ok v) o s a h = peeked_taken o s (taken_first h (λ b l. let k = a.taken b l in (k.1, k.5, shorter b k.1 k.0 k.2)))
 peeked_value times meaning view lacks stands new (Err e) o s a h = peeked_left o s (left_first h (λ b l. let k = s.still b l in omega (arith, ap length k.1)))
 
--- a byte was taken, and more behind it
+-- a byte was taken, and more after it
 pub one_byte_taken : {times byte : ℕ} {old new : Reading} → LooksAtTaken times 0 old new → Takes old (byte ∷ []) new → LooksAtTaken (times + 1) 1 old new
 one_byte_taken {times} {byte} {old} {new} h t = taken_first h (λ b l. let k = t.taken b l in (k.0, k.2, omega (arith, ap length k.1)))
 

@@ -24,7 +24,7 @@ bytes_agree {s} {t} h = (bytes_eq-Decides s t).0 (by (bytes_eq s t) h)
     by true e = refl
     by false e = absurd (cc e)
 
--- the head and what stands behind it
+-- the head and what follows it
 pub name_opened : {front behind : List ℕ} {first : ℕ} (name rest : List ℕ) → length name < 24 → front ≡ first ∷ behind → front ≡ text_spelling name ++ rest → (first ≡ 96 + length name) × (behind ≡ name ++ rest)
 name_opened {front} {behind} {first} name rest h e is =
     let both : first ∷ behind ≡ (32 * 3 + length name) ∷ (name ++ rest) = sym e ∙ is ∙ short_text name rest h in

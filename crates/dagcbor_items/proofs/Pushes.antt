@@ -1,4 +1,4 @@
--- An entry behind the last one, and what a `BTreeMap` makes of a key that comes behind all others.
+-- An entry after the last one, and what a `BTreeMap` makes of a key that follows all others.
 use Rattle.std.proofs.Common.{◌≡◌, inl, inr, ℕ, ◌+◌, ◌≤◌, max, List, [], ◌∷◌, refl, sym, ap, ◌∙◌, subst, arith, String, Global, string_bytes, string_cmp, Ordering, Less, Equal, Greater, Option, Some, None, ◌⊎◌}
 use Rattle.std.specs.BTreeMap.{insert_entry}
 use Rattle.std.specs.List.Sorted.{IsStrictlySortedBy}
@@ -23,7 +23,7 @@ last_key no_entries = None
 last_key (entry k t no_entries) = Some k
 last_key (entry k t (entry l u es)) = last_key (entry l u es)
 
--- ---- an entry behind the last one
+-- ---- an entry after the last one
 
 unfoldable pub entry_push : Entries → List ℕ → Tree → Entries
 entry_push no_entries k t = entry k t no_entries
@@ -99,7 +99,7 @@ put_insert [] k t fresh l u (inl same) = inl same
 put_insert [] k t fresh l u (inr h) = absurd h
 put_insert (p ∷ ps) k t fresh l u h = put_here (bytes_cmp k p.0) p ps (insert_entry bytes_cmp ps k t) k t l u (λ e. exact_bytes k p.0 e) fresh (put_insert ps k t (λ m v i. fresh m v (inr i)) l u) h
 
--- a key that follows the last one goes behind it
+-- a key that follows the last one goes after it
 pub ordered_push : (es new : List IpldEntry) (k : String Global) (j : Ipld) → new ≡ insert_entry string_cmp es k j → IsStrictlySortedBy string_cmp (keys_of es) → IsStrictlySortedBy string_cmp (keys_of new)
     → Follows (last_key (ordered_entries (pairs_of es))) (string_bytes k) → ordered_entries (pairs_of new) ≡ entry_push (ordered_entries (pairs_of es)) (string_bytes k) (tree_of j)
 unfolding Put Fresh
@@ -145,7 +145,7 @@ entries_push (entry l u (entry m v es)) k t b c d e h f g o =
     let p = entry_opened b c l u (entry m v es) h in
     entry_closed b p.0 _ e l u (entry m v (entry_push es k t)) p.1 p.2 p.3 (entries_push (entry m v es) k t _ c d e p.4 f g o)
 
--- the entries of a row that are left behind those that were read
+-- the entries of a row that are left after those that were read
 pub record EntriesLeft (fs es : Entries) (c rest : List ℕ) : Type 0 where
   pub others : Entries
   pub fronts : AreEntryFronts c others rest

@@ -1,4 +1,4 @@
--- A row of items or entries behind the head of its list or map, and what stands first in it.
+-- A row of items or entries after the head of its list or map, and what stands first in it.
 use Rattle.std.proofs.Common.{◌≡◌, ℕ, ◌<◌, ◌≤◌, max, List, ◌++◌, true, refl, sym, ap, ◌∙◌, subst, arith, Option, None, Some, is_some, option_map, option_and_then}
 use Rattle.dagcbor_io.specs.Reading.{Reading}
 use Rattle.ipld_tree.specs.Tree.{Tree, text, list, mapping, Items, no_items, item, Entries, no_entries, entry}
@@ -12,7 +12,7 @@ use Rattle.dagcbor_items.specs.Entering.{Enters}
 use Rattle.dagcbor_items.specs.Items.{HasRow}
 use Rattle.dagcbor_items.specs.Entries.{HasKey, AllFollow, HasEntryRow}
 
--- where a list or a map stands, its row stands behind its head
+-- where a list or a map stands, its row stands after its head
 pub row_entered : {V : Type 0} {shape : Shape Items V} {old mid : Reading} {count : ℕ} {b rest : List ℕ} (ts : Items) → Enters 4 count old mid → old.left ≡ Some b → IsFront b (list ts) rest
     → is_some (shape.view ts) ≡ true → shape.need ts ≤ mid.steps → HasRow shape count mid
 row_entered {b = b} {rest = rest} ts n l f accepted within =
@@ -50,7 +50,7 @@ row_first shape others f whole shows needs {r} {count} some h = by h.items h.cou
       within = omega (arith, w, needs t ts);
     }
 
--- the first of the entries, and all of them, behind a key
+-- the first of the entries, and all of them, after a key
 pub first_follows : (last : Option (List ℕ)) (k : List ℕ) (t : Tree) (es : Entries) → AllFollow last (entry k t es) → Follows last k
 first_follows None k t es f = tt
 first_follows (Some l) k t es f = f

@@ -46,9 +46,9 @@ entries_row b rest (entry k t es) h =
     let more = entries_row (entries_spelling es ++ rest) rest es o.4 in
     item_closed b o.0 rest (text k) (item t (entry_row es)) o.1 (item_closed o.0 (entries_spelling es ++ rest) rest t (entry_row es) o.2 more)
 
--- ---- behind a head
+-- ---- after a head
 
--- the row goes on behind a head, and behind its string, where it is one of a string
+-- the row goes on after a head, and after its string, where it is one of a string
 abbrev pub GoesOn : List ℕ → (m n k : ℕ) → List ℕ → Type 0
 GoesOn c m n k r = (IsTrue (is_string m) → n ≤ length c) × IsRow (if is_string m then drop n c else c) (part_count m n + k) r
 

@@ -65,7 +65,7 @@ stepped_refused {E} {lacks} {lacks'} {old} {stepped} new spent (DepthOverflow n)
 stepped_refused {E} {lacks} {lacks'} {old} {stepped} new spent e s k r =
     (r.0 ∙ ap (λ (r : Reading). r.faults) s.is, λ i. r.1 (item_stepped spent s i), λ b l. at_steps {E = E} e b _ _ (steps_same spent s) (r.2 b (ap (λ (r : Reading). r.left) s.is ∙ l)))
 
--- the step was given back behind the item
+-- the step was given back after the item
 pub stepped_taken : {old stepped now new : Reading} {t : Tree} (spent : ℕ) → SpentStep old stepped → TakesItem (spent + 1) stepped t now → new ≡ with_steps (now.steps + 1) now → TakesItem spent old t new
 stepped_taken {old} {stepped} {now} {new} {t} spent s a back =
     let at_stepped = ap (λ (r : Reading). r.steps) s.is in

@@ -32,7 +32,7 @@ use Rattle.dagcbor_items.specs.Untyped.{StartsWithMajor}
 pub of_kind : {kind m n : ℕ} {old mid : Reading} → TakesMajor kind kind old m n mid → Takes old (head kind n) mid
 of_kind {kind} {m} {n} {old} {mid} h = let same : m ≡ kind = omega (arith, h.lowest, h.highest) in subst (λ x. Takes old (head x n) mid) same h.takes
 
--- the string behind the head that was taken
+-- the string after the head that was taken
 behind_kind : {kind n : ℕ} {old mid : Reading} → n < 2 ^ 64 → Takes old (head kind n) mid → (h : HasString kind old) → (length h.payload ≡ n) × (mid.left ≡ Some (h.payload ++ h.rest))
 behind_kind {kind} {n} fits t h =
     let k = t.taken _ h.left in
@@ -67,7 +67,7 @@ string_kind_refused lacks name kind old new e r =
     string_kind : HasString kind old → HasMajor kind kind old
     string_kind h = record { major = kind; argument = length h.payload; rest = h.payload ++ h.rest; lowest = omega arith; highest = omega arith; argument_fits = h.fits; left = h.left }
 
--- no head stood there, behind a first byte of the major type
+-- no head stood there, after a first byte of the major type
 pub string_head_refused : {E : Type 0} (lacks : Type 0) (name : List ℕ) (kind : ℕ) (old new : Reading) (e : DecodeError E) → kind < 8 → StartsWithMajor old kind → IsNamed name e → RefusesPlainly (HasHead old) HeadCause old e new
     → Refuses (record { could = HasString kind old; lacks = lacks; borrows = ⊥; stands = StringCause name kind }) old e new
 string_head_refused lacks name kind old new e few starts named r =
@@ -77,7 +77,7 @@ string_head_refused lacks name kind old new e few starts named r =
     head_there : HasString kind old → HasHead old
     head_there h = record { major = kind; argument = length h.payload; rest = h.payload ++ h.rest; major_fits = few; argument_fits = h.fits; left = h.left }
 
--- what was read behind a byte that was peeked at
+-- what was read after a byte that was peeked at
 pub peeked_read : {T V E : Type 0} (meaning : T → V) (view : Tree → Option V) (lacks : Reading → Type 0) (stands : DecodeError E → List ℕ → Type 0) {old mid : Reading} {first : ℕ} (new : Reading) (r : Result T (DecodeError E)) → ShowsByte old first mid → (Stays old mid → lacks mid → lacks old)
     → Reads meaning (leaf view) (lacks mid) ⊥ stands mid r new → Reads meaning (leaf view) (lacks old) ⊥ stands old r new
 peeked_read meaning view lacks stands {old} {mid} new (Ok v) h want a = record {

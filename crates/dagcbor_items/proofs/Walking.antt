@@ -22,9 +22,9 @@ use Rattle.dagcbor_items.proofs.ItemRefusals.{at_steps}
 use Rattle.dagcbor_items.proofs.Pushes.{entry_push}
 use Rattle.dagcbor_items.proofs.Steps.{stepped_refused, more_lacks}
 
--- ---- the bytes behind what was taken
+-- ---- the bytes after what was taken
 
--- known bytes are some bytes, and behind them those that are left now
+-- known bytes are some bytes, and after them those that are left now
 abbrev pub LeavesRest : Option (List ℕ) → Option (List ℕ) → Type 0
 LeavesRest left rest = (b : List ℕ) → left ≡ Some b → (x c : List ℕ) × (b ≡ x ++ c) × (rest ≡ Some c)
 
@@ -51,7 +51,7 @@ no_links _ a b c = refl
 
 -- ---- want of memory
 
--- what may be wanting behind what was taken might have been before
+-- what may be wanting after what was taken might have been before
 pub lacks_before : {takes_memory : Bool} {old mid : Reading} → Stays old mid → LeavesRest old.left mid.left → WalkLacks takes_memory mid → WalkLacks takes_memory old
 lacks_before h behind (inl l) = inl (sym h.lends ∙ l)
 lacks_before h behind (inr m) = inr (m.0, λ b l. let k = behind b l in let link = m.1 k.1 k.3 in (link.0, links_behind k.0 b k.1 (link.0 ∷ []) k.2 link.1))
@@ -106,25 +106,25 @@ module _ {S : Type 0} (sink : Sink S) where
     stand = λ b l. let k = behind b l in k.2 h.found (h.stand k.0 k.1);
   }
 
-  -- behind bytes that were taken
+  -- after bytes that were taken
   pub handed_behind : {left rest : Option (List ℕ)} (before after : S) → LeavesRest left rest → HandsLinks sink rest before after → HandsLinks sink left before after
   handed_behind before after behind h = handed_more [] before before after (found_none before) (λ b l. let k = behind b l in (k.1, k.3, λ ls. links_behind k.0 b k.1 ls k.2)) h
 
   pub handed_inside : {old mid : Reading} {bytes : List ℕ} (before after : S) → Takes old bytes mid → HandsLinks sink mid.left before after → HandsLinks sink old.left before after
   handed_inside before after t h = handed_behind before after (rest_of_bytes t) h
 
-  -- behind whole items, and behind whole entries
+  -- after whole items, and after whole entries
   pub handed_in_items : {old mid : Reading} (ts : List Tree) (before now after : S) → TakesItems old ts mid → Finds sink.holds before (items_links (items_of ts)) now → HandsLinks sink mid.left now after → HandsLinks sink old.left before after
   handed_in_items ts before now after t f h = handed_more (items_links (items_of ts)) before now after f (λ b l. let k = t.taken b l in (k.0, k.3, λ ls. items_links_in (items_of ts) b k.0 ls k.1)) h
 
   pub handed_in_entries : {old mid : Reading} (es : Entries) (before now after : S) → TakesEntries old es mid → Finds sink.holds before (entries_links es) now → HandsLinks sink mid.left now after → HandsLinks sink old.left before after
   handed_in_entries es before now after t f h = handed_more (entries_links es) before now after f (λ b l. let k = t.taken b l in (k.0, k.3, λ ls. entries_links_in es b k.0 ls k.1)) h
 
-  -- behind a key
+  -- after a key
   pub handed_in_value : {old mid : Reading} (key : List ℕ) (before after : S) → TakesItem 1 old (text key) mid → HandsLinks sink mid.left before after → HandsLinks sink old.left before after
   handed_in_value key before after t h = handed_behind before after (rest_of_key key t) h
 
-  -- behind a step
+  -- after a step
   pub step_walk_refused : {E : Type 0} {old stepped : Reading} (before after : S) (new : Reading) (spent : ℕ) (e : DecodeError E) → SpentStep old stepped
       → RefusesWalk sink (HasItem (spent + 1) stepped) (ItemCause (stepped.steps + (spent + 1))) stepped before e new after
       → RefusesWalk sink (HasItem spent old) (ItemCause (old.steps + spent)) old before e new after
@@ -147,7 +147,7 @@ module _ {S : Type 0} (sink : Sink S) where
           (h.0, h.1, found_as s s _ _ (sym (no_links h.0 (λ y. a (sym m ∙ y)) (λ y. b (sym m ∙ y)) (λ y. c (sym m ∙ y)))) (found_none s))
   leaf_walked {E} old s (Err e) new starts a b c h = record { refuses = more_lacks (WalkLacks sink.takes_memory old) 1 old new e (λ x. inl x) h; handed = none_handed old.left s }
 
-  -- ---- behind a byte that was shown
+  -- ---- after a byte that was shown
 
   pub walked_from : {E : Type 0} {old peeked : Reading} {first : ℕ} (before after : S) (r : Result (Unit {0}) (DecodeError E)) (new : Reading) → ShowsByte old first peeked → WalksEnteredItem sink peeked before r new after → WalksEnteredItem sink old before r new after
   walked_from {E} {old} {peeked} before after (Ok u) new s h =

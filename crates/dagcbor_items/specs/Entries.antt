@@ -77,7 +77,7 @@ abbrev pub AllFollow : Option (List ℕ) → Entries → Type 0
 AllFollow None es = ⊤
 AllFollow (Some k) es = Precedes k es
 
--- so many entries stand at the front, behind the last key, which show something, and their need is
+-- so many entries stand at the front, after the last key, which show something, and their need is
 -- within the steps left
 pub record HasEntryRow {V : Type 0} (shape : Shape Entries V) (last : Option (List ℕ)) (count : ℕ) (r : Reading) : Type 0 where
   pub bytes : List ℕ

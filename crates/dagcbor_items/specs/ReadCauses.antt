@@ -25,7 +25,7 @@ KeyCause previous e b = IsRefusal (key_of previous b) e
 abbrev pub LinkCause : {E : Type 0} → DecodeError E → List ℕ → Type 0
 LinkCause e b = IsRefusal (link_at b) e
 
--- of the byte string behind the tag
+-- of the byte string after the tag
 abbrev pub CidCause : {E : Type 0} → DecodeError E → List ℕ → Type 0
 CidCause e b = IsRefusal (cid_of b) e
 

@@ -1,11 +1,11 @@
--- Where items end that stand one behind the other, told by their heads alone.
+-- Where items end that stand one after the other, told by their heads alone.
 use Rattle.std.specs.Prelude.{◌≡◌, ◌==◌, ◌*◌, ◌+◌, ◌-◌, ◌<◌, ◌≤◌, ℕ, zero, suc, IsTrue}
 use Rattle.std.specs.Prelude.{List, length, drop, Option, MatchOption, if◌then◌else◌}
 use Rattle.dagcbor_heads.specs.Splits.{SplitsHead}
 use Rattle.dagcbor_decode.specs.Rows.{is_string}
 
 -- how many items follow a head as parts of its item: those of a list, the keys and values of a map,
--- and the byte string behind the tag of a link (RFC 8949, section 3.1)
+-- and the byte string after the tag of a link (RFC 8949, section 3.1)
 abbrev pub part_count : (major argument : ℕ) → ℕ
 part_count major argument = if major == 4 then argument else if major == 5 then 2 * argument
     else if major == 6 then 1 else 0
@@ -20,7 +20,7 @@ pub record PassesHead (b : List ℕ) (parts : ℕ) (rest : List ℕ) : Type 0 wh
   pub there : IsTrue (is_string major) → argument ≤ length behind
   pub left : rest ≡ (if is_string major then drop argument behind else behind)
 
--- behind so many heads none of the items, and none of their parts, is left
+-- after so many heads none of the items, and none of their parts, is left
 abbrev pub PassesHeads : (heads : ℕ) → List ℕ → (items : ℕ) → List ℕ → Type 0
 PassesHeads zero b items rest = (items ≡ 0) × (b ≡ rest)
 PassesHeads (suc heads) b items rest = (0 < items) × (parts : ℕ) × (behind : List ℕ)

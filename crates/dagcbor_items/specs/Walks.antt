@@ -25,7 +25,7 @@ pub record Sink (S : Type 0) : Type 1 where
 abbrev pub forms : List CidParts → List (List ℕ)
 forms cids = map cid_bytes cids
 
--- the sink was handed these links behind those that it was handed before
+-- the sink was handed these links after those that it was handed before
 abbrev pub Finds : {S : Type 0} → (S → List (List ℕ) → Type 0) → S → List (List ℕ) → S → Type 0
 Finds holds before found after = (links : List (List ℕ)) → holds before links
     → holds after (links ++ found)

@@ -12,7 +12,7 @@ after_next (first ∷ forms) form =
     ap (λ (s : List ℕ). (32 ∷ encode_lower first) ++ s) (after_next forms form)
     ∙ sym (append_assoc (32 ∷ encode_lower first) (after_spaces forms) (32 ∷ encode_lower form))
 
--- one more link stands behind those before it
+-- one more link stands after those before it
 pub link_after : (links : List CidParts) (i : ℕ) (link : CidParts) (first old spaced new : List ℕ) → i < length links → link ≡ get_or links i link
     → old ≡ first ++ after_spaces (map cid_bytes (take i links)) → spaced ≡ old ++ 32 ∷ [] → new ≡ spaced ++ encode_lower (cid_bytes link)
     → new ≡ first ++ after_spaces (map cid_bytes (take (i + 1) links))
@@ -43,7 +43,7 @@ pub kept_before_space : (before first behind : List ℕ) {old spaced now : List 
 kept_before_space before first behind so_far space same =
     kept_before before first (behind ++ 32 ∷ []) (same ∙ space ∙ ap (λ (s : List ℕ). s ++ 32 ∷ []) so_far ∙ append_assoc (before ++ first) behind (32 ∷ []))
 
--- behind the last link the line ends
+-- after the last link the line ends
 pub links_ended : (links : List CidParts) (i : ℕ) (before first old new : List ℕ) → length links ≤ i → old ≡ (before ++ first) ++ after_spaces (map cid_bytes (take i links)) → new ≡ old ++ 10 ∷ []
     → new ≡ before ++ ((first ++ after_spaces (map cid_bytes links)) ++ 10 ∷ [])
 links_ended links i before first old new none so_far ended =

@@ -19,7 +19,7 @@ use std::io::{BufRead, Write};
 /// What is kept from one fill to the next.
 #[derive(Drop)]
 struct Buffers {
-    /// What stands behind the last line feed.
+    /// What follows the last line feed.
     partial: Vec<u8>,
     /// Room for the bytes of a line's block.
     block: Vec<u8>,

@@ -39,7 +39,7 @@ pub record KeysPassed (b : List ℕ) (count to_come : ℕ) (key now : List ℕ) 
 pub no_key_passed : (b : List ℕ) (count : ℕ) (key : List ℕ) → KeysPassed b count count key b
 no_key_passed b count key = record { left = λ es rest f e n. (es, e, f, n, (λ t h. h), (λ t h. h)); before = []; whole = refl }
 
--- the key that stands there is this one, and these bytes stand behind it
+-- the key that stands there is this one, and these bytes stand after it
 abbrev pub IsNextKey : List ℕ → List ℕ → List ℕ → Type 0
 IsNextKey now next value = (key rest : List ℕ) → IsFront now (text key) rest → (next ≡ key) × (value ≡ rest)
 
@@ -78,7 +78,7 @@ no_key_there bytes_of b now key count to_come some s none = λ es rest f e n. le
     by rest no_entries e f = omega (arith, some, e)
     by rest (entry k u gs) e f = let o = entry_opened now rest k u gs f in none k o.0 o.1
 
--- no value stands behind it
+-- no value follows it
 pub no_value_there : {A : Type 0} (bytes_of : A → List ℕ) (b now next value key : List ℕ) (count to_come : ℕ) → 0 < to_come → KeysPassed b count to_come key now → IsNextKey now next value → ((t : Tree) (rest : List ℕ) → IsFront value t rest → ⊥) → FindsValue {A = A} bytes_of b count key None
 no_value_there bytes_of b now next value key count to_come some s splits none = λ es rest f e n.
     let q = s.left es rest f e n in
@@ -92,7 +92,7 @@ value_found bytes_of a b now next key count to_come some s splits same = λ es r
     let o = next_entry now next (bytes_of a) rest to_come q.0 some q.1 q.2 q.3 splits in
     (o.tree, q.4 o.tree (subst (λ x. IsValueOf key x o.tree) (sym o.is) (inl (same, refl))), (o.behind, o.front, o.need))
 
--- a key stands there that comes behind it
+-- a key stands there that follows it
 pub key_passed_over : {A : Type 0} (bytes_of : A → List ℕ) (b now next value key : List ℕ) (count to_come : ℕ) → 0 < to_come → KeysPassed b count to_come key now → IsNextKey now next value → comes_before key next ≡ true → FindsValue {A = A} bytes_of b count key None
 key_passed_over bytes_of b now next value key count to_come some s splits before = λ es rest f e n.
     let q = s.left es rest f e n in
@@ -132,6 +132,6 @@ all_keys_passed bytes_of b now key count to_come none s = λ es rest f e n t h. 
     by t no_entries e h = h
     by t (entry k u gs) e h = omega (arith, none, e)
 
--- what stands behind a key ends the bytes
+-- what follows a key ends the bytes
 pub value_within : (b now value key : List ℕ) (count to_come : ℕ) → KeysPassed b count to_come key now → EndsWith now value → EndsWith b value
 value_within b now value key count to_come s ends = (s.before ++ ends.0, s.whole ∙ ap (λ x. s.before ++ x) ends.1 ∙ sym (append_assoc s.before ends.0 value))

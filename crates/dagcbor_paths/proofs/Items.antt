@@ -12,7 +12,7 @@ index_below n no_items t h = absurd h
 index_below zero (item u us) t h = omega arith
 index_below (suc n) (item u us) t h = omega (arith, index_below n us t h)
 
--- behind so many items, the one of the index begins
+-- after so many items, the one of the index begins
 pub item_begins : (n : ℕ) (ts us : Items) (b at rest : List ℕ) → AreFronts b ts rest → items_need ts ≤ 256 → AreFronts b us at → item_count us ≡ n → n < item_count ts
     → (t : Tree) × IsItemAt n ts t × BeginsWithTree at t
 item_begins n no_items us b at rest f need g e few = absurd (omega (arith, few))

@@ -5,7 +5,7 @@ use Rattle.ipld_tree.specs.Tree.{Tree, list, mapping, Items, no_items, item, Ent
 
 -- ---- texts of paths
 
--- the byte, and the first piece behind it
+-- the byte, and the first piece after it
 abbrev pub onto_first : ℕ → List (List ℕ) → List (List ℕ)
 onto_first b [] = (b ∷ []) ∷ []
 onto_first b (s ∷ more) = (b ∷ s) ∷ more

@@ -68,7 +68,7 @@ fn follow<'b, 'p>(bytes: &'b [u8], path: &'p str) -> (&'b [u8], &'p str)
     (at, left)
 }
 
-/// The part of the item at the front to which the segments lead, one behind the other.
+/// The part of the item at the front to which the segments lead, one after the other.
 fn part_along<'b>(bytes: &'b [u8], segments: &[&str]) -> Option<&'b [u8]>
     ensures found { FindsAlong (λ s. s.now) bytes.now (map (λ s. s.now) segments.now) result }
     ensures within { IfSome result (λ s. EndsWith bytes.now s.now) }

@@ -21,7 +21,7 @@ fn item_at(bytes: &[u8], count: u64, index: u64) -> Option<&[u8]>
     behind_items(bytes, index)
 }
 
-/// The key at the front, and the bytes behind it.
+/// The key at the front, and the bytes after it.
 fn split_key(bytes: &[u8]) -> Option<(&[u8], &[u8])>
     ensures key { (key : List ℕ) (rest : List ℕ) → IsFront bytes.now (text key) rest →
         MatchOption result ⊥ (λ p. (p.0.now ≡ key) × (p.1.now ≡ rest)) }

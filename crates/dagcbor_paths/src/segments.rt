@@ -5,7 +5,7 @@ ghost use Rattle.std.specs.Fmt.{decimal};
 ghost use Rattle.dagcbor_paths.specs.Paths.{segments};
 ghost use Rattle.dagcbor_paths.specs.Parts.{EndsWith};
 
-/// The first segment of a path, and the path behind it. Segments stand between slashes; what is
+/// The first segment of a path, and the path after it. Segments stand between slashes; what is
 /// empty there is none. Nothing is escaped, so no segment has a slash.
 pub fn next_segment(path: &str) -> Option<(&str, &str)>
     ensures first { MatchOption result (segments path.now ≡ [])

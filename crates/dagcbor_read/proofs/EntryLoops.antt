@@ -103,7 +103,7 @@ module _ {S : Type 0} (shape : FieldShape S) (start : S) where
       → after ≡ with_value with_key → Call {E = E} (λ old r new. MatchResult r (λ v. TakesFront ignored_item old tt new) (λ e. ⊤)) mid (Ok v) new → MapSoFar old after s new
   value_skipped {old} {with_key} {after} {key} {s} E T mid new v at same as_much is_after h = value_read E T ignored_item key (λ _. s) mid new v tt at refl same as_much refl is_after h
 
-  -- behind the loop: no key was left, and the map was ended
+  -- after the loop: no key was left, and the map was ended
   pub map_ended : {old : DeState} {entries : AccessorState} {s : S} (E : Type 0) (now mid new : DeState) (o : Option (CowStr Global)) (after : AccessorState) (u : Unit {0}) → MapSoFar old entries s now → o ≡ None
       → Call (ReadsNextKey {E = E} entries.last entries.left) now (Ok o) mid → after ≡ after_key {E = E} (Ok o) entries → Call (EndsItems {E = E} after) mid (Ok u) new
       → (new.failed ≡ false) × TakesFront (fields_of shape start) old.input s new.input

@@ -53,7 +53,7 @@ none_left {r} {count} h = by h.items h.counted h.accepted
 
 -- ---- an item before others
 
--- What the whole shows of an item and of those behind it is made by f of what both show.
+-- What the whole shows of an item and of those after it is made by f of what both show.
 pub record Joins {V W U : Type 0} (shape : Shape Tree V) (others : Shape Items W) (f : V → W → U) (whole : Shape Items U) : Type 0 where
   pub shows : (t : Tree) (ts : Items) → whole.view (item t ts) ≡ option_and_then (λ v. option_map (f v) (others.view ts)) (shape.view t)
   pub needs : (t : Tree) (ts : Items) → whole.need (item t ts) ≡ max (shape.need t) (others.need ts)
@@ -147,7 +147,7 @@ module _ {V W U : Type 0} {shape : Shape Tree V} {others : Shape Items W} {f : V
 -- ---- items of one type
 
 module _ {V : Type 0} (shape : Shape Tree V) where
-  -- some items were read, which show vs: those behind them show the others
+  -- some items were read, which show vs: those after them show the others
   pub record ReadSoFar (before : AccessorState) (old : DeState) (now_left : AccessorState) (vs : List V) (now : DeState) : Type 0 where
     pub sound : now.failed ≡ false
     pub is : now_left ≡ record before { left = now_left.left }

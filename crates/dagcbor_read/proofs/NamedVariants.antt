@@ -54,7 +54,7 @@ enum_entered e {old} {mid} s = by e.in_map s.3
     by true h = let a = h.1.same in record { steps = omega (arith, a.steps, s.1); budget = a.budget; lends = a.lends; faults = a.faults; through = a.through }
     by false h = let a = h.1.same in record { steps = omega (arith, a.steps, s.1); budget = a.budget; lends = a.lends; faults = a.faults; through = a.through }
 
--- the bytes behind the beginning, and those before it
+-- the bytes after the beginning, and those before it
 record Opened (e : EnumState) (b : List ℕ) (mid : Reading) : Type 0 where
   behind : List ℕ
   left : mid.left ≡ Some behind
@@ -136,7 +136,7 @@ module _ {V : Type 0} (shape : EnumShape V) where
     | inr p ↦ (record { byte = 161; rest = p.after_head; left = p.left; accepted = inl refl }, omega (arith, p.within))
   ]
 
-  -- what stands behind the beginning
+  -- what follows the beginning
   Behind : EnumState → Reading → Reading → Type 0
   Behind e old mid = ((e.in_map ≡ false) × (u : UnitFront old) × (mid.left ≡ Some u.bytes)) ⊎ ((e.in_map ≡ true) × (p : PartFront old) × (mid.left ≡ Some p.after_head))
 
@@ -173,7 +173,7 @@ module _ {V : Type 0} (shape : EnumShape V) where
     | inr p ↦ record { bytes = p.1.after_head; tree = text p.1.name; rest = p.1.after_name; left = p.2; front = p.1.name_front; accepted = refl; within = zero-le }
   ]
 
-  -- a variant that was named is a unit, or what it holds stands behind its name
+  -- a variant that was named is a unit, or what it holds stands after its name
   variant_stands : {e : EnumState} {k : List ℕ} {old now : Reading} → Named e k old now → HasFront (enum_of shape) old
       → ((e.in_map ≡ false) × (is_some (shape.unit k) ≡ true)) ⊎ ((e.in_map ≡ true) × HasFront (part_of shape k) now)
   unfolding Behind

@@ -45,7 +45,7 @@ can_enter shape r h =
     null_first : (b rest : List ℕ) (t : Tree) (byte : ℕ) (more : List ℕ) → IsFront b t rest → t ≡ null → b ≡ byte ∷ more → byte ≡ 0xf6
     null_first b rest t byte more f e s = let is : byte ∷ more ≡ 0xf6 ∷ rest = sym s ∙ f.is ∙ ap (λ u. spelling u ++ rest) e in cc is
 
--- behind another byte than a null's, a step is what is wanted
+-- after another byte than a null's, a step is what is wanted
 pub wants_step : {old peeked : Reading} {first : ℕ} → ShowsByte old first peeked → (first ≡ 0xf6 → ⊥) → CanEnter old → 0 < old.steps
 wants_step h other i =
     let k = h.starts (i.byte ∷ i.rest) i.left in
@@ -64,7 +64,7 @@ null_entered shape {old} {new} h = record {
   same = h.same;
 }
 
--- what stands behind the step is no null
+-- what follows the step is no null
 no_null : {old mid : Reading} (b rest : List ℕ) (t : Tree) → EntersSome old mid → old.left ≡ Some b → IsFront b t rest → t ≡ null → ⊥
 no_null b rest t h l f e =
     let k = h.begins b l in
@@ -81,7 +81,7 @@ some_entered shape {old} {mid} {now} {new} v h a back = record {
   same = given_back (record { steps = h.steps; budget = h.budget; lends = h.lends; faults = h.faults; through = h.through }) a.same refl back;
 }
 
--- the part stands behind the step
+-- the part stands after the step
 part_stands : {V : Type 0} (shape : Shape Tree V) {old mid : Reading} → EntersSome old mid → HasFront (option_of shape) old → HasFront shape mid
 part_stands shape {old} {mid} h i =
     let p = is_part shape i.tree (no_null i.bytes i.rest i.tree h i.left i.front) in

@@ -37,7 +37,7 @@ gave_up_at shape lends steps b items (Read x) k g = tt
 gave_up_at shape lends steps b items _ k g = (g.0, λ none. some_of_none shape steps b (subst (λ x. AreStreamItems shape steps b x) none k) g.1)
 
 module _ {T V : Type 0} (E : Type 0) (meaning : T → V) (shape : Shape Tree V) (lends : Bool) (steps : ℕ) (whole : Bool) where
-  -- values stand one behind the other, and at the end no byte, or no value, or one at which it gave up
+  -- values stand one after the other, and at the end no byte, or no value, or one at which it gave up
   abbrev Came : List ℕ → List (Result T (DecodeError E)) → Type 0
   Came b [] = whole ≡ true → b ≡ []
   Came b (Ok v ∷ xs) = (rest : List ℕ) × IsFirst shape steps b (meaning v) rest × Came rest xs

@@ -75,7 +75,7 @@ abbrev pub need_first : (Tree → ℕ) → (Items → ℕ) → Items → ℕ
 need_first need others no_items = 0
 need_first need others (item t ts) = max (need t) (others ts)
 
--- one item of a type, and others behind it
+-- one item of a type, and others after it
 abbrev pub first_then : {V W : Type 0} → Shape Tree V → Shape Items W → Shape Items (V × W)
 first_then shape others = record {
   view = view_first shape.view others.view;
@@ -95,7 +95,7 @@ abbrev pub need_optional : (Tree → ℕ) → (Items → ℕ) → Items → ℕ
 need_optional need others no_items = others no_items
 need_optional need others (item t ts) = max (need t) (others ts)
 
--- one item of a type, or none, and others behind it
+-- one item of a type, or none, and others after it
 abbrev pub optional_then : {V W : Type 0} → Shape Tree V → Shape Items W
     → Shape Items (Option V × W)
 optional_then shape others = record {
@@ -197,11 +197,11 @@ all_entries shape state = record {
   memory = fields_memory shape;
 }
 
--- so many entries stand at the front, behind the last key, that the state takes
+-- so many entries stand at the front, after the last key, that the state takes
 abbrev pub HasFields : {S : Type 0} → FieldShape S → S → Option (List ℕ) → ℕ → Reading → Type 0
 HasFields shape state = HasEntryRow (all_entries shape state)
 
--- so many entries stood at the front, behind the last key, which bring the state to s, and were
+-- so many entries stood at the front, after the last key, which bring the state to s, and were
 -- taken
 pub record TakesFields {S : Type 0} (shape : FieldShape S) (state : S) (last : Option (List ℕ)) (count : ℕ) (old : Reading) (s : S) (new : Reading) : Type 0 where
   pub taken : (b : List ℕ) → old.left ≡ Some b

@@ -46,7 +46,7 @@ LooksAtFirst is_taken old result new = MatchResult result
     (λ v. MatchBool (is_taken v) (LooksAtTaken 3 0 old new) (LooksOnce old new))
     (λ _. LooksAtLeft 3 0 old new)
 
--- the end of the input was found; or bytes behind the item, which stay, and then nothing has
+-- the end of the input was found; or bytes after the item, which stay, and then nothing has
 -- failed; or the reader faulted
 abbrev pub TellsEnd : {E : Type 0} → Reading → Result (Unit {0}) (DecodeError E) → Reading → Bool
     → Type 0

@@ -17,7 +17,7 @@ use Rattle.dagcbor_read.specs.Named.{TakesKnown}
 abbrev pub OwnShape : Type 0 → Type 0
 OwnShape O = List (List ℕ) → O → List ℕ → Option (Shape Tree O)
 
--- the names behind the first
+-- the names after the first
 abbrev pub behind_first : List (List ℕ) → List (List ℕ)
 behind_first [] = []
 behind_first (name ∷ names) = names
@@ -42,7 +42,7 @@ abbrev pub either_own : {A B : Type 0} → A → B → Option (Shape Tree A) →
 either_own a b (Some first) second = Some (beside (λ x. (x, b)) first)
 either_own a b None second = option_map (beside (λ x. (a, x))) second
 
--- two groups, whose names stand one behind another
+-- two groups, whose names stand one after another
 abbrev pub own_of_both : {A B : Type 0} → OwnShape A → (List (List ℕ) → List (List ℕ)) → OwnShape B
     → OwnShape (A × B)
 own_of_both first behind second names own k =

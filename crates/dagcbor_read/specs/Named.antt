@@ -11,12 +11,12 @@ use Rattle.dagcbor_read.specs.Accessors.{AccessorState, with_key, with_value}
 use Rattle.dagcbor_read.specs.Collections.{FieldShape, value_of, HasFields, all_entries}
 use Rattle.dagcbor_read.specs.Deserializers.{DeState}
 
--- a slice began with this name, behind the last key, and it was taken
+-- a slice began with this name, after the last key, and it was taken
 abbrev pub TakesName : Option (List ℕ) → List ℕ → DeState → DeState → Type 0
 TakesName last name old mid = HasName last name old.input × (mid.failed ≡ false)
     × TakesFront (leaf view_text) old.input name mid.input
 
--- a key was taken behind the last one, of which this is known
+-- a key was taken after the last one, of which this is known
 pub record TakesKnown (known : List ℕ → Type 0) (last : Option (List ℕ)) (old : DeState) (key : List ℕ) (mid : DeState) : Type 0 where
   pub is : known key
   pub follows : Follows last key

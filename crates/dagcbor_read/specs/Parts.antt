@@ -102,7 +102,7 @@ abbrev pub GivesBack : ℕ → DeState → DeState → Type 0
 GivesBack steps now new = (new.failed ≡ now.failed)
     × (new.input ≡ with_steps (now.input.steps + steps) now.input)
 
--- The part's answer behind the step; or it was not come to.
+-- The part's answer after the step; or it was not come to.
 abbrev pub HandsOptionOn : {T E : Type 0} → (DeState → Result T (DecodeError E) → DeState → Type 0)
     → DeState → Result (Option T) (DecodeError E) → DeState → Type 0
 HandsOptionOn answers old result new = old.failed ≡ false → MatchResult result
@@ -122,7 +122,7 @@ abbrev pub IsReaderFault : {E : Type 0} → DecodeError E → Type 0
 IsReaderFault (Read e) = ⊤
 IsReaderFault _ = ⊥
 
--- bytes behind the value, or a fault
+-- bytes after the value, or a fault
 abbrev pub IsNoEnd : {E : Type 0} → DecodeError E → Type 0
 IsNoEnd TrailingData = ⊤
 IsNoEnd e = IsReaderFault e
@@ -144,7 +144,7 @@ HandsWholeOn {T} answers left steps lends result = (start now : DeState)
     (λ e. answers start (Err e) now ⊎ (IsNoEnd e × ((v : T) × answers start (Ok v) now)))
 
 -- The first value's answer from a start on these bytes, with so many steps; no end is looked for
--- behind it.
+-- after it.
 abbrev pub HandsFirstOn : {T E : Type 0} → (DeState → Result T (DecodeError E) → DeState → Type 0)
     → Option (List ℕ) → ℕ → Bool → Result T (DecodeError E) → Type 0
 HandsFirstOn answers left steps lends result = (start now : DeState)
@@ -177,7 +177,7 @@ PassesText s b c = IsFront b (text s) c
 abbrev pub PassesKey : Option (List ℕ) → List ℕ → List ℕ → Type 0
 PassesKey last b c = (key : List ℕ) × Follows last key × PassesText key b c
 
--- A group of fields was refused, or what stands behind it.
+-- A group of fields was refused, or what follows it.
 abbrev pub RefusesEither : {E : Type 0} → (DeState → DecodeError E → DeState → Type 0)
     → (DeState → DecodeError E → DeState → Type 0) → DeState → DecodeError E → DeState → Type 0
 RefusesEither first second old e new = first old e new ⊎ second old e new

@@ -1,4 +1,4 @@
--- Streams: values one behind the other.
+-- Streams: values one after the other.
 use Rattle.std.specs.Prelude.{◌≡◌, ◌≢◌, ℕ, ◌+◌, ◌<◌, ◌≤◌, ◌⊎◌, Bool, true, false, List, [], ◌∷◌, length, map, Option, None, Some, Result, Ok, Err, is_err, MatchBool, MatchOption, MatchResult, IfSome, IfOk, ⊤}
 use Rattle.std.specs.Iterator.{Count, DrainsIf}
 use Rattle.dagcbor_io.specs.Reading.{Reading}
@@ -25,7 +25,7 @@ AreStreamItems shape steps b (Some v ∷ items) = (rest : List ℕ) × IsFirst s
 AreStreamItems shape steps b (None ∷ items) = (items ≡ []) × (0 < length b)
     × BeginsWithNoValue shape steps b
 
--- The values are those of trees that stand one behind the other at the front of the bytes, before
+-- The values are those of trees that stand one after the other at the front of the bytes, before
 -- the rest, each accepted within the steps.
 abbrev pub AreNextValues : {V : Type 0} → Shape Tree V → ℕ → List ℕ → List V → List ℕ → Type 0
 AreNextValues shape steps b [] rest = b ≡ rest
@@ -80,7 +80,7 @@ as_answer None = Ok None
 as_answer (Some (Ok v)) = Ok (Some v)
 as_answer (Some (Err e)) = Err e
 
--- whether nothing comes behind what was given
+-- whether nothing follows what was given
 abbrev pub is_last : {T E : Type 0} → Option (Result T (DecodeError E)) → Bool
 is_last None = true
 is_last (Some r) = is_err r
@@ -127,7 +127,7 @@ NoneGivesUp shape lends [] = ⊤
 NoneGivesUp shape lends (Ok v ∷ xs) = NoneGivesUp shape lends xs
 NoneGivesUp shape lends (Err e ∷ xs) = (¬ GivesUp shape lends e) × NoneGivesUp shape lends xs
 
--- behind an error nothing comes
+-- after an error nothing comes
 abbrev pub EndsAtError : {T E : Type 0} → List (Result T (DecodeError E)) → Type 0
 EndsAtError [] = ⊤
 EndsAtError (Ok v ∷ xs) = EndsAtError xs
@@ -167,11 +167,11 @@ module _ {S T V : Type 0} (E : Type 0) (see : S → StreamState) (meaning : T �
 
   -- what holds of the items that calls of `next` from s gave
   pub record IsStreamRun (s : S) (whole : Bool) (xs : List (Result T (DecodeError E))) : Type 0 where
-    -- at most one error came, and nothing behind it
+    -- at most one error came, and nothing after it
     pub one_error : EndsAtError xs
     -- of n known bytes at most n + 1 items came
     pub bounded : (b : List ℕ) → IsOver b (see s) → length xs ≤ length b + 1
-    -- however the run ended, the values stood one behind the other at the front of the bytes
+    -- however the run ended, the values stood one after the other at the front of the bytes
     pub values : (b : List ℕ) → IsOver b (see s) → (rest : List ℕ)
         × AreNextValues shape (see s).source.input.steps b (values_before meaning xs) rest
     -- they are the stream of the type on the bytes, up to an error that says nothing of the bytes

@@ -6,7 +6,7 @@ use Rattle.ipld_tree.specs.Tree.{Tree, any_need}
 use Rattle.dagcbor_items.specs.Shapes.{Shape, option_of, takes_none, unless_lent}
 use Rattle.dagcbor_read.specs.Collections.{FieldShape, struct_of}
 
--- the texts behind references
+-- the texts after references
 abbrev pub texts : List (Bor (List ℕ)) → List (List ℕ)
 texts = map (λ s. s.now)
 

@@ -36,7 +36,7 @@ IsReadExcuse (Read e) = ⊤
 IsReadExcuse OutOfMemory = ⊤
 IsReadExcuse _ = ⊥
 
--- where a value stands first, with bytes behind it, these are why
+-- where a value stands first, with bytes after it, these are why
 abbrev pub IsForBehind : {V E : Type 0} → Shape Tree V → ℕ → List ℕ → DecodeError E → Type 0
 IsForBehind {V} shape steps b e = (v : V) (rest : List ℕ) → IsFirst shape steps b v rest
     → IsReadExcuse e ⊎ (e ≡ TrailingData)

@@ -32,7 +32,7 @@ pub record Gathered (done once : List CidParts) (seen : CidSet) : Type 0 where
   pub all : AreOnceEach done once
   pub known : (q : CidParts) → Among q (members seen) ↔ Among q done
 
--- what stands in a list with one more behind: it is that one, or stands before
+-- what stands in a list with one more after: it is that one, or stands before
 last_or_before : (done before behind : List CidParts) (name q : CidParts) → done ++ name ∷ [] ≡ before ++ q ∷ behind
     → ((done ≡ before) × (name ≡ q)) ⊎ ((less : List CidParts) × (done ≡ before ++ q ∷ less))
 last_or_before [] [] behind name q is = let e : name ≡ q = cc is in inl (refl, e)

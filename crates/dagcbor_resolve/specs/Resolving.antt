@@ -83,7 +83,7 @@ ResolvesIn zero stored name path r = (r.block ≡ name) × (segments r.path.now 
 ResolvesIn (suc n) stored name path r = (next : CidParts) × (left : List (List ℕ))
     × LeadsOn stored name path next left × ResolvesIn n stored next left r
 
--- it gives up only behind so many blocks
+-- it gives up only after so many blocks
 abbrev pub IsEndlessAfter : ℕ → End → Type 0
 IsEndlessAfter n ends.Endless = n ≡ 2 ^ 64 - 1
 IsEndlessAfter n _ = ⊤
@@ -107,7 +107,7 @@ abbrev pub AreOnTheWay : Stored → CidParts → List (List ℕ) → List CidPar
 AreOnTheWay stored root path names = (more : List CidParts) × (names ≡ root ∷ more)
     × GoesOver stored root path more
 
--- The names, each once. Where a name stands first, it stands once behind just those that stand before.
+-- The names, each once. Where a name stands first, it stands once after just those that stand before.
 pub record AreOnceEach (names once : List CidParts) : Type 0 where
   pub lists : Lists (λ q. Among q names) once
   pub order : (before behind : List CidParts) (q : CidParts) → names ≡ before ++ q ∷ behind

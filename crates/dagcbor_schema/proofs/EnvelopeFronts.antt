@@ -81,7 +81,7 @@ module _ {V : Type 0} (tag content : List ℕ) (shape : EnumShape V) where
   shows_two : (name : List ℕ) (value : Tree) → view_envelope tag content shape.part (mapping (two name value)) ≡ shape.part name value
   shows_two name value = ap₂ (λ x y. if x then if y then shape.part name value else None else None) ((bytes_eq-Decides tag tag).1 refl) ((bytes_eq-Decides content content).1 refl)
 
-  -- behind the head
+  -- after the head
   pub record AtTag (count : ℕ) (r : Reading) : Type 0 where
     pub bytes : List ℕ
     pub rest : List ℕ
@@ -93,7 +93,7 @@ module _ {V : Type 0} (tag content : List ℕ) (shape : EnumShape V) where
     pub accepted : is_some (shape.part name value) ≡ true
     pub within : shape.need name value ≤ r.steps
 
-  -- behind the tag's key
+  -- after the tag's key
   pub record AtName (r : Reading) : Type 0 where
     pub bytes : List ℕ
     pub behind : List ℕ
@@ -107,7 +107,7 @@ module _ {V : Type 0} (tag content : List ℕ) (shape : EnumShape V) where
     pub accepted : is_some (shape.part name value) ≡ true
     pub within : shape.need name value ≤ r.steps
 
-  -- behind the tag
+  -- after the tag
   pub record AtContent (name : List ℕ) (r : Reading) : Type 0 where
     pub bytes : List ℕ
     pub rest : List ℕ

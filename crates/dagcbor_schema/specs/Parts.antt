@@ -3,7 +3,7 @@ use Rattle.std.specs.Prelude.{◌≡◌, ◌⊎◌, ℕ, Bool, true, false, code
 use Rattle.serde_ipld_dagcbor.specs.Answers.{IsPartMessage}
 use Rattle.serde_ipld_dagcbor.specs.Tree.{Tree}
 
--- A part that may be absent, where nothing stands behind it. An absent part before another has no
+-- A part that may be absent, where nothing follows it. An absent part before another has no
 -- tree, and so the list has none.
 abbrev pub optional_part : {A : Type 0} → (A → Option Tree) → Option A → List (Option Tree)
     → List (Option Tree)
@@ -11,7 +11,7 @@ optional_part tree (Some x) others = tree x ∷ others
 optional_part tree None [] = []
 optional_part tree None (other ∷ others) = None ∷ other ∷ others
 
--- the message of a row that begins with a part: that of the part, or of those behind it
+-- the message of a row that begins with a part: that of the part, or of those after it
 abbrev pub part_message : {A : Type 0} → (A → Option Tree) → (A → List ℕ → Type 0)
     → (List ℕ → Type 0) → A → List ℕ → Type 0
 part_message tree message others x m = IsPartMessage tree message x m ⊎ others m

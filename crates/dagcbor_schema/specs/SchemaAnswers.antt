@@ -61,7 +61,7 @@ module _ {E B I T Y L M K : Type 0} (of_bool : DeState → Result B (DecodeError
     AnswersOfKind kinds.Map = ReadsFrom (λ x. told.Map x) of_map
     AnswersOfKind kinds.Link = ReadsFrom (λ x. told.Link x) of_link
 
-    -- No kind was told; or the type of the kind answers behind the look.
+    -- No kind was told; or the type of the kind answers after the look.
     abbrev pub AnswersByKind : DeState → Result (ByKind B I T Y L M K) (DecodeError E) → DeState → Type 0
     AnswersByKind old result new = IsErrAnd result (λ e. PeeksOnce old (Err e) new)
         ⊎ ((kind : Kind) × (mid : DeState) × PeeksOnce {E = E} old (Ok kind) mid × AnswersOfKind kind mid result new)
@@ -80,7 +80,7 @@ abbrev pub IsOtherKey : {E : Type 0} → List ℕ → Option (CowStr Global) →
 IsOtherKey name None e = HasMessage (codes "missing field") e
 IsOtherKey name (Some key) e = HasMessage (codes "unknown field") e × (cow_str_bytes key ≢ name)
 
--- The key behind the last one was refused, where so many are left; or it was read, and is another.
+-- The key after the last one was refused, where so many are left; or it was read, and is another.
 abbrev pub RefusesNamedKey : {E : Type 0} → List ℕ → Option (List ℕ) → ℕ → DeState → DecodeError E
     → DeState → Type 0
 RefusesNamedKey {E} name last left old e new = ReadsKeyOnce last left old (Err e) new

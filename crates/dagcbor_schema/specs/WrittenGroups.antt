@@ -10,11 +10,11 @@ pub record LeadingPairs : Type 0 where
   pub before : List Pair → List Pair
   pub joins : (others : List Pair) → before others ≡ before [] ++ others
 
--- the pairs, where no others stand behind them
+-- the pairs, where no others stand after them
 abbrev pub pairs_of : LeadingPairs → List Pair
 pairs_of joining = joining.before []
 
--- a field, and those behind it
+-- a field, and those after it
 abbrev pub field_before : List ℕ → Option Tree → LeadingPairs → LeadingPairs
 field_before name tree behind = record {
   before = λ others. field name tree ∷ behind.before others;
@@ -28,7 +28,7 @@ optional_leads name tree None behind others = behind.joins others
 optional_leads name tree (Some x) behind others =
     ap (λ ps. field name (tree x) ∷ ps) (behind.joins others)
 
--- a field that is left out where it has no value, and those behind it
+-- a field that is left out where it has no value, and those after it
 abbrev pub optional_before : {A : Type 0} → List ℕ → (A → Option Tree) → Option A → LeadingPairs
     → LeadingPairs
 optional_before name tree o behind = record {
@@ -36,7 +36,7 @@ optional_before name tree o behind = record {
   joins = optional_leads name tree o behind;
 }
 
--- fields, and others behind them
+-- fields, and others after them
 abbrev pub both_before : LeadingPairs → LeadingPairs → LeadingPairs
 both_before first second = record {
   before = λ others. first.before (second.before others);

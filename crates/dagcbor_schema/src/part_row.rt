@@ -17,7 +17,7 @@ use std::alloc::Global;
 #[derive_where(Clone, Copy)]
 pub struct Part<'a, T>(pub &'a T);
 
-/// A part that may be absent, where nothing stands behind it.
+/// A part that may be absent, where nothing follows it.
 #[derive_where(Clone, Copy)]
 pub struct OptionalPart<'a, T>(pub &'a Option<T>);
 

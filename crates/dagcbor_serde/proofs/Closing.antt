@@ -85,7 +85,7 @@ module _ (old new : Sink) where
       let none : drop new.top.first new.spans.items ≡ [] = ap₂ (λ n x. drop n x) first b.spans ∙ drop-length old.spans.items in
       (subst P (sym none) held, omega (arith, place, ap length b.bytes, length-append old.bytes.items (0x00 ∷ [])), omega (arith, first, ap length b.spans), around new.top place first b.bytes b.spans b.below ls h)
 
-  -- nothing stands behind the byte of a head
+  -- nothing follows the byte of a head
   nothing : (f : Frame) → f.place ≡ length old.bytes.items → new.bytes.items ≡ old.bytes.items ++ 0x00 ∷ [] → drop (f.place + 1) new.bytes.items ≡ []
   nothing f place bytes = drop_of_length-le new.bytes.items (omega (arith, place, ap length bytes, length-append old.bytes.items (0x00 ∷ [])))
 
@@ -145,7 +145,7 @@ module _ (old new : Sink) where
 
 -- ---- ends
 
--- What was innermost is left, and its item came to what is around it: first its bytes, behind those
+-- What was innermost is left, and its item came to what is around it: first its bytes, after those
 -- that stood before it.
 pub record Left (old new : Sink) (item : List ℕ) : Type 0 where
   pub around : Frame
@@ -184,7 +184,7 @@ closed t item old new ls good l inside h = by ls (subst P order h)
         let R : List Frame → Type 0 = λ fs. Opens (m.0 ∷ ls) (new.top ∷ reverse fs) new.bytes.items new.spans.items in
         (state m.0 ls, ap (option_map (λ j. state j ls)) m.1, subst R (sym l.kept) (subst Q (sym l.bytes) m.2))
 
--- nothing is listed behind what is around
+-- nothing is listed after what is around
 pub all_listed : (n : ℕ) (ss : List Span) → drop n ss ≡ [] → ss ≡ take n ss
 all_listed n ss e = sym (take-append-drop n ss) ∙ ap (λ x. take n ss ++ x) e ∙ append-nil (take n ss)
 
@@ -219,7 +219,7 @@ good_map ps place b c ss n h p fits =
     by None e f g = cc
     by (Some t) e f g = (t, e, (f, g))
 
--- the entries stand behind the byte of the head, and what is before it is as it was
+-- the entries stand after the byte of the head, and what is before it is as it was
 pub entries_stand : (place : ℕ) (b c : List ℕ) (ss : List Span) (n : ℕ) → place < length b → (p : PutsEntries place b ss c n) → (take place c ≡ take place b) × (drop (place + 1) c ≡ entries_bytes p.0)
 entries_stand place b c ss n h p =
     let short : place ≤ length (take (place + 1) b) = omega (arith, h, length-take-le (place + 1) b (omega (arith, h))) in

@@ -8,7 +8,7 @@ use Rattle.ipld_tree.specs.Spelled.{spelled, spelled_head}
 use Rattle.dagcbor_write.proofs.Spelling.{head_is_spelled}
 use Rattle.dagcbor_serde.specs.Holds.{IsGood}
 
--- a head with nothing behind it
+-- a head with nothing after it
 alone : (t : Tree) (major n : ℕ) → n < 2 ^ 64 → spelled t ≡ spelled_head major n → spelled t ≡ Some (head major n)
 alone t major n h e = e ∙ head_is_spelled major n h
 

@@ -1,4 +1,4 @@
--- What is held behind an item, a key, or another call.
+-- What is held after an item, a key, or another call.
 use Rattle.std.proofs.Common.{◌≡◌, ℕ, zero, suc, ◌+◌, ◌≤◌, List, [], ◌∷◌, ◌++◌, length, map, take, drop, Option, None, Some, refl, sym, ap, ap₂, ◌∙◌, subst, arith, length-append, append_assoc, append-nil, take_all, take-append-drop, length-drop, length-take-le, All, flat_map}
 use Rattle.std.proofs.Math.Seq.{drop-append_seam, take-append_seam}
 use Rattle.std.proofs.lemmas.List.{drop-append-le}
@@ -19,7 +19,7 @@ use Rattle.dagcbor_serde.specs.declared.frame.Stage.TheVariants as stage
 use Rattle.dagcbor_serde.proofs.AtStages.{at_stage}
 use Rattle.dagcbor_serde.proofs.Spans.{entries_stay, within_stays, wholes_stay, value_joins, value_within}
 
--- what is held behind a level
+-- what is held after a level
 abbrev pub After : (Level → Option Level) → Part → Level → Type 0
 After next new l = (m : Level) × (next l ≡ Some m) × HoldsLevel m new
 
@@ -67,7 +67,7 @@ module _ (place key : ℕ) (old : List ℕ) (ss : List Span) where
   abbrev one_more : List ℕ → Span
   one_more b = record { start = key; key_end = length old; end = length (old ++ b) }
 
-  -- and one behind them are all that stands there
+  -- and one after them are all that stands there
   runs : (ps : List Pair) (b : List ℕ) → HoldsEntries ps place (take key old) ss → key ≤ length old → flat_map (whole_at (old ++ b)) (ss ++ one_more b ∷ []) ≡ drop (place + 1) (old ++ b)
   runs ps b h inside =
       let first : flat_map (whole_at (old ++ b)) ss ≡ drop (place + 1) (take key old) = ap (λ x. flat_map (whole_at x) ss) (sym (seam b)) ∙ wholes_stay (take key old) (drop key old ++ b) ss h.1 ∙ h.2 in
@@ -93,7 +93,7 @@ module _ (k : List ℕ) (f : Frame) (b more : List ℕ) (ss : List Span) (good :
   abbrev waiting : Part
   waiting = part (record f { stage = stage.WantsValue; key = length b }) (b ++ more) ss
 
-  -- a key behind the entries
+  -- a key after the entries
   waits : (ps : List Pair) (n : ℕ) → HoldsEntries ps f.place b ss → f.flat ≡ n → HoldsLevel (in_map ps (for_value k) n) waiting
   waits ps n h flat =
       let P : List ℕ → Type 0 = λ x. HoldsEntries ps f.place x ss in

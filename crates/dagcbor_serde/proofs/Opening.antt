@@ -1,4 +1,4 @@
--- What is held of all that is open behind one more call.
+-- What is held of all that is open after one more call.
 use Rattle.std.proofs.Common.{◌≡◌, ℕ, ◌+◌, ◌≤◌, ◌<◌, ◌^◌, List, [], ◌∷◌, ◌++◌, length, take, drop, Option, Some, refl, sym, ap, ◌∙◌, subst, arith, length-append, take_all, length-take-le, reverse, option_map, Result, Ok, Err, OnOk}
 use Rattle.std.proofs.Math.Seq.{drop-length}
 use Rattle.std.proofs.lemmas.List.{take-append-le, drop-append-le}
@@ -16,7 +16,7 @@ use Rattle.dagcbor_serde.specs.declared.sink.Sink.{Sink}
 use Rattle.dagcbor_serde.proofs.Levels.{Moves, item_put, whole_put, value_put, text_waits, name_waits, link_begun, cid_put}
 use Rattle.dagcbor_serde.proofs.Leaves.{good_link}
 
--- what is open behind the innermost that moved
+-- what is open after the innermost that moved
 abbrev pub Opened : (Level → Option Level) → Level → List Level → Frame → List Frame → List ℕ → List Span → Type 0
 Opened next l ls g fs c ts = (m : Level) × (next l ≡ Some m) × Opens (m ∷ ls) (g ∷ fs) c ts
 

@@ -23,7 +23,7 @@ wholes_stay bs more ss w = all_wholes bs more ss (recursion_from_All (IsWithin (
 pub within_stays : (bs more : List ℕ) (ss : List Span) → All (IsWithin (length bs)) ss → All (IsWithin (length (bs ++ more))) ss
 within_stays bs more ss w = λ k d h. let at = w k d h in (at.0, at.1, omega (arith, at.2, length-append bs more))
 
--- a value behind the key that waits is an entry
+-- a value after the key that waits is an entry
 pub value_joins : (old text : List ℕ) (ss : List Span) (s : Span) → All (IsWithin (length old)) ss → s.start ≤ length old → s.key_end ≡ length old → s.end ≡ length (old ++ text)
     → map (entry_at (old ++ text)) (ss ++ s ∷ []) ≡ map (entry_at old) ss ++ (drop s.start old, text) ∷ []
 value_joins old text ss s w b k e =
@@ -38,6 +38,6 @@ entries_bytes_are : (b : List ℕ) (ss : List Span) → AllByRecursion (IsWithin
 entries_bytes_are b [] w = refl
 entries_bytes_are b (s ∷ ss) w = ap₂ (λ x y. x ++ y) (sym (one_range b s w.0.0 w.0.1)) (entries_bytes_are b ss w.1) ∙ append_assoc (entry_at b s).0 (entry_at b s).1 (entries_bytes (map (entry_at b) ss))
 
--- what stands there, one behind the other, are the entries
+-- what stands there, one after the other, are the entries
 pub entries_are : (b : List ℕ) (ss : List Span) → All (IsWithin (length b)) ss → flat_map (whole_at b) ss ≡ entries_bytes (map (entry_at b) ss)
 entries_are b ss w = entries_bytes_are b ss (recursion_from_All (IsWithin (length b)) ss w)

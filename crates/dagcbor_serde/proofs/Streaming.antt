@@ -1,4 +1,4 @@
--- Streams end, and their items are those behind a look at the front.
+-- Streams end, and their items are those after a look at the front.
 use Rattle.std.proofs.Common.{◌≡◌, inl, inr, ℕ, ◌+◌, Bool, true, length, ap, arith, Option, None, Some, Result, Ok, Err, is_err, ◌⊎◌}
 use Rattle.std.specs.Iterator.{MakesProgress}
 use Rattle.dagcbor_io.specs.Reading.{Reading}
@@ -30,20 +30,20 @@ module _ (E T : Type 0) where
       let k = goes_on (Result T (Error E)) _ _ (see old).done r h in
       steps (λ s. s.done) (λ s. s.reading.left) can may see old new r k.0 (after_item (see old).reading (see new).reading (see new).done r k.1)
 
--- ---- what is behind a look at a byte
+-- ---- what follows a look at a byte
 
 -- bytes are left
 shown_some : {byte : ℕ} {old mid : Reading} → ShowsByte old byte mid → SomeLeft old
 shown_some {byte} {old} {mid} s b l = let k = s.starts b l in omega (arith, ap length k.1)
 
--- an item behind a look stood there before
+-- an item after a look stood there before
 pub item_before : {byte : ℕ} {old mid new : Reading} {t : Tree} → ShowsByte old byte mid → TakesItem 0 mid t new → TakesItem 0 old t new
 item_before {byte} {old} {mid} {new} {t} s a = record {
   taken = λ b l. let k = a.taken b (s.kept b l) in (k.0, k.1, omega (arith, k.2, s.same.steps), k.3);
   same = stays_both s.same a.same;
 }
 
--- no item is read behind a look
+-- no item is read after a look
 pub refused_behind : {E : Type 0} {byte : ℕ} (old mid new : Reading) (e : DecodeError E) → ShowsByte old byte mid → RefusesOrLacksMemory (HasItem 0 mid) (ItemCause (mid.steps + 0)) mid e new
     → Refuses (record { could = HasItem 0 old; lacks = SomeLeft old; borrows = ⊥; stands = CauseInSome (old.steps + 0) }) old e new
 refused_behind {E} {byte} old mid new e s r = passed_on (ItemCause (mid.steps + 0)) (CauseInSome (old.steps + 0)) old mid new e s.same

@@ -29,7 +29,7 @@ abbrev pub GrowsByBlock : Log → Option (List ℕ) → Option (List ℕ) → Ty
 GrowsByBlock log old new = (b : List ℕ) × IsBlockOfLog log b × Appends old new b
 
 -- the value was refused, and nothing was written; or the device faulted, which holds a beginning of
--- the block of its events behind what it held
+-- the block of its events after what it held
 abbrev pub IsUnsentTo : {E : Type 0} → (Log → Type 0) → Option (List ℕ) → Option (List ℕ)
     → DeviceError E → Type 0
 IsUnsentTo writes old new (Value e) = new ≡ old

@@ -24,12 +24,12 @@ IsGood t b = (spelled t ≡ Some b) × IsTree t
 abbrev pub AreInOrder : List Texts → Type 0
 AreInOrder es = IsSortedBy goes_before es × KeysDiffer es true
 
--- the entries are all that stands behind the byte at the place
+-- the entries are all that follows the byte at the place
 abbrev pub HoldsEntries : List Pair → ℕ → List ℕ → List Span → Type 0
 HoldsEntries ps place b ss = AreSpellingsOf ps (map (entry_at b) ss) × All (IsWithin (length b)) ss
     × (flat_map (whole_at b) ss ≡ drop (place + 1) b) × (place < length b)
 
--- these entries were put in order, and are all that stands behind the byte at the place now
+-- these entries were put in order, and are all that follows the byte at the place now
 abbrev pub PutsEntries : ℕ → List ℕ → List Span → List ℕ → ℕ → Type 0
 PutsEntries place old ss new n = (es : List Texts) × PutsInOrder (map (entry_at old) ss) es true
     × (new ≡ take (place + 1) old ++ entries_bytes es) × (n ≡ length es)
@@ -71,7 +71,7 @@ HoldsLevel (in_link None) p = (p.frame.stage ≡ stage.Link) × (length p.bytes 
 HoldsLevel (in_link (Some cid)) p = (p.frame.stage ≡ stage.Linked)
     × IsGood (link cid) (drop p.frame.place p.bytes) × (p.spans ≡ [])
 
--- what is open is held, from the inside out: each has the bytes and the entries behind those of
+-- what is open is held, from the inside out: each has the bytes and the entries after those of
 -- what is around it
 abbrev pub Opens : List Level → List Frame → List ℕ → List Span → Type 0
 Opens [] [] b ss = ⊤
@@ -109,7 +109,7 @@ abbrev pub put_name : Bool → List ℕ → Level → Option Level
 put_name true k = put_key k
 put_name false k = put (text k)
 
--- a list or a map was begun behind all bytes and all entries
+-- a list or a map was begun after all bytes and all entries
 pub record BeginsStage (s : Stage) (old new : Sink) : Type 0 where
   pub top : new.top ≡ record {
     stage = s;

@@ -1,4 +1,4 @@
--- Streams: values one behind the other.
+-- Streams: values one after the other.
 use Rattle.std.specs.Prelude.{◌≡◌, ℕ, ◌+◌, ◌<◌, ◌≤◌, Bool, true, List, length, Option, None, Some, Result, Ok, Err, is_err, MatchBool}
 use Rattle.std.specs.Iterator.{Count}
 use Rattle.dagcbor_io.specs.Reading.{Reading}
@@ -50,7 +50,7 @@ ReadsNext old (Some (Err (NoBlock e))) new =
       stands = CauseInSome (old.steps + 0);
     }) old e new
 
--- whether nothing comes behind what was given
+-- whether nothing follows what was given
 abbrev pub is_last : {T E : Type 0} → Option (Result T (Error E)) → Bool
 is_last None = true
 is_last (Some r) = is_err r

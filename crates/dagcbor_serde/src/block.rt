@@ -45,7 +45,7 @@ pub(crate) struct Mark<'r> {
     link: LinkStage,
 }
 
-/// The argument of the head at the front, where it has this major type, and what is behind it.
+/// The argument of the head at the front, where it has this major type, and what follows it.
 #[inline(always)]
 fn split_argument(rest: &[u8], major: u8) -> Option<(u64, &[u8])> {
     match split_head(rest) {
@@ -54,7 +54,7 @@ fn split_argument(rest: &[u8], major: u8) -> Option<(u64, &[u8])> {
     }
 }
 
-/// What is behind this name, where it stands at the front as a key. A name in another case, or with
+/// What follows this name, where it stands at the front as a key. A name in another case, or with
 /// others beside it, is not looked for.
 #[inline(always)]
 fn behind_name<'a>(rest: &'a [u8], name: &str) -> Option<&'a [u8]> {
@@ -170,7 +170,7 @@ impl<'r> Block<'r> {
         }
     }
 
-    /// The binary form behind the tag and the zero byte.
+    /// The binary form after the tag and the zero byte.
     fn take_cid(&mut self) -> Option<&'r [u8]> {
         let (_, _, payload) = split_head(self.rest)?;
         self.rest = payload;
@@ -180,7 +180,7 @@ impl<'r> Block<'r> {
         Some(cid)
     }
 
-    /// The major type and the argument of the integer at the front, and what is behind it.
+    /// The major type and the argument of the integer at the front, and what follows it.
     #[inline(always)]
     fn number(&self) -> Option<(u8, u64, &'r [u8])> {
         match split_head(self.rest) {
@@ -191,7 +191,7 @@ impl<'r> Block<'r> {
         }
     }
 
-    /// The integer at the front, and what is behind it.
+    /// The integer at the front, and what follows it.
     fn integer(&self) -> Option<(i128, &'r [u8])> {
         let (major, argument, behind) = self.number()?;
         let v = argument as i128;

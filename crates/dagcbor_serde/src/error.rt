@@ -112,7 +112,7 @@ pub enum Error<E> {
     /// No block was read: the bytes are none, or the source faulted.
     NoBlock(DecodeError<E>),
     /// The type does not accept the block, for this cause. The reader stood at this place in it: at
-    /// the item that it did not take, or behind what it took before it refused.
+    /// the item that it did not take, or after what it took before it refused.
     Misfit { cause: Misfit, at: usize },
 }
 

@@ -13,7 +13,7 @@ pub(crate) enum Stage {
     /// The whole, before its item.
     #[default]
     Vacant,
-    /// The whole, behind its item.
+    /// The whole, after its item.
     Full,
     /// A list.
     List,
@@ -27,11 +27,11 @@ pub(crate) enum Stage {
     WantsMap,
     /// A link before its CID.
     Link,
-    /// A link behind its CID.
+    /// A link after its CID.
     Linked,
 }
 
-/// What is open. Its bytes stand behind those of what is around it, and its entries behind theirs.
+/// What is open. Its bytes stand after those of what is around it, and its entries after theirs.
 #[derive(Clone, Copy, Default, Drop)]
 pub(crate) struct Frame {
     pub(crate) stage: Stage,
@@ -79,7 +79,7 @@ pub(crate) fn push(out: &mut Vec<u8>, bytes: &[u8]) -> Result<(), Refusal>
         .map_err(|_| Refusal::OutOfMemory)
 }
 
-/// Appends the shortest head and nothing behind it.
+/// Appends the shortest head and nothing after it.
 #[inline(always)]
 pub(crate) fn append_head(out: &mut Vec<u8>, major: u8, argument: u64) -> Result<(), Refusal>
     requires { major ≤ 7 }
@@ -92,7 +92,7 @@ pub(crate) fn append_head(out: &mut Vec<u8>, major: u8, argument: u64) -> Result
     append_slowly(out, major, argument, &[])
 }
 
-/// Appends the shortest head and what is behind it.
+/// Appends the shortest head and what follows it.
 #[inline(always)]
 pub(crate) fn append(
     out: &mut Vec<u8>,
@@ -178,7 +178,7 @@ pub(crate) fn set_head(
     insert_head(out, room, place, major, count)
 }
 
-/// Puts a head of more bytes into the place of the byte there: what is behind is moved.
+/// Puts a head of more bytes into the place of the byte there: what follows is moved.
 #[inline(never)]
 fn insert_head(
     out: &mut Vec<u8>,
@@ -202,7 +202,7 @@ fn insert_head(
     push(out, room)
 }
 
-/// Puts other bytes behind the byte at this place.
+/// Puts other bytes after the byte at this place.
 pub(crate) fn replace_behind(out: &mut Vec<u8>, place: usize, bytes: &[u8]) -> Result<(), Refusal>
     ensures replaced { OnOk result (out.new.items ≡ take (place + 1) out.old.items ++ bytes.now) }
     ensures refused { IfErr result LacksMemoryOrPlace }

@@ -95,7 +95,7 @@ impl Sink {
     }
 }
 
-// Items, which come behind all bytes.
+// Items, which come after all bytes.
 impl Sink {
     /// Puts an item of a head alone.
     fn put_head(&mut self, major: u8, argument: u64) -> Result<(), Refusal>
@@ -108,7 +108,7 @@ impl Sink {
         self.land(from)
     }
 
-    /// Puts an item of a head and what is behind it.
+    /// Puts an item of a head and what follows it.
     fn put(&mut self, major: u8, argument: u64, payload: &[u8]) -> Result<(), Refusal>
         requires { major ≤ 7 }
         ensures put { OnOk result (PutsSpelling (head major argument ++ payload.now) self.old self.new) }

@@ -1,4 +1,4 @@
-//! Streams: values one behind the other, up to the end of the source.
+//! Streams: values one after the other, up to the end of the source.
 
 ghost use Rattle.std.specs.Prelude.{◌≡◌, [], false};
 ghost use Rattle.dagcbor_heads.specs.Steps.{default_steps};
@@ -16,7 +16,7 @@ use std::alloc::Global;
 use std::io::BufRead;
 use std::marker::PhantomData;
 
-/// The values that stand one behind the other in a source. After an error, and after the end,
+/// The values that stand one after the other in a source. After an error, and after the end,
 /// nothing more comes.
 #[derive(Drop)]
 pub struct Stream<R, T> {

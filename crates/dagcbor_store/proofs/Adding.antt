@@ -160,7 +160,7 @@ undone_then a b c p q = record {
 }
 
 module _ {S : Type 0} (g : Ghosts S) where
-  -- a failure behind a call that kept what was committed
+  -- a failure after a call that kept what was committed
   pub fails_behind : (U V : Type 0) (old mid new : S) (told : StoreRefusal) → Quiet g old mid → (IsClean (g.view new) → IsClean (g.view mid))
       → (IsClean (g.view mid) → ((g.view mid).is_broken ≡ (g.view old).is_broken) × KeepsLast (g.view old) (g.view mid) × (U → V)) → FailsByStore g U mid new told → FailsByStore g V old new told
   fails_behind U V old mid new told before was same f = record {
@@ -171,7 +171,7 @@ module _ {S : Type 0} (g : Ghosts S) where
     undone = λ clean. undone_then (g.view old) (g.view mid) (g.view new) (same (was clean)).1 (f.undone clean);
   }
 
-  -- behind roots and sections that were added
+  -- after roots and sections that were added
   pub fails_from : (U V : Type 0) (roots : List CidParts) (ss : List Section) (old mid new : S) (told : StoreRefusal) → AddsSections g roots ss old mid → (IsClean (g.view new) → IsClean (g.view mid)) → (IsClean (g.view mid) → U → V) → FailsByStore g U mid new told → FailsByStore g V old new told
   fails_from U V roots ss old mid new told h was gives =
       fails_behind U V old mid new told h.quiet was (λ clean. let a = h.added clean in (a.broken, last_added (g.view old) (g.view mid) roots ss a, gives clean))

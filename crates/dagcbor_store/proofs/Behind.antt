@@ -1,4 +1,4 @@
--- The names that come behind a name.
+-- The names that come after a name.
 use Rattle.std.proofs.Common.{◌≡◌, ℕ, List, [], ◌∷◌, ◌++◌, false, Ordering, Less, Equal, Greater, is_lt, refl, sym, ◌∙◌, subst, true≢false, arith, Option, None, Some, nat_cmp}
 use Rattle.std.specs.Ordering.{ordering_then, ordering_reverse}
 use Rattle.std.proofs.lemmas.Bool.Decides.{nat_tests}

@@ -290,7 +290,7 @@ module _ {S : Type 0} (g : Ghosts S) where
   get_stops name old new (refusal.LinksUnread n verdict) p = absurd (not_unread g p.error n verdict p.tells)
   get_stops name old new told p = p
 
-  -- the store failed behind a call that changed nothing
+  -- the store failed after a call that changed nothing
   fails_later : (old mid new : S) (told : StoreRefusal) → Quiet g old mid → (IsClean (g.view mid) → IsSame (g.view old) (g.view mid)) → (IsClean (g.view new) → IsClean (g.view mid)) → FailsByStore g ⊥ mid new told → FailsByStore g ⊥ old new told
   fails_later old mid new told before same was f = fails_behind g ⊥ ⊥ old mid new told before was (λ clean. let s = same clean in (s.broken, last_same (g.view old) (g.view mid) s, λ u. u)) f
 

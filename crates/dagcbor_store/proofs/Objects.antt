@@ -28,7 +28,7 @@ pub record IsSameTree (a b : Wanted) : Type 0 where
   pub table : column a.row 2 ≡ column b.row 2
   pub text : column a.row 3 ≡ column b.row 3
 
--- the first are of the same trees, and behind those nothing is there
+-- the first are of the same trees, and after those nothing is there
 abbrev pub AreSame : List Wanted → List Wanted → Type 0
 AreSame [] [] = Unit {0}
 AreSame [] (v ∷ b) = ⊥

@@ -63,7 +63,7 @@ checked_marked old read mid new edit was same set done =
       lasting = λ e. ap (λ (v : View). v.shape) done.is ∙ sym (ap (λ (v : View). v.committed_shape) done.is);
     }
 
--- ---- behind a rollback
+-- ---- after a rollback
 
 module _ (old rolled : View) (clean : IsClean rolled) (undone : IsRolledBack old rolled) (sound : rolled.is_broken ≡ false) (shut : rolled.is_open ≡ false → IsTrue rolled.is_broken)
     (unaltered : rolled.is_broken ≡ false → rolled.trees catalog_tree ≡ rolled.committed catalog_tree → (rolled.shape ≡ rolled.committed_shape) × (rolled.reals ≡ rolled.committed_reals)) where

@@ -128,7 +128,7 @@ module _ {S : Type 0} (g : Ghosts S) where
         stops = inr (inr (inl (record { more = more; told = told; ends = end; says = refl; failed = fails_from g ⊥ ⊥ roots ss before after last told h was (λ clean none. none) f })));
       }))
 
-  -- what a crash behind the commit leaves
+  -- what a crash after the commit leaves
   pub may_leave : (roots : List CidParts) (ss : List Section) (old new : Reading) (before after last : S) → IsFileRead (forms roots) ss old new → AddsSections g roots ss before after → (IsClean (g.view last) → IsClean (g.view after))
       → ((db : Trees) → g.recovers last db → (db ≡ (g.view after).trees) ⊎ g.recovers after db)
       → (db : Trees) → g.recovers last db → g.recovers before db ⊎ (IsClean (g.view last) → MayLeave old new (g.view before).trees db)

@@ -82,7 +82,7 @@ those_less P old mid new c taken h t = record {
 
 -- ---- how far a sweep has come
 
--- the name is in the set, or comes behind the last one
+-- the name is in the set, or comes after the last one
 abbrev Stays : BTreeSet CidParts → Option CidParts → List ℕ → Type 0
 Stays kept last q = IsKeptForm kept q ⊎ IsBehind last q
 
@@ -141,7 +141,7 @@ one_out P old mid new c count those taken listed t = (
     out q l gone (no apart) = inl ((taken.3 q).1 (l, λ k. gone ((t.lists q).1 (k, apart))))
 
 module _ (old mid : View) (kept : BTreeSet CidParts) (last : Option CidParts) (count : ℕ) (c : CidParts) (h : SweptTo old mid kept last count) (next : IsNext (mid.trees name_tree) last c) where
-  -- the names behind the last one are this one, and those behind it
+  -- the names after the last one are this one, and those after it
   later : (q : List ℕ) → IsListed (old.trees name_tree) q → IsBehind last q → (q ≡ cid_bytes c) ⊎ (name_cmp (cid_bytes c) q ≡ Less)
   later q l behind = next.first q ((lists_those (Stays kept last) old.trees mid.trees h.trees q).1 (l, inr behind)) behind
 
@@ -262,7 +262,7 @@ module _ (old mid swept : View) (roots : List CidParts) (kept : BTreeSet CidPart
 -- ---- refusals
 
 module _ {S : Type 0} (g : Ghosts S) where
-  -- a failure behind names that were taken out
+  -- a failure after names that were taken out
   pub fails_swept : (old mid new : S) (told : StoreRefusal) → Quiet g old mid → (IsClean (g.view new) → IsClean (g.view mid))
       → (IsClean (g.view mid) → ((g.view mid).committed ≡ (g.view old).committed) × ((g.view mid).is_open ≡ (g.view old).is_open) × ((g.view mid).is_broken ≡ (g.view old).is_broken)) → FailsByStore g ⊥ mid new told → FailsByStore g ⊥ old new told
   fails_swept old mid new told before was same f =

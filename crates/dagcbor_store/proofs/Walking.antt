@@ -106,7 +106,7 @@ pub same_then : (a b c : View) → IsSame a b → IsSame b c → IsSame a c
 same_then a b c p q = record { trees = q.trees ∙ p.trees; committed = q.committed ∙ p.committed; is_open = q.is_open ∙ p.is_open; broken = q.broken ∙ p.broken }
 
 module _ {S : Type 0} (g : Ghosts S) where
-  -- a failure behind a call that changed nothing
+  -- a failure after a call that changed nothing
   pub fails_same : (old mid new : S) (told : StoreRefusal) → Quiet g old mid → (IsClean (g.view mid) → IsSame (g.view old) (g.view mid)) → Quiet g mid new → FailsByStore g ⊥ mid new told → FailsByStore g ⊥ old new told
   fails_same old mid new told before same quiet w =
       fails_behind g ⊥ ⊥ old mid new told before (λ clean. omega (arith, quiet.clean)) (λ clean. let s = same clean in (s.broken, last_same (g.view old) (g.view mid) s, λ u. u)) w

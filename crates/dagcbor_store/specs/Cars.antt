@@ -86,7 +86,7 @@ pub record IsReadTo (roots : List (List ℕ)) (sections : List Section)
   pub blocks : AllByRecursion IsSound sections
 
 -- the bytes left, where they are known, are the file of these roots and sections, and it is taken,
--- and nothing behind it; the sections are sound
+-- and nothing after it; the sections are sound
 pub record IsFileRead (roots : List (List ℕ)) (sections : List Section)
     (old new : Reading) : Type 0 where
   pub is_car : (b : List ℕ) → old.left ≡ Some b
@@ -96,7 +96,7 @@ pub record IsFileRead (roots : List (List ℕ)) (sections : List Section)
 
 -- ---- refusals
 
--- how the refusal of the block of a section, behind so many, is told: one of the block with that
+-- how the refusal of the block of a section, after so many, is told: one of the block with that
 -- number and its name, and one of the store as such
 abbrev pub of_block : {E : Type 0} → ℕ → CidParts → StoreRefusal → ReadCarError E
 of_block count name (refusal.Unsound e) = car.Block count name (refusal.Unsound e)
@@ -115,7 +115,7 @@ TellsOfRun (stop.Header e) told = TellsOfFile car.Header e told
 TellsOfRun (stop.Section n e) told = TellsOfFile (car.Section n) e told
 TellsOfRun (stop.Block n name refusal) told = told ≡ of_block n name refusal
 
--- one of the names is no root, and no number is left for it, behind the roots that there were and
+-- one of the names is no root, and no number is left for it, after the roots that there were and
 -- the names before it
 pub record RootNumbersEnd (old : Trees) (names : List CidParts) : Type 0 where
   pub mid : Trees
@@ -133,13 +133,13 @@ RootsNotKept g roots old new refusal.NoNumber =
     IsClean (g.view new) → RootNumbersEnd (g.view old).trees roots
 RootsNotKept g roots old new told = FailsByStore g (IsAnyTooLong (g.view old) roots) old new told
 
--- a row has the greatest number, behind these sections
+-- a row has the greatest number, after these sections
 pub record NumbersEnd (old : Trees) (sections : List Section) : Type 0 where
   pub mid : Trees
   pub holds : HoldsSections old mid sections
   pub ends : FreesId (mid block_tree) None
 
--- Why the block of a section, behind these, is not kept: it is not sound; no number is left; or the
+-- Why the block of a section, after these, is not kept: it is not sound; no number is left; or the
 -- store failed, as where it is too long for a row.
 abbrev pub NotKept : {S : Type 0} → Ghosts S → List Section
     → S → S → Section → StoreRefusal → Type 0
@@ -148,13 +148,13 @@ NotKept g sections old new s refusal.NoNumber =
     IsClean (g.view new) → NumbersEnd (g.view old).trees sections
 NotKept g sections old new s told = FailsByStore g (IsTooLongFor (g.view old) s) old new told
 
--- no section was taken, behind so many: none stands there, though bytes do, or are wanting
+-- no section was taken, after so many: none stands there, though bytes do, or are wanting
 abbrev pub SectionRefused : {E : Type 0} → ℕ → Option ℕ
     → Reading → ReadCarError E → Reading → Type 0
 SectionRefused count extent old e new = FileRefused (car.Section count)
     (RefusesNext extent) (SectionLacks (of_file extent old)) old e new
 
--- the next section, behind so many, was taken, and its block is refused, for such a cause
+-- the next section, after so many, was taken, and its block is refused, for such a cause
 pub record BlockRefused {E : Type 0} (IsWhy : Section → StoreRefusal → Type 0)
     (count : ℕ) (extent : Option ℕ)
     (old : Reading) (e : ReadCarError E) (new : Reading) : Type 0 where
@@ -184,14 +184,14 @@ pub record CommitFails {S E : Type 0} (g : Ghosts S) (extent : Option ℕ)
   pub says : e ≡ of_refusal told
   pub failed : FailsByStore g ⊥ before after told
 
--- the call gives up behind so many sections, and takes no more
+-- the call gives up after so many sections, and takes no more
 pub record GivesUpBehind {E : Type 0} (sections : List Section)
     (old : Reading) (e : ReadCarError E) (new : Reading) : Type 0 where
   pub same : new ≡ old
   pub says : e ≡ car.OutOfMemory
   pub many : length sections ≡ 2 ^ 64 - 1
 
--- Why no section more is kept, behind these: none was taken; the next was, and is refused; it is
+-- Why no section more is kept, after these: none was taken; the next was, and is refused; it is
 -- the end, and the commit failed; or these are too many.
 abbrev pub StopsAt : {S E : Type 0} → Ghosts S → List Section → Option ℕ
     → Reading → S → ReadCarError E → Reading → S → Type 0
@@ -221,7 +221,7 @@ ReadRefused g old before e new after =
     ⊎ (RootsOfFileRefused (λ roots told. RootsNotKept g roots before after told) old e new
     ⊎ KeepsNoMore g old before e new after)
 
--- A crash behind the call leaves what it could leave before; or that and a whole file, which was
+-- A crash after the call leaves what it could leave before; or that and a whole file, which was
 -- taken, and its roots.
 pub record MayLeave (old new : Reading) (before db : Trees) : Type 0 where
   pub roots : List CidParts
@@ -256,7 +256,7 @@ TakesBlock g s before result after = Quiet g before after × MatchResult result
     (λ _. IsSound s × (IsClean (g.view after) → IsAdded (g.view before) (g.view after) s.0 s.1))
     (λ told. PutRefused g s before after told)
 
--- Why no section more is added, behind so many: none was taken, or the next was, and is refused.
+-- Why no section more is added, after so many: none was taken, or the next was, and is refused.
 abbrev pub NextRefused : {S E : Type 0} → Ghosts S → ℕ → Option ℕ
     → Reading → S → ReadCarError E → Reading → S → Type 0
 NextRefused g count extent old before e new after =

@@ -116,7 +116,7 @@ abbrev pub IsKeptForm : BTreeSet CidParts → List ℕ → Type 0
 IsKeptForm kept q = (name : CidParts) × AreCidParts name
     × Among name kept.keys × (cid_bytes name ≡ q)
 
--- no name comes behind the last one; or the first is in the set, and nothing has changed; or it is
+-- no name follows the last one; or the first is in the set, and nothing has changed; or it is
 -- not, and is taken out
 abbrev pub SweepsNext : View → View → Option CidParts → BTreeSet CidParts
     → Option (CidParts × Bool) → Type 0

@@ -72,7 +72,7 @@ abbrev pub AddsOf : View → CidParts → List ℕ → BTreeSet CidParts → BTr
 AddsOf v c b old new = (IsReadCodec c.codec × AddsLost v c.codec b old new)
     ⊎ ((¬ IsReadCodec c.codec) × (new ≡ old))
 
--- such names of the block behind the last name are put into the set; or none comes behind it
+-- such names of the block after the last name are put into the set; or none follows it
 abbrev pub AddsLostLinks : View → Option CidParts → BTreeSet CidParts
     → Option CidParts → BTreeSet CidParts → Type 0
 AddsLostLinks v last old None new = GivesNextName v last None × (new ≡ old)

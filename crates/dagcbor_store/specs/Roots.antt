@@ -36,7 +36,7 @@ LacksNumber t name = FreesId (t root_tree) None
 abbrev pub IsRootTooLongFor : View → CidParts → Type 0
 IsRootTooLongFor v name = IsRootTooLong v.reals (cid_bytes name)
 
--- each of these names is added, one behind the other
+-- each of these names is added, one after the other
 abbrev pub AddsInTurn : List CidParts → List CidParts → List CidParts → Type 0
 AddsInTurn old [] new = new ≡ old
 AddsInTurn old (name ∷ more) new = (mid : List CidParts)

@@ -57,17 +57,17 @@ Holds v name b = IsStored v.trees (cid_bytes name) b
 abbrev pub ListsName : View → CidParts → Type 0
 ListsName v name = IsListed (v.trees name_tree) (cid_bytes name)
 
--- the name comes behind the last one, if there is one, in the order of bytes
+-- the name comes after the last one, if there is one, in the order of bytes
 abbrev pub IsBehind : Option CidParts → List ℕ → Type 0
 IsBehind None q = ⊤
 IsBehind (Some c) q = name_cmp (cid_bytes c) q ≡ Less
 
--- the least bytes that come behind the last name
+-- the least bytes that come after the last name
 abbrev pub bound_behind : Option CidParts → List ℕ
 bound_behind None = []
 bound_behind (Some c) = cid_bytes c ++ 0 ∷ []
 
--- the first of the names that are listed behind the last one
+-- the first of the names that are listed after the last one
 pub record IsNext (entries : List Row) (last : Option CidParts) (c : CidParts) : Type 0 where
   pub valid : AreCidParts c
   pub listed : IsListed entries (cid_bytes c)
@@ -75,7 +75,7 @@ pub record IsNext (entries : List Row) (last : Option CidParts) (c : CidParts) :
   pub first : (q : List ℕ) → IsListed entries q → IsBehind last q
       → (q ≡ cid_bytes c) ⊎ (name_cmp (cid_bytes c) q ≡ Less)
 
--- the first name behind the last one is given, or none is listed there
+-- the first name after the last one is given, or none is listed there
 abbrev pub GivesNextName : View → Option CidParts → Option CidParts → Type 0
 GivesNextName v last None = (q : List ℕ) → IsListed (v.trees name_tree) q → IsBehind last q → ⊥
 GivesNextName v last (Some c) = IsNext (v.trees name_tree) last c

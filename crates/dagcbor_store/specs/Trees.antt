@@ -144,7 +144,7 @@ WritesTree g root old before lost after new =
 
 -- Why it is not appended: nothing is stored under the root, and nothing was sent; the writer
 -- stopped within the file of first blocks; or the store refused, before anything was sent, or
--- behind the file of first ones.
+-- after the file of first ones.
 abbrev pub TreeRefused : {S E : Type 0} → Ghosts S → CidParts
     → S → Written → WriteTreeError E → Written → S → Type 0
 TreeRefused g root old before tree.NotStored after new = (after ≡ before)
@@ -213,7 +213,7 @@ WritesNames g root names old before after new =
     WritesFile g (cid_bytes root ∷ []) (AreAt names) old before after new
 
 -- why it is not appended: the writer stopped within the file of first blocks; or the store refused
--- behind that of first ones
+-- after that of first ones
 abbrev pub NamesUnwritten : {S E : Type 0} → Ghosts S → CidParts → List CidParts
     → S → Written → WriteCarError E → Written → S → Type 0
 NamesUnwritten g root names old before (car.Write e) after new =

@@ -51,13 +51,13 @@ abbrev pub WalkRefused : {S : Type 0} → Ghosts S → S → S → StoreRefusal 
 WalkRefused g old new (refusal.Damaged n) = FindsSo g old new (λ v. IsDamaged v n)
 WalkRefused g old new told = FailsByStore g ⊥ old new told
 
--- what is damaged is stored under the first name behind the last one
+-- what is damaged is stored under the first name after the last one
 abbrev pub IsOfNext : {S : Type 0} → Ghosts S → Option CidParts → S → S → StoreRefusal → Type 0
 IsOfNext g last old new (refusal.Damaged n) =
     IsClean (g.view new) → IsNext ((g.view old).trees name_tree) last n
 IsOfNext g last old new _ = ⊤
 
--- the first block behind the last name, or none where no name is listed there
+-- the first block after the last name, or none where no name is listed there
 abbrev pub NextBlock : View → Option CidParts → Option (CidParts × Vec ℕ Global) → Type 0
 NextBlock v last None = GivesNextName v last None
 NextBlock v last (Some p) = IsNext (v.trees name_tree) last p.0 × HoldsOnly v p.0 p.1.items
@@ -99,7 +99,7 @@ pub record WriterStops {S E : Type 0} (g : Ghosts S) (roots : List (List ℕ))
   pub are_so : FindsSo g old new (λ v. AreSo v sections)
 
 -- Why not all blocks are written: the writer stopped within the file of first ones; or the store
--- refused behind that of first ones.
+-- refused after that of first ones.
 abbrev pub WriteRefused : {S E : Type 0} → Ghosts S → List (List ℕ)
     → S → Written → WriteCarError E → Written → S → Type 0
 WriteRefused g roots old before (car.Write e) after new =
@@ -134,7 +134,7 @@ BeginsFile roots before result after = MatchResult result
     (λ _. IsHeader roots × WroteAll (Some (header_bytes roots)) before after)
     (HeaderUnwritten roots before after)
 
--- the section is that of the first block behind the last name
+-- the section is that of the first block after the last name
 abbrev pub IsNextSection : View → Option CidParts → Section → Type 0
 IsNextSection v last s = IsNext (v.trees name_tree) last s.0 × HoldsOnly v s.0 s.1
 
@@ -165,7 +165,7 @@ NextUnwritten g last old before (car.Write e) after new = (name : CidParts)
 NextUnwritten g last old before (car.Store told) after new =
     (after ≡ before) × WalkRefused g old new told
 
--- The section of the next block is appended, and its name answered; or none comes behind the last
+-- The section of the next block is appended, and its name answered; or none follows the last
 -- name, and nothing is sent.
 abbrev pub WritesNext : {S E : Type 0} → Ghosts S → Option CidParts
     → S → Written → Result (Option CidParts) (WriteCarError E) → Written → S → Type 0

@@ -16,11 +16,11 @@ pub enum ReadCarError<E> {
     /// No file begins there, or its header was not read. Never want of memory.
     #[error("{0}")]
     Header(CarError<E>),
-    /// Behind so many sections none stands, though bytes do or are wanting; or the next was not read.
+    /// After so many sections none stands, though bytes do or are wanting; or the next was not read.
     /// Never want of memory.
     #[error("after {0} sections: {1}")]
     Section(u64, CarError<E>),
-    /// Behind so many sections the block of the one of this name is not kept under it, or too long
+    /// After so many sections the block of the one of this name is not kept under it, or too long
     /// for a row.
     #[error("after {0} sections: {2}")]
     Block(u64, Cid, StoreRefusal),
@@ -66,7 +66,7 @@ impl<E: Drop> ReadCarError<E> {
         }
     }
 
-    /// Why behind so many sections none stands. Want of memory is told as such.
+    /// Why after so many sections none stands. Want of memory is told as such.
     fn of_section(count: u64, error: CarError<E>) -> ReadCarError<E>
         ensures { TellsOfFile (Section count) error result }
     {
@@ -76,7 +76,7 @@ impl<E: Drop> ReadCarError<E> {
         }
     }
 
-    /// Why the block of a section of this name, behind so many, is not kept.
+    /// Why the block of a section of this name, after so many, is not kept.
     fn of_block(count: u64, name: Cid, refusal: StoreRefusal) -> ReadCarError<E>
         ensures { result ≡ of_block count name refusal }
     {

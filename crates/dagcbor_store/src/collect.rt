@@ -124,7 +124,7 @@ impl<S: Store> BlockStore<S> {
         }
     }
 
-    /// Where a walk from the root leads, which goes on behind none of the set.
+    /// Where a walk from the root leads, which goes on after none of the set.
     pub(crate) fn reach_beside(
         &mut self,
         root: &Cid,
@@ -166,7 +166,7 @@ impl<S: Store> BlockStore<S> {
         }
     }
 
-    /// No bytes of a name in the set, behind which a walk need not go on; of another its block.
+    /// No bytes of a name in the set, after which a walk need not go on; of another its block.
     fn shown(&mut self, name: &Cid, kept: &BTreeSet<Cid>) -> Result<Option<Vec<u8>>, StoreRefusal>
         ensures ok { IfOk result (λ o. IsClean (S.Store.view self.new) → IsShownToWalk (S.Store.view self.old) kept.now name.now (option_map (λ b. b.items) o)) }
         ensures same { OnOk result (StaysSame S.Store self.old self.new) }
@@ -213,7 +213,7 @@ impl<S: Store> BlockStore<S> {
         Err(self.give_up())
     }
 
-    /// Takes the first name behind the last one out, where it is not in the set. Answers it, and
+    /// Takes the first name after the last one out, where it is not in the set. Answers it, and
     /// whether it was taken out.
     fn sweep_next(
         &mut self,

@@ -39,7 +39,7 @@ impl<S: Store> BlockStore<S> {
     ///
     /// Each block must be one that `put_block` takes, of whatever codec. Where one is not, or the bytes
     /// are no file, nothing of it is kept. Nor is it of a file with roots, where the store is of the
-    /// earlier version: that is told behind the header.
+    /// earlier version: that is told after the header.
     pub fn read_car<'de, R: Read>(
         &mut self,
         input: &mut Input<'de, R>,

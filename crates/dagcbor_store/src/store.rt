@@ -129,7 +129,7 @@ impl<S: Store> BlockStore<S> {
         }
     }
 
-    /// The first of the listed names that come behind the last one, or the first of all; none behind
+    /// The first of the listed names that come after the last one, or the first of all; none after
     /// the greatest. Names stand in the order of the bytes of their binary forms. It refuses with
     /// `BadEntry` where that entry is none that a store writes.
     pub fn next_name(&mut self, last: Option<Cid>) -> Result<Option<Cid>, StoreRefusal>
@@ -237,7 +237,7 @@ impl<S: Store> BlockStore<S> {
     }
 }
 
-/// The least bytes that come behind the last name.
+/// The least bytes that come after the last name.
 fn bound_behind(last: Option<Cid>) -> ArrayVec<u8, 87>
     ensures { result.items ≡ bound_behind last }
 {

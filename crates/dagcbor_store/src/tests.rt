@@ -145,7 +145,7 @@ const IDENTITY: &[u8] = b"\x06\x01\x71\x00\x01\x05\x05";
 const UNORDERED: &[u8] =
     b"\x2b\x01\x71\x12\x20\x36\x84\xf1\x97\xac\x45\x14\xab\x69\xc1\x1b\x98\x76\x1f\x2c\x8c\x1b\xeb\xb5\x68\xf8\x97\xb4\xbe\xb5\x62\xe7\x4f\xa6\xfa\x17\x27\xa2\x61\x62\x01\x61\x61\x02";
 
-/// The name in a section, by SHA-256, behind a length of one or two bytes.
+/// The name in a section, by SHA-256, after a length of one or two bytes.
 fn name_in(section: &[u8]) -> Result<Cid, Fail> {
     let start = if section.first().is_some_and(|first| *first < 0x80) {
         1
@@ -158,7 +158,7 @@ fn name_in(section: &[u8]) -> Result<Cid, Fail> {
     }
 }
 
-/// The parts, one behind the other.
+/// The parts, one after the other.
 fn joined(alloc: Global, parts: &[&[u8]]) -> Result<Vec<u8>, Fail> {
     let mut whole = Vec::new(alloc);
     for part in parts {
@@ -188,7 +188,7 @@ fn word_of(answer: &Result<(Vec<Cid>, u64), ReadCarError<Infallible>>) -> &'stat
     }
 }
 
-/// What is answered of the file of `TEXT` and this behind it, in a word.
+/// What is answered of the file of `TEXT` and this after it, in a word.
 fn answer_to<S: Store>(
     alloc: Global,
     store: &mut BlockStore<S>,
@@ -199,7 +199,7 @@ fn answer_to<S: Store>(
     Ok(word_of(&store.read_car(&mut input)))
 }
 
-/// What stands in a file behind `TEXT`, and what is answered of it. The last row is kept.
+/// What stands in a file after `TEXT`, and what is answered of it. The last row is kept.
 const ANSWERS: &[(&[&[u8]], &str)] = &[
     (&[CHANGED], "other bytes"),
     (&[IDENTITY], "other hash"),
@@ -234,7 +234,7 @@ fn writes_files<S: Store>(alloc: Global, store: &mut BlockStore<S>) -> Result<()
     agree(lost.is_empty(), "no link is lost")
 }
 
-/// Fails where other links are lost behind `TEXT` than the one to it, and those to "bar" and the
+/// Fails where other links are lost after `TEXT` than the one to it, and those to "bar" and the
 /// number 5.
 fn loses_links<S: Store>(store: &mut BlockStore<S>) -> Result<(), Fail> {
     let text = name_in(TEXT)?;

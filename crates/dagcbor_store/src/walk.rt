@@ -12,7 +12,7 @@ use ipld_tree::Cid;
 use sqlite_trees::store::Store;
 
 impl<S: Store> BlockStore<S> {
-    /// The first block whose name comes behind the last one, or the first of all; none behind the
+    /// The first block whose name comes after the last one, or the first of all; none after the
     /// greatest. One block is in memory at a time.
     pub fn next_block(&mut self, last: Option<Cid>) -> Result<Option<(Cid, Vec<u8>)>, StoreRefusal>
         ensures verified { IfOk result IsNamedNext }

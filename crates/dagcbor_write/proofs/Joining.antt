@@ -1,4 +1,4 @@
--- A row of pairs, and another behind it.
+-- A row of pairs, and another after it.
 use Rattle.std.proofs.Common.{◌≡◌, ℕ, suc, ◌+◌, ◌<◌, List, [], ◌∷◌, ◌++◌, length, Option, None, Some, Result, Ok, Err, refl, sym, ap, ◌∙◌, subst, arith, append_assoc, MatchResult, IsErrAnd, IsSomeAnd, option_and_then, OnOk, IsOk, IfSome, Less}
 use Rattle.std.proofs.lemmas.List.{length-append, get_or_append_left, get_or-append-add}
 use Rattle.std.specs.Fmt.{◌++?◌}

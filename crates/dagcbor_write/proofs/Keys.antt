@@ -41,7 +41,7 @@ key_none None e = refl
 key_none (Some (text k)) e = e
 key_none (Some _) e = refl
 
--- what begins as a text behind the bytes is the spelling of a key
+-- what begins as a text after the bytes is the spelling of a key
 module _ (o : Option Tree) (old new : List ℕ) (start : ℕ) (b : Bool) (at : start ≡ length old) (g : Grows o old new) (is : b ≡ begins_text (slice_range new start (length new))) where
   stands : spelled_tree o ≡ Some (drop start new)
   stands = behind (spelled_tree o) old new g.0 ∙ ap (λ n. Some (drop n new)) (sym at)

@@ -56,7 +56,7 @@ each_joined (o ∷ os) = ap (λ (x : Option (List ℕ)). spelled_tree o ++? x) (
 pub begin_list : (os : List (Option Tree)) (s : Written) → Written-but (spelled_tree (list_tree os)) (spelled_head 4 (length os) ∷ map spelled_tree os) s s
 begin_list os s = begin_writing (spelled_tree (list_tree os)) (spelled_head 4 (length os) ∷ map spelled_tree os) s (spelled_list os ∙ ap (λ (x : Option (List ℕ)). spelled_head 4 (length os) ++? x) (each_joined os))
 
--- the spelling of each item of two lists, one behind the other, is that of the one and of the other
+-- the spelling of each item of two lists, one after the other, is that of the one and of the other
 each_append : (xs ys : List (Option Tree)) → spelled_each (xs ++ ys) ≡ spelled_each xs ++? spelled_each ys
 each_append [] ys = sym (Some_append (spelled_each ys))
 each_append (x ∷ xs) ys = ap (λ (t : Option (List ℕ)). spelled_tree x ++? t) (each_append xs ys) ∙ sym (joined_assoc (spelled_tree x) (spelled_each xs) (spelled_each ys))
@@ -73,7 +73,7 @@ begin_items tree xs n s e =
     let P : ℕ → Type 0 = λ k. Written-but (spelled_tree (list_tree (map tree xs))) (spelled_head 4 k ∷ map spelled_tree (map tree xs)) s s in
     subst P (length-map xs tree ∙ sym e) (begin_list (map tree xs) s)
 
--- the parts that are left at an item: its spelling, and what is left behind it
+-- the parts that are left at an item: its spelling, and what is left after it
 pub at_item : {A : Type 0} (tree : A → Option Tree) (xs : List A) (i : ℕ) (x : A) → i < length xs → x ≡ get_or xs i x → (whole : Option (List ℕ)) (s t : Written) → Written-but whole (map spelled_tree (map tree (drop i xs))) s t → Written-but whole (spelled_tree (tree x) ∷ map spelled_tree (map tree (drop (i + 1) xs))) s t
 at_item {A} tree xs i x h e whole s t w =
     let P : List A → Type 0 = λ ys. Written-but whole (map spelled_tree (map tree ys)) s t in
@@ -81,7 +81,7 @@ at_item {A} tree xs i x h e whole s t w =
     let begins : drop i xs ≡ get_or xs i x ∷ drop (i + 1) xs = rw add-one (drop-cons xs i x h) in
     subst P (begins ∙ there) w
 
--- no part is left behind the last item
+-- no part is left after the last item
 pub at-end : {A : Type 0} (tree : A → Option Tree) (xs : List A) (i : ℕ) → length xs ≤ i → (whole : Option (List ℕ)) (s t : Written) → Written-but whole (map spelled_tree (map tree (drop i xs))) s t → Written-but whole [] s t
 at-end {A} tree xs i h whole s t w =
     let P : List A → Type 0 = λ ys. Written-but whole (map spelled_tree (map tree ys)) s t in

@@ -111,7 +111,7 @@ same_text k l s t h j same =
     let b = fits l t j in
     ap payload (spelling_unique (text k) (text l) [] [] a.0 b.0 (ap (λ x. x ++ []) (sym a.1 ∙ same ∙ b.1))).0
 
--- spelled keys that stand in the order of their bytes, whatever is behind them, and differ
+-- spelled keys that stand in the order of their bytes, whatever is after them, and differ
 pub follows : (k l s t x y : List ℕ) → spelled (text k) ≡ Some s → spelled (text l) ≡ Some t → is_lt (bytes_cmp (t ++ y) (s ++ x)) ≡ false → (s ≡ t → ⊥) → key_cmp k l ≡ Less
 follows k l s t x y h j late differ =
     let a = fits k s h in
@@ -204,7 +204,7 @@ abbrev NamesRow : List Pair → Option (List Named) → Type 0
 NamesRow ps None = spelled_pairs ps ≡ None
 NamesRow ps (Some names) = IsRow ps names
 
--- these are the names of the pairs, and their trees, all behind a name
+-- these are the names of the pairs, and their trees, all after a name
 abbrev NamesBehind : List ℕ → List Pair → Option (List Named) → Type 0
 NamesBehind last ps None = spelled_pairs ps ≡ None
 NamesBehind last ps (Some names) = AllByRecursion (λ y. key_cmp last y ≡ Less) (keys_of names) × IsRow ps names

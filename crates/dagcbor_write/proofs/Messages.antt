@@ -82,7 +82,7 @@ module _ {T E : Type 0} (ps : List Pair) (r : Result T (EncodeError E)) where
       by (Msg m) h = (inl h, same)
       by _ h = tt
 
-  -- behind fields that were all taken, a message is that of the keys
+  -- after fields that were all taken, a message is that of the keys
   pub keys_message : {Writer : Type 0} {s t u v : Writer} → (LacksValue ps → ⊥) → IfErr r (OnMessage (λ m. RefusesKeys ps m × (u ≡ v))) → s ≡ u → v ≡ t → IfErr r (OnMessage (λ m. RefusesPairs ps m × (s ≡ t)))
   keys_message {Writer} {s} {t} {u} {v} all h earlier later = message_tells (λ m. RefusesKeys ps m × (u ≡ v)) (λ m. RefusesPairs ps m × (s ≡ t)) r (λ m k. (inr (k.0, all), earlier ∙ k.1 ∙ later)) h
 
@@ -94,7 +94,7 @@ module _ {T E : Type 0} (ps : List Pair) (r : Result T (EncodeError E)) where
       by (Msg m) h = absurd (has h.0)
       by _ h = tt
 
-  -- behind a head that went out before the fields
+  -- after a head that went out before the fields
   pub behind_head : {Writer : Type 0} (head : Option (List ℕ)) (written : Writer → Written) (start : Written) (s t : Writer) → WroteAll head start (written t) → IfErr r (OnMessage (λ m. RefusesPairs ps m × (s ≡ t))) → IfErr r (OnMessage (λ m. RefusesPairs ps m × WroteAll head start (written s)))
   behind_head {Writer} head written start s t w h =
       let P : Writer → Type 0 = λ x. WroteAll head start (written x) in

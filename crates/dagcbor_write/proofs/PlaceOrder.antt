@@ -23,7 +23,7 @@ pub begins : {A : Type 0} (xs : List A) (i : ℕ) (d : A) → i < length xs
     → drop i xs ≡ get_or xs i d ∷ drop (i + 1) xs
 begins xs i d h = rw add-one (drop-cons xs i d h)
 
--- the first of the names that are left stands behind the last
+-- the first of the names that are left stands after the last
 pub name_rises : (es : List Place) (i : ℕ) (d : Place) (last : List ℕ) → i < length es
     → comes_before last (get_or es i d).name.now ≡ true
     → names_rise last (drop i es) ≡ names_rise (get_or es i d).name.now (drop (i + 1) es)
@@ -61,7 +61,7 @@ module _ {A : Type 0} (pair : A → Pair) (es : List A) where
   none_left : (i : ℕ) → length es ≤ i → left_from i ≡ []
   none_left i h = ap (map pair) (drop_of_length-le es h)
 
-  -- the pair of the first of those that are left, and what is left behind it
+  -- the pair of the first of those that are left, and what is left after it
   pub at_pair : (i : ℕ) (d : A) (p : Pair) → i < length es → pair (get_or es i d) ≡ p
       → {whole : Option (List ℕ)} {s t : Written}
       → Written-but whole (map spelled_pair (left_from i)) s t
@@ -76,7 +76,7 @@ module _ {A : Type 0} (pair : A → Pair) (es : List A) where
       let P : List Pair → Type 0 = λ qs. Written-but whole (map spelled_pair qs) s t in
       subst P (none_left i h) w
 
-  -- what follows from the pairs that are left, follows from those behind a well-formed one
+  -- what follows from the pairs that are left, follows from those after a well-formed one
   pub good_pair : (i : ℕ) (d : A) (p : Pair) → i < length es → pair (get_or es i d) ≡ p
       → {G : Type 0} → (ArePairs (left_from i) → G) → IsPair p → ArePairs (left_from (i + 1)) → G
   good_pair i d p h e all good more =
@@ -113,7 +113,7 @@ one_more : (done : List Pair) (p : Pair) → length (done ++ p ∷ []) ≡ suc (
 one_more [] p = refl
 one_more (q ∷ done) p = ap suc (one_more done p)
 
--- the places that were listed of a row, behind those of its beginning
+-- the places that were listed of a row, after those of its beginning
 record AreListed (row ps : List Pair) (es : List Place) : Type 0 where
   pub each : All (IsPlaceOf row) es
   pub same : map (λ e. pair_at row e.at) es ≡ ps

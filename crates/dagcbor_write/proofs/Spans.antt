@@ -23,7 +23,7 @@ same_bytes xs ys e = decided (bytes_eq xs ys) (xs ≡ ys) (bytes_eq-Decides xs y
     decided : (b : Bool) (P : Type 0) → Decides b P → b ≡ true → P
     decided b P d e = d.0 e
 
--- the text that was appended stands behind the bytes
+-- the text that was appended stands after the bytes
 pub behind : (o : Option (List ℕ)) (old new : List ℕ) → AppendsTo old new o → o ≡ Some (drop (length old) new)
 behind None old new h = absurd h
 behind (Some t) old new h = ap Some (sym (drop-append_seam old t) ∙ ap (drop (length old)) (sym h))
@@ -56,7 +56,7 @@ joins None old new ss s h w b k e = absurd h
 joins (Some t) old new ss s h w b k e =
     map_push (entry_at new) ss s ∙ ap₂ (λ es f. es ++ f ∷ []) (entries_kept (Some t) old new ss h w) (ap (λ bs. entry_at bs s) h ∙ last_entry old t s b k (e ∙ ap length h))
 
--- a value behind the key that waits is an entry
+-- a value after the key that waits is an entry
 pub value_joins : (o : Option Tree) (old new : List ℕ) (ss : List Span) (key : Option ℕ) (s : Span) → Grows o old new → All (IsWithin (length old)) ss → IfSome key (λ start. start ≤ length old) → key ≡ Some s.start → s.key_end ≡ length old → s.end ≡ length new
     → JoinsValue (option_map (λ start. drop start old) key) o (map (entry_at old) ss) (map (entry_at new) (ss ++ s ∷ []))
 value_joins o old new ss key s g w b is k e =
@@ -69,7 +69,7 @@ take_join zero m xs = ap (λ j. take j xs) (omega arith)
 take_join (suc n) m [] = take_all m [] (omega arith) ∙ sym (take_all (suc n + m) [] (omega arith))
 take_join (suc n) m (x ∷ xs) = let one : suc (n + m) ≡ suc n + m = omega arith in ap (λ ys. x ∷ ys) (take_join n m xs) ∙ ap (λ j. take j (x ∷ xs)) one
 
--- a key and its value stand one behind the other
+-- a key and its value stand one after the other
 pub one_range : (bs : List ℕ) (s : Span) → s.start ≤ s.key_end → s.key_end ≤ s.end → (entry_at bs s).0 ++ (entry_at bs s).1 ≡ slice_range bs s.start s.end
 one_range bs s h k =
     let n = s.key_end - s.start in let m = s.end - s.key_end in

@@ -6,7 +6,7 @@ use Rattle.dagcbor_heads.specs.Messages.{message_bytes}
 use Rattle.ipld_tree.specs.Tree.{Tree, IsTree}
 use Rattle.ipld_tree.specs.Spelled.{spelled_tree}
 
--- values that wait for their number: their spellings, one behind the other, and how many they are
+-- values that wait for their number: their spellings, one after the other, and how many they are
 pub record Waiting : Type 0 where
   pub bytes : List ℕ
   pub count : ℕ
@@ -16,7 +16,7 @@ abbrev pub AppendsTo : List ℕ → List ℕ → Option (List ℕ) → Type 0
 AppendsTo old new None = ⊥
 AppendsTo old new (Some text) = new ≡ old ++ text
 
--- the spelling of a well-formed tree stands behind the bytes
+-- the spelling of a well-formed tree stands after the bytes
 abbrev pub Grows : Option Tree → List ℕ → List ℕ → Type 0
 Grows tree old new = AppendsTo old new (spelled_tree tree) × IfSome tree IsTree
 

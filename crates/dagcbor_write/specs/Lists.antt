@@ -48,7 +48,7 @@ TakesElement tree (Waits b) s (Waits d) t r =
 TakesElement tree (Announced left) s (Waits d) t r = ⊥
 TakesElement tree (Waits b) s (Announced rest) t r = ⊥
 
--- what goes out at the end of a list: the items that waited, behind their number
+-- what goes out at the end of a list: the items that waited, after their number
 abbrev pub waiting_text : ListState → Option (List ℕ)
 waiting_text (Announced left) = Some []
 waiting_text (Waits b) = spelled_head 4 b.count ++? Some b.bytes

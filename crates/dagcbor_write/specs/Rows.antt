@@ -21,7 +21,7 @@ abbrev pub ArePairs : List Pair → Type 0
 ArePairs [] = ⊤
 ArePairs (p ∷ ps) = IfSome p.0 IsTree × IfSome p.1 IsTree × ArePairs ps
 
--- each key stands behind the one before it, and the first behind this one, in key order
+-- each key stands after the one before it, and the first after this one, in key order
 abbrev pub KeysRise : List ℕ → List Pair → Type 0
 KeysRise last [] = ⊤
 KeysRise last (p ∷ ps) = IsSomeAnd (option_and_then key_of p.0)
@@ -33,12 +33,12 @@ KeysRiseTo last [] end = last ≡ end
 KeysRiseTo last (p ∷ ps) end = IsSomeAnd (option_and_then key_of p.0)
     (λ k. (key_cmp last k ≡ Less) × KeysRiseTo k ps end)
 
--- each key stands behind the one before it, in key order
+-- each key stands after the one before it, in key order
 abbrev pub Rises : List Pair → Type 0
 Rises [] = ⊤
 Rises (p ∷ ps) = IsSomeAnd (option_and_then key_of p.0) (λ k. KeysRise k ps)
 
--- ---- rows behind rows
+-- ---- rows after rows
 
 -- a field that may be left out, before others
 pub optional_joins : {A : Type 0} (name : List ℕ) (tree : A → Option Tree) (o : Option A)
@@ -82,7 +82,7 @@ ArePlaces i (p ∷ ps) (e ∷ es) = (p.0 ≡ Some (text e.name.now)) × (e.at �
 abbrev pub ListsPlaces : List Pair → List Place → List Place → Type 0
 ListsPlaces ps old new = (more : List Place) × ArePlaces (length old) ps more × (new ≡ old ++ more)
 
--- whether each name stands behind the one before it, and the first behind this one, in key order
+-- whether each name stands after the one before it, and the first after this one, in key order
 abbrev pub names_rise : List ℕ → List Place → Bool
 names_rise last [] = true
 names_rise last (e ∷ es) = comes_before last e.name.now && names_rise e.name.now es

@@ -8,7 +8,7 @@ use Rattle.dagcbor_write.specs.Maps.{Texts}
 abbrev pub entry_at : List ℕ → Span → Texts
 entry_at bytes s = (slice_range bytes s.start s.key_end, slice_range bytes s.key_end s.end)
 
--- the key and the value that stand there, one behind the other
+-- the key and the value that stand there, one after the other
 abbrev pub whole_at : List ℕ → Span → List ℕ
 whole_at bytes s = slice_range bytes s.start s.end
 

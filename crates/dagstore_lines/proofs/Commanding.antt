@@ -80,7 +80,7 @@ no_names word m (inr (inr (inr (inr (inr (inr (inr e))))))) = apart (mark word) 
 
 -- ---- which words are unknown
 
--- a word behind `put` that names no codec
+-- a word after `put` that names no codec
 no_codec : (word : List ℕ) → ((codec : ℕ) → NamesCodec word codec → ⊥) → (codec : ℕ) → IsCodec (word ∷ []) codec → ⊥
 no_codec word none codec (inl h) = let clash : 1 ≡ 0 = ap length h.0 in omega (arith, clash)
 no_codec word none codec (inr h) = none codec (subst (λ w. NamesCodec w codec) (sym (ap (λ ws. get_or ws 0 []) h.1)) h.2)
@@ -100,7 +100,7 @@ no_put path word rest is none (words.NoCid e) (inr (inr (inl h, k))) = let clash
 no_put path word rest is none (words.NoCid e) (inr (inr (inr h, k))) = let clash : 346 ≡ 338 = ap mark h in omega (arith, clash)
 no_put path word rest is none words.Unknown h = h
 
--- CIDs behind a word that are no command
+-- CIDs after a word that are no command
 pub no_done : TextsTellCids → TextFaultsAreUnique → (path word : List ℕ) (rest : List (List ℕ)) (names : List CidParts) → word ≢ codes "import" → word ≢ codes "put" → word ≢ codes "at" → word ≢ codes "cat" → word ≢ codes "ls" → AreTextsOf rest names → ((c : Command) → NamesCommand word names c → ⊥)
     → (it : Words) → AreKnown (path ∷ (word ∷ rest)) it → ⊥
 no_done law faults path word rest names imports puts ats cats lists texts none (words.Import file source) h = imports h.1
@@ -117,7 +117,7 @@ no_done law faults path word rest names imports puts ats cats lists texts none (
 no_done law faults path word rest names imports puts ats cats lists texts none (words.NoCid e) (inr (inr (inr h, k))) = lists h
 no_done law faults path word rest names imports puts ats cats lists texts none words.Unknown h = h
 
--- others behind a word that takes none
+-- others after a word that takes none
 pub no_word : TextFaultsAreUnique → (path word : List ℕ) (rest : List (List ℕ)) (f : CidTextError) → word ≢ codes "import" → word ≢ codes "put" → word ≢ codes "at" → word ≢ codes "cat" → word ≢ codes "ls" → IsFirstFault rest f → (WantsNames word → ⊥) → (it : Words) → AreKnown (path ∷ (word ∷ rest)) it → ⊥
 no_word faults path word rest f imports puts ats cats lists fault none (words.Import file source) h = imports h.1
 no_word faults path word rest f imports puts ats cats lists fault none (words.Put file codec) h = puts h.1

@@ -90,7 +90,7 @@ module _ {S : Type 0} (g : Ghosts S) where
   fails_at old mid new name At (fault.Store told) before same quiet at w = fails_same g old mid new told before same quiet w
   fails_at old mid new name At (fault.Tool e) before same quiet at w = λ clean. same_then (g.view old) (g.view mid) (g.view new) (same (omega (arith, quiet.clean))) (w clean)
 
-  -- it failed behind a call that changed nothing
+  -- it failed after a call that changed nothing
   pub fails_then : (old mid new : S) (At More : Stored → CidParts → Type 0) (e : Fault) → Quiet g old mid → StaysSame g old mid → Quiet g mid new → (IsClean (g.view mid) → OfStored (g.view old) (λ stored. (n : CidParts) → At stored n → More stored n)) → FailsAt g At mid new e → FailsAt g More old new e
   fails_then old mid new At More (fault.Store (refusal.Damaged n)) before same quiet more w = λ clean.
       let was : IsClean (g.view mid) = omega (arith, quiet.clean) in

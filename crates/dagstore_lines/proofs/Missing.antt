@@ -131,7 +131,7 @@ all_valid v last [] c h m = absurd m
 all_valid v last (x ∷ xs) c h (inl e) = subst AreCidParts (sym e) h.0.valid
 all_valid v last (x ∷ xs) c h (inr m) = all_valid v (Some x) xs c h.1 m
 
--- each name that is listed behind the last one is among them
+-- each name that is listed after the last one is among them
 all_listed : (v : View) (last : Option CidParts) (names : List CidParts) (q : List ℕ) → AreAll v last names → IsListed (v.trees name_tree) q → IsBehind last q → (c : CidParts) × Among c names × (cid_bytes c ≡ q)
 all_listed v last [] q h l b = absurd (h q l b)
 all_listed v last (x ∷ xs) q h l b = elim (h.0.first q l b) [

@@ -1,4 +1,4 @@
--- The names that are taken out, one behind the other, and what is said of them.
+-- The names that are taken out, one after the other, and what is said of them.
 use Rattle.std.proofs.Common.{◌≡◌, inl, inr, ℕ, zero, suc, ◌+◌, ◌≤◌, ◌<◌, List, [], ◌∷◌, ◌++◌, length, take, get_or, take-suc, add-one, append-nil, length-append, flat_map, codes, Bool, true, false, refl, sym, ap, ap₂, ◌∙◌, subst, arith, IsTrue, ◌⊎◌, ◌↔◌, Option, Result, Ok, Err}
 use Rattle.std.proofs.Math.Seq.{take-length}
 use Rattle.std.specs.Bool.{⊤}

@@ -35,7 +35,7 @@ use Rattle.dagstore_lines.specs.declared.taken.Taken.{Taken}
 use Rattle.dagstore_lines.specs.declared.fault.Fault.{Fault}
 use Rattle.dagstore_lines.specs.declared.fault.Fault.TheVariants as fault
 
--- ---- behind a call that changed nothing
+-- ---- after a call that changed nothing
 
 keeps_from : (old mid : View) (roots : List CidParts) (db : Trees) → IsSame old mid → KeepsReachable mid roots db → KeepsReachable old roots db
 keeps_from old mid roots db same h = (
@@ -108,7 +108,7 @@ module _ {S : Type 0} (g : Ghosts S) (old mid new : S) (before_quiet : Quiet g o
   collects_from roots out after (Err (fault.Store told)) was k = (collect_after g roots old mid new told before_quiet same was k.0, k.1)
   collects_from roots out after (Err (fault.Tool e)) was k = (k.0, λ clean. collected_from (g.view old) (g.view mid) (g.view new) roots k.0 (same (was clean)) (k.1 clean), k.2)
 
--- the roots that are meant, seen behind another call
+-- the roots that are meant, seen after another call
 pub meant_later : (old mid new : View) (given roots : List CidParts) → (IsClean new → IsClean mid) → AreMeant old mid given roots → AreMeant old new given roots
 meant_later old mid new given roots was (inl k) = inl (k.0, λ clean. k.1 (was clean))
 meant_later old mid new given roots was (inr k) = inr k
@@ -137,7 +137,7 @@ module _ {S : Type 0} (g : Ghosts S) (names : List CidParts) where
       last_then (g.view old) k.held (g.view new) (last_rooted (g.view old) k.held k.first k.added) (last_same k.held (g.view new) k.same)
   last_refused old new told clean k = last_undone (g.view old) (g.view new) (k.undone clean)
 
-  -- a rollback behind names of which one was refused
+  -- a rollback after names of which one was refused
   pub adding_undone : (old failed new : S) (told : StoreRefusal) → Quiet g failed new → g.blamed new ≡ g.blamed failed → (IsClean (g.view new) → IsUndone (g.view failed) (g.view new)) → RootsRefused g names old failed told
       → RootsNotKept g names old new told × (IsClean (g.view new) → IsUndone (g.view old) (g.view new))
   adding_undone old failed new told quiet blame undone h = (

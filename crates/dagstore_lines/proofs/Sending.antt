@@ -1,4 +1,4 @@
--- How texts go out one behind the other.
+-- How texts go out one after the other.
 use Rattle.std.proofs.Common.{◌≡◌, inl, inr, ℕ, List, [], ◌∷◌, ◌++◌, refl, sym, ap, ◌∙◌, subst, append_assoc, codes, decimal, Option, Result, Ok, Err, IsErrAnd}
 use Rattle.std.proofs.KnownBytes.{Appends-nil, Appends-trans}
 use Rattle.dagcbor_heads.specs.Appends.{AppendsFront}

@@ -1,4 +1,4 @@
--- What is said of the names that are listed in a store, one behind the other.
+-- What is said of the names that are listed in a store, one after the other.
 use Rattle.std.proofs.Common.{◌≡◌, inl, inr, ℕ, List, [], ◌∷◌, ◌++◌, Bool, true, false, ◌&&◌, refl, sym, subst, arith, Option, None, Some, Ok, Err}
 use Rattle.std.specs.Io.KnownBytes.{Appends}
 use Rattle.std.proofs.KnownBytes.{Appends-nil, Appends-trans}
@@ -39,7 +39,7 @@ all_first v last (x ∷ xs) h = (h.0, all_first v (Some x) xs h.1)
 
 -- ---- what is said of each
 
--- what was said stays so behind more calls that change nothing
+-- what was said stays so after more calls that change nothing
 abbrev pub StaysSaid : Telling → Type 0
 StaysSaid IsSaid = (old mid now new : View) → (IsClean new → IsClean now) → (IsClean new → IsSame old mid) → (c : CidParts) (w : Bool) (t : List ℕ) → IsSaid mid now c w t → IsSaid old new c w t
 
@@ -61,7 +61,7 @@ pub line_broken : (IsSaid : Telling) (old new : View) (last : Option CidParts) (
 line_broken IsSaid old new last c well said before after e next is (inl none) = inl none
 line_broken IsSaid old new last c well said before after e next is (inr k) = inr (k.0, k.1, (c, well, subst (IsSaid old new c well) (sym k.2) is, next), k.3, k.4)
 
--- nothing went out behind the lines of all names
+-- nothing went out after the lines of all names
 pub nothing_behind : (IsSaid : Telling) (old new : View) (before after : Option (List ℕ)) (well : Bool) (e : ToolError) → SaysNames IsSaid old before (Ok well) new after → SaysNames IsSaid old before (Err (fault.Tool e)) new after
 nothing_behind IsSaid old new before after well e h = (h.0, well, h.1, after, λ clean. all_first old None h.0 (h.2 clean), h.3, h.4, inl (Appends-nil after))
 

@@ -58,7 +58,7 @@ pub record IsStoreChecked (old new : View)
   pub lines : Appends before after (said ++ flat_map missing_line links)
   pub wellness : well ≡ (all_well && none)
 
--- It broke off at a name, or behind all of them: of the lines of the missing links a front went
+-- It broke off at a name, or after all of them: of the lines of the missing links a front went
 -- out.
 abbrev pub BreaksCheck : View → View → Option (List ℕ) → Fault → Option (List ℕ) → Type 0
 BreaksCheck old new before e after = SaysNames IsCheckedLine old before (Err e) new after

@@ -37,7 +37,7 @@ IsFirstFault [] e = ⊥
 IsFirstFault (text ∷ texts) e = IsTextFault e text
     ⊎ (((name : CidParts) × IsTextOf text name) × IsFirstFault texts e)
 
--- CIDs stand behind the word, and nothing else
+-- CIDs stand after the word, and nothing else
 abbrev pub WantsNames : List ℕ → Type 0
 WantsNames word = (word ≡ codes "export") ⊎ ((word ≡ codes "get") ⊎ ((word ≡ codes "has")
     ⊎ ((word ≡ codes "tree") ⊎ ((word ≡ codes "remove") ⊎ ((word ≡ codes "gc")
@@ -61,7 +61,7 @@ command_word commands.List = codes "list"
 command_word commands.Count = codes "count"
 command_word commands.Serve = codes "serve"
 
--- the CIDs behind it: any, one, at least one, or none
+-- the CIDs after it: any, one, at least one, or none
 abbrev pub AreNamesOf : Command → List CidParts → Type 0
 AreNamesOf (commands.Export roots) names = names ≡ roots.items
 AreNamesOf (commands.Get name) names = names ≡ name ∷ []
@@ -73,7 +73,7 @@ AreNamesOf (commands.AddRoots added) names = (names ≡ added.items) × (names �
 AreNamesOf (commands.DropRoots dropped) names = (names ≡ dropped.items) × (names ≢ [])
 AreNamesOf _ names = names ≡ []
 
--- the word and the CIDs behind it are the command
+-- the word and the CIDs after it are the command
 abbrev pub NamesCommand : List ℕ → List CidParts → Command → Type 0
 NamesCommand word names command = (word ≡ command_word command) × AreNamesOf command names
 
@@ -87,19 +87,19 @@ abbrev pub IsCodec : List (List ℕ) → ℕ → Type 0
 IsCodec rest codec = ((rest ≡ []) × (codec ≡ 0x71))
     ⊎ ((word : List ℕ) × (rest ≡ word ∷ []) × NamesCodec word codec)
 
--- what stands behind `at`: a text, and --raw before it where bytes are asked for
+-- what follows `at`: a text, and --raw before it where bytes are asked for
 abbrev pub IsAskedBy : List (List ℕ) → Bool → List ℕ → Type 0
 IsAskedBy rest false text = rest ≡ text ∷ []
 IsAskedBy rest true text = rest ≡ codes "--raw" ∷ text ∷ []
 
--- a text stands alone there: one of this CID, and this path behind a slash
+-- a text stands alone there: one of this CID, and this path after a slash
 abbrev pub IsPathFrom : List (List ℕ) → CidParts → List ℕ → Type 0
 IsPathFrom rest root inner = (text : List ℕ) × (rest ≡ text ∷ [])
     × IsTextOf (name_part text) root × (inner ≡ path_part text)
 
 -- ---- words
 
--- a path, a word and what stands behind it are this; and where a CID should stand and none does,
+-- a path, a word and what follows it are this; and where a CID should stand and none does,
 -- they are the cause of the first that is none
 abbrev pub AreWordsOf : List ℕ → List ℕ → List (List ℕ) → Words → Type 0
 AreWordsOf path word rest (words.Import file source) = (path ≡ file.now)

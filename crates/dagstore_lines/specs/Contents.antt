@@ -54,7 +54,7 @@ abbrev pub IsOnTheWay : CidParts → List (List ℕ) → Stored → CidParts →
 IsOnTheWay root path stored name = (front back : List (List ℕ)) × (path ≡ front ++ back)
     × LeadsByNames stored root front name
 
--- behind some first bytes of the file under the root the block of this name is wanted
+-- after some first bytes of the file under the root the block of this name is wanted
 abbrev pub IsWantedIn : CidParts → Stored → CidParts → Type 0
 IsWantedIn root stored name = (out : List ℕ) × (wanted below : List Asked) × (w : Asked)
     × IsReadTo stored root out wanted × IsNextName wanted below w name

@@ -16,7 +16,7 @@ use Rattle.dagstore_lines.specs.declared.fault.Fault.{Fault}
 abbrev pub LeavesStored : View → List CidParts → List CidParts → Type 0
 LeavesStored v = LeavesOut (HasBlockAt v)
 
--- the name is put behind the others if it has no block
+-- the name is put after the others if it has no block
 abbrev pub AddsLacking : View → CidParts → List CidParts → List CidParts → Type 0
 AddsLacking v name old new = (HasBlockAt v name × (new ≡ old))
     ⊎ ((¬ HasBlockAt v name) × (new ≡ old ++ name ∷ []))

@@ -12,12 +12,12 @@ use Rattle.dagstore_lines.specs.declared.fault.Fault.{Fault}
 
 -- ---- the names
 
--- the first of the names that are listed behind the last one, in the order of their bytes
+-- the first of the names that are listed after the last one, in the order of their bytes
 abbrev pub AreFirst : View → Option CidParts → List CidParts → Type 0
 AreFirst v last [] = ⊤
 AreFirst v last (c ∷ names) = IsNext (v.trees name_tree) last c × AreFirst v (Some c) names
 
--- all of the names that are listed behind the last one, each once, in the order of their bytes
+-- all of the names that are listed after the last one, each once, in the order of their bytes
 abbrev pub AreAll : View → Option CidParts → List CidParts → Type 0
 AreAll v last [] = GivesNextName v last None
 AreAll v last (c ∷ names) = IsNext (v.trees name_tree) last c × AreAll v (Some c) names
@@ -29,12 +29,12 @@ last_of last (c ∷ names) = last_of (Some c) names
 
 -- ---- what is said of them
 
--- what is said of a name, by what was stored, and what the store shows behind the call; and whether
+-- what is said of a name, by what was stored, and what the store shows after the call; and whether
 -- that tells of nothing wrong
 abbrev pub Telling : Type 1
 Telling = View → View → CidParts → Bool → List ℕ → Type 0
 
--- the line of the next name behind the last one
+-- the line of the next name after the last one
 abbrev pub IsNextLine : Telling → View → Option CidParts → View → List ℕ → Type 0
 IsNextLine IsSaid old last new text = (name : CidParts) × (well : Bool)
     × IsSaid old new name well text × (IsClean new → IsNext (old.trees name_tree) last name)

@@ -113,6 +113,6 @@ abbrev pub TellsRunFault : Result Bool Fault → Option (List ℕ) → Option (L
 TellsRunFault (Ok well) old new = new ≡ old
 TellsRunFault (Err e) old new = AppendsFront old new (fault_line e)
 
--- a run ended so: its status, and what is told of it behind what was told before
+-- a run ended so: its status, and what is told of it after what was told before
 abbrev pub ExitsSo : Result Bool Fault → ℕ → Option (List ℕ) → Option (List ℕ) → Type 0
 ExitsSo ended status heard told = (status ≡ status_of ended) × TellsRunFault ended heard told

@@ -45,7 +45,7 @@ pub record BreaksTold {S : Type 0} (g : Ghosts S) (root : CidParts)
   pub tells : TellsTree g root old before new after well told
   pub front : AppendsFront heard said told
 
--- Why it was not told: the store refused, before anything went out, or behind the file of some
+-- Why it was not told: the store refused, before anything went out, or after the file of some
 -- first blocks; or of such a file a front went out, or of what is told, and a device failed, or
 -- memory was wanting.
 abbrev pub TreeFails : {S : Type 0} → Ghosts S → CidParts

@@ -86,7 +86,7 @@ fn checked_said<S: Store>(
     }
 }
 
-/// Writes the line of the first name behind the last one. Answers the name, and whether nothing is
+/// Writes the line of the first name after the last one. Answers the name, and whether nothing is
 /// wrong with it.
 fn check_next<S: Store, W: Write>(
     alloc: Global,

@@ -112,7 +112,7 @@ fn word_alone(word: &str) -> Words<'_>
     }
 }
 
-/// What a path, a word and those behind it are.
+/// What a path, a word and those after it are.
 fn words_behind<'a>(
     alloc: Global,
     path: &'a str,
@@ -174,7 +174,7 @@ fn at_of<'a>(file: &'a str, rest: &'a [String]) -> Words<'a>
     }
 }
 
-/// What is asked of the path in the text: a CID, and the path behind a slash.
+/// What is asked of the path in the text: a CID, and the path after a slash.
 fn at_text<'a>(file: &'a str, is_raw: bool, text: &'a str) -> Words<'a>
     ensures { (rest : List (List ℕ)) → IsAskedBy rest is_raw text.now
         → AreWords (file.now ∷ (codes "at" ∷ rest)) result }
@@ -226,7 +226,7 @@ fn ls_text<'a>(file: &'a str, text: &'a str) -> Words<'a>
     }
 }
 
-/// The block from which the path in the text leads, and the path: a CID, and what stands behind a slash.
+/// The block from which the path in the text leads, and the path: a CID, and what follows a slash.
 fn beginning_of(text: &str) -> Result<(Beginning, &str), CidTextError>
     ensures { MatchResult result
         (λ p. IsTextOf (name_part text.now) p.0.root × (p.1.now ≡ path_part text.now))
@@ -262,7 +262,7 @@ fn number_of(digits: &str) -> Option<u64>
     u64::from_str_radix(digits, 16).ok()
 }
 
-/// What is to be done by a word with CIDs behind it, or with nothing.
+/// What is to be done by a word with CIDs after it, or with nothing.
 fn names_behind<'a>(
     alloc: Global,
     path: &'a str,
@@ -303,7 +303,7 @@ fn cids_of(alloc: Global, words: &[String]) -> Result<Result<Vec<Cid>, CidTextEr
     Ok(Ok(names))
 }
 
-/// Whether CIDs may stand behind the word.
+/// Whether CIDs may follow the word.
 fn takes_names(word: &str) -> bool
     ensures { MatchBool result (WantsNames word.now) (¬ WantsNames word.now) }
 {
@@ -313,7 +313,7 @@ fn takes_names(word: &str) -> bool
     )
 }
 
-/// The command of the word and the CIDs behind it.
+/// The command of the word and the CIDs after it.
 fn command_of(word: &str, names: Vec<Cid>) -> Option<Command>
     ensures { MatchOption result ((command : Command) → ¬ NamesCommand word.now names.items command)
         (NamesCommand word.now names.items) }

@@ -32,7 +32,7 @@ fn has_block_at<S: Store>(store: &mut BlockStore<S>, name: &Cid) -> Result<bool,
     store.contains(name)
 }
 
-/// Puts the name behind the others.
+/// Puts the name after the others.
 fn push_name(list: &mut Vec<Cid>, name: &Cid) -> Result<(), AllocError>
     ensures { OnOk result (list.new.items ≡ list.old.items ++ name.now ∷ []) }
 {
@@ -40,7 +40,7 @@ fn push_name(list: &mut Vec<Cid>, name: &Cid) -> Result<(), AllocError>
     Ok(())
 }
 
-/// Puts the name behind the others if it has no block.
+/// Puts the name after the others if it has no block.
 fn add_if_lacking<S: Store>(
     store: &mut BlockStore<S>,
     name: &Cid,

@@ -39,7 +39,7 @@ fn listed_said<S: Store>(
     }
 }
 
-/// Writes the line of the first name behind the last one. Answers the name, and whether nothing is
+/// Writes the line of the first name after the last one. Answers the name, and whether nothing is
 /// wrong with it.
 fn list_next<S: Store, W: Write>(
     alloc: Global,

@@ -57,7 +57,7 @@ pub fn meant_roots<S: Store>(
     }
 }
 
-/// Makes each of the names a root behind the others, unless it is one, and commits that; or none of
+/// Makes each of the names a root after the others, unless it is one, and commits that; or none of
 /// them.
 pub fn add_roots<S: Store>(store: &mut BlockStore<S>, names: &[Cid]) -> Result<bool, Fault>
     ensures added { AddsToRoots S.Store names.now store.old result store.new }

@@ -38,7 +38,7 @@ pub record IsFrame (b : List ℕ) (frame : Frame) (rest : List ℕ) : Type 0 whe
 abbrev pub HasNoItem : List ℕ → Type 0
 HasNoItem b = (rest : List ℕ) → ¬ EndByHeads b 1 rest
 
--- no item does, or none behind the first
+-- no item does, or none after the first
 abbrev pub HasNoEnd : List ℕ → Type 0
 HasNoEnd b = HasNoItem b ⊎ ((body : List ℕ) × EndByHeads b 1 body × HasNoItem body)
 

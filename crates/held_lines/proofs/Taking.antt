@@ -46,9 +46,9 @@ header_alone old now (faults.Read f) is r = absurd is
 header_alone old now faults.OutOfMemory is r = absurd is
 header_alone old now _ is r = r.1
 
--- ---- one section behind the other
+-- ---- one section after the other
 
--- what is known behind each section is known behind all
+-- what is known after each section is known after all
 pub took_knows : {S Stop : Type 0} (takes : SinkTakes S Stop) (knows : S → List Section → Type 0) → ((s : Section) (old new : S) (done : List Section) → knows old done → takes s old (Ok tt) new → knows new (done ++ s ∷ []))
     → (done more : List Section) (old new : S) → knows old done → TookEach takes old more new → knows new (done ++ more)
 took_knows takes knows step done [] old new h t = subst (knows new) (sym (append-nil done)) (subst (λ x. knows x done) (sym t) h)
@@ -95,7 +95,7 @@ ends_same takes f stays roots b old new (Ok (ended.Stopped stop)) h = stays h.se
 ends_same takes f stays roots b old new (Ok (ended.Fault line)) h = took_same takes f stays h.1.first.sections old new h.1.first.took
 ends_same takes f stays roots b old new (Err e) h = took_same takes f stays h.sections old new h.took
 
--- so much is left, behind the header and these sections
+-- so much is left, after the header and these sections
 abbrev IsLeft : List ℕ → List (List ℕ) → List Section → Option ℕ → Reading → Type 0
 IsLeft b roots ss extent source = (rest : List ℕ) × (source.left ≡ Some rest) × IsPlace b roots ss extent rest
 
@@ -186,7 +186,7 @@ module _ {S Stop : Type 0} (takes : SinkTakes S Stop) (roots : List (List ℕ)) 
 
 -- ---- the whole
 
--- all behind a header, where a header was taken
+-- all after a header, where a header was taken
 pub behind_header : {S Stop : Type 0} (takes : SinkTakes S Stop) (extent : Option ℕ) (start source : Reading) (roots : Vec CidParts Global) (old new : S) (w : Ended Stop) → TakesStart start (forms roots.items) extent source → TakesBehind takes extent source old (Ok w) new → TakesFile takes start old (Ok (roots, w)) new
 behind_header takes extent start source roots old new w h k = λ b l. inr (k start (forms roots.items) h b l)
 

@@ -23,14 +23,14 @@ use Rattle.held_lines.specs.declared.holding.Held.{Held}
 
 -- ---- no file
 
--- the bytes are no file for this cause: no file begins; or behind the sections of which this is so
+-- the bytes are no file for this cause: no file begins; or after the sections of which this is so
 -- no section stands, though bytes do, or are wanting
 abbrev pub IsFileFault : (List Section → Type 0) → CarError Infallible → List ℕ → Type 0
 IsFileFault IsSo e b = IsNoFile b × (RefusesStart e b
     ⊎ ((roots : List (List ℕ)) × (sections : List Section) × (n : ℕ) × (rest : List ℕ)
     × IsFileFront b roots sections n rest × IsSo sections × RefusesSection n e rest))
 
--- the bytes are no file for some cause, behind sections of which this is so, and a line tells it
+-- the bytes are no file for some cause, after sections of which this is so, and a line tells it
 abbrev pub TellsFault : (List Section → Type 0) → List ℕ → List ℕ → Type 0
 TellsFault IsSo b told = (e : CarError Infallible) × IsFileFault IsSo e b × (told ≡ refused_line e)
 

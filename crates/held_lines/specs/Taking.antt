@@ -25,7 +25,7 @@ IsOfBytes (faults.Read f) = ⊥
 IsOfBytes faults.OutOfMemory = ⊥
 IsOfBytes _ = ⊤
 
--- each of the sections was taken, one behind the other
+-- each of the sections was taken, one after the other
 abbrev pub TookEach : {S Stop : Type 0} → SinkTakes S Stop → S → List Section → S → Type 0
 TookEach takes old [] new = new ≡ old
 TookEach {S} takes old (s ∷ ss) new = (it : S) × takes s old (Ok tt) it × TookEach takes it ss new
@@ -44,7 +44,7 @@ pub record TakesWhole {S Stop : Type 0} (takes : SinkTakes S Stop) (roots : List
   pub file : IsFile b roots sections
   pub took : TookEach takes old sections new
 
--- behind such sections stands one that was refused
+-- after such sections stands one that was refused
 pub record StopsAtSection {S Stop : Type 0} (takes : SinkTakes S Stop) (roots : List (List ℕ)) (b : List ℕ) (old : S) (stop : Stop) (new : S) : Type 0 where
   pub it : S
   pub first : TakesFileFront takes roots b old it
@@ -54,13 +54,13 @@ pub record StopsAtSection {S Stop : Type 0} (takes : SinkTakes S Stop) (roots : 
   pub front : IsFileFront b roots (first.sections ++ section ∷ []) wanting rest
   pub refused : takes section it (Err stop) new
 
--- behind such sections stands none, though bytes do, or are wanting, for this cause
+-- after such sections stands none, though bytes do, or are wanting, for this cause
 pub record FaultBehind {S Stop : Type 0} (takes : SinkTakes S Stop) (roots : List (List ℕ)) (b : List ℕ) (old : S) (e : CarError Infallible) (new : S) : Type 0 where
   pub first : TakesFileFront takes roots b old new
   pub none : IsNoFile b
   pub refuses : RefusesSection first.wanting e first.rest
 
--- how far a file was taken behind its header of these roots
+-- how far a file was taken after its header of these roots
 abbrev pub EndsAt : {S Stop : Type 0} → SinkTakes S Stop → List (List ℕ) → List ℕ → S → Ended Stop → S
     → Type 0
 EndsAt takes roots b old ended.Whole new = TakesWhole takes roots b old new
@@ -68,7 +68,7 @@ EndsAt takes roots b old (ended.Stopped stop) new = StopsAtSection takes roots b
 EndsAt takes roots b old (ended.Fault line) new = (e : CarError Infallible)
     × FaultBehind takes roots b old e new × (line.items ≡ refused_line e)
 
--- All sections behind the header were taken, or some of the first.
+-- All sections after the header were taken, or some of the first.
 abbrev pub TakesBehind : {S Stop : Type 0} → SinkTakes S Stop → Option ℕ → Reading → S
     → Result (Ended Stop) ToolError → S → Type 0
 TakesBehind takes extent source old result new = (start : Reading) (roots : List (List ℕ))
@@ -100,7 +100,7 @@ TellsNotBegun b (ended.Fault line) = (e : CarError Infallible) × IsNoFile b × 
     × (line.items ≡ refused_line e)
 TellsNotBegun b _ = ⊥
 
--- How far the bytes were taken as a file, and of which roots: not at all, and of none; or so far behind
+-- How far the bytes were taken as a file, and of which roots: not at all, and of none; or so far after
 -- a header.
 abbrev pub TakesAll : {S Stop : Type 0} → SinkTakes S Stop → List ℕ → S → Vec CidParts Global × Ended Stop
     → S → Type 0

@@ -59,7 +59,7 @@ fn ended_by<E: Drop, T: Drop>(
     }
 }
 
-/// Takes what is behind the header, of so much of the file.
+/// Takes what follows the header, of so much of the file.
 pub fn take_sections<'de, S: SectionSink, R: Read>(
     alloc: Global,
     sink: &mut S,

@@ -57,7 +57,7 @@ sought_refused {E} name n old new e b is r l h =
     none.1 (name, h.block) (take (n - length (section_bytes (name, h.block))) h.rest)
     (h.section, ap (take n) h.is ∙ (ap (λ m. take m (section_bytes (name, h.block) ++ h.rest)) (sym whole) ∙ take-append-add (section_bytes (name, h.block)) h.rest (n - length (section_bytes (name, h.block)))))
 
--- nothing is sought behind all bytes
+-- nothing is sought after all bytes
 pub sought_far : (name : CidParts) (layout : Layout) (offset : ℕ) (b : List ℕ) → length b < 2 ^ 64 → 2 ^ 64 ≤ layout.begin + offset → IsSoughtAt name layout offset b → ⊥
 sought_far name layout offset b below far h =
     let none : drop (layout.begin + offset) b ≡ [] = drop_all (layout.begin + offset) b (omega arith) in
@@ -117,7 +117,7 @@ pub from_place : (known left : Option (List ℕ)) (place : ℕ) (P : List ℕ �
 from_place None left place P is h = tt
 from_place (Some b) left place P is h = subst (λ x. IfSome x P) is h
 
--- ---- one entry behind the other
+-- ---- one entry after the other
 
 -- an entry is not passed that leads to a block
 abbrev pub NotPassed : CidParts → Layout → Bucket → ℕ → ℕ → List ℕ → Type 0
@@ -137,7 +137,7 @@ entry_before name layout bucket first number k b f from l up =
           (it.0, subst (λ n. IsEntryOf b bucket name.digest n it.0) there it.1)
     ]
 
--- an entry that is none of the digest stands behind
+-- an entry that is none of the digest stands after
 pub no_entry : (name : CidParts) (layout : Layout) (bucket : Bucket) (first number : ℕ) (b : List ℕ) → IsFirst b bucket name.digest first → first ≤ number → NotPassed name layout bucket first number b → FindsOffset bucket name.digest number b None → LeadsIn name layout bucket b → ⊥
 no_entry name layout bucket first number b f from up none (k, early, l) =
     let it = entry_before name layout bucket first number k b f from l (up k l) in none l.short it.0 it.1

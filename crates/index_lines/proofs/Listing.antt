@@ -19,7 +19,7 @@ use Rattle.index_lines.specs.Indexed.{entry_of, entries_of, version_2_header, in
 use Rattle.index_lines.specs.Layouts.{index_field}
 use Rattle.index_lines.specs.Finds.{BeginsSought, IsListed, written, IndexLists}
 
--- the bytes behind the first of those at a place
+-- the bytes after the first of those at a place
 behind_front : (b xs rest : List ℕ) (p n : ℕ) → n ≡ length xs → drop p b ≡ xs ++ rest → drop (p + n) b ≡ rest
 behind_front b xs rest p n long is =
     sym (drop-drop n p b) ∙ (ap (drop n) is ∙ (ap (λ m. drop m (xs ++ rest)) long ∙ drop-append_seam xs rest))

@@ -1,4 +1,4 @@
--- Texts that go out, one behind the other.
+-- Texts that go out, one after the other.
 use Rattle.std.proofs.Common.{◌≡◌, ℕ, ◌-◌, ◌≤◌, List, [], ◌++◌, length, take, drop, Bool, true, Option, None, Some, IfSome, Result, Ok, Err, IfOk, OnOk, IsErrAnd, inl, inr, sym, ap, ◌∙◌, subst, refl, append-nil, append_assoc, arith}
 use Rattle.std.proofs.lemmas.List.{length-take}
 use Rattle.std.proofs.Math.Seq.{take-length}

@@ -65,7 +65,7 @@ abbrev pub IsSoughtAt : CidParts → Layout → ℕ → List ℕ → Type 0
 IsSoughtAt name layout offset b =
     BeginsSought name (layout.length - offset) (drop (layout.begin + offset) b)
 
--- the entries of the name's digest lead to it, so many behind the first
+-- the entries of the name's digest lead to it, so many after the first
 pub record LeadsAt (name : CidParts) (layout : Layout) (bucket : Bucket) (k : ℕ) (b : List ℕ) : Type 0 where
   pub whole : ¬ EndsWithin b bucket name.digest
   pub few : bucket.count < 2 ^ 32

@@ -15,7 +15,7 @@ use Rattle.dagcbor_cli.specs.declared.fault.ToolError.{ToolError}
 abbrev pub entry_of : ℕ → Section → EntryParts
 entry_of place s = record { hash_code = s.0.hash_code; digest = s.0.digest; offset = place }
 
--- the entries of sections that stand one behind the other, the first of them at this place
+-- the entries of sections that stand one after the other, the first of them at this place
 abbrev pub entries_of : ℕ → List Section → List EntryParts
 entries_of place [] = []
 entries_of place (s ∷ ss) = entry_of place s ∷ entries_of (place + length (section_bytes s)) ss

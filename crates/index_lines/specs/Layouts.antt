@@ -3,7 +3,7 @@ use Rattle.std.specs.Prelude.{◌≡◌, ◌≢◌, ℕ, List}
 use Rattle.dagcbor_car.specs.Versions.{IsVersion2, number_behind, begin_of, length_of, HasSpan}
 use Rattle.index_lines.specs.declared.layout.Layout.{Layout}
 
--- where the index begins: that stands behind where the file of version 1 does, and how long it is
+-- where the index begins: that follows where the file of version 1 does, and how long it is
 abbrev pub index_field : List ℕ → ℕ
 index_field b = number_behind 43 b
 

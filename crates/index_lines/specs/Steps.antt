@@ -15,7 +15,7 @@ use Rattle.index_lines.specs.declared.gather.Gathering.{Gathering}
 use Rattle.index_lines.specs.declared.gather.Gathered.{Gathered}
 use Rattle.index_lines.specs.declared.index.Parts.{Parts}
 
--- the entry of the next section is behind those of the sections before it
+-- the entry of the next section is after those of the sections before it
 abbrev pub GathersNext : SinkTakes Gathering AllocError
 GathersNext s old (Ok u) new = (new.entries.items ≡ old.entries.items ++ entry_of old.place s ∷ [])
     × (new.place ≡ old.place + length (section_bytes s))
@@ -34,7 +34,7 @@ abbrev pub Gathers : List ℕ → Result Gathered (Vec ℕ Global) → Type 0
 Gathers b result = MatchResult result (IsGathered b)
     (λ line. TellsFault (λ sections. ⊤) b line.items)
 
--- what stands before and behind the file of version 1 of what was gathered, and where that begins
+-- what stands before and after the file of version 1 of what was gathered, and where that begins
 pub record ArePartsOf (b : List ℕ) (found : Gathered) (parts : Parts) : Type 0 where
   pub before : parts.before.items ≡ version_2_header found.length
   pub begin : BeginsAt b parts.begin

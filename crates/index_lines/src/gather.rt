@@ -102,7 +102,7 @@ impl SectionSink for Gathering {
     }
 }
 
-/// The entries of what is behind the header of these roots, of so much of the file.
+/// The entries of what follows the header of these roots, of so much of the file.
 fn gather_sections<'de, R: Read>(
     alloc: Global,
     roots: &[Cid],

@@ -15,7 +15,7 @@ use dagcbor_cli::ToolError;
 use std::alloc::Global;
 use std::io::Write;
 
-/// What stands before and behind the file of version 1, and where that begins in the source.
+/// What stands before and after the file of version 1, and where that begins in the source.
 #[derive(Drop)]
 pub(crate) struct Parts {
     before: ArrayVec<u8, 51>,
@@ -23,7 +23,7 @@ pub(crate) struct Parts {
     behind: Vec<u8>,
 }
 
-/// What stands before and behind the file of version 1.
+/// What stands before and after the file of version 1.
 fn parts_of<S: ReadAt>(alloc: Global, source: &S, found: &Gathered) -> Result<Parts, ToolError>
     ensures { IfSome (S.bytes source.now) (λ b. IfOk result (ArePartsOf b found.now)) }
 {

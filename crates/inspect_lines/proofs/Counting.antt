@@ -1,4 +1,4 @@
--- One block more is counted behind the others.
+-- One block more is counted after the others.
 use Rattle.std.proofs.Common.{◌≡◌, ℕ, ◌+◌, ◌==◌, List, [], ◌∷◌, ◌++◌, take, get_or, ◌<◌, length, length-append, map, min, max, if◌then◌else◌, refl, sym, ap, ◌∙◌, arith, Result, Ok, Err, OnOk}
 use Rattle.std.proofs.lemmas.List.{take_more}
 use Rattle.std.proofs.lemmas.Bool.{ne_eqb}

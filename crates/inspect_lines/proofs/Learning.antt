@@ -49,7 +49,7 @@ ends_known roots b old new ended.Whole k h = (h.sections, h.file, knows_each (fo
 ends_known roots b old new (ended.Stopped stop) k h = tt
 ends_known roots b old new (ended.Fault line) k h = fault_told LearnsNext (λ ss. ⊤) b line.items (forms roots) old new h.0 h.1 tt h.2
 
--- what is told behind the sections
+-- what is told after the sections
 pub facts_known : (roots : List CidParts) (b front : List ℕ) (index : Index) (new : Inspecting) (facts : Facts) → EndsKnown {E = AllocError} roots b ended.Whole new → ((sections : List Section) → Knows new (forms roots) sections → AreFactsOf facts front index roots sections) → AreFactsOfFile b front index facts
 facts_known roots b front index new facts h f = (roots, h.0, h.1, f h.0 h.2)
 

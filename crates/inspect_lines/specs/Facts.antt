@@ -13,11 +13,11 @@ use Rattle.inspect_lines.specs.declared.facts.Index.TheVariants as indexes
 use Rattle.inspect_lines.specs.declared.kinds.Kind.{Kind}
 use Rattle.inspect_lines.specs.declared.kinds.Kind.TheVariants.{Codec, Hash}
 
--- a number behind a word
+-- a number after a word
 abbrev pub number_line : List ℕ → ℕ → List ℕ
 number_line word count = line (word ++ (32 ∷ decimal count))
 
--- a word behind a word
+-- a word after a word
 abbrev pub word_line : List ℕ → List ℕ → List ℕ
 word_line word second = line (word ++ (32 ∷ second))
 
@@ -108,11 +108,11 @@ json_counts f = codes ",\"sections\":" ++ (decimal f.all.count
 abbrev pub json_front : Facts → List ℕ
 json_front f = json_head f ++ (list_text (map root_json f.roots.items) ++ json_counts f)
 
--- behind the list of the hashes
+-- after the list of the hashes
 abbrev pub json_end : ℕ → List ℕ
 json_end missing = codes ",\"missing\":" ++ (decimal missing ++ codes "}\n")
 
--- behind the list of the codecs
+-- after the list of the codecs
 abbrev pub json_hashes : Facts → List ℕ
 json_hashes f = codes ",\"hashes\":" ++ (list_text (map (row_json Hash) f.hashes.items) ++ json_end f.missing)
 

@@ -95,11 +95,11 @@ IsInspected form index b well out told = ((facts : Facts) × AreFactsOfFile b (t
 
 -- ---- its steps
 
--- what is known behind these sections of a file of these roots
+-- what is known after these sections of a file of these roots
 abbrev pub Knows : Inspecting → List (List ℕ) → List Section → Type 0
 Knows it roots sections = IsAfter it.check roots sections × AreCounts it.counts (measures sections)
 
--- what is known behind this section, whatever stood before
+-- what is known after this section, whatever stood before
 abbrev pub LearnsNext : SinkTakes Inspecting AllocError
 LearnsNext s old result new = OnOk result ((roots : List (List ℕ)) (sections : List Section)
     → Knows old roots sections → Knows new roots (sections ++ s ∷ []))

@@ -25,7 +25,7 @@ fn next_byte<R: Read>(input: &mut R) -> Result<Option<u8>, ToolError>
     }
 }
 
-/// Puts the byte behind the others.
+/// Puts the byte after the others.
 fn push_byte(bytes: &mut Vec<u8>, byte: u8) -> Result<(), AllocError>
     ensures { OnOk result (bytes.new.items ≡ bytes.old.items ++ byte ∷ []) }
 {

@@ -33,7 +33,7 @@ pub enum Form {
     Json,
 }
 
-/// What is known of a file behind some of its sections.
+/// What is known of a file after some of its sections.
 #[derive(Drop)]
 struct Inspecting {
     check: CarCheck,
@@ -41,7 +41,7 @@ struct Inspecting {
 }
 
 impl Inspecting {
-    /// Behind the header, with these roots.
+    /// After the header, with these roots.
     fn new(alloc: Global, roots: &[Cid]) -> Result<Inspecting, AllocError>
         ensures { IfOk result (λ it. Knows it (forms roots.now) []) }
     {
@@ -134,7 +134,7 @@ fn facts_of(
     })
 }
 
-/// What is told of a file of these roots, behind all of its sections.
+/// What is told of a file of these roots, after all of its sections.
 fn facts_behind(
     alloc: Global,
     front: &[u8],

@@ -25,7 +25,7 @@ fn root_json(alloc: Global, root: &Root) -> Result<Vec<u8>, AllocError>
     Ok(out)
 }
 
-/// The objects of these roots, each behind a comma.
+/// The objects of these roots, each after a comma.
 fn more_roots(alloc: Global, roots: &[Root]) -> Result<Vec<u8>, AllocError>
     ensures { IfOk result (λ v. v.items ≡ flat_map (λ r. 44 ∷ root_json r) roots.now) }
 {
@@ -88,7 +88,7 @@ fn row_json(alloc: Global, kind: Kind, row: &(u64, Row)) -> Result<Vec<u8>, Allo
     Ok(out)
 }
 
-/// The objects of these codecs or hashes, each behind a comma.
+/// The objects of these codecs or hashes, each after a comma.
 fn more_rows(alloc: Global, kind: Kind, rows: &[(u64, Row)]) -> Result<Vec<u8>, AllocError>
     ensures { IfOk result (λ v. v.items ≡ flat_map (λ r. 44 ∷ row_json kind r) rows.now) }
 {
@@ -133,7 +133,7 @@ fn json_head(alloc: Global, facts: &Facts) -> Result<String, AllocError>
     )
 }
 
-/// What stands behind the roots, and in front of the list of the codecs.
+/// What follows the roots, and in front of the list of the codecs.
 fn json_counts(alloc: Global, facts: &Facts) -> Result<String, AllocError>
     ensures { IfOk result (λ text. string_bytes text ≡ json_counts facts.now) }
 {
@@ -143,7 +143,7 @@ fn json_counts(alloc: Global, facts: &Facts) -> Result<String, AllocError>
     )
 }
 
-/// The texts, one behind the other.
+/// The texts, one after the other.
 fn three(alloc: Global, first: &[u8], second: &[u8], third: &[u8]) -> Result<Vec<u8>, AllocError>
     ensures { IfOk result (λ v. v.items ≡ first.now ++ (second.now ++ third.now)) }
 {
@@ -164,7 +164,7 @@ fn json_front(alloc: Global, facts: &Facts) -> Result<Vec<u8>, AllocError>
     three(alloc, head.as_bytes(), &roots, counts.as_bytes())
 }
 
-/// What stands behind the list of the hashes.
+/// What follows the list of the hashes.
 fn json_end(alloc: Global, missing: u64) -> Result<String, AllocError>
     ensures { IfOk result (λ text. string_bytes text ≡ json_end missing) }
 {

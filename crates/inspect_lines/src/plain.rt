@@ -11,7 +11,7 @@ use block_lines::line_of;
 use cid_text::cid_text;
 use std::alloc::{AllocError, Global};
 
-/// Puts the line of a number behind a word.
+/// Puts the line of a number after a word.
 pub fn push_number(
     alloc: Global,
     out: &mut Vec<u8>,
@@ -25,7 +25,7 @@ pub fn push_number(
     Ok(())
 }
 
-/// Puts the line of a word behind a word.
+/// Puts the line of a word after a word.
 fn push_word(alloc: Global, out: &mut Vec<u8>, word: &str, second: &str) -> Result<(), AllocError>
     ensures { OnOk result (out.new.items ≡ out.old.items ++ word_line word.now second.now) }
 {

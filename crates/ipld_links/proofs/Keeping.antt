@@ -82,7 +82,7 @@ pub place_named : (o : Option ℕ) (p end : ℕ) → p ≡ unwrap_or o end → (
 place_named None p end e other = absurd (other e)
 place_named (Some q) p end e other = ap Some (sym e)
 
--- no name stood there: the place is the one behind the last
+-- no name stood there: the place is the one after the last
 pub none_named : (s : HeldNames) (n p end : ℕ) → end ≡ length s.names.items → p ≡ unwrap_or (get nat_cmp s.places n) end → p ≡ end → name_in_row s n ≡ None
 none_named s n p end long e at = by (get nat_cmp s.places n) e
   where

@@ -154,7 +154,7 @@ abbrev pub AreLinksOf : (List (List ℕ) → Type 0) → List CidParts → Type 
 AreLinksOf IsSo links = IsSo (forms links)
     ⊎ ((links ≡ []) × ((all : List (List ℕ)) → ¬ IsSo all))
 
--- the links are CIDs, and stand behind what the list had
+-- the links are CIDs, and stand after what the list had
 abbrev pub PushesAll : List CidParts → List CidParts → List CidParts → Type 0
 PushesAll links old new = AllByRecursion AreCidParts links × (new ≡ old ++ links)
 

@@ -10,7 +10,7 @@ use crate::name::DAG_PB;
 use ipld_tree::Cid;
 use std::alloc::{AllocError, Global};
 
-/// The first link of fields of a node in a row, and the bytes behind it.
+/// The first link of fields of a node in a row, and the bytes after it.
 fn next_field_link(fields: &[u8]) -> Option<(Cid, &[u8])>
     requires { (links : List (List ℕ)) × HoldsFieldLinks fields.now links }
     ensures link { (links : List (List ℕ)) → HoldsFieldLinks fields.now links
@@ -25,7 +25,7 @@ fn next_field_link(fields: &[u8]) -> Option<(Cid, &[u8])>
     }
 }
 
-/// The first link of what stands in a row in blocks of the codec, and the bytes behind it.
+/// The first link of what stands in a row in blocks of the codec, and the bytes after it.
 pub(crate) fn next_link(codec: u64, row: &[u8]) -> Option<(Cid, &[u8])>
     requires { (links : List (List ℕ)) × HoldsLinksAs codec row.now links }
     ensures link { (links : List (List ℕ)) → HoldsLinksAs codec row.now links

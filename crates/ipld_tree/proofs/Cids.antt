@@ -8,7 +8,7 @@ use Rattle.ipld_tree.specs.CidHash.{same_cid, is_equal}
 use Rattle.std.proofs.lemmas.Nat.{div_below}
 use Rattle.ipld_tree.specs.Cid.{varint_groups, varint, CidParts, AreCidParts, cid_bytes, IsCid, cid_cmp}
 
--- the lowest group, last or with more behind it
+-- the lowest group, last or with more after it
 pub one_group : (more n : ℕ) → n < 128 → varint_groups (suc more) n ≡ n ∷ []
 one_group more n h = rw (lt-ltb n 128 h) refl
 

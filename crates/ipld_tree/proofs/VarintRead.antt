@@ -11,7 +11,7 @@ use Rattle.ipld_tree.proofs.Cids.{one_group, more_groups}
 abbrev pub IsRest : ℕ → ℕ → Type 0
 IsRest i m = (0 < m) ⊎ (i ≡ 0)
 
--- a number whose varint begins with the bytes has these groups behind the first i
+-- a number whose varint begins with the bytes has these groups after the first i
 pub record HasRest (bytes : List ℕ) (i unit left n : ℕ) (x y : List ℕ) : Type 0 where
   pub rest : ℕ
   pub is_rest : IsRest i rest
@@ -40,7 +40,7 @@ no_varint_byte_read bytes = record {
 
 -- ---- one group
 
--- at the front of groups stands the last one, or one with more behind it
+-- at the front of groups stands the last one, or one with more after it
 first_group : (k m g : ℕ) (s y : List ℕ) → g ∷ s ≡ varint_groups (suc k) m ++ y
     → (m < 128) × (g ≡ m) ⊎ (128 ≤ m) × (g ≡ 128 + m % 128) × (s ≡ varint_groups k (m / 128) ++ y)
 first_group k m g s y e = elim (cases_lt m 128) [

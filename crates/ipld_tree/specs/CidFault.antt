@@ -20,7 +20,7 @@ IsVarintFault InvalidVarint b = IsNoVarint b
 IsVarintFault Truncated b = IsCutVarint b
 IsVarintFault _ b = ⊥
 
--- behind 01 stand the varints of these numbers, and then the rest
+-- after 01 stand the varints of these numbers, and then the rest
 pub record HasVarints (b numbers rest : List ℕ) : Type 0 where
   pub fit : AllByRecursion (λ n. n < 2 ^ 64) numbers
   pub is : b ≡ 0x01 ∷ (flat_map varint numbers ++ rest)
@@ -29,7 +29,7 @@ pub record HasVarints (b numbers rest : List ℕ) : Type 0 where
 abbrev pub AtVarint : List ℕ → (List ℕ → Type 0) → Type 0
 AtVarint b P = (numbers rest : List ℕ) × HasVarints b numbers rest × (length numbers ≤ 2) × P rest
 
--- P holds of the length of the digest and the bytes behind it
+-- P holds of the length of the digest and the bytes after it
 abbrev pub AtDigest : List ℕ → (ℕ → List ℕ → Type 0) → Type 0
 AtDigest b P = (codec hash_code n : ℕ) × (rest : List ℕ)
     × HasVarints b (codec ∷ hash_code ∷ n ∷ []) rest × P n rest

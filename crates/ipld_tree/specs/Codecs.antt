@@ -26,7 +26,7 @@ HasNoEncoding is_encoding datum = IfSome datum (λ d. (b : List ℕ) → ¬ is_e
 
 -- Known bytes of the device grew by an encoding of the value's data. Only a value that has none is
 -- refused without an excuse; else a beginning of each encoding went out. What the device held stays
--- behind each refusal.
+-- after each refusal.
 abbrev pub Encodes : {D E : Type 0} → (List ℕ → D → Type 0) → (E → Type 0) → Option D
     → Option (List ℕ) → Result (Unit {0}) E → Option (List ℕ) → Type 0
 Encodes is_encoding is_excuse datum old result new = MatchResult result

@@ -18,6 +18,6 @@ pub enum CidError {
     #[error("the CID is cut short")]
     Truncated,
     /// Bytes come after the digest.
-    #[error("bytes stand behind the CID")]
+    #[error("bytes follow the CID")]
     TrailingBytes,
 }

@@ -23,7 +23,7 @@ length_put_at at bs old = by (ltb (length old) (at + length bs)) refl
     by true e = refl
     by false e = length_filled at bs old (ltb-false (length old) (at + length bs) (sym e))
 
--- bytes behind those that stand at the front
+-- bytes after those that stand at the front
 pub put_behind : (bs more before : List ℕ) → length bs + length more ≤ length before → put_at (length bs) more (bs ++ drop (length bs) before) ≡ (bs ++ more) ++ drop (length (bs ++ more)) before
 put_behind bs more before h =
     let rest = drop (length bs) before in
@@ -54,7 +54,7 @@ placed at bs old h =
     let behind : at + length bs ≡ length (front ++ bs) = omega (arith, h, length-append front bs, length-take-le at old (omega (arith, h))) in
     put_fits at bs old h ∙ sym (append_assoc front bs (drop (at + length bs) old)) ∙ ap (λ n. (front ++ bs) ++ drop n old) behind
 
--- bytes behind others
+-- bytes after others
 pub put_both : (at middle end : ℕ) (s r old now new : List ℕ) → at + length (s ++ r) ≤ length old → PutsAt s at old now middle → PutsAt r middle now new end → PutsAt (s ++ r) at old new end
 put_both at middle end s r old now new h p q =
     let front = take at old in
@@ -70,7 +70,7 @@ put_both at middle end s r old now new h p q =
           ∙ sym (placed at (s ++ r) old h),
     )
 
--- room for the bytes behind them
+-- room for the bytes after them
 pub room_behind : (at middle : ℕ) (s r old now : List ℕ) → at + length (s ++ r) ≤ length old → PutsAt s at old now middle → middle + length r ≤ length now
 room_behind at middle s r old now h p = omega (arith, h, length-append s r, p.0, ap length p.1, length_put_at at s old)
 

@@ -1,4 +1,4 @@
--- Bytes in memory, behind those that stay before them.
+-- Bytes in memory, after those that stay before them.
 use Rattle.std.specs.Prelude.{◌≡◌, ℕ, suc, ◌+◌, List, ◌∷◌, ◌++◌, length, take, drop, if◌then◌else◌, nat_lt}
 use Rattle.dagcbor_heads.specs.Head.{head}
 
@@ -12,11 +12,11 @@ abbrev pub put_at : ℕ → List ℕ → List ℕ → List ℕ
 put_at at bytes old = if nat_lt (length old) (at + length bytes) then old
     else take at old ++ (bytes ++ drop (at + length bytes) old)
 
--- the bytes were put at the place, and this is the place behind them
+-- the bytes were put at the place, and this is the place after them
 abbrev pub PutsAt : List ℕ → ℕ → List ℕ → List ℕ → ℕ → Type 0
 PutsAt s at old new end = (end ≡ at + length s) × (new ≡ put_at at s old)
 
--- a string of the major type, and a link: their heads, and the bytes behind them
+-- a string of the major type, and a link: their heads, and the bytes after them
 abbrev pub string_form : ℕ → List ℕ → List ℕ
 string_form major s = head major (length s) ++ s
 

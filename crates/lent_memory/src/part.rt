@@ -24,7 +24,7 @@ pub fn link_length(cid: &[u8]) -> usize
     2 + head_length(1 + cid.len() as u64) + 1 + cid.len()
 }
 
-/// Puts a string of the major type at the place: the place behind it.
+/// Puts a string of the major type at the place: the place after it.
 #[inline(always)]
 pub fn put_string(out: &mut [u8], at: usize, major: u8, bytes: &[u8]) -> usize
     requires small { major ≤ 7 }
@@ -35,7 +35,7 @@ pub fn put_string(out: &mut [u8], at: usize, major: u8, bytes: &[u8]) -> usize
     put(out, behind, bytes)
 }
 
-/// Puts a link of this CID at the place: the place behind it.
+/// Puts a link of this CID at the place: the place after it.
 #[inline(always)]
 pub fn put_link(out: &mut [u8], at: usize, cid: &[u8]) -> usize
     requires { at + length (link_form cid.now) ≤ length out.old }

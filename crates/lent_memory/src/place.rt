@@ -4,7 +4,7 @@ ghost use Rattle.std.specs.Prelude.{◌≡◌, ◌+◌, ◌≤◌, length, ℕ};
 ghost use Rattle.dagcbor_heads.specs.Head.{head};
 ghost use Rattle.lent_memory.specs.Puts.{PutsAt};
 
-/// Puts the bytes at the place: the place behind them.
+/// Puts the bytes at the place: the place after them.
 #[inline(always)]
 pub fn put(out: &mut [u8], at: usize, bytes: &[u8]) -> usize
     requires { at + length bytes.now ≤ length out.old }

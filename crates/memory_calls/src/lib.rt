@@ -1,4 +1,4 @@
-//! What the C library that takes memory does behind its calls: DAG-JSON, from and to blocks; and of a
+//! What the C library that takes memory does for its calls: DAG-JSON, from and to blocks; and of a
 //! repository (AT Protocol) that is read whole, or of its commit alone, a block; and the file that
 //! proves a record; each time, or a line that tells why there is none.
 #![tactic(auto)]

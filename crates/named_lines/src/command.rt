@@ -20,7 +20,7 @@ use ipld_tree::Cid;
 use std::alloc::Global;
 use std::io::Write;
 
-/// The file behind the word, if that is `index`, and the file is not standard input.
+/// The file after the word, if that is `index`, and the file is not standard input.
 fn file_behind<'a>(word: &str, file: &'a str) -> Option<&'a str>
     ensures { MatchOption result ((f : List ℕ) → ¬ IsIndex (word.now ∷ file.now ∷ []) f)
         (λ f. IsIndex (word.now ∷ file.now ∷ []) f.now) }

@@ -19,7 +19,7 @@ use ipld_tree::Cid;
 use std::alloc::Global;
 use std::io::Write;
 
-/// What is asked of which root, and the text that has the path behind it.
+/// What is asked of which root, and the text that has the path after it.
 #[derive(Clone, Copy)]
 pub struct PathWords<'a> {
     pub asked: Asked,
@@ -38,7 +38,7 @@ fn asked_on<'a>(asked: Asked, text: &'a str) -> Option<PathWords<'a>>
     Some(PathWords { asked, root, text })
 }
 
-/// What the word asks of the text behind it.
+/// What the word asks of the text after it.
 fn of_two<'a>(word: &str, text: &'a str) -> Option<PathWords<'a>>
     ensures { MatchOption result ((asked : Asked) (n : CidParts)
         → ¬ IsCommand (word.now ∷ text.now ∷ []) (asking asked n))
@@ -52,7 +52,7 @@ fn of_two<'a>(word: &str, text: &'a str) -> Option<PathWords<'a>>
     }
 }
 
-/// What the word asks of the text behind it, with this option.
+/// What the word asks of the text after it, with this option.
 fn of_three<'a>(word: &str, option: &str, text: &'a str) -> Option<PathWords<'a>>
     ensures { MatchOption result ((asked : Asked) (n : CidParts)
         → ¬ IsCommand (word.now ∷ option.now ∷ text.now ∷ []) (asking asked n))

@@ -13,7 +13,7 @@ at_index P [] h n l = absurd (omega (arith, l))
 at_index P (x ∷ xs) h zero l = h.0
 at_index P (x ∷ xs) h (suc n) l = at_index P xs h.1 n (omega (arith, l))
 
--- each is less than those behind it
+-- each is less than those after it
 abbrev Rising : List ℕ → Type 0
 Rising [] = ⊤
 Rising (x ∷ xs) = AllByRecursion (λ y. x < y) xs × Rising xs

@@ -19,7 +19,7 @@ change_word None new = codes "added "
 change_word (Some old) None = codes "removed "
 change_word (Some old) (Some new) = codes "changed "
 
--- a name behind a space, if there is one
+-- a name after a space, if there is one
 abbrev pub name_word : Option CidParts → List ℕ
 name_word None = []
 name_word (Some name) = 32 ∷ cid_text name

@@ -34,7 +34,7 @@ fn change_word(change: &Change) -> &'static [u8]
     }
 }
 
-/// Appends a name behind a space, if there is one.
+/// Appends a name after a space, if there is one.
 pub fn push_name(name: &Option<Cid>, out: &mut Vec<u8>) -> Result<(), AllocError>
     ensures { OnOk result (out.new.items ≡ out.old.items ++ name_word name.now) }
 {
@@ -125,7 +125,7 @@ fn changes_between<R: BufRead, S: BufRead>(
 /// Writes a line for each key whose records differ between two files, each the whole repository of
 /// its first root, in the order of keys: `added <key> <CID>`, `removed <key> <CID>`, or
 /// `changed <key> <CID before> <CID after>`. Or writes nothing, and tells why one of them is no such
-/// file, behind `old: ` or `new: `, the old one first. Whether both are. The blocks of one file are
+/// file, after `old: ` or `new: `, the old one first. Whether both are. The blocks of one file are
 /// in memory at a time.
 pub fn write_changes<R: BufRead, S: BufRead, W: Write, V: Write>(
     alloc: Global,

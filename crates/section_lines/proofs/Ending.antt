@@ -67,7 +67,7 @@ module _ {S : Type 0} (takes : SinkTakes S PartFault) (work : S → Work) (step 
       let done : IsFinished (work now) (record (work now) { whole = after.whole }) = subst (λ (p : Plan). (x : List ℕ) → (work now).written ≡ Some x → AddsFiles (work now).whole after.whole ((part_name p.asked.now.prefix.now (work now).number, x) ∷ [])) (sym at.plan_is) k in
       subst (λ ps. AddsFiles first after.whole (files_of prefix all ps)) (sym (parts_now plan all first is (work now) ss at)) (whole_next plan all first is (work now) (record (work now) { whole = after.whole }) ss at done)
 
-  -- the last part, behind these sections, which are all or those before a fault
+  -- the last part, after these sections, which are all or those before a fault
   last_part : (ss : List Section) (now : S) (after : Made) (end : Ended PartFault) (r : Result (Ended PartFault) ToolError) (at : Divided plan all first (work now) ss) → HasSections b roots ss
       → (AddsFiles first after.whole (split_files asked roots ss) → SplitsEnded asked b (Ok end) (making first after.whole after.has))
       → FinishesLast plan end (record { number = (work now).number; written = (work now).written }) (made (work now).whole (work now).has) r after → SplitsEnded asked b r (making first after.whole after.has)

@@ -86,7 +86,7 @@ found_one (Named names) s ks false e =
 found_push : (kept : Kept) (done : List Section) (s : Section) → found_with kept (found_in kept (kept_sections kept done)) s ≡ found_in kept (kept_sections kept (done ++ s ∷ []))
 found_push kept done s = found_one kept s (kept_sections kept done) (keeps kept s.0) refl ∙ sym (ap (found_in kept) (kept_push kept done s))
 
--- what went out and was found behind these sections
+-- what went out and was found after these sections
 pub record Sent (f : Filter) (roots : List CidParts) (first : Option (List ℕ)) (w : Work) (done : List Section) : Type 0 where
   pub kept : w.kept ≡ f.kept
   pub out : Appends first w.written (filtered f roots done)

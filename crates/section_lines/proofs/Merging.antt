@@ -187,7 +187,7 @@ behind_push n [] b roots more (p ∷ places) at h is m = absurd h
 behind_push n (c ∷ bs) b roots more [] at h is m = absurd h
 behind_push n (c ∷ bs) b roots more (p ∷ places) at (f, o, i, k, rest, e) is m = (f, o ++ more, i, k, behind_push (n + 1) bs b o more places at rest is (omega (arith, m)), ap (λ l. l ++ more) e ∙ append_assoc f o more)
 
--- so many files were taken, behind whose sections these places are left
+-- so many files were taken, after whose sections these places are left
 pub record Mid (bs : List (List ℕ)) (file_roots roots : List CidParts) (first : Option (List ℕ)) (places : List Place) (old w : Work) : Type 0 where
   pub before : List (List ℕ)
   pub after : List (List ℕ)

@@ -38,7 +38,7 @@ module _ (IsFirst : List ℕ → Type 0) (IsSaid : Bool → List ℕ → List �
   told_so said text well (Err e) after out first is (inl none) = inl (said, [], subst IsFirst (sym (append-nil said)) first, inl refl, out, none)
   told_so said text well (Err e) after out first is (inr h) = inr (well, said, h.0, h.1, subst (IsSaid well said) (sym h.2) is, h.3, out, h.4)
 
-  -- the run broke off behind what was written
+  -- the run broke off after what was written
   pub stopped_so : (said : List ℕ) (r : Result Bool ToolError) (e : ToolError) (after : Option (List ℕ)) → Appends old new said → IsFirst said → r ≡ Err e → after ≡ heard → SaysSent IsFirst IsSaid old heard r new after
   stopped_so said r e after out first is same =
       let at : SaysSent IsFirst IsSaid old heard (Err e) new heard = inl (said, [], subst IsFirst (sym (append-nil said)) first, inl refl, out, Appends-nil heard) in

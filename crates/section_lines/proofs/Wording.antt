@@ -82,7 +82,7 @@ pick false x y text e = inr e
 same_text : (name text : List ℕ) → Some name ≡ Some text → text ≡ name
 same_text name text e = let same : name ≡ text = cc e in sym same
 
--- the names behind the first ones
+-- the names after the first ones
 abbrev behind_5 : ℕ → Option (List ℕ)
 behind_5 n = if n == 0x0200 then Some (codes "json") else None
 

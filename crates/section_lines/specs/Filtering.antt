@@ -20,7 +20,7 @@ filtered f roots sections = car_bytes (forms (roots_of f.roots.items f.kept root
 abbrev pub missing_in : Filter → List Section → List CidParts
 missing_in f sections = missing_of f.kept (found_in f.kept (kept_sections f.kept sections))
 
--- what is written where a fault of the bytes stands in front of the header, or behind these sections
+-- what is written where a fault of the bytes stands in front of the header, or after these sections
 abbrev pub IsFilteredBefore : Filter → List ℕ → CarError Infallible → List ℕ → Type 0
 IsFilteredBefore f b e out = (RefusesStart e b × (out ≡ []))
     ⊎ ((roots : List CidParts) × (sections : List Section) × (n : ℕ) × (rest : List ℕ)

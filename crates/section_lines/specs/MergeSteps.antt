@@ -29,7 +29,7 @@ use Rattle.dagcbor_cli.specs.declared.fault.ToolError.{ToolError}
 
 -- ---- roots
 
--- these roots came behind the others: whatever comes then is listed as behind them
+-- these roots came after the others: whatever comes then is listed as after them
 abbrev pub AddsRoots : List CidParts → Roots → Roots → Type 0
 AddsRoots roots old new = (more : List CidParts)
     → (new.listed.items ++ once_with new.seen.keys more ≡ old.listed.items ++ once_with old.seen.keys (roots ++ more))
@@ -62,14 +62,14 @@ Merges s old result new = (new.through ≡ old.through) × MatchResult result
     × Appends old.written new.written (section_bytes s)))
     (λ e. (¬ IsHeldName s.0 old.held) × BreaksLine (λ out. out ≡ section_bytes s) old.written new.written e)
 
--- what went out, and which names are held, behind the header of these roots and these sections
+-- what went out, and which names are held, after the header of these roots and these sections
 pub record Sent (roots : List CidParts) (first : Option (List ℕ)) (w : Work) (done : List Section) : Type 0 where
   pub held : (c : CidParts) → IsHeldName c w.held ↔ IsHeldInFile c done
   pub left : List Section
   pub merged : IsMerged [] done left
   pub out : Appends first w.written (car_bytes (forms roots) left)
 
--- The going out broke off: of what is written of the sections before these, and of one, or none, behind
+-- The going out broke off: of what is written of the sections before these, and of one, or none, after
 -- them, the former went out, and a front of the rest.
 abbrev pub BreaksSections : (List Section → Type 0) → List CidParts → Option (List ℕ) → ToolError → Option (List ℕ)
     → Type 0
@@ -79,7 +79,7 @@ BreaksSections IsFront roots first e new = (ss more : List Section) × (said tex
 
 -- ---- one file
 
--- what stands behind a file's header: at which place the file is, how many bytes of it, where that is
+-- what follows a file's header: at which place the file is, how many bytes of it, where that is
 -- told, and the input that has them
 pub record Place : Type 0 where
   pub number : ℕ
@@ -89,7 +89,7 @@ pub record Place : Type 0 where
 abbrev pub place_of : {R : Type 0} → (R → Reading) → Behind R → Place
 place_of reading f = record { number = f.number; extent = f.extent; source = input_reading reading f.input }
 
--- the bytes begin with the header of a file of these roots, behind which the place is
+-- the bytes begin with the header of a file of these roots, after which the place is
 abbrev pub IsBehind : List ℕ → List CidParts → Place → Type 0
 IsBehind b roots at = (start : Reading) × TakesStart start (forms roots) at.extent at.source × (start.left ≡ Some b)
 
@@ -97,13 +97,13 @@ IsBehind b roots at = (start : Reading) × TakesStart start (forms roots) at.ext
 abbrev pub HasFirst : List ℕ → List CidParts → List Section → Type 0
 HasFirst b roots ss = (n : ℕ) × (rest : List ℕ) × IsFileFront b (forms roots) ss n rest
 
--- no section stands behind these, though bytes do, or are wanting, of which a line tells
+-- no section follows these, though bytes do, or are wanting, of which a line tells
 abbrev pub TellsFileBreak : List ℕ → List CidParts → ℕ → List Section → List ℕ → Type 0
 TellsFileBreak b roots number ss told = (n : ℕ) × (rest : List ℕ) × (e : CarError Infallible)
     × IsFileFront b (forms roots) ss n rest × IsNoFile b × RefusesSection n e rest
     × (told ≡ file_line number (refused_line e))
 
--- behind the sections of other files those of one went out, or the first ones
+-- after the sections of other files those of one went out, or the first ones
 abbrev pub MergesFile : Place → Work → Result (Option (Vec ℕ Global)) ToolError → Work → Type 0
 MergesFile at old result new = (b : List ℕ) (file roots : List CidParts) (first : Option (List ℕ)) (done : List Section)
     → IsBehind b file at → Sent roots first old done → (new.through ≡ old.through) × MatchResult result
@@ -121,7 +121,7 @@ TellsEnd number (Err e) result = result ≡ Err e
 
 -- ---- all files
 
--- the bytes begin with the headers of files, behind which the places are, from this one on
+-- the bytes begin with the headers of files, after which the places are, from this one on
 abbrev pub AreBehind : ℕ → List (List ℕ) → List CidParts → List Place → Type 0
 AreBehind n [] roots [] = roots ≡ []
 AreBehind n (b ∷ bs) roots (at ∷ places) = (first more : List CidParts) × IsBehind b first at × (at.number ≡ n)
@@ -166,7 +166,7 @@ abbrev pub given_or : List CidParts → List CidParts → List CidParts
 given_or [] roots = roots
 given_or (given ∷ more) roots = given ∷ more
 
--- what is told behind the sections
+-- what is told after the sections
 abbrev pub TellsFault : Result (Option (Vec ℕ Global)) ToolError → Option (List ℕ) → Result Bool ToolError
     → Option (List ℕ) → Type 0
 TellsFault (Ok None) heard result after = (result ≡ Ok true) × (after ≡ heard)
@@ -179,7 +179,7 @@ MergesSections places r = (bs : List (List ℕ)) (given roots : List CidParts) (
     → AreBehind 1 bs roots places → Appends first r.old (header_bytes (forms (merged_roots given roots)))
     → SaysSent (IsMergedFront given bs) (IsMergedOf given bs) first r.heard r.answer r.new r.after
 
--- all that is written of the files went out, behind whose headers the places are, and of which these
+-- all that is written of the files went out, after whose headers the places are, and of which these
 -- roots are listed
 abbrev pub MergesBegun : List CidParts → List CidParts → List Place → Run → Type 0
 MergesBegun given listed places r = (bs : List (List ℕ)) (roots : List CidParts) → AreBehind 1 bs roots places

@@ -39,7 +39,7 @@ IsMergedFile roots sections out = (left : List Section) × IsMerged [] sections 
 
 -- ---- files
 
--- the bytes are files, whose roots and sections these are, one file behind the other
+-- the bytes are files, whose roots and sections these are, one file after the other
 abbrev pub AreFiles : List (List ℕ) → List CidParts → List Section → Type 0
 AreFiles [] roots sections = (roots ≡ []) × (sections ≡ [])
 AreFiles (b ∷ bs) roots sections = (first more : List CidParts) × (ss others : List Section)
@@ -83,7 +83,7 @@ TellsNoneBegins bs told = (before : List (List ℕ)) × (b : List ℕ) × (after
     × (roots : List CidParts) × (e : CarError Infallible) × (bs ≡ before ++ b ∷ after) × BeginFiles before roots
     × IsNoFile b × RefusesStart e b × (told ≡ file_line (length before + 1) (refused_line e))
 
--- behind these sections no section stands, though bytes do, or are wanting, and a line tells of which
+-- after these sections no section stands, though bytes do, or are wanting, and a line tells of which
 -- file and why
 abbrev pub TellsBreak : List (List ℕ) → List CidParts → List Section → List ℕ → Type 0
 TellsBreak bs roots sections told = (f : FilesFront bs roots sections) × (e : CarError Infallible)

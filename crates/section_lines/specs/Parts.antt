@@ -47,7 +47,7 @@ split_files asked roots sections =
 
 -- ---- laws
 
--- the sections of all parts, one part behind the other, are these
+-- the sections of all parts, one part after the other, are these
 abbrev pub PartsAreAll : Type 0
 PartsAreAll = (size : ℕ) (roots : List (List ℕ)) (sections : List Section)
     → flat_map (λ part. part) (parts size roots sections) ≡ sections

@@ -188,7 +188,7 @@ SplitsEnded asked b (Ok (ended.Stopped (faults.Exists name))) m = (files : List 
 SplitsEnded asked b (Ok (ended.Stopped (faults.Failed e))) m = BreaksParts asked b m
 SplitsEnded asked b (Err e) m = BreaksParts asked b m
 
--- the sections behind the header of a file of these roots are split
+-- the sections after the header of a file of these roots are split
 abbrev pub SplitsSections : Plan → Option ℕ → Reading → Result (Ended PartFault) ToolError → Making → Type 0
 SplitsSections plan extent source result m = (start : Reading) (roots : List CidParts) (b : List ℕ)
     → TakesStart start (forms roots) extent source → start.left ≡ Some b → IsPlanOf roots plan
@@ -209,7 +209,7 @@ TellsSplit (Ok (ended.Stopped (faults.Exists name))) heard result after =
 TellsSplit (Ok (ended.Stopped (faults.Failed e))) heard result after = (result ≡ Err e) × (after ≡ heard)
 TellsSplit (Err e) heard result after = (result ≡ Err e) × (after ≡ heard)
 
--- the file of these roots is split, behind whose header the input stands
+-- the file of these roots is split, after whose header the input stands
 abbrev pub SplitsBehind : Split → List CidParts → Behind → Making → Option (List ℕ) → Result SplitEnd ToolError
     → Option (List ℕ) → Type 0
 SplitsBehind asked roots at m heard result after = (start : Reading) (b : List ℕ)

@@ -12,7 +12,7 @@ abbrev pub AreSizeAndFiles : List (List ℕ) → ℕ → List ℕ → List ℕ �
 AreSizeAndFiles (text ∷ it ∷ start ∷ []) size file prefix = IsSizeText text size × (file ≡ it) × (prefix ≡ start)
 AreSizeAndFiles _ size file prefix = ⊥
 
--- they stand behind `--size`
+-- they stand after `--size`
 abbrev pub HasSizeAndFiles : List (List ℕ) → ℕ → List ℕ → List ℕ → Type 0
 HasSizeAndFiles words size file prefix = (rest : List (List ℕ)) × (words ≡ codes "--size" ∷ rest)
     × AreSizeAndFiles rest size file prefix

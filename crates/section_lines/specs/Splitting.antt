@@ -53,7 +53,7 @@ IsSplitFront asked b files = (files ≡ []) ⊎ ((roots : List CidParts) × (sec
     × (others : List Named) × HasSections b roots sections
     × (split_files asked roots sections ≡ files ++ others))
 
--- which files are whole before a split and behind it, and which names files have behind it, where these
+-- which files are whole before a split and after it, and which names files have after it, where these
 -- are told
 pub record Making : Type 0 where
   pub old : Option (List Named)

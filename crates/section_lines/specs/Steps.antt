@@ -36,7 +36,7 @@ filtering_work contents f = record {
   through = f.output.ghost_name;
 }
 
--- what goes out of a section, and the names that are found behind it
+-- what goes out of a section, and the names that are found after it
 abbrev pub sent_of : Kept → Section → List ℕ
 sent_of kept s = if keeps kept s.0 then section_bytes s else []
 
@@ -50,7 +50,7 @@ Filters s old result new = (new.through ≡ old.through) × (new.kept ≡ old.ke
     × (new.found ≡ found_with old.kept old.found s))
     (λ e. BreaksLine (λ out. out ≡ sent_of old.kept s) old.written new.written e)
 
--- what is told behind the sections, where these names were found
+-- what is told after the sections, where these names were found
 abbrev pub TellsRest : Kept → List CidParts → Result (Ended ToolError) ToolError → Option (List ℕ)
     → Result Bool ToolError → Option (List ℕ) → Type 0
 TellsRest kept found (Ok ended.Whole) heard result after =
@@ -61,7 +61,7 @@ TellsRest kept found (Err e) heard result after = (result ≡ Err e) × (after �
 
 -- ---- the whole
 
--- what stands behind a file's header: how many bytes of the file, where that is told, and the input
+-- what follows a file's header: how many bytes of the file, where that is told, and the input
 -- that has them
 pub record Behind : Type 0 where
   pub extent : Option ℕ
@@ -81,14 +81,14 @@ pub record Run : Type 0 where
 abbrev pub run : Option (List ℕ) → Option (List ℕ) → Result Bool ToolError → Option (List ℕ) → Option (List ℕ) → Run
 run old heard answer new after = record { old = old; heard = heard; answer = answer; new = new; after = after }
 
--- the header of what is written went out, and then all that is kept behind that of these roots
+-- the header of what is written went out, and then all that is kept after that of these roots
 abbrev pub FiltersSections : Filter → Behind → Run → Type 0
 FiltersSections f at r = (start : Reading) (roots : List CidParts) (first : Option (List ℕ)) (b : List ℕ)
     → TakesStart start (forms roots) at.extent at.source → start.left ≡ Some b
     → Appends first r.old (header_bytes (forms (roots_of f.roots.items f.kept roots)))
     → SaysSent (IsFilteredFront f b) (IsFiltered f b) first r.heard r.answer r.new r.after
 
--- all that is written of a file of these roots went out, behind whose header the input stands
+-- all that is written of a file of these roots went out, after whose header the input stands
 abbrev pub FiltersHeader : Filter → List CidParts → Behind → Run → Type 0
 FiltersHeader f roots at r = (start : Reading) (b : List ℕ) → TakesStart start (forms roots) at.extent at.source
     → start.left ≡ Some b → SaysSent (IsFilteredFront f b) (IsFiltered f b) r.old r.heard r.answer r.new r.after

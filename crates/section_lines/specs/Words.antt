@@ -22,7 +22,7 @@ IsCodecText text n = (codec_name n ≡ Some text) ⊎ IsHexText text n
 
 -- ---- roots
 
--- the texts that stand behind `--root` in front of all else, and the words behind them
+-- the texts that follow `--root` in front of all else, and the words after them
 abbrev pub root_texts : List (List ℕ) → List (List ℕ)
 root_texts (option ∷ text ∷ words) = if bytes_eq option (codes "--root") then text ∷ root_texts words else []
 root_texts _ = []
@@ -37,7 +37,7 @@ AreTexts [] [] = ⊤
 AreTexts (text ∷ texts) (c ∷ cs) = IsTextOf text c × AreTexts texts cs
 AreTexts _ _ = ⊥
 
--- a text stands first behind `--root`, which is that of this CID, or of none, and then the rest
+-- a text stands first after `--root`, which is that of this CID, or of none, and then the rest
 abbrev pub HasRoot : List (List ℕ) → Option CidParts → List (List ℕ) → Type 0
 HasRoot words root rest = (text : List ℕ) × (words ≡ codes "--root" ∷ text ∷ rest)
     × MatchOption root ((c : CidParts) → ¬ IsTextOf text c) (IsTextOf text)
@@ -48,7 +48,7 @@ HasNoRoot words = (text : List ℕ) (rest : List (List ℕ)) → words ≢ codes
 
 -- ---- filter
 
--- an option and the word behind it say by what is to be kept
+-- an option and the word after it say by what is to be kept
 abbrev pub IsBy : List ℕ → List ℕ → By → Type 0
 IsBy option text (Codec n) = (option ≡ codes "--codec") × IsCodecText text n
 IsBy option text (Names list) = (option ≡ codes "--names") × (text ≡ list.now)

@@ -89,7 +89,7 @@ fn tell_missing<V: Write>(
     say((lines, missing.is_empty()), errors)
 }
 
-/// Tells what is to be told behind the sections. Whether nothing is wrong.
+/// Tells what is to be told after the sections. Whether nothing is wrong.
 fn tell_rest<V: Write>(
     alloc: Global,
     kept: &Kept,
@@ -107,7 +107,7 @@ fn tell_rest<V: Write>(
     }
 }
 
-/// Writes the sections that are kept of what is behind the header, of so much of the file, and tells
+/// Writes the sections that are kept of what follows the header, of so much of the file, and tells
 /// what is wrong. Whether nothing is.
 fn filter_sections<'de, R: Read, W: Write, V: Write>(
     alloc: Global,
@@ -148,7 +148,7 @@ fn send_roots<W: Write>(
     send_header(alloc, &roots, output)
 }
 
-/// Writes the header, and then what is kept of what is behind that of the input, and tells what is
+/// Writes the header, and then what is kept of what follows that of the input, and tells what is
 /// wrong. Whether nothing is.
 fn filter_behind<'de, R: Read, W: Write, V: Write>(
     alloc: Global,
@@ -189,7 +189,7 @@ fn filter_file<'de, R: Read, W: Write, V: Write>(
 }
 
 /// Writes the file of the sections that are kept of the file that the input is, and tells which names
-/// no section has; or tells where the input is no file, behind what stands before the fault. Whether
+/// no section has; or tells where the input is no file, after what stands before the fault. Whether
 /// nothing is wrong. One section is in memory at a time, beside the names that are looked for.
 pub fn write_filtered<R: BufRead, W: Write, V: Write>(
     alloc: Global,

@@ -50,7 +50,7 @@ pub(crate) fn note(kept: &Kept, found: &mut BTreeSet<Cid>, cid: &Cid) -> Result<
     }
 }
 
-/// Puts the name behind the others, if it is kept.
+/// Puts the name after the others, if it is kept.
 fn push_if(left: &mut Vec<Cid>, is_kept: bool, cid: &Cid) -> Result<(), AllocError>
     ensures { OnOk result
         (left.new.items ≡ (if is_kept then left.old.items ++ cid.now ∷ [] else left.old.items)) }

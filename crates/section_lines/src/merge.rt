@@ -233,7 +233,7 @@ fn merge_file<'de, R: Read, W: Write>(
     told_of(alloc, number, ended)
 }
 
-/// Takes the sections of all files, one behind the other, up to the first fault.
+/// Takes the sections of all files, one after the other, up to the first fault.
 fn merge_files<'de, R: Read, W: Write>(
     alloc: Global,
     merging: &mut Merging<'_, W>,
@@ -266,7 +266,7 @@ fn send_roots<W: Write>(
     send_header(alloc, given, output)
 }
 
-/// Tells what is to be told behind the sections. Whether nothing is.
+/// Tells what is to be told after the sections. Whether nothing is.
 fn tell_end<V: Write>(
     told: Result<Option<Vec<u8>>, ToolError>,
     errors: &mut V,
@@ -320,7 +320,7 @@ fn merge_begun<'de, R: Read, W: Write, V: Write>(
 
 /// Writes the file of the sections of these files, in their order, without those before which one of
 /// the same name stood whose bytes were those that it says; or tells which of them is no file, and why,
-/// behind what stands before the fault. Whether nothing is wrong. All files are open, one section is
+/// after what stands before the fault. Whether nothing is wrong. All files are open, one section is
 /// in memory at a time, and the names are.
 pub fn write_merged<'de, R: Read, W: Write, V: Write>(
     alloc: Global,

@@ -95,7 +95,7 @@ fn end_parts<N: NewFiles>(
     }
 }
 
-/// Splits what is behind the header, of so much of the file.
+/// Splits what follows the header, of so much of the file.
 fn split_sections<'de, R: Read, N: NewFiles>(
     alloc: Global,
     plan: &Plan<'_>,
@@ -123,7 +123,7 @@ fn split_sections<'de, R: Read, N: NewFiles>(
     end_parts(alloc, plan, ended, part, files)
 }
 
-/// Splits what is behind the header of these roots, of so much of the file, and tells how that ended.
+/// Splits what follows the header of these roots, of so much of the file, and tells how that ended.
 fn split_behind<'de, R: Read, N: NewFiles, V: Write>(
     alloc: Global,
     asked: &Split<'_>,

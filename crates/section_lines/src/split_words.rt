@@ -58,7 +58,7 @@ fn size_and_files(args: &[String]) -> Option<(u64, &str, &str)>
     }
 }
 
-/// The same, behind `--size`.
+/// The same, after `--size`.
 fn behind_size(args: &[String]) -> Option<(u64, &str, &str)>
     ensures { MatchOption result
         ((size : ℕ) (file prefix : List ℕ)

@@ -11,7 +11,7 @@ use cid_text::cid_from_text;
 use ipld_tree::Cid;
 use std::alloc::{AllocError, Global};
 
-/// The number that the hexadecimal digits are behind `0x`.
+/// The number that the hexadecimal digits are after `0x`.
 fn hex_of(text: &str) -> Option<u64>
     ensures { MatchOption result ((n : ℕ) → ¬ IsHexText text.now n) (IsHexText text.now) }
 {
@@ -34,7 +34,7 @@ fn codec_of(text: &str) -> Option<u64>
     }
 }
 
-/// The words behind this one, if it stands first.
+/// The words after this one, if it stands first.
 pub(crate) fn behind_word<'a>(word: &str, args: &'a [String]) -> Option<&'a [String]>
     ensures { MatchOption result
         ((rest : List (List ℕ)) → map string_bytes args.now ≢ word.now ∷ rest)
@@ -49,7 +49,7 @@ pub(crate) fn behind_word<'a>(word: &str, args: &'a [String]) -> Option<&'a [Str
     Some(rest)
 }
 
-/// The root behind `--root`, where that stands first, and the words behind it.
+/// The root after `--root`, where that stands first, and the words after it.
 #[tactic(auto, using(crate::proofs::Wording::no_root_word, crate::proofs::Wording::no_root_text))]
 fn root_first(args: &[String]) -> Option<(Option<Cid>, &[String])>
     ensures { MatchOption result (HasNoRoot (map string_bytes args.now))
@@ -64,7 +64,7 @@ fn root_first(args: &[String]) -> Option<(Option<Cid>, &[String])>
     Some((cid_from_text(text.as_bytes()).ok(), rest))
 }
 
-/// The roots that stand behind `--root` in front of all else, and the words behind them. None where a
+/// The roots that follow `--root` in front of all else, and the words after them. None where a
 /// text is none of a CID.
 pub(crate) fn split_roots(
     alloc: Global,
@@ -105,7 +105,7 @@ pub struct FilterWords<'a> {
     pub file: Option<&'a str>,
 }
 
-/// By what is to be kept, by an option and the word behind it.
+/// By what is to be kept, by an option and the word after it.
 #[tactic(auto, using(crate::proofs::Wording::no_codec))]
 fn by_of<'a>(option: &str, text: &'a str) -> Option<By<'a>>
     ensures { MatchOption result ((by : By) → ¬ IsBy option.now text.now by)

@@ -90,7 +90,7 @@ spent_shown (Some xs) (Some ys) after limit r shown n ok end kept drops zero_n n
     fits None = tt
     fits (Some most) = omega (arith, zero_n)
 
--- what is spent behind some bytes is spent
+-- what is spent after some bytes is spent
 pub spent_behind : (before mid after : Option (List ℕ)) (bs : List ℕ) → Consumes before mid bs → IsSpent mid after → IsSpent before after
 spent_behind None mid after bs taken spent = tt
 spent_behind (Some xs) None after bs taken spent = absurd taken

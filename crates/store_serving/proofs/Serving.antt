@@ -18,7 +18,7 @@ answers_next held sent now xs x first next =
     let is : answers (xs ++ x ∷ []) ≡ answers xs ++ reply_text x.reply = flat_map-append (λ (y : Exchange). reply_text y.reply) xs (x ∷ []) ∙ ap (λ (t : List ℕ). answers xs ++ t) (append-nil (reply_text x.reply)) in
     subst (λ (t : List ℕ). Appends held now t) (sym is) (Appends-trans held sent now (answers xs) (reply_text x.reply) first next)
 
--- a text whose front went out, and nothing stands behind it, went out
+-- a text whose front went out, and nothing follows it, went out
 pub whole_sent : (held now : Option (List ℕ)) (front back text : List ℕ) → text ≡ front ++ back → back ≡ [] → Appends held now front → Appends held now text
 whole_sent held now front back text is none sent = subst (λ (t : List ℕ). Appends held now t) (sym (is ∙ ap (λ (t : List ℕ). front ++ t) none ∙ append-nil front)) sent
 

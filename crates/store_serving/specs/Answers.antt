@@ -33,7 +33,7 @@ module _ {S : Type 0} (g : Ghosts S) where
   RepliesHas name old (replies.Refused told) new = FailsByStore g ⊥ old new told
   RepliesHas name old _ new = ⊥
 
-  -- the first name behind the last one; or none is listed there
+  -- the first name after the last one; or none is listed there
   abbrev pub RepliesNext : Option CidParts → S → Reply → S → Type 0
   RepliesNext last old (replies.Name name) new =
       (IsClean (g.view new) → GivesNextName (g.view old) last (Some name)) × StaysSame g old new
@@ -122,7 +122,7 @@ module _ {S : Type 0} (g : Ghosts S) where
   Replies requests.Commit b = RepliesCommit
   Replies requests.Rollback b = RepliesRollback
 
-  -- what a crash can leave behind the request: no more than before it; or, where it commits, what
+  -- what a crash can leave after the request: no more than before it; or, where it commits, what
   -- that leaves
   abbrev pub Leaves : Request → List ℕ → S → S → Type 0
   Leaves (requests.Put codec n) b old new = IsKeptBy g old new

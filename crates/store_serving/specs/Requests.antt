@@ -29,7 +29,7 @@ word_text words.Rollback = codes "rollback"
 word_text words.Import = codes "import"
 word_text words.Export = codes "export"
 
--- what stands before the first space of a text, and behind it
+-- what stands before the first space of a text, and after it
 abbrev pub first_word : List ℕ → List ℕ
 first_word text = before_first (λ b. b == 0x20) text
 
@@ -40,7 +40,7 @@ behind_word text = after_first (λ b. b == 0x20) text
 abbrev pub IsLength : List ℕ → ℕ → Type 0
 IsLength text n = IsNumeral 10 text × (digits_value 10 text < 2 ^ 64) × (n ≡ digits_value 10 text)
 
--- the text is the word of a codec, and this length behind it
+-- the text is the word of a codec, and this length after it
 abbrev pub IsSized : List ℕ → ℕ → ℕ → Type 0
 IsSized text codec n = NamesCodec (first_word text) codec × IsLength (behind_word text) n
 
@@ -56,7 +56,7 @@ IsOfBlock request text asked = (codec n : ℕ) × IsSized text codec n × (asked
 abbrev pub IsAlone : Request → List ℕ → Asked → Type 0
 IsAlone request text asked = (text ≡ []) × (asked ≡ asks.Do request)
 
--- what a word means, with this text behind it
+-- what a word means, with this text after it
 abbrev pub Means : Word → List ℕ → Asked → Type 0
 Means words.Get text asked = IsOfName requests.Get text asked
 Means words.Has text asked = IsOfName requests.Has text asked
@@ -87,7 +87,7 @@ wanted (requests.Put codec n) = n
 wanted (requests.Add codec n) = n
 wanted request = 0
 
--- a line, and a line feed behind it
+-- a line, and a line feed after it
 abbrev pub IsLineOf : List ℕ → List ℕ → Type 0
 IsLineOf text line = (text ≡ line ++ 10 ∷ []) × All (λ b. b ≢ 10) line
 

@@ -68,7 +68,7 @@ pub record Exchange : Type 0 where
   pub block : List ℕ
   pub reply : Reply
 
--- the answers, one behind the other
+-- the answers, one after the other
 abbrev pub answers : List Exchange → List ℕ
 answers exchanges = flat_map (λ x. reply_text x.reply) exchanges
 
@@ -82,7 +82,7 @@ module _ {S : Type 0} (g : Ghosts S) where
     pub replies : Replies g x.request x.block old x.reply new
     pub leaves : Leaves g x.request x.block old new
 
-  -- each was, one behind the other
+  -- each was, one after the other
   abbrev pub AreExchanged : List Exchange → Option (List ℕ) → S → Option (List ℕ) → S → Type 0
   AreExchanged [] before old after new = (after ≡ before) × (new ≡ old)
   AreExchanged (x ∷ more) before old after new = (left : Option (List ℕ)) × (now : S)
@@ -100,7 +100,7 @@ module _ {S : Type 0} (g : Ghosts S) where
   Stops (Err Output) before old held after new holds = (x : Exchange)
       × Exchanges x before old after new × AppendsFront held holds (reply_text x.reply)
 
-  -- Requests were read, one behind the other, and each was replied to, and the answers went out, in
+  -- Requests were read, one after the other, and each was replied to, and the answers went out, in
   -- this order; and then it stopped.
   pub record Serves (ended : Result Pause ToolError) (before : Option (List ℕ)) (old : S)
       (held after : Option (List ℕ)) (new : S) (holds : Option (List ℕ)) : Type 0 where

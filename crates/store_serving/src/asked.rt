@@ -25,7 +25,7 @@ pub enum Request {
     Add(u64, u64),
     /// To take out what is listed under the name, with what is committed next.
     Remove(Cid),
-    /// The first name behind this one, or the first of all.
+    /// The first name after this one, or the first of all.
     Next(Option<Cid>),
     /// How many names are listed.
     Count,
@@ -64,7 +64,7 @@ impl Request {
     }
 }
 
-/// A word, and what stands behind the space after it.
+/// A word, and what follows the space after it.
 fn split_word(text: &str) -> (&str, &str)
     ensures first { result.0.now ≡ first_word text.now }
     ensures behind { result.1.now ≡ behind_word text.now }
@@ -85,7 +85,7 @@ fn length_of(digits: &str) -> Option<u64>
     u64::from_str_radix(digits, 10).ok()
 }
 
-/// A codec, and a length behind it.
+/// A codec, and a length after it.
 fn sized(text: &str) -> Option<(u64, u64)>
     ensures { MatchOption result ((codec n : ℕ) → ¬ IsSized text.now codec n)
         (λ p. IsSized text.now p.0 p.1) }
@@ -131,7 +131,7 @@ fn alone(request: Request, rest: &str) -> Option<Asked<'_>>
     }
 }
 
-/// What the word asks for, with this behind it.
+/// What the word asks for, with this after it.
 fn meant(word: Word, rest: &str) -> Option<Asked<'_>>
     ensures { MatchOption result ((asked : Asked) → ¬ Means word rest.now asked)
         (Means word rest.now) }

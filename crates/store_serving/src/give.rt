@@ -37,7 +37,7 @@ fn reply_has<S: Store>(store: &mut BlockStore<S>, name: &Cid) -> Reply
     }
 }
 
-/// The first name behind the last one.
+/// The first name after the last one.
 fn reply_next<S: Store>(store: &mut BlockStore<S>, last: Option<Cid>) -> Reply
     ensures replies { RepliesNext S.Store last store.old result store.new }
     ensures quiet { Quiet S.Store store.old store.new }

@@ -13,7 +13,7 @@ use std::io::{BufRead, Error, ErrorKind};
 /// Why no more is replied: the input ended, or it is for the caller to go on.
 #[derive(Debug, Drop)]
 pub enum Pause {
-    /// The input ended behind a whole request.
+    /// The input ended after a whole request.
     End,
     /// The input ended within a request.
     Cut,

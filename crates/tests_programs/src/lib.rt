@@ -1,4 +1,4 @@
-//! Tests of the two programs, and of what the C library does behind its calls.
+//! Tests of the two programs, and of what the C library does for its calls.
 #![tactic(auto)]
 
 #[cfg(test)]

@@ -15,7 +15,7 @@ pub const THREE_LINKS: &[&[u8]] = &[
     LINK,
 ];
 
-/// The parts, one behind another.
+/// The parts, one after another.
 pub fn joined(alloc: Global, parts: &[&[u8]]) -> Result<Vec<u8>, AllocError> {
     let mut bytes = Vec::new(alloc);
     for part in parts {

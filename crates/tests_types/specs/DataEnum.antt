@@ -25,7 +25,7 @@ b_shape = list_of (first_then (leaf view_bool) (first_then (leaf (view_unsigned 
 abbrev pub unit_data : List ℕ → Option DataView
 unit_data name = None
 
--- what the tree behind a variant's name makes
+-- what the tree after a variant's name makes
 abbrev pub part_data : List ℕ → Tree → Option DataView
 part_data name t =
     if bytes_eq name (codes "A") then option_map is_a (view_unsigned (2 ^ 32) t)

@@ -13,7 +13,7 @@ pub data Letter : Type 0 where
 abbrev pub unit_letter : List ℕ → Option Letter
 unit_letter name = if bytes_eq name (codes "A") then Some is_a else if bytes_eq name (codes "B") then Some is_b else None
 
--- what the tree behind a variant's name makes
+-- what the tree after a variant's name makes
 abbrev pub part_letter : List ℕ → Tree → Option Letter
 part_letter name t = None
 

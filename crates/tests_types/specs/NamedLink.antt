@@ -8,7 +8,7 @@ use Rattle.serde_ipld_dagcbor.specs.EnumViews.{EnumShape, enum_of}
 abbrev pub unit_link : List ℕ → Option (List ℕ)
 unit_link name = None
 
--- what the tree behind a variant's name makes
+-- what the tree after a variant's name makes
 abbrev pub part_link : List ℕ → Tree → Option (List ℕ)
 part_link name t = if bytes_eq name (codes "Cid") then option_map (λ cid. cid) (view_link t) else None
 

@@ -19,7 +19,7 @@ fields_shape = struct_shape (required_field (codes "b") (leaf (view_unsigned (2 
 abbrev pub unit_second : List ℕ → Option SecondView
 unit_second name = None
 
--- what the tree behind a variant's name makes
+-- what the tree after a variant's name makes
 abbrev pub part_second : List ℕ → Tree → Option SecondView
 part_second name t = if bytes_eq name (codes "Data") then fields_shape.view t else None
 

@@ -21,7 +21,7 @@ fn takes_head(input: &mut Gathering<'_>, name: &str, wanted: (u8, u64, u8)) -> R
     agree(pull_head(name, input)?, wanted)
 }
 
-/// Fails where other bytes than "abc" come, or are lent, or other bytes than "de" behind them.
+/// Fails where other bytes than "abc" come, or are lent, or other bytes than "de" after them.
 fn takes_payloads(alloc: Global, input: &mut Gathering<'_>) -> Result<(), Fail> {
     let payload = pull_payload(alloc, "string", input, 3)?;
     agree(payload.as_slice(), b"abc".as_slice())?;

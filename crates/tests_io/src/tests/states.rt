@@ -11,7 +11,7 @@ use std::fmt::Display;
 use std::test::Fail;
 use tests_shared::{agree, is_told};
 
-/// An item and the end behind it, twice, as text.
+/// An item and the end after it, twice, as text.
 fn twice(alloc: Global, bytes: &[u8]) -> Result<String, AllocError> {
     let mut de = Deserializer::from_slice(bytes);
     let first = (de.deserialize_any(alloc), de.end());
@@ -19,7 +19,7 @@ fn twice(alloc: Global, bytes: &[u8]) -> Result<String, AllocError> {
     format!(in alloc; "{first:?} {second:?}")
 }
 
-/// What two items and the ends behind them are told as.
+/// What two items and the ends after them are told as.
 const TWICE: &[(&[u8], &str)] = &[
     (
         b"\x18\x17\x01",
@@ -39,7 +39,7 @@ fn a_refusal_lasts_and_trailing_data_changes_nothing(rt: HostRuntime) -> Result<
     Ok(())
 }
 
-/// Three items of a reader that shows so many bytes a fill, and the end behind them, as text.
+/// Three items of a reader that shows so many bytes a fill, and the end after them, as text.
 fn three_items(alloc: Global, bytes: &[u8], size: usize) -> Result<String, AllocError> {
     let mut de = Deserializer::from_reader(Pieces::new(bytes, size));
     let items = (
@@ -69,7 +69,7 @@ fn fills_of_any_size_read_the_same(rt: HostRuntime) -> Result<(), Fail> {
     is_told(alloc, &de.deserialize_any(alloc), "Ok(Bytes([97, 98, 99]))")
 }
 
-/// Fails where a read whose reader faults at this fill, and the end behind it, answer anything
+/// Fails where a read whose reader faults at this fill, and the end after it, answer anything
 /// else.
 fn text_and_end(alloc: Global, fill: u64, told: &str) -> Result<(), Fail> {
     let mut de = Deserializer::from_reader(Pieces::failing(b"\x62ab", 1, fill));
@@ -79,7 +79,7 @@ fn text_and_end(alloc: Global, fill: u64, told: &str) -> Result<(), Fail> {
 
 #[test]
 fn a_fault_is_passed_on_and_lasts(rt: HostRuntime) -> Result<(), Fail> {
-    // Fill by fill: the first byte for the item's kind, the head, the two bytes behind it.
+    // Fill by fill: the first byte for the item's kind, the head, the two bytes after it.
     for fill in 1..5 {
         text_and_end(rt.alloc(), fill, "(Err(Read(7)), Err(Failed))")?;
     }

@@ -1,4 +1,4 @@
-//! Values one behind the other.
+//! Values one after the other.
 
 ghost use Rattle.std.specs.Prelude.{◌+◌, ◌≤◌, length, IfOk, List, Option, true};
 ghost use Rattle.serde_ipld_dagcbor.specs.Streams.{AreStreamItems, AreUpTo};
@@ -130,7 +130,7 @@ fn gives_two(alloc: Global, bytes: &[u8], one: &Ipld, other: &Ipld) -> bool {
     }
 }
 
-/// Fails where the two blocks, one behind the other, give another stream than the two.
+/// Fails where the two blocks, one after the other, give another stream than the two.
 pub(crate) fn is_split(alloc: Global, first: &[u8], second: &[u8]) -> Result<(), Fail> {
     let bytes = joined(alloc, &[first, second])?;
     let one: Ipld = from_slice(alloc, first)?;

@@ -23,7 +23,7 @@ const MIXED_JSON: &[u8] =
 const VERSION_2: &[u8] =
     b"\x0a\xa1\x67\x76\x65\x72\x73\x69\x6f\x6e\x02\x00\x01\x02\x03\x04\x05\x06\x07\x08\x09\x0a\x0b\x0c\x0d\x0e\x0f\x38\x00\x00\x00\x00\x00\x00\x00\xdb\x00\x00\x00\x00\x00\x00\x00\x4d\x00\x00\x00\x00\x00\x00\x00\x00\x00\x00\x00\x00";
 
-/// What is told of that file behind the word for the index.
+/// What is told of that file after the word for the index.
 const VERSION_2_REST: &[u8] =
     b"\nroots 1\nroot bafyreic6rlmkazpohhul74xyu654gs4k37idb2uz6r7vurebasdi766kga there\nsections 3\nrepeated 0\nbytes 49\nleast 3\ngreatest 42\ncodec raw 1 3\ncodec dag-cbor 2 46\nhash 0x12 3 49\nmissing 0\n";
 

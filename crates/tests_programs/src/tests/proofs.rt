@@ -233,7 +233,7 @@ fn items_are_written_as_they_are(rt: HostRuntime) -> Result<(), Fail> {
         let word = on_path(alloc, ROOT, path)?;
         answer(alloc, &["at", "--raw", &word], FILE, (*status, item, told))?;
     }
-    // The whole block of the root, behind its length and its name.
+    // The whole block of the root, after its length and its name.
     let block = part_of((59 + 38, 326))?;
     answer(alloc, &["at", "--raw", ROOT], FILE, (0, block, b""))
 }

@@ -18,7 +18,7 @@ const HEADER: usize = 59;
 /// How long the header of `RAW_ROOTED` is.
 const ROOTED: usize = 100;
 
-/// The names and the bytes of files that are whole, one behind the other.
+/// The names and the bytes of files that are whole, one after the other.
 #[derive(Drop)]
 struct MemoryFiles<'a> {
     alloc: Global,

@@ -80,7 +80,7 @@ fn links_come_in_their_order_with_repeats(rt: HostRuntime) -> Result<(), Fail> {
     agree(block.len(), 146)?;
     let link: Cid = from_slice(alloc, LINK)?;
     finds(alloc, &block, &[link, link, link])?;
-    // A map of "b" and "aa", and an item behind it.
+    // A map of "b" and "aa", and an item after it.
     let block =
         b"\xa2\x61\x62\xd8\x2a\x45\x00\x01\x55\x00\x00\x62\x61\x61\xd8\x2a\x45\x00\x01\x71\x00\x00\xf6";
     let links = &[Cid::new_v1(0x55, 0, b"")?, Cid::new_v1(0x71, 0, b"")?];

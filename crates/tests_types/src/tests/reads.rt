@@ -70,7 +70,7 @@ const NUMBERS: &[(Type, &[u8], &str)] = &[
     (Type::I8, b"\x38\x80", r#"Err(CastOverflow { name: "i8" })"#),
 ];
 
-/// Numbers as byte strings behind the tags 2 and 3: 1, -2, and those next to what a head can hold.
+/// Numbers as byte strings after the tags 2 and 3: 1, -2, and those next to what a head can hold.
 const BIG_NUMBERS: &[(Type, &[u8], &str)] = &[
     (
         Type::U128,
@@ -298,7 +298,7 @@ fn parts_of_what_is_read(rt: HostRuntime) -> Result<(), Fail> {
     agree((hashed.get("aa").copied(), hashed.len()), (Some(2), 2))?;
     let cid: Cid = from_slice(alloc, b"\xd8\x2a\x49\x00\x01\xce\x01\x9b\x01\x02\x63\xc8")?;
     agree(cid.codec(), 206)?;
-    // The bytes of a link behind its tag.
+    // The bytes of a link after its tag.
     let bytes: Bytes = from_slice(alloc, &LINK[2..])?;
     agree((bytes.0.len(), bytes.0.as_slice()), (37, &LINK[4..]))?;
     let told = format!(in alloc; "Ok(Bytes({:?}))", &LINK[4..])?;

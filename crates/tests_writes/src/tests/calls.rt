@@ -67,7 +67,7 @@ fn an_announced_list(alloc: Global, ser: &mut Serializer<BufWriter>) -> Answer {
     holds(left == Some(1) && last == Some(0))
 }
 
-/// Calls behind one another.
+/// Calls one after another.
 enum Calls {
     Structs,
     Map,

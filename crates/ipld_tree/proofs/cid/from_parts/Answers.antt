@@ -9,7 +9,7 @@ digest_fits : (c : CidParts) → AreCidParts c → length c.digest ≤ 64
 digest_fits c (inl h) = omega (arith, h.3)
 digest_fits c (inr h) = h.3
 
--- a digest with zeros behind it
+-- a digest with zeros after it
 orderly : (version codec hash_code n : ℕ) (d zs : List ℕ) → length d ≡ n → zs ≡ replicate (64 - n) 0 → AreCidParts (cid_parts version codec hash_code d)
     → IsOrderly (record { version = version; codec = codec; hash_code = hash_code; length = n; digest = d ++ zs })
 orderly version codec hash_code n d zs long zeros allowed =

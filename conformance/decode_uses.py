@@ -11,7 +11,7 @@ def is_utf8(s):
     try: return s.decode("utf-8") is not None
     except UnicodeDecodeError: return False
 
-# ---- crates/dagcbor_heads/specs/Lengths.antt
+# ---- crates/dagcbor_core/specs/Lengths.antt
 def len_of(n):
     return ("Small", n) if n < 2**16 else ("Big",)
 

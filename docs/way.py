@@ -43,7 +43,7 @@ FLOORS = [
     (460, 60, 420, 402, "dagcbor_write", "types that are written"),
     (20, 308, 267, 154, "dagcbor_items", "data without types"),
     (295, 308, 145, 154, "dagcbor_decode", ""),
-    (20, 472, 860, 214, "dagcbor_io", "readers and writers, and heads by them"),
+    (20, 472, 860, 214, "dagcbor_heads", "readers and writers, and heads by them"),
 ]
 # The rooms: x, y, width, height, the calls, and the files of the floor's crate.
 ROOMS = [
@@ -55,14 +55,14 @@ ROOMS = [
     (36, 402, 239, 46, "pull_bool, .._str, read_key", "simple.rt, strings.rt, key.rt, link.rt", "dagcbor_items"),
     (307, 340, 121, 46, "judge_slice", "slices.rt, links.rt", "dagcbor_decode"),
     (307, 402, 121, 46, "judge_item", "judge.rt, part.rt", "dagcbor_decode"),
-    (36, 504, 388, 46, "peek_one   pull_head   pull_payload", "pull.rt; of a slice read.rt", "dagcbor_io"),
-    (36, 566, 388, 46, "Input: a slice, which lends, or a reader", "input.rt", "dagcbor_io"),
-    (36, 628, 388, 46, "SliceReader  IoReader  IoRefReader  yours", "read.rt, io_read.rt, io_ref_read.rt, window.rt", "dagcbor_io"),
+    (36, 504, 388, 46, "peek_one   pull_head   pull_payload", "pull.rt; of a slice read.rt", "dagcbor_heads"),
+    (36, 566, 388, 46, "Input: a slice, which lends, or a reader", "input.rt", "dagcbor_heads"),
+    (36, 628, 388, 46, "SliceReader  IoReader  IoRefReader  yours", "read.rt, io_read.rt, io_ref_read.rt, window.rt", "dagcbor_heads"),
     (476, 92, 388, 46, "to_vec   to_writer", "whole.rt", "dagcbor_write"),
     (476, 216, 388, 46, "Serialize: each type; write_struct", "types/, structs.rt", "dagcbor_write"),
     (476, 340, 388, 46, "serialize_bool, .._cid; collectors", "serializer.rt, collect/", "dagcbor_write"),
-    (476, 504, 388, 46, "push_head", "push.rt", "dagcbor_io"),
-    (476, 628, 388, 46, "BufWriter  IoWriter  IoRefWriter  yours", "write.rt, io_write.rt, io_ref_write.rt", "dagcbor_io"),
+    (476, 504, 388, 46, "push_head", "push.rt", "dagcbor_heads"),
+    (476, 628, 388, 46, "BufWriter  IoWriter  IoRefWriter  yours", "write.rt, io_write.rt, io_ref_write.rt", "dagcbor_heads"),
 ]
 # The arrows: x, from y, to y, what goes there, and how high that stands.
 ARROWS = [

@@ -18,7 +18,7 @@ ghost use Rattle.atproto_events.specs.declared.error.UndoError.TheVariants.{OutO
 use crate::error::UndoError;
 use crate::pieces::Piece;
 use atproto_mst::layer_of_key;
-use dagcbor_heads::DecodeError;
+use dagcbor_core::DecodeError;
 use dagcbor_read::from_slice;
 use ipld_links::{CidSet, name_of_block, stored_bytes};
 use ipld_tree::Cid;

@@ -1,7 +1,7 @@
 -- What the block of a node shows.
 use Rattle.std.proofs.Common.{◌≡◌, ℕ, ◌^◌, ◌<◌, ◌≤◌, List, [], ◌∷◌, ◌++◌, map, codes, pos, refl, sym, ap, ap₂, ◌∙◌, subst, arith, lt-ltb, Option, Some, None, option_map}
 use Rattle.std.specs.Prelude.{if◌then◌else◌}
-use Rattle.dagcbor_heads.specs.Steps.{default_steps}
+use Rattle.dagcbor_core.specs.Steps.{default_steps}
 use Rattle.ipld_tree.specs.Cid.{CidParts, cid_bytes}
 use Rattle.ipld_tree.specs.Tree.{Tree, integer, bytes, list, mapping, link, no_entries, entry, items_of, ordered_entries}
 use Rattle.ipld_tree.specs.Spelling.{IsSpellable, AreSpellableItems, IsSpelling}

@@ -1,6 +1,6 @@
 -- What the block of a commit shows.
 use Rattle.std.proofs.Common.{◌≡◌, ℕ, ◌^◌, ◌<◌, ◌≤◌, List, [], ◌∷◌, codes, pos, refl, sym, subst, arith, Option, Some, None, option_map, string_bytes}
-use Rattle.dagcbor_heads.specs.Steps.{default_steps}
+use Rattle.dagcbor_core.specs.Steps.{default_steps}
 use Rattle.ipld_tree.specs.Cid.{CidParts, cid_bytes}
 use Rattle.ipld_tree.specs.Tree.{Tree, integer, text, bytes, mapping, link, no_entries, entry, entries_tree, ordered_entries}
 use Rattle.ipld_tree.specs.Spelling.{IsSpelling}

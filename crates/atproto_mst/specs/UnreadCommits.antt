@@ -1,7 +1,7 @@
 -- Why a block is no commit.
 use Rattle.std.specs.Prelude.{◌≢◌, ℕ, List, ⊤}
-use Rattle.dagcbor_heads.specs.Steps.{default_steps}
-use Rattle.dagcbor_heads.specs.declared.error.DecodeError.TheVariants as unread
+use Rattle.dagcbor_core.specs.Steps.{default_steps}
+use Rattle.dagcbor_core.specs.declared.error.DecodeError.TheVariants as unread
 use Rattle.dagcbor_read.specs.Whole.{HoldsNoValue, OfWhole, IsForBehind}
 use Rattle.repository_types.specs.Repository.{commit_shape}
 use Rattle.atproto_mst.specs.declared.repo_error.RepoError.{RepoError}

@@ -6,7 +6,7 @@ ghost use Rattle.atproto_mst.specs.Commits.{commit_tree, unsigned_tree};
 ghost use Rattle.atproto_mst.specs.UnreadCommits.{UnreadCommit};
 
 use crate::repo_error::RepoError;
-use dagcbor_heads::DecodeError;
+use dagcbor_core::DecodeError;
 use dagcbor_read::from_slice;
 use dagcbor_write::to_vec;
 use repository_types::{Commit, UnsignedCommit};

@@ -3,7 +3,7 @@
 ghost use Rattle.std.specs.Prelude.{◌≡◌};
 
 use crate::error::MstError;
-use dagcbor_heads::DecodeError;
+use dagcbor_core::DecodeError;
 use std::alloc::AllocError;
 use std::convert::Infallible;
 use thiserror::Error;

@@ -7,7 +7,7 @@ ghost use Rattle.ipld_tree.specs.Spelling.{IsSpelling};
 ghost use Rattle.atproto_mst.specs.Nodes.{NodeParts, IsCidIfAny, IsNode, tree_of_node};
 ghost use Rattle.atproto_mst.specs.Nodes.{row_told, node_told};
 
-use dagcbor_heads::DecodeError;
+use dagcbor_core::DecodeError;
 use dagcbor_read::from_slice;
 use dagcbor_write::to_vec;
 use ipld_tree::Cid;

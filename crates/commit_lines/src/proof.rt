@@ -19,7 +19,7 @@ use atproto_mst::{MstError, find_record, record_way};
 use block_lines::{Answer, missing_line, say_both, verdict_line};
 use dagcbor_car::push_tree;
 use dagcbor_cli::ToolError;
-use dagcbor_io::BufWriter;
+use dagcbor_heads::BufWriter;
 use dagcbor_resolve::each_once;
 use held_lines::{Held, Kept, held_of};
 use ipld_links::{Verdict, stored_bytes, verify};

@@ -1,7 +1,7 @@
 -- The spelling of a data model is a block.
 use Rattle.std.proofs.Common.{ℕ, pos, ◌+◌, ◌^◌, ◌<◌, ◌≤◌, List, [], ◌∷◌, ◌++◌, length, length-append, Option, None, Some, option_map, map, codes, IfSome, IsUtf8, refl, sym, ap, subst, arith}
 use Rattle.std.specs.List.{AllByRecursion}
-use Rattle.dagcbor_heads.specs.Steps.{default_steps}
+use Rattle.dagcbor_core.specs.Steps.{default_steps}
 use Rattle.ipld_tree.specs.Cid.{AreCidParts, cid_bytes}
 use Rattle.ipld_tree.specs.Tree.{Tree, Items, integer, text, bytes, list, mapping, link, items_of, entries_of, any_need, items_need, IsTree, AreItems, AreEntries}
 use Rattle.ipld_tree.specs.Spelling.{spelling, item_count, IsSpellable, AreSpellableItems}

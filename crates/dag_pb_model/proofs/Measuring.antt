@@ -1,7 +1,7 @@
 -- The walk that measures a node.
 use Rattle.std.proofs.Common.{◌≡◌, ℕ, ◌+◌, ◌*◌, ◌^◌, ◌<◌, ◌≤◌, List, [], ◌∷◌, ◌++◌, length, Option, None, Some, option_map, map, codes, IfSome, IsUtf8, refl, sym, ap, ap₂, ◌∙◌, subst, arith, inl, inr, length-append}
 use Rattle.std.specs.List.{AllByRecursion}
-use Rattle.dagcbor_heads.specs.Head.{head}
+use Rattle.dagcbor_core.specs.Head.{head}
 use Rattle.ipld_tree.specs.Spelling.{spelling, text_spelling}
 use Rattle.dag_pb.specs.Node.{LinkParts, NodeParts, IsNode, HasNode, Field, link_field, data_field, data_fields, BeginsWithFields, AreFieldsOf}
 use Rattle.dag_pb.specs.Reads.{links_in}

@@ -1,8 +1,8 @@
 -- The front of a node's data model.
 use Rattle.std.proofs.Common.{◌≡◌, ◌≢◌, ℕ, ◌≤◌, List, [], ◌∷◌, ◌++◌, length, Option, None, Some, MatchOption, refl, sym, ap, ◌∙◌, subst, arith, append_assoc, append-nil, codes, IsUtf8}
-use Rattle.dagcbor_heads.specs.Head.{head}
-use Rattle.dagcbor_heads.specs.Splits.{SplitsHead, BeginsWithHead}
-use Rattle.dagcbor_heads.proofs.Heads.{head_unique}
+use Rattle.dagcbor_core.specs.Head.{head}
+use Rattle.dagcbor_core.specs.Splits.{SplitsHead, BeginsWithHead}
+use Rattle.dagcbor_core.proofs.Heads.{head_unique}
 use Rattle.ipld_tree.specs.Tree.{Tree, bytes, list, mapping, Entries, no_entries, entry, any_need, items_need}
 use Rattle.ipld_tree.specs.Spelling.{IsFront, AreFronts, AreEntryFronts, spelling, item_count, entry_count, items_spelling, entries_spelling, text_spelling}
 use Rattle.ipld_tree.proofs.Unique.{split_at_length}

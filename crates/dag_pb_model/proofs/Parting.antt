@@ -1,7 +1,7 @@
 -- The parts of a data model, read one after the other.
 use Rattle.std.proofs.Common.{◌≡◌, ◌≢◌, ℕ, pos, ◌+◌, ◌^◌, ◌<◌, List, [], ◌∷◌, ◌++◌, length, Option, None, Some, MatchOption, refl, sym, ap, ◌∙◌, subst, arith, append_assoc, codes, option_map, IsUtf8}
-use Rattle.dagcbor_heads.specs.Head.{head}
-use Rattle.dagcbor_heads.specs.Splits.{SplitsHead}
+use Rattle.dagcbor_core.specs.Head.{head}
+use Rattle.dagcbor_core.specs.Splits.{SplitsHead}
 use Rattle.ipld_tree.specs.Cid.{CidParts, AreCidParts, IsCid, cid_bytes}
 use Rattle.ipld_tree.specs.Tree.{Tree, integer, text, bytes, link, mapping, Entries, no_entries, entry, entries_of, Precedes}
 use Rattle.ipld_tree.specs.Spelling.{IsFront, AreEntryFronts, entry_count, entries_spelling, text_spelling}

@@ -2,8 +2,8 @@
 use Rattle.std.proofs.Common.{◌≡◌, ℕ, zero, suc, pos, ◌+◌, ◌/◌, ◌^◌, ◌<◌, ◌≤◌, List, ◌∷◌, ◌++◌, length, length-append, Option, None, Some, IfSome, codes, inl, inr, refl, ap, arith}
 use Rattle.std.proofs.lemmas.Bool.{cases_lt}
 use Rattle.std.proofs.Math.Nat.{pow-succ'}
-use Rattle.dagcbor_heads.specs.Head.{head}
-use Rattle.dagcbor_heads.proofs.Heads.{head_one, head_two, head_four, head_eight, head_first, length-bytes_high_first}
+use Rattle.dagcbor_core.specs.Head.{head}
+use Rattle.dagcbor_core.proofs.Heads.{head_one, head_two, head_four, head_eight, head_first, length-bytes_high_first}
 use Rattle.ipld_tree.specs.Cid.{varint, varint_groups, cid_bytes}
 use Rattle.ipld_tree.proofs.Cids.{one_group, more_groups, varint_length, one_byte, cid_length}
 use Rattle.ipld_tree.specs.Tree.{Tree, integer, text, link, Entries, no_entries, entry}

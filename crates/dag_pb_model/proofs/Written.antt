@@ -1,6 +1,6 @@
 -- The node of a data model, or why there is none.
 use Rattle.std.proofs.Common.{◌≡◌, ℕ, ◌+◌, ◌^◌, ◌<◌, ◌≤◌, Bool, true, false, MatchBool, List, ◌++◌, length, length-append, drop, codes, flat_map, Option, None, Some, IfSome, sym, ap, ◌∙◌, subst, arith}
-use Rattle.dagcbor_heads.specs.Head.{head}
+use Rattle.dagcbor_core.specs.Head.{head}
 use Rattle.ipld_tree.specs.Cid.{varint}
 use Rattle.ipld_tree.specs.Spelling.{text_spelling}
 use Rattle.dagcbor_decode.specs.Blocks.{IsBlock}

@@ -1,6 +1,6 @@
 -- The spelling of a node's data model, part by part.
 use Rattle.std.specs.Prelude.{◌≡◌, ℕ, pos, ◌+◌, ◌^◌, ◌<◌, List, ◌++◌, length, Option, None, Some, option_map, map, codes, MatchOption, IfSome, IsUtf8}
-use Rattle.dagcbor_heads.specs.Head.{head}
+use Rattle.dagcbor_core.specs.Head.{head}
 use Rattle.ipld_tree.specs.Cid.{cid_bytes}
 use Rattle.ipld_tree.specs.Tree.{Tree, integer, text, bytes, link, items_of, entries_of}
 use Rattle.ipld_tree.specs.Spelling.{spelling, text_spelling, entries_spelling, items_spelling}

@@ -1,7 +1,7 @@
 -- What stands at the front of a block of a data model, part by part. No public contract names it.
 use Rattle.std.specs.Prelude.{◌≡◌, ℕ, pos, ◌≤◌, Bool, List, [], ◌++◌, length, Option, None, Some, codes, map, flat_map, MatchBool}
 use Rattle.std.specs.List.{AllByRecursion}
-use Rattle.dagcbor_heads.specs.Splits.{SplitsHead}
+use Rattle.dagcbor_core.specs.Splits.{SplitsHead}
 use Rattle.ipld_tree.specs.Cid.{AreCidParts}
 use Rattle.ipld_tree.specs.Tree.{Tree, Items, integer, text, bytes, items_of}
 use Rattle.ipld_tree.specs.Spelling.{IsFront, AreFronts, text_spelling}

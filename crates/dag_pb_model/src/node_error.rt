@@ -1,6 +1,6 @@
 //! Why no node is written.
 
-use dagcbor_heads::DecodeError;
+use dagcbor_core::DecodeError;
 use std::convert::Infallible;
 use thiserror::Error;
 

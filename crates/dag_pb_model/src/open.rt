@@ -5,7 +5,7 @@ ghost use Rattle.ipld_tree.specs.Tree.{bytes};
 ghost use Rattle.dag_pb_model.specs.Reading.{IsEntry, IsLinksFront, AreNodeEnds, IsNodeFront};
 
 use crate::read::{behind_front, split_bytes};
-use dagcbor_heads::split_head;
+use dagcbor_core::split_head;
 
 /// The data of a node, and the bytes after it.
 fn split_data(block: &[u8]) -> Option<(&[u8], &[u8])>

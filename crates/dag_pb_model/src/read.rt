@@ -10,8 +10,8 @@ ghost use Rattle.dag_pb.specs.Reads.{link_of};
 ghost use Rattle.dag_pb_model.specs.Reading.{IsEntry, AreEnds, HasNoEnds, IsLinkModel, BeginsNoLinkModel};
 
 use dag_pb::PbLink;
+use dagcbor_core::split_head;
 use dagcbor_decode::{is_text, split_payload};
-use dagcbor_heads::split_head;
 use ipld_tree::Cid;
 
 /// The bytes after these, where they stand first.

@@ -3,7 +3,7 @@
 use crate::{NOT_OPENED, end_output};
 use dagcar_lines::OneFault;
 use dagcbor_cli::give_up;
-use dagcbor_io::{Input, IoReader};
+use dagcbor_heads::{Input, IoReader};
 use held_lines::input_over;
 use ipld_tree::Cid;
 use named_lines::{run_filter, run_listed, run_merged};

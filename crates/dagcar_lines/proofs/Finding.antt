@@ -10,9 +10,9 @@ use Rattle.ipld_links.specs.Verdicts.{IsVerified, IsVerdict}
 use Rattle.dagcbor_car.specs.Checks.{IsHeldInFile, IsFileFront}
 use Rattle.ipld_links.specs.declared.verdict.Verdict.{Verdict}
 use Rattle.ipld_links.specs.declared.verdict.Verdict.TheVariants as verdicts
-use Rattle.dagcbor_io.specs.Written.{Written, Stops}
-use Rattle.dagcbor_heads.specs.declared.error.EncodeError.{EncodeError}
-use Rattle.dagcbor_heads.specs.declared.error.EncodeError.TheVariants as unsent
+use Rattle.dagcbor_heads.specs.Written.{Written, Stops}
+use Rattle.dagcbor_core.specs.declared.error.EncodeError.{EncodeError}
+use Rattle.dagcbor_core.specs.declared.error.EncodeError.TheVariants as unsent
 use Rattle.dagcbor_cli.specs.declared.fault.ToolError.{ToolError}
 use Rattle.dagcbor_cli.specs.declared.fault.ToolError.TheVariants.{Output}
 use Rattle.ipld_links.specs.Reaching.{Stored, ReachesKnown}

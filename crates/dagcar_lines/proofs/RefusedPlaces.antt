@@ -1,7 +1,7 @@
 -- Which byte is told of a section whose block is refused.
 use Rattle.std.proofs.Common.{◌≡◌, inl, ℕ, refl, sym, arith, Result, Ok, Err, IfOk, Vec, Global}
 use Rattle.std.specs.declared.convert.Infallible.{Infallible}
-use Rattle.dagcbor_heads.specs.declared.error.DecodeError.{DecodeError}
+use Rattle.dagcbor_core.specs.declared.error.DecodeError.{DecodeError}
 use Rattle.dagcbor_decode.specs.Decode.{decode}
 use Rattle.dagcbor_decode.specs.Verdicts.{judged, verdict}
 use Rattle.dagcbor_decode.specs.declared.slices.Refused.{Refused}

@@ -6,7 +6,7 @@ use Rattle.block_lines.specs.Lines.{line}
 use Rattle.block_lines.specs.Shown.{fault_place_line}
 use Rattle.dagcar_lines.specs.Names.{cause_name}
 use Rattle.dag_json.specs.declared.error.DagJsonError.{DagJsonError}
-use Rattle.dagcbor_heads.specs.declared.error.DecodeError.{DecodeError}
+use Rattle.dagcbor_core.specs.declared.error.DecodeError.{DecodeError}
 
 -- of a text that is refused, at this byte
 abbrev pub cause_line : DagJsonError → ℕ → List ℕ

@@ -2,7 +2,7 @@
 use Rattle.std.specs.Prelude.{◌≡◌, ◌⊎◌, ℕ, List, [], ◌++◌, Bool, false, ◌&&◌, Option, Some, Result, MatchResult}
 use Rattle.std.specs.Io.KnownBytes.{Appends}
 use Rattle.std.specs.declared.convert.Infallible.{Infallible}
-use Rattle.dagcbor_io.specs.Reading.{Reading}
+use Rattle.dagcbor_heads.specs.Reading.{Reading}
 use Rattle.dagcbor_car.specs.Car.{Section}
 use Rattle.dagcbor_car.specs.Versions.{IsFile}
 use Rattle.dagcbor_car.specs.Sources.{RefusesStart, RefusesSection}

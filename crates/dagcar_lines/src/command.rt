@@ -32,7 +32,7 @@ use block_lines::no_cid_line;
 use cid_text::{CidTextError, cid_from_text, laws};
 use dagcbor_car::CarCheck;
 use dagcbor_cli::{ToolError, give_up, write_all};
-use dagcbor_io::IoRefReader;
+use dagcbor_heads::IoRefReader;
 use held_lines::input_over;
 use ipld_tree::Cid;
 use record_lines::{write_record, write_records};

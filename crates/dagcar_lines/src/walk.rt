@@ -2,7 +2,7 @@
 
 ghost use Rattle.std.specs.Prelude.{◌≡◌, [], List, ℕ, true, Ok, IfOk, OnOk};
 ghost use Rattle.held_lines.specs.declared.take.Ended.TheVariants.{Whole};
-ghost use Rattle.dagcbor_io.specs.Inputs.{input_reading};
+ghost use Rattle.dagcbor_heads.specs.Inputs.{input_reading};
 ghost use Rattle.dagcbor_items.specs.Walks.{forms};
 ghost use Rattle.dagcbor_car.specs.Car.{Section as CarSection};
 ghost use Rattle.dagcar_lines.specs.Speeches.{Speech, beside, SaysFile};
@@ -12,7 +12,7 @@ ghost use Rattle.dagcar_lines.specs.Steps.{behind, run, SaysSections, SaysHeader
 use block_lines::{Answer, Said, say, say_both};
 use dagcbor_car::{Section, SectionSink, pull_header};
 use dagcbor_cli::{ToolError, write_all};
-use dagcbor_io::{Input, Read};
+use dagcbor_heads::{Input, Read};
 use held_lines::{Ended, fault_line, take_sections};
 use ipld_tree::Cid;
 use std::alloc::{AllocError, Global};

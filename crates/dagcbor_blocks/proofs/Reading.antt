@@ -1,7 +1,7 @@
 -- A file that is read into a store, section by section.
 use Rattle.std.proofs.Common.{◌≡◌, ◌⊎◌, inl, inr, ℕ, List, [], ◌∷◌, ◌++◌, length, refl, sym, subst, Option, Some, Ok, Err}
 use Rattle.std.specs.List.{AllByRecursion}
-use Rattle.dagcbor_io.proofs.Taking.{stays_both}
+use Rattle.dagcbor_heads.proofs.Taking.{stays_both}
 use Rattle.serde_ipld_dagcbor.specs.Reading.{Reading, Stays}
 use Rattle.dagcbor_car.specs.Car.{Section}
 use Rattle.dagcbor_car.specs.Extents.{EndsThere}

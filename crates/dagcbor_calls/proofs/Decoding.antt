@@ -2,10 +2,10 @@
 use Rattle.std.proofs.Common.{◌≡◌, ℕ, ℤ, negsuc, ◌-◌, ◌^◌, ◌≤◌, min, Bool, if◌then◌else◌, le-ltb, List, [], ◌++◌, length, take, drop, map, Some, Result, Ok, Err, refl, sym, ap, ap₂, ◌∙◌, subst, arith, length-take}
 use Rattle.std.proofs.lemmas.List.{length-map, map-id}
 use Rattle.ipld_tree.specs.Tree.{Tree}
-use Rattle.dagcbor_heads.specs.declared.error.DecodeError.{DecodeError}
-use Rattle.dagcbor_heads.specs.declared.error.DecodeError.TheVariants as refusals
+use Rattle.dagcbor_core.specs.declared.error.DecodeError.{DecodeError}
+use Rattle.dagcbor_core.specs.declared.error.DecodeError.TheVariants as refusals
 use Rattle.std.specs.declared.convert.Infallible.{Infallible}
-use Rattle.dagcbor_heads.specs.Names.{name_bytes}
+use Rattle.dagcbor_core.specs.Names.{name_bytes}
 use Rattle.dagcbor_decode.specs.Decode.{Decoded, Why, got, refused, eof, mismatch, unsupported, non_minimal, indefinite_size, require_utf8, msg, unordered_key, depth_overflow, trailing_data, cast_overflow, decode}
 use Rattle.dagcbor_decode.specs.Blocks.{IsBlock}
 use Rattle.dagcbor_decode.specs.Verdicts.{why_of, answer, answered, judged, verdict, IsRefusedFor}

@@ -2,7 +2,7 @@
 use Rattle.std.proofs.Common.{inl, inr, ℕ, ℤ, ◌+◌, ◌≤◌, List, ◌++◌, length, length-append, arith, sym, ap, ◌∙◌, subst, Option, None, Some, Result, Ok, Err, IfOk, IfErr, IfSome}
 use Rattle.std.specs.Prelude.{IsUtf8}
 use Rattle.std.specs.declared.convert.Infallible.{Infallible}
-use Rattle.dagcbor_heads.specs.declared.error.DecodeError.{DecodeError}
+use Rattle.dagcbor_core.specs.declared.error.DecodeError.{DecodeError}
 use Rattle.dagcbor_decode.specs.Verdicts.{IsRefusedFor}
 use Rattle.dagcbor_paths.specs.Finding.{StandAt, FindsItemIn}
 use Rattle.dagcbor_paths.specs.declared.find.Item.{Item}

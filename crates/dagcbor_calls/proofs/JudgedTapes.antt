@@ -1,7 +1,7 @@
 -- What tokens surely tell.
 use Rattle.std.proofs.Common.{◌≡◌, ℕ, suc, pos, negsuc, ◌+◌, ◌-◌, ◌^◌, ◌<◌, ◌≤◌, List, [], ◌∷◌, ◌++◌, length, drop, true, false, refl, sym, ap, ◌∙◌, arith, append-nil, length-append, Option, Some, None, MatchOption, IfSome, IsUtf8}
-use Rattle.dagcbor_heads.specs.Head.{head}
-use Rattle.dagcbor_heads.specs.Splits.{SplitsHead}
+use Rattle.dagcbor_core.specs.Head.{head}
+use Rattle.dagcbor_core.specs.Splits.{SplitsHead}
 use Rattle.ipld_tree.specs.Cid.{IsCid}
 use Rattle.ipld_tree.specs.Tree.{Tree, null, boolean, integer, text, bytes, link}
 use Rattle.ipld_tree.specs.Spelling.{spelling, text_spelling, IsFront}

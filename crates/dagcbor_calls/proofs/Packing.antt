@@ -1,6 +1,6 @@
 -- Links, packed.
 use Rattle.std.proofs.Common.{◌≡◌, ℕ, suc, ◌≤◌, List, [], ◌∷◌, ◌++◌, length, refl, sym, ap, ◌∙◌, arith, append_assoc, append-nil, length-append}
-use Rattle.dagcbor_heads.specs.Head.{head}
+use Rattle.dagcbor_core.specs.Head.{head}
 use Rattle.ipld_tree.specs.Tree.{Tree, null, boolean, integer, text, bytes, list, mapping, link, Items, no_items, item, Entries, no_entries, entry, links_of, items_links, entries_links}
 use Rattle.ipld_tree.specs.Spelling.{spelling, items_spelling, entries_spelling, text_spelling, item_count, entry_count, IsFront}
 use Rattle.std.specs.List.{flat_map}

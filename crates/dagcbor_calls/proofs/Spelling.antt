@@ -1,7 +1,7 @@
 -- What tokens tell: counted, and put.
 use Rattle.std.proofs.Common.{◌≡◌, ℕ, suc, ◌+◌, ◌-◌, ◌^◌, ◌<◌, ◌≤◌, min, List, [], ◌∷◌, ◌++◌, length, get_or, take, drop, Bool, true, false, if◌then◌else◌, refl, sym, ap, ap₂, ◌∙◌, arith, append_assoc, append-nil, Option, Some, None, option_map, option_and_then, MatchOption, ltb, drop-cons, ltb-false, length-append, length-take-le, length-drop}
 use Rattle.std.proofs.lemmas.Bool.{ne_eqb}
-use Rattle.dagcbor_heads.specs.Head.{head}
+use Rattle.dagcbor_core.specs.Head.{head}
 use Rattle.ipld_tree.specs.Tree.{link}
 use Rattle.ipld_tree.specs.Spelling.{spelling}
 use Rattle.lent_memory.specs.Puts.{put_at}

@@ -1,9 +1,9 @@
 -- Tokens that stand in bytes, one after the other.
 use Rattle.std.proofs.Common.{◌≡◌, ◌≢◌, ◌⊎◌, inl, inr, ℕ, suc, ◌+◌, ◌-◌, ◌^◌, ◌<◌, ◌≤◌, List, [], ◌∷◌, ◌++◌, length, take, drop, set, if◌then◌else◌, refl, sym, ap, ap₂, ◌∙◌, subst, arith, append_assoc, append-nil, length-append, length-take, map, Bool, le-ltb, take-append-drop, Option, Some, None, nat_eq}
 use Rattle.std.proofs.lemmas.List.{length-map}
-use Rattle.dagcbor_heads.specs.Head.{head}
-use Rattle.dagcbor_heads.specs.Splits.{SplitsHead, BeginsWithHead}
-use Rattle.dagcbor_heads.proofs.Heads.{head_unique}
+use Rattle.dagcbor_core.specs.Head.{head}
+use Rattle.dagcbor_core.specs.Splits.{SplitsHead, BeginsWithHead}
+use Rattle.dagcbor_core.proofs.Heads.{head_unique}
 use Rattle.ipld_tree.proofs.Unique.{split_at_length}
 use Rattle.dagcbor_calls.specs.Tapes.{token, with_tokens}
 use Rattle.dagcbor_calls.specs.Standing.{IsHeadOf, null, no, yes, natural, negative, text, bytes, list, mapping, link, StandsToken, AreTokensOf, AreTokens, IsSimpleToken, HasLinkBytes, PutsStanding, StandsLinkIfThere, StandsTaggedIfThere, StandsTokenIfThere}

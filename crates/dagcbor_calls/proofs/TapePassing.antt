@@ -1,7 +1,7 @@
 -- Items and entries that were passed, one after the other, and those that are still to come.
 use Rattle.std.proofs.Common.{◌≡◌, ℕ, ◌+◌, ◌-◌, ◌<◌, ◌≤◌, List, ◌++◌, refl, sym, ap, ◌∙◌, subst, arith, append_assoc, Option, Some, None}
-use Rattle.dagcbor_heads.specs.Head.{head}
-use Rattle.dagcbor_heads.specs.Splits.{SplitsHead}
+use Rattle.dagcbor_core.specs.Head.{head}
+use Rattle.dagcbor_core.specs.Splits.{SplitsHead}
 use Rattle.ipld_tree.specs.Tree.{list, mapping, Items, no_items, item, Entries, no_entries, entry, Precedes, items_need, entries_need}
 use Rattle.ipld_tree.specs.Spelling.{entries_spelling, item_count, entry_count, IsFront, AreFronts, AreEntryFronts}
 use Rattle.ipld_tree.proofs.Fronts.{list_closed, item_closed, items_after, entry_closed, entries_after}

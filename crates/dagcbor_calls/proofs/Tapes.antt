@@ -2,9 +2,9 @@
 use Rattle.std.proofs.Common.{◌≡◌, ◌⊎◌, inl, inr, ℕ, suc, ◌+◌, ◌-◌, ◌<◌, ◌≤◌, pos, negsuc, List, [], ◌∷◌, ◌++◌, length, get_or, drop, set, true, false, refl, sym, ap, ap₂, ◌∙◌, subst, arith, append_assoc, append-nil, length-append, map, Option, Some, None, drop-cons}
 use Rattle.std.proofs.lemmas.List.{map-append, length-map}
 use Rattle.std.proofs.Math.Seq.{drop-append_seam, set-append_seam}
-use Rattle.dagcbor_heads.specs.Head.{head}
-use Rattle.dagcbor_heads.specs.Splits.{SplitsHead}
-use Rattle.dagcbor_heads.proofs.Heads.{head_first}
+use Rattle.dagcbor_core.specs.Head.{head}
+use Rattle.dagcbor_core.specs.Splits.{SplitsHead}
+use Rattle.dagcbor_core.proofs.Heads.{head_first}
 use Rattle.ipld_tree.specs.Tree.{Tree, null, boolean, integer, text, bytes, list, mapping, link, Items, no_items, item, Entries, no_entries, entry, AreItems, AreEntries}
 use Rattle.ipld_tree.specs.Spelling.{item_count, entry_count, AreSpellableItems, AreSpellableEntries, text_spelling, bytes_spelling, spelling, items_spelling, entries_spelling, IsSpelling, AreFronts}
 use Rattle.ipld_tree.proofs.Unique.{major, argument, payload}

@@ -1,7 +1,7 @@
 -- What the tape of a block tells.
 use Rattle.std.proofs.Common.{◌≡◌, ℕ, ◌+◌, ◌≤◌, pos, negsuc, List, [], ◌∷◌, ◌++◌, length, take, drop, Bool, true, false, if◌then◌else◌, refl, sym, ap, ap₂, ◌∙◌, arith, append_assoc, append-nil, length-append, Option, Some, None, option_map, option_and_then, le-ltb}
 use Rattle.std.proofs.Math.Seq.{drop-append_seam, take-append_seam}
-use Rattle.dagcbor_heads.specs.Head.{head}
+use Rattle.dagcbor_core.specs.Head.{head}
 use Rattle.ipld_tree.specs.Tree.{Tree, null, boolean, integer, text, bytes, list, mapping, link, Items, no_items, item, Entries, no_entries, entry}
 use Rattle.ipld_tree.specs.Spelling.{item_count, entry_count, text_spelling, spelling, items_spelling, entries_spelling}
 use Rattle.dagcbor_calls.specs.Tapes.{token_at, tokens_of, items_tokens, entries_tokens, text_token}

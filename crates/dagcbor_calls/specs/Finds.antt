@@ -1,7 +1,7 @@
 -- What callers in other languages are answered of a path.
 use Rattle.std.specs.Prelude.{◌≡◌, ◌⊎◌, ℕ, ◌+◌, ℤ, negsuc, List, [], ◌∷◌, ◌++◌, length, IsUtf8, Option, None, Some, Result, Ok, Err}
 use Rattle.std.specs.declared.convert.Infallible.{Infallible}
-use Rattle.dagcbor_heads.specs.declared.error.DecodeError.{DecodeError}
+use Rattle.dagcbor_core.specs.declared.error.DecodeError.{DecodeError}
 use Rattle.ipld_tree.specs.Tree.{Tree}
 use Rattle.dagcbor_decode.specs.Decode.{Why, refused, decode}
 use Rattle.dagcbor_decode.specs.Blocks.{IsBlock}

@@ -1,7 +1,7 @@
 -- The tokens that stand in bytes, one after the other from the front, whether these are a block or
 -- not.
 use Rattle.std.specs.Prelude.{◌≡◌, ◌⊎◌, ℕ, suc, ◌-◌, ◌^◌, ◌<◌, ◌≤◌, List, [], ◌∷◌, ◌++◌, length, map, take, drop, Option, MatchOption}
-use Rattle.dagcbor_heads.specs.Head.{head}
+use Rattle.dagcbor_core.specs.Head.{head}
 use Rattle.ipld_tree.specs.Tree.{Tree}
 use Rattle.dagcbor_decode.specs.Decode.{Decoded, got, refused}
 use Rattle.dagcbor_decode.specs.Verdicts.{place_of}

@@ -1,6 +1,6 @@
 -- The tokens of an item: its heads in the order of its spelling, from which a caller builds values.
 use Rattle.std.specs.Prelude.{◌≡◌, ℕ, ◌+◌, ◌-◌, ◌<◌, ◌≤◌, ℤ, pos, negsuc, Bool, true, false, List, [], ◌∷◌, ◌++◌, length, map, drop, if◌then◌else◌, nat_lt, Option, MatchOption}
-use Rattle.dagcbor_heads.specs.Head.{head}
+use Rattle.dagcbor_core.specs.Head.{head}
 use Rattle.ipld_tree.specs.Tree.{Tree, null, boolean, integer, text, bytes, list, mapping, link, Items, no_items, item, Entries, no_entries, entry}
 use Rattle.ipld_tree.specs.Spelling.{item_count, entry_count, text_spelling, spelling, IsSpelling, IsFront, AreFronts}
 use Rattle.dagcbor_decode.specs.Decode.{Decoded, got, refused}

@@ -1,6 +1,6 @@
 -- What a tape tells: its heads and their payloads, one after the other.
 use Rattle.std.specs.Prelude.{◌≡◌, ℕ, suc, ◌+◌, ◌-◌, ◌^◌, ◌≤◌, min, List, [], ◌∷◌, ◌++◌, length, take, drop, Option, Some, None, if◌then◌else◌, nat_eq, nat_lt, option_map, option_and_then, MatchOption}
-use Rattle.dagcbor_heads.specs.Head.{head}
+use Rattle.dagcbor_core.specs.Head.{head}
 use Rattle.ipld_tree.specs.Tree.{Tree}
 use Rattle.ipld_tree.specs.Spelling.{spelling}
 use Rattle.lent_memory.specs.Puts.{PutsAt}

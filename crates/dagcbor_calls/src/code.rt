@@ -5,8 +5,8 @@ ghost use Rattle.dagcbor_calls.specs.Codes.{kind_code, refusal_code, answer_code
 ghost use Rattle.dagcbor_calls.specs.Codes.{check_code};
 
 use dagcbor_car::CarError;
+use dagcbor_core::DecodeError;
 use dagcbor_decode::{Kind, check_slice};
-use dagcbor_heads::DecodeError;
 
 /// What is answered where there is no room.
 pub(crate) const NO_ROOM: i32 = -21;

@@ -8,7 +8,7 @@ ghost use Rattle.dagcbor_calls.specs.Finds.{TellsFound, IsFindAnswer, IsPartAnsw
 ghost use Rattle.dagcbor_calls.specs.Finds.{IsFollowAnswer, IsPassed};
 
 use crate::code::{kind_code, refusal_code};
-use dagcbor_heads::DecodeError;
+use dagcbor_core::DecodeError;
 use dagcbor_paths::{Item, Stop, find_segments, find_slice, follow_slice, next_segment};
 use std::convert::Infallible;
 use std::str::from_utf8;

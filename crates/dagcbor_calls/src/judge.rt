@@ -11,8 +11,8 @@ ghost use Rattle.dagcbor_calls.specs.TapeJudging.{IsLeafTold, TellsMore, TellsBl
 
 use crate::tape::Token;
 use crate::told::{payload_at, simple_length};
+use dagcbor_core::DEFAULT_STEPS;
 use dagcbor_decode::{is_cid, is_text};
-use dagcbor_heads::DEFAULT_STEPS;
 use dagcbor_items::follows;
 use lent_memory::{head_length, link_length, string_length};
 

@@ -14,8 +14,8 @@ ghost use Rattle.dagcbor_calls.specs.Answers.{tape_answer, IsTokensAnswer};
 ghost use Rattle.dagcbor_calls.specs.declared.tape.Token.{Token};
 
 use crate::code::{kind_code, refusal_code};
+use dagcbor_core::split_head;
 use dagcbor_decode::{check_slice, judge_slice};
-use dagcbor_heads::split_head;
 
 /// A head of a block: its kind, its number, and the place after it.
 #[repr(C)]

@@ -2,8 +2,8 @@
 use Rattle.std.proofs.Common.{◌≡◌, ◌≢◌, ℕ, suc, ◌+◌, ◌-◌, ◌<◌, List, [], ◌∷◌, ◌++◌, map, length, take, codes, Bool, refl, sym, ap, ◌∙◌, subst, arith, append_assoc, ◌↔◌, IsTrue, Option, Some, None, MatchOption, bytes_eq, take-append-drop}
 use Rattle.std.specs.List.{IsSplitAt}
 use Rattle.std.proofs.lemmas.Slice.Eq.{bytes_eq-Decides}
-use Rattle.dagcbor_heads.specs.Head.{head}
-use Rattle.dagcbor_heads.specs.Splits.{SplitsHead, BeginsWithHead}
+use Rattle.dagcbor_core.specs.Head.{head}
+use Rattle.dagcbor_core.specs.Splits.{SplitsHead, BeginsWithHead}
 use Rattle.ipld_tree.specs.Tree.{Tree, list, link, items_of}
 use Rattle.ipld_tree.specs.Spelling.{spelling, items_spelling, item_count, IsFront, AreFronts, IsSpelling}
 use Rattle.ipld_tree.proofs.Unique.{split_at_length}

@@ -2,8 +2,8 @@
 use Rattle.std.proofs.Common.{◌≡◌, inl, inr, ℕ, ◌+◌, ◌<◌, List, [], ◌∷◌, ◌++◌, length, length-append, take, drop, refl, sym, ap, ap₂, ◌∙◌, subst, arith, append_assoc, append-nil, Option, None, Some, option_map, flat_map}
 use lib.Seq.{drop-append-add}
 use Rattle.std.specs.List.{AllByRecursion}
-use Rattle.dagcbor_io.specs.Reading.{Reading, Stays}
-use Rattle.dagcbor_io.proofs.Taking.{stays}
+use Rattle.dagcbor_heads.specs.Reading.{Reading, Stays}
+use Rattle.dagcbor_heads.proofs.Taking.{stays}
 use Rattle.dagcbor_car.specs.Car.{header_bytes, Section, section_bytes, car_bytes, IsHeader, IsSection, IsCar}
 use Rattle.dagcbor_car.specs.Splits.{SplitsSection, BeginsNoSection}
 use Rattle.dagcbor_car.specs.Versions.{IsVersion2, begin_of, length_of, HasSpan, HoldsCar, IsFile}

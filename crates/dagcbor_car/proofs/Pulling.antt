@@ -1,9 +1,9 @@
 -- What is taken of a file from a reader.
 use Rattle.std.proofs.Common.{◌≡◌, inl, inr, ℕ, ◌+◌, ◌*◌, ◌<◌, ◌≤◌, ◌^◌, false, List, [], ◌∷◌, ◌++◌, length, length-append, refl, sym, ap, ◌∙◌, subst, arith, append_assoc, append-nil, Option, Some, Result, Ok, Err, MatchResult, IfOk, IsErrAnd}
-use Rattle.dagcbor_io.specs.Reading.{Reading}
-use Rattle.dagcbor_io.specs.Fronts.{Takes}
-use Rattle.dagcbor_io.specs.Looking.{LooksAtMost, LooksAtTaken, LooksAtSome}
-use Rattle.dagcbor_io.proofs.Looking.{nothing_looked, some_both, some_taken}
+use Rattle.dagcbor_heads.specs.Reading.{Reading}
+use Rattle.dagcbor_heads.specs.Fronts.{Takes}
+use Rattle.dagcbor_heads.specs.Looking.{LooksAtMost, LooksAtTaken, LooksAtSome}
+use Rattle.dagcbor_heads.proofs.Looking.{nothing_looked, some_both, some_taken}
 use Rattle.ipld_tree.specs.Cid.{varint}
 use Rattle.ipld_tree.specs.CidFault.{IsCutVarint, IsNoVarint, IsVarintFault}
 use Rattle.ipld_tree.specs.declared.cid_error.CidError.{CidError}

@@ -1,8 +1,8 @@
 -- What is appended of a file to a writer.
 use Rattle.std.proofs.Common.{◌≡◌, ℕ, List, length, Some, Result, subst, IsErrAnd}
-use Rattle.dagcbor_io.specs.Written.{Written, WroteAll, Stops, Writes}
-use Rattle.dagcbor_heads.specs.declared.error.EncodeError.{EncodeError}
-use Rattle.dagcbor_io.proofs.Writing.{Writes_exit, Writes_then}
+use Rattle.dagcbor_heads.specs.Written.{Written, WroteAll, Stops, Writes}
+use Rattle.dagcbor_core.specs.declared.error.EncodeError.{EncodeError}
+use Rattle.dagcbor_heads.proofs.Writing.{Writes_exit, Writes_then}
 use Rattle.ipld_tree.specs.Cid.{varint, cid_bytes}
 use Rattle.dagcbor_car.specs.Car.{Section, section_body, section_bytes}
 

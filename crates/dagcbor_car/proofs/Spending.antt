@@ -1,10 +1,10 @@
 -- How much of a file is left.
 use Rattle.std.proofs.Common.{◌≡◌, ℕ, ◌+◌, ◌*◌, ◌<◌, ◌≤◌, min, List, [], ◌∷◌, ◌++◌, length, length-append, length-take, take, refl, sym, ap, ◌∙◌, subst, arith, Option, None, Some, option_map, Result, Ok, Err, MatchResult}
 use lib.Seq.{take-append-add}
-use Rattle.dagcbor_io.specs.Reading.{Reading}
-use Rattle.dagcbor_io.specs.Fronts.{Takes}
-use Rattle.dagcbor_io.specs.Looking.{LooksAtMost, LooksAtTaken, LooksAtSome, LooksAtLeft, Looks, LooksSome}
-use Rattle.dagcbor_io.proofs.Taking.{nothing_taken, takes_both}
+use Rattle.dagcbor_heads.specs.Reading.{Reading}
+use Rattle.dagcbor_heads.specs.Fronts.{Takes}
+use Rattle.dagcbor_heads.specs.Looking.{LooksAtMost, LooksAtTaken, LooksAtSome, LooksAtLeft, Looks, LooksSome}
+use Rattle.dagcbor_heads.proofs.Taking.{nothing_taken, takes_both}
 use Rattle.dagcbor_car.specs.Extents.{bytes_within, wanting, of_file, Spends, TakesOff}
 use Rattle.dagcbor_car.specs.Sources.{CarRefuses, IsShort}
 use Rattle.dagcbor_car.specs.Steps.{ExceedsExtent}

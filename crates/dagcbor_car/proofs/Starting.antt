@@ -4,11 +4,11 @@ use Rattle.std.proofs.lemmas.List.{take-append-le, drop-append-le}
 use Rattle.std.proofs.lemmas.Bool.{cases_lt}
 use lib.Seq.{take_all, take-take, drop-append_seam, drop-append-add}
 use Rattle.std.specs.Int.{w64, from_le_bytes}
-use Rattle.dagcbor_io.specs.Reading.{Reading}
-use Rattle.dagcbor_io.specs.Fronts.{Takes}
-use Rattle.dagcbor_io.specs.Looking.{LooksAtMost, LooksAtSome, LooksAtLeft}
-use Rattle.dagcbor_io.proofs.Taking.{takes_both}
-use Rattle.dagcbor_io.proofs.Looking.{some_both}
+use Rattle.dagcbor_heads.specs.Reading.{Reading}
+use Rattle.dagcbor_heads.specs.Fronts.{Takes}
+use Rattle.dagcbor_heads.specs.Looking.{LooksAtMost, LooksAtSome, LooksAtLeft}
+use Rattle.dagcbor_heads.proofs.Taking.{takes_both}
+use Rattle.dagcbor_heads.proofs.Looking.{some_both}
 use Rattle.ipld_tree.specs.Cid.{varint, CidParts}
 use Rattle.ipld_tree.specs.Spelling.{spelling, IsSpelling}
 use Rattle.dagcbor_items.specs.Walks.{forms}

@@ -1,6 +1,6 @@
 -- Sections that are taken one by one.
 use Rattle.std.proofs.Common.{ℕ, List, [], ◌∷◌, ◌++◌, append_assoc, append-nil, refl, sym, subst, Option, Ok, Err}
-use Rattle.dagcbor_io.specs.Reading.{Reading}
+use Rattle.dagcbor_heads.specs.Reading.{Reading}
 use Rattle.dagcbor_car.specs.Car.{Section}
 use Rattle.dagcbor_car.specs.Sources.{TakesSectionBytes, LacksMemoryIf}
 use Rattle.dagcbor_car.specs.declared.error.CarError.{CarError}

@@ -3,10 +3,10 @@ use Rattle.std.proofs.Common.{◌≡◌, ℕ, suc, ◌+◌, ◌<◌, add-one, Li
 use Rattle.std.specs.List.{AllByRecursion}
 use Rattle.std.proofs.lemmas.Grind.{flat_map-append}
 use Rattle.ipld_tree.specs.Cid.{CidParts}
-use Rattle.dagcbor_io.specs.Written.{Written, WroteAll, Stops, Writes, WantsMemoryOnlyIf}
-use Rattle.dagcbor_heads.specs.declared.error.EncodeError.{EncodeError}
-use Rattle.dagcbor_heads.specs.declared.error.EncodeError.TheVariants.{OutOfMemory}
-use Rattle.dagcbor_io.proofs.Writing.{WroteAll_then, Stops-then, Writes_exit}
+use Rattle.dagcbor_heads.specs.Written.{Written, WroteAll, Stops, Writes, WantsMemoryOnlyIf}
+use Rattle.dagcbor_core.specs.declared.error.EncodeError.{EncodeError}
+use Rattle.dagcbor_core.specs.declared.error.EncodeError.TheVariants.{OutOfMemory}
+use Rattle.dagcbor_heads.proofs.Writing.{WroteAll_then, Stops-then, Writes_exit}
 use Rattle.dagcbor_car.specs.Writers.{UnsentWithoutMemory}
 use Rattle.ipld_links.specs.Reaching.{Stored}
 use Rattle.dagcbor_car.specs.Reached.{section_at, sections_at}

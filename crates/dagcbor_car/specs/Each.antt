@@ -1,6 +1,6 @@
 -- The sections of a file, one by one, for whatever takes them.
 use Rattle.std.specs.Prelude.{◌≡◌, ◌⊎◌, ℕ, ◌-◌, ◌^◌, List, [], ◌∷◌, length, Bool, Option, Result, Ok, Err, MatchBool, MatchResult}
-use Rattle.dagcbor_io.specs.Reading.{Reading}
+use Rattle.dagcbor_heads.specs.Reading.{Reading}
 use Rattle.dagcbor_car.specs.Car.{Section}
 use Rattle.dagcbor_car.specs.Extents.{of_file, EndsThere}
 use Rattle.dagcbor_car.specs.Sources.{CarRefuses, RefusesNext, TakesSectionBytes, LacksMemoryIf, SectionLacks}

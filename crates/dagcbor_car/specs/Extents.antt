@@ -1,7 +1,7 @@
 -- How much of a file is left in a reader: so many bytes, or as many as there are.
 use Rattle.std.specs.Prelude.{◌≡◌, ℕ, ◌+◌, ◌-◌, List, length, take, Option, None, Some, option_map}
-use Rattle.dagcbor_io.specs.Reading.{Reading}
-use Rattle.dagcbor_io.specs.Fronts.{FindsEnd, Takes}
+use Rattle.dagcbor_heads.specs.Reading.{Reading}
+use Rattle.dagcbor_heads.specs.Fronts.{FindsEnd, Takes}
 
 -- those of the bytes left that are of the file
 abbrev pub bytes_within : Option ℕ → List ℕ → List ℕ

@@ -1,7 +1,7 @@
 -- What stands at the front of the bytes of a file, and why it does not.
 use Rattle.std.specs.Prelude.{◌≡◌, ◌≢◌, ◌⊎◌, ℕ, ◌^◌, ◌<◌, List, ◌++◌, length, map, Result, MatchResult, Vec}
 use Rattle.std.specs.declared.alloc.Global.{Global}
-use Rattle.dagcbor_heads.specs.declared.error.DecodeError.TheVariants as unread
+use Rattle.dagcbor_core.specs.declared.error.DecodeError.TheVariants as unread
 use Rattle.ipld_tree.specs.Cid.{varint, CidParts, AreCidParts, cid_bytes}
 use Rattle.ipld_tree.specs.CidFault.{IsCutVarint, IsNoVarint, IsFault}
 use Rattle.ipld_tree.specs.declared.cid_error.CidError.{CidError}

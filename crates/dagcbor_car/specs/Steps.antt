@@ -1,8 +1,8 @@
 -- What the steps of reading a file's start, and of finding its end, do.
 use Rattle.std.specs.Prelude.{◌≡◌, ◌≢◌, ℕ, ◌+◌, ◌*◌, ◌<◌, List, [], ◌++◌, length, true, Option, None, Some}
-use Rattle.dagcbor_io.specs.Reading.{Reading, Keeps, Stays}
-use Rattle.dagcbor_io.specs.Fronts.{Takes}
-use Rattle.dagcbor_io.specs.Looking.{LooksAtMost}
+use Rattle.dagcbor_heads.specs.Reading.{Reading, Keeps, Stays}
+use Rattle.dagcbor_heads.specs.Fronts.{Takes}
+use Rattle.dagcbor_heads.specs.Looking.{LooksAtMost}
 use Rattle.dagcbor_car.specs.Car.{IsHeader}
 use Rattle.dagcbor_car.specs.Splits.{CountsBlock}
 use Rattle.dagcbor_car.specs.Versions.{pragma, begin_of, length_of, HasSpan, HoldsCar}

@@ -1,8 +1,8 @@
 -- What is written of a file, section by section.
 use Rattle.std.specs.Prelude.{◌≡◌, List, ℕ, Bool, false, Option, None, Some, Result, Ok, Err, ⊤, is_err, option_map, MatchBool, MatchResult, IsSomeAnd}
-use Rattle.dagcbor_io.specs.Written.{Written, WroteAll, Stops, Writes, WantsMemoryOnlyIf}
-use Rattle.dagcbor_heads.specs.declared.error.EncodeError.{EncodeError}
-use Rattle.dagcbor_heads.specs.declared.error.EncodeError.TheVariants as unsent
+use Rattle.dagcbor_heads.specs.Written.{Written, WroteAll, Stops, Writes, WantsMemoryOnlyIf}
+use Rattle.dagcbor_core.specs.declared.error.EncodeError.{EncodeError}
+use Rattle.dagcbor_core.specs.declared.error.EncodeError.TheVariants as unsent
 use Rattle.dagcbor_car.specs.Car.{Section, section_bytes, IsSection, header_bytes, IsHeader}
 use Rattle.dagcbor_car.specs.declared.error.CarWriteError.{CarWriteError}
 use Rattle.dagcbor_car.specs.declared.error.CarWriteError.TheVariants.{Write, OutOfMemory, Failed}

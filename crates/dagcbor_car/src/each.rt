@@ -1,14 +1,14 @@
 //! The sections of a file, one by one, for whatever takes them.
 
 ghost use Rattle.std.specs.Prelude.{Result};
-ghost use Rattle.dagcbor_io.specs.Inputs.{input_reading};
+ghost use Rattle.dagcbor_heads.specs.Inputs.{input_reading};
 ghost use Rattle.dagcbor_car.specs.Car.{Section as CarSection};
 ghost use Rattle.dagcbor_car.specs.Each.{RunsEach, TakesNext};
 
 use crate::error::CarError;
 use crate::pull::pull_section;
 use crate::section::Section;
-use dagcbor_io::{Input, Read};
+use dagcbor_heads::{Input, Read};
 use ipld_tree::Cid;
 use std::alloc::Global;
 use thiserror::Error;

@@ -1,6 +1,6 @@
 //! Why bytes are not a CAR file, and why a file is not written.
 
-use dagcbor_heads::DecodeError;
+use dagcbor_core::DecodeError;
 use ipld_tree::CidError;
 use std::convert::Infallible;
 use thiserror::Error;

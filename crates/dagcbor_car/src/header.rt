@@ -14,9 +14,9 @@ ghost use Rattle.dagcbor_car.specs.declared.error.CarError.TheVariants.{OutOfMem
 
 use crate::error::CarError;
 use crate::section::split_counted;
+use dagcbor_core::split_head;
 use dagcbor_decode::{behind_link, check_slice, links_from_slice};
-use dagcbor_heads::split_head;
-use dagcbor_io::{Write, WriteResult};
+use dagcbor_heads::{Write, WriteResult};
 use dagcbor_write::{Field, Serialize, Serializer, to_vec, write_struct};
 use ipld_tree::Cid;
 use std::alloc::{AllocError, Global};

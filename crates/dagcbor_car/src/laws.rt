@@ -3,7 +3,7 @@
 ghost use Rattle.dagcbor_car.specs.Laws.{CarsAreUnique, FilesAreUnique, CarsAreFiles};
 ghost use Rattle.dagcbor_car.specs.Runs.{RunsAreExact, CarsReadBack, CarsAreWritten};
 
-use dagcbor_io::{Read, Write};
+use dagcbor_heads::{Read, Write};
 
 /// Bytes are the file of one list of roots and one list of sections at most.
 #[tactic(auto, using(crate::proofs::Cars::car_unique))]

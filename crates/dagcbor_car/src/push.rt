@@ -1,7 +1,7 @@
 //! The header and the sections of a file, appended to any writer.
 
 ghost use Rattle.std.specs.Prelude.{◌≡◌, Some, OnOk};
-ghost use Rattle.dagcbor_io.specs.Written.{Writes, WantsMemoryOnlyIf};
+ghost use Rattle.dagcbor_heads.specs.Written.{Writes, WantsMemoryOnlyIf};
 ghost use Rattle.ipld_tree.specs.Cid.{varint};
 ghost use Rattle.dagcbor_items.specs.Walks.{forms};
 ghost use Rattle.dagcbor_car.specs.Car.{counted, header_bytes, IsHeader};
@@ -11,8 +11,8 @@ ghost use Rattle.dagcbor_car.specs.Writers.{UnsentWithoutMemory};
 use crate::header::spell_header;
 use crate::pull::MOST_GROUPS;
 use arrayvec::ArrayVec;
-use dagcbor_heads::EncodeError;
-use dagcbor_io::{Write, WriteResult};
+use dagcbor_core::EncodeError;
+use dagcbor_heads::{Write, WriteResult};
 use ipld_tree::Cid;
 use std::alloc::Global;
 

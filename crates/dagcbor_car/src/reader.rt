@@ -1,15 +1,15 @@
 //! The sections of a file, one by one, from a slice or any reader.
 
 ghost use Rattle.std.specs.Prelude.{◌≡◌, [], Some, true};
-ghost use Rattle.dagcbor_io.specs.Inputs.{input_reading, not_lending};
-ghost use Rattle.dagcbor_heads.specs.Steps.{default_steps};
-ghost use Rattle.dagcbor_io.specs.Reading.{fresh_reading};
+ghost use Rattle.dagcbor_heads.specs.Inputs.{input_reading, not_lending};
+ghost use Rattle.dagcbor_core.specs.Steps.{default_steps};
+ghost use Rattle.dagcbor_heads.specs.Reading.{fresh_reading};
 ghost use Rattle.dagcbor_car.specs.Sources.{section_stream, GivesSection, Begins};
 
 use crate::error::CarError;
 use crate::pull::{pull_header, pull_section};
 use crate::read_section::ReadSection;
-use dagcbor_io::{Input, Read, SliceReader};
+use dagcbor_heads::{Input, Read, SliceReader};
 use ipld_tree::Cid;
 use std::alloc::Global;
 use std::convert::Infallible;

@@ -2,7 +2,7 @@
 
 ghost use Rattle.std.specs.Prelude.{◌≡◌, [], ◌∷◌, Some, OnOk};
 ghost use Rattle.std.specs.List.{AllByRecursion, flat_map};
-ghost use Rattle.dagcbor_io.specs.Written.{Writes, WantsMemoryOnlyIf};
+ghost use Rattle.dagcbor_heads.specs.Written.{Writes, WantsMemoryOnlyIf};
 ghost use Rattle.ipld_tree.specs.Cid.{cid_bytes};
 ghost use Rattle.dagcbor_car.specs.Car.{car_bytes, section_bytes, IsSection, IsCar};
 ghost use Rattle.dagcbor_car.specs.Writers.{UnsentWithoutMemory};
@@ -10,7 +10,7 @@ ghost use Rattle.ipld_links.specs.Reaching.{stored_in};
 ghost use Rattle.dagcbor_car.specs.Reached.{section_at, sections_at};
 
 use crate::push::{push_header, push_section};
-use dagcbor_io::{Write, WriteResult};
+use dagcbor_heads::{Write, WriteResult};
 use ipld_links::stored_bytes;
 use ipld_tree::Cid;
 use std::alloc::Global;

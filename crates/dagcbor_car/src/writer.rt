@@ -7,8 +7,8 @@ ghost use Rattle.dagcbor_car.specs.Writers.{writer_refusal, BeginsCar, WritesSec
 
 use crate::error::CarWriteError;
 use crate::push::{push_header, push_section};
-use dagcbor_heads::EncodeError;
-use dagcbor_io::Write;
+use dagcbor_core::EncodeError;
+use dagcbor_heads::Write;
 use ipld_tree::Cid;
 use std::alloc::Global;
 use std::marker::Model;

@@ -1,7 +1,7 @@
 -- Where no leaf, no link and no key stands; and what a part that is split off says of the whole.
 use Rattle.std.proofs.Common.{◌≡◌, inl, inr, ℕ, ◌<◌, ◌≤◌, List, ◌∷◌, length, take, refl, sym, ap, ◌∙◌, subst, arith, Option, Some, None, MatchOption}
 use Rattle.std.proofs.Math.Seq.{take-append_seam}
-use Rattle.dagcbor_heads.specs.Splits.{SplitsHead}
+use Rattle.dagcbor_core.specs.Splits.{SplitsHead}
 use Rattle.ipld_tree.specs.Cid.{IsCid}
 use Rattle.ipld_tree.specs.Tree.{Tree, text, link, list, mapping, integer, any_need}
 use Rattle.ipld_tree.specs.Spelling.{IsFront}

@@ -1,6 +1,6 @@
 -- Some blocks, and bytes that are refused.
 use Rattle.std.proofs.Common.{◌≡◌, [], ◌∷◌, refl, codes, pos}
-use Rattle.dagcbor_heads.specs.Lengths.{len_of}
+use Rattle.dagcbor_core.specs.Lengths.{len_of}
 use Rattle.ipld_tree.specs.Tree.{list, item, no_items, integer}
 use Rattle.dagcbor_decode.specs.Decode.{got, refused, non_minimal, eof, decode}
 

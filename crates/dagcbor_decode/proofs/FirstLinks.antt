@@ -1,7 +1,7 @@
 -- The links of the first item.
 use Rattle.std.proofs.Common.{◌≡◌, ℕ, ◌-◌, ◌≤◌, List, ◌++◌, ◌∷◌, ◌∙◌, length, length-append, append-nil, take, [], ◌≢◌, None, Some, Ok, Err, refl, sym, ap, arith}
-use Rattle.dagcbor_heads.specs.declared.error.DecodeError.{DecodeError}
-use Rattle.dagcbor_heads.specs.declared.error.DecodeError.TheVariants.{OutOfMemory}
+use Rattle.dagcbor_core.specs.declared.error.DecodeError.{DecodeError}
+use Rattle.dagcbor_core.specs.declared.error.DecodeError.TheVariants.{OutOfMemory}
 use Rattle.std.proofs.Math.Seq.{take-append_seam}
 use Rattle.ipld_tree.specs.Tree.{Tree, any_need, links_of}
 use Rattle.ipld_tree.specs.Spelling.{spelling, IsFront}

@@ -8,8 +8,8 @@ use Rattle.std.specs.Char.{is_ascii}
 use Rattle.std.specs.Str.{is_utf8}
 use Rattle.std.proofs.lemmas.Str.{IsUtf8-from_ascii, IsUtf8-from_is_utf8, is_utf8-from_IsUtf8}
 use Rattle.std.proofs.lemmas.Str.Ascii.{IsAscii-from_all}
-use Rattle.dagcbor_heads.specs.Head.{head}
-use Rattle.dagcbor_heads.specs.Splits.{SplitsHead, BeginsWithHead}
+use Rattle.dagcbor_core.specs.Head.{head}
+use Rattle.dagcbor_core.specs.Splits.{SplitsHead, BeginsWithHead}
 use Rattle.ipld_tree.specs.Cid.{varint, cid_parts, IsCid}
 use Rattle.ipld_tree.proofs.Cids.{one_group, form_1}
 use Rattle.ipld_tree.specs.Tree.{Tree, null, boolean, integer, text, bytes, link}

@@ -5,9 +5,9 @@ use Rattle.std.proofs.lemmas.Bool.{ltb-false, cases_lt}
 use Rattle.std.proofs.lemmas.Bool.Decides.{eqb_tells}
 use Rattle.std.proofs.lemmas.Nat.{from_be_bytes-to_be_bytes_2, from_be_bytes-to_be_bytes_4, from_be_bytes-to_be_bytes_8, be_bytes_2, be_bytes_4, be_bytes_8}
 use Rattle.std.specs.Int.{w8, w16, w32, w64, Width, from_be_bytes, bytes_high_first}
-use Rattle.dagcbor_heads.specs.Head.{head}
-use Rattle.dagcbor_heads.proofs.Heads.{Row, whole, one, two, four, eight, shape, information_lt, length-bytes_high_first, head_one, head_two, head_four, head_eight}
-use Rattle.dagcbor_heads.proofs.HeadForms.{small_head}
+use Rattle.dagcbor_core.specs.Head.{head}
+use Rattle.dagcbor_core.proofs.Heads.{Row, whole, one, two, four, eight, shape, information_lt, length-bytes_high_first, head_one, head_two, head_four, head_eight}
+use Rattle.dagcbor_core.proofs.HeadForms.{small_head}
 use Rattle.dagcbor_decode.specs.Decode.{Decoded, got, refused, indefinite_size, unsupported, after, payload, at_least, number, argument_by, argument_of}
 
 -- ---- what was read, backwards

@@ -7,8 +7,8 @@ use Rattle.std.proofs.lemmas.Bool.{cases_lt}
 use Rattle.ipld_tree.specs.Tree.{Tree}
 use Rattle.dagcbor_decode.specs.Blocks.{IsBlock}
 use Rattle.dagcbor_decode.specs.Decode.{Decoded, Why, got, refused, trailing_data, after, at_end, item_of, decode}
-use Rattle.dagcbor_heads.specs.declared.error.DecodeError.{DecodeError}
-use Rattle.dagcbor_heads.specs.declared.error.DecodeError.TheVariants.{OutOfMemory}
+use Rattle.dagcbor_core.specs.declared.error.DecodeError.{DecodeError}
+use Rattle.dagcbor_core.specs.declared.error.DecodeError.TheVariants.{OutOfMemory}
 use Rattle.dagcbor_decode.specs.TreeKinds.{kind_of}
 use Rattle.dagcbor_decode.specs.declared.kind.Kind.{Kind}
 use Rattle.dagcbor_decode.specs.Told.{kind_told}

@@ -1,8 +1,8 @@
 -- How many bytes are left after what is read in a row.
 use Rattle.std.proofs.Common.{◌≡◌, ℕ, ◌-◌, ◌≤◌, List, ◌++◌, length, drop, None, Ok, Err, refl, sym, ap, ap₂, ◌∙◌, subst, arith, length-append}
 use Rattle.std.proofs.Math.Seq.{drop-append_seam}
-use Rattle.dagcbor_heads.specs.Head.{head}
-use Rattle.dagcbor_heads.specs.Splits.{SplitsHead}
+use Rattle.dagcbor_core.specs.Head.{head}
+use Rattle.dagcbor_core.specs.Splits.{SplitsHead}
 use Rattle.ipld_tree.specs.Spelling.{items_spelling, entries_spelling}
 use Rattle.dagcbor_decode.specs.Decode.{Decoded, Why, got, refused, items_of, entries_of, item_of}
 use Rattle.dagcbor_decode.specs.Told.{skim, left_of}

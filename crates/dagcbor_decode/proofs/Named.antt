@@ -1,11 +1,11 @@
 -- Names that are kept whole.
 use Rattle.std.proofs.Common.{◌≡◌, ℕ, ◌≤◌, List, length, ◌∙◌, subst, sym, arith}
-use Rattle.dagcbor_heads.specs.Names.{Names, name_bytes}
-use Rattle.dagcbor_heads.specs.declared.name.Name.{Name}
+use Rattle.dagcbor_core.specs.Names.{Names, name_bytes}
+use Rattle.dagcbor_core.specs.declared.name.Name.{Name}
 use Rattle.dagcbor_decode.specs.Told.{name}
 use Rattle.dagcbor_decode.specs.declared.cause.Label.{Label}
 use Rattle.dagcbor_decode.specs.declared.cause.Label.TheVariants as label
-use Rattle.dagcbor_heads.proofs.Keeping.{kept_whole}
+use Rattle.dagcbor_core.proofs.Keeping.{kept_whole}
 
 pub named : (kept : Name) (text wanted : List ℕ) → Names kept text → text ≡ wanted → length wanted ≤ 31 → name_bytes kept ≡ wanted
 named kept text wanted n e short = kept_whole n.kept (subst (λ s. length s ≤ 31) (sym e) short) ∙ e

@@ -5,16 +5,16 @@ use Rattle.std.proofs.lemmas.Str.{IsCharBoundary-end}
 use Rattle.std.proofs.lemmas.Bool.Decides.{eqb_tells}
 use Rattle.std.specs.Int.{w8, w16, w32, w64, Width, from_be_bytes, bytes_high_first}
 use Rattle.std.proofs.lemmas.Nat.{from_be_bytes-to_be_bytes_2, from_be_bytes-to_be_bytes_4, from_be_bytes-to_be_bytes_8}
-use Rattle.dagcbor_heads.specs.Lengths.{len_of}
-use Rattle.dagcbor_heads.specs.Texts.{IsKept}
-use Rattle.dagcbor_heads.specs.Names.{Names, name_bytes}
-use Rattle.dagcbor_heads.specs.Causes.{ByteCause, HeadCause, PayloadCause, IsEndNamed, IsPayloadNamed, IsNamed, argument_width, least_argument}
-use Rattle.dagcbor_heads.specs.declared.name.Name.{Name}
-use Rattle.dagcbor_heads.specs.declared.error.Len.{Len}
-use Rattle.dagcbor_heads.specs.declared.error.Len.TheVariants.{Small}
-use Rattle.dagcbor_heads.specs.declared.error.DecodeError.{DecodeError}
-use Rattle.dagcbor_heads.specs.declared.error.DecodeError.TheVariants.{Eof, Unsupported, IndefiniteSize, NonMinimal}
-use Rattle.dagcbor_heads.proofs.Heads.{length-bytes_high_first}
+use Rattle.dagcbor_core.specs.Lengths.{len_of}
+use Rattle.dagcbor_core.specs.Texts.{IsKept}
+use Rattle.dagcbor_core.specs.Names.{Names, name_bytes}
+use Rattle.dagcbor_core.specs.Causes.{ByteCause, HeadCause, PayloadCause, IsEndNamed, IsPayloadNamed, IsNamed, argument_width, least_argument}
+use Rattle.dagcbor_core.specs.declared.name.Name.{Name}
+use Rattle.dagcbor_core.specs.declared.error.Len.{Len}
+use Rattle.dagcbor_core.specs.declared.error.Len.TheVariants.{Small}
+use Rattle.dagcbor_core.specs.declared.error.DecodeError.{DecodeError}
+use Rattle.dagcbor_core.specs.declared.error.DecodeError.TheVariants.{Eof, Unsupported, IndefiniteSize, NonMinimal}
+use Rattle.dagcbor_core.proofs.Heads.{length-bytes_high_first}
 use Rattle.dagcbor_decode.specs.Decode.{Decoded, Why, got, refused, eof, unsupported, non_minimal, indefinite_size, after, payload, at_least, number, argument_by, argument_of}
 use Rattle.dagcbor_decode.specs.Verdicts.{IsRefusal, why_of}
 use Rattle.dagcbor_decode.proofs.HeadLaws.{payload_front}

@@ -1,8 +1,8 @@
 -- Where no front and no key is read, and what that says of the item.
 use Rattle.std.proofs.Common.{◌≡◌, ◌≢◌, ◌⊎◌, inl, inr, ℕ, suc, zero, ◌/◌, ◌%◌, ◌==◌, ◌-◌, ◌<◌, ◌≤◌, List, [], ◌∷◌, length, Bool, true, false, if◌then◌else◌, Option, None, codes, refl, sym, ap, ◌∙◌, arith}
 use Rattle.std.proofs.lemmas.Bool.Decides.{eqb_tells}
-use Rattle.dagcbor_heads.specs.Splits.{SplitsHead, BeginsWithHead}
-use Rattle.dagcbor_heads.proofs.Heads.{head_unique}
+use Rattle.dagcbor_core.specs.Splits.{SplitsHead, BeginsWithHead}
+use Rattle.dagcbor_core.proofs.Heads.{head_unique}
 use Rattle.ipld_tree.specs.Tree.{Tree, text, list, mapping, any_need}
 use Rattle.ipld_tree.specs.Spelling.{IsFront}
 use Rattle.ipld_tree.proofs.Unique.{major}

@@ -1,6 +1,6 @@
 -- What stands there is read.
 use Rattle.std.proofs.Common.{◌≡◌, ℕ, suc, zero, ◌-◌, ◌≤◌, List, ap, ◌∙◌, arith, Option, None, codes, true}
-use Rattle.dagcbor_heads.specs.Splits.{SplitsHead}
+use Rattle.dagcbor_core.specs.Splits.{SplitsHead}
 use Rattle.ipld_tree.specs.Tree.{list, mapping, text}
 use Rattle.ipld_tree.specs.Spelling.{IsFront}
 use Rattle.dagcbor_decode.specs.Fronts.{SplitsLeaf}

@@ -1,6 +1,6 @@
 -- Blocks: the spellings of trees that are read within the steps of a fresh reader.
 use Rattle.std.specs.Prelude.{◌≡◌, ℕ, ◌≤◌, List}
-use Rattle.dagcbor_heads.specs.Steps.{default_steps}
+use Rattle.dagcbor_core.specs.Steps.{default_steps}
 use Rattle.ipld_tree.specs.Tree.{Tree, any_need, links_of}
 use Rattle.ipld_tree.specs.Spelling.{IsSpelling, IsFront}
 

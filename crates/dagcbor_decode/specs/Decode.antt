@@ -4,8 +4,8 @@
 use Rattle.std.specs.Prelude.{ℕ, zero, suc, ◌^◌, ◌/◌, ◌%◌, ◌==◌, nat_lt, pos, negsuc, List, [], ◌∷◌, length, take, drop, codes, Option, None, Some, Bool, true, false, if◌then◌else◌}
 use Rattle.std.specs.Int.{w8, w16, w32, w64, from_be_bytes, Width}
 use Rattle.std.specs.Str.{is_utf8}
-use Rattle.dagcbor_heads.specs.Lengths.{len_of}
-use Rattle.dagcbor_heads.specs.declared.error.Len.{Len}
+use Rattle.dagcbor_core.specs.Lengths.{len_of}
+use Rattle.dagcbor_core.specs.declared.error.Len.{Len}
 use Rattle.ipld_tree.specs.Key.{comes_before}
 use Rattle.ipld_tree.specs.Tree.{Tree, Items, Entries, null, boolean, integer, text, bytes, list, mapping, link, no_items, item, no_entries, entry}
 use Rattle.dagcbor_decode.specs.CidTest.{is_cid}

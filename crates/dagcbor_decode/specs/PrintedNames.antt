@@ -1,7 +1,7 @@
 -- The names of kinds and of refusals, as the programs print them.
 use Rattle.std.specs.Prelude.{ℕ, List, codes}
-use Rattle.dagcbor_heads.specs.declared.error.DecodeError.{DecodeError}
-use Rattle.dagcbor_heads.specs.declared.error.DecodeError.TheVariants as refusals
+use Rattle.dagcbor_core.specs.declared.error.DecodeError.{DecodeError}
+use Rattle.dagcbor_core.specs.declared.error.DecodeError.TheVariants as refusals
 use Rattle.dagcbor_decode.specs.declared.kind.Kind.{Kind}
 use Rattle.dagcbor_decode.specs.declared.kind.Kind.TheVariants as kinds
 

@@ -2,7 +2,7 @@
 use Rattle.std.specs.Prelude.{ℕ, zero, suc, ◌/◌, ◌%◌, ◌==◌, List, [], ◌∷◌, length, Option, Some, None, Result, Ok, Err, codes, if◌then◌else◌}
 use Rattle.std.specs.Bool.{⊤}
 use Rattle.std.specs.Borrow.{Bor}
-use Rattle.dagcbor_heads.specs.Lengths.{len_of}
+use Rattle.dagcbor_core.specs.Lengths.{len_of}
 use Rattle.ipld_tree.specs.Tree.{Tree}
 use Rattle.dagcbor_decode.specs.Decode.{Decoded, Why, got, refused, eof, mismatch, unsupported, non_minimal, indefinite_size, require_utf8, msg, unordered_key, depth_overflow, trailing_data, argument_of, leaf_of}
 use Rattle.dagcbor_decode.specs.TreeKinds.{kind_of}

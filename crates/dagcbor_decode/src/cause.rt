@@ -2,11 +2,11 @@
 
 ghost use Rattle.std.specs.Prelude.{◌≡◌, Some};
 ghost use Rattle.std.specs.declared.convert.Infallible.{Infallible};
-ghost use Rattle.dagcbor_heads.specs.Names.{name_bytes};
+ghost use Rattle.dagcbor_core.specs.Names.{name_bytes};
 ghost use Rattle.dagcbor_decode.specs.Verdicts.{why_of};
 ghost use Rattle.dagcbor_decode.specs.Told.{name, why};
 
-use dagcbor_heads::{DecodeError, Len, Name};
+use dagcbor_core::{DecodeError, Len, Name};
 use std::convert::Infallible;
 
 /// What was being read.

@@ -2,14 +2,14 @@
 //! links, and items that have no others in them. `None` says that nothing of the kind stands there.
 
 ghost use Rattle.std.specs.Prelude.{◌≡◌, ◌<◌, ◌≤◌, length, List, ℕ, MatchOption};
-ghost use Rattle.dagcbor_heads.specs.Splits.{SplitsHead};
+ghost use Rattle.dagcbor_core.specs.Splits.{SplitsHead};
 ghost use Rattle.ipld_tree.specs.Tree.{text, link};
 ghost use Rattle.ipld_tree.specs.Spelling.{IsFront};
 ghost use Rattle.dagcbor_decode.specs.Fronts.{SplitsPayload, SplitsText, SplitsCid, SplitsLeaf};
 
 use crate::cid::is_cid;
 use crate::text::is_text;
-use dagcbor_heads::split_head;
+use dagcbor_core::split_head;
 
 /// The next n bytes, and the bytes after them.
 #[inline(always)]

@@ -10,7 +10,7 @@ ghost use Rattle.dagcbor_decode.specs.Decode.{got, refused, key_of, items_of, en
 use crate::cause::Stop;
 use crate::front::{behind_leaf, split_key};
 use crate::part::{follows, front_of, key_of};
-use dagcbor_heads::split_head;
+use dagcbor_core::split_head;
 
 /// A key that may come after the one before it, and the bytes after it.
 #[inline(always)]

@@ -11,7 +11,7 @@ ghost use Rattle.dagcbor_decode.specs.Verdicts.{AnswersLinks, IsRefusal};
 
 use crate::cause::Stop;
 use crate::judge::judge_item;
-use dagcbor_heads::{DEFAULT_STEPS, DecodeError, split_head};
+use dagcbor_core::{DEFAULT_STEPS, DecodeError, split_head};
 use ipld_tree::Cid;
 use std::alloc::{AllocError, Global};
 use std::convert::Infallible;

@@ -4,7 +4,7 @@ ghost use Rattle.std.specs.Prelude.{◌≡◌};
 ghost use Rattle.dagcbor_decode.specs.PrintedNames.{kind_name, variant_name};
 
 use crate::kind::Kind;
-use dagcbor_heads::DecodeError;
+use dagcbor_core::DecodeError;
 
 /// The name of the kind.
 pub fn kind_name(kind: Kind) -> &'static str

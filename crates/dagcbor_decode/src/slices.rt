@@ -11,7 +11,7 @@ ghost use Rattle.dagcbor_decode.specs.Told.{why, kind_or, kind_told};
 use crate::cause::{Cause, Stop};
 use crate::judge::judge_item;
 use crate::kind::{Kind, kind_of_front};
-use dagcbor_heads::{DEFAULT_STEPS, DecodeError};
+use dagcbor_core::{DEFAULT_STEPS, DecodeError};
 use std::convert::Infallible;
 
 /// Why bytes are not a block, and where. Of the bytes before `place` only missing bytes are told; with

@@ -1,5 +1,9 @@
-pub mod Bytes
-pub mod Heads
-pub mod HeadForms
-pub mod Splitting
-pub mod Keeping
+pub mod Sending
+pub mod Writing
+pub mod Windows
+pub mod Taking
+pub mod Looking
+pub mod Refusing
+pub mod Arguments
+pub mod HeadFaults
+pub mod Slices

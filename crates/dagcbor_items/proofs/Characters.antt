@@ -1,12 +1,12 @@
 -- Reading characters.
 use Rattle.std.proofs.Common.{◌≡◌, ℕ, arith, List, [], ◌∷◌, ◌++◌, length, true, refl, sym, ap, ◌∙◌, subst, Some, None, is_some, IsUtf8, codes, encode_utf8, chars}
 use Rattle.std.proofs.lemmas.Str.{chars-nil, chars_past_char, IsUtf8-past_char}
-use Rattle.dagcbor_heads.specs.Names.{Names}
-use Rattle.dagcbor_io.specs.Reading.{Reading}
-use Rattle.dagcbor_io.specs.Refusals.{Refuses}
-use Rattle.dagcbor_heads.specs.declared.name.Name.{Name}
-use Rattle.dagcbor_heads.specs.declared.error.DecodeError.{DecodeError}
-use Rattle.dagcbor_heads.specs.declared.error.DecodeError.TheVariants.{Msg}
+use Rattle.dagcbor_core.specs.Names.{Names}
+use Rattle.dagcbor_heads.specs.Reading.{Reading}
+use Rattle.dagcbor_heads.specs.Refusals.{Refuses}
+use Rattle.dagcbor_core.specs.declared.name.Name.{Name}
+use Rattle.dagcbor_core.specs.declared.error.DecodeError.{DecodeError}
+use Rattle.dagcbor_core.specs.declared.error.DecodeError.TheVariants.{Msg}
 use Rattle.ipld_tree.specs.Spelling.{IsFront}
 use Rattle.ipld_tree.proofs.Fronts.{front_unique}
 use Rattle.dagcbor_items.specs.TypedReads.{HasFront, TakesFront}
@@ -16,8 +16,8 @@ use Rattle.dagcbor_decode.specs.Decode.{msg}
 use Rattle.dagcbor_decode.specs.Verdicts.{IsRefusal}
 use Rattle.dagcbor_decode.proofs.Named.{named}
 use Rattle.dagcbor_decode.proofs.Refusals.{refused_then, refused_after, kept_short}
-use Rattle.dagcbor_io.proofs.Taking.{stays}
-use Rattle.dagcbor_io.proofs.Refusing.{passed_on}
+use Rattle.dagcbor_heads.proofs.Taking.{stays}
+use Rattle.dagcbor_heads.proofs.Refusing.{passed_on}
 use Rattle.dagcbor_items.specs.Leaves.{text_at, one_char as one_char'}
 use Rattle.dagcbor_items.specs.ReadCauses.{CharCause, TextCause}
 use Rattle.dagcbor_items.proofs.LeafRefusals.{text_stands}

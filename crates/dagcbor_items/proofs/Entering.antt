@@ -1,21 +1,21 @@
 -- Entering a list or a map.
 use Rattle.std.proofs.Common.{◌≡◌, inl, inr, ℕ, suc, ◌+◌, ◌++◌, List, Some, codes, sym, ap, ◌∙◌, arith, subst}
-use Rattle.dagcbor_heads.specs.Head.{head}
-use Rattle.dagcbor_io.specs.Reading.{Reading, SpentStep}
-use Rattle.dagcbor_io.specs.Fronts.{HasHead, Takes, TakesHead}
-use Rattle.dagcbor_heads.specs.Causes.{HeadCause, IsNamed}
-use Rattle.dagcbor_heads.specs.Names.{Names}
-use Rattle.dagcbor_io.specs.Refusals.{RefusesPlainly, NoStep}
-use Rattle.dagcbor_io.specs.Looking.{LooksAtLeft}
-use Rattle.dagcbor_heads.specs.declared.error.DecodeError.{DecodeError}
+use Rattle.dagcbor_core.specs.Head.{head}
+use Rattle.dagcbor_heads.specs.Reading.{Reading, SpentStep}
+use Rattle.dagcbor_heads.specs.Fronts.{HasHead, Takes, TakesHead}
+use Rattle.dagcbor_core.specs.Causes.{HeadCause, IsNamed}
+use Rattle.dagcbor_core.specs.Names.{Names}
+use Rattle.dagcbor_heads.specs.Refusals.{RefusesPlainly, NoStep}
+use Rattle.dagcbor_heads.specs.Looking.{LooksAtLeft}
+use Rattle.dagcbor_core.specs.declared.error.DecodeError.{DecodeError}
 use Rattle.ipld_tree.specs.Tree.{any_need}
 use Rattle.dagcbor_items.specs.ReadCauses.{ItemCause}
 use Rattle.dagcbor_items.specs.Untyped.{HasItem, StartsDefinite}
 use Rattle.dagcbor_items.specs.Entering.{Enters, StartsWithParts}
 use Rattle.dagcbor_items.proofs.Fronts.{major_of_head, definite, no_argument, front_head_stands}
 use Rattle.dagcbor_items.proofs.ItemRefusals.{at_steps, list_head, map_head, list_step, map_step}
-use Rattle.dagcbor_io.proofs.Taking.{stays}
-use Rattle.dagcbor_io.proofs.Refusing.{passed_on}
+use Rattle.dagcbor_heads.proofs.Taking.{stays}
+use Rattle.dagcbor_heads.proofs.Refusing.{passed_on}
 use Rattle.dagcbor_items.proofs.Steps.{too_deep}
 use Rattle.dagcbor_items.proofs.Lists.{is_list_at}
 use Rattle.dagcbor_items.proofs.Maps.{is_map_at}

@@ -4,18 +4,18 @@ use Rattle.std.proofs.lemmas.Int.{ints, to_z-of_z}
 use Rattle.std.proofs.lemmas.Bool.Decides.{nat_tests, eqb_tells}
 use mir.Syntax.{w128}
 use mir.Val.{SFits, to_z, of_z}
-use Rattle.dagcbor_heads.specs.Head.{head}
-use Rattle.dagcbor_heads.specs.Names.{Names, name_bytes}
-use Rattle.dagcbor_io.specs.Reading.{Reading}
-use Rattle.dagcbor_io.specs.Fronts.{HasByte, ShowsByte}
-use Rattle.dagcbor_heads.specs.Causes.{ByteCause, IsEndNamed}
-use Rattle.dagcbor_io.specs.Refusals.{RefusesPlainly}
-use Rattle.dagcbor_heads.specs.declared.name.Name.{Name}
-use Rattle.dagcbor_heads.specs.declared.error.DecodeError.{DecodeError}
-use Rattle.dagcbor_heads.specs.declared.error.DecodeError.TheVariants.{Eof, CastOverflow, Unsupported}
-use Rattle.dagcbor_heads.proofs.Heads.{head_first}
-use Rattle.dagcbor_io.proofs.Taking.{stays, stays_both}
-use Rattle.dagcbor_io.proofs.Refusing.{passed_on}
+use Rattle.dagcbor_core.specs.Head.{head}
+use Rattle.dagcbor_core.specs.Names.{Names, name_bytes}
+use Rattle.dagcbor_heads.specs.Reading.{Reading}
+use Rattle.dagcbor_heads.specs.Fronts.{HasByte, ShowsByte}
+use Rattle.dagcbor_core.specs.Causes.{ByteCause, IsEndNamed}
+use Rattle.dagcbor_heads.specs.Refusals.{RefusesPlainly}
+use Rattle.dagcbor_core.specs.declared.name.Name.{Name}
+use Rattle.dagcbor_core.specs.declared.error.DecodeError.{DecodeError}
+use Rattle.dagcbor_core.specs.declared.error.DecodeError.TheVariants.{Eof, CastOverflow, Unsupported}
+use Rattle.dagcbor_core.proofs.Heads.{head_first}
+use Rattle.dagcbor_heads.proofs.Taking.{stays, stays_both}
+use Rattle.dagcbor_heads.proofs.Refusing.{passed_on}
 use Rattle.ipld_tree.specs.Tree.{Tree, integer}
 use Rattle.ipld_tree.specs.Spelling.{IsFront}
 use Rattle.ipld_tree.proofs.Unique.{major, integer_major}

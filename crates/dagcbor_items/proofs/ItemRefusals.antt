@@ -1,11 +1,11 @@
 -- Refusals of items: of what they begin with, of what is in them, and after whole ones.
 use Rattle.std.proofs.Common.{◌≡◌, ◌≢◌, ◌⊎◌, inl, inr, ℕ, zero, suc, ◌+◌, ◌/◌, ◌%◌, ◌^◌, ◌<◌, ◌≤◌, ◌==◌, List, ◌∷◌, ◌++◌, length, true, false, Option, Some, None, pos, negsuc, codes, refl, sym, ap, ◌∙◌, subst, arith}
 use Rattle.std.proofs.lemmas.Bool.Decides.{eqb_tells}
-use Rattle.dagcbor_heads.specs.Head.{head}
-use Rattle.dagcbor_heads.specs.Names.{Names}
-use Rattle.dagcbor_heads.specs.declared.name.Name.{Name}
-use Rattle.dagcbor_heads.specs.declared.error.DecodeError.{DecodeError}
-use Rattle.dagcbor_heads.specs.declared.error.DecodeError.TheVariants.{DepthOverflow}
+use Rattle.dagcbor_core.specs.Head.{head}
+use Rattle.dagcbor_core.specs.Names.{Names}
+use Rattle.dagcbor_core.specs.declared.name.Name.{Name}
+use Rattle.dagcbor_core.specs.declared.error.DecodeError.{DecodeError}
+use Rattle.dagcbor_core.specs.declared.error.DecodeError.TheVariants.{DepthOverflow}
 use Rattle.ipld_tree.specs.Tree.{Tree, integer, bytes, text, list, mapping, Items, no_items, item, Entries, no_entries, entry, items_need, entries_need}
 use Rattle.ipld_tree.specs.Spelling.{item_count, entry_count, IsFront, AreFronts, AreEntryFronts}
 use Rattle.ipld_tree.proofs.Fronts.{item_opened, entry_opened, entries_after}

@@ -1,11 +1,11 @@
 -- Memory is wanting only for strings that have some bytes.
 use Rattle.std.proofs.Common.{◌≡◌, ℕ, zero, suc, ◌<◌, List, refl, arith, Option, Result, Ok, Err, IsOk, IfErr}
-use Rattle.dagcbor_io.specs.Reading.{Reading}
-use Rattle.dagcbor_io.specs.Fronts.{ShowsByte}
-use Rattle.dagcbor_heads.specs.Causes.{IsNamed}
-use Rattle.dagcbor_io.specs.Refusals.{RefusesPlainly}
-use Rattle.dagcbor_heads.specs.declared.error.DecodeError.{DecodeError}
-use Rattle.dagcbor_heads.specs.declared.error.DecodeError.TheVariants.{OutOfMemory}
+use Rattle.dagcbor_heads.specs.Reading.{Reading}
+use Rattle.dagcbor_heads.specs.Fronts.{ShowsByte}
+use Rattle.dagcbor_core.specs.Causes.{IsNamed}
+use Rattle.dagcbor_heads.specs.Refusals.{RefusesPlainly}
+use Rattle.dagcbor_core.specs.declared.error.DecodeError.{DecodeError}
+use Rattle.dagcbor_core.specs.declared.error.DecodeError.TheVariants.{OutOfMemory}
 use Rattle.dagcbor_items.specs.Majors.{HasMajor, TakesMajor, LacksForString}
 use Rattle.dagcbor_items.specs.ReadCauses.{MajorCause}
 use Rattle.dagcbor_items.proofs.StringReads.{of_kind}

@@ -3,12 +3,12 @@ use Rattle.std.proofs.Common.{◌≡◌, ◌⊎◌, inl, inr, ℕ, ◌/◌, ◌^
 use Rattle.std.specs.Str.{is_utf8}
 use Rattle.std.proofs.lemmas.Bool.{cases_lt}
 use Rattle.std.proofs.lemmas.Str.{IsUtf8-from_is_utf8, is_utf8-from_IsUtf8}
-use Rattle.dagcbor_heads.specs.Head.{head}
-use Rattle.dagcbor_heads.specs.Names.{Names}
-use Rattle.dagcbor_heads.specs.Causes.{ByteCause, HeadCause, PayloadCause, IsEndNamed, IsPayloadNamed, IsNamed}
-use Rattle.dagcbor_heads.specs.declared.name.Name.{Name}
-use Rattle.dagcbor_heads.specs.declared.error.DecodeError.{DecodeError}
-use Rattle.dagcbor_heads.specs.declared.error.DecodeError.TheVariants.{Eof, Mismatch, RequireUtf8}
+use Rattle.dagcbor_core.specs.Head.{head}
+use Rattle.dagcbor_core.specs.Names.{Names}
+use Rattle.dagcbor_core.specs.Causes.{ByteCause, HeadCause, PayloadCause, IsEndNamed, IsPayloadNamed, IsNamed}
+use Rattle.dagcbor_core.specs.declared.name.Name.{Name}
+use Rattle.dagcbor_core.specs.declared.error.DecodeError.{DecodeError}
+use Rattle.dagcbor_core.specs.declared.error.DecodeError.TheVariants.{Eof, Mismatch, RequireUtf8}
 use Rattle.ipld_tree.specs.Tree.{text}
 use Rattle.ipld_tree.specs.Spelling.{IsFront}
 use Rattle.dagcbor_decode.specs.Decode.{Decoded, got, refused, mismatch, require_utf8, after, payload, argument_of, string_of, text_of, utf8_of}

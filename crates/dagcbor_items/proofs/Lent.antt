@@ -1,9 +1,9 @@
 -- What a slice has whole at its front, and is taken from there.
 use Rattle.std.proofs.Common.{◌≡◌, ℕ, ◌+◌, ◌≤◌, ◌<◌, Bool, true, false, MatchBool, IsUtf8, List, ◌∷◌, ◌++◌, length, refl, sym, ap, ◌∙◌, subst, arith, length-append, append_assoc, zero-le, Option, Some}
-use Rattle.dagcbor_io.specs.Reading.{Reading}
-use Rattle.dagcbor_io.specs.Fronts.{Takes, TakesSome}
-use Rattle.dagcbor_io.specs.Looking.{LooksAtTaken}
-use Rattle.dagcbor_io.proofs.Looking.{lent_looked}
+use Rattle.dagcbor_heads.specs.Reading.{Reading}
+use Rattle.dagcbor_heads.specs.Fronts.{Takes, TakesSome}
+use Rattle.dagcbor_heads.specs.Looking.{LooksAtTaken}
+use Rattle.dagcbor_heads.proofs.Looking.{lent_looked}
 use Rattle.ipld_tree.specs.Cid.{CidParts, AreCidParts, cid_bytes}
 use Rattle.ipld_tree.specs.Tree.{Tree, bytes, link, text, any_need}
 use Rattle.ipld_tree.specs.Spelling.{spelling, text_spelling, IsFront}

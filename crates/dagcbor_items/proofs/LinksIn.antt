@@ -1,6 +1,6 @@
 -- Links that stand whole in bytes, in their order.
 use Rattle.std.proofs.Common.{◌≡◌, ℕ, List, [], ◌∷◌, ◌++◌, refl, sym, ap, ◌∙◌, subst, append_assoc}
-use Rattle.dagcbor_heads.specs.Head.{head}
+use Rattle.dagcbor_core.specs.Head.{head}
 use Rattle.ipld_tree.specs.Tree.{Tree, list, mapping, link, Items, no_items, item, Entries, no_entries, entry, links_of, items_links, entries_links}
 use Rattle.ipld_tree.specs.Spelling.{item_count, entry_count, text_spelling, spelling, items_spelling, entries_spelling, IsFront, AreFronts, AreEntryFronts}
 use Rattle.ipld_tree.proofs.Fronts.{item_opened, entry_opened}

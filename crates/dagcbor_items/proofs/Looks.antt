@@ -1,12 +1,12 @@
 -- How many bytes the reads of items look at.
 use Rattle.std.proofs.Common.{◌≡◌, ℕ, ◌+◌, ◌≤◌, ◌<◌, List, [], ◌∷◌, length, ap, ◌∙◌, arith, length-append, mul-le-mul_right, Some, Option, Result, Ok, Err}
-use Rattle.dagcbor_heads.specs.Head.{head}
-use Rattle.dagcbor_io.specs.Reading.{Reading, with_steps}
-use Rattle.dagcbor_io.specs.Fronts.{ShowsByte, Takes, TakesHead}
-use Rattle.dagcbor_heads.specs.declared.error.DecodeError.{DecodeError}
-use Rattle.dagcbor_io.specs.Looking.{Looks, LooksSome, LooksBehind, LooksOnce, LooksAtTaken, LooksAtLeft}
-use Rattle.dagcbor_heads.proofs.Heads.{head_first}
-use Rattle.dagcbor_io.proofs.Looking.{looks_both, looks_more, looks_then}
+use Rattle.dagcbor_core.specs.Head.{head}
+use Rattle.dagcbor_heads.specs.Reading.{Reading, with_steps}
+use Rattle.dagcbor_heads.specs.Fronts.{ShowsByte, Takes, TakesHead}
+use Rattle.dagcbor_core.specs.declared.error.DecodeError.{DecodeError}
+use Rattle.dagcbor_heads.specs.Looking.{Looks, LooksSome, LooksBehind, LooksOnce, LooksAtTaken, LooksAtLeft}
+use Rattle.dagcbor_core.proofs.Heads.{head_first}
+use Rattle.dagcbor_heads.proofs.Looking.{looks_both, looks_more, looks_then}
 use Rattle.ipld_tree.specs.Tree.{Tree}
 use Rattle.dagcbor_items.specs.Untyped.{StartsWithMajor}
 use Rattle.dagcbor_items.specs.TypedReads.{Reads, TakesFront}

@@ -1,11 +1,11 @@
 -- Reading the entries of a map, in the order of their keys.
 use Rattle.std.proofs.Common.{◌≡◌, ℕ, ◌+◌, ◌-◌, ◌^◌, ◌<◌, List, ◌++◌, refl, sym, ap, ◌∙◌, subst, arith, append_assoc, String, BTreeMap, Global, true, false, is_err, Option, Some, None, Result, Ok, Err, OnOk}
-use Rattle.dagcbor_heads.specs.Head.{head}
-use Rattle.dagcbor_io.specs.Reading.{Reading, with_steps}
-use Rattle.dagcbor_io.specs.Refusals.{RefusesOrLacksMemoryUnlent, Refuses}
-use Rattle.dagcbor_heads.specs.declared.error.DecodeError.{DecodeError}
-use Rattle.dagcbor_io.proofs.Taking.{stays, stays_both}
-use Rattle.dagcbor_io.proofs.Refusing.{passed_on}
+use Rattle.dagcbor_core.specs.Head.{head}
+use Rattle.dagcbor_heads.specs.Reading.{Reading, with_steps}
+use Rattle.dagcbor_heads.specs.Refusals.{RefusesOrLacksMemoryUnlent, Refuses}
+use Rattle.dagcbor_core.specs.declared.error.DecodeError.{DecodeError}
+use Rattle.dagcbor_heads.proofs.Taking.{stays, stays_both}
+use Rattle.dagcbor_heads.proofs.Refusing.{passed_on}
 use Rattle.ipld_tree.specs.Tree.{Tree, text, mapping, Entries, no_entries, ordered_entries, any_need, entries_need}
 use Rattle.ipld_tree.specs.Spelling.{entry_count, entries_spelling, IsFront, AreEntryFronts}
 use Rattle.ipld_tree.specs.Ipld.{tree_of, pairs_of}

@@ -2,7 +2,7 @@
 use Rattle.std.proofs.Common.{◌≡◌, Bool, true, false, not, ℕ, ◌+◌, ◌*◌, ◌<◌, List, ◌∷◌, ◌++◌, length, take, refl, sym, ap, ◌∙◌, arith, length-append, take-append-drop, bytes_eq, IsUtf8}
 use Rattle.std.proofs.lemmas.Slice.Eq.{bytes_eq-Decides}
 use Rattle.std.specs.List.{IsSplitAt}
-use Rattle.dagcbor_heads.proofs.Heads.{head_whole}
+use Rattle.dagcbor_core.proofs.Heads.{head_whole}
 use Rattle.ipld_tree.specs.Spelling.{text_spelling, IsFront}
 use Rattle.ipld_tree.specs.Tree.{text}
 use Rattle.ipld_tree.proofs.Unique.{split_at_length}

@@ -1,8 +1,8 @@
 -- The refusals of a part are among those of the whole.
 use Rattle.std.proofs.Common.{List, ℕ}
-use Rattle.dagcbor_heads.specs.Causes.{IsDepthNamed, IsEndNamed, IsPayloadNamed, IsNamed}
-use Rattle.dagcbor_heads.specs.declared.error.DecodeError.{DecodeError}
-use Rattle.dagcbor_heads.specs.declared.error.DecodeError.TheVariants.{Msg, Read, Eof, Unsupported, RequireUtf8, CastOverflow, DepthOverflow, IndefiniteSize, NonMinimal, UnorderedKey, OutOfMemory}
+use Rattle.dagcbor_core.specs.Causes.{IsDepthNamed, IsEndNamed, IsPayloadNamed, IsNamed}
+use Rattle.dagcbor_core.specs.declared.error.DecodeError.{DecodeError}
+use Rattle.dagcbor_core.specs.declared.error.DecodeError.TheVariants.{Msg, Read, Eof, Unsupported, RequireUtf8, CastOverflow, DepthOverflow, IndefiniteSize, NonMinimal, UnorderedKey, OutOfMemory}
 use Rattle.dagcbor_items.specs.AnsweredVariants.{OfByte, OfHead, OfNumber, OfText, OfChar, OfKey, OfLink, OfItem}
 
 pub end_byte : {E : Type 0} (text : List ℕ) (e : DecodeError E) → IsEndNamed text e → OfByte e

@@ -1,6 +1,6 @@
 -- What stands in bytes is what the functions read of them.
 use Rattle.std.proofs.Common.{◌≡◌, ℕ, ℤ, List, length, true, false, Option, Some, codes, chars, refl, sym, ap, ◌∙◌, subst, arith, append_assoc}
-use Rattle.dagcbor_heads.specs.Head.{head}
+use Rattle.dagcbor_core.specs.Head.{head}
 use Rattle.ipld_tree.specs.Tree.{Tree, null, boolean, integer, text, bytes, link}
 use Rattle.ipld_tree.specs.Spelling.{IsFront}
 use Rattle.dagcbor_decode.specs.Decode.{got, after, item_of}

@@ -1,6 +1,6 @@
 -- A row of items or entries after the head of its list or map, and what stands first in it.
 use Rattle.std.proofs.Common.{◌≡◌, ℕ, ◌<◌, ◌≤◌, max, List, ◌++◌, true, refl, sym, ap, ◌∙◌, subst, arith, Option, None, Some, is_some, option_map, option_and_then}
-use Rattle.dagcbor_io.specs.Reading.{Reading}
+use Rattle.dagcbor_heads.specs.Reading.{Reading}
 use Rattle.ipld_tree.specs.Tree.{Tree, text, list, mapping, Items, no_items, item, Entries, no_entries, entry}
 use Rattle.ipld_tree.specs.Spelling.{item_count, entry_count, items_spelling, entries_spelling, IsFront, AreFronts, AreEntryFronts}
 use Rattle.ipld_tree.proofs.Fronts.{list_opened, map_opened, item_opened, entry_opened, front_unique}

@@ -1,13 +1,13 @@
 -- Reading null, false and true.
 use Rattle.std.proofs.Common.{◌≡◌, ℕ, List, [], ◌∷◌, ◌++◌, Bool, true, arith, refl, ap, ◌∙◌, subst, zero-le, Some, Option, is_some, Result, Ok, Err, MatchResult, codes}
-use Rattle.dagcbor_io.specs.Reading.{Reading}
-use Rattle.dagcbor_io.specs.Fronts.{HasByte, Takes}
-use Rattle.dagcbor_heads.specs.Causes.{ByteCause, IsEndNamed}
-use Rattle.dagcbor_io.specs.Refusals.{RefusesPlainly}
-use Rattle.dagcbor_heads.specs.declared.error.DecodeError.{DecodeError}
-use Rattle.dagcbor_heads.specs.declared.error.DecodeError.TheVariants.{Eof}
-use Rattle.dagcbor_io.proofs.Taking.{stays}
-use Rattle.dagcbor_io.proofs.Refusing.{passed_on}
+use Rattle.dagcbor_heads.specs.Reading.{Reading}
+use Rattle.dagcbor_heads.specs.Fronts.{HasByte, Takes}
+use Rattle.dagcbor_core.specs.Causes.{ByteCause, IsEndNamed}
+use Rattle.dagcbor_heads.specs.Refusals.{RefusesPlainly}
+use Rattle.dagcbor_core.specs.declared.error.DecodeError.{DecodeError}
+use Rattle.dagcbor_core.specs.declared.error.DecodeError.TheVariants.{Eof}
+use Rattle.dagcbor_heads.proofs.Taking.{stays}
+use Rattle.dagcbor_heads.proofs.Refusing.{passed_on}
 use Rattle.ipld_tree.specs.Tree.{Tree, null, boolean, IsTree}
 use Rattle.ipld_tree.specs.Spelling.{IsSpellable, spelling, boolean_spelling}
 use Rattle.dagcbor_items.proofs.Fronts.{front_byte}

@@ -2,9 +2,9 @@
 use Rattle.std.proofs.Common.{◌≡◌, ℕ, zero, suc, MatchOption, ◌+◌, ◌-◌, ◌*◌, ◌^◌, ◌<◌, ◌≤◌, pos, negsuc, List, [], ◌∷◌, ◌++◌, length, take, drop, length-append, append_assoc, refl, sym, ap, ◌∙◌, subst, arith, IsTrue, Bool, true, false, if◌then◌else◌, Option, None, Some}
 use Rattle.std.proofs.Math.Seq.{drop-append_seam}
 use Rattle.std.proofs.lemmas.List.{take-append-drop}
-use Rattle.dagcbor_heads.specs.Head.{head}
-use Rattle.dagcbor_heads.specs.Splits.{SplitsHead, BeginsWithHead}
-use Rattle.dagcbor_heads.proofs.Heads.{head_unique}
+use Rattle.dagcbor_core.specs.Head.{head}
+use Rattle.dagcbor_core.specs.Splits.{SplitsHead, BeginsWithHead}
+use Rattle.dagcbor_core.proofs.Heads.{head_unique}
 use Rattle.ipld_tree.specs.Tree.{Tree, null, boolean, integer, text, bytes, list, mapping, link, Items, no_items, item, Entries, no_entries, entry, IsTree}
 use Rattle.ipld_tree.specs.Spelling.{IsSpellable, item_count, entry_count, items_spelling, entries_spelling, IsFront, AreFronts, AreEntryFronts}
 use Rattle.ipld_tree.proofs.Unique.{major, argument, payload, argument_fits}
@@ -12,7 +12,7 @@ use Rattle.ipld_tree.proofs.Fronts.{front_head, major_le, item_opened, item_clos
 use Rattle.dagcbor_decode.specs.Rows.{is_string}
 use Rattle.dagcbor_items.specs.Skips.{part_count, PassesHead, PassesHeads, EndByHeads, FindsBehindItems}
 use Rattle.dagcbor_decode.proofs.Fronts.{head_opened}
-use Rattle.dagcbor_heads.proofs.Heads.{head_first}
+use Rattle.dagcbor_core.proofs.Heads.{head_first}
 use Rattle.dagcbor_decode.proofs.Rows.{token_shorter}
 
 -- so many items, and what follows them

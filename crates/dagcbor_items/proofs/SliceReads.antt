@@ -1,11 +1,11 @@
 -- Slices that are read as one item, or whose first item is.
 use Rattle.std.proofs.Common.{◌≡◌, ◌≢◌, ◌++◌, append-nil, ℕ, ◌+◌, List, [], refl, sym, ap, ◌∙◌, subst, arith, Some, Result, Ok, Err, MatchResult, IfOk, IfErr}
 use Rattle.std.specs.declared.convert.Infallible.{Infallible}
-use Rattle.dagcbor_io.specs.Reading.{Reading}
-use Rattle.dagcbor_io.specs.Fronts.{FindsEnd, ShowsByte}
-use Rattle.dagcbor_io.specs.Refusals.{RefusesOrLacksMemory}
-use Rattle.dagcbor_heads.specs.declared.error.DecodeError.{DecodeError}
-use Rattle.dagcbor_heads.specs.declared.error.DecodeError.TheVariants.{Read, RequireBorrowed, OutOfMemory, Failed, TrailingData, DepthOverflow}
+use Rattle.dagcbor_heads.specs.Reading.{Reading}
+use Rattle.dagcbor_heads.specs.Fronts.{FindsEnd, ShowsByte}
+use Rattle.dagcbor_heads.specs.Refusals.{RefusesOrLacksMemory}
+use Rattle.dagcbor_core.specs.declared.error.DecodeError.{DecodeError}
+use Rattle.dagcbor_core.specs.declared.error.DecodeError.TheVariants.{Read, RequireBorrowed, OutOfMemory, Failed, TrailingData, DepthOverflow}
 use Rattle.ipld_tree.specs.Tree.{Tree}
 use Rattle.ipld_tree.specs.Spelling.{spelling, IsFront, IsSpelling}
 use Rattle.ipld_tree.specs.Ipld.{tree_of}

@@ -1,10 +1,10 @@
 -- Texts and byte strings as items of unknown kind.
 use Rattle.std.proofs.Common.{◌≡◌, ℕ, ◌+◌, ◌<◌, List, refl, ap, ◌∙◌, subst, arith, Vec, Global, Option, Some, is_some, String, string_bytes, codes}
-use Rattle.dagcbor_io.specs.Reading.{Reading}
-use Rattle.dagcbor_io.specs.Refusals.{Refuses}
-use Rattle.dagcbor_heads.specs.declared.error.DecodeError.{DecodeError}
-use Rattle.dagcbor_io.proofs.Taking.{stays}
-use Rattle.dagcbor_io.proofs.Refusing.{passed_on, as_refusal}
+use Rattle.dagcbor_heads.specs.Reading.{Reading}
+use Rattle.dagcbor_heads.specs.Refusals.{Refuses}
+use Rattle.dagcbor_core.specs.declared.error.DecodeError.{DecodeError}
+use Rattle.dagcbor_heads.proofs.Taking.{stays}
+use Rattle.dagcbor_heads.proofs.Refusing.{passed_on, as_refusal}
 use Rattle.ipld_tree.specs.Tree.{Tree, text, bytes, any_need}
 use Rattle.ipld_tree.specs.Spelling.{IsFront}
 use Rattle.ipld_tree.specs.Ipld.{tree_of}

@@ -2,18 +2,18 @@
 use Rattle.std.proofs.Common.{◌≡◌, ℕ, ◌^◌, ◌<◌, List, ◌++◌, length, true, false, refl, sym, ap, ◌∙◌, subst, arith, append_assoc, zero-le, Some, None, Option, is_some, Result, Ok, Err, MatchResult, IsUtf8, IfErr, codes, Global}
 use Rattle.std.specs.Cow.{cow_slice_items}
 use Rattle.std.specs.declared.borrow.CowSlice.{CowSlice}
-use Rattle.dagcbor_heads.specs.Head.{head}
-use Rattle.dagcbor_heads.specs.Names.{Names}
-use Rattle.dagcbor_io.specs.Reading.{Reading, Stays}
-use Rattle.dagcbor_io.specs.Fronts.{HasHead, HasPayload, ShowsByte, Takes}
-use Rattle.dagcbor_heads.specs.Causes.{HeadCause, PayloadCause, IsNamed, IsPayloadNamed}
-use Rattle.dagcbor_io.specs.Refusals.{RefusesPlainly, RefusesOrLacksMemoryUnlent, Refuses}
-use Rattle.dagcbor_heads.specs.declared.name.Name.{Name}
-use Rattle.dagcbor_heads.specs.declared.error.DecodeError.{DecodeError}
-use Rattle.dagcbor_heads.specs.declared.error.DecodeError.TheVariants.{RequireUtf8}
-use Rattle.dagcbor_heads.proofs.Heads.{head_unique}
-use Rattle.dagcbor_io.proofs.Taking.{stays, stays_both, takes_both}
-use Rattle.dagcbor_io.proofs.Refusing.{passed_on}
+use Rattle.dagcbor_core.specs.Head.{head}
+use Rattle.dagcbor_core.specs.Names.{Names}
+use Rattle.dagcbor_heads.specs.Reading.{Reading, Stays}
+use Rattle.dagcbor_heads.specs.Fronts.{HasHead, HasPayload, ShowsByte, Takes}
+use Rattle.dagcbor_core.specs.Causes.{HeadCause, PayloadCause, IsNamed, IsPayloadNamed}
+use Rattle.dagcbor_heads.specs.Refusals.{RefusesPlainly, RefusesOrLacksMemoryUnlent, Refuses}
+use Rattle.dagcbor_core.specs.declared.name.Name.{Name}
+use Rattle.dagcbor_core.specs.declared.error.DecodeError.{DecodeError}
+use Rattle.dagcbor_core.specs.declared.error.DecodeError.TheVariants.{RequireUtf8}
+use Rattle.dagcbor_core.proofs.Heads.{head_unique}
+use Rattle.dagcbor_heads.proofs.Taking.{stays, stays_both, takes_both}
+use Rattle.dagcbor_heads.proofs.Refusing.{passed_on}
 use Rattle.ipld_tree.specs.Tree.{Tree, text, bytes}
 use Rattle.ipld_tree.specs.Spelling.{IsFront}
 use Rattle.ipld_tree.proofs.Unique.{split_at_length}

@@ -1,11 +1,11 @@
 -- Going through items, their links handed to a sink.
 use Rattle.std.proofs.Common.{◌≡◌, ◌≢◌, inl, inr, ℕ, zero, suc, ◌+◌, ◌-◌, ◌/◌, ◌<◌, ◌≤◌, List, [], ◌∷◌, ◌++◌, Bool, true, false, refl, sym, ap, ◌∙◌, subst, arith, append_assoc, append-nil, Option, None, Some, Result, Ok, Err}
-use Rattle.dagcbor_io.specs.Reading.{Reading, SpentStep, Stays}
-use Rattle.dagcbor_io.specs.Fronts.{StartsWith, ShowsByte, Takes, TakesHead}
-use Rattle.dagcbor_io.specs.Refusals.{Refuses}
-use Rattle.dagcbor_heads.specs.declared.error.DecodeError.{DecodeError}
-use Rattle.dagcbor_io.proofs.Taking.{stays_both}
-use Rattle.dagcbor_io.proofs.Refusing.{passed_on}
+use Rattle.dagcbor_heads.specs.Reading.{Reading, SpentStep, Stays}
+use Rattle.dagcbor_heads.specs.Fronts.{StartsWith, ShowsByte, Takes, TakesHead}
+use Rattle.dagcbor_heads.specs.Refusals.{Refuses}
+use Rattle.dagcbor_core.specs.declared.error.DecodeError.{DecodeError}
+use Rattle.dagcbor_heads.proofs.Taking.{stays_both}
+use Rattle.dagcbor_heads.proofs.Refusing.{passed_on}
 use Rattle.ipld_tree.specs.Tree.{Tree, null, boolean, integer, text, list, mapping, link, items_of, Entries, no_entries, entry, links_of, items_links, entries_links}
 use Rattle.ipld_tree.specs.Spelling.{text_spelling, items_spelling, entries_spelling}
 use Rattle.ipld_tree.proofs.Unique.{major}

@@ -1,8 +1,8 @@
 -- Which refusals a call can answer, whether its bytes are known or not: those of its causes, and
 -- those of no cause.
 use Rattle.std.specs.Prelude.{⊤}
-use Rattle.dagcbor_heads.specs.declared.error.DecodeError.{DecodeError}
-use Rattle.dagcbor_heads.specs.declared.error.DecodeError.TheVariants.{Msg, Read, Eof, Mismatch, Unsupported, RequireUtf8, CastOverflow, DepthOverflow, IndefiniteSize, NonMinimal, UnorderedKey, OutOfMemory, RequireBorrowed, Failed}
+use Rattle.dagcbor_core.specs.declared.error.DecodeError.{DecodeError}
+use Rattle.dagcbor_core.specs.declared.error.DecodeError.TheVariants.{Msg, Read, Eof, Mismatch, Unsupported, RequireUtf8, CastOverflow, DepthOverflow, IndefiniteSize, NonMinimal, UnorderedKey, OutOfMemory, RequireBorrowed, Failed}
 
 -- of no cause in the bytes: `Refuses` says where these may come. The last two come of reads of types
 -- alone.

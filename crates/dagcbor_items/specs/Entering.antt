@@ -1,10 +1,10 @@
 -- Entering a list or a map: a step is spent, and its head is taken.
 use Rattle.std.specs.Prelude.{◌≡◌, List, ℕ, ◌+◌, ◌-◌, ◌^◌, ◌<◌, ◌⊎◌, codes, Result, MatchResult}
-use Rattle.dagcbor_heads.specs.Head.{head}
-use Rattle.dagcbor_io.specs.Reading.{Reading, with_steps}
-use Rattle.dagcbor_io.specs.Fronts.{Takes}
-use Rattle.dagcbor_io.specs.Refusals.{RefusesPlainly}
-use Rattle.dagcbor_heads.specs.declared.error.DecodeError.{DecodeError}
+use Rattle.dagcbor_core.specs.Head.{head}
+use Rattle.dagcbor_heads.specs.Reading.{Reading, with_steps}
+use Rattle.dagcbor_heads.specs.Fronts.{Takes}
+use Rattle.dagcbor_heads.specs.Refusals.{RefusesPlainly}
+use Rattle.dagcbor_core.specs.declared.error.DecodeError.{DecodeError}
 use Rattle.dagcbor_items.specs.ReadCauses.{ItemCause}
 use Rattle.dagcbor_items.specs.Untyped.{HasEnteredItem, StartsDefinite}
 

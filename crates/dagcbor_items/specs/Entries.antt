@@ -5,12 +5,12 @@ use Rattle.std.specs.BTreeMap.{BTreeMap}
 use Rattle.std.specs.Cow.{cow_str_bytes}
 use Rattle.std.specs.declared.borrow.CowStr.{CowStr}
 use Rattle.std.specs.declared.alloc.Global.{Global}
-use Rattle.dagcbor_io.specs.Reading.{Reading, Stays}
-use Rattle.dagcbor_io.specs.Looking.{LooksAtTaken}
-use Rattle.dagcbor_io.specs.Refusals.{RefusesOrLacksMemory, RefusesOrLacksMemoryUnlent}
-use Rattle.dagcbor_heads.specs.Names.{Names}
-use Rattle.dagcbor_heads.specs.declared.error.DecodeError.{DecodeError}
-use Rattle.dagcbor_heads.specs.declared.error.DecodeError.TheVariants.{RequireUtf8, UnorderedKey}
+use Rattle.dagcbor_heads.specs.Reading.{Reading, Stays}
+use Rattle.dagcbor_heads.specs.Looking.{LooksAtTaken}
+use Rattle.dagcbor_heads.specs.Refusals.{RefusesOrLacksMemory, RefusesOrLacksMemoryUnlent}
+use Rattle.dagcbor_core.specs.Names.{Names}
+use Rattle.dagcbor_core.specs.declared.error.DecodeError.{DecodeError}
+use Rattle.dagcbor_core.specs.declared.error.DecodeError.TheVariants.{RequireUtf8, UnorderedKey}
 use Rattle.ipld_tree.specs.Tree.{text, Entries, ordered_entries, entries_need, Precedes}
 use Rattle.ipld_tree.specs.Spelling.{entry_count, text_spelling, IsFront, AreEntryFronts}
 use Rattle.ipld_tree.specs.Ipld.{pairs_of}

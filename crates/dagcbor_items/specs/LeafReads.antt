@@ -4,8 +4,8 @@ use Rattle.std.specs.Cow.{cow_str_bytes, cow_slice_items}
 use Rattle.std.specs.declared.borrow.CowStr.{CowStr}
 use Rattle.std.specs.declared.borrow.CowSlice.{CowSlice}
 use Rattle.std.specs.declared.alloc.Global.{Global}
-use Rattle.dagcbor_io.specs.Reading.{Reading}
-use Rattle.dagcbor_heads.specs.declared.error.DecodeError.{DecodeError}
+use Rattle.dagcbor_heads.specs.Reading.{Reading}
+use Rattle.dagcbor_core.specs.declared.error.DecodeError.{DecodeError}
 use Rattle.dagcbor_items.specs.TypedReads.{Reads}
 use Rattle.dagcbor_items.specs.Shapes.{natural_below, within, view_unsigned, view_signed, view_null, view_bool, view_text, view_char, view_bytes, ignored_item, leaf}
 use Rattle.dagcbor_items.specs.ReadCauses.{ItemCause, WantedCause, NumberCause, BigNumberCause, StringCause, TextCause, CharCause, BoolCause}

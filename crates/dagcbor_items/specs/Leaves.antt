@@ -1,7 +1,7 @@
 -- What typed reads of leaves read of bytes, in the words of `Decode.antt`. The name is that of what is
 -- being read.
 use Rattle.std.specs.Prelude.{ℕ, ℤ, ◌/◌, ◌==◌, ◌||◌, List, [], ◌∷◌, length, Bool, true, false, Option, None, Some, nat_lt, if◌then◌else◌, codes, chars}
-use Rattle.dagcbor_heads.specs.Lengths.{len_of}
+use Rattle.dagcbor_core.specs.Lengths.{len_of}
 use Rattle.ipld_tree.specs.Tree.{Tree}
 use Rattle.dagcbor_decode.specs.Decode.{Decoded, got, refused, eof, mismatch, unsupported, msg, cast_overflow, after, argument_of, payload, utf8_of, link_of}
 use Rattle.dagcbor_items.specs.Shapes.{number_of, only}

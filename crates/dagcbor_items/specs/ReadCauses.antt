@@ -1,7 +1,7 @@
 -- Why nothing is read of bytes, as a refusal says it: for what `Decode.antt` refuses them.
 use Rattle.std.specs.Prelude.{ℕ, ℤ, List, Option, None}
-use Rattle.dagcbor_heads.specs.Texts.{IsKept}
-use Rattle.dagcbor_heads.specs.declared.error.DecodeError.{DecodeError}
+use Rattle.dagcbor_core.specs.Texts.{IsKept}
+use Rattle.dagcbor_core.specs.declared.error.DecodeError.{DecodeError}
 use Rattle.dagcbor_decode.specs.Decode.{Decoded, item_of, items_of, entries_of, key_of, cid_of}
 use Rattle.dagcbor_decode.specs.Verdicts.{IsRefusal}
 use Rattle.dagcbor_items.specs.Leaves.{head_at, string_at, text_at, char_at, number_at, big_head_at, big_number_at, byte_at, bool_at, link_at}

@@ -1,7 +1,7 @@
 -- Where items end that stand one after the other, told by their heads alone.
 use Rattle.std.specs.Prelude.{◌≡◌, ◌==◌, ◌*◌, ◌+◌, ◌-◌, ◌<◌, ◌≤◌, ℕ, zero, suc, IsTrue}
 use Rattle.std.specs.Prelude.{List, length, drop, Option, MatchOption, if◌then◌else◌}
-use Rattle.dagcbor_heads.specs.Splits.{SplitsHead}
+use Rattle.dagcbor_core.specs.Splits.{SplitsHead}
 use Rattle.dagcbor_decode.specs.Rows.{is_string}
 
 -- how many items follow a head as parts of its item: those of a list, the keys and values of a map,

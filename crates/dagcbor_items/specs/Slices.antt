@@ -1,10 +1,10 @@
 -- Reading a slice as one item of any kind.
 use Rattle.std.specs.Prelude.{ℕ, ◌<◌, List, ⊤, Result, Ok, Err}
 use Rattle.std.specs.declared.convert.Infallible.{Infallible}
-use Rattle.dagcbor_io.specs.Reading.{Reading}
-use Rattle.dagcbor_io.specs.Fronts.{FindsEnd, ShowsByte}
-use Rattle.dagcbor_heads.specs.declared.error.DecodeError.{DecodeError}
-use Rattle.dagcbor_heads.specs.declared.error.DecodeError.TheVariants.{Read, OutOfMemory, TrailingData}
+use Rattle.dagcbor_heads.specs.Reading.{Reading}
+use Rattle.dagcbor_heads.specs.Fronts.{FindsEnd, ShowsByte}
+use Rattle.dagcbor_core.specs.declared.error.DecodeError.{DecodeError}
+use Rattle.dagcbor_core.specs.declared.error.DecodeError.TheVariants.{Read, OutOfMemory, TrailingData}
 use Rattle.dagcbor_decode.specs.Decode.{decode}
 use Rattle.dagcbor_decode.specs.Verdicts.{IsRefusal}
 

@@ -1,9 +1,9 @@
 //! Reading items of any kind.
 
 ghost use Rattle.std.specs.Prelude.{◌≡◌, ◌≢◌, ◌%◌, IfErr, IfSome, MatchOption};
-ghost use Rattle.dagcbor_io.specs.Inputs.{input_reading, OverInput};
-ghost use Rattle.dagcbor_io.specs.Fronts.{StartsWith};
-ghost use Rattle.dagcbor_io.specs.Looking.{Looks, LooksSome, LooksBehind, LooksAtTaken};
+ghost use Rattle.dagcbor_heads.specs.Inputs.{input_reading, OverInput};
+ghost use Rattle.dagcbor_heads.specs.Fronts.{StartsWith};
+ghost use Rattle.dagcbor_heads.specs.Looking.{Looks, LooksSome, LooksBehind, LooksAtTaken};
 ghost use Rattle.dagcbor_items.specs.Untyped.{ReadsItem, PutsItem, PutsEnteredItem};
 ghost use Rattle.dagcbor_items.specs.Untyped.{ReadsList, ReadsMap, StartsDefinite, TakesItem};
 ghost use Rattle.ipld_tree.specs.Tree.{integer};
@@ -14,14 +14,14 @@ ghost use Rattle.dagcbor_items.specs.AnsweredVariants.{OfItem};
 use crate::enter::enter;
 use crate::key::read_key;
 use crate::leaf::{read_leaf, read_text, take_integer};
-use dagcbor_heads::DecodeError;
-use dagcbor_io::{Input, Read, ReadResult, is_indefinite, peek_one, spend_step};
+use dagcbor_core::DecodeError;
+use dagcbor_heads::{Input, Read, ReadResult, is_indefinite, peek_one, spend_step};
 use ipld_tree::Ipld;
 use std::alloc::Global;
 use std::collections::BTreeMap;
 
 /// Reads an item of any kind, no deeper than the steps that are left.
-#[tactic(auto, using(dagcbor_io::proofs::Refusing::as_refusal))]
+#[tactic(auto, using(dagcbor_heads::proofs::Refusing::as_refusal))]
 pub fn read_any<R: Read>(alloc: Global, input: &mut Input<'_, R>) -> ReadResult<Ipld, R>
     ensures item { OverInput R.reading ReadsItem input.old result input.new }
     ensures looked { OverInput R.reading (Looks 3) input.old result input.new }

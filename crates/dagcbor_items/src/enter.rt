@@ -1,11 +1,11 @@
 //! Entering a list or a map, as an item of unknown kind.
 
 ghost use Rattle.std.specs.Prelude.{IfErr};
-ghost use Rattle.dagcbor_io.specs.Looking.{LooksBehind};
+ghost use Rattle.dagcbor_heads.specs.Looking.{LooksBehind};
 ghost use Rattle.dagcbor_items.specs.Entering.{StartsWithParts, ReadsCount};
 ghost use Rattle.dagcbor_items.specs.AnsweredVariants.{OfItem};
 
-use dagcbor_io::{Read, ReadResult, pull_head_argument, spend_step};
+use dagcbor_heads::{Read, ReadResult, pull_head_argument, spend_step};
 
 /// Spends a step, and takes the head of a list or map: how many items or entries it has.
 #[tactic(auto, using(crate::proofs::PartRefusals::depth_item, crate::proofs::PartRefusals::named_item))]

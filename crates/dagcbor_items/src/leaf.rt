@@ -1,9 +1,9 @@
 //! Reading leaves other than links.
 
 ghost use Rattle.std.specs.Prelude.{◌≡◌, ◌≢◌, ◌≤◌, ◌/◌, ◌%◌, true, false, IfErr, IfSome, MatchOption};
-ghost use Rattle.dagcbor_io.specs.Inputs.{input_reading, OverInput};
-ghost use Rattle.dagcbor_io.specs.Fronts.{StartsWith};
-ghost use Rattle.dagcbor_io.specs.Looking.{LooksAtTaken, LooksBehind};
+ghost use Rattle.dagcbor_heads.specs.Inputs.{input_reading, OverInput};
+ghost use Rattle.dagcbor_heads.specs.Fronts.{StartsWith};
+ghost use Rattle.dagcbor_heads.specs.Looking.{LooksAtTaken, LooksBehind};
 ghost use Rattle.ipld_tree.specs.Tree.{integer};
 ghost use Rattle.dagcbor_items.specs.Untyped.{ReadsEnteredItem, ReadsText, ReadsLeaf};
 ghost use Rattle.dagcbor_items.specs.Untyped.{IsSimple, StartsWithMajor, StartsDefinite};
@@ -15,8 +15,8 @@ use crate::link::{read_link, take_link};
 use crate::numbers::number_of;
 use crate::strings::{no_text, pull_peeked_owned_bytes, pull_peeked_owned_text};
 use crate::utf8::as_text;
-use dagcbor_heads::DecodeError;
-use dagcbor_io::{Input, Read, ReadResult, pull_head, pull_one};
+use dagcbor_core::DecodeError;
+use dagcbor_heads::{Input, Read, ReadResult, pull_head, pull_one};
 use ipld_tree::Ipld;
 use std::alloc::Global;
 

@@ -1,10 +1,10 @@
 //! Reading links: tag 42, and in it a byte string of a zero and a CID.
 
 ghost use Rattle.std.specs.Prelude.{◌≡◌, ℕ, List, codes, [], ◌∷◌, MatchResult, MatchOption, IfErr, IfSome};
-ghost use Rattle.dagcbor_io.specs.Fronts.{Takes};
-ghost use Rattle.dagcbor_io.specs.Refusals.{RefusesPlainly};
-ghost use Rattle.dagcbor_io.specs.Looking.{Looks, LooksBehind, LooksAtTaken};
-ghost use Rattle.dagcbor_io.specs.Inputs.{input_reading};
+ghost use Rattle.dagcbor_heads.specs.Fronts.{Takes};
+ghost use Rattle.dagcbor_heads.specs.Refusals.{RefusesPlainly};
+ghost use Rattle.dagcbor_heads.specs.Looking.{Looks, LooksBehind, LooksAtTaken};
+ghost use Rattle.dagcbor_heads.specs.Inputs.{input_reading};
 ghost use Rattle.ipld_tree.specs.Cid.{cid_bytes};
 ghost use Rattle.ipld_tree.specs.Tree.{bytes};
 ghost use Rattle.ipld_tree.specs.Spelling.{IsFront};
@@ -16,9 +16,9 @@ ghost use Rattle.dagcbor_items.specs.Links.{HasWanted, ReadsCid, ReadsLink, IsZe
 ghost use Rattle.dagcbor_items.specs.AnsweredVariants.{OfByte, OfItem, OfLink};
 
 use arrayvec::ArrayVec;
+use dagcbor_core::{DecodeError, split_head};
 use dagcbor_decode::split_payload;
-use dagcbor_heads::{DecodeError, split_head};
-use dagcbor_io::{
+use dagcbor_heads::{
     Input, Read, ReadResult, peek_one, pull_head_argument, pull_one, pull_short_payload,
 };
 use ipld_tree::{Cid, Ipld};

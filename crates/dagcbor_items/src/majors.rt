@@ -1,15 +1,15 @@
 //! Heads of the major types that are wanted.
 
 ghost use Rattle.std.specs.Prelude.{◌<◌, ◌≤◌, ◌/◌, IfErr, MatchResult};
-ghost use Rattle.dagcbor_io.specs.Fronts.{ShowsByte};
-ghost use Rattle.dagcbor_io.specs.Looking.{Looks, LooksOnce};
-ghost use Rattle.dagcbor_io.specs.Refusals.{RefusesPlainly};
+ghost use Rattle.dagcbor_heads.specs.Fronts.{ShowsByte};
+ghost use Rattle.dagcbor_heads.specs.Looking.{Looks, LooksOnce};
+ghost use Rattle.dagcbor_heads.specs.Refusals.{RefusesPlainly};
 ghost use Rattle.dagcbor_items.specs.Majors.{HasMajor, ReadsMajor};
 ghost use Rattle.dagcbor_items.specs.ReadCauses.{MajorCause};
 ghost use Rattle.dagcbor_items.specs.AnsweredVariants.{OfByte, OfHead};
 
-use dagcbor_heads::DecodeError;
-use dagcbor_io::{Read, ReadResult, peek_one, pull_head};
+use dagcbor_core::DecodeError;
+use dagcbor_heads::{Read, ReadResult, peek_one, pull_head};
 
 /// The next byte, if its major type is from `low` to `high`. The byte is not taken.
 #[tactic(auto, using(crate::proofs::PartRefusals::end_byte))]

@@ -5,12 +5,12 @@ ghost use Rattle.dagcbor_items.specs.TypedReads.{Reads};
 ghost use Rattle.dagcbor_items.specs.Shapes.{number_of, natural_below, within, view_number, leaf};
 ghost use Rattle.dagcbor_items.specs.ReadCauses.{MajorCause, BigCause};
 ghost use Rattle.dagcbor_items.specs.LeafReads.{ReadsUnsigned, ReadsSigned, ReadsU128, ReadsI128};
-ghost use Rattle.dagcbor_io.specs.Looking.{Looks};
+ghost use Rattle.dagcbor_heads.specs.Looking.{Looks};
 ghost use Rattle.dagcbor_items.specs.AnsweredVariants.{OfHead, OfNumber};
 
 use crate::majors::pull_major;
-use dagcbor_heads::DecodeError;
-use dagcbor_io::{Read, ReadResult, peek_one};
+use dagcbor_core::DecodeError;
+use dagcbor_heads::{Read, ReadResult, peek_one};
 
 /// The number of a head of major type 0 or 1.
 pub(crate) fn number_of(major: u8, argument: u64) -> i128
@@ -25,7 +25,7 @@ pub(crate) fn number_of(major: u8, argument: u64) -> i128
 
 /// A number of any size.
 #[inline(always)]
-#[tactic(auto, using(dagcbor_io::proofs::Refusing::as_refusal, crate::proofs::Integers::number_refused))]
+#[tactic(auto, using(dagcbor_heads::proofs::Refusing::as_refusal, crate::proofs::Integers::number_refused))]
 fn pull_number<R: Read>(name: &str, reader: &mut R) -> ReadResult<i128, R>
     ensures number { Reads
         (λ n. n) (leaf (view_number Some)) ⊥ ⊥ (MajorCause name.now 0 1)

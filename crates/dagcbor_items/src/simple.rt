@@ -2,12 +2,12 @@
 
 ghost use Rattle.std.specs.Prelude.{IfErr};
 ghost use Rattle.dagcbor_items.specs.LeafReads.{ReadsNull, ReadsBool};
-ghost use Rattle.dagcbor_io.specs.Looking.{Looks};
+ghost use Rattle.dagcbor_heads.specs.Looking.{Looks};
 ghost use Rattle.dagcbor_items.specs.AnsweredVariants.{OfByte};
 
 use crate::link::pull_wanted;
-use dagcbor_heads::DecodeError;
-use dagcbor_io::{Read, ReadResult, pull_one};
+use dagcbor_core::DecodeError;
+use dagcbor_heads::{Read, ReadResult, pull_one};
 
 /// A null.
 #[tactic(auto, using(crate::proofs::SimpleValues::null_read))]

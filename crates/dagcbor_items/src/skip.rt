@@ -5,7 +5,7 @@ ghost use Rattle.std.specs.Prelude.{if◌then◌else◌};
 ghost use Rattle.dagcbor_decode.specs.Rows.{is_string};
 ghost use Rattle.dagcbor_items.specs.Skips.{part_count, FindsBehindItems};
 
-use dagcbor_heads::split_head;
+use dagcbor_core::split_head;
 
 /// What comes after a head, and after its string if it has one.
 #[inline(always)]

@@ -1,16 +1,16 @@
 //! Reading a slice as one item of any kind.
 
 ghost use Rattle.std.specs.Prelude.{◌≡◌, Some, [], true, IfOk, IfErr};
-ghost use Rattle.dagcbor_heads.specs.Steps.{default_steps};
-ghost use Rattle.dagcbor_io.specs.Reading.{fresh_reading};
-ghost use Rattle.dagcbor_io.specs.Inputs.{input_reading};
+ghost use Rattle.dagcbor_core.specs.Steps.{default_steps};
+ghost use Rattle.dagcbor_heads.specs.Reading.{fresh_reading};
+ghost use Rattle.dagcbor_heads.specs.Inputs.{input_reading};
 ghost use Rattle.ipld_tree.specs.Ipld.{tree_of};
 ghost use Rattle.dagcbor_decode.specs.Blocks.{IsBlock};
 ghost use Rattle.dagcbor_items.specs.Slices.{SliceRefused, PullsEnd};
 
 use crate::any::read_any;
-use dagcbor_heads::DecodeError;
-use dagcbor_io::{Input, Read, ReadResult, SliceReader, is_at_end};
+use dagcbor_core::DecodeError;
+use dagcbor_heads::{Input, Read, ReadResult, SliceReader, is_at_end};
 use ipld_tree::Ipld;
 use std::alloc::Global;
 use std::convert::Infallible;

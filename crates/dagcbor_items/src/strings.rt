@@ -6,11 +6,11 @@ ghost use Rattle.ipld_tree.specs.Tree.{text};
 ghost use Rattle.ipld_tree.specs.Spelling.{IsFront};
 ghost use Rattle.std.specs.Str.{chars};
 ghost use Rattle.std.specs.Cow.{cow_slice_items, cow_str_bytes, IsBorrowedSlice, IsBorrowedStr};
-ghost use Rattle.dagcbor_heads.specs.Names.{Names};
-ghost use Rattle.dagcbor_heads.specs.declared.name.Name.{Name};
-ghost use Rattle.dagcbor_heads.specs.declared.error.DecodeError.{DecodeError};
-ghost use Rattle.dagcbor_io.specs.Inputs.{input_reading, OverInput};
-ghost use Rattle.dagcbor_io.specs.Looking.{Looks, LooksAtTaken};
+ghost use Rattle.dagcbor_core.specs.Names.{Names};
+ghost use Rattle.dagcbor_core.specs.declared.name.Name.{Name};
+ghost use Rattle.dagcbor_core.specs.declared.error.DecodeError.{DecodeError};
+ghost use Rattle.dagcbor_heads.specs.Inputs.{input_reading, OverInput};
+ghost use Rattle.dagcbor_heads.specs.Looking.{Looks, LooksAtTaken};
 ghost use Rattle.dagcbor_items.specs.Majors.{LacksForString, LacksToCopy, ReadsString};
 ghost use Rattle.dagcbor_items.specs.Untyped.{StartsWithMajor};
 ghost use Rattle.dagcbor_items.specs.Shapes.{only, view_text, leaf};
@@ -21,9 +21,9 @@ ghost use Rattle.dagcbor_items.specs.AnsweredVariants.{OfChar, OfHead, OfText};
 
 use crate::majors::peek_major;
 use crate::utf8::as_text;
+use dagcbor_core::{DecodeError, Name, split_head};
 use dagcbor_decode::split_payload;
-use dagcbor_heads::{DecodeError, Name, split_head};
-use dagcbor_io::{Input, Read, ReadResult, pull_head, pull_payload};
+use dagcbor_heads::{Input, Read, ReadResult, pull_head, pull_payload};
 use std::alloc::{AllocError, Global};
 use std::borrow::{CowSlice, CowStr};
 

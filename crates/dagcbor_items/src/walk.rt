@@ -2,21 +2,21 @@
 //! decides how their strings are read, and what is done with their links.
 
 ghost use Rattle.std.specs.Prelude.{◌≡◌, ◌≢◌, ◌≤◌, ◌/◌, ◌%◌, IfErr};
-ghost use Rattle.dagcbor_io.specs.Fronts.{StartsWith};
-ghost use Rattle.dagcbor_io.specs.Looking.{Looks, LooksSome, LooksBehind};
+ghost use Rattle.dagcbor_heads.specs.Fronts.{StartsWith};
+ghost use Rattle.dagcbor_heads.specs.Looking.{Looks, LooksSome, LooksBehind};
 ghost use Rattle.dagcbor_items.specs.Untyped.{SkipsItem, SkipsEnteredItem, StartsDefinite};
 ghost use Rattle.dagcbor_items.specs.Leaves.{number_name};
 ghost use Rattle.dagcbor_items.specs.AnsweredVariants.{OfItem};
 ghost use Rattle.dagcbor_items.specs.Walks.{WalksItem, WalksEnteredItem, WalksItems, WalksEntries};
 ghost use Rattle.dagcbor_items.specs.Walks.{GathersLinks};
-ghost use Rattle.dagcbor_io.specs.Inputs.{OverInput};
+ghost use Rattle.dagcbor_heads.specs.Inputs.{OverInput};
 
 use crate::enter::enter;
 use crate::link::pull_link;
 use crate::payloads::PayloadReader;
 use crate::sink::{LinkSink, NoLinks};
-use dagcbor_heads::DecodeError;
-use dagcbor_io::{
+use dagcbor_core::DecodeError;
+use dagcbor_heads::{
     Input, Read, ReadResult, is_indefinite, peek_one, pull_head_argument, pull_one, spend_step,
 };
 use ipld_tree::Cid;

@@ -11,8 +11,8 @@ ghost use Rattle.dagcbor_lines.specs.Answers.{AppendsLine, PushesLine};
 
 use crate::command::Command;
 use dagcbor_cli::ToolError;
+use dagcbor_core::DecodeError;
 use dagcbor_decode::{check_slice, kind_name, links_from_slice, variant_name};
-use dagcbor_heads::DecodeError;
 use ipld_tree::Cid;
 use std::alloc::{AllocError, Global};
 use std::convert::Infallible;

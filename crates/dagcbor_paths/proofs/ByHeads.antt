@@ -4,8 +4,8 @@ use Rattle.std.proofs.lemmas.Fmt.{decimal_injective}
 use Rattle.std.proofs.lemmas.List.{take-append-drop}
 use Rattle.std.proofs.Math.Seq.{take-append_seam, drop-append_seam}
 use Rattle.std.specs.Fmt.{decimal}
-use Rattle.dagcbor_heads.specs.Head.{head}
-use Rattle.dagcbor_heads.specs.Splits.{SplitsHead, BeginsWithHead}
+use Rattle.dagcbor_core.specs.Head.{head}
+use Rattle.dagcbor_core.specs.Splits.{SplitsHead, BeginsWithHead}
 use Rattle.ipld_tree.specs.Tree.{Tree, text, list, mapping, Items, any_need, items_need}
 use Rattle.ipld_tree.specs.Spelling.{item_count, IsFront, AreFronts}
 use Rattle.ipld_tree.proofs.Unique.{major}

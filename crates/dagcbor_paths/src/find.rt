@@ -1,7 +1,7 @@
 //! What a path leads to in a block.
 
 ghost use Rattle.std.specs.Prelude.{◌≡◌, ◌≢◌, map, Some, IfOk, IfErr, IfSome};
-ghost use Rattle.dagcbor_heads.specs.declared.error.DecodeError.TheVariants.{OutOfMemory};
+ghost use Rattle.dagcbor_core.specs.declared.error.DecodeError.TheVariants.{OutOfMemory};
 ghost use Rattle.ipld_tree.specs.Tree.{Tree};
 ghost use Rattle.dagcbor_decode.specs.Blocks.{IsBlock};
 ghost use Rattle.dagcbor_decode.specs.Verdicts.{IsRefusedFor};
@@ -12,9 +12,9 @@ ghost use Rattle.dagcbor_paths.specs.Finding.{FindsItemIn, IsFoundIn, StopsInBlo
 
 use crate::parts::part_at;
 use crate::segments::next_segment;
+use dagcbor_core::DecodeError;
 use dagcbor_decode::{Kind, check_slice, kind_at};
-use dagcbor_heads::DecodeError;
-use dagcbor_io::SliceReader;
+use dagcbor_heads::SliceReader;
 use dagcbor_items::{behind_item, pull_link};
 use ipld_tree::Cid;
 use std::convert::Infallible;

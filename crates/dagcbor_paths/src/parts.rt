@@ -6,7 +6,7 @@ ghost use Rattle.ipld_tree.specs.Spelling.{IsFront};
 ghost use Rattle.dagcbor_paths.specs.Parts.{EndsWith, FindsItem, FindsValue, FindsPart};
 
 use crate::segments::index_of;
-use dagcbor_heads::split_head;
+use dagcbor_core::split_head;
 use dagcbor_items::{behind_item, behind_items};
 use ipld_tree::comes_before;
 

@@ -2,10 +2,10 @@
 use Rattle.std.proofs.Common.{◌≡◌, ℕ, List, ◌++◌, length, append_assoc, ◌∙◌, Global, ◌<◌, ◌-◌, true, false, refl, subst, Option, None, Some, IfSome, Ok, Err}
 use Rattle.std.specs.Cow.{cow_str_bytes}
 use Rattle.std.specs.declared.borrow.CowStr.{CowStr}
-use Rattle.dagcbor_heads.specs.Head.{head}
-use Rattle.dagcbor_io.specs.Reading.{Reading}
-use Rattle.dagcbor_io.specs.Refusals.{RefusesOrLacksMemoryUnlent}
-use Rattle.dagcbor_heads.specs.declared.error.DecodeError.{DecodeError}
+use Rattle.dagcbor_core.specs.Head.{head}
+use Rattle.dagcbor_heads.specs.Reading.{Reading}
+use Rattle.dagcbor_heads.specs.Refusals.{RefusesOrLacksMemoryUnlent}
+use Rattle.dagcbor_core.specs.declared.error.DecodeError.{DecodeError}
 use Rattle.ipld_tree.specs.Tree.{Tree, text}
 use Rattle.dagcbor_items.specs.Untyped.{TakesItem}
 use Rattle.dagcbor_items.specs.Places.{Follows}

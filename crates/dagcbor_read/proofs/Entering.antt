@@ -1,13 +1,13 @@
 -- Beginning a list or a map.
 use Rattle.std.proofs.Common.{◌≡◌, ℕ, ◌<◌, List, sym, ap, ◌∙◌, arith}
-use Rattle.dagcbor_io.specs.Reading.{Reading, SpentStep, Stays}
-use Rattle.dagcbor_heads.specs.Causes.{IsDepthNamed}
-use Rattle.dagcbor_heads.specs.Names.{Names}
-use Rattle.dagcbor_io.specs.Refusals.{RefusesPlainly, NoStep}
-use Rattle.dagcbor_heads.specs.declared.name.Name.{Name}
-use Rattle.dagcbor_heads.specs.declared.error.DecodeError.{DecodeError}
-use Rattle.dagcbor_heads.specs.declared.error.DecodeError.TheVariants.{Mismatch, DepthOverflow}
-use Rattle.dagcbor_io.proofs.Refusing.{no_step_refused, SameReader, refusal_carried}
+use Rattle.dagcbor_heads.specs.Reading.{Reading, SpentStep, Stays}
+use Rattle.dagcbor_core.specs.Causes.{IsDepthNamed}
+use Rattle.dagcbor_core.specs.Names.{Names}
+use Rattle.dagcbor_heads.specs.Refusals.{RefusesPlainly, NoStep}
+use Rattle.dagcbor_core.specs.declared.name.Name.{Name}
+use Rattle.dagcbor_core.specs.declared.error.DecodeError.{DecodeError}
+use Rattle.dagcbor_core.specs.declared.error.DecodeError.TheVariants.{Mismatch, DepthOverflow}
+use Rattle.dagcbor_heads.proofs.Refusing.{no_step_refused, SameReader, refusal_carried}
 use Rattle.dagcbor_items.specs.AnsweredVariants.{OfByte, OfHead}
 use Rattle.dagcbor_items.specs.Majors.{HasMajor}
 use Rattle.dagcbor_items.specs.ReadCauses.{MajorCause}

@@ -3,9 +3,9 @@ use Rattle.std.proofs.Common.{◌≡◌, ℕ, ◌+◌, ◌-◌, Global, List, Bo
 use Rattle.std.specs.Prelude.{⊤}
 use Rattle.std.specs.Cow.{cow_str_bytes}
 use Rattle.std.specs.declared.borrow.CowStr.{CowStr}
-use Rattle.dagcbor_io.specs.Reading.{with_steps}
-use Rattle.dagcbor_io.specs.Refusals.{Refuses}
-use Rattle.dagcbor_heads.specs.declared.error.DecodeError.{DecodeError}
+use Rattle.dagcbor_heads.specs.Reading.{with_steps}
+use Rattle.dagcbor_heads.specs.Refusals.{Refuses}
+use Rattle.dagcbor_core.specs.declared.error.DecodeError.{DecodeError}
 use Rattle.ipld_tree.specs.Tree.{Tree, any_need}
 use Rattle.dagcbor_read.specs.Deserializers.{DeState, Call}
 use Rattle.dagcbor_items.specs.TypedReads.{HasFront, TakesFront, MayLack, Anything}
@@ -19,7 +19,7 @@ use Rattle.dagcbor_read.proofs.Answered.{KeyRead, key_read, no_key, after_some_k
 use Rattle.dagcbor_read.proofs.Answered as answer
 use Rattle.dagcbor_read.proofs.EntryRows.{FieldsSoFar, no_field_so_far, key_not_read, value_not_read, one_more_field, all_fields_read, map_has_fields, typed_map_taken}
 use Rattle.dagcbor_read.proofs.FieldPlaces.{takes_as, front_as}
-use Rattle.dagcbor_io.proofs.Refusing.{refusal_carried}
+use Rattle.dagcbor_heads.proofs.Refusing.{refusal_carried}
 use Rattle.dagcbor_read.proofs.Passing.{or_left, lacks_before}
 
 module _ {S : Type 0} (shape : FieldShape S) (start : S) where

@@ -1,10 +1,10 @@
 -- Entries of a map, read one by one into a state.
 use Rattle.std.proofs.Common.{◌≡◌, ℕ, ◌+◌, ◌-◌, ◌<◌, ◌≤◌, Bool, List, ◌++◌, true, false, refl, sym, ap, ◌∙◌, subst, arith, Option, None, Some, is_some, option_and_then, Result, Ok, Err, MatchResult, MatchBool, IfOk}
-use Rattle.dagcbor_heads.specs.Head.{head}
-use Rattle.dagcbor_io.specs.Reading.{Reading, Stays, with_steps}
-use Rattle.dagcbor_io.specs.Refusals.{RefusesOrLacksMemoryUnlent, Refuses}
-use Rattle.dagcbor_heads.specs.declared.error.DecodeError.{DecodeError}
-use Rattle.dagcbor_io.proofs.Taking.{stays, stays_both}
+use Rattle.dagcbor_core.specs.Head.{head}
+use Rattle.dagcbor_heads.specs.Reading.{Reading, Stays, with_steps}
+use Rattle.dagcbor_heads.specs.Refusals.{RefusesOrLacksMemoryUnlent, Refuses}
+use Rattle.dagcbor_core.specs.declared.error.DecodeError.{DecodeError}
+use Rattle.dagcbor_heads.proofs.Taking.{stays, stays_both}
 use Rattle.ipld_tree.specs.Tree.{Tree, text, mapping, Entries, no_entries, entry, Precedes}
 use Rattle.ipld_tree.specs.Spelling.{entry_count, entries_spelling, IsFront, AreEntryFronts}
 use Rattle.ipld_tree.proofs.Fronts.{entry_closed, entries_after}
@@ -25,7 +25,7 @@ use Rattle.dagcbor_items.proofs.Maps.{map_closed}
 use Rattle.dagcbor_read.proofs.Progressing.{call_answered}
 use Rattle.dagcbor_read.proofs.Answered.{KeyRead}
 use Rattle.dagcbor_read.proofs.ItemRows.{same_reader, left_again}
-use Rattle.dagcbor_io.proofs.Refusing.{refusal_carried}
+use Rattle.dagcbor_heads.proofs.Refusing.{refusal_carried}
 use Rattle.dagcbor_read.proofs.Passing.{or_left, lacks_before, lacks_unlent}
 use Rattle.dagcbor_items.specs.Shapes.{unless_lent}
 use Rattle.dagcbor_read.specs.Parts.{PassesEntries}

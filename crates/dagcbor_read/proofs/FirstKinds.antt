@@ -1,7 +1,7 @@
 -- The kind of an item, by its first byte.
 use Rattle.std.proofs.Common.{ℕ, subst}
-use Rattle.dagcbor_io.specs.Reading.{Reading}
-use Rattle.dagcbor_io.specs.Fronts.{ShowsByte}
+use Rattle.dagcbor_heads.specs.Reading.{Reading}
+use Rattle.dagcbor_heads.specs.Fronts.{ShowsByte}
 use Rattle.ipld_tree.specs.Spelling.{IsFront}
 use Rattle.dagcbor_decode.specs.TreeKinds.{IsKindAt}
 use Rattle.dagcbor_decode.specs.declared.kind.Kind.{Kind}

@@ -1,12 +1,12 @@
 -- What calls hand on of what types answer beside their law.
 use Rattle.std.proofs.Common.{◌≡◌, ℕ, Bool, false, List, [], ◌++◌, inl, inr, refl, sym, ap, subst, ◌∙◌, ◌<◌, ◌≤◌, arith, Option, None, Some, IfSome, IfErr, Result, Ok, Err, IsErrAnd, MatchResult, codes, ◌⊎◌, ◌+◌, ◌-◌, Global}
-use Rattle.dagcbor_heads.specs.Names.{Names}
-use Rattle.dagcbor_heads.specs.declared.name.Name.{Name}
-use Rattle.dagcbor_io.specs.Reading.{Reading, Stays, fresh_reading}
-use Rattle.dagcbor_io.specs.Inputs.{not_lending}
-use Rattle.dagcbor_heads.specs.declared.error.DecodeError.{DecodeError}
-use Rattle.dagcbor_heads.specs.declared.error.DecodeError.TheVariants.{Msg, Read, TrailingData}
-use Rattle.dagcbor_io.proofs.Taking.{stays}
+use Rattle.dagcbor_core.specs.Names.{Names}
+use Rattle.dagcbor_core.specs.declared.name.Name.{Name}
+use Rattle.dagcbor_heads.specs.Reading.{Reading, Stays, fresh_reading}
+use Rattle.dagcbor_heads.specs.Inputs.{not_lending}
+use Rattle.dagcbor_core.specs.declared.error.DecodeError.{DecodeError}
+use Rattle.dagcbor_core.specs.declared.error.DecodeError.TheVariants.{Msg, Read, TrailingData}
+use Rattle.dagcbor_heads.proofs.Taking.{stays}
 use Rattle.ipld_tree.specs.Tree.{Tree, text, Items, no_items, item}
 use Rattle.ipld_tree.specs.Spelling.{AreFronts}
 use Rattle.ipld_tree.proofs.Fronts.{item_closed}

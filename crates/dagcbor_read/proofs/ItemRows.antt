@@ -1,11 +1,11 @@
 -- Rows of items, read one by one.
 use Rattle.std.proofs.Common.{◌≡◌, ℕ, ◌+◌, ◌-◌, ◌<◌, ◌≤◌, max, List, [], ◌∷◌, ◌++◌, true, false, Bool, ◌||◌, refl, sym, ap, ◌∙◌, subst, arith, append_assoc, append-nil, Option, None, Some, is_some, option_map, option_and_then, Result, Ok, Err, is_ok, is_err, cond, IfSome, All}
 use Rattle.std.proofs.lemmas.List.Elements.{All-push}
-use Rattle.dagcbor_heads.specs.Head.{head}
-use Rattle.dagcbor_io.specs.Reading.{Reading, Stays, with_steps}
-use Rattle.dagcbor_io.specs.Refusals.{Refuses}
-use Rattle.dagcbor_heads.specs.declared.error.DecodeError.{DecodeError}
-use Rattle.dagcbor_io.proofs.Taking.{stays, stays_both}
+use Rattle.dagcbor_core.specs.Head.{head}
+use Rattle.dagcbor_heads.specs.Reading.{Reading, Stays, with_steps}
+use Rattle.dagcbor_heads.specs.Refusals.{Refuses}
+use Rattle.dagcbor_core.specs.declared.error.DecodeError.{DecodeError}
+use Rattle.dagcbor_heads.proofs.Taking.{stays, stays_both}
 use Rattle.ipld_tree.specs.Tree.{Tree, list, Items, no_items, item}
 use Rattle.ipld_tree.specs.Spelling.{item_count, IsFront, AreFronts}
 use Rattle.ipld_tree.proofs.Fronts.{list_closed, item_closed, items_after}
@@ -19,7 +19,7 @@ use Rattle.dagcbor_items.specs.Items.{HasRow}
 use Rattle.dagcbor_read.specs.Collections.{view_list, need_list, view_none, TakesRow, ReadsRest, list_of, all_of, no_more, first_then, optional_then}
 use Rattle.dagcbor_items.proofs.Rows.{row_entered, row_first}
 use Rattle.dagcbor_read.proofs.Progressing.{call_answered}
-use Rattle.dagcbor_io.proofs.Refusing.{SameReader, refusal_carried}
+use Rattle.dagcbor_heads.proofs.Refusing.{SameReader, refusal_carried}
 use Rattle.dagcbor_read.proofs.Passing.{given_back, or_left, or_right, lacks_before}
 use Rattle.dagcbor_items.specs.Shapes.{Shape}
 

@@ -1,9 +1,9 @@
 -- Groups of fields that are read before others: what they take and refuse, the row does.
 use Rattle.std.proofs.Common.{◌≡◌, ℕ, List, ◌∷◌, Bool, true, false, refl, sym, ap, ◌∙◌, subst, Option, None, Some, IsSomeAnd, is_some, option_map, if◌then◌else◌, bytes_eq, Result, Ok, Err}
 use Rattle.std.proofs.lemmas.Slice.Eq.{bytes_eq-Decides}
-use Rattle.dagcbor_io.specs.Reading.{Reading}
-use Rattle.dagcbor_heads.specs.declared.error.DecodeError.{DecodeError}
-use Rattle.dagcbor_io.proofs.Refusing.{refusal_carried}
+use Rattle.dagcbor_heads.specs.Reading.{Reading}
+use Rattle.dagcbor_core.specs.declared.error.DecodeError.{DecodeError}
+use Rattle.dagcbor_heads.proofs.Refusing.{refusal_carried}
 use Rattle.ipld_tree.specs.Tree.{Tree}
 use Rattle.dagcbor_items.specs.Entries.{HasName}
 use Rattle.dagcbor_items.specs.Shapes.{Shape}

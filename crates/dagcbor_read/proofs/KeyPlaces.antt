@@ -7,7 +7,7 @@ use Rattle.std.specs.Ordering.{match_ordering, ordering_reverse}
 use Rattle.ipld_tree.specs.Key.{bytes_cmp, key_cmp}
 use Rattle.ipld_tree.proofs.KeyOrder.{same_key}
 use Rattle.ipld_tree.proofs.Ordered.{key_cmp_total, key_cmp_same}
-use Rattle.dagcbor_io.specs.Reading.{Reading}
+use Rattle.dagcbor_heads.specs.Reading.{Reading}
 use Rattle.ipld_tree.specs.Tree.{Tree}
 use Rattle.dagcbor_items.specs.TypedReads.{TakesFront}
 use Rattle.dagcbor_read.specs.Collections.{in_key_order, held_pairs, value_of, values_of}

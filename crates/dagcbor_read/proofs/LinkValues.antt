@@ -1,10 +1,10 @@
 -- Links as values of a type.
 use Rattle.std.proofs.Common.{◌≡◌, true, false, is_err, Result, Ok, Err, MatchResult}
-use Rattle.dagcbor_io.specs.Reading.{Reading}
-use Rattle.dagcbor_io.specs.Refusals.{Refuses}
-use Rattle.dagcbor_heads.specs.declared.error.DecodeError.{DecodeError}
-use Rattle.dagcbor_io.proofs.Taking.{stays}
-use Rattle.dagcbor_io.proofs.Refusing.{passed_on}
+use Rattle.dagcbor_heads.specs.Reading.{Reading}
+use Rattle.dagcbor_heads.specs.Refusals.{Refuses}
+use Rattle.dagcbor_core.specs.declared.error.DecodeError.{DecodeError}
+use Rattle.dagcbor_heads.proofs.Taking.{stays}
+use Rattle.dagcbor_heads.proofs.Refusing.{passed_on}
 use Rattle.ipld_tree.specs.Cid.{CidParts, cid_bytes}
 use Rattle.dagcbor_items.specs.ReadCauses.{LinkCause}
 use Rattle.dagcbor_items.specs.Links.{ReadsLink}

@@ -1,6 +1,6 @@
 -- Entries whose keys are names of a row.
 use Rattle.std.proofs.Common.{◌≡◌, ℕ, ◌<◌, List, true, false, refl, sym, subst, Option, None, Some}
-use Rattle.dagcbor_heads.specs.declared.error.DecodeError.{DecodeError}
+use Rattle.dagcbor_core.specs.declared.error.DecodeError.{DecodeError}
 use Rattle.dagcbor_items.specs.Entries.{HasName}
 use Rattle.dagcbor_items.specs.Shapes.{unless_lent}
 use Rattle.dagcbor_items.specs.TypedReads.{RefusesRead, MayLack, Anything}
@@ -12,7 +12,7 @@ use Rattle.dagcbor_read.specs.Named.{TakesName, TakesKnown, TakesField, ReadsNam
 use Rattle.dagcbor_read.proofs.Answered.{KeyRead}
 use Rattle.dagcbor_read.proofs.EntryRows.{FieldsSoFar, one_more_field, value_not_read}
 use Rattle.dagcbor_read.proofs.ItemRows.{same_reader}
-use Rattle.dagcbor_io.proofs.Refusing.{refusal_carried}
+use Rattle.dagcbor_heads.proofs.Refusing.{refusal_carried}
 use Rattle.dagcbor_read.proofs.Passing.{or_right, lacks_before}
 
 pub name_taken : {last : Option (List ℕ)} {name : List ℕ} {old mid : DeState} → TakesName last name old mid → TakesKnown (λ k. HasName last k old.input) last old name mid

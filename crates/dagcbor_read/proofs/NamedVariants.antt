@@ -2,15 +2,15 @@
 use Rattle.std.proofs.Common.{◌≡◌, inl, inr, ℕ, ◌+◌, ◌-◌, ◌*◌, ◌/◌, ◌<◌, ◌≤◌, List, [], ◌∷◌, ◌++◌, Bool, true, false, Global, refl, sym, ◌∙◌, ap, subst, arith, append_assoc, zero-le, ◌⊎◌, Option, Some, None, is_some, option_map, Result, Ok, Err, MatchBool}
 use Rattle.std.specs.Cow.{cow_str_bytes}
 use Rattle.std.specs.declared.borrow.CowStr.{CowStr}
-use Rattle.dagcbor_heads.specs.Head.{head}
-use Rattle.dagcbor_io.specs.Reading.{Reading, with_steps}
-use Rattle.dagcbor_io.specs.Fronts.{Takes, ShowsByte}
-use Rattle.dagcbor_io.specs.Refusals.{Refuses}
-use Rattle.dagcbor_heads.specs.declared.error.DecodeError.{DecodeError}
-use Rattle.dagcbor_heads.specs.declared.error.DecodeError.TheVariants.{Msg, Mismatch}
-use Rattle.dagcbor_heads.specs.declared.name.Name.{Name}
-use Rattle.dagcbor_heads.proofs.Heads.{head_whole}
-use Rattle.dagcbor_io.proofs.Taking.{stays_both}
+use Rattle.dagcbor_core.specs.Head.{head}
+use Rattle.dagcbor_heads.specs.Reading.{Reading, with_steps}
+use Rattle.dagcbor_heads.specs.Fronts.{Takes, ShowsByte}
+use Rattle.dagcbor_heads.specs.Refusals.{Refuses}
+use Rattle.dagcbor_core.specs.declared.error.DecodeError.{DecodeError}
+use Rattle.dagcbor_core.specs.declared.error.DecodeError.TheVariants.{Msg, Mismatch}
+use Rattle.dagcbor_core.specs.declared.name.Name.{Name}
+use Rattle.dagcbor_core.proofs.Heads.{head_whole}
+use Rattle.dagcbor_heads.proofs.Taking.{stays_both}
 use Rattle.ipld_tree.specs.Tree.{Tree, text, mapping, no_entries, entry}
 use Rattle.ipld_tree.specs.Spelling.{IsFront, entries_spelling}
 use Rattle.ipld_tree.proofs.Fronts.{front_first, front_unique, map_opened, entry_opened, entry_closed}
@@ -24,7 +24,7 @@ use Rattle.dagcbor_read.specs.Enums.{EnumState, enum_state, TakesForm, HasStepEn
 use Rattle.dagcbor_read.specs.declared.access.enum_accessor.EnumAccessor.{EnumAccessor}
 use Rattle.dagcbor_read.proofs.Progressing.{call_answered, call_told}
 use Rattle.dagcbor_read.proofs.FieldPlaces.{front_as}
-use Rattle.dagcbor_io.proofs.Refusing.{SameReader, refusal_carried}
+use Rattle.dagcbor_heads.proofs.Refusing.{SameReader, refusal_carried}
 use Rattle.dagcbor_read.proofs.Passing.{Entered, given_back, or_left, or_right, lacks_before, lacks_unlent}
 
 -- ---- texts and the first byte

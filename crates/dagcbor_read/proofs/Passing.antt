@@ -1,6 +1,6 @@
 -- What is kept over a part: steps that were spent on it, and where memory may be wanting.
 use Rattle.std.proofs.Common.{◌≡◌, ℕ, ◌+◌, Bool, true, false, ◌||◌, refl, sym, ap, ◌∙◌, arith}
-use Rattle.dagcbor_io.specs.Reading.{Reading, Stays, with_steps}
+use Rattle.dagcbor_heads.specs.Reading.{Reading, Stays, with_steps}
 use Rattle.dagcbor_items.specs.Shapes.{unless_lent}
 
 -- ---- steps that are given back

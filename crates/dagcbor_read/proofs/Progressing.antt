@@ -1,8 +1,8 @@
 -- Calls within calls.
 use Rattle.std.proofs.Common.{◌≡◌, Bool, true, false, refl, sym, ap, subst, Result, Ok, Err, IsErrAnd, is_err, MatchBool}
-use Rattle.dagcbor_io.specs.Reading.{Reading}
-use Rattle.dagcbor_heads.specs.declared.error.DecodeError.{DecodeError}
-use Rattle.dagcbor_heads.specs.declared.error.DecodeError.TheVariants.{Failed}
+use Rattle.dagcbor_heads.specs.Reading.{Reading}
+use Rattle.dagcbor_core.specs.declared.error.DecodeError.{DecodeError}
+use Rattle.dagcbor_core.specs.declared.error.DecodeError.TheVariants.{Failed}
 use Rattle.dagcbor_read.specs.Deserializers.{DeState, Call}
 
 -- the cases of a test

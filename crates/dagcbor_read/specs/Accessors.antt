@@ -3,13 +3,13 @@ use Rattle.std.specs.Prelude.{◌≡◌, ◌==◌, ℕ, ◌+◌, ◌-◌, ◌^�
 use Rattle.std.specs.Cow.{cow_str_bytes}
 use Rattle.std.specs.declared.borrow.CowStr.{CowStr}
 use Rattle.std.specs.declared.alloc.Global.{Global}
-use Rattle.dagcbor_heads.specs.Head.{head}
-use Rattle.dagcbor_io.specs.Reading.{Reading, with_steps}
-use Rattle.dagcbor_io.specs.Refusals.{RefusesPlainly, RefusesOrLacksMemoryUnlent}
-use Rattle.dagcbor_heads.specs.Names.{Names}
-use Rattle.dagcbor_heads.specs.declared.name.Name.{Name}
-use Rattle.dagcbor_heads.specs.declared.error.DecodeError.{DecodeError}
-use Rattle.dagcbor_heads.specs.declared.error.DecodeError.TheVariants.{DepthOverflow, LengthMismatch}
+use Rattle.dagcbor_core.specs.Head.{head}
+use Rattle.dagcbor_heads.specs.Reading.{Reading, with_steps}
+use Rattle.dagcbor_heads.specs.Refusals.{RefusesPlainly, RefusesOrLacksMemoryUnlent}
+use Rattle.dagcbor_core.specs.Names.{Names}
+use Rattle.dagcbor_core.specs.declared.name.Name.{Name}
+use Rattle.dagcbor_core.specs.declared.error.DecodeError.{DecodeError}
+use Rattle.dagcbor_core.specs.declared.error.DecodeError.TheVariants.{DepthOverflow, LengthMismatch}
 use Rattle.ipld_tree.specs.Tree.{Tree}
 use Rattle.dagcbor_items.specs.Places.{Follows}
 use Rattle.dagcbor_items.specs.ReadCauses.{KeyCause, MajorCause}

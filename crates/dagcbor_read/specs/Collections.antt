@@ -3,8 +3,8 @@ use Rattle.std.specs.Prelude.{◌≡◌, ◌||◌, ℕ, ◌+◌, ◌-◌, ◌≤
 use Rattle.std.specs.declared.alloc.Global.{Global}
 use Rattle.std.proofs.Common.{sym, subst}
 use Rattle.std.specs.BTreeMap.{insert_entry}
-use Rattle.dagcbor_io.specs.Reading.{Reading, Stays, with_steps}
-use Rattle.dagcbor_heads.specs.declared.error.DecodeError.{DecodeError}
+use Rattle.dagcbor_heads.specs.Reading.{Reading, Stays, with_steps}
+use Rattle.dagcbor_core.specs.declared.error.DecodeError.{DecodeError}
 use Rattle.ipld_tree.specs.Key.{key_cmp}
 use Rattle.ipld_tree.specs.Tree.{Tree, list, mapping, Items, no_items, item, Entries, no_entries, entry}
 use Rattle.dagcbor_items.specs.Items.{HasRow}

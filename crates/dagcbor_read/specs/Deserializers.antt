@@ -1,11 +1,11 @@
 -- What contracts see of a Deserializer, and what its calls do to it.
 use Rattle.std.specs.Prelude.{◌≡◌, ℕ, ◌+◌, ◌<◌, ◌≤◌, Bool, true, false, Result, Ok, Err, is_err, MatchBool, MatchResult}
-use Rattle.dagcbor_io.specs.Reading.{Reading}
-use Rattle.dagcbor_io.specs.Fronts.{FindsEnd, ShowsByte}
-use Rattle.dagcbor_io.specs.Looking.{LooksOnce, LooksAtTaken, LooksAtLeft}
-use Rattle.dagcbor_io.specs.Inputs.{input_reading}
-use Rattle.dagcbor_heads.specs.declared.error.DecodeError.{DecodeError}
-use Rattle.dagcbor_heads.specs.declared.error.DecodeError.TheVariants.{Read, TrailingData, Failed}
+use Rattle.dagcbor_heads.specs.Reading.{Reading}
+use Rattle.dagcbor_heads.specs.Fronts.{FindsEnd, ShowsByte}
+use Rattle.dagcbor_heads.specs.Looking.{LooksOnce, LooksAtTaken, LooksAtLeft}
+use Rattle.dagcbor_heads.specs.Inputs.{input_reading}
+use Rattle.dagcbor_core.specs.declared.error.DecodeError.{DecodeError}
+use Rattle.dagcbor_core.specs.declared.error.DecodeError.TheVariants.{Read, TrailingData, Failed}
 use Rattle.dagcbor_read.specs.declared.deserializer.Deserializer.{Deserializer}
 
 -- a Deserializer

@@ -1,12 +1,12 @@
 -- What contracts see of an enum that was begun, and what its calls do.
 use Rattle.std.specs.Prelude.{◌≡◌, ◌≢◌, ◌⊎◌, ℕ, ◌+◌, ◌-◌, ◌/◌, ◌<◌, Bool, true, false, List, [], ◌∷◌, Some, Result, MatchResult, MatchBool, IfOk, codes, ⊤}
-use Rattle.dagcbor_io.specs.Reading.{Reading, with_steps}
-use Rattle.dagcbor_io.specs.Fronts.{Takes, ShowsByte}
-use Rattle.dagcbor_io.specs.Refusals.{RefusesPlainly}
-use Rattle.dagcbor_heads.specs.Names.{Names}
-use Rattle.dagcbor_heads.specs.declared.error.DecodeError.{DecodeError}
-use Rattle.dagcbor_heads.specs.declared.error.DecodeError.TheVariants.{Eof, Mismatch, DepthOverflow}
-use Rattle.dagcbor_heads.specs.declared.error.Len.TheVariants.{Small}
+use Rattle.dagcbor_heads.specs.Reading.{Reading, with_steps}
+use Rattle.dagcbor_heads.specs.Fronts.{Takes, ShowsByte}
+use Rattle.dagcbor_heads.specs.Refusals.{RefusesPlainly}
+use Rattle.dagcbor_core.specs.Names.{Names}
+use Rattle.dagcbor_core.specs.declared.error.DecodeError.{DecodeError}
+use Rattle.dagcbor_core.specs.declared.error.DecodeError.TheVariants.{Eof, Mismatch, DepthOverflow}
+use Rattle.dagcbor_core.specs.declared.error.Len.TheVariants.{Small}
 use Rattle.ipld_tree.specs.Tree.{Tree}
 use Rattle.std.specs.Cow.{cow_str_bytes}
 use Rattle.std.specs.declared.borrow.CowStr.{CowStr}

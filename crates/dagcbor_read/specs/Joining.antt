@@ -1,6 +1,6 @@
 -- How a group of fields stands before others: what both hold is one flat row, by computation.
 use Rattle.std.specs.Prelude.{◌≡◌, ℕ, Bool, true, false, List, [], ◌∷◌, Option, None, Some, option_map, option_and_then, if◌then◌else◌, bytes_eq}
-use Rattle.dagcbor_heads.specs.declared.error.DecodeError.{DecodeError}
+use Rattle.dagcbor_core.specs.declared.error.DecodeError.{DecodeError}
 use Rattle.ipld_tree.specs.Tree.{Tree}
 use Rattle.dagcbor_items.specs.Entries.{HasName}
 use Rattle.dagcbor_items.specs.Shapes.{Shape}

@@ -1,11 +1,11 @@
 -- What the first byte of an item tells of it.
 use Rattle.std.specs.Prelude.{◌≡◌, ℕ, List, Some, Result, MatchResult, codes, ⊤}
-use Rattle.dagcbor_io.specs.Reading.{Reading, Keeps, Stays}
-use Rattle.dagcbor_io.specs.Fronts.{HasByte}
-use Rattle.dagcbor_heads.specs.Causes.{ByteCause, IsEndNamed}
-use Rattle.dagcbor_io.specs.Refusals.{RefusesPlainly}
-use Rattle.dagcbor_heads.specs.declared.error.DecodeError.{DecodeError}
-use Rattle.dagcbor_heads.specs.declared.error.DecodeError.TheVariants.{Failed}
+use Rattle.dagcbor_heads.specs.Reading.{Reading, Keeps, Stays}
+use Rattle.dagcbor_heads.specs.Fronts.{HasByte}
+use Rattle.dagcbor_core.specs.Causes.{ByteCause, IsEndNamed}
+use Rattle.dagcbor_heads.specs.Refusals.{RefusesPlainly}
+use Rattle.dagcbor_core.specs.declared.error.DecodeError.{DecodeError}
+use Rattle.dagcbor_core.specs.declared.error.DecodeError.TheVariants.{Failed}
 use Rattle.dagcbor_decode.specs.TreeKinds.{IsKindOfFront}
 use Rattle.dagcbor_decode.specs.declared.kind.Kind.{Kind}
 

@@ -1,10 +1,10 @@
 -- handed on from the crates below
-pub use Rattle.dagcbor_io.specs.Reading
-pub use Rattle.dagcbor_io.specs.Fronts
-pub use Rattle.dagcbor_io.specs.Looking
-pub use Rattle.dagcbor_heads.specs.Causes
-pub use Rattle.dagcbor_io.specs.Refusals
-pub use Rattle.dagcbor_heads.specs.Names
+pub use Rattle.dagcbor_heads.specs.Reading
+pub use Rattle.dagcbor_heads.specs.Fronts
+pub use Rattle.dagcbor_heads.specs.Looking
+pub use Rattle.dagcbor_core.specs.Causes
+pub use Rattle.dagcbor_heads.specs.Refusals
+pub use Rattle.dagcbor_core.specs.Names
 pub use Rattle.ipld_tree.specs.Tree
 pub use Rattle.ipld_tree.specs.Ipld
 pub use Rattle.ipld_tree.specs.Spelling

@@ -1,10 +1,10 @@
 -- What reading a value answers beside the law of its type, and how a call that reads a part hands
 -- that on.
 use Rattle.std.specs.Prelude.{◌≡◌, ◌⊎◌, ℕ, ◌+◌, ◌-◌, ◌<◌, min, Bool, true, false, List, Option, None, Some, Result, Ok, Err, IfErr, IfSome, MatchResult, codes, ⊤}
-use Rattle.dagcbor_io.specs.Reading.{Reading, Stays, with_steps}
-use Rattle.dagcbor_heads.specs.Names.{Names}
-use Rattle.dagcbor_heads.specs.declared.error.DecodeError.{DecodeError}
-use Rattle.dagcbor_heads.specs.declared.error.DecodeError.TheVariants.{Msg, Read, RequireBorrowed, OutOfMemory, TrailingData}
+use Rattle.dagcbor_heads.specs.Reading.{Reading, Stays, with_steps}
+use Rattle.dagcbor_core.specs.Names.{Names}
+use Rattle.dagcbor_core.specs.declared.error.DecodeError.{DecodeError}
+use Rattle.dagcbor_core.specs.declared.error.DecodeError.TheVariants.{Msg, Read, RequireBorrowed, OutOfMemory, TrailingData}
 use Rattle.ipld_tree.specs.Tree.{text, Items, Entries, no_entries, entry}
 use Rattle.ipld_tree.specs.Spelling.{item_count, entry_count, IsFront, AreFronts}
 use Rattle.dagcbor_items.specs.Majors.{LacksForString}

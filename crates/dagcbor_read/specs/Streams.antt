@@ -1,11 +1,11 @@
 -- Streams: values one after the other.
 use Rattle.std.specs.Prelude.{◌≡◌, ◌≢◌, ℕ, ◌+◌, ◌<◌, ◌≤◌, ◌⊎◌, Bool, true, false, List, [], ◌∷◌, length, map, Option, None, Some, Result, Ok, Err, is_err, MatchBool, MatchOption, MatchResult, IfSome, IfOk, ⊤}
 use Rattle.std.specs.Iterator.{Count, DrainsIf}
-use Rattle.dagcbor_io.specs.Reading.{Reading}
-use Rattle.dagcbor_io.specs.Fronts.{FindsEnd}
-use Rattle.dagcbor_io.specs.Refusals.{Refuses}
-use Rattle.dagcbor_heads.specs.declared.error.DecodeError.{DecodeError}
-use Rattle.dagcbor_heads.specs.declared.error.DecodeError.TheVariants.{Read, RequireBorrowed, OutOfMemory, Failed}
+use Rattle.dagcbor_heads.specs.Reading.{Reading}
+use Rattle.dagcbor_heads.specs.Fronts.{FindsEnd}
+use Rattle.dagcbor_heads.specs.Refusals.{Refuses}
+use Rattle.dagcbor_core.specs.declared.error.DecodeError.{DecodeError}
+use Rattle.dagcbor_core.specs.declared.error.DecodeError.TheVariants.{Read, RequireBorrowed, OutOfMemory, Failed}
 use Rattle.ipld_tree.specs.Tree.{Tree}
 use Rattle.dagcbor_read.specs.Deserializers.{DeState, de_state, Call}
 use Rattle.dagcbor_items.specs.ItemsLeft.{items_left_of}

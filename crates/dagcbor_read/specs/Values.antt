@@ -1,7 +1,7 @@
 -- The law of a type that is read, and what a call says that reads a value by it.
 use Rattle.std.specs.Prelude.{◌≡◌, ℕ, List, Some, true, false, Result, Err, IfErr, MatchResult}
-use Rattle.dagcbor_io.specs.Reading.{Reading}
-use Rattle.dagcbor_heads.specs.declared.error.DecodeError.{DecodeError}
+use Rattle.dagcbor_heads.specs.Reading.{Reading}
+use Rattle.dagcbor_core.specs.declared.error.DecodeError.{DecodeError}
 use Rattle.ipld_tree.specs.Tree.{Tree}
 use Rattle.dagcbor_items.specs.TypedReads.{RefusesRead, Reads, HasFront, TakesFront, MayLack, Anything}
 use Rattle.dagcbor_read.specs.Deserializers.{DeState}

@@ -1,13 +1,13 @@
 //! What can be read.
 
 ghost use Rattle.std.specs.Prelude.{◌≡◌, Bool, false, ⊤, IfOk, Result};
-ghost use Rattle.dagcbor_heads.specs.declared.error.DecodeError.{DecodeError};
+ghost use Rattle.dagcbor_core.specs.declared.error.DecodeError.{DecodeError};
 ghost use Rattle.dagcbor_read.specs.Deserializers.{DeState, de_state, StaysFailed, Over};
 ghost use Rattle.dagcbor_read.specs.Values.{ReadsValue};
 
 use crate::deserializer::Deserializer;
 use crate::shown::Shown;
-use dagcbor_io::{Read, ReadResult};
+use dagcbor_heads::{Read, ReadResult};
 use std::alloc::Global;
 
 /// A value that can be read from a `Deserializer` whose input lives for `'de`.

@@ -3,11 +3,11 @@
 ghost use Rattle.std.specs.Prelude.{◌≡◌, [], false, true, MatchResult, Some, IfErr, ◌+◌, ◌≤◌, ◌^◌};
 ghost use Rattle.std.specs.Prelude.{◌<◌, IfNone};
 ghost use Rattle.std.specs.Prelude.{IfOk, IfSome, codes, pos, negsuc, ◌≤ℤ◌, ◌↔◌, option_map};
-ghost use Rattle.dagcbor_heads.specs.Steps.{default_steps};
-ghost use Rattle.dagcbor_io.specs.Reading.{fresh_reading};
-ghost use Rattle.dagcbor_io.specs.Inputs.{not_lending};
-ghost use Rattle.dagcbor_heads.specs.declared.error.DecodeError.TheVariants.{Failed};
-ghost use Rattle.dagcbor_io.specs.Looking.{Looks, LooksOnce, LooksAtTaken};
+ghost use Rattle.dagcbor_core.specs.Steps.{default_steps};
+ghost use Rattle.dagcbor_heads.specs.Reading.{fresh_reading};
+ghost use Rattle.dagcbor_heads.specs.Inputs.{not_lending};
+ghost use Rattle.dagcbor_core.specs.declared.error.DecodeError.TheVariants.{Failed};
+ghost use Rattle.dagcbor_heads.specs.Looking.{Looks, LooksOnce, LooksAtTaken};
 ghost use Rattle.dagcbor_items.specs.Looks.{LooksAtAny};
 ghost use Rattle.dagcbor_read.specs.Deserializers.{de_state, Call, Ends, Over, LooksAtFirst};
 ghost use Rattle.dagcbor_items.specs.Entries.{ReadsKey};
@@ -35,9 +35,11 @@ use crate::access::accessor::{Accessor, copied};
 use crate::access::enum_accessor::{EnumAccessor, spend_form};
 use crate::deserialize::Deserialize;
 use crate::stream::StreamDeserializer;
+use dagcbor_core::{DecodeError, Name};
 use dagcbor_decode::{Kind, kind_at};
-use dagcbor_heads::{DecodeError, Name};
-use dagcbor_io::{Input, Read, ReadResult, SliceReader, is_at_end, peek_one, pull_one, spend_step};
+use dagcbor_heads::{
+    Input, Read, ReadResult, SliceReader, is_at_end, peek_one, pull_one, spend_step,
+};
 use dagcbor_items::{
     gather_links, pull_bool, pull_char, pull_i128, pull_link, pull_major, pull_null,
     pull_owned_bytes, pull_owned_text, pull_signed, pull_slice, pull_str, pull_u128, pull_unsigned,

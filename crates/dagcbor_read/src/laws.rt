@@ -4,7 +4,7 @@ ghost use Rattle.dagcbor_read.specs.Streams.{stream_state, StreamsAreExact, Stre
 
 use crate::deserialize::Deserialize;
 use crate::shown::Shown;
-use dagcbor_io::Read;
+use dagcbor_heads::Read;
 
 /// The items of a stream over known bytes are the stream of the type on these bytes.
 pub fn streams_exact<'de, T: Deserialize<'de>, R: Read>()

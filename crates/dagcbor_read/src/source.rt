@@ -1,15 +1,15 @@
 //! Reading one value from a buffered source of std.
 
 ghost use Rattle.std.specs.Prelude.{◌⊎◌, false, IfOk, IfErr, IfSome};
-ghost use Rattle.dagcbor_heads.specs.Steps.{default_steps};
+ghost use Rattle.dagcbor_core.specs.Steps.{default_steps};
 ghost use Rattle.dagcbor_read.specs.Whole.{IsWhole, HoldsNoValue, TakesFirst, BeginsWithNoValue};
 ghost use Rattle.dagcbor_read.specs.Whole.{IsReadExcuse, OfWhole, IsForBehind, LacksMemoryIf};
 ghost use Rattle.dagcbor_read.specs.Parts.{HandsWholeOn, HandsFirstOn};
 
 use crate::deserialize::DeserializeOwned;
 use crate::deserializer::Deserializer;
-use dagcbor_heads::DecodeError;
-use dagcbor_io::{IoReader, IoRefReader};
+use dagcbor_core::DecodeError;
+use dagcbor_heads::{IoReader, IoRefReader};
 use std::alloc::Global;
 use std::io;
 use std::io::BufRead;

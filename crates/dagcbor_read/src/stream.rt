@@ -1,14 +1,14 @@
 //! Streams: values one after the other, up to the end of the input.
 
 ghost use Rattle.std.specs.Prelude.{◌≡◌, [], false};
-ghost use Rattle.dagcbor_heads.specs.Steps.{default_steps};
-ghost use Rattle.dagcbor_io.specs.Reading.{fresh_reading};
+ghost use Rattle.dagcbor_core.specs.Steps.{default_steps};
+ghost use Rattle.dagcbor_heads.specs.Reading.{fresh_reading};
 ghost use Rattle.dagcbor_read.specs.Deserializers.{de_state};
 ghost use Rattle.dagcbor_read.specs.Streams.{stream_state, items_left, GivesNext, LiesNext};
 
 use crate::deserialize::{Deserialize, DeserializeOwned};
 use crate::deserializer::Deserializer;
-use dagcbor_io::{IoReader, Read, ReadResult};
+use dagcbor_heads::{IoReader, Read, ReadResult};
 use std::alloc::Global;
 use std::io::BufRead;
 use std::marker::PhantomData;

@@ -1,16 +1,16 @@
 //! Reading one value from a slice.
 
 ghost use Rattle.std.specs.Prelude.{◌≡◌, ◌⊎◌, ◌≤◌, true, false, Some, IfOk, IfErr};
-ghost use Rattle.dagcbor_heads.specs.Steps.{default_steps};
-ghost use Rattle.dagcbor_heads.specs.declared.error.DecodeError.TheVariants.{OutOfMemory};
+ghost use Rattle.dagcbor_core.specs.Steps.{default_steps};
+ghost use Rattle.dagcbor_core.specs.declared.error.DecodeError.TheVariants.{OutOfMemory};
 ghost use Rattle.dagcbor_read.specs.Whole.{IsWhole, HoldsNoValue, OfWhole};
 ghost use Rattle.dagcbor_read.specs.Whole.{IsForBehind, LacksMemoryIf};
 ghost use Rattle.dagcbor_read.specs.Parts.{HandsWholeOn};
 
 use crate::deserialize::{Deserialize, DeserializeOwned};
 use crate::deserializer::Deserializer;
-use dagcbor_heads::{DEFAULT_STEPS, DecodeError};
-use dagcbor_io::SliceReader;
+use dagcbor_core::{DEFAULT_STEPS, DecodeError};
+use dagcbor_heads::SliceReader;
 use std::alloc::Global;
 use std::convert::Infallible;
 

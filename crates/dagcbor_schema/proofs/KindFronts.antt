@@ -1,13 +1,13 @@
 -- A value that is read by the kind of its data.
 use Rattle.std.proofs.Common.{◌≡◌, ℕ, ◌+◌, ◌*◌, List, Bool, true, false, refl, sym, ap, ◌∙◌, subst, arith, Option, None, Some, option_map, is_some, Ok, Err}
-use Rattle.dagcbor_io.specs.Reading.{Reading}
-use Rattle.dagcbor_io.specs.Refusals.{Refuses}
-use Rattle.dagcbor_heads.specs.declared.error.DecodeError.{DecodeError}
-use Rattle.dagcbor_io.proofs.Taking.{stays, stays_both}
-use Rattle.dagcbor_io.specs.Fronts.{HasByte}
-use Rattle.dagcbor_heads.specs.Causes.{ByteCause}
-use Rattle.dagcbor_heads.specs.declared.name.Name.{Name}
-use Rattle.dagcbor_heads.specs.declared.error.DecodeError.TheVariants.{Msg}
+use Rattle.dagcbor_heads.specs.Reading.{Reading}
+use Rattle.dagcbor_heads.specs.Refusals.{Refuses}
+use Rattle.dagcbor_core.specs.declared.error.DecodeError.{DecodeError}
+use Rattle.dagcbor_heads.proofs.Taking.{stays, stays_both}
+use Rattle.dagcbor_heads.specs.Fronts.{HasByte}
+use Rattle.dagcbor_core.specs.Causes.{ByteCause}
+use Rattle.dagcbor_core.specs.declared.name.Name.{Name}
+use Rattle.dagcbor_core.specs.declared.error.DecodeError.TheVariants.{Msg}
 use Rattle.ipld_tree.specs.Tree.{Tree, null}
 use Rattle.ipld_tree.specs.Spelling.{IsFront}
 use Rattle.ipld_tree.proofs.Unique.{major}
@@ -24,7 +24,7 @@ use Rattle.dagcbor_read.specs.Deserializers.{DeState, Call}
 use Rattle.dagcbor_read.specs.Kinds.{ShowsKind, PeeksKind}
 use Rattle.dagcbor_read.proofs.Progressing.{call_answered, call_told}
 use Rattle.dagcbor_read.proofs.ItemRows.{same_reader}
-use Rattle.dagcbor_io.proofs.Refusing.{refusal_carried}
+use Rattle.dagcbor_heads.proofs.Refusing.{refusal_carried}
 use Rattle.dagcbor_read.proofs.Passing.{or_left, or_right}
 
 is_mapped : {V W : Type 0} (f : V → W) (o : Option V) → is_some (option_map f o) ≡ is_some o

@@ -1,13 +1,13 @@
 -- The spelling of a list, by its head and its parts.
 use Rattle.std.proofs.Common.{◌≡◌, ℕ, ◌^◌, ◌<◌, ◌≤◌, List, [], ◌∷◌, length, codes, Option, None, Some, refl, sym, subst, arith, ap₂, ◌∙◌, inl, inr, Result, Ok, Err, IfErr, IsErrAnd, IfSome, OnOk}
 use Rattle.std.specs.Fmt.{◌++?◌}
-use Rattle.dagcbor_heads.specs.Head.{head}
-use Rattle.dagcbor_heads.specs.Messages.{Says, message_bytes}
-use Rattle.dagcbor_heads.specs.declared.name.Message.{Message}
-use Rattle.dagcbor_io.specs.Written.{Written, Stops}
-use Rattle.dagcbor_heads.specs.declared.error.EncodeError.{EncodeError}
-use Rattle.dagcbor_heads.specs.declared.error.EncodeError.TheVariants.{Msg}
-use Rattle.dagcbor_io.proofs.Writing.{Written-but, begin_writing, append_Some}
+use Rattle.dagcbor_core.specs.Head.{head}
+use Rattle.dagcbor_core.specs.Messages.{Says, message_bytes}
+use Rattle.dagcbor_core.specs.declared.name.Message.{Message}
+use Rattle.dagcbor_heads.specs.Written.{Written, Stops}
+use Rattle.dagcbor_core.specs.declared.error.EncodeError.{EncodeError}
+use Rattle.dagcbor_core.specs.declared.error.EncodeError.TheVariants.{Msg}
+use Rattle.dagcbor_heads.proofs.Writing.{Written-but, begin_writing, append_Some}
 use Rattle.ipld_tree.specs.Tree.{Tree, IsTree, list_tree}
 use Rattle.ipld_tree.specs.Spelled.{spelled_tree, spelled_head}
 use Rattle.ipld_tree.proofs.Spelled.{Tells, tells_head}

@@ -1,8 +1,8 @@
 -- What calls answer beside the law, taken from what the calls below them answer.
 use Rattle.std.proofs.Common.{◌≡◌, ℕ, ◌-◌, List, refl, arith, sym, ap, subst, ◌∙◌, inl, inr, Result, Ok, Err, IsErrAnd, codes}
-use Rattle.dagcbor_io.specs.Looking.{Looks}
-use Rattle.dagcbor_heads.specs.declared.error.DecodeError.{DecodeError}
-use Rattle.dagcbor_heads.specs.declared.error.DecodeError.TheVariants.{LengthMismatch}
+use Rattle.dagcbor_heads.specs.Looking.{Looks}
+use Rattle.dagcbor_core.specs.declared.error.DecodeError.{DecodeError}
+use Rattle.dagcbor_core.specs.declared.error.DecodeError.TheVariants.{LengthMismatch}
 use Rattle.dagcbor_items.specs.AnsweredVariants.{OfText}
 use Rattle.dagcbor_items.specs.LeafReads.{ReadsStr}
 use Rattle.dagcbor_decode.specs.declared.kind.Kind.{Kind}

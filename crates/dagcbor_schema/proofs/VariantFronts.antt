@@ -1,9 +1,9 @@
 -- A variant of an enum that holds a value of a type of its own, where the type's meaning is not named.
 use Rattle.std.proofs.Common.{◌≡◌, ℕ, true, false, Bool, List, None, option_map, Result, Err, IsErrAnd, MatchResult}
 use Rattle.std.specs.Prelude.{⊤, MatchBool}
-use Rattle.dagcbor_io.specs.Refusals.{Refuses}
-use Rattle.dagcbor_heads.specs.declared.error.DecodeError.{DecodeError}
-use Rattle.dagcbor_io.proofs.Refusing.{as_refusal}
+use Rattle.dagcbor_heads.specs.Refusals.{Refuses}
+use Rattle.dagcbor_core.specs.declared.error.DecodeError.{DecodeError}
+use Rattle.dagcbor_heads.proofs.Refusing.{as_refusal}
 use Rattle.ipld_tree.specs.Tree.{Tree}
 use Rattle.dagcbor_items.specs.Shapes.{Shape}
 use Rattle.dagcbor_items.specs.TypedReads.{RefusesRead, HasFront, MayLack, Anything}

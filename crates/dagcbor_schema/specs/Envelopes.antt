@@ -1,8 +1,8 @@
 -- A map of two entries, whose first tells what the second holds.
 use Rattle.std.specs.Prelude.{◌≡◌, ◌||◌, ◌<◌, ℕ, ◌+◌, List, Option, None, if◌then◌else◌, Result, MatchResult, false, bytes_eq}
-use Rattle.dagcbor_io.specs.Reading.{Reading}
-use Rattle.dagcbor_io.specs.Refusals.{RefusesOrLacksMemoryUnlent}
-use Rattle.dagcbor_heads.specs.declared.error.DecodeError.{DecodeError}
+use Rattle.dagcbor_heads.specs.Reading.{Reading}
+use Rattle.dagcbor_heads.specs.Refusals.{RefusesOrLacksMemoryUnlent}
+use Rattle.dagcbor_core.specs.declared.error.DecodeError.{DecodeError}
 use Rattle.ipld_tree.specs.Tree.{Tree, text, mapping, no_entries, entry}
 use Rattle.dagcbor_items.specs.Places.{Follows}
 use Rattle.dagcbor_items.specs.Entries.{HasKey}

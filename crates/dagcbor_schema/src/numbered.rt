@@ -1,7 +1,7 @@
 //! An enum whose variants are told by numbers.
 
 ghost use Rattle.std.specs.Prelude.{◌≡◌, ◌^◌, ℕ, Option, option_map, codes};
-ghost use Rattle.dagcbor_io.specs.Looking.{Looks};
+ghost use Rattle.dagcbor_heads.specs.Looking.{Looks};
 ghost use Rattle.dagcbor_items.specs.AnsweredVariants.{OfNumber};
 ghost use Rattle.dagcbor_items.specs.LeafReads.{ReadsUnsigned};
 ghost use Rattle.dagcbor_read.specs.Parts.{ReadsOnce};

@@ -2,7 +2,7 @@
 
 ghost use Rattle.std.specs.Prelude.{◌≡◌, ◌+◌, ◌≤◌, ℕ, Bool, List, [], ◌∷◌, length, Option, OnOk, IfSome};
 ghost use Rattle.std.specs.Prelude.{MatchBool, ◌||◌, false, IfErr, IsErrAnd, IsTrue};
-ghost use Rattle.dagcbor_io.specs.Written.{Writes, WantsMemoryOnlyIf};
+ghost use Rattle.dagcbor_heads.specs.Written.{Writes, WantsMemoryOnlyIf};
 ghost use Rattle.ipld_tree.specs.Spelled.{spelled_tree, spelled_head};
 ghost use Rattle.ipld_tree.specs.Tree.{Tree, IsTree, list_tree};
 ghost use Rattle.dagcbor_write.specs.Answers.{OnMessage, NoMessage, IsMsg};

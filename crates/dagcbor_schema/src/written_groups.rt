@@ -3,7 +3,7 @@
 ghost use Rattle.std.specs.Prelude.{◌≡◌, ◌+◌, ◌<◌, ◌≤◌, [], length, None, OnOk, IfErr};
 ghost use Rattle.std.specs.Prelude.{IfSome, MatchOption, MatchResult, IsTrue, IsOk};
 ghost use Rattle.dagcbor_write.specs.Answers.{OnMessage, IsMsg};
-ghost use Rattle.dagcbor_io.specs.Written.{Writes};
+ghost use Rattle.dagcbor_heads.specs.Written.{Writes};
 ghost use Rattle.dagcbor_write.specs.Rows.{spelled_pairs, ArePairs, KeysRiseTo, pair_at};
 ghost use Rattle.dagcbor_write.specs.Rows.{spelled_pair, IsPair, ListsPlaces};
 ghost use Rattle.dagcbor_write.specs.Maps.{JoinsPairs, StopsAtPair, LacksValue};

@@ -4,7 +4,7 @@ use Rattle.std.proofs.Math.Seq.{take-append_seam, take-length, drop-length}
 use Rattle.std.proofs.lemmas.List.{reverse-append, length-map, take-append-le}
 use Rattle.std.proofs.lemmas.List.Sorted.{IsPermutation-refl}
 use Rattle.std.specs.Fmt.{◌++?◌}
-use Rattle.dagcbor_heads.specs.Head.{head}
+use Rattle.dagcbor_core.specs.Head.{head}
 use Rattle.ipld_tree.specs.Tree.{Tree, list, link, IsTree, items_of, entries_tree}
 use Rattle.ipld_tree.specs.Spelling.{item_count}
 use Rattle.ipld_tree.specs.Spelled.{spelled, spelled_items, spelled_tree, spelled_head}

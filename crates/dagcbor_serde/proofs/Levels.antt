@@ -4,7 +4,7 @@ use Rattle.std.proofs.Math.Seq.{drop-append_seam, take-append_seam}
 use Rattle.std.proofs.lemmas.List.{drop-append-le}
 use Rattle.std.proofs.lemmas.Grind.{flat_map-append}
 use Rattle.std.specs.Fmt.{◌++?◌}
-use Rattle.dagcbor_io.proofs.Writing.{append_Some, Some_append, joined_assoc}
+use Rattle.dagcbor_heads.proofs.Writing.{append_Some, Some_append, joined_assoc}
 use Rattle.ipld_tree.specs.Tree.{Tree, null, text, bytes, link, IsTree, AreItems, items_of}
 use Rattle.ipld_tree.specs.Spelled.{spelled, spelled_items}
 use Rattle.dagcbor_write.specs.Trees.{Pair}

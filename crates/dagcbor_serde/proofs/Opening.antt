@@ -5,7 +5,7 @@ use Rattle.std.proofs.lemmas.List.{take-append-le, drop-append-le}
 use Rattle.ipld_tree.specs.Tree as tree
 use Rattle.ipld_tree.specs.Tree.{Tree}
 use Rattle.ipld_tree.specs.Cid.{IsCid}
-use Rattle.dagcbor_heads.specs.Head.{head}
+use Rattle.dagcbor_core.specs.Head.{head}
 use Rattle.dagcbor_serde.specs.Building.{Level, state, put, put_key, put_bytes, as_link}
 use Rattle.dagcbor_serde.specs.Holds.{IsGood, HoldsLevel, Opens, part, MovesTop, PutsSpelling, Lands}
 use Rattle.dagcbor_serde.specs.declared.frame.Frame.{Frame}

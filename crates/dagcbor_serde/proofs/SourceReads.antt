@@ -1,10 +1,10 @@
 -- Sources that are read as one block, or whose first block is.
 use Rattle.std.proofs.Common.{◌≡◌, ℕ, ◌+◌, List, Bool, true, false, Option, Some, None, IfSome, IfErr, MatchBool, Result, Ok, Err, Vec, Global}
-use Rattle.dagcbor_io.specs.Reading.{Reading}
-use Rattle.dagcbor_io.specs.Fronts.{ShowsByte}
-use Rattle.dagcbor_io.specs.Refusals.{RefusesOrLacksMemory}
-use Rattle.dagcbor_heads.specs.declared.error.DecodeError.{DecodeError}
-use Rattle.dagcbor_heads.specs.declared.error.DecodeError.TheVariants.{Read, RequireBorrowed, OutOfMemory, Failed, TrailingData, DepthOverflow}
+use Rattle.dagcbor_heads.specs.Reading.{Reading}
+use Rattle.dagcbor_heads.specs.Fronts.{ShowsByte}
+use Rattle.dagcbor_heads.specs.Refusals.{RefusesOrLacksMemory}
+use Rattle.dagcbor_core.specs.declared.error.DecodeError.{DecodeError}
+use Rattle.dagcbor_core.specs.declared.error.DecodeError.TheVariants.{Read, RequireBorrowed, OutOfMemory, Failed, TrailingData, DepthOverflow}
 use Rattle.ipld_tree.specs.Tree.{Tree}
 use Rattle.dagcbor_items.specs.ReadCauses.{ItemCause}
 use Rattle.dagcbor_items.specs.Untyped.{HasItem, TakesItem}

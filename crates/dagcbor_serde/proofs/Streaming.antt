@@ -1,12 +1,12 @@
 -- Streams end, and their items are those after a look at the front.
 use Rattle.std.proofs.Common.{◌≡◌, inl, inr, ℕ, ◌+◌, Bool, true, length, ap, arith, Option, None, Some, Result, Ok, Err, is_err, ◌⊎◌}
 use Rattle.std.specs.Iterator.{MakesProgress}
-use Rattle.dagcbor_io.specs.Reading.{Reading}
-use Rattle.dagcbor_io.specs.Fronts.{ShowsByte}
-use Rattle.dagcbor_io.specs.Refusals.{Refuses, RefusesOrLacksMemory}
-use Rattle.dagcbor_heads.specs.declared.error.DecodeError.{DecodeError}
-use Rattle.dagcbor_io.proofs.Refusing.{passed_on}
-use Rattle.dagcbor_io.proofs.Taking.{stays_both}
+use Rattle.dagcbor_heads.specs.Reading.{Reading}
+use Rattle.dagcbor_heads.specs.Fronts.{ShowsByte}
+use Rattle.dagcbor_heads.specs.Refusals.{Refuses, RefusesOrLacksMemory}
+use Rattle.dagcbor_core.specs.declared.error.DecodeError.{DecodeError}
+use Rattle.dagcbor_heads.proofs.Refusing.{passed_on}
+use Rattle.dagcbor_heads.proofs.Taking.{stays_both}
 use Rattle.ipld_tree.specs.Tree.{Tree}
 use Rattle.dagcbor_items.specs.ReadCauses.{ItemCause}
 use Rattle.dagcbor_items.specs.Untyped.{TakesItem, HasItem}

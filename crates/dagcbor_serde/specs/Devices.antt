@@ -2,9 +2,9 @@
 use Rattle.std.specs.Prelude.{◌≡◌, ℕ, Bool, IsTrue, List, Option, Some, ⊤}
 use Rattle.std.specs.Io.KnownBytes.{Appends}
 use Rattle.serde.specs.Event.{Log}
-use Rattle.dagcbor_heads.specs.Appends.{AppendsFront}
-use Rattle.dagcbor_io.specs.Written.{Written, WroteAll, Stops}
-use Rattle.dagcbor_heads.specs.declared.error.EncodeError.TheVariants.{Write, OutOfMemory}
+use Rattle.dagcbor_core.specs.Appends.{AppendsFront}
+use Rattle.dagcbor_heads.specs.Written.{Written, WroteAll, Stops}
+use Rattle.dagcbor_core.specs.declared.error.EncodeError.TheVariants.{Write, OutOfMemory}
 use Rattle.dagcbor_serde.specs.Blocks.{IsBlockOfLog}
 use Rattle.dagcbor_serde.specs.declared.error.DeviceError.{DeviceError}
 use Rattle.dagcbor_serde.specs.declared.error.DeviceError.TheVariants.{Value, Device}

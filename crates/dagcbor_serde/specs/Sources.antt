@@ -1,10 +1,10 @@
 -- What is read of a source, and why it is refused.
 use Rattle.std.specs.Prelude.{◌≡◌, ℕ, ◌+◌, ◌≤◌, List, length, Option, Some, Result, MatchResult, Vec, ⊤}
 use Rattle.std.specs.declared.alloc.Global.{Global}
-use Rattle.dagcbor_io.specs.Reading.{Reading}
-use Rattle.dagcbor_io.specs.Refusals.{RefusesOrLacksMemory}
-use Rattle.dagcbor_heads.specs.declared.error.DecodeError.{DecodeError}
-use Rattle.dagcbor_heads.specs.declared.error.DecodeError.TheVariants.{Read, OutOfMemory}
+use Rattle.dagcbor_heads.specs.Reading.{Reading}
+use Rattle.dagcbor_heads.specs.Refusals.{RefusesOrLacksMemory}
+use Rattle.dagcbor_core.specs.declared.error.DecodeError.{DecodeError}
+use Rattle.dagcbor_core.specs.declared.error.DecodeError.TheVariants.{Read, OutOfMemory}
 use Rattle.ipld_tree.specs.Tree.{Tree}
 use Rattle.ipld_tree.specs.Spelling.{IsFront, IsSpelling}
 use Rattle.dagcbor_items.specs.ReadCauses.{ItemCause}

@@ -5,7 +5,7 @@ ghost use Rattle.std.specs.Prelude.{◌≤◌, length};
 
 use crate::error::Misfit;
 use crate::link::LINK;
-use dagcbor_heads::{Name as Kept, split_head};
+use dagcbor_core::{Name as Kept, split_head};
 use dagcbor_items::behind_item;
 use serde::{Case, Format, Kind, Name, find};
 use smallvec::SmallVec;

@@ -7,7 +7,7 @@ ghost use Rattle.dagcbor_serde.specs.Devices.{GrowsByBlock, IsUnsentTo};
 
 use crate::error::DeviceError;
 use crate::whole::to_vec;
-use dagcbor_io::{IoRefWriter, Write};
+use dagcbor_heads::{IoRefWriter, Write};
 use serde::Serialize;
 use std::alloc::Global;
 use std::io;

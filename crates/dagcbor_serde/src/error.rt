@@ -1,6 +1,6 @@
 //! Why a value was not written or not read.
 
-use dagcbor_heads::{DecodeError, EncodeError, Name};
+use dagcbor_core::{DecodeError, EncodeError, Name};
 use std::error::Error as StdError;
 use std::fmt;
 use std::fmt::{Debug, Display, Formatter};

@@ -1,11 +1,11 @@
 //! What is open: the whole, a list, a map or a link, as places in the bytes of all.
 
 ghost use Rattle.std.specs.Prelude.{IfErr, ◌≡◌, ◌≢◌, ◌≤◌, ◌<◌, ◌+◌, ◌++◌, ◌∷◌, length, take, drop, OnOk, MatchBool};
-ghost use Rattle.dagcbor_heads.specs.Head.{head};
+ghost use Rattle.dagcbor_core.specs.Head.{head};
 ghost use Rattle.dagcbor_serde.specs.Refusing.{LacksMemory, LacksMemoryOrPlace, ItemRefused};
 
 use crate::error::Refusal;
-use dagcbor_io::{Write, push_head, push_head_at_once, push_headed_at_once};
+use dagcbor_heads::{Write, push_head, push_head_at_once, push_headed_at_once};
 
 /// What is open, and what it wants next.
 #[derive(Clone, Copy, Default, Drop, PartialEq, Eq)]
@@ -123,7 +123,7 @@ fn append_slowly(out: &mut Vec<u8>, major: u8, argument: u64, payload: &[u8]) ->
 }
 
 /// Appends a link: its tag, and the byte string of a zero byte and the CID.
-#[tactic(auto, unfolding(dagcbor_heads::specs::Head::head))]
+#[tactic(auto, unfolding(dagcbor_core::specs::Head::head))]
 #[inline(always)]
 pub(crate) fn append_link(out: &mut Vec<u8>, cid: &[u8]) -> Result<(), Refusal>
     ensures appended { OnOk result (out.new.items
@@ -140,7 +140,7 @@ pub(crate) fn append_link(out: &mut Vec<u8>, cid: &[u8]) -> Result<(), Refusal>
     append_link_slowly(out, cid)
 }
 
-#[tactic(auto, unfolding(dagcbor_heads::specs::Head::head))]
+#[tactic(auto, unfolding(dagcbor_core::specs::Head::head))]
 #[inline(never)]
 fn append_link_slowly(out: &mut Vec<u8>, cid: &[u8]) -> Result<(), Refusal>
     ensures appended { OnOk result (out.new.items
@@ -157,7 +157,7 @@ fn append_link_slowly(out: &mut Vec<u8>, cid: &[u8]) -> Result<(), Refusal>
 }
 
 /// Puts the head of so many items or entries into the place of the byte there.
-#[tactic(auto, unfolding(dagcbor_heads::specs::Head::head))]
+#[tactic(auto, unfolding(dagcbor_core::specs::Head::head))]
 #[inline(always)]
 pub(crate) fn set_head(
     out: &mut Vec<u8>,

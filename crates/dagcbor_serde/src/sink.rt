@@ -4,7 +4,7 @@ ghost use Rattle.std.specs.Prelude.{◌≡◌, ◌≤◌, ◌+◌, ◌^◌, ◌+
 ghost use Rattle.std.specs.Prelude.{encode_utf8, pos};
 ghost use Rattle.serde.specs.Spelling.{spelled as spelled_name};
 ghost use Rattle.serde.specs.declared.name.NameKind.TheVariants.{Variant};
-ghost use Rattle.dagcbor_heads.specs.Head.{head};
+ghost use Rattle.dagcbor_core.specs.Head.{head};
 ghost use Rattle.ipld_tree.specs.Tree.{Tree, null, boolean, integer, text, IsTree};
 ghost use Rattle.dagcbor_serde.specs.Building.{State, start, finished, is_link_name, put, put_field, put_key};
 ghost use Rattle.dagcbor_serde.specs.Building.{put_unit, put_bytes, as_link, begin_key, end_key, flatten};

@@ -2,7 +2,7 @@
 //! reads a slice.
 
 ghost use Rattle.std.specs.Prelude.{◌≡◌, IfOk, IfErr, OnOk, IfSome};
-ghost use Rattle.dagcbor_io.specs.Inputs.{OverInput};
+ghost use Rattle.dagcbor_heads.specs.Inputs.{OverInput};
 ghost use Rattle.dagcbor_items.specs.AnsweredVariants.{OfItem};
 ghost use Rattle.dagcbor_serde.specs.Sources.{PullsBlock, IsBlockWith, SourceRefused};
 ghost use Rattle.dagcbor_serde.specs.Sources.{TakesBlockBytes, FirstRefused, IsSourceMisfit};
@@ -10,8 +10,8 @@ ghost use Rattle.dagcbor_serde.specs.Sources.{IsFirstMisfit, IsSomeBlock, TakesS
 
 use crate::error::Error;
 use crate::whole::fit;
-use dagcbor_heads::DecodeError;
-use dagcbor_io::{Input, IoReader, IoRefReader, Read, ReadResult, is_at_end};
+use dagcbor_core::DecodeError;
+use dagcbor_heads::{Input, IoReader, IoRefReader, Read, ReadResult, is_at_end};
 use dagcbor_items::read_any;
 use dagcbor_write::to_vec as spelling_of;
 use serde::DeserializeOwned;

@@ -1,16 +1,16 @@
 //! Streams: values one after the other, up to the end of the source.
 
 ghost use Rattle.std.specs.Prelude.{◌≡◌, [], false};
-ghost use Rattle.dagcbor_heads.specs.Steps.{default_steps};
-ghost use Rattle.dagcbor_io.specs.Reading.{fresh_reading};
-ghost use Rattle.dagcbor_io.specs.Inputs.{OverInput};
+ghost use Rattle.dagcbor_core.specs.Steps.{default_steps};
+ghost use Rattle.dagcbor_heads.specs.Reading.{fresh_reading};
+ghost use Rattle.dagcbor_heads.specs.Inputs.{OverInput};
 ghost use Rattle.dagcbor_serde.specs.Streams.{stream_state, items_left, ReadsNext, GivesNext};
 
 use crate::error::Error;
 use crate::source::pull_block;
 use crate::whole::fit;
-use dagcbor_heads::DecodeError;
-use dagcbor_io::{Input, IoReader, Read, is_at_end};
+use dagcbor_core::DecodeError;
+use dagcbor_heads::{Input, IoReader, Read, is_at_end};
 use serde::DeserializeOwned;
 use std::alloc::Global;
 use std::io::BufRead;

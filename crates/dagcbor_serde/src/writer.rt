@@ -7,7 +7,7 @@ ghost use Rattle.dagcbor_serde.specs.Holds.{FollowsUnless, IsGoodLog};
 use crate::error::WriteError;
 use crate::log::{Log, Note};
 use crate::sink::Sink;
-use dagcbor_heads::Name;
+use dagcbor_core::Name;
 use serde::{Case, Serializer};
 use std::alloc::Global;
 use std::fmt::Display;

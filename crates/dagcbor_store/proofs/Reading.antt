@@ -1,8 +1,8 @@
 -- A file that is read into a store, section by section.
 use Rattle.std.proofs.Common.{◌≡◌, ◌⊎◌, inl, inr, ℕ, List, [], ◌∷◌, ◌++◌, length, append_assoc, append-nil, refl, sym, ap, ◌∙◌, subst, arith, Option, Some, Result, Ok, Err}
 use Rattle.std.specs.List.{AllByRecursion}
-use Rattle.dagcbor_io.proofs.Taking.{stays_both}
-use Rattle.dagcbor_io.specs.Reading.{Reading, Stays}
+use Rattle.dagcbor_heads.proofs.Taking.{stays_both}
+use Rattle.dagcbor_heads.specs.Reading.{Reading, Stays}
 use Rattle.sqlite_trees.specs.Tree.{Trees}
 use Rattle.sqlite_trees.specs.View.{IsClean}
 use Rattle.sqlite_trees.specs.declared.store.Store.{Ghosts}

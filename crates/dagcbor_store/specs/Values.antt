@@ -3,10 +3,10 @@ use Rattle.std.specs.Prelude.{◌≡◌, ◌⊎◌, ℕ, false, List, ⊤, Optio
 use Rattle.std.specs.declared.convert.Infallible.{Infallible}
 use Rattle.sqlite_trees.specs.View.{View, IsClean}
 use Rattle.sqlite_trees.specs.declared.store.Store.{Ghosts}
-use Rattle.dagcbor_heads.specs.Steps.{default_steps}
-use Rattle.dagcbor_heads.specs.declared.error.EncodeError.TheVariants as unwritten
-use Rattle.dagcbor_heads.specs.declared.error.DecodeError.{DecodeError}
-use Rattle.dagcbor_heads.specs.declared.error.DecodeError.TheVariants as unread
+use Rattle.dagcbor_core.specs.Steps.{default_steps}
+use Rattle.dagcbor_core.specs.declared.error.EncodeError.TheVariants as unwritten
+use Rattle.dagcbor_core.specs.declared.error.DecodeError.{DecodeError}
+use Rattle.dagcbor_core.specs.declared.error.DecodeError.TheVariants as unread
 use Rattle.ipld_tree.specs.Cid.{CidParts}
 use Rattle.ipld_tree.specs.Tree.{Tree}
 use Rattle.ipld_tree.specs.Spelling.{spelling}

@@ -6,7 +6,7 @@ ghost use Rattle.dagcbor_store.specs.declared.car_error.ReadCarError.TheVariants
 
 use crate::error::StoreRefusal;
 use dagcbor_car::{CarError, ReadCarError as RunError};
-use dagcbor_heads::EncodeError;
+use dagcbor_core::EncodeError;
 use ipld_tree::Cid;
 use thiserror::Error;
 

@@ -1,7 +1,7 @@
 //! Reading a CAR file into a store.
 
 ghost use Rattle.std.specs.Prelude.{◌≡◌, ◌⊎◌, List, length, IfOk, IfErr, OnErr};
-ghost use Rattle.dagcbor_io.specs.Inputs.{input_reading};
+ghost use Rattle.dagcbor_heads.specs.Inputs.{input_reading};
 ghost use Rattle.dagcbor_items.specs.Walks.{forms};
 ghost use Rattle.dagcbor_car.specs.Car.{Section as CarSection};
 ghost use Rattle.sqlite_trees.specs.View.{IsClean};
@@ -15,7 +15,7 @@ use crate::car_error::ReadCarError;
 use crate::error::StoreRefusal;
 use crate::store::BlockStore;
 use dagcbor_car::{Section, SectionSink, each_section, pull_header};
-use dagcbor_io::{Input, Read};
+use dagcbor_heads::{Input, Read};
 use ipld_tree::Cid;
 use sqlite_trees::store::Store;
 

@@ -1,7 +1,7 @@
 use super::*;
 use dagcbor_car::CarError;
-use dagcbor_heads::DecodeError;
-use dagcbor_io::{BufWriter, Input, SliceReader};
+use dagcbor_core::DecodeError;
+use dagcbor_heads::{BufWriter, Input, SliceReader};
 use ipld_links::name_of_block;
 use ipld_tree::Cid;
 use std::alloc::Global;

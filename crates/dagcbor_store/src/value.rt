@@ -11,7 +11,7 @@ ghost use Rattle.dagcbor_store.specs.Values.{PutsValue, PutValueRefused, ShowsNa
 
 use crate::error::StoreRefusal;
 use crate::store::BlockStore;
-use dagcbor_heads::{DecodeError, EncodeError};
+use dagcbor_core::{DecodeError, EncodeError};
 use dagcbor_read::{DeserializeOwned, from_slice_owned};
 use dagcbor_write::{Serialize, to_vec};
 use ipld_links::{is_dag_cbor, name_of_block};

@@ -8,7 +8,7 @@ ghost use Rattle.dagcbor_store.specs.Walking.{AreBlocks, WritesFile, WriteRefuse
 use crate::car_error::WriteCarError;
 use crate::store::BlockStore;
 use dagcbor_car::{push_header, push_section};
-use dagcbor_io::Write;
+use dagcbor_heads::Write;
 use ipld_tree::Cid;
 use sqlite_trees::store::Store;
 use std::alloc::Global;

@@ -11,7 +11,7 @@ use crate::error::StoreRefusal;
 use crate::store::BlockStore;
 use crate::write_car::begin;
 use dagcbor_car::push_section;
-use dagcbor_io::Write;
+use dagcbor_heads::Write;
 use ipld_links::{IDENTITY, Reached};
 use ipld_tree::Cid;
 use sqlite_trees::store::Store;

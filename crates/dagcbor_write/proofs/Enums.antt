@@ -1,8 +1,8 @@
 -- The spelling of a variant.
 use Rattle.std.proofs.Common.{◌≡◌, ℕ, List, [], ◌∷◌, length, map, Option, None, Some, true, sym, ap, ◌∙◌}
 use Rattle.std.specs.Fmt.{◌++?◌}
-use Rattle.dagcbor_io.specs.Written.{Written}
-use Rattle.dagcbor_io.proofs.Writing.{append_None, append_Some, joined_assoc, Written-but, begin_writing, join_parts}
+use Rattle.dagcbor_heads.specs.Written.{Written}
+use Rattle.dagcbor_heads.proofs.Writing.{append_None, append_Some, joined_assoc, Written-but, begin_writing, join_parts}
 use Rattle.ipld_tree.specs.Tree.{Tree, list_tree, entries_tree}
 use Rattle.ipld_tree.specs.Spelled.{spelled, spelled_bytes, spelled_tree, spelled_head}
 use Rattle.dagcbor_write.specs.Trees.{Pair, variant_tree, variant_head}

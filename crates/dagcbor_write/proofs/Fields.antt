@@ -2,11 +2,11 @@
 use Rattle.std.proofs.Common.{◌≡◌, ◌⊎◌, inl, inr, ℕ, zero, suc, List, [], ◌∷◌, ◌++◌, length, map, Option, None, Some, Bool, true, false, cond, Result, Ok, Err, refl, sym, ap, ◌∙◌, subst, append_assoc, append-nil, Any, IfSome, is_some, MatchResult, option_map, option_and_then, ◌<◌, ◌^◌, take, drop, get_or, arith, drop-cons, take-append-drop, IsErrAnd, OnErr}
 use Rattle.std.specs.Fmt.{◌++?◌}
 use Rattle.std.specs.Map.Iter.{TakesFirst}
-use Rattle.dagcbor_io.proofs.Writing.{append_None, append_Some, appends_nothing, wrote_nothing, Written-but, begin_writing, next_part, last_part}
-use Rattle.dagcbor_heads.specs.Messages.{message_bytes}
-use Rattle.dagcbor_io.specs.Written.{Written, WroteAll, Writes, Stops}
-use Rattle.dagcbor_heads.specs.declared.error.EncodeError.{EncodeError}
-use Rattle.dagcbor_heads.specs.declared.error.EncodeError.TheVariants.{Msg, Write, OutOfMemory}
+use Rattle.dagcbor_heads.proofs.Writing.{append_None, append_Some, appends_nothing, wrote_nothing, Written-but, begin_writing, next_part, last_part}
+use Rattle.dagcbor_core.specs.Messages.{message_bytes}
+use Rattle.dagcbor_heads.specs.Written.{Written, WroteAll, Writes, Stops}
+use Rattle.dagcbor_core.specs.declared.error.EncodeError.{EncodeError}
+use Rattle.dagcbor_core.specs.declared.error.EncodeError.TheVariants.{Msg, Write, OutOfMemory}
 use Rattle.ipld_tree.specs.Tree.{Tree, text, mapping, Entries, no_entries, entry, IsTree, ordered_entries, repeats_key, map_tree, all_some, key_of, pair_of, entries_tree}
 use Rattle.ipld_tree.specs.Spelling.{entry_count, text_spelling}
 use Rattle.ipld_tree.specs.Spelled.{spelled, spelled_bytes, spelled_entries, spelled_tree, spelled_head}

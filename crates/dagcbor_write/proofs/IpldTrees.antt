@@ -2,8 +2,8 @@
 use Rattle.std.proofs.Common.{◌≡◌, ℕ, ℤ, zero, suc, arith, rules, true, false, IsTrue, inl, inr, codes, IfErr, List, [], ◌∷◌, map, Option, None, Some, Result, Vec, BTreeMap, String, Global, string_bytes, string_cmp, cond, refl, sym, ap, ◌∙◌, subst, IfSome, OnOk, option_map, option_and_then}
 use Rattle.std.specs.List.Sorted.{IsStrictlySortedBy}
 use Rattle.std.specs.Map.{keys_of}
-use Rattle.dagcbor_heads.specs.declared.error.EncodeError.{EncodeError}
-use Rattle.dagcbor_io.specs.Written.{Written, Writes}
+use Rattle.dagcbor_core.specs.declared.error.EncodeError.{EncodeError}
+use Rattle.dagcbor_heads.specs.Written.{Written, Writes}
 use Rattle.ipld_tree.specs.Tree.{Tree, integer, text, list, mapping, IsTree, items_of, ordered_entries, map_tree, all_some, list_tree, pair_of, entries_tree}
 use Rattle.ipld_tree.specs.Ipld.{tree_of, pairs_of}
 use Rattle.ipld_tree.specs.Spelled.{spelled, spelled_tree}

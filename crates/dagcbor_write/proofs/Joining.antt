@@ -2,9 +2,9 @@
 use Rattle.std.proofs.Common.{◌≡◌, ℕ, suc, ◌+◌, ◌<◌, List, [], ◌∷◌, ◌++◌, length, Option, None, Some, Result, Ok, Err, refl, sym, ap, ◌∙◌, subst, arith, append_assoc, MatchResult, IsErrAnd, IsSomeAnd, option_and_then, OnOk, IsOk, IfSome, Less}
 use Rattle.std.proofs.lemmas.List.{length-append, get_or_append_left, get_or-append-add}
 use Rattle.std.specs.Fmt.{◌++?◌}
-use Rattle.dagcbor_heads.specs.declared.error.EncodeError.{EncodeError}
-use Rattle.dagcbor_io.specs.Written.{Written}
-use Rattle.dagcbor_io.proofs.Writing.{Written-but, Some_append, joined_assoc}
+use Rattle.dagcbor_core.specs.declared.error.EncodeError.{EncodeError}
+use Rattle.dagcbor_heads.specs.Written.{Written}
+use Rattle.dagcbor_heads.proofs.Writing.{Written-but, Some_append, joined_assoc}
 use Rattle.ipld_tree.specs.Key.{key_cmp}
 use Rattle.ipld_tree.specs.Tree.{key_of}
 use Rattle.ipld_tree.specs.Spelled.{spelled_tree}

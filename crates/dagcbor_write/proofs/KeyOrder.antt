@@ -4,9 +4,9 @@ use Rattle.std.specs.Fmt.{◌++?◌}
 use Rattle.ipld_tree.specs.Key.{bytes_cmp, key_cmp}
 use Rattle.ipld_tree.specs.Tree.{Tree, text, IsTree, key_of, pair_of, all_some, map_tree, ordered_entries, repeats_key, entries_tree}
 use Rattle.ipld_tree.specs.Spelled.{spelled, spelled_tree, spelled_head}
-use Rattle.dagcbor_heads.specs.declared.error.EncodeError.{EncodeError}
-use Rattle.dagcbor_io.specs.Written.{Written, Writes}
-use Rattle.dagcbor_io.proofs.Writing.{Written-but}
+use Rattle.dagcbor_core.specs.declared.error.EncodeError.{EncodeError}
+use Rattle.dagcbor_heads.specs.Written.{Written, Writes}
+use Rattle.dagcbor_heads.proofs.Writing.{Written-but}
 use Rattle.dagcbor_write.specs.Each.{AreTrees}
 use Rattle.dagcbor_write.specs.Keyed.{JoinsKeyed, key_goes_before, PutsKeysInOrder, spelled_keyed, value_trees}
 use Rattle.dagcbor_write.specs.Maps.{spelled_key}

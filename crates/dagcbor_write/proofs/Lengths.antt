@@ -1,7 +1,7 @@
 -- A spelling has at least one byte.
 use Rattle.std.proofs.Common.{ℕ, ◌+◌, ◌≤◌, ◌^◌, List, [], ◌∷◌, length, Option, None, Some, Bool, true, false, nat_lt, arith, length-append, pos, negsuc, lit≤, if◌then◌else◌}
 use Rattle.std.specs.Fmt.{◌++?◌}
-use Rattle.dagcbor_heads.specs.Head.{head}
+use Rattle.dagcbor_core.specs.Head.{head}
 use Rattle.ipld_tree.specs.Tree.{Tree, null, boolean, integer, text, bytes, list, mapping, link}
 use Rattle.ipld_tree.specs.Spelling.{item_count, entry_count}
 use Rattle.ipld_tree.specs.Spelled.{spelled, spelled_head, spelled_bytes, spelled_items, spelled_entries, spelled_tree}

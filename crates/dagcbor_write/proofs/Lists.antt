@@ -2,8 +2,8 @@
 use Rattle.std.proofs.Common.{◌≡◌, ℕ, suc, ◌+◌, List, [], ◌∷◌, length, Option, None, Some, refl, sym, ap, ap₂, ◌∙◌, add-one, map, ◌<◌, get_or, drop, take, subst, ◌≤◌, ◌++◌, drop-cons, drop_of_length-le, take_all, option_map, option_and_then, IfSome, OnOk, Result, Ok, Err}
 use Rattle.std.proofs.lemmas.List.{length-map, take_more}
 use Rattle.std.specs.Fmt.{◌++?◌}
-use Rattle.dagcbor_io.proofs.Writing.{append_None, append_Some, Some_append, joined_assoc, Written-but, begin_writing, join_parts}
-use Rattle.dagcbor_io.specs.Written.{Written}
+use Rattle.dagcbor_heads.proofs.Writing.{append_None, append_Some, Some_append, joined_assoc, Written-but, begin_writing, join_parts}
+use Rattle.dagcbor_heads.specs.Written.{Written}
 use Rattle.ipld_tree.specs.Tree.{Tree, IsTree, AreItems, items_of, all_some, list_tree}
 use Rattle.ipld_tree.specs.Spelling.{item_count}
 use Rattle.ipld_tree.specs.Spelled.{spelled, spelled_items, spelled_tree, spelled_head}

@@ -5,10 +5,10 @@ use Rattle.std.specs.Map.{keys_of}
 use Rattle.std.proofs.lemmas.List.Folds.{list_any_at, Any-from_list_any}
 use Rattle.std.proofs.lemmas.List.Sorted.{list_any-IsPermutation, IsPermutation-map}
 use Rattle.std.proofs.lemmas.Map.Keys.{IsDistinct-IsPermutation}
-use Rattle.dagcbor_heads.specs.declared.error.EncodeError.{EncodeError}
-use Rattle.dagcbor_heads.specs.declared.error.EncodeError.TheVariants.{Msg}
-use Rattle.dagcbor_heads.specs.Messages.{message_bytes}
-use Rattle.dagcbor_io.specs.Written.{Written, Stops}
+use Rattle.dagcbor_core.specs.declared.error.EncodeError.{EncodeError}
+use Rattle.dagcbor_core.specs.declared.error.EncodeError.TheVariants.{Msg}
+use Rattle.dagcbor_core.specs.Messages.{message_bytes}
+use Rattle.dagcbor_heads.specs.Written.{Written, Stops}
 use Rattle.ipld_tree.specs.Tree.{Tree, null, text, pair_of, all_some, repeats_key}
 use Rattle.ipld_tree.specs.Spelled.{spelled, spelled_tree}
 use Rattle.ipld_tree.proofs.Ordered.{AreDistinct, same_place, same_place_flips}

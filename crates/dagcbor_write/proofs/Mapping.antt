@@ -15,9 +15,9 @@ use Rattle.ipld_tree.proofs.Unique.{payload, spelling_unique}
 use Rattle.ipld_tree.proofs.Ordered.{key_cmp_total, key_cmp_same, after_not_before, AreDistinct, IsSortedList, same_place, same_place_flips, ordered_by_sort, distinct_from_test, test_from_distinct}
 use Rattle.ipld_tree.proofs.Spelled.{spelled_is}
 use Rattle.ipld_tree.proofs.WellFormed.{EachPair, IsGoodPair, are_entries}
-use Rattle.dagcbor_io.specs.Written.{Written, Writes}
-use Rattle.dagcbor_io.proofs.Writing.{append_None}
-use Rattle.dagcbor_heads.specs.declared.error.EncodeError.{EncodeError}
+use Rattle.dagcbor_heads.specs.Written.{Written, Writes}
+use Rattle.dagcbor_heads.proofs.Writing.{append_None}
+use Rattle.dagcbor_core.specs.declared.error.EncodeError.{EncodeError}
 use Rattle.dagcbor_write.specs.Pairwise.{Pairwise}
 use Rattle.dagcbor_write.proofs.Lists.{OnOk_of}
 use Rattle.dagcbor_write.specs.Trees.{Pair}

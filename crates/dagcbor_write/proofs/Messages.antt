@@ -1,9 +1,9 @@
 -- Why a row of fields is refused with a message.
 use Rattle.std.proofs.Common.{Bool, ◌≡◌, ℕ, ◌^◌, ◌<◌, List, length, get_or, Option, None, Some, Result, Ok, Err, inl, inr, refl, sym, ap, ◌∙◌, subst, IfErr, IsErrAnd}
 use Rattle.std.specs.Fmt.{◌++?◌}
-use Rattle.dagcbor_heads.specs.declared.error.EncodeError.{EncodeError}
-use Rattle.dagcbor_heads.specs.declared.error.EncodeError.TheVariants.{Msg, Write, OutOfMemory}
-use Rattle.dagcbor_io.specs.Written.{Written, WroteAll, Writes, Stops, WantsMemoryOnlyIf}
+use Rattle.dagcbor_core.specs.declared.error.EncodeError.{EncodeError}
+use Rattle.dagcbor_core.specs.declared.error.EncodeError.TheVariants.{Msg, Write, OutOfMemory}
+use Rattle.dagcbor_heads.specs.Written.{Written, WroteAll, Writes, Stops, WantsMemoryOnlyIf}
 use Rattle.ipld_tree.specs.Tree.{Tree, text}
 use Rattle.ipld_tree.specs.Spelling.{text_spelling}
 use Rattle.ipld_tree.specs.Spelled.{spelled_head, spelled_tree}

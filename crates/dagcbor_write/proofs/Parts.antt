@@ -1,10 +1,10 @@
 -- A text that is written in parts.
 use Rattle.std.proofs.Common.{◌≡◌, ℕ, ◌+◌, ◌^◌, ◌<◌, ◌≤◌, List, [], ◌∷◌, length, Option, Some, sym, ap, ◌∙◌, arith}
 use Rattle.std.specs.Fmt.{◌++?◌}
-use Rattle.dagcbor_heads.specs.Head.{head}
-use Rattle.dagcbor_io.specs.Written.{Written, WroteAll}
-use Rattle.dagcbor_heads.proofs.Heads.{head_one}
-use Rattle.dagcbor_io.proofs.Writing.{Written-but, begin_writing, all_written, append_Some, join_parts, joined_assoc}
+use Rattle.dagcbor_core.specs.Head.{head}
+use Rattle.dagcbor_heads.specs.Written.{Written, WroteAll}
+use Rattle.dagcbor_core.proofs.Heads.{head_one}
+use Rattle.dagcbor_heads.proofs.Writing.{Written-but, begin_writing, all_written, append_Some, join_parts, joined_assoc}
 use Rattle.ipld_tree.specs.Tree.{link}
 use Rattle.ipld_tree.specs.Spelled.{spelled, spelled_head, spelled_bytes}
 use Rattle.dagcbor_write.proofs.Spelling.{head_is_spelled}

@@ -4,8 +4,8 @@ use Rattle.std.proofs.Math.Seq.{take-append_seam}
 use Rattle.std.proofs.lemmas.List.Sorted.{IsPermutation-map, All-permutation}
 use Rattle.std.specs.Fmt.{◌++?◌}
 use Rattle.std.specs.List.{refill}
-use Rattle.dagcbor_io.specs.Written.{Written}
-use Rattle.dagcbor_io.proofs.Writing.{Written-but, begin_writing, join_parts, joined_assoc}
+use Rattle.dagcbor_heads.specs.Written.{Written}
+use Rattle.dagcbor_heads.proofs.Writing.{Written-but, begin_writing, join_parts, joined_assoc}
 use Rattle.ipld_tree.specs.Key.{key_cmp, comes_before}
 use Rattle.ipld_tree.specs.Tree.{Tree, text, key_of, IsTree, entries_tree}
 use Rattle.ipld_tree.specs.Spelled.{spelled_tree, spelled_head}

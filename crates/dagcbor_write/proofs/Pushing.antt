@@ -1,8 +1,8 @@
 -- The entries of a map, written one after another.
 use Rattle.std.proofs.Common.{◌≡◌, ℕ, ◌+◌, ◌<◌, ◌≤◌, List, [], ◌∷◌, ◌++◌, length, get_or, drop, Option, Some, Bool, refl, sym, ap, ◌∙◌, subst, add-one, append_assoc, drop-cons, drop_of_length-le}
 use Rattle.std.specs.Fmt.{◌++?◌}
-use Rattle.dagcbor_io.specs.Written.{Written, WroteAll}
-use Rattle.dagcbor_io.proofs.Writing.{Written-but, begin_writing, append_Some, Appends_nothing, next_part, all_written}
+use Rattle.dagcbor_heads.specs.Written.{Written, WroteAll}
+use Rattle.dagcbor_heads.proofs.Writing.{Written-but, begin_writing, append_Some, Appends_nothing, next_part, all_written}
 use Rattle.dagcbor_write.proofs.Parts.{part_opened}
 use Rattle.dagcbor_write.specs.Maps.{Texts}
 use Rattle.dagcbor_write.specs.Order.{head_rest, entries_bytes}

@@ -1,11 +1,11 @@
 -- Refusals with a message of our own, and those of calls that may take memory.
 use Rattle.std.proofs.Common.{◌≡◌, ℕ, ◌≤◌, List, length, Option, None, Result, Err, true, refl, sym, subst}
-use Rattle.dagcbor_heads.specs.Messages.{Says, message_bytes}
-use Rattle.dagcbor_io.specs.Written.{Written, Stops, WantsMemoryOnlyIf}
-use Rattle.dagcbor_io.proofs.Writing.{appends_nothing}
-use Rattle.dagcbor_heads.specs.declared.error.EncodeError.{EncodeError}
-use Rattle.dagcbor_heads.specs.declared.error.EncodeError.TheVariants.{Msg, OutOfMemory}
-use Rattle.dagcbor_heads.specs.declared.name.Message.{Message}
+use Rattle.dagcbor_core.specs.Messages.{Says, message_bytes}
+use Rattle.dagcbor_heads.specs.Written.{Written, Stops, WantsMemoryOnlyIf}
+use Rattle.dagcbor_heads.proofs.Writing.{appends_nothing}
+use Rattle.dagcbor_core.specs.declared.error.EncodeError.{EncodeError}
+use Rattle.dagcbor_core.specs.declared.error.EncodeError.TheVariants.{Msg, OutOfMemory}
+use Rattle.dagcbor_core.specs.declared.name.Message.{Message}
 use Rattle.dagcbor_write.specs.Answers.{OnMessage}
 use Rattle.dagcbor_write.specs.Gathering.{Refused}
 

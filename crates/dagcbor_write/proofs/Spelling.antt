@@ -2,12 +2,12 @@
 use Rattle.std.proofs.Common.{◌≡◌, ℕ, ◌^◌, ◌<◌, List, [], refl, sym, ap, subst, ◌∙◌, Option, None, Some, Result, Ok, Err, Vec, Global, cond, lt-ltb, ◌⊎◌, inl, inr, IfSome, IsErrAnd, IfOk, IfErr, OnOk}
 use Rattle.std.specs.Io.KnownBytes.{Appends}
 use Rattle.std.specs.declared.convert.Infallible.{Infallible}
-use Rattle.dagcbor_heads.specs.declared.error.EncodeError.{EncodeError}
-use Rattle.dagcbor_heads.specs.declared.error.EncodeError.TheVariants.{Msg, Write, OutOfMemory}
-use Rattle.dagcbor_heads.specs.Head.{head}
-use Rattle.dagcbor_heads.specs.declared.name.Message.{Message}
-use Rattle.dagcbor_heads.specs.Appends.{AppendsSome}
-use Rattle.dagcbor_io.specs.Written.{Written, Writes, Stops, WroteFront}
+use Rattle.dagcbor_core.specs.declared.error.EncodeError.{EncodeError}
+use Rattle.dagcbor_core.specs.declared.error.EncodeError.TheVariants.{Msg, Write, OutOfMemory}
+use Rattle.dagcbor_core.specs.Head.{head}
+use Rattle.dagcbor_core.specs.declared.name.Message.{Message}
+use Rattle.dagcbor_core.specs.Appends.{AppendsSome}
+use Rattle.dagcbor_heads.specs.Written.{Written, Writes, Stops, WroteFront}
 use Rattle.ipld_tree.specs.Tree.{Tree, IsTree}
 use Rattle.ipld_tree.specs.Spelling.{IsSpellable, IsSpelling, spelling}
 use Rattle.ipld_tree.specs.Spelled.{spelled, spelled_tree, spelled_head}

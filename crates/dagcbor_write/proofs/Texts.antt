@@ -2,10 +2,10 @@
 use Rattle.std.proofs.Common.{◌≡◌, ℕ, List, [], ◌∷◌, ◌++◌, length, map, Option, Some, String, Global, string_bytes, refl, sym, ap, ap₂, ◌∙◌, subst, append_assoc, IsPermutation, IfSome, OnOk, Result}
 use Rattle.std.proofs.lemmas.List.{length-map}
 use Rattle.std.proofs.lemmas.List.Sorted.{IsPermutation-map}
-use Rattle.dagcbor_heads.specs.declared.error.EncodeError.{EncodeError}
+use Rattle.dagcbor_core.specs.declared.error.EncodeError.{EncodeError}
 use Rattle.std.specs.Fmt.{◌++?◌}
-use Rattle.dagcbor_io.specs.Written.{Written, Writes}
-use Rattle.dagcbor_io.proofs.Writing.{Written-but, begin_writing}
+use Rattle.dagcbor_heads.specs.Written.{Written, Writes}
+use Rattle.dagcbor_heads.proofs.Writing.{Written-but, begin_writing}
 use Rattle.ipld_tree.specs.Tree.{Tree, text, IsTree, entries_tree}
 use Rattle.ipld_tree.specs.Spelled.{spelled_tree, spelled_head}
 use Rattle.dagcbor_write.specs.declared.types.texts.TextEntry.{TextEntry}

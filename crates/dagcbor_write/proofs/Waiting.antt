@@ -2,10 +2,10 @@
 use Rattle.std.proofs.Common.{◌≡◌, ℕ, ◌+◌, ◌<◌, List, [], ◌∷◌, ◌++◌, length, Option, None, Some, Result, Ok, Err, refl, sym, ap, ◌∙◌, map, get_or, take, subst, arith, length-append, zero, suc, ◌≤◌, take_all, IsErrAnd, IsOk}
 use Rattle.std.proofs.lemmas.List.{take_more, length-map}
 use Rattle.std.specs.Fmt.{◌++?◌}
-use Rattle.dagcbor_heads.specs.declared.error.EncodeError.{EncodeError}
-use Rattle.dagcbor_heads.specs.declared.error.EncodeError.TheVariants.{Msg, Write, OutOfMemory}
-use Rattle.dagcbor_io.specs.Written.{Written, WroteAll, Writes}
-use Rattle.dagcbor_io.proofs.Writing.{join_parts, joined_assoc, append_Some, Some_append, append_None, appends_nothing, wrote_nothing, Written-but, begin_writing}
+use Rattle.dagcbor_core.specs.declared.error.EncodeError.{EncodeError}
+use Rattle.dagcbor_core.specs.declared.error.EncodeError.TheVariants.{Msg, Write, OutOfMemory}
+use Rattle.dagcbor_heads.specs.Written.{Written, WroteAll, Writes}
+use Rattle.dagcbor_heads.proofs.Writing.{join_parts, joined_assoc, append_Some, Some_append, append_None, appends_nothing, wrote_nothing, Written-but, begin_writing}
 use Rattle.dagcbor_write.specs.Gathering.{AppendsTo}
 use Rattle.dagcbor_write.specs.Each.{spelled_each}
 use Rattle.dagcbor_write.specs.declared.collect.collect_seq.ListState.{ListState}

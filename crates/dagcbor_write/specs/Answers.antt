@@ -1,10 +1,10 @@
 -- What writing a value into memory, and to a device, answers.
 use Rattle.std.specs.Prelude.{false, ◌≡◌, ◌⊎◌, ℕ, Bool, IsTrue, List, Any, None, Some, Option, IfSome, IsSomeAnd, Result, Ok, Err, ⊤}
 use Rattle.std.specs.Io.KnownBytes.{Appends}
-use Rattle.dagcbor_heads.specs.declared.error.EncodeError.{EncodeError}
-use Rattle.dagcbor_heads.specs.declared.error.EncodeError.TheVariants.{Msg, Write, OutOfMemory}
-use Rattle.dagcbor_heads.specs.Messages.{message_bytes}
-use Rattle.dagcbor_heads.specs.Appends.{AppendsSome, AppendsFront}
+use Rattle.dagcbor_core.specs.declared.error.EncodeError.{EncodeError}
+use Rattle.dagcbor_core.specs.declared.error.EncodeError.TheVariants.{Msg, Write, OutOfMemory}
+use Rattle.dagcbor_core.specs.Messages.{message_bytes}
+use Rattle.dagcbor_core.specs.Appends.{AppendsSome, AppendsFront}
 use Rattle.ipld_tree.specs.Tree.{Tree}
 use Rattle.ipld_tree.specs.Spelling.{spelling, IsSpellable, IsSpelling}
 use Rattle.ipld_tree.specs.Spelled.{spelled_tree}

@@ -1,8 +1,8 @@
 -- Values that are spelled in memory before they go out.
 use Rattle.std.specs.Prelude.{◌≡◌, ℕ, List, ◌++◌, Option, None, Some, IfSome, Result, Ok, Err, ⊤}
-use Rattle.dagcbor_heads.specs.declared.error.EncodeError.{EncodeError}
-use Rattle.dagcbor_heads.specs.declared.error.EncodeError.TheVariants.{Msg, Write, OutOfMemory}
-use Rattle.dagcbor_heads.specs.Messages.{message_bytes}
+use Rattle.dagcbor_core.specs.declared.error.EncodeError.{EncodeError}
+use Rattle.dagcbor_core.specs.declared.error.EncodeError.TheVariants.{Msg, Write, OutOfMemory}
+use Rattle.dagcbor_core.specs.Messages.{message_bytes}
 use Rattle.ipld_tree.specs.Tree.{Tree, IsTree}
 use Rattle.ipld_tree.specs.Spelled.{spelled_tree}
 

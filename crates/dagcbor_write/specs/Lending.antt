@@ -1,8 +1,8 @@
 -- Collectors: the serializers that they are lent, and what they hold.
 use Rattle.std.specs.Prelude.{◌≡◌, ℕ, List, Option, Result, IfErr}
 use Rattle.std.specs.Borrow.{RestsIfErr, Fml, RattleType, MutBor}
-use Rattle.dagcbor_heads.specs.declared.error.EncodeError.{EncodeError}
-use Rattle.dagcbor_io.specs.Written.{Written, Stops}
+use Rattle.dagcbor_core.specs.declared.error.EncodeError.{EncodeError}
+use Rattle.dagcbor_heads.specs.Written.{Written, Stops}
 use Rattle.dagcbor_write.specs.contracts.serializer.Serializer.{the_row}
 use Rattle.dagcbor_write.specs.declared.collect.bounded.BoundedCollect.{BoundedCollect}
 use Rattle.dagcbor_write.specs.declared.collect.collect_map.CollectMap.{CollectMap}

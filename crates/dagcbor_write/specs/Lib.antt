@@ -1,5 +1,5 @@
-pub use Rattle.dagcbor_heads.specs.Messages
-pub use Rattle.dagcbor_io.specs.Written
+pub use Rattle.dagcbor_core.specs.Messages
+pub use Rattle.dagcbor_heads.specs.Written
 pub use Rattle.ipld_tree.specs.Cid
 pub use Rattle.ipld_tree.specs.Tree
 pub use Rattle.ipld_tree.specs.Ipld

@@ -1,8 +1,8 @@
 -- What the collector of a list holds and does.
 use Rattle.std.specs.Prelude.{◌≡◌, ℕ, ◌+◌, ◌<◌, List, [], Option, None, Some, Result, OnErr, codes, ⊤}
 use Rattle.std.specs.Fmt.{◌++?◌}
-use Rattle.dagcbor_heads.specs.declared.error.EncodeError.{EncodeError}
-use Rattle.dagcbor_io.specs.Written.{Written, Writes}
+use Rattle.dagcbor_core.specs.declared.error.EncodeError.{EncodeError}
+use Rattle.dagcbor_heads.specs.Written.{Written, Writes}
 use Rattle.ipld_tree.specs.Tree.{Tree}
 use Rattle.ipld_tree.specs.Spelled.{spelled_tree, spelled_head}
 use Rattle.dagcbor_write.specs.declared.collect.collect_seq.ListState.{ListState}

@@ -1,6 +1,6 @@
 -- What the collector of a map is given, holds and does.
 use Rattle.std.specs.Prelude.{◌≡◌, ◌⊎◌, ℕ, ◌/◌, Bool, true, false, ◌&&◌, is_none, nat_eq, IsTrue, List, [], ◌∷◌, ◌++◌, length, map, Option, None, Some, option_and_then, IfSome, IsSomeAnd, Any, codes, Result, OnErr}
-use Rattle.dagcbor_heads.specs.declared.error.EncodeError.{EncodeError}
+use Rattle.dagcbor_core.specs.declared.error.EncodeError.{EncodeError}
 use Rattle.std.specs.Iterator.{YieldsFirstBy}
 use Rattle.ipld_tree.specs.Tree.{Tree, null, text, mapping, IsTree, key_of, all_some, pair_of, repeats_key, entries_tree}
 use Rattle.ipld_tree.specs.Spelled.{spelled, spelled_entries, spelled_tree}

@@ -3,7 +3,7 @@
 ghost use Rattle.std.specs.Prelude.{◌≡◌, ◌+◌, ◌<◌, ◌≤◌, List, [], ◌∷◌, ◌++◌, length, None, OnOk, IfErr};
 ghost use Rattle.std.specs.Prelude.{IfSome, MatchOption, MatchResult, IsTrue, IsOk, refl};
 ghost use Rattle.dagcbor_write.specs.Answers.{OnMessage, IsMsg};
-ghost use Rattle.dagcbor_io.specs.Written.{Writes};
+ghost use Rattle.dagcbor_heads.specs.Written.{Writes};
 ghost use Rattle.dagcbor_write.specs.Rows.{spelled_pairs, ArePairs, KeysRiseTo, pair_at};
 ghost use Rattle.dagcbor_write.specs.Rows.{spelled_pair, IsPair, ListsPlaces, optional_joins, rows_join};
 ghost use Rattle.dagcbor_write.specs.Trees.{Pair, field, optional};
@@ -15,8 +15,8 @@ use crate::collect::gathered::BAD_VALUE;
 use crate::places::{Place, Places};
 use crate::serialize::Serialize;
 use crate::serializer::Serializer;
-use dagcbor_heads::EncodeError;
-use dagcbor_io::{Write, WriteResult};
+use dagcbor_core::EncodeError;
+use dagcbor_heads::{Write, WriteResult};
 use ipld_tree::comes_before;
 use std::alloc::Global;
 

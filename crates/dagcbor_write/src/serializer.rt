@@ -3,7 +3,7 @@
 ghost use Rattle.std.specs.Prelude.{◌≡◌, ◌≤◌, Some, OnOk, IfErr};
 ghost use Rattle.std.specs.Prelude.{codes, false, pos, IfSome, IsTrue, ◌||◌};
 ghost use Rattle.std.specs.Char.{encode_utf8};
-ghost use Rattle.dagcbor_io.specs.Written.{Writes, WritesAtOnce, WantsMemoryOnlyIf};
+ghost use Rattle.dagcbor_heads.specs.Written.{Writes, WritesAtOnce, WantsMemoryOnlyIf};
 ghost use Rattle.ipld_tree.specs.Cid.{cid_bytes};
 ghost use Rattle.ipld_tree.specs.Tree.{null, boolean, integer, text, bytes, link, IsTree};
 ghost use Rattle.ipld_tree.specs.Spelling.{IsSpellable};
@@ -14,8 +14,8 @@ ghost use Rattle.dagcbor_write.specs.Trees.{variant_tree, variant_head};
 
 use crate::serialize::Serialize;
 use arrayvec::ArrayVec;
-use dagcbor_heads::EncodeError;
-use dagcbor_io::{Write, WriteResult, push_head, push_head_at_once, push_headed_at_once};
+use dagcbor_core::EncodeError;
+use dagcbor_heads::{Write, WriteResult, push_head, push_head_at_once, push_headed_at_once};
 use ipld_tree::Cid;
 use std::alloc::Global;
 use std::marker::Model;

@@ -2,7 +2,7 @@
 
 ghost use Rattle.std.specs.Prelude.{◌≡◌, [], length, Some, OnOk, IfErr, IfSome};
 ghost use Rattle.dagcbor_write.specs.Answers.{OnMessage, LacksBefore};
-ghost use Rattle.dagcbor_io.specs.Written.{Writes, WroteAll};
+ghost use Rattle.dagcbor_heads.specs.Written.{Writes, WroteAll};
 ghost use Rattle.ipld_tree.specs.Tree.{IsTree, entries_tree};
 ghost use Rattle.ipld_tree.specs.Spelled.{spelled_tree};
 ghost use Rattle.dagcbor_write.specs.Gathering.{AppendsTo, Collects};
@@ -17,8 +17,8 @@ use crate::places::{Place, list_in_order};
 use crate::row::FieldRow;
 use crate::serializer::Serializer;
 use arrayvec::ArrayVec;
-use dagcbor_heads::EncodeError;
-use dagcbor_io::{BufWriter, Write, WriteResult};
+use dagcbor_core::EncodeError;
+use dagcbor_heads::{BufWriter, Write, WriteResult};
 use std::alloc::Global;
 
 /// Writes the fields in these places, one after another.

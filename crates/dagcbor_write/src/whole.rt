@@ -1,16 +1,16 @@
 //! Writing one value.
 
 ghost use Rattle.std.specs.Prelude.{◌≡◌, ◌⊎◌, IfOk, IfErr, false, ◌||◌};
-ghost use Rattle.dagcbor_io.specs.Written.{WantsMemoryOnlyIf};
-ghost use Rattle.dagcbor_heads.specs.declared.error.EncodeError.TheVariants.{OutOfMemory};
+ghost use Rattle.dagcbor_heads.specs.Written.{WantsMemoryOnlyIf};
+ghost use Rattle.dagcbor_core.specs.declared.error.EncodeError.TheVariants.{OutOfMemory};
 ghost use Rattle.dagcbor_write.specs.Answers.{HasNoSpelling, AreSpellingOf, GrewBySpelling};
 ghost use Rattle.dagcbor_write.specs.Answers.{GrewByFront, IsWriteExcuse, OnMessage};
 
 use crate::collect::buffer::FIRST_ROOM;
 use crate::serialize::Serialize;
 use crate::serializer::Serializer;
-use dagcbor_heads::EncodeError;
-use dagcbor_io::{BufWriter, IoRefWriter};
+use dagcbor_core::EncodeError;
+use dagcbor_heads::{BufWriter, IoRefWriter};
 use std::alloc::Global;
 use std::convert::Infallible;
 use std::io;

@@ -1,8 +1,8 @@
 -- What is told of a file that is not kept.
 use Rattle.std.proofs.Common.{◌≡◌, ℕ, List, ◌++◌, codes, refl, subst}
 use Rattle.sqlite_trees.specs.declared.store.Store.{Ghosts}
-use Rattle.dagcbor_io.specs.Inputs.{not_lending}
-use Rattle.dagcbor_io.specs.Reading.{Reading}
+use Rattle.dagcbor_heads.specs.Inputs.{not_lending}
+use Rattle.dagcbor_heads.specs.Reading.{Reading}
 use Rattle.dagcbor_car.specs.Car.{Section}
 use Rattle.dagcbor_store.specs.Cars.{IsFileRead, ReadRefused}
 use Rattle.dagcbor_store.specs.declared.car_error.ReadCarError.{ReadCarError}

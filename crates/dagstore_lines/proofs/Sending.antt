@@ -1,7 +1,7 @@
 -- How texts go out one after the other.
 use Rattle.std.proofs.Common.{◌≡◌, inl, inr, ℕ, List, [], ◌∷◌, ◌++◌, refl, sym, ap, ◌∙◌, subst, append_assoc, codes, decimal, Option, Result, Ok, Err, IsErrAnd}
 use Rattle.std.proofs.KnownBytes.{Appends-nil, Appends-trans}
-use Rattle.dagcbor_heads.specs.Appends.{AppendsFront}
+use Rattle.dagcbor_core.specs.Appends.{AppendsFront}
 use Rattle.ipld_tree.specs.Cid.{CidParts}
 use Rattle.cid_text.specs.Texts.{cid_text}
 use Rattle.block_lines.specs.Lines.{BreaksLine}

@@ -5,7 +5,7 @@ use Rattle.sha2.specs.Sha256.{sha256}
 use Rattle.sqlite_trees.specs.Tree.{Trees}
 use Rattle.sqlite_trees.specs.View.{View, IsClean}
 use Rattle.sqlite_trees.specs.declared.store.Store.{Ghosts}
-use Rattle.dagcbor_heads.specs.Appends.{AppendsFront}
+use Rattle.dagcbor_core.specs.Appends.{AppendsFront}
 use Rattle.ipld_tree.specs.Cid.{CidParts, cid_parts}
 use Rattle.cid_text.specs.Texts.{cid_text}
 use Rattle.dagcbor_items.specs.Walks.{forms}

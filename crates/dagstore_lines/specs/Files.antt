@@ -3,9 +3,9 @@ use Rattle.std.specs.Prelude.{◌≡◌, ◌≢◌, ◌⊎◌, ℕ, List, ◌++�
 use Rattle.std.specs.Io.KnownBytes.{Appends}
 use Rattle.sqlite_trees.specs.View.{View, IsClean}
 use Rattle.sqlite_trees.specs.declared.store.Store.{Ghosts}
-use Rattle.dagcbor_io.specs.Reading.{Reading}
-use Rattle.dagcbor_heads.specs.Appends.{AppendsFront}
-use Rattle.dagcbor_heads.specs.declared.error.EncodeError.TheVariants as unsent
+use Rattle.dagcbor_heads.specs.Reading.{Reading}
+use Rattle.dagcbor_core.specs.Appends.{AppendsFront}
+use Rattle.dagcbor_core.specs.declared.error.EncodeError.TheVariants as unsent
 use Rattle.ipld_tree.specs.Cid.{CidParts}
 use Rattle.cid_text.specs.Texts.{cid_text}
 use Rattle.dagcbor_items.specs.Walks.{forms}

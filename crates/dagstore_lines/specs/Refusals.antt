@@ -2,7 +2,7 @@
 use Rattle.std.specs.Prelude.{◌≡◌, ℕ, List, [], ◌∷◌, ◌++◌, codes, decimal, Bool, Option, None, Some, Result, Ok, Err, if◌then◌else◌}
 use Rattle.sqlite_trees.specs.declared.error.StoreError.{StoreError}
 use Rattle.sqlite_trees.specs.declared.error.StoreError.TheVariants as disk
-use Rattle.dagcbor_heads.specs.Appends.{AppendsFront}
+use Rattle.dagcbor_core.specs.Appends.{AppendsFront}
 use Rattle.dagcbor_decode.specs.PrintedNames.{variant_name}
 use Rattle.ipld_links.specs.declared.sound.Unsound.{Unsound}
 use Rattle.ipld_links.specs.declared.sound.Unsound.TheVariants as unsound

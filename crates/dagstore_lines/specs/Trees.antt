@@ -2,7 +2,7 @@
 use Rattle.std.specs.Prelude.{◌≡◌, ◌≢◌, ◌⊎◌, ◌↔◌, ℕ, List, [], ◌∷◌, Bool, false, IsTrue, Option, Result, MatchResult, flat_map}
 use Rattle.std.specs.Io.KnownBytes.{Appends}
 use Rattle.sqlite_trees.specs.declared.store.Store.{Ghosts}
-use Rattle.dagcbor_heads.specs.Appends.{AppendsFront}
+use Rattle.dagcbor_core.specs.Appends.{AppendsFront}
 use Rattle.ipld_tree.specs.Cid.{CidParts, cid_bytes}
 use Rattle.ipld_links.specs.Reaching.{IsLost}
 use Rattle.dagcbor_cli.specs.declared.fault.ToolError.{ToolError}

@@ -3,10 +3,10 @@
 ghost use Rattle.std.specs.Prelude.{◌≡◌, ◌++◌, codes, IfOk, false, []};
 ghost use Rattle.cid_text.specs.Texts.{cid_text};
 ghost use Rattle.dagcbor_cli.specs.Writing.{WritesFront};
-ghost use Rattle.dagcbor_io.specs.Inputs.{not_lending};
-ghost use Rattle.dagcbor_heads.specs.Steps.{default_steps};
-ghost use Rattle.dagcbor_io.specs.Reading.{fresh_reading};
-ghost use Rattle.dagcbor_heads.specs.Appends.{AppendsFront};
+ghost use Rattle.dagcbor_heads.specs.Inputs.{not_lending};
+ghost use Rattle.dagcbor_core.specs.Steps.{default_steps};
+ghost use Rattle.dagcbor_heads.specs.Reading.{fresh_reading};
+ghost use Rattle.dagcbor_core.specs.Appends.{AppendsFront};
 ghost use Rattle.dagcbor_items.specs.Walks.{forms};
 ghost use Rattle.dagcbor_store.specs.Stored.{IsKeptBy};
 ghost use Rattle.dagstore_lines.specs.Files.{file_text, file_status, behind_line, unread_lines, unread_status, stored_lines, SaysStored, Imports};
@@ -20,7 +20,7 @@ use crate::refusal::{
 use block_lines::{fault_name, line_of, root_lines, say};
 use dagcbor_car::CarError;
 use dagcbor_cli::{ToolError, write_all};
-use dagcbor_io::{Input, IoReader};
+use dagcbor_heads::{Input, IoReader};
 use dagcbor_store::{BlockStore, ReadCarError, Store, StoreRefusal};
 use ipld_tree::Cid;
 use std::alloc::{AllocError, Global};

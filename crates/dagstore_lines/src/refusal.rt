@@ -3,7 +3,7 @@
 ghost use Rattle.std.specs.Prelude.{◌≡◌, ◌++◌, codes, decimal, MatchOption};
 ghost use Rattle.cid_text.specs.Texts.{cid_text};
 ghost use Rattle.dagcbor_cli.specs.Writing.{WritesFront};
-ghost use Rattle.dagcbor_heads.specs.Appends.{AppendsFront};
+ghost use Rattle.dagcbor_core.specs.Appends.{AppendsFront};
 ghost use Rattle.dagstore_lines.specs.Refusals.{disk_text, unsound_text, row_text, refusal_text, refusal_status, state_lines, refusal_lines, tool_text, dagstore_line, status_of, TellsRunFault};
 
 use crate::fault::Fault;

@@ -9,7 +9,7 @@ ghost use Rattle.atproto_mst.specs.Changes.{changes};
 ghost use Rattle.atproto_mst.specs.Commits.{commit_tree};
 ghost use Rattle.event_calls.specs.Blocks.{verified_tree, change_of_row};
 
-use dagcbor_io::{Write, WriteResult};
+use dagcbor_heads::{Write, WriteResult};
 use dagcbor_write::{Field, Serialize, Serializer, to_vec, write_struct};
 use ipld_tree::{ByteSlice, Cid};
 use std::alloc::{AllocError, Global};

@@ -1,7 +1,7 @@
 -- Frames, one after the other (AT Protocol specification, event stream).
 use Rattle.std.specs.Prelude.{◌≡◌, ◌≢◌, ◌⊎◌, ℕ, ℤ, List, ◌++◌, Option, ⊤}
-use Rattle.dagcbor_heads.specs.Steps.{default_steps}
-use Rattle.dagcbor_heads.specs.declared.error.DecodeError.TheVariants as unread
+use Rattle.dagcbor_core.specs.Steps.{default_steps}
+use Rattle.dagcbor_core.specs.declared.error.DecodeError.TheVariants as unread
 use Rattle.dagcbor_read.specs.Whole.{IsWhole, HoldsNoValue}
 use Rattle.dagcbor_items.specs.Skips.{EndByHeads}
 use Rattle.event_types.specs.Events.{frame_header_shape}

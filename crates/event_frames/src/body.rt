@@ -1,7 +1,7 @@
 //! The bodies of frames.
 
 ghost use Rattle.std.specs.Prelude.{MatchResult};
-ghost use Rattle.dagcbor_heads.specs.Steps.{default_steps};
+ghost use Rattle.dagcbor_core.specs.Steps.{default_steps};
 ghost use Rattle.dagcbor_read.specs.Whole.{IsWhole, HoldsNoValue};
 ghost use Rattle.event_frames.specs.Bodies.{IsCommitBody, IsSyncBody, IsBody, IsNoBody, BodyRefused};
 ghost use Rattle.event_frames.specs.declared.kind.Kind.TheVariants as kinds;
@@ -9,8 +9,8 @@ ghost use Rattle.event_frames.specs.declared.kind.Kind.TheVariants as kinds;
 use crate::blocks::EventBlocks;
 use crate::error::FrameError;
 use crate::kind::Kind;
+use dagcbor_core::DecodeError;
 use dagcbor_decode::check_slice;
-use dagcbor_heads::DecodeError;
 use dagcbor_read::{Deserialize, from_slice};
 use event_types::{AccountEvent, CommitEvent, ErrorEvent, IdentityEvent, InfoEvent, SyncEvent};
 use std::alloc::Global;

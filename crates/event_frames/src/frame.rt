@@ -8,7 +8,7 @@ ghost use Rattle.event_frames.specs.Frames.{HeaderRefused, PartsRefused, FrameRe
 use crate::body::{Frame, read_body};
 use crate::error::FrameError;
 use crate::kind::{Kind, kind_of};
-use dagcbor_heads::DecodeError;
+use dagcbor_core::DecodeError;
 use dagcbor_items::behind_item;
 use dagcbor_read::from_slice;
 use event_types::FrameHeader;

@@ -2,7 +2,7 @@
 //! it.
 
 ghost use Rattle.std.specs.Prelude.{IfOk, IfSome, ◌≡◌};
-ghost use Rattle.dagcbor_io.specs.Inputs.{input_reading, not_lending};
+ghost use Rattle.dagcbor_heads.specs.Inputs.{input_reading, not_lending};
 ghost use Rattle.block_lines.specs.Lines.{refused_line};
 ghost use Rattle.held_lines.specs.Taking.{IsOfBytes, TakesBehind, TakesFile, TakesAll};
 ghost use Rattle.held_lines.specs.Taking.{EndsBy, EndsByFault};
@@ -10,7 +10,7 @@ ghost use Rattle.held_lines.specs.Taking.{EndsBy, EndsByFault};
 use block_lines::refused_line;
 use dagcbor_car::{CarError, ReadCarError, SectionSink, each_section, pull_header};
 use dagcbor_cli::ToolError;
-use dagcbor_io::{Input, IoRefReader, Read};
+use dagcbor_heads::{Input, IoRefReader, Read};
 use ipld_tree::Cid;
 use std::alloc::Global;
 use std::io::BufRead;

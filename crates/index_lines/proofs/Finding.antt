@@ -7,7 +7,7 @@ use Rattle.std.proofs.Math.Seq.{take-append-add}
 use Rattle.std.specs.Option.{option_map}
 use Rattle.ipld_tree.specs.Cid.{CidParts, AreCidParts}
 use Rattle.ipld_links.specs.Verdicts.{IsVerified}
-use Rattle.dagcbor_io.specs.Reading.{Reading}
+use Rattle.dagcbor_heads.specs.Reading.{Reading}
 use Rattle.dagcbor_car.specs.Car.{Section, section_bytes, IsSection}
 use Rattle.dagcbor_car.specs.Versions.{length_of}
 use Rattle.dagcbor_car.specs.Sources.{CarRefuses, RefusesNext, TakesSectionBytes}

@@ -3,7 +3,7 @@ use Rattle.std.specs.Bool.{⊤}
 use Rattle.std.proofs.Common.{◌≡◌, ℕ, ◌+◌, ◌<◌, List, [], ◌∷◌, ◌++◌, length, sym, ap, ◌∙◌, subst, refl, inl, inr, append-nil, append_assoc, arith, length-append, flat_map, Option, Some, Result, Ok, Err, IfOk, Vec, Global, IsPermutation, IsSorted, add-zero, IfSome, None, drop}
 use Rattle.std.specs.Option.{option_map}
 use Rattle.ipld_tree.specs.Cid.{varint}
-use Rattle.dagcbor_io.specs.Reading.{Reading}
+use Rattle.dagcbor_heads.specs.Reading.{Reading}
 use Rattle.dagcbor_car.specs.Car.{Section, section_bytes, header_bytes, car_bytes, counted}
 use Rattle.dagcbor_car.specs.Sources.{CarRefuses, RefusesStart}
 use Rattle.dagcbor_car.specs.declared.error.CarError.{CarError}

@@ -2,7 +2,7 @@
 //! bytes are those that its name says.
 
 ghost use Rattle.std.specs.Prelude.{◌≡◌, List, ℕ, Some, Ok, IfOk, OnOk, IfSome, MatchBool};
-ghost use Rattle.dagcbor_io.specs.Inputs.{input_reading};
+ghost use Rattle.dagcbor_heads.specs.Inputs.{input_reading};
 ghost use Rattle.ipld_links.specs.Verdicts.{IsVerified};
 ghost use Rattle.held_lines.specs.Taking.{IsOfBytes};
 ghost use Rattle.index_lines.specs.Finds.{IsFound, BeginsSought, GivesVerified, GivesWhere, GivesOf};
@@ -12,7 +12,7 @@ use crate::layout::{Layout, layout_of};
 use car_index::{Bucket, ReadAt, buffered_from, find_bucket};
 use dagcbor_car::{CarError, Section, pull_section};
 use dagcbor_cli::ToolError;
-use dagcbor_io::{Input, IoRefReader, Read};
+use dagcbor_heads::{Input, IoRefReader, Read};
 use held_lines::input_over;
 use ipld_links::{Verdict, verify};
 use ipld_tree::Cid;

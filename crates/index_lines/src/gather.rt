@@ -1,8 +1,8 @@
 //! The entries of the sections of a file.
 
 ghost use Rattle.std.specs.Prelude.{◌≡◌, ◌≤◌, List, ℕ, Some, length, IfOk, IfSome};
-ghost use Rattle.dagcbor_io.specs.Inputs.{input_reading};
-ghost use Rattle.dagcbor_io.specs.Reading.{Reading};
+ghost use Rattle.dagcbor_heads.specs.Inputs.{input_reading};
+ghost use Rattle.dagcbor_heads.specs.Reading.{Reading};
 ghost use Rattle.ipld_tree.specs.Cid.{varint, cid_bytes};
 ghost use Rattle.dagcbor_car.specs.Sources.{TakesStart};
 ghost use Rattle.dagcbor_items.specs.Walks.{forms};
@@ -13,7 +13,7 @@ use arrayvec::ArrayVec;
 use car_index::{Entry, ReadAt, buffered_from};
 use dagcbor_car::{Section, SectionSink, pull_header, push_header};
 use dagcbor_cli::ToolError;
-use dagcbor_io::{Input, IoRefReader, Read};
+use dagcbor_heads::{Input, IoRefReader, Read};
 use held_lines::{Ended, fault_line, input_over, take_sections};
 use ipld_tree::Cid;
 use std::alloc::{AllocError, Global};

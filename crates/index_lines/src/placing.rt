@@ -1,8 +1,8 @@
 //! Where the sections of a file begin.
 
 ghost use Rattle.std.specs.Prelude.{◌≡◌, List, ℕ, Some, IfOk, IfSome};
-ghost use Rattle.dagcbor_io.specs.Inputs.{input_reading};
-ghost use Rattle.dagcbor_io.specs.Reading.{Reading};
+ghost use Rattle.dagcbor_heads.specs.Inputs.{input_reading};
+ghost use Rattle.dagcbor_heads.specs.Reading.{Reading};
 ghost use Rattle.dagcbor_car.specs.Sources.{TakesStart};
 ghost use Rattle.dagcbor_items.specs.Walks.{forms};
 ghost use Rattle.index_lines.specs.Judged.{PlacesNext, ArePlaced};
@@ -11,7 +11,7 @@ use crate::gather::{header_length, section_length};
 use car_index::{Placed, ReadAt, buffered_from};
 use dagcbor_car::{Section, SectionSink, pull_header};
 use dagcbor_cli::ToolError;
-use dagcbor_io::{Input, IoRefReader, Read};
+use dagcbor_heads::{Input, IoRefReader, Read};
 use held_lines::{Ended, fault_line, input_over, take_sections};
 use ipld_tree::Cid;
 use std::alloc::{AllocError, Global};

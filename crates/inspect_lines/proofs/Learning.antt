@@ -3,7 +3,7 @@ use Rattle.std.proofs.Common.{◌≡◌, inl, ℕ, ◌+◌, ◌-◌, ◌<◌, Li
 use Rattle.std.specs.Prelude.{⊤}
 use Rattle.std.specs.Fmt.{option_append}
 use Rattle.std.proofs.lemmas.List.{take_more}
-use Rattle.dagcbor_io.specs.Reading.{Reading}
+use Rattle.dagcbor_heads.specs.Reading.{Reading}
 use Rattle.std.specs.declared.alloc.AllocError.{AllocError}
 use Rattle.ipld_tree.specs.Cid.{CidParts}
 use Rattle.dagcbor_items.specs.Walks.{forms}

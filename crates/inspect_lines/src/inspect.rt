@@ -1,8 +1,8 @@
 //! What a CAR file holds, in numbers.
 
 ghost use Rattle.std.specs.Prelude.{◌≡◌, ℕ, List, [], Some, IfOk, IfSome, map, take};
-ghost use Rattle.dagcbor_io.specs.Reading.{Reading};
-ghost use Rattle.dagcbor_io.specs.Inputs.{input_reading};
+ghost use Rattle.dagcbor_heads.specs.Reading.{Reading};
+ghost use Rattle.dagcbor_heads.specs.Inputs.{input_reading};
 ghost use Rattle.dagcbor_items.specs.Walks.{forms};
 ghost use Rattle.dagcbor_car.specs.Car.{Section as CarSection};
 ghost use Rattle.dagcbor_car.specs.Sources.{TakesStart};
@@ -20,7 +20,7 @@ use crate::plain::plain_text;
 use block_lines::say_both;
 use dagcbor_car::{CarCheck, Section, SectionSink, pull_header};
 use dagcbor_cli::ToolError;
-use dagcbor_io::{Input, IoRefReader, Read};
+use dagcbor_heads::{Input, IoRefReader, Read};
 use held_lines::{Ended, fault_line, input_over, take_sections};
 use ipld_tree::Cid;
 use std::alloc::{AllocError, Global};

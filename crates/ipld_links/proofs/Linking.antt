@@ -1,7 +1,7 @@
 -- Which blocks links are read in, by the verdict on them.
 use Rattle.std.proofs.Common.{◌≡◌, inl, inr, ℕ, List, refl, arith}
 use Rattle.std.specs.declared.convert.Infallible.{Infallible}
-use Rattle.dagcbor_heads.specs.declared.error.DecodeError.{DecodeError}
+use Rattle.dagcbor_core.specs.declared.error.DecodeError.{DecodeError}
 use Rattle.dagcbor_decode.specs.declared.kind.Kind.{Kind}
 use Rattle.ipld_tree.specs.Tree.{links_of}
 use Rattle.dag_pb.specs.Node.{HasNode, node_links}

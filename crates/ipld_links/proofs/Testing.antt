@@ -1,7 +1,7 @@
 -- Whether the bytes are those that a name names, or a block.
 use Rattle.std.proofs.Common.{◌≡◌, ◌↔◌, inl, inr, ℕ, List, Bool, IsTrue, Result, Ok, Err, IfOk, sym}
 use Rattle.std.specs.Result.{is_ok}
-use Rattle.dagcbor_heads.specs.declared.error.DecodeError.{DecodeError}
+use Rattle.dagcbor_core.specs.declared.error.DecodeError.{DecodeError}
 use Rattle.ipld_tree.specs.Tree.{Tree}
 use Rattle.dagcbor_decode.specs.Blocks.{IsBlock}
 use Rattle.dagcbor_decode.specs.Decode.{decode}

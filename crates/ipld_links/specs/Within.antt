@@ -1,7 +1,7 @@
 -- Links within links: a name by the identity holds its block itself, and links stand in that block.
 use Rattle.std.specs.Prelude.{◌≡◌, ◌↔◌, ◌⊎◌, ℕ, zero, suc, ◌≤◌, List, Result, OnOk}
 use Rattle.ipld_tree.specs.Cid.{CidParts, AreCidParts, cid_bytes}
-use Rattle.dagcbor_heads.specs.Steps.{default_steps}
+use Rattle.dagcbor_core.specs.Steps.{default_steps}
 use Rattle.ipld_tree.specs.Tree.{Tree, any_need, links_of}
 use Rattle.ipld_tree.specs.Spelling.{IsFront}
 use Rattle.std.specs.List.{AllByRecursion}

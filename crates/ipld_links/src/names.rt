@@ -10,8 +10,8 @@ ghost use Rattle.ipld_links.specs.Blocks.{IsBlockOf};
 
 use crate::cid_set::CidSet;
 use crate::held::HeldNames;
+use dagcbor_core::DecodeError;
 use dagcbor_decode::links_from_slice;
-use dagcbor_heads::DecodeError;
 use ipld_tree::Cid;
 use std::alloc::{AllocError, Global};
 use std::convert::Infallible;

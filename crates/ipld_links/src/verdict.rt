@@ -8,8 +8,8 @@ ghost use Rattle.ipld_links.specs.Verdicts.{IsVerified, IsTestable, IsVerdictOn,
 use crate::block::is_block_of;
 use crate::name::{DAG_CBOR, DAG_PB, IDENTITY, RAW, SHA2_256};
 use dag_pb::{PbError, check_node};
+use dagcbor_core::DecodeError;
 use dagcbor_decode::{Kind, check_slice};
-use dagcbor_heads::DecodeError;
 use ipld_tree::Cid;
 use sha2::{Digest, Sha256};
 use std::convert::Infallible;

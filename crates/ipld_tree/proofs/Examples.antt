@@ -1,6 +1,6 @@
 -- Worked examples.
 use Rattle.std.proofs.Common.{◌≡◌, ℕ, ◌^◌, ◌-◌, pos, negsuc, List, [], ◌∷◌, true, false, None, Some, refl}
-use Rattle.dagcbor_heads.specs.Head.{head}
+use Rattle.dagcbor_core.specs.Head.{head}
 use Rattle.ipld_tree.specs.Key.{comes_before}
 use Rattle.ipld_tree.specs.Cid.{varint, cid_parts, cid_bytes}
 use Rattle.ipld_tree.specs.Tree.{Tree, null, boolean, integer, text, list, mapping, link, no_items, item, no_entries, entry, items_of, ordered_entries, map_tree, list_tree, entries_tree, any_need, links_of}

@@ -3,7 +3,7 @@
 use Rattle.std.specs.Prelude.{◌≡◌, ◌⊎◌, ℕ, List, map, Option, IfSome, IsSomeAnd, Result, MatchResult, Vec}
 use Rattle.std.specs.Io.KnownBytes.{Appends}
 use Rattle.std.specs.declared.alloc.Global.{Global}
-use Rattle.dagcbor_heads.specs.Appends.{AppendsSome, AppendsFront}
+use Rattle.dagcbor_core.specs.Appends.{AppendsSome, AppendsFront}
 use Rattle.ipld_tree.specs.Cid.{cid_bytes}
 use Rattle.ipld_tree.specs.CidIters.{cids_left}
 use Rattle.ipld_tree.specs.declared.cid_iter.CidIter.{CidIter}

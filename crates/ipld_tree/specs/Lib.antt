@@ -1,4 +1,4 @@
-pub use Rattle.dagcbor_heads.specs.Head
+pub use Rattle.dagcbor_core.specs.Head
 pub mod Key
 pub mod Cid
 pub mod CidFault

@@ -1,6 +1,6 @@
 -- Bytes in memory, after those that stay before them.
 use Rattle.std.specs.Prelude.{◌≡◌, ℕ, suc, ◌+◌, List, ◌∷◌, ◌++◌, length, take, drop, if◌then◌else◌, nat_lt}
-use Rattle.dagcbor_heads.specs.Head.{head}
+use Rattle.dagcbor_core.specs.Head.{head}
 
 -- memory with the bytes at its front, where there is room for them; else the memory stays
 abbrev pub with_front : List ℕ → List ℕ → List ℕ

@@ -1,7 +1,7 @@
 //! Strings and links, counted, and put at a place that has room for them.
 
 ghost use Rattle.std.specs.Prelude.{◌≡◌, ◌+◌, ◌≤◌, ◌∷◌, ◌++◌, length, suc, ℕ};
-ghost use Rattle.dagcbor_heads.specs.Head.{head};
+ghost use Rattle.dagcbor_core.specs.Head.{head};
 ghost use Rattle.lent_memory.specs.Puts.{PutsAt, string_form, link_form};
 
 use crate::place::{head_length, put, put_head};

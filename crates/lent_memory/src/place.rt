@@ -1,7 +1,7 @@
 //! Bytes and heads, put at a place that has room for them.
 
 ghost use Rattle.std.specs.Prelude.{◌≡◌, ◌+◌, ◌≤◌, length, ℕ};
-ghost use Rattle.dagcbor_heads.specs.Head.{head};
+ghost use Rattle.dagcbor_core.specs.Head.{head};
 ghost use Rattle.lent_memory.specs.Puts.{PutsAt};
 
 /// Puts the bytes at the place: the place after them.
@@ -17,7 +17,7 @@ pub fn put(out: &mut [u8], at: usize, bytes: &[u8]) -> usize
 
 /// Puts the shortest head. How many bytes it has is known at each place, so that no copy is called.
 #[inline(always)]
-#[tactic(auto, unfolding(dagcbor_heads::specs::Head::head))]
+#[tactic(auto, unfolding(dagcbor_core::specs::Head::head))]
 pub fn put_head(out: &mut [u8], at: usize, major: u8, argument: u64) -> usize
     requires small { major ≤ 7 }
     requires room { at + length (head major argument) ≤ length out.old }
@@ -42,7 +42,7 @@ pub fn put_head(out: &mut [u8], at: usize, major: u8, argument: u64) -> usize
 
 /// How many bytes the shortest head of this argument has.
 #[inline(always)]
-#[tactic(auto, unfolding(dagcbor_heads::specs::Head::head))]
+#[tactic(auto, unfolding(dagcbor_core::specs::Head::head))]
 pub fn head_length(argument: u64) -> usize
     ensures few { result ≤ 9 }
     ensures length { (major : ℕ) → result ≡ length (head major argument) }

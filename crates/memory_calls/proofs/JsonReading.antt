@@ -1,6 +1,6 @@
 -- What a text is read as is the data of a block.
 use Rattle.std.proofs.Common.{◌≡◌, inl, inr, ℕ, ◌≤◌, Bool, true, false, List, Result, Ok, Err, MatchResult, if◌then◌else◌, nat_le, refl, sym, subst, leb-true}
-use Rattle.dagcbor_heads.specs.Steps.{default_steps}
+use Rattle.dagcbor_core.specs.Steps.{default_steps}
 use Rattle.ipld_tree.specs.Tree.{Tree, any_need}
 use Rattle.ipld_tree.specs.Spelling.{IsSpelling}
 use Rattle.dagcbor_decode.specs.Blocks.{IsBlock}

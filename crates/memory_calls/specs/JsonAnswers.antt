@@ -2,7 +2,7 @@
 use Rattle.std.specs.Prelude.{◌≡◌, ◌⊎◌, ℕ, ◌≤◌, ℤ, negsuc, true, false, List, length, Ok, Err, IsUtf8}
 use Rattle.std.specs.Str.Lossy.{utf8_valid_len}
 use Rattle.std.specs.declared.convert.Infallible.{Infallible}
-use Rattle.dagcbor_heads.specs.declared.error.DecodeError.{DecodeError}
+use Rattle.dagcbor_core.specs.declared.error.DecodeError.{DecodeError}
 use Rattle.ipld_tree.specs.Tree.{Tree}
 use Rattle.dagcbor_decode.specs.Verdicts.{IsRefusedFor}
 use Rattle.dagcbor_decode.specs.TreeKinds.{kind_of}

@@ -8,7 +8,7 @@ ghost use Rattle.atproto_mst.specs.Entries.{entries};
 ghost use Rattle.memory_calls.specs.Blocks.{repo_tree, commit_tree, IsBlockOf, entry_of_row};
 
 use atproto_mst::{Commit, MstEntry, Repo, spell_unsigned};
-use dagcbor_io::{Write, WriteResult};
+use dagcbor_heads::{Write, WriteResult};
 use dagcbor_write::{Field, Serialize, Serializer, to_vec, write_struct};
 use ipld_tree::{ByteSlice, Cid};
 use std::alloc::{AllocError, Global};

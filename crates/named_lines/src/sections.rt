@@ -5,7 +5,7 @@ ghost use Rattle.dagcar_lines.specs.Answers.{EndsSo};
 ghost use Rattle.dagcbor_cli.specs.declared.fault.ToolError.{ToolError};
 ghost use Rattle.section_lines.specs.Sending.{SaysSent};
 ghost use Rattle.section_lines.specs.Filtering.{IsFiltered, IsFilteredFront};
-ghost use Rattle.dagcbor_io.specs.Inputs.{input_reading};
+ghost use Rattle.dagcbor_heads.specs.Inputs.{input_reading};
 ghost use Rattle.section_lines.specs.Merging.{IsMergedOf, IsMergedFront};
 ghost use Rattle.section_lines.specs.MergeSteps.{AreLeft};
 ghost use Rattle.section_lines.specs.Lists.{IsFilteredByList, IsFilteredByListFront};
@@ -14,7 +14,7 @@ ghost use Rattle.section_lines.specs.declared.split.SplitEnd.{SplitEnd};
 ghost use Rattle.named_lines.specs.Splits.{SplitEndsSo};
 
 use dagcar_lines::status_of;
-use dagcbor_io::{Input, Read};
+use dagcbor_heads::{Input, Read};
 use ipld_tree::Cid;
 use section_lines::{
     Filter, NewFiles, Split, SplitEnd, write_filtered, write_listed, write_merged, write_split,

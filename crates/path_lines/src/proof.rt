@@ -14,7 +14,7 @@ use crate::end::say_end;
 use block_lines::say_both;
 use dagcbor_car::push_tree;
 use dagcbor_cli::ToolError;
-use dagcbor_io::BufWriter;
+use dagcbor_heads::BufWriter;
 use dagcbor_resolve::{End, each_once, resolve_way};
 use ipld_tree::Cid;
 use std::alloc::{AllocError, Global};

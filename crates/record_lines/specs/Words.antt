@@ -2,9 +2,9 @@
 use Rattle.std.specs.Prelude.{ℕ, List, [], ◌++◌, codes, decimal, ⊤}
 use Rattle.ipld_tree.specs.Cid.{CidParts}
 use Rattle.cid_text.specs.Texts.{cid_text}
-use Rattle.dagcbor_heads.specs.Names.{name_bytes}
-use Rattle.dagcbor_heads.specs.declared.error.DecodeError.{DecodeError}
-use Rattle.dagcbor_heads.specs.declared.error.DecodeError.TheVariants as refusals
+use Rattle.dagcbor_core.specs.Names.{name_bytes}
+use Rattle.dagcbor_core.specs.declared.error.DecodeError.{DecodeError}
+use Rattle.dagcbor_core.specs.declared.error.DecodeError.TheVariants as refusals
 use Rattle.dagcbor_decode.specs.PrintedNames.{variant_name}
 use Rattle.block_lines.specs.Codecs.{codec_text}
 use Rattle.block_lines.specs.Lines.{line, missing_line}

@@ -13,7 +13,7 @@ use Rattle.dagcbor_car.specs.Each.{SinkTakes}
 use Rattle.dagcbor_car.specs.Sources.{CarRefuses, RefusesStart}
 use Rattle.dagcbor_car.specs.declared.error.CarError.{CarError}
 use Rattle.dagcbor_car.proofs.Places.{no_file}
-use Rattle.dagcbor_io.specs.Reading.{Reading}
+use Rattle.dagcbor_heads.specs.Reading.{Reading}
 use Rattle.block_lines.specs.Lines.{BreaksLine, refused_line}
 use Rattle.held_lines.specs.Taking.{IsOfBytes, TookEach, TakesFileFront, EndsAt}
 use Rattle.held_lines.proofs.Taking.{took_knows, alone, alone_line, header_alone}

@@ -15,7 +15,7 @@ use Rattle.dagcbor_car.specs.Car.{Section, section_bytes, header_bytes, car_byte
 use Rattle.dagcbor_car.specs.Versions.{IsFile}
 use Rattle.dagcbor_car.specs.Checks.{IsFileFront, IsNoFile}
 use Rattle.dagcbor_car.specs.Each.{SinkTakes}
-use Rattle.dagcbor_io.specs.Reading.{Reading}
+use Rattle.dagcbor_heads.specs.Reading.{Reading}
 use Rattle.dagcbor_car.specs.Extents.{bytes_within, wanting}
 use Rattle.dagcbor_car.specs.Sources.{RefusesStart, RefusesSection, TakesStart}
 use Rattle.dagcbor_car.proofs.Places.{place_front, no_file}

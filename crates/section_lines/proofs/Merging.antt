@@ -5,7 +5,7 @@ use Rattle.std.proofs.lemmas.List.{take_more}
 use Rattle.std.specs.Io.KnownBytes.{Appends}
 use Rattle.std.proofs.KnownBytes.{Appends-nil, Appends-trans}
 use Rattle.std.specs.declared.convert.Infallible.{Infallible}
-use Rattle.dagcbor_io.specs.Reading.{Reading}
+use Rattle.dagcbor_heads.specs.Reading.{Reading}
 use Rattle.ipld_tree.specs.Cid.{CidParts}
 use Rattle.dagcbor_items.specs.Walks.{forms}
 use Rattle.ipld_links.specs.Verdicts.{IsVerified}
@@ -32,7 +32,7 @@ use Rattle.section_lines.specs.declared.merge.Roots.{Roots}
 use Rattle.section_lines.specs.declared.merge.Begun.{Begun}
 use Rattle.section_lines.specs.declared.merge.Behind.{Behind}
 use Rattle.inspect_lines.proofs.Counting.{map_push}
-use Rattle.dagcbor_io.specs.Inputs.{input_reading}
+use Rattle.dagcbor_heads.specs.Inputs.{input_reading}
 use Rattle.section_lines.proofs.Sending.{told_so, broke_so}
 use Rattle.section_lines.proofs.Filtering.{begun_front, err_is}
 

@@ -3,9 +3,9 @@ use Rattle.std.specs.Bool.{⊤}
 use Rattle.std.proofs.Common.{◌≡◌, inl, inr, List, ℕ, [], ◌++◌, append-nil, append_assoc, Bool, true, false, IsTrue, refl, sym, ap, ◌∙◌, subst, ◌∷◌, IsErrAnd, IfSome, Option, None, Some, Result, Ok, Err}
 use Rattle.std.specs.Io.KnownBytes.{Appends}
 use Rattle.std.proofs.KnownBytes.{Appends-nil, Appends-trans}
-use Rattle.dagcbor_io.specs.Written.{Written, Stops, WroteFront, WantsMemoryOnlyIf}
-use Rattle.dagcbor_heads.specs.declared.error.EncodeError.{EncodeError}
-use Rattle.dagcbor_heads.specs.declared.error.EncodeError.TheVariants as unsent
+use Rattle.dagcbor_heads.specs.Written.{Written, Stops, WroteFront, WantsMemoryOnlyIf}
+use Rattle.dagcbor_core.specs.declared.error.EncodeError.{EncodeError}
+use Rattle.dagcbor_core.specs.declared.error.EncodeError.TheVariants as unsent
 use Rattle.dagcbor_car.specs.Writers.{UnsentWithoutMemory}
 use Rattle.dagcbor_cli.specs.declared.fault.ToolError.{ToolError}
 use Rattle.dagcbor_cli.specs.declared.fault.ToolError.TheVariants.{Output}

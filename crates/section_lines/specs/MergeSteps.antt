@@ -3,8 +3,8 @@ use Rattle.std.specs.Prelude.{◌≡◌, ◌⊎◌, ◌↔◌, ℕ, ◌+◌, Lis
 use Rattle.std.specs.declared.alloc.Global.{Global}
 use Rattle.std.specs.Io.KnownBytes.{Appends}
 use Rattle.std.specs.declared.convert.Infallible.{Infallible}
-use Rattle.dagcbor_io.specs.Reading.{Reading}
-use Rattle.dagcbor_io.specs.Inputs.{input_reading}
+use Rattle.dagcbor_heads.specs.Reading.{Reading}
+use Rattle.dagcbor_heads.specs.Inputs.{input_reading}
 use Rattle.ipld_tree.specs.Cid.{CidParts}
 use Rattle.dagcbor_items.specs.Walks.{forms}
 use Rattle.dagcbor_car.specs.Car.{Section, section_bytes, header_bytes, car_bytes}

@@ -1,7 +1,7 @@
 -- The steps of `filter`.
 use Rattle.std.specs.Prelude.{◌≡◌, ◌==◌, ℕ, List, [], ◌∷◌, length, Bool, false, if◌then◌else◌, Option, Some, Result, Ok, Err, MatchResult, flat_map}
 use Rattle.std.specs.Io.KnownBytes.{Appends}
-use Rattle.dagcbor_io.specs.Reading.{Reading}
+use Rattle.dagcbor_heads.specs.Reading.{Reading}
 use Rattle.ipld_tree.specs.Cid.{CidParts}
 use Rattle.dagcbor_items.specs.Walks.{forms}
 use Rattle.dagcbor_car.specs.Car.{Section, header_bytes, section_bytes}

@@ -1,7 +1,7 @@
 //! `filter`: the file of the sections that are kept.
 
 ghost use Rattle.std.specs.Prelude.{◌≡◌, [], List, ℕ, Some, Option, Result, IfOk, IfSome};
-ghost use Rattle.dagcbor_io.specs.Inputs.{input_reading};
+ghost use Rattle.dagcbor_heads.specs.Inputs.{input_reading};
 ghost use Rattle.dagcbor_items.specs.Walks.{forms};
 ghost use Rattle.dagcbor_car.specs.Car.{header_bytes};
 ghost use Rattle.held_lines.specs.declared.take.Ended.TheVariants.{Whole};
@@ -19,7 +19,7 @@ use crate::send::{send_header, send_section};
 use block_lines::{missing_lines, say, say_both};
 use dagcbor_car::{Section, SectionSink, pull_header};
 use dagcbor_cli::ToolError;
-use dagcbor_io::{Input, IoRefReader, Read};
+use dagcbor_heads::{Input, IoRefReader, Read};
 use held_lines::{Ended, fault_line, input_over, take_sections};
 use ipld_tree::Cid;
 use std::alloc::Global;

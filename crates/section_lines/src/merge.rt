@@ -1,7 +1,7 @@
 //! `merge`: the file of the sections of several files.
 
 ghost use Rattle.std.specs.Prelude.{◌≡◌, ◌↔◌, ◌∷◌, [], List, ℕ, map, IfOk, IsTrue, OnOk};
-ghost use Rattle.dagcbor_io.specs.Inputs.{input_reading};
+ghost use Rattle.dagcbor_heads.specs.Inputs.{input_reading};
 ghost use Rattle.dagcbor_items.specs.Walks.{forms};
 ghost use Rattle.dagcbor_car.specs.Car.{header_bytes};
 ghost use Rattle.ipld_links.specs.Held.{HoldsNone};
@@ -18,7 +18,7 @@ use crate::send::{send_header, send_section};
 use block_lines::{say, say_both};
 use dagcbor_car::{Section, SectionSink, pull_header};
 use dagcbor_cli::ToolError;
-use dagcbor_io::{Input, Read};
+use dagcbor_heads::{Input, Read};
 use held_lines::{Ended, fault_line, take_sections};
 use ipld_links::{HeldNames, Verdict, verify};
 use ipld_tree::Cid;

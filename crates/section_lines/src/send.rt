@@ -6,8 +6,8 @@ ghost use Rattle.section_lines.specs.Sending.{SendsText};
 
 use dagcbor_car::{Section, push_header, push_section};
 use dagcbor_cli::ToolError;
-use dagcbor_heads::EncodeError;
-use dagcbor_io::IoRefWriter;
+use dagcbor_core::EncodeError;
+use dagcbor_heads::IoRefWriter;
 use ipld_tree::Cid;
 use std::alloc::Global;
 use std::io::Write;

@@ -1,7 +1,7 @@
 //! `split`: the files of the parts of a file.
 
 ghost use Rattle.std.specs.Prelude.{◌≡◌, List, ℕ, Some, IfOk, IfSome};
-ghost use Rattle.dagcbor_io.specs.Inputs.{input_reading};
+ghost use Rattle.dagcbor_heads.specs.Inputs.{input_reading};
 ghost use Rattle.section_lines.specs.Parts.{PartsAreAll, PartsAreWithin, PartsHaveSections};
 ghost use Rattle.section_lines.specs.Splitting.{Splits, there_line};
 ghost use Rattle.section_lines.specs.SplitSteps.{SplitsSections, SplitsBehind, TellsSplit};
@@ -14,7 +14,7 @@ use crate::part::{Part, PartFault, Plan, Splitting, begin_part, finish_part, pla
 use crate::split_words::Split;
 use dagcbor_car::pull_header;
 use dagcbor_cli::{ToolError, write_all};
-use dagcbor_io::{Input, IoRefReader, Read};
+use dagcbor_heads::{Input, IoRefReader, Read};
 use held_lines::{Ended, fault_line, input_over, take_sections};
 use ipld_tree::Cid;
 use std::alloc::{AllocError, Global};

@@ -1,8 +1,8 @@
 -- DAG-CBOR as a codec.
 use Rattle.std.proofs.Common.{◌≡◌, ◌⊎◌, inl, inr, ℕ, List, sym, subst, Bool, Option, None, Some, IfSome}
 use Rattle.std.specs.Prelude.{Err}
-use Rattle.dagcbor_heads.specs.declared.error.DecodeError.{DecodeError}
-use Rattle.dagcbor_heads.specs.declared.error.DecodeError.TheVariants.{Read, RequireBorrowed, OutOfMemory, TrailingData, Failed}
+use Rattle.dagcbor_core.specs.declared.error.DecodeError.{DecodeError}
+use Rattle.dagcbor_core.specs.declared.error.DecodeError.TheVariants.{Read, RequireBorrowed, OutOfMemory, TrailingData, Failed}
 use Rattle.ipld_tree.specs.Codecs.{AreRead}
 use Rattle.ipld_tree.specs.Tree.{Tree}
 use Rattle.ipld_tree.specs.Spelling.{IsSpelling}
@@ -13,7 +13,7 @@ use Rattle.dagcbor_decode.proofs.FirstLinks.{links_not_refused}
 use Rattle.dagcbor_read.specs.Whole.{HoldsNoValue, IsReadExcuse, OfWhole, IsForBehind, LacksMemoryIf}
 use Rattle.serde_ipld_dagcbor.specs.Codec.{IsReadAs, AreAlike, OfSlice}
 use Rattle.dagcbor_items.specs.Shapes.{Shape}
-use Rattle.dagcbor_heads.specs.Steps.{default_steps}
+use Rattle.dagcbor_core.specs.Steps.{default_steps}
 
 module _ {V : Type 0} (shape : Shape Tree V) where
   unread : (left : Option (List ℕ)) → IfSome left (HoldsNoValue shape default_steps) → IfSome left (λ b. (v : V) → ¬ AreRead IsSpelling (IsReadAs shape) b v)

@@ -1,9 +1,9 @@
 -- Reading and writing undo each other.
 use Rattle.std.proofs.Common.{◌≡◌, ◌⊎◌, inl, inr, ℕ, List, refl, sym, ap, subst, ◌∙◌, Ok, Err, Option, Some}
 use Rattle.std.specs.declared.convert.Infallible.{Infallible}
-use Rattle.dagcbor_heads.specs.declared.error.DecodeError.{DecodeError}
-use Rattle.dagcbor_heads.specs.declared.error.DecodeError.TheVariants.{Read, RequireBorrowed, OutOfMemory, Failed}
-use Rattle.dagcbor_heads.specs.declared.error.EncodeError.TheVariants as unwritten
+use Rattle.dagcbor_core.specs.declared.error.DecodeError.{DecodeError}
+use Rattle.dagcbor_core.specs.declared.error.DecodeError.TheVariants.{Read, RequireBorrowed, OutOfMemory, Failed}
+use Rattle.dagcbor_core.specs.declared.error.EncodeError.TheVariants as unwritten
 use Rattle.ipld_tree.specs.Tree.{Tree}
 use Rattle.ipld_tree.specs.Ipld.{tree_of}
 use Rattle.dagcbor_write.specs.Answers.{AreSpellingOf, HasNoSpelling}
@@ -11,7 +11,7 @@ use Rattle.dagcbor_read.specs.Whole.{IsWhole, HoldsNoValue, OfWhole}
 use Rattle.serde_ipld_dagcbor.specs.Codec.{spellings_are_unique}
 use Rattle.serde_ipld_dagcbor.specs.RoundTrips.{TypedReadThenWritten, ReadThenWritten, IsReadBack, TypedWrittenThenRead, WrittenThenRead, IsWrittenBack}
 use Rattle.dagcbor_items.specs.Shapes.{Shape, any_tree}
-use Rattle.dagcbor_heads.specs.declared.error.EncodeError.{EncodeError}
+use Rattle.dagcbor_core.specs.declared.error.EncodeError.{EncodeError}
 
 some_same : {A : Type 0} (a b : A) → Some a ≡ Some b → a ≡ b
 some_same a b e = cc e

@@ -1,9 +1,9 @@
 -- Lemmas for the laws of types by hand: what the proofs of the crates below have for these.
 
 -- ---- a refusal that `?` hands on
-pub use Rattle.dagcbor_io.proofs.Refusing.{as_refusal}
+pub use Rattle.dagcbor_heads.proofs.Refusing.{as_refusal}
 -- ---- a text that is written part by part
-pub use Rattle.dagcbor_io.proofs.Writing.{next_part, exit_part, all_written, Writes_at, Writes_ok}
+pub use Rattle.dagcbor_heads.proofs.Writing.{next_part, exit_part, all_written, Writes_at, Writes_ok}
 -- ---- a map that is collected, of a struct or of a variant
 pub use Rattle.dagcbor_write.proofs.Fields.{begin_struct, begin_entries, next_entry, exit_field, end_struct}
 pub use Rattle.dagcbor_write.proofs.Enums.{begin_tuple_variant, begin_struct_variant}

@@ -3,9 +3,9 @@ use Rattle.std.proofs.Common.{sym, ◌∙◌, ap}
 use Rattle.std.specs.Prelude.{◌≡◌, ◌⊎◌, ℕ, ◌≤◌, List, [], Option, Some, IfSome, IfErr, Result, Ok, Err, MatchResult, Bool, false, ⊤, Vec}
 use Rattle.std.specs.declared.convert.Infallible.{Infallible}
 use Rattle.std.specs.declared.alloc.Global.{Global}
-use Rattle.dagcbor_heads.specs.declared.error.DecodeError.{DecodeError}
-use Rattle.dagcbor_heads.specs.declared.error.DecodeError.TheVariants as unread
-use Rattle.dagcbor_heads.specs.declared.error.EncodeError.TheVariants as unwritten
+use Rattle.dagcbor_core.specs.declared.error.DecodeError.{DecodeError}
+use Rattle.dagcbor_core.specs.declared.error.DecodeError.TheVariants as unread
+use Rattle.dagcbor_core.specs.declared.error.EncodeError.TheVariants as unwritten
 use Rattle.ipld_tree.specs.Codecs.{EncodingsAreUnique, DataHasOneEncoding, BytesHaveOneList}
 use Rattle.ipld_tree.specs.Tree.{Tree, links_of}
 use Rattle.ipld_tree.specs.Spelling.{IsSpelling}
@@ -13,7 +13,7 @@ use Rattle.ipld_tree.specs.declared.cid_iter.CidIter.{CidIter}
 use Rattle.ipld_tree.proofs.Fronts.{front_unique}
 use Rattle.dagcbor_items.proofs.SliceReads.{whole_front}
 use Rattle.dagcbor_write.specs.Answers.{HasNoSpelling, GrewByFront, IsWriteExcuse, OnMessage}
-use Rattle.dagcbor_io.specs.Written.{WantsMemoryOnlyIf}
+use Rattle.dagcbor_heads.specs.Written.{WantsMemoryOnlyIf}
 use Rattle.dagcbor_read.specs.Deserializers.{DeState}
 use Rattle.dagcbor_read.specs.Parts.{HandsWholeOn}
 use Rattle.dagcbor_read.specs.Whole.{HoldsNoValue, IsReadExcuse, OfWhole}
@@ -24,7 +24,7 @@ use Rattle.dagcbor_decode.specs.Verdicts.{AnswersLinks}
 use Rattle.serde_ipld_dagcbor.specs.declared.error.CodecError.{CodecError}
 use Rattle.serde_ipld_dagcbor.specs.declared.error.CodecError.TheVariants.{Decode, Encode, DecodeIo, EncodeIo}
 use Rattle.dagcbor_items.specs.Shapes.{Shape}
-use Rattle.dagcbor_heads.specs.Steps.{default_steps}
+use Rattle.dagcbor_core.specs.Steps.{default_steps}
 
 -- the tree shows v to the type, within 256 steps
 abbrev pub IsReadAs : {V : Type 0} → Shape Tree V → Tree → V → Type 0

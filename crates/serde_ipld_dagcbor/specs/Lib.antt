@@ -1,15 +1,15 @@
 -- handed on from the crates below
-pub use Rattle.dagcbor_io.specs.Reading
-pub use Rattle.dagcbor_io.specs.Inputs
-pub use Rattle.dagcbor_io.specs.IoReading
-pub use Rattle.dagcbor_io.specs.Fronts
-pub use Rattle.dagcbor_io.specs.Looking
-pub use Rattle.dagcbor_heads.specs.Causes
-pub use Rattle.dagcbor_io.specs.Refusals
-pub use Rattle.dagcbor_heads.specs.Names
-pub use Rattle.dagcbor_io.specs.Written
-pub use Rattle.dagcbor_heads.specs.declared.error.DecodeError
-pub use Rattle.dagcbor_heads.specs.declared.error.EncodeError
+pub use Rattle.dagcbor_heads.specs.Reading
+pub use Rattle.dagcbor_heads.specs.Inputs
+pub use Rattle.dagcbor_heads.specs.IoReading
+pub use Rattle.dagcbor_heads.specs.Fronts
+pub use Rattle.dagcbor_heads.specs.Looking
+pub use Rattle.dagcbor_core.specs.Causes
+pub use Rattle.dagcbor_heads.specs.Refusals
+pub use Rattle.dagcbor_core.specs.Names
+pub use Rattle.dagcbor_heads.specs.Written
+pub use Rattle.dagcbor_core.specs.declared.error.DecodeError
+pub use Rattle.dagcbor_core.specs.declared.error.EncodeError
 pub use Rattle.ipld_tree.specs.Cid
 pub use Rattle.ipld_tree.specs.CidFault
 pub use Rattle.ipld_tree.specs.CidHash

@@ -1,7 +1,7 @@
 //! DAG-CBOR as a codec.
 
 ghost use Rattle.std.specs.Prelude.{Some, IfErr, IfSome, false, ◌||◌};
-ghost use Rattle.dagcbor_heads.specs.Steps.{default_steps};
+ghost use Rattle.dagcbor_core.specs.Steps.{default_steps};
 ghost use Rattle.ipld_tree.specs.Codecs.{Decodes, Encodes, EncodesAsVec, FindsLinks};
 ghost use Rattle.ipld_tree.specs.Tree.{Tree};
 ghost use Rattle.ipld_tree.specs.Spelling.{IsSpelling};
@@ -17,8 +17,8 @@ ghost use Rattle.serde_ipld_dagcbor.specs.Codec.{HandsDecodedOn, HandsSliceDecod
 
 use crate::DAG_CBOR_CODE;
 use crate::error::CodecError;
+use dagcbor_core::DecodeError;
 use dagcbor_decode::links_from_slice;
-use dagcbor_heads::DecodeError;
 use dagcbor_read::{DeserializeOwned, from_reader, from_slice_owned};
 use dagcbor_write::{Serialize, to_vec, to_writer};
 use ipld_tree::{CidIter, Codec, Links};

@@ -1,8 +1,8 @@
 //! Reading.
 
+pub use dagcbor_core::DEFAULT_STEPS;
 pub use dagcbor_decode::{Kind, check_slice, links_from_slice};
-pub use dagcbor_heads::DEFAULT_STEPS;
-pub use dagcbor_io::{
+pub use dagcbor_heads::{
     Input, IoReader, IoRefReader, Read, ReadResult, Reference, SliceReader, Tally, is_at_end,
     is_indefinite, peek_one, pull_head, pull_one, pull_payload, pull_short_payload,
 };

@@ -1,6 +1,6 @@
 //! Why a value was not read or not written.
 
-pub use dagcbor_heads::{ArithmeticOverflow, DecodeError, EncodeError, Len, Message, Name};
+pub use dagcbor_core::{ArithmeticOverflow, DecodeError, EncodeError, Len, Message, Name};
 use std::convert::Infallible;
 use std::io;
 use thiserror::Error;

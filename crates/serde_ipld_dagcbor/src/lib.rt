@@ -19,11 +19,11 @@ pub mod error;
 pub mod laws;
 pub mod ser;
 
-pub use dagcbor_decode::{Kind, check_slice, links_from_slice};
-pub use dagcbor_heads::{
+pub use dagcbor_core::{
     ArithmeticOverflow, DEFAULT_STEPS, DecodeError, EncodeError, Len, Message, Name,
 };
-pub use dagcbor_io::{
+pub use dagcbor_decode::{Kind, check_slice, links_from_slice};
+pub use dagcbor_heads::{
     BufWriter, Input, IoReader, IoRefReader, IoRefWriter, IoWriter, Read, ReadResult, Reference,
     SliceReader, Tally, Write, WriteResult, is_at_end, is_indefinite, peek_one, pull_head,
     pull_one, pull_payload, pull_short_payload, push_head,

@@ -3,9 +3,9 @@
 ghost use Rattle.std.specs.Prelude.{◌≡◌, [], false, Bool, Result, Option, Some, List, ℕ, IfOk, IfErr};
 ghost use Rattle.std.specs.Io.KnownBytes.{Keeps};
 ghost use Rattle.dagcbor_cli.specs.declared.fault.ToolError.TheVariants.{OutOfMemory};
-ghost use Rattle.dagcbor_io.specs.Inputs.{not_lending};
-ghost use Rattle.dagcbor_heads.specs.Steps.{default_steps};
-ghost use Rattle.dagcbor_io.specs.Reading.{fresh_reading};
+ghost use Rattle.dagcbor_heads.specs.Inputs.{not_lending};
+ghost use Rattle.dagcbor_core.specs.Steps.{default_steps};
+ghost use Rattle.dagcbor_heads.specs.Reading.{fresh_reading};
 ghost use Rattle.dagcbor_store.specs.Ends.{Quiet};
 ghost use Rattle.dagcbor_store.specs.Stored.{IsKeptBy};
 ghost use Rattle.dagstore_lines.specs.Changes.{SaysText};
@@ -14,7 +14,7 @@ ghost use Rattle.dagstore_lines.specs.Roots.{ExportsMeant};
 ghost use Rattle.dagstore_lines.specs.declared.fault.Fault.{Fault};
 ghost use Rattle.std.specs.declared.io.Error.{Error};
 ghost use Rattle.store_serving.specs.Replies.{import_text, export_text, is_whole, refused, bad_text};
-ghost use Rattle.dagcbor_heads.specs.Appends.{AppendsFront};
+ghost use Rattle.dagcbor_core.specs.Appends.{AppendsFront};
 
 use crate::answer::{framed, refused_text};
 use dagcbor_cli::{ToolError, write_all};

@@ -3,8 +3,8 @@
 ghost use Rattle.std.specs.Prelude.{◌≡◌, ◌↔◌, ◌+◌, ◌<◌, ◌≤◌, true, false, Some, IfOk, IfErr};
 ghost use Rattle.std.specs.Prelude.{IfSome, MatchBool, length};
 ghost use Rattle.std.specs.Cow.{cow_str_bytes, IsBorrowedStr};
-ghost use Rattle.dagcbor_io.specs.Reading.{with_steps};
-ghost use Rattle.dagcbor_io.specs.Looking.{Looks};
+ghost use Rattle.dagcbor_heads.specs.Reading.{with_steps};
+ghost use Rattle.dagcbor_heads.specs.Looking.{Looks};
 ghost use Rattle.dagcbor_read.specs.Deserializers.{de_state, Call, AreOut, Over};
 ghost use Rattle.dagcbor_items.specs.Entries.{HasName};
 ghost use Rattle.dagcbor_items.specs.Majors.{LacksForString};
@@ -14,8 +14,8 @@ ghost use Rattle.dagcbor_read.specs.Values.{ReadsPart};
 
 use crate::deserialize::Deserialize;
 use crate::deserializer::Deserializer;
-use dagcbor_heads::{DecodeError, Name};
-use dagcbor_io::{Read, ReadResult};
+use dagcbor_core::{DecodeError, Name};
+use dagcbor_heads::{Read, ReadResult};
 use dagcbor_items::take_name;
 use std::alloc::{AllocError, Global};
 use std::borrow::CowStr;

@@ -2,7 +2,7 @@
 
 ghost use Rattle.std.specs.Prelude.{◌≡◌, ◌↔◌, true, IfOk, IfErr, codes};
 ghost use Rattle.std.specs.Cow.{IsBorrowedStr};
-ghost use Rattle.dagcbor_io.specs.Looking.{Looks};
+ghost use Rattle.dagcbor_heads.specs.Looking.{Looks};
 ghost use Rattle.dagcbor_read.specs.Deserializers.{de_state, Call, AreOut, Over, LooksAtFirst};
 ghost use Rattle.dagcbor_read.specs.Enums.{enum_state, BeginsEnum, SpendsEnum, ReadsName};
 ghost use Rattle.dagcbor_read.specs.Enums.{IsOtherForm, EntersMap, EndsUnit, ReadsHeld, BeginsHeld};
@@ -14,8 +14,8 @@ ghost use Rattle.dagcbor_items.specs.AnsweredVariants.{OfByte, OfText};
 use crate::access::accessor::{Accessor, give_back};
 use crate::deserialize::Deserialize;
 use crate::deserializer::Deserializer;
-use dagcbor_heads::DecodeError;
-use dagcbor_io::{Read, ReadResult, peek_one, pull_one, spend_step};
+use dagcbor_core::DecodeError;
+use dagcbor_heads::{Read, ReadResult, peek_one, pull_one, spend_step};
 use std::alloc::Global;
 use std::borrow::CowStr;
 

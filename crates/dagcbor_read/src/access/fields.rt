@@ -8,7 +8,7 @@ ghost use Rattle.dagcbor_items.specs.LeafReads.{ReadsIgnored};
 ghost use Rattle.dagcbor_items.specs.AnsweredVariants.{OfItem};
 ghost use Rattle.dagcbor_read.specs.Parts.{ReadsOnce, FillsAs, RefusesPast, PassesKey, RefusesEntry};
 ghost use Rattle.dagcbor_read.specs.Parts.{RefusesFieldsAs, IfRefused, RefusesEntries};
-ghost use Rattle.dagcbor_heads.specs.declared.error.DecodeError.{DecodeError};
+ghost use Rattle.dagcbor_core.specs.declared.error.DecodeError.{DecodeError};
 ghost use Rattle.dagcbor_read.specs.Deserializers.{DeState, de_state, StaysFailed, Over};
 ghost use Rattle.dagcbor_read.specs.Values.{ReadsValue, RefusesToBegin};
 ghost use Rattle.dagcbor_read.specs.Accessors.{accessor_state, HasHeadOf, BeginsItems};
@@ -20,8 +20,8 @@ ghost use Rattle.dagcbor_read.specs.Structs.{texts};
 use crate::access::accessor::Accessor;
 use crate::deserialize::Deserialize;
 use crate::deserializer::Deserializer;
-use dagcbor_heads::DecodeError;
-use dagcbor_io::{Read, ReadResult};
+use dagcbor_core::DecodeError;
+use dagcbor_heads::{Read, ReadResult};
 use std::alloc::Global;
 
 /// What the entries of a map make: the fields of a struct, or a map of the caller's.

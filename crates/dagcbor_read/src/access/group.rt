@@ -3,7 +3,7 @@
 ghost use Rattle.std.specs.Prelude.{◌≡◌, ◌<◌, ℕ, List, [], Option, None, Some, option_map, Err, IfErr};
 ghost use Rattle.std.specs.Prelude.{IfSome, IsSomeAnd, MatchOption, false, ⊤};
 ghost use Rattle.std.specs.Option.{option_flatten};
-ghost use Rattle.dagcbor_heads.specs.declared.error.DecodeError.{DecodeError};
+ghost use Rattle.dagcbor_core.specs.declared.error.DecodeError.{DecodeError};
 ghost use Rattle.dagcbor_items.specs.Shapes.{option_of};
 ghost use Rattle.dagcbor_read.specs.Accessors.{accessor_state};
 ghost use Rattle.dagcbor_read.specs.Collections.{slot_of};
@@ -23,8 +23,8 @@ use crate::access::accessor::Accessor;
 use crate::access::fields::{Fields, read_into};
 use crate::deserialize::Deserialize;
 use crate::deserializer::Deserializer;
-use dagcbor_heads::DecodeError;
-use dagcbor_io::{Read, ReadResult};
+use dagcbor_core::DecodeError;
+use dagcbor_heads::{Read, ReadResult};
 use dagcbor_items::is_name;
 use std::alloc::Global;
 

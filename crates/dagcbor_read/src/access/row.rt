@@ -3,7 +3,7 @@
 ghost use Rattle.std.specs.Prelude.{◌≡◌, ◌+◌, ◌-◌, ◌≤◌, ℕ, min, Bool, List, map, false, ⊤, IfOk};
 ghost use Rattle.std.specs.Prelude.{IfErr, All, codes, Option, option_map, IfSome};
 ghost use Rattle.ipld_tree.specs.Tree.{Items};
-ghost use Rattle.dagcbor_heads.specs.declared.error.DecodeError.{DecodeError};
+ghost use Rattle.dagcbor_core.specs.declared.error.DecodeError.{DecodeError};
 ghost use Rattle.dagcbor_read.specs.Deserializers.{DeState, de_state, StaysFailed, Over};
 ghost use Rattle.dagcbor_read.specs.Parts.{RefusesItems, RefusesFirstPart, RefusesRest, RefusesListAs};
 ghost use Rattle.dagcbor_read.specs.Parts.{RefusesOptional, IfRefused};
@@ -16,8 +16,8 @@ ghost use Rattle.dagcbor_items.specs.Shapes.{Shape};
 use crate::access::accessor::Accessor;
 use crate::deserialize::Deserialize;
 use crate::deserializer::Deserializer;
-use dagcbor_heads::DecodeError;
-use dagcbor_io::{Read, ReadResult};
+use dagcbor_core::DecodeError;
+use dagcbor_heads::{Read, ReadResult};
 use std::alloc::Global;
 
 /// What the items of a list make, one after another: all of one type, in a vector, or each of a

@@ -1,9 +1,9 @@
 //! Structs, whose fields are read by their names.
 
 ghost use Rattle.std.specs.Prelude.{◌≡◌, ◌⊎◌, None, Some, MatchResult, Err, IfErr, codes};
-ghost use Rattle.dagcbor_heads.specs.declared.name.Name.{Name};
-ghost use Rattle.dagcbor_heads.specs.declared.error.DecodeError.TheVariants.{Msg};
-ghost use Rattle.dagcbor_heads.specs.Names.{Names};
+ghost use Rattle.dagcbor_core.specs.declared.name.Name.{Name};
+ghost use Rattle.dagcbor_core.specs.declared.error.DecodeError.TheVariants.{Msg};
+ghost use Rattle.dagcbor_core.specs.Names.{Names};
 ghost use Rattle.dagcbor_items.specs.Looks.{LooksAtAny};
 ghost use Rattle.dagcbor_items.specs.LeafReads.{ReadsIgnored};
 ghost use Rattle.dagcbor_items.specs.AnsweredVariants.{OfItem};
@@ -21,8 +21,8 @@ use crate::access::accessor::Accessor;
 use crate::access::enum_accessor::EnumAccessor;
 use crate::access::fields::{Fields, read_entries_left, skip_value};
 use crate::deserializer::Deserializer;
-use dagcbor_heads::DecodeError;
-use dagcbor_io::{Read, ReadResult};
+use dagcbor_core::DecodeError;
+use dagcbor_heads::{Read, ReadResult};
 use std::alloc::Global;
 
 /// No other field: any other key is refused. Use it in place of `()`, which skips the values of

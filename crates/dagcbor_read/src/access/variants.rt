@@ -1,7 +1,7 @@
 //! Enums, whose variants are read by their names.
 
 ghost use Rattle.std.specs.Prelude.{◌≡◌, ◌+◌, ◌≤◌, false, IfErr, ⊤};
-ghost use Rattle.dagcbor_heads.specs.declared.error.DecodeError.{DecodeError};
+ghost use Rattle.dagcbor_core.specs.declared.error.DecodeError.{DecodeError};
 ghost use Rattle.dagcbor_read.specs.Parts.{IfRefused, RefusesEnumAs};
 ghost use Rattle.dagcbor_read.specs.Deserializers.{DeState, de_state, StaysFailed, Over};
 ghost use Rattle.dagcbor_read.specs.Values.{ReadsValue, RefusesToBegin};
@@ -10,7 +10,7 @@ ghost use Rattle.dagcbor_read.specs.EnumViews.{EnumShape, enum_of, ReadsVariant}
 
 use crate::access::enum_accessor::EnumAccessor;
 use crate::deserializer::Deserializer;
-use dagcbor_io::{Read, ReadResult};
+use dagcbor_heads::{Read, ReadResult};
 use std::alloc::Global;
 
 /// An enum that is read through a match on its variant's name.

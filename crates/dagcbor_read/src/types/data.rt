@@ -13,7 +13,7 @@ ghost use Rattle.dagcbor_read.specs.Parts.{ReadsOnce, ReadsAs};
 use crate::deserialize::{Deserialize, DeserializeOwned};
 use crate::deserializer::Deserializer;
 use crate::shown::Shown;
-use dagcbor_io::{Read, ReadResult};
+use dagcbor_heads::{Read, ReadResult};
 use ipld_tree::Ipld;
 use std::alloc::Global;
 

@@ -10,8 +10,8 @@ use crate::access::row::read_rest;
 use crate::deserialize::{Deserialize, DeserializeOwned};
 use crate::deserializer::Deserializer;
 use crate::shown::Shown;
-use dagcbor_heads::DecodeError;
-use dagcbor_io::{Read, ReadResult};
+use dagcbor_core::DecodeError;
+use dagcbor_heads::{Read, ReadResult};
 use std::alloc::Global;
 
 impl<T: Shown> Shown for Option<T> {

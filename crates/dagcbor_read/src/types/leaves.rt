@@ -2,7 +2,7 @@
 
 ghost use Rattle.std.specs.Prelude.{◌≡◌, ◌↔◌, refl, ◌^◌, ℕ, ℤ, List, Bool, true, string_bytes};
 ghost use Rattle.std.specs.Prelude.{codes};
-ghost use Rattle.dagcbor_io.specs.Looking.{Looks};
+ghost use Rattle.dagcbor_heads.specs.Looking.{Looks};
 ghost use Rattle.dagcbor_items.specs.AnsweredVariants.{OfByte, OfNumber, OfHead, OfChar, OfText, OfLink};
 ghost use Rattle.dagcbor_items.specs.LeafReads.{ReadsNull, ReadsBool, ReadsUnsigned, ReadsSigned};
 ghost use Rattle.dagcbor_items.specs.LeafReads.{ReadsU128, ReadsI128, ReadsChar, ReadsStr};
@@ -18,8 +18,8 @@ ghost use Rattle.dagcbor_items.specs.Shapes.{leaf, owned_leaf, cow_leaf, lent_le
 use crate::deserialize::{Deserialize, DeserializeOwned};
 use crate::deserializer::Deserializer;
 use crate::shown::Shown;
-use dagcbor_heads::{DecodeError, Name};
-use dagcbor_io::{Read, ReadResult};
+use dagcbor_core::{DecodeError, Name};
+use dagcbor_heads::{Read, ReadResult};
 use ipld_tree::{ByteSlice, Bytes, Cid};
 use std::alloc::Global;
 use std::borrow::{CowSlice, CowStr};

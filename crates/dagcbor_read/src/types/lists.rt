@@ -8,7 +8,7 @@ use crate::access::row::read_tuple;
 use crate::deserialize::{Deserialize, DeserializeOwned};
 use crate::deserializer::Deserializer;
 use crate::shown::Shown;
-use dagcbor_io::{Read, ReadResult};
+use dagcbor_heads::{Read, ReadResult};
 use std::alloc::Global;
 
 impl<A: Shown> Shown for (A,) {

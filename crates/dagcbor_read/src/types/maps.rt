@@ -9,8 +9,8 @@ use crate::access::fields::{Fields, read_fields};
 use crate::deserialize::{Deserialize, DeserializeOwned};
 use crate::deserializer::Deserializer;
 use crate::shown::Shown;
-use dagcbor_heads::DecodeError;
-use dagcbor_io::{Read, ReadResult};
+use dagcbor_core::DecodeError;
+use dagcbor_heads::{Read, ReadResult};
 use std::alloc::Global;
 use std::collections::{BTreeMap, HashMap};
 

@@ -11,7 +11,7 @@ ghost use Rattle.dagcbor_write.specs.Bounded.{BeginsList, WritesItem};
 
 use crate::serialize::Serialize;
 use crate::serializer::Serializer;
-use dagcbor_io::{Write, WriteResult};
+use dagcbor_heads::{Write, WriteResult};
 use std::alloc::Global;
 
 /// Takes the items of a list whose number was announced, and writes each at once.

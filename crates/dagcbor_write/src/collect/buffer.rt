@@ -5,8 +5,8 @@ ghost use Rattle.dagcbor_write.specs.Gathering.{Waiting, Grows, RefusedFor, Coll
 
 use crate::serialize::Serialize;
 use crate::serializer::Serializer;
-use dagcbor_heads::EncodeError;
-use dagcbor_io::BufWriter;
+use dagcbor_core::EncodeError;
+use dagcbor_heads::BufWriter;
 use std::alloc::Global;
 use std::marker::Model;
 use std::mem;

@@ -4,7 +4,7 @@ ghost use Rattle.std.specs.Prelude.{◌≡◌, List, Option, Some, None, IfOk, I
 ghost use Rattle.std.specs.Prelude.{IfSome, IsSome, IsTrue, is_some, length};
 ghost use Rattle.std.specs.Borrow.{sem};
 ghost use Rattle.std.specs.Fmt.{◌++?◌};
-ghost use Rattle.dagcbor_io.specs.Written.{Writes, WroteAll, WantsMemoryOnlyIf};
+ghost use Rattle.dagcbor_heads.specs.Written.{Writes, WroteAll, WantsMemoryOnlyIf};
 ghost use Rattle.ipld_tree.specs.Tree.{text, IsTree, entries_tree};
 ghost use Rattle.ipld_tree.specs.Spelled.{spelled_head};
 ghost use Rattle.dagcbor_write.specs.Answers.{OnMessage};
@@ -20,8 +20,8 @@ ghost use Rattle.dagcbor_write.specs.Lending.{BeginsOrStops};
 use crate::collect::gathered::Gathered;
 use crate::serialize::Serialize;
 use crate::serializer::Serializer;
-use dagcbor_heads::EncodeError;
-use dagcbor_io::{Write, WriteResult};
+use dagcbor_core::EncodeError;
+use dagcbor_heads::{Write, WriteResult};
 use std::alloc::Global;
 
 /// The message for a map with two equal keys.

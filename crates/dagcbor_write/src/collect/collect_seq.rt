@@ -4,7 +4,7 @@ ghost use Rattle.std.specs.Prelude.{◌≡◌, IfOk, IfErr, IsOk, OnOk};
 ghost use Rattle.std.specs.Prelude.{IfSome, IsSome, IsNone, IsOkAnd, Some, ◌||◌};
 ghost use Rattle.std.specs.Borrow.{sem};
 ghost use Rattle.std.specs.Fmt.{◌++?◌};
-ghost use Rattle.dagcbor_io.specs.Written.{Writes, WroteAll, WantsMemoryOnlyIf};
+ghost use Rattle.dagcbor_heads.specs.Written.{Writes, WroteAll, WantsMemoryOnlyIf};
 ghost use Rattle.ipld_tree.specs.Tree.{IsTree};
 ghost use Rattle.ipld_tree.specs.Spelled.{spelled_head};
 ghost use Rattle.dagcbor_write.specs.Answers.{OnMessage};
@@ -15,7 +15,7 @@ ghost use Rattle.dagcbor_write.specs.Lending.{list_lent, list_state, SameLoan, B
 use crate::collect::buffer::Buffer;
 use crate::serialize::Serialize;
 use crate::serializer::Serializer;
-use dagcbor_io::{Write, WriteResult};
+use dagcbor_heads::{Write, WriteResult};
 use std::alloc::Global;
 
 /// What an item that waits is refused with.

@@ -11,7 +11,7 @@ ghost use Rattle.dagcbor_write.specs.Spans.{entry_at, whole_at, IsWithin};
 
 use crate::collect::buffer::append;
 use crate::serialize::Serialize;
-use dagcbor_heads::EncodeError;
+use dagcbor_core::EncodeError;
 use std::alloc::Global;
 use std::marker::Model;
 

@@ -1,7 +1,7 @@
 //! Data of any kind.
 
 ghost use Rattle.std.specs.Prelude.{◌≡◌, Some, true, IsTrue, OnOk, IfErr};
-ghost use Rattle.dagcbor_io.specs.Written.{Writes, WritesAtOnce};
+ghost use Rattle.dagcbor_heads.specs.Written.{Writes, WritesAtOnce};
 ghost use Rattle.ipld_tree.specs.Ipld.{tree_of};
 ghost use Rattle.ipld_tree.specs.Spelled.{spelled};
 ghost use Rattle.ipld_tree.specs.Tree.{IsTree};
@@ -11,7 +11,7 @@ ghost use Rattle.dagcbor_write.specs.TreeMessages.{tree_message, is_integer};
 use crate::serialize::Serialize;
 use crate::serializer::Serializer;
 use crate::types::texts::write_texts;
-use dagcbor_io::{Write, WriteResult};
+use dagcbor_heads::{Write, WriteResult};
 use ipld_tree::Ipld;
 use std::alloc::Global;
 

@@ -1,7 +1,7 @@
 //! Values that hold others.
 
 ghost use Rattle.std.specs.Prelude.{map, OnOk, IfErr, IfSome, ◌||◌};
-ghost use Rattle.dagcbor_io.specs.Written.{Writes, WantsMemoryOnlyIf};
+ghost use Rattle.dagcbor_heads.specs.Written.{Writes, WantsMemoryOnlyIf};
 ghost use Rattle.ipld_tree.specs.Spelled.{spelled_tree};
 ghost use Rattle.ipld_tree.specs.Tree.{IsTree, list_tree};
 ghost use Rattle.dagcbor_write.specs.Trees.{option_tree};
@@ -10,7 +10,7 @@ ghost use Rattle.dagcbor_write.specs.Answers.{option_message, option_unsent};
 
 use crate::serialize::Serialize;
 use crate::serializer::Serializer;
-use dagcbor_io::{Write, WriteResult};
+use dagcbor_heads::{Write, WriteResult};
 use std::alloc::Global;
 
 impl<T: Serialize> Serialize for &T {

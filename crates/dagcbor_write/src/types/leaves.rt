@@ -7,7 +7,7 @@ ghost use Rattle.ipld_tree.specs.Tree.{null, boolean, integer, text, bytes, link
 
 use crate::serialize::Serialize;
 use crate::serializer::Serializer;
-use dagcbor_io::{Write, WriteResult};
+use dagcbor_heads::{Write, WriteResult};
 use ipld_tree::{ByteSlice, Bytes, Cid};
 use std::alloc::Global;
 

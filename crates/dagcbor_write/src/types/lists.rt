@@ -2,7 +2,7 @@
 
 ghost use Rattle.std.specs.Prelude.{◌≡◌, ◌∷◌, [], ℕ, List, Option, OnOk, IfErr, IfSome, length};
 ghost use Rattle.std.specs.Prelude.{Bool, false, ◌||◌};
-ghost use Rattle.dagcbor_io.specs.Written.{Writes, WantsMemoryOnlyIf};
+ghost use Rattle.dagcbor_heads.specs.Written.{Writes, WantsMemoryOnlyIf};
 ghost use Rattle.ipld_tree.specs.Spelled.{spelled_tree};
 ghost use Rattle.ipld_tree.specs.Tree.{Tree, IsTree, list_tree};
 ghost use Rattle.dagcbor_write.specs.Answers.{OnMessage, NoMessage, OneOf, IsPartMessage};
@@ -10,7 +10,7 @@ ghost use Rattle.dagcbor_write.specs.Each.{spelled_each, AreTrees, in_turn};
 
 use crate::serialize::Serialize;
 use crate::serializer::Serializer;
-use dagcbor_io::{Write, WriteResult};
+use dagcbor_heads::{Write, WriteResult};
 use std::alloc::Global;
 
 /// A part of a tuple, or `()` if a tuple has no such part.

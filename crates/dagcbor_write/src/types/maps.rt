@@ -2,7 +2,7 @@
 
 ghost use Rattle.std.specs.Prelude.{◌≡◌, List, OnOk, IfSome, IfErr, map, true, ◌||◌};
 ghost use Rattle.std.specs.Iterator.{IsFinite};
-ghost use Rattle.dagcbor_io.specs.Written.{Writes, WantsMemoryOnlyIf};
+ghost use Rattle.dagcbor_heads.specs.Written.{Writes, WantsMemoryOnlyIf};
 ghost use Rattle.ipld_tree.specs.Tree.{IsTree, entries_tree};
 ghost use Rattle.ipld_tree.specs.Spelled.{spelled_tree};
 ghost use Rattle.dagcbor_write.specs.Trees.{Pair};
@@ -13,8 +13,8 @@ use crate::collect::collect_map::REPEATED_KEY;
 use crate::collect::keyed::Keyed;
 use crate::serialize::Serialize;
 use crate::serializer::Serializer;
-use dagcbor_heads::EncodeError;
-use dagcbor_io::{Write, WriteResult};
+use dagcbor_core::EncodeError;
+use dagcbor_heads::{Write, WriteResult};
 use std::alloc::Global;
 use std::collections::{BTreeMap, HashMap};
 use std::hash::Hash;

@@ -2,7 +2,7 @@
 
 ghost use Rattle.std.specs.Prelude.{◌≡◌, Option, IsPermutation, OnOk, IfOk, IfErr, IfSome, IsTrue};
 ghost use Rattle.std.specs.Prelude.{codes, ◌||◌};
-ghost use Rattle.dagcbor_io.specs.Written.{Writes, WantsMemoryOnlyIf};
+ghost use Rattle.dagcbor_heads.specs.Written.{Writes, WantsMemoryOnlyIf};
 ghost use Rattle.ipld_tree.specs.Tree.{Tree, IsTree, entries_tree};
 ghost use Rattle.ipld_tree.specs.Spelled.{spelled_tree};
 ghost use Rattle.dagcbor_write.specs.Answers.{IsMessage};
@@ -12,8 +12,8 @@ ghost use Rattle.dagcbor_write.specs.Texts.{text_pairs, map_pairs};
 use crate::collect::keyed::write_value;
 use crate::serialize::Serialize;
 use crate::serializer::Serializer;
-use dagcbor_heads::EncodeError;
-use dagcbor_io::{Write, WriteResult};
+use dagcbor_core::EncodeError;
+use dagcbor_heads::{Write, WriteResult};
 use ipld_tree::{comes_before, key_cmp};
 use std::alloc::{AllocError, Global};
 use std::collections::BTreeMap;

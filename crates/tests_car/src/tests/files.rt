@@ -3,7 +3,7 @@
 
 use crate::tests::sections::{CHANGED, EMPTY, HEADER, NUMBERS, SECTION, UNORDERED};
 use dagcbor_car::{CarCheck, CarReader};
-use dagcbor_io::SliceReader;
+use dagcbor_heads::SliceReader;
 use ipld_links::Verdict;
 use ipld_tree::Cid;
 use std::alloc::Global;

@@ -1,7 +1,7 @@
 //! Files of the blocks that links lead to. The expected bytes are made by another program.
 
 use dagcbor_blocks::Blocks;
-use dagcbor_io::{BufWriter, Input, SliceReader};
+use dagcbor_heads::{BufWriter, Input, SliceReader};
 use ipld_tree::Cid;
 use std::alloc::Global;
 use std::test::Fail;

@@ -3,7 +3,7 @@
 use crate::tests::files::cids_of;
 use crate::tests::sections::{EMPTY, NUMBERS};
 use dagcbor_car::{CarReader, CarWriter};
-use dagcbor_io::{BufWriter, SliceReader};
+use dagcbor_heads::{BufWriter, SliceReader};
 use ipld_tree::Cid;
 use std::alloc::Global;
 use std::test::Fail;

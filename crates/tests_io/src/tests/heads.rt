@@ -126,6 +126,6 @@ fn counts_and_laws_take_no_bytes(_rt: HostRuntime) -> Result<(), Fail> {
     laws::key_order();
     laws::equality();
     laws::spelled_is_the_spelling();
-    dagcbor_heads::laws::head_unique();
+    dagcbor_core::laws::head_unique();
     agree(size_of::<Tally>(), 0)
 }

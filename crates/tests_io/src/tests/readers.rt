@@ -1,8 +1,8 @@
 //! Bytes, heads and payloads through buffered sources.
 
 use arrayvec::ArrayVec;
-use dagcbor_heads::DecodeError;
-use dagcbor_io::{
+use dagcbor_core::DecodeError;
+use dagcbor_heads::{
     Input, IoReader, IoRefReader, Read, is_at_end, peek_one, pull_head, pull_one, pull_payload,
     pull_short_payload,
 };

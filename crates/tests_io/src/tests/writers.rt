@@ -1,7 +1,7 @@
 //! Heads onto devices.
 
-use dagcbor_heads::EncodeError;
-use dagcbor_io::{IoRefWriter, IoWriter, Write, push_head};
+use dagcbor_core::EncodeError;
+use dagcbor_heads::{IoRefWriter, IoWriter, Write, push_head};
 use std::alloc::Global;
 use std::io;
 use std::io::ErrorKind;

@@ -1,7 +1,7 @@
 //! `filter` and `merge`: files of sections of others. The expected bytes are made by another program.
 
 use crate::tests::dagcar::owned_words;
-use dagcbor_io::IoReader;
+use dagcbor_heads::IoReader;
 use held_lines::input_over;
 use named_lines::{run_filter, run_listed, run_merged};
 use section_lines::{By, Filter, Kept, filter_of, merge_of};

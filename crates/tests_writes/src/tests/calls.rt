@@ -2,8 +2,8 @@
 //! makes, and what they tell of their state.
 
 use crate::tests::maps::{Ended, LARGE, is_ended};
-use dagcbor_heads::EncodeError;
-use dagcbor_io::BufWriter;
+use dagcbor_core::EncodeError;
+use dagcbor_heads::BufWriter;
 use dagcbor_write::{Field, Serializer, write_struct};
 use std::alloc::Global;
 use std::convert::Infallible;

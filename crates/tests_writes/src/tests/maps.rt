@@ -1,7 +1,7 @@
 //! Maps whose keys come in any order, or are not what they must be, written.
 
-use dagcbor_heads::EncodeError;
-use dagcbor_io::BufWriter;
+use dagcbor_core::EncodeError;
+use dagcbor_heads::BufWriter;
 use dagcbor_write::Serializer;
 use std::alloc::Global;
 use std::convert::Infallible;

@@ -1,5 +1,5 @@
 use Rattle.std.proofs.Common.{◌≡◌, ◌+◌, ◌≤◌, length, codes, option_map, sym, ap, ◌∙◌, subst}
-use Rattle.dagcbor_heads.specs.Head.{head}
+use Rattle.dagcbor_core.specs.Head.{head}
 use Rattle.ipld_tree.specs.Spelling.{spelling, text_spelling}
 use Rattle.dag_pb.proofs.Orders.{node_links_in}
 use Rattle.dag_pb.proofs.Spelled.{node_unique}

@@ -1,5 +1,5 @@
 use Rattle.std.proofs.Common.{◌≡◌, ◌+◌, ◌≤◌, ◌++◌, length, codes, sym, ap₂, ◌∙◌, subst}
-use Rattle.dagcbor_heads.specs.Head.{head}
+use Rattle.dagcbor_core.specs.Head.{head}
 use Rattle.ipld_tree.specs.Spelling.{text_spelling}
 use Rattle.dag_pb.specs.Reads.{link_of}
 use Rattle.lent_memory.specs.Puts.{PutsAt, link_form}

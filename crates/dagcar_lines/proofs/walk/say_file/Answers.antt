@@ -1,5 +1,5 @@
 use Rattle.std.proofs.Common.{◌∙◌, sym, refl}
-use Rattle.dagcbor_io.specs.Inputs.{input_reading}
+use Rattle.dagcbor_heads.specs.Inputs.{input_reading}
 use Rattle.dagcbor_items.specs.Walks.{forms}
 use Rattle.dagcbor_cli.specs.declared.fault.ToolError.TheVariants.{OutOfMemory}
 use Rattle.block_lines.specs.Lines.{refused_line}

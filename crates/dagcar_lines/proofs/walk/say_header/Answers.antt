@@ -1,6 +1,6 @@
 use Rattle.std.proofs.Common.{Err}
 use Rattle.std.proofs.KnownBytes.{Appends-nil}
-use Rattle.dagcbor_io.specs.Inputs.{input_reading}
+use Rattle.dagcbor_heads.specs.Inputs.{input_reading}
 use Rattle.block_lines.proofs.Saying.{line_whole}
 use Rattle.dagcar_lines.specs.Speeches.{beside}
 use Rattle.dagcar_lines.proofs.Saying.{roots_broken, broke}

@@ -1,6 +1,6 @@
 use Rattle.std.proofs.Common.{◌≡◌, ◌-◌, ◌^◌, length, [], ◌∷◌, ◌++◌, inl, inr, refl, sym, ap, subst, arith, length-append}
 use Rattle.std.proofs.lemmas.Result.{err_from_is_err_and}
-use Rattle.dagcbor_io.specs.Inputs.{input_reading}
+use Rattle.dagcbor_heads.specs.Inputs.{input_reading}
 use Rattle.dagcbor_car.specs.Each.{TakesEach, StopsEach}
 use Rattle.dagcbor_car.specs.declared.error.CarError.TheVariants.{OutOfMemory}
 use Rattle.dagcbor_car.specs.declared.each.ReadCarError.TheVariants.{Section}

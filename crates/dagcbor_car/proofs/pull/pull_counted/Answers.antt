@@ -1,5 +1,5 @@
 use Rattle.std.proofs.Common.{ℕ}
-use Rattle.dagcbor_io.specs.Inputs.{input_reading}
+use Rattle.dagcbor_heads.specs.Inputs.{input_reading}
 use Rattle.std.specs.Cow.{cow_slice_items}
 use Rattle.dagcbor_items.proofs.Looks.{looks_behind_some}
 use Rattle.dagcbor_car.proofs.Pulling.{handed_on, counted_pulled, counted_sized, counted_lacks, lacks_more}

@@ -1,7 +1,7 @@
 use Rattle.std.proofs.Common.{ℕ, Some}
 use Rattle.std.specs.Cow.{cow_slice_items}
-use Rattle.dagcbor_io.specs.Inputs.{input_reading}
-use Rattle.dagcbor_io.proofs.Looking.{taken_left}
+use Rattle.dagcbor_heads.specs.Inputs.{input_reading}
+use Rattle.dagcbor_heads.proofs.Looking.{taken_left}
 use Rattle.dagcbor_car.proofs.Starting.{enclosed_uncounted, enclosed_unread, enclosed_taken, unread_lacks, enclosed_block, left_wider, left_behind}
 use Rattle.dagcbor_car.proofs.Pulling.{handed_on, lacks_more}
 use Rattle.dagcbor_car.proofs.pull.pull_enclosed.Goals as goal

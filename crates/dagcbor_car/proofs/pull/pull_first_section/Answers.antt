@@ -1,5 +1,5 @@
-use Rattle.dagcbor_io.specs.Inputs.{input_reading}
-use Rattle.dagcbor_io.proofs.Looking.{taken_left}
+use Rattle.dagcbor_heads.specs.Inputs.{input_reading}
+use Rattle.dagcbor_heads.proofs.Looking.{taken_left}
 use Rattle.dagcbor_car.specs.Extents.{of_file}
 use Rattle.dagcbor_car.proofs.Spending.{off_within}
 use Rattle.dagcbor_car.proofs.Pulling.{handed_on, section_pulled, section_most, no_section_pulled, no_section_at_count}

@@ -1,6 +1,6 @@
 use Rattle.std.proofs.Common.{ℕ, None}
 use Rattle.std.specs.Cow.{cow_slice_items}
-use Rattle.dagcbor_io.specs.Inputs.{input_reading}
+use Rattle.dagcbor_heads.specs.Inputs.{input_reading}
 use Rattle.dagcbor_car.proofs.Starting.{is_other, start_uncounted, start_unread, start_taken, start_enclosed, start_unlent, unread_lacks, start_block, enclosed_lacks, left_wider, twice_behind}
 use Rattle.dagcbor_car.proofs.Pulling.{handed_on, lacks_more}
 use Rattle.dagcbor_car.proofs.pull.pull_header.Goals as goal

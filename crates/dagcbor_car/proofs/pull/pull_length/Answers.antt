@@ -2,7 +2,7 @@ use Rattle.std.proofs.Common.{arith, sym, ◌∙◌, subst}
 use Rattle.ipld_tree.specs.CidFault.{IsVarintFault, IsCutVarint}
 use Rattle.dagcbor_car.specs.Splits.{CountFault}
 use Rattle.dagcbor_car.specs.Sources.{IsShort}
-use Rattle.dagcbor_io.proofs.Looking.{some_then, taken_left}
+use Rattle.dagcbor_heads.proofs.Looking.{some_then, taken_left}
 use Rattle.dagcbor_car.proofs.Pulling.{handed_on, refused_off, no_group, cut_there, length_taken, length_most, no_length, group_more, last_looked, no_more_groups}
 use Rattle.dagcbor_car.proofs.pull.pull_length.Goals as goal
 

@@ -1,7 +1,7 @@
 use Rattle.std.proofs.Common.{sym, ap, ◌∙◌, subst, length}
-use Rattle.dagcbor_io.specs.Fronts.{Takes}
-use Rattle.dagcbor_io.specs.Inputs.{input_reading}
-use Rattle.dagcbor_io.proofs.Looking.{some_both}
+use Rattle.dagcbor_heads.specs.Fronts.{Takes}
+use Rattle.dagcbor_heads.specs.Inputs.{input_reading}
+use Rattle.dagcbor_heads.proofs.Looking.{some_both}
 use Rattle.dagcbor_car.proofs.Starting.{fields_cut, fields_fault, skip_cut, span_taken}
 use Rattle.dagcbor_car.proofs.Pulling.{handed_on}
 use Rattle.dagcbor_car.proofs.pull.pull_span.Goals as goal

@@ -1,5 +1,5 @@
 use Rattle.std.proofs.Common.{Some, length}
-use Rattle.dagcbor_io.proofs.Writing.{Writes_exit, Writes_then}
+use Rattle.dagcbor_heads.proofs.Writing.{Writes_exit, Writes_then}
 use Rattle.ipld_tree.specs.Cid.{varint}
 use Rattle.dagcbor_car.proofs.push.push_counted.Goals as goal
 

@@ -1,8 +1,8 @@
 use Rattle.std.proofs.Common.{refl, sym, ap, arith, rules, ◌∙◌}
 use Rattle.std.specs.Prelude.{⊤}
-use Rattle.dagcbor_io.proofs.Refusing.{as_refusal}
-use Rattle.dagcbor_io.specs.Reading.{Reading}
-use Rattle.dagcbor_io.proofs.Looking.{looks_more, looks_then, some_both, some_then, some_taken, nothing_looked, same_looked}
+use Rattle.dagcbor_heads.proofs.Refusing.{as_refusal}
+use Rattle.dagcbor_heads.specs.Reading.{Reading}
+use Rattle.dagcbor_heads.proofs.Looking.{looks_more, looks_then, some_both, some_then, some_taken, nothing_looked, same_looked}
 use Rattle.dagcbor_items.proofs.Looks.{once_left_more, looks_behind_peek, stepped_left, looks_stepped}
 use Rattle.ipld_tree.specs.Tree.{ordered_entries}
 use Rattle.ipld_tree.specs.Ipld.{tree_of, pairs_of}

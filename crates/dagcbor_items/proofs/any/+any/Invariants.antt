@@ -1,7 +1,7 @@
 use Rattle.std.proofs.Common.{◌+◌, ◌-◌, ◌*◌, option_map}
 use Rattle.std.specs.Cow.{cow_str_bytes}
-use Rattle.dagcbor_io.specs.Inputs.{input_reading}
-use Rattle.dagcbor_io.specs.Looking.{LooksAtSome}
+use Rattle.dagcbor_heads.specs.Inputs.{input_reading}
+use Rattle.dagcbor_heads.specs.Looking.{LooksAtSome}
 use Rattle.ipld_tree.specs.Tree.{ordered_entries}
 use Rattle.ipld_tree.specs.Ipld.{trees_of, pairs_of}
 use Rattle.dagcbor_items.proofs.Lists.{ReadSome}

@@ -1,6 +1,6 @@
 use Rattle.std.proofs.Common.{ap, refl}
-use Rattle.dagcbor_io.proofs.Refusing.{as_refusal}
-use Rattle.dagcbor_io.specs.Reading.{Reading}
+use Rattle.dagcbor_heads.proofs.Refusing.{as_refusal}
+use Rattle.dagcbor_heads.specs.Reading.{Reading}
 use Rattle.dagcbor_items.proofs.Looks.{head_taken, stepped_left, looks_stepped}
 use Rattle.dagcbor_items.proofs.Steps.{stepped_refused}
 use Rattle.dagcbor_items.proofs.Entering.{no_step_inside, parts_head_refused, enters_parts, parts_left, parts_unread}

@@ -1,5 +1,5 @@
 use Rattle.std.proofs.Common.{rules, refl, arith, ap, ◌∙◌, Some}
-use Rattle.dagcbor_io.proofs.Looking.{lent_looked}
+use Rattle.dagcbor_heads.proofs.Looking.{lent_looked}
 use Rattle.ipld_tree.specs.Tree.{text}
 use Rattle.dagcbor_items.proofs.Lent.{front_lent}
 use Rattle.dagcbor_items.proofs.Names.{name_front, name_long}

@@ -1,4 +1,4 @@
-use Rattle.dagcbor_io.proofs.Refusing.{as_refusal}
+use Rattle.dagcbor_heads.proofs.Refusing.{as_refusal}
 use Rattle.dagcbor_items.proofs.Fronts.{number_head_refused}
 use Rattle.dagcbor_items.proofs.Looks.{head_taken}
 use Rattle.dagcbor_items.proofs.leaf.read_integer.Goals as goal

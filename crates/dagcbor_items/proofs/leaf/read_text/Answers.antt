@@ -1,7 +1,7 @@
 use Rattle.std.proofs.Common.{◌∙◌, sym, subst, IsUtf8}
 use Rattle.std.specs.Prelude.{⊤}
-use Rattle.dagcbor_heads.specs.declared.error.DecodeError.TheVariants.{RequireUtf8}
-use Rattle.dagcbor_io.specs.Inputs.{input_reading}
+use Rattle.dagcbor_core.specs.declared.error.DecodeError.TheVariants.{RequireUtf8}
+use Rattle.dagcbor_heads.specs.Inputs.{input_reading}
 use Rattle.dagcbor_items.proofs.Looks.{front_looked}
 use Rattle.dagcbor_items.proofs.StringItems.{text_as_tree, text_refused}
 use Rattle.dagcbor_items.proofs.StringReads.{text_string_taken, no_text_refused}

@@ -1,4 +1,4 @@
-use Rattle.dagcbor_io.proofs.Refusing.{as_refusal}
+use Rattle.dagcbor_heads.proofs.Refusing.{as_refusal}
 use Rattle.dagcbor_items.proofs.Links.{cid_byte_refused, no_byte_string}
 use Rattle.dagcbor_items.proofs.link.pull_cid.Goals as goal
 

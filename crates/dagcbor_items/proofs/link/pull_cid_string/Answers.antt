@@ -1,8 +1,8 @@
 use Rattle.std.proofs.Common.{arith, None, Some}
-use Rattle.dagcbor_io.proofs.Refusing.{as_refusal}
+use Rattle.dagcbor_heads.proofs.Refusing.{as_refusal}
 use Rattle.dagcbor_items.proofs.Fronts.{head_of}
 use Rattle.dagcbor_items.proofs.Links.{cid_head_refused, link_too_long, cid_payload_refused, cid_taken, no_cid, found_in}
-use Rattle.dagcbor_io.proofs.Looking.{looks_more}
+use Rattle.dagcbor_heads.proofs.Looking.{looks_more}
 use Rattle.dagcbor_items.proofs.link.pull_cid_string.Goals as goal
 
 pub returns-in_err-count-clause-cid : goal.returns-in_err-count-clause-cid

@@ -1,7 +1,7 @@
 use Rattle.dagcbor_items.proofs.Links.{link_read, first_refused, second_refused}
 use Rattle.std.proofs.Common.{arith}
-use Rattle.dagcbor_io.proofs.Refusing.{as_refusal}
-use Rattle.dagcbor_io.proofs.Looking.{looks_both, looks_then}
+use Rattle.dagcbor_heads.proofs.Refusing.{as_refusal}
+use Rattle.dagcbor_heads.proofs.Looking.{looks_both, looks_then}
 use Rattle.dagcbor_items.proofs.Looks.{looks_behind, taken_more, major_left, one_byte_taken}
 use Rattle.dagcbor_items.proofs.link.pull_link.Goals as goal
 

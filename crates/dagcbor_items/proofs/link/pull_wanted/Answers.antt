@@ -1,4 +1,4 @@
-use Rattle.dagcbor_io.proofs.Refusing.{as_refusal}
+use Rattle.dagcbor_heads.proofs.Refusing.{as_refusal}
 use Rattle.dagcbor_items.proofs.Links.{wanted_refused}
 use Rattle.dagcbor_items.proofs.link.pull_wanted.Goals as goal
 

@@ -1,4 +1,4 @@
-use Rattle.dagcbor_io.proofs.Refusing.{as_refusal}
+use Rattle.dagcbor_heads.proofs.Refusing.{as_refusal}
 use Rattle.dagcbor_items.proofs.Fronts.{definite}
 use Rattle.dagcbor_items.proofs.Links.{link_refused}
 use Rattle.dagcbor_items.proofs.link.read_link.Goals as goal

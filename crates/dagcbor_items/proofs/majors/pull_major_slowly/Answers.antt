@@ -1,4 +1,4 @@
-use Rattle.dagcbor_io.proofs.Refusing.{as_refusal}
+use Rattle.dagcbor_heads.proofs.Refusing.{as_refusal}
 use Rattle.dagcbor_items.proofs.HeadMajors.{kind_head_refused, kind_taken}
 use Rattle.dagcbor_items.proofs.Looks.{peeked_taken, head_taken}
 use Rattle.dagcbor_items.proofs.majors.pull_major_slowly.Goals as goal

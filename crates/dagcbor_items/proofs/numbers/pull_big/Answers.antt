@@ -1,5 +1,5 @@
 use Rattle.std.proofs.Common.{rules, inl, inr, Some}
-use Rattle.dagcbor_io.proofs.Refusing.{as_refusal}
+use Rattle.dagcbor_heads.proofs.Refusing.{as_refusal}
 use Rattle.dagcbor_items.specs.Shapes.{view_number}
 use Rattle.dagcbor_items.specs.ReadCauses.{MajorCause}
 use Rattle.dagcbor_items.proofs.Integers.{big_byte_refused, no_tag, big_read}

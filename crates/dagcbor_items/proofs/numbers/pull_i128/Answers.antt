@@ -2,7 +2,7 @@ use Rattle.std.proofs.Common.{rules, ◌^◌, codes}
 use Rattle.std.proofs.lemmas.Int.{to_z-of_z}
 use mir.Syntax.{w128}
 use mir.Val.{SFits}
-use Rattle.dagcbor_io.proofs.Refusing.{as_refusal}
+use Rattle.dagcbor_heads.proofs.Refusing.{as_refusal}
 use Rattle.dagcbor_items.specs.Shapes.{within}
 use Rattle.dagcbor_items.proofs.HeadMajors.{as_value}
 use Rattle.dagcbor_items.proofs.Integers.{within_i128, number_narrowed, big_not_read}

@@ -1,7 +1,7 @@
 use Rattle.std.proofs.Common.{◌^◌, rules, codes}
 use mir.Syntax.{w128}
 use mir.Val.{SFits}
-use Rattle.dagcbor_io.proofs.Refusing.{as_refusal}
+use Rattle.dagcbor_heads.proofs.Refusing.{as_refusal}
 use Rattle.dagcbor_items.specs.Shapes.{natural_below}
 use Rattle.dagcbor_items.proofs.Integers.{number_handed, number_narrowed, big_not_read, big_not_accepted}
 use Rattle.dagcbor_items.proofs.numbers.pull_u128.Goals as goal

@@ -1,5 +1,5 @@
 use Rattle.std.proofs.Common.{◌+◌, arith, inl, inr}
-use Rattle.dagcbor_io.proofs.Refusing.{as_refusal}
+use Rattle.dagcbor_heads.proofs.Refusing.{as_refusal}
 use Rattle.dagcbor_items.proofs.Integers.{natural_refused, natural_taken, no_natural}
 use Rattle.dagcbor_items.proofs.numbers.pull_unsigned.Goals as goal
 use Rattle.dagcbor_items.proofs.numbers.pull_unsigned.Goals.{then-major-gt0-via-then-major-gt0, then-major-gt0-via-else-major-gt0+then-argument-greatest}

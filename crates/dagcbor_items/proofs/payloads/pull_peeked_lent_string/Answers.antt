@@ -1,8 +1,8 @@
 use Rattle.std.proofs.Common.{ap, arith, length-append, Err}
-use Rattle.dagcbor_io.proofs.Refusing.{as_refusal}
+use Rattle.dagcbor_heads.proofs.Refusing.{as_refusal}
 use Rattle.std.specs.declared.convert.Infallible.{Infallible}
-use Rattle.dagcbor_heads.specs.declared.error.DecodeError.TheVariants.{Eof}
-use Rattle.dagcbor_io.proofs.Looking.{looks_both, lent_looked}
+use Rattle.dagcbor_core.specs.declared.error.DecodeError.TheVariants.{Eof}
+use Rattle.dagcbor_heads.proofs.Looking.{looks_both, lent_looked}
 use Rattle.dagcbor_items.proofs.StringReads.{string_read, string_head_refused}
 use Rattle.dagcbor_items.proofs.HeadMajors.{head_kind}
 use Rattle.dagcbor_items.proofs.payloads.pull_peeked_lent_string.Goals as goal

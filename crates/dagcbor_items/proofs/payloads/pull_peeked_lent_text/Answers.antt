@@ -1,6 +1,6 @@
 use Rattle.std.proofs.Common.{sym, subst, IsUtf8}
 use Rattle.std.specs.declared.convert.Infallible.{Infallible}
-use Rattle.dagcbor_io.proofs.Refusing.{as_refusal}
+use Rattle.dagcbor_heads.proofs.Refusing.{as_refusal}
 use Rattle.dagcbor_items.proofs.StringReads.{text_string_refused, text_string_taken, no_text_refused}
 use Rattle.dagcbor_items.proofs.payloads.pull_peeked_lent_text.Goals as goal
 

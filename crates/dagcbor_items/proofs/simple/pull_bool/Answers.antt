@@ -1,5 +1,5 @@
 use Rattle.std.proofs.Common.{[], ◌∷◌, false, true, ap}
-use Rattle.dagcbor_io.proofs.Refusing.{as_refusal}
+use Rattle.dagcbor_heads.proofs.Refusing.{as_refusal}
 use Rattle.dagcbor_items.proofs.SimpleValues.{bool_byte_refused, bool_taken}
 use Rattle.dagcbor_items.proofs.PartRefusals.{end_byte}
 use Rattle.dagcbor_items.proofs.simple.pull_bool.Goals as goal

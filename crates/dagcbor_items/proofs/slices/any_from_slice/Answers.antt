@@ -1,5 +1,5 @@
 use Rattle.std.proofs.Common.{ap}
-use Rattle.dagcbor_io.proofs.Refusing.{as_refusal}
+use Rattle.dagcbor_heads.proofs.Refusing.{as_refusal}
 use Rattle.dagcbor_items.proofs.SliceReads.{ReadsSlice, if_ok, if_err, slice_refused, end_refused, block_taken}
 use Rattle.dagcbor_items.proofs.slices.any_from_slice.Goals as goal
 

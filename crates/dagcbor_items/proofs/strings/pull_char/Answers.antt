@@ -1,4 +1,4 @@
-use Rattle.dagcbor_io.proofs.Refusing.{as_refusal}
+use Rattle.dagcbor_heads.proofs.Refusing.{as_refusal}
 use Rattle.dagcbor_items.proofs.Characters.{no_char, char_text_refused}
 use Rattle.dagcbor_items.proofs.strings.pull_char.Goals as goal
 

@@ -1,4 +1,4 @@
-use Rattle.dagcbor_io.proofs.Refusing.{as_refusal}
+use Rattle.dagcbor_heads.proofs.Refusing.{as_refusal}
 use Rattle.dagcbor_items.proofs.StringReads.{text_string_refused, text_string_taken, no_text_refused}
 use Rattle.dagcbor_items.proofs.strings.pull_peeked_str.Goals as goal
 

@@ -1,4 +1,4 @@
-use Rattle.dagcbor_io.proofs.Refusing.{as_refusal}
+use Rattle.dagcbor_heads.proofs.Refusing.{as_refusal}
 use Rattle.dagcbor_items.proofs.HeadMajors.{head_kind}
 use Rattle.dagcbor_items.proofs.StringReads.{string_read, string_head_refused}
 use Rattle.dagcbor_items.proofs.Looks.{looks_behind_some}

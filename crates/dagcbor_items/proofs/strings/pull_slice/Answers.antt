@@ -1,6 +1,6 @@
 use Rattle.std.proofs.Common.{sym, ◌∙◌, ◌≡◌, false, codes}
-use Rattle.dagcbor_io.specs.Inputs.{input_reading}
-use Rattle.dagcbor_io.proofs.Refusing.{as_refusal}
+use Rattle.dagcbor_heads.specs.Inputs.{input_reading}
+use Rattle.dagcbor_heads.proofs.Refusing.{as_refusal}
 use Rattle.dagcbor_items.specs.ReadCauses.{StringCause}
 use Rattle.dagcbor_items.proofs.StringReads.{bytes_string_refused, string_kind_refused, peeked_read}
 use Rattle.dagcbor_items.proofs.Looks.{peeked_value}

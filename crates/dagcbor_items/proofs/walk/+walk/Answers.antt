@@ -1,9 +1,9 @@
 use Rattle.std.proofs.Common.{inl, refl, sym, ◌∙◌, ap, subst, [], ◌∷◌, ◌++◌, arith}
 use Rattle.dagcbor_items.specs.Walks.{WalkLacks, WalksItem}
-use Rattle.dagcbor_io.specs.Looking.{Looks}
-use Rattle.dagcbor_io.proofs.Refusing.{as_refusal}
-use Rattle.dagcbor_io.specs.Reading.{Reading}
-use Rattle.dagcbor_io.proofs.Looking.{looks_more, looks_then, some_both, some_then, some_taken, nothing_looked, same_looked}
+use Rattle.dagcbor_heads.specs.Looking.{Looks}
+use Rattle.dagcbor_heads.proofs.Refusing.{as_refusal}
+use Rattle.dagcbor_heads.specs.Reading.{Reading}
+use Rattle.dagcbor_heads.proofs.Looking.{looks_more, looks_then, some_both, some_then, some_taken, nothing_looked, same_looked}
 use Rattle.dagcbor_items.proofs.Looks.{once_left_more, looks_behind_peek, stepped_left, looks_stepped}
 use Rattle.ipld_tree.specs.Tree.{no_entries}
 use Rattle.dagcbor_items.proofs.Fronts.{byte_refused}

@@ -1,5 +1,5 @@
 use Rattle.std.proofs.Common.{◌+◌, ◌-◌, ◌*◌, List, option_map}
-use Rattle.dagcbor_io.specs.Looking.{LooksAtSome}
+use Rattle.dagcbor_heads.specs.Looking.{LooksAtSome}
 use Rattle.ipld_tree.specs.Tree.{Tree, Entries, items_of, items_links, entries_links}
 use Rattle.dagcbor_items.specs.Walks.{Finds}
 use Rattle.dagcbor_items.proofs.Lists.{ReadSome}

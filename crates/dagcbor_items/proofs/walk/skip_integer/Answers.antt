@@ -1,5 +1,5 @@
 use Rattle.std.proofs.Common.{◌≡◌, false}
-use Rattle.dagcbor_io.proofs.Refusing.{as_refusal}
+use Rattle.dagcbor_heads.proofs.Refusing.{as_refusal}
 use Rattle.dagcbor_items.proofs.Fronts.{number_head_refused}
 use Rattle.dagcbor_items.proofs.Looks.{head_taken}
 use Rattle.dagcbor_items.proofs.Walking.{integer_taken}

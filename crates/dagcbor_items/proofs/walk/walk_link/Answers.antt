@@ -1,6 +1,6 @@
 use Rattle.dagcbor_items.proofs.Fronts.{definite}
-use Rattle.dagcbor_io.proofs.Refusing.{as_refusal}
-use Rattle.dagcbor_io.proofs.Looking.{taken_left}
+use Rattle.dagcbor_heads.proofs.Refusing.{as_refusal}
+use Rattle.dagcbor_heads.proofs.Looking.{taken_left}
 use Rattle.std.proofs.Common.{inr, [], refl}
 use Rattle.ipld_tree.specs.Cid.{cid_bytes}
 use Rattle.ipld_tree.specs.Tree.{link}

@@ -1,5 +1,5 @@
-use Rattle.dagcbor_io.proofs.Taking.{stays}
-use Rattle.dagcbor_io.proofs.Refusing.{as_refusal}
+use Rattle.dagcbor_heads.proofs.Taking.{stays}
+use Rattle.dagcbor_heads.proofs.Refusing.{as_refusal}
 use Rattle.dagcbor_read.specs.Accessors.{EnterCause}
 use Rattle.dagcbor_read.proofs.Entering.{no_step_told, major_entered}
 use Rattle.dagcbor_read.proofs.deserializer.enter.Goals as goal

@@ -1,4 +1,4 @@
-use Rattle.dagcbor_io.proofs.Refusing.{as_refusal}
+use Rattle.dagcbor_heads.proofs.Refusing.{as_refusal}
 use Rattle.dagcbor_read.specs.Options.{OptionCause}
 use Rattle.dagcbor_read.proofs.Entering.{no_step_told}
 use Rattle.dagcbor_read.proofs.Nullable.{wants_step}

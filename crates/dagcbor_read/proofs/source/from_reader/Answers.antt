@@ -1,5 +1,5 @@
 use Rattle.std.proofs.Common.{rules, refl, ap, sym, ◌∙◌, ◌≡◌, false}
-use Rattle.dagcbor_heads.specs.Steps.{default_steps}
+use Rattle.dagcbor_core.specs.Steps.{default_steps}
 use Rattle.dagcbor_read.proofs.Wholes.{not_answered, on_refusal, value_refused, value_end_refused, value_answered}
 use Rattle.dagcbor_read.proofs.Handing.{begins_unlent, hands_refusal, hands_no_end, hands_value, no_end}
 use Rattle.dagcbor_read.proofs.source.from_reader.Goals as goal

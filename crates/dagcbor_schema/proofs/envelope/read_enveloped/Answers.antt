@@ -1,6 +1,6 @@
 use Rattle.std.proofs.Common.{inl, Err, codes}
 use Rattle.std.specs.Cow.{cow_str_bytes}
-use Rattle.dagcbor_io.proofs.Refusing.{as_refusal}
+use Rattle.dagcbor_heads.proofs.Refusing.{as_refusal}
 use Rattle.dagcbor_read.specs.Accessors.{BeginsItems, accessor_state}
 use Rattle.dagcbor_read.proofs.Progressing.{call_told}
 use Rattle.dagcbor_read.proofs.Wholes.{on_refusal}

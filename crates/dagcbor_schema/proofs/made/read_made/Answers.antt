@@ -1,5 +1,5 @@
 use Rattle.std.proofs.Common.{sym, inl, inr}
-use Rattle.dagcbor_io.proofs.Refusing.{as_refusal}
+use Rattle.dagcbor_heads.proofs.Refusing.{as_refusal}
 use Rattle.dagcbor_read.proofs.Finishing.{value_unfinished}
 use Rattle.dagcbor_read.proofs.Handing.{says}
 use Rattle.dagcbor_schema.proofs.made.read_made.Goals as goal

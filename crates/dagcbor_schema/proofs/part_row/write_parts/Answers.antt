@@ -1,5 +1,5 @@
 use Rattle.std.proofs.Common.{arith}
-use Rattle.dagcbor_io.proofs.Writing.{next_part, exit_part, last_part}
+use Rattle.dagcbor_heads.proofs.Writing.{next_part, exit_part, last_part}
 use Rattle.dagcbor_write.specs.Answers.{NoMessage}
 use Rattle.dagcbor_write.proofs.Messages.{exit_tells}
 use Rattle.dagcbor_schema.proofs.PartRows.{begin_row, row_IsTree, head_silent}

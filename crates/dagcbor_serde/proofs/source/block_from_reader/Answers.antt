@@ -1,7 +1,7 @@
 use Rattle.std.proofs.Common.{ap}
 use Rattle.std.specs.Prelude.{⊤}
 use Rattle.std.specs.declared.io.Error.{Error}
-use Rattle.dagcbor_io.proofs.Refusing.{as_refusal}
+use Rattle.dagcbor_heads.proofs.Refusing.{as_refusal}
 use Rattle.dagcbor_items.proofs.SliceReads.{if_err}
 use Rattle.dagcbor_serde.proofs.SourceReads.{whole_refused, bytes_behind, if_not}
 use Rattle.dagcbor_serde.proofs.source.block_from_reader.Goals as goal

@@ -1,5 +1,5 @@
 use Rattle.std.proofs.Common.{◌+◌, sym, subst, arith}
-use Rattle.dagcbor_io.specs.Written.{WritesAtOnce}
+use Rattle.dagcbor_heads.specs.Written.{WritesAtOnce}
 use Rattle.dagcbor_write.proofs.Parts.{link_bytes}
 use Rattle.dagcbor_write.proofs.serializer.link_at_once.Goals as goal
 

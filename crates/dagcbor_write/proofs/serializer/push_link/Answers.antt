@@ -1,5 +1,5 @@
 use Rattle.std.proofs.Common.{◌+◌, arith}
-use Rattle.dagcbor_io.proofs.Writing.{next_part, exit_part, last_part}
+use Rattle.dagcbor_heads.proofs.Writing.{next_part, exit_part, last_part}
 use Rattle.dagcbor_write.proofs.Parts.{begin_link}
 use Rattle.dagcbor_write.proofs.serializer.push_link.Goals as goal
 

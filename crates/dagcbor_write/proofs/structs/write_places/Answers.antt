@@ -1,5 +1,5 @@
 use Rattle.std.proofs.Common.{refl}
-use Rattle.dagcbor_io.proofs.Writing.{next_part, exit_part, all_written}
+use Rattle.dagcbor_heads.proofs.Writing.{next_part, exit_part, all_written}
 use Rattle.dagcbor_write.specs.declared.places.Place.{Place}
 use Rattle.dagcbor_write.specs.Rows.{pair_at}
 use Rattle.dagcbor_write.proofs.PlaceOrder.{begin_places, at_pair, no_pair_left, good_pair, all_good}

@@ -1,5 +1,5 @@
 use Rattle.std.proofs.Common.{map}
-use Rattle.dagcbor_io.proofs.Writing.{Written-but}
+use Rattle.dagcbor_heads.proofs.Writing.{Written-but}
 use Rattle.dagcbor_write.specs.Rows.{spelled_pairs, spelled_pair, ArePairs}
 use Rattle.dagcbor_write.proofs.PlaceOrder.{left_at}
 use Rattle.dagcbor_write.proofs.structs.write_places.Given as goal

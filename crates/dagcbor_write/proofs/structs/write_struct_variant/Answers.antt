@@ -1,5 +1,5 @@
 use Rattle.std.proofs.Common.{arith}
-use Rattle.dagcbor_io.proofs.Writing.{next_part, exit_part, last_part}
+use Rattle.dagcbor_heads.proofs.Writing.{next_part, exit_part, last_part}
 use Rattle.ipld_tree.specs.Tree.{entries_tree}
 use Rattle.dagcbor_write.specs.Trees.{variant_head}
 use Rattle.dagcbor_write.proofs.Enums.{begin_newtype_variant}

@@ -1,4 +1,4 @@
-use Rattle.dagcbor_io.specs.Inputs.{input_reading}
+use Rattle.dagcbor_heads.specs.Inputs.{input_reading}
 use Rattle.held_lines.proofs.Taking.{behind_header, not_begun}
 use Rattle.held_lines.proofs.take.take_file.Goals as goal
 

@@ -1,4 +1,4 @@
-use Rattle.dagcbor_io.specs.Inputs.{input_reading}
+use Rattle.dagcbor_heads.specs.Inputs.{input_reading}
 use Rattle.held_lines.proofs.Taking.{left_begun, all_taken, some_taken}
 use Rattle.held_lines.proofs.take.take_sections.Goals as goal
 

@@ -1,5 +1,5 @@
 use Rattle.std.proofs.Common.{Some}
-use Rattle.dagcbor_io.specs.Inputs.{input_reading}
+use Rattle.dagcbor_heads.specs.Inputs.{input_reading}
 use Rattle.index_lines.proofs.Finding.{gives_map, sought_taken, sought_section, sought_refused}
 use Rattle.index_lines.proofs.find.pull_sought.Goals as goal
 

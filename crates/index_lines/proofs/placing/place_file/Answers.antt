@@ -1,4 +1,4 @@
-use Rattle.dagcbor_io.specs.Inputs.{input_reading}
+use Rattle.dagcbor_heads.specs.Inputs.{input_reading}
 use Rattle.index_lines.proofs.Gathering.{none_begun}
 use Rattle.index_lines.proofs.placing.place_file.Goals as goal
 

@@ -1,6 +1,6 @@
 use Rattle.std.proofs.Common.{ap, ◌∙◌}
-use Rattle.dagcbor_io.specs.Reading.{Reading}
-use Rattle.dagcbor_io.specs.Inputs.{not_lending}
+use Rattle.dagcbor_heads.specs.Reading.{Reading}
+use Rattle.dagcbor_heads.specs.Inputs.{not_lending}
 use Rattle.held_lines.proofs.Known.{if_known}
 use Rattle.index_lines.proofs.placing.place_from.Goals as goal
 

@@ -1,4 +1,4 @@
-use Rattle.dagcbor_io.specs.Inputs.{input_reading}
+use Rattle.dagcbor_heads.specs.Inputs.{input_reading}
 use Rattle.inspect_lines.specs.Inspecting.{IsFound}
 use Rattle.inspect_lines.proofs.Learning.{behind_start, start_fault}
 use Rattle.inspect_lines.proofs.inspect.find_file.Goals as goal

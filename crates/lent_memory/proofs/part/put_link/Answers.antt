@@ -1,5 +1,5 @@
 use Rattle.std.proofs.Common.{suc, ◌+◌, length, subst, arith}
-use Rattle.dagcbor_heads.specs.Head.{head}
+use Rattle.dagcbor_core.specs.Head.{head}
 use Rattle.lent_memory.specs.Puts.{PutsAt}
 use Rattle.lent_memory.proofs.Putting.{link_put}
 use Rattle.lent_memory.proofs.part.put_link.Goals as goal

@@ -1,5 +1,5 @@
 use Rattle.std.proofs.Common.{length}
-use Rattle.dagcbor_heads.specs.Head.{head}
+use Rattle.dagcbor_core.specs.Head.{head}
 use Rattle.lent_memory.proofs.Putting.{put_both}
 use Rattle.lent_memory.proofs.part.put_string.Goals as goal
 

@@ -1,4 +1,4 @@
-use Rattle.dagcbor_io.specs.Inputs.{input_reading}
+use Rattle.dagcbor_heads.specs.Inputs.{input_reading}
 use Rattle.section_lines.proofs.Filtering.{header_broke}
 use Rattle.section_lines.proofs.filter.filter_behind.Goals as goal
 

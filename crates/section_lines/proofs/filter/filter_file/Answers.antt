@@ -1,5 +1,5 @@
 use Rattle.std.proofs.Common.{false, inl, refl, ◌∙◌}
-use Rattle.dagcbor_io.specs.Inputs.{input_reading}
+use Rattle.dagcbor_heads.specs.Inputs.{input_reading}
 use Rattle.section_lines.specs.Filtering.{IsFiltered, IsFilteredFront}
 use Rattle.section_lines.proofs.Sending.{none_said, both_sent}
 use Rattle.section_lines.proofs.Filtering.{start_refused}

@@ -1,5 +1,5 @@
 use Rattle.std.proofs.Common.{◌∙◌}
-use Rattle.dagcbor_io.specs.Inputs.{input_reading}
+use Rattle.dagcbor_heads.specs.Inputs.{input_reading}
 use Rattle.section_lines.specs.declared.merge.Behind.{Behind}
 use Rattle.section_lines.specs.declared.merge.Begun.{Begun}
 use Rattle.section_lines.proofs.Merging.{begun_one, refuses_start}

@@ -1,6 +1,6 @@
 use Rattle.std.proofs.Common.{rules, arith, ap, length, map, None, Ok, subst, ◌+◌}
 use Rattle.std.specs.Vec.Iter.{into_iter_items}
-use Rattle.dagcbor_io.specs.Inputs.{input_reading}
+use Rattle.dagcbor_heads.specs.Inputs.{input_reading}
 use Rattle.section_lines.specs.MergeSteps.{BeginsOne}
 use Rattle.section_lines.proofs.Merging.{begun_none, begun_more, begun_told, begun_all, none_told, nil_of}
 use Rattle.section_lines.proofs.merge.begin_all.Goals as goal

@@ -1,5 +1,5 @@
 use Rattle.std.proofs.Common.{false, inl, inr, refl, sym, subst, map}
-use Rattle.dagcbor_io.specs.Inputs.{input_reading}
+use Rattle.dagcbor_heads.specs.Inputs.{input_reading}
 use Rattle.section_lines.specs.Merging.{IsMergedFront, IsMergedOf, TellsNoneBegins}
 use Rattle.section_lines.specs.MergeSteps.{BeginsAll}
 use Rattle.section_lines.proofs.Sending.{none_said, both_sent}

@@ -1,5 +1,5 @@
 use Rattle.std.proofs.Common.{[], ◌∙◌}
-use Rattle.dagcbor_io.specs.Inputs.{input_reading}
+use Rattle.dagcbor_heads.specs.Inputs.{input_reading}
 use Rattle.section_lines.specs.Splitting.{making}
 use Rattle.section_lines.specs.declared.split.SplitEnd.TheVariants.{Fault}
 use Rattle.section_lines.proofs.Dividing.{adds_none}

@@ -1,5 +1,5 @@
 use Rattle.std.proofs.Common.{length, ap, arith}
-use Rattle.dagcbor_heads.specs.Head.{head}
+use Rattle.dagcbor_core.specs.Head.{head}
 use Rattle.dag_pb_model.proofs.Measuring.{total_length}
 use Rattle.dag_pb_model.proofs.measure.Measure.total.Goals as goal
 

@@ -1,5 +1,5 @@
 use Rattle.std.proofs.Common.{rules}
-use Rattle.dagcbor_io.proofs.Writing.{Writes_at, exit_part, next_part, last_part}
+use Rattle.dagcbor_heads.proofs.Writing.{Writes_at, exit_part, next_part, last_part}
 use Rattle.dagcbor_write.proofs.Refusals.{may_want}
 use Rattle.dagcbor_write.proofs.Lists.{AreTrees_next, AreTrees_all, OnOk_of}
 use Rattle.dagcbor_write.proofs.Waiting.{Holds_none, Holds_room, Holds_complete, Holds_next, Holds_all, Holds_refused, none_among, begin_later}

@@ -1,5 +1,5 @@
 use Rattle.std.proofs.Common.{◌≡◌, take, map, Some, []}
-use Rattle.dagcbor_io.specs.Written.{WroteAll}
+use Rattle.dagcbor_heads.specs.Written.{WroteAll}
 use Rattle.ipld_tree.specs.Spelled.{spelled_tree}
 use Rattle.dagcbor_write.specs.Each.{AreTrees}
 use Rattle.dagcbor_write.proofs.Waiting.{Holds}

@@ -1,4 +1,4 @@
-use Rattle.dagcbor_io.proofs.Refusing.{as_refusal}
+use Rattle.dagcbor_heads.proofs.Refusing.{as_refusal}
 use Rattle.std.specs.declared.convert.Infallible.{Infallible}
 use Rattle.dagcbor_items.proofs.StringItems.{text_taken}
 use Rattle.dagcbor_items.proofs.Keys.{key_text_refused, unordered_refused}

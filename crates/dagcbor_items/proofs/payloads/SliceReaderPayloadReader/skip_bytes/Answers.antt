@@ -1,7 +1,7 @@
 use Rattle.std.proofs.Common.{◌≡◌, false, Ok, Err}
 use Rattle.std.specs.declared.convert.Infallible.{Infallible}
 use Rattle.std.specs.declared.borrow.CowSlice.TheVariants.{Borrowed}
-use Rattle.dagcbor_io.proofs.Refusing.{as_refusal}
+use Rattle.dagcbor_heads.proofs.Refusing.{as_refusal}
 use Rattle.dagcbor_items.proofs.StringReads.{bytes_read}
 use Rattle.dagcbor_items.proofs.StringItems.{bytes_taken, bytes_refused}
 use Rattle.dagcbor_items.proofs.Looks.{front_looked}

@@ -1,5 +1,5 @@
 use Rattle.std.proofs.Common.{◌≡◌, false}
-use Rattle.dagcbor_io.proofs.Refusing.{as_refusal}
+use Rattle.dagcbor_heads.proofs.Refusing.{as_refusal}
 use Rattle.dagcbor_items.proofs.StringItems.{text_taken, text_refused}
 use Rattle.dagcbor_items.proofs.Looks.{front_looked}
 use Rattle.dagcbor_items.proofs.payloads.SliceReaderPayloadReader.skip_text.Goals as goal

@@ -1,6 +1,6 @@
 use Rattle.std.proofs.Common.{◌∙◌, ap, arith}
-use Rattle.dagcbor_io.specs.Reading.{Reading, SpentStep}
-use Rattle.dagcbor_io.proofs.Looking.{lent_looked}
+use Rattle.dagcbor_heads.specs.Reading.{Reading, SpentStep}
+use Rattle.dagcbor_heads.proofs.Looking.{lent_looked}
 use Rattle.dagcbor_items.proofs.Lent.{item_lent}
 use Rattle.dagcbor_items.proofs.Looks.{taken_more, looks_stepped}
 use Rattle.dagcbor_items.proofs.Steps.{stepped_taken}

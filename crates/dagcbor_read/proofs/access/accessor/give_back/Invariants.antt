@@ -1,5 +1,5 @@
 use Rattle.std.proofs.Common.{◌≡◌, ◌+◌}
-use Rattle.dagcbor_io.specs.Reading.{with_steps}
+use Rattle.dagcbor_heads.specs.Reading.{with_steps}
 use Rattle.dagcbor_read.proofs.access.accessor.give_back.Given as goal
 
 abbrev pub invariant-loop-step : goal.invariant-loop-step

@@ -1,5 +1,5 @@
-use Rattle.dagcbor_io.proofs.Taking.{stays}
-use Rattle.dagcbor_io.proofs.Refusing.{as_refusal}
+use Rattle.dagcbor_heads.proofs.Taking.{stays}
+use Rattle.dagcbor_heads.proofs.Refusing.{as_refusal}
 use Rattle.dagcbor_read.specs.Enums.{StepEnumCause}
 use Rattle.dagcbor_read.proofs.Entering.{no_step_told}
 use Rattle.dagcbor_read.proofs.access.enum_accessor.spend_form.Goals as goal

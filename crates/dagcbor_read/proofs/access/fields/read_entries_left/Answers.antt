@@ -1,5 +1,5 @@
 use Rattle.std.proofs.Common.{refl, arith, ap, subst, sym}
-use Rattle.dagcbor_io.proofs.Refusing.{as_refusal}
+use Rattle.dagcbor_heads.proofs.Refusing.{as_refusal}
 use Rattle.dagcbor_read.specs.Accessors.{AccessorState, accessor_state, EndsItems}
 use Rattle.dagcbor_read.specs.Deserializers.{de_state}
 use Rattle.dagcbor_read.specs.Structs.{texts}

@@ -1,4 +1,4 @@
-use Rattle.dagcbor_io.proofs.Refusing.{as_refusal}
+use Rattle.dagcbor_heads.proofs.Refusing.{as_refusal}
 use Rattle.dagcbor_read.specs.Deserializers.{de_state}
 use Rattle.dagcbor_read.proofs.NamedVariants.{not_begun, not_named, enum_read}
 use Rattle.dagcbor_read.proofs.Handing.{enum_not_begun, enum_not_named, variant_refused}

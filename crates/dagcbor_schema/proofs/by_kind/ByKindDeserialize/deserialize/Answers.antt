@@ -1,5 +1,5 @@
 use Rattle.std.proofs.Common.{refl, inl, Err}
-use Rattle.dagcbor_io.proofs.Refusing.{as_refusal}
+use Rattle.dagcbor_heads.proofs.Refusing.{as_refusal}
 use Rattle.dagcbor_read.proofs.Handing.{says}
 use Rattle.dagcbor_schema.specs.Kinds.{KindShapes}
 use Rattle.dagcbor_schema.specs.SchemaAnswers.{PeeksOnce}

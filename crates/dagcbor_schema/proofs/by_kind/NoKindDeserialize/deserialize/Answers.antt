@@ -1,5 +1,5 @@
 use Rattle.std.proofs.Common.{refl, inl, inr}
-use Rattle.dagcbor_io.proofs.Refusing.{as_refusal}
+use Rattle.dagcbor_heads.proofs.Refusing.{as_refusal}
 use Rattle.dagcbor_read.proofs.Handing.{says}
 use Rattle.dagcbor_schema.proofs.by_kind.NoKindDeserialize.deserialize.Goals as goal
 

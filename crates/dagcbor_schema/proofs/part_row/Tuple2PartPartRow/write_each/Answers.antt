@@ -1,5 +1,5 @@
 use Rattle.std.proofs.Common.{inr}
-use Rattle.dagcbor_io.proofs.Writing.{Writes_then, Writes_exit}
+use Rattle.dagcbor_heads.proofs.Writing.{Writes_then, Writes_exit}
 use Rattle.dagcbor_write.proofs.Messages.{message_tells}
 use Rattle.dagcbor_schema.specs.Parts.{part_message}
 use Rattle.dagcbor_schema.proofs.PartRows.{part_exit}

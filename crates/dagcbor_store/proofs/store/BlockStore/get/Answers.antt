@@ -1,6 +1,6 @@
 use Rattle.std.proofs.Common.{◌≡◌, subst, ◌⊎◌}
-use Rattle.dagcbor_heads.specs.Steps.{default_steps}
-use Rattle.dagcbor_heads.specs.declared.error.DecodeError.TheVariants.{OutOfMemory}
+use Rattle.dagcbor_core.specs.Steps.{default_steps}
+use Rattle.dagcbor_core.specs.declared.error.DecodeError.TheVariants.{OutOfMemory}
 use Rattle.dagcbor_read.specs.Whole.{IsWhole, HoldsNoValue}
 use Rattle.dagcbor_store.proofs.store.BlockStore.get.Goals as goal
 

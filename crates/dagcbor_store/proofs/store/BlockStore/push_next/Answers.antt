@@ -1,5 +1,5 @@
 use Rattle.std.proofs.Common.{Some, subst}
-use Rattle.dagcbor_io.specs.Written.{WroteAll, Stops}
+use Rattle.dagcbor_heads.specs.Written.{WroteAll, Stops}
 use Rattle.dagcbor_car.specs.Car.{section_bytes, IsSection}
 use Rattle.dagcbor_store.proofs.store.BlockStore.push_next.Goals as goal
 

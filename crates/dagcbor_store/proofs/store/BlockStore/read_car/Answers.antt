@@ -1,5 +1,5 @@
 use Rattle.std.proofs.Common.{arith}
-use Rattle.dagcbor_io.specs.Inputs.{input_reading}
+use Rattle.dagcbor_heads.specs.Inputs.{input_reading}
 use Rattle.dagcbor_store.proofs.Reading.{read_refused, commit_refused, may_leave}
 use Rattle.dagcbor_store.proofs.Leaving.{still_quiet, still_then}
 use Rattle.dagcbor_store.proofs.store.BlockStore.read_car.Goals as goal

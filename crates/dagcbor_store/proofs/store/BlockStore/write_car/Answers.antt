@@ -1,5 +1,5 @@
 use Rattle.std.proofs.Common.{arith, sym, subst, Some, [], ◌∷◌, ◌++◌}
-use Rattle.dagcbor_io.specs.Written.{WroteAll}
+use Rattle.dagcbor_heads.specs.Written.{WroteAll}
 use Rattle.dagcbor_car.specs.Car.{car_bytes}
 use Rattle.std.proofs.lemmas.Result.{err_from_is_err_and}
 use Rattle.sqlite_trees.specs.View.{IsClean}

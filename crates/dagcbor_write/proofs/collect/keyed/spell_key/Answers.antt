@@ -1,5 +1,5 @@
 use Rattle.std.proofs.Common.{List, ℕ, Some, []}
-use Rattle.dagcbor_io.specs.Written.{Written}
+use Rattle.dagcbor_heads.specs.Written.{Written}
 use Rattle.ipld_tree.specs.Spelled.{spelled_tree}
 use Rattle.dagcbor_write.proofs.collect.keyed.spell_key.Goals as goal
 

@@ -1,5 +1,5 @@
 use Rattle.std.proofs.Common.{refl}
-use Rattle.dagcbor_io.proofs.Writing.{next_part, exit_part, last_part}
+use Rattle.dagcbor_heads.proofs.Writing.{next_part, exit_part, last_part}
 use Rattle.dagcbor_write.proofs.Parts.{begin_two}
 use Rattle.dagcbor_write.proofs.row.Field.write_pair.Goals as goal
 

@@ -1,4 +1,4 @@
-use Rattle.dagcbor_io.proofs.Writing.{next_part, exit_part, last_part}
+use Rattle.dagcbor_heads.proofs.Writing.{next_part, exit_part, last_part}
 use Rattle.dagcbor_write.specs.Maps.{LacksValue}
 use Rattle.dagcbor_write.proofs.Joining.{begin_rows, rows_good, lacks_first, lacks_second, first_empty, second_empty, never_ok}
 use Rattle.dagcbor_write.proofs.Messages.{exit_tells, message_tells}

@@ -1,5 +1,5 @@
 use Rattle.std.proofs.Common.{is_some}
-use Rattle.dagcbor_io.proofs.Writing.{next_part, exit_part}
+use Rattle.dagcbor_heads.proofs.Writing.{next_part, exit_part}
 use Rattle.dagcbor_write.proofs.Pushing.{begin_entries, at_entry, no_entry}
 use Rattle.dagcbor_write.proofs.serializer.Serializer.push_entries.Goals as goal
 

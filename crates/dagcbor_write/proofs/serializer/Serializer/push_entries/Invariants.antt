@@ -1,6 +1,6 @@
 use Rattle.std.proofs.Common.{Some, [], ◌∷◌, drop, length, is_some}
 use Rattle.std.specs.Fmt.{◌++?◌}
-use Rattle.dagcbor_io.proofs.Writing.{Written-but}
+use Rattle.dagcbor_heads.proofs.Writing.{Written-but}
 use Rattle.dagcbor_write.specs.Order.{head_rest, entries_bytes}
 use Rattle.dagcbor_write.proofs.serializer.Serializer.push_entries.Given as goal
 

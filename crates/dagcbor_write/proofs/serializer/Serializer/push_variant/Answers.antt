@@ -1,4 +1,4 @@
-use Rattle.dagcbor_io.proofs.Writing.{Writes_then, Writes_exit}
+use Rattle.dagcbor_heads.proofs.Writing.{Writes_then, Writes_exit}
 use Rattle.ipld_tree.specs.Tree.{text}
 use Rattle.ipld_tree.specs.Spelled.{spelled, spelled_head}
 use Rattle.dagcbor_write.proofs.serializer.Serializer.push_variant.Goals as goal

@@ -1,4 +1,4 @@
-use Rattle.dagcbor_io.proofs.Writing.{Writes_then, Writes_exit}
+use Rattle.dagcbor_heads.proofs.Writing.{Writes_then, Writes_exit}
 use Rattle.dagcbor_write.proofs.serializer.Serializer.push_waiting.Goals as goal
 
 pub returns-in_err-push_head-clause-written : goal.returns-in_err-push_head-clause-written

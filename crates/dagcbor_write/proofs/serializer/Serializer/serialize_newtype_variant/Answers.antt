@@ -1,4 +1,4 @@
-use Rattle.dagcbor_io.proofs.Writing.{next_part, exit_part, last_part}
+use Rattle.dagcbor_heads.proofs.Writing.{next_part, exit_part, last_part}
 use Rattle.dagcbor_write.proofs.Enums.{begin_newtype_variant}
 use Rattle.dagcbor_write.proofs.serializer.Serializer.serialize_newtype_variant.Goals as goal
 

@@ -1,5 +1,5 @@
 use Rattle.std.proofs.Common.{rules, length, refl}
-use Rattle.dagcbor_io.proofs.Writing.{next_part, exit_part, all_written, Writes_at, Writes_ok}
+use Rattle.dagcbor_heads.proofs.Writing.{next_part, exit_part, all_written, Writes_at, Writes_ok}
 use Rattle.dagcbor_write.proofs.Lists.{begin_items, at_item, at-end, AreTrees_next}
 use Rattle.dagcbor_write.proofs.Messages.{exit_tells, exit_item}
 use Rattle.dagcbor_write.specs.Answers.{NoMessage, IsMessageOfAny}

@@ -1,4 +1,4 @@
-use Rattle.dagcbor_io.proofs.Writing.{next_part, exit_part, last_part}
+use Rattle.dagcbor_heads.proofs.Writing.{next_part, exit_part, last_part}
 use Rattle.dagcbor_write.proofs.Lists.{begin_parts}
 use Rattle.std.proofs.Common.{inl, inr}
 use Rattle.dagcbor_write.specs.Answers.{NoMessage, OneOf}

@@ -1,5 +1,5 @@
 use Rattle.std.proofs.Common.{rules, length, refl, sym, ap}
-use Rattle.dagcbor_io.proofs.Writing.{next_part, exit_part, all_written}
+use Rattle.dagcbor_heads.proofs.Writing.{next_part, exit_part, all_written}
 use Rattle.dagcbor_write.specs.Texts.{text_pair}
 use Rattle.dagcbor_write.proofs.Parts.{part_split}
 use Rattle.dagcbor_write.proofs.PlaceOrder.{at_pair, no_pair_left, good_pair, all_good}

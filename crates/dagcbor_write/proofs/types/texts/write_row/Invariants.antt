@@ -1,5 +1,5 @@
 use Rattle.std.proofs.Common.{map}
-use Rattle.dagcbor_io.proofs.Writing.{Written-but}
+use Rattle.dagcbor_heads.proofs.Writing.{Written-but}
 use Rattle.ipld_tree.specs.Tree.{entries_tree}
 use Rattle.ipld_tree.specs.Spelled.{spelled_tree}
 use Rattle.dagcbor_write.specs.Rows.{spelled_pair, ArePairs}

@@ -1,5 +1,5 @@
 use Rattle.std.proofs.Common.{inl, inr, arith, ap}
-use Rattle.dagcbor_io.proofs.Refusing.{as_refusal}
+use Rattle.dagcbor_heads.proofs.Refusing.{as_refusal}
 use Rattle.dagcbor_read.specs.Accessors.{AccessorState, accessor_state}
 use Rattle.dagcbor_read.specs.Deserializers.{de_state}
 use Rattle.dagcbor_read.proofs.Answered.{element_read, element_refused, no_element, after_some, after_none}

@@ -1,5 +1,5 @@
 use Rattle.std.proofs.Common.{refl}
-use Rattle.dagcbor_io.proofs.Writing.{next_part, exit_part}
+use Rattle.dagcbor_heads.proofs.Writing.{next_part, exit_part}
 use Rattle.dagcbor_write.proofs.Parts.{begin_two, part_opened}
 use Rattle.dagcbor_write.proofs.KeyOrder.{at_keyed, values_next}
 use Rattle.dagcbor_write.proofs.MapMessages.{value_message}

@@ -1,6 +1,6 @@
 use Rattle.std.proofs.Common.{◌∷◌, [], drop, take, length}
 use Rattle.std.specs.Fmt.{◌++?◌}
-use Rattle.dagcbor_io.proofs.Writing.{Written-but}
+use Rattle.dagcbor_heads.proofs.Writing.{Written-but}
 use Rattle.ipld_tree.specs.Spelled.{spelled_head}
 use Rattle.dagcbor_write.specs.Each.{AreTrees}
 use Rattle.dagcbor_write.specs.Keyed.{spelled_keyed, value_trees}

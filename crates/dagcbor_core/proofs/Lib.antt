@@ -1,0 +1,5 @@
+pub mod Bytes
+pub mod Heads
+pub mod HeadForms
+pub mod Splitting
+pub mod Keeping

@@ -1,0 +1,10 @@
+pub mod Head
+pub mod Laws
+pub mod Texts
+pub mod Names
+pub mod Messages
+pub mod Lengths
+pub mod Splits
+pub mod Causes
+pub mod Steps
+pub mod Appends

@@ -1,0 +1,8 @@
+//! Laws of the definitions, each the contract of a function that does nothing.
+
+ghost use Rattle.dagcbor_core.specs.Laws.{HeadsAreUnique};
+
+/// A head is read in one way, whatever follows it.
+pub fn head_unique()
+    ensures { HeadsAreUnique }
+{}

@@ -1,8 +1,0 @@
--- Lengths in refusals.
-use Rattle.std.specs.Prelude.{ℕ, ◌^◌, nat_lt, if◌then◌else◌}
-use Rattle.dagcbor_heads.specs.declared.error.Len.{Len}
-use Rattle.dagcbor_heads.specs.declared.error.Len.TheVariants.{Small, Big}
-
--- a length as a refusal has it
-abbrev pub len_of : ℕ → Len
-len_of n = if nat_lt n (2 ^ 16) then Small n else Big

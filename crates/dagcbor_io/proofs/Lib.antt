@@ -1,9 +1,0 @@
-pub mod Sending
-pub mod Writing
-pub mod Windows
-pub mod Taking
-pub mod Looking
-pub mod Refusing
-pub mod Arguments
-pub mod HeadFaults
-pub mod Slices

@@ -1,5 +1,0 @@
-use Rattle.dagcbor_io.proofs.Windows.{head_begins}
-use Rattle.dagcbor_io.proofs.window.whole_head.Goals as goal
-
-pub returns : goal.returns
-returns c = head_begins _ c.in_ok-first.ensures.cases.0 c.in_ok-major.ensures

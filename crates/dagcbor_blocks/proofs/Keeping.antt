@@ -36,7 +36,7 @@ use Rattle.dagcbor_blocks.proofs.Unique.{front_unique, whole_front}
 use Rattle.ipld_links.proofs.Members.{same_at}
 use Rattle.dagcbor_blocks.specs.declared.error.BlockError.{BlockError}
 use Rattle.dagcbor_blocks.specs.declared.error.BlockError.TheVariants.{Encode, Decode, Collision, OutOfMemory, OtherCodec}
-use Rattle.serde_ipld_dagcbor.specs.Reading.{default_steps}
+use Rattle.serde_ipld_dagcbor.specs.Steps.{default_steps}
 
 abbrev pub BlockEntry : Type 0
 BlockEntry = CidParts × Vec ℕ Global

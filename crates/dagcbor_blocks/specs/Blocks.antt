@@ -26,7 +26,7 @@ use Rattle.ipld_links.specs.Blocks.{HasLinks}
 use Rattle.dagcbor_blocks.specs.declared.error.BlockError.{BlockError}
 use Rattle.dagcbor_blocks.specs.declared.error.BlockError.TheVariants.{Encode, Decode, Collision, OutOfMemory, OtherCodec}
 use Rattle.dagcbor_blocks.specs.declared.store.Blocks.{Blocks}
-use Rattle.serde_ipld_dagcbor.specs.Reading.{default_steps}
+use Rattle.serde_ipld_dagcbor.specs.Steps.{default_steps}
 
 -- the names of blocks and their bytes
 abbrev pub Held : Type 0

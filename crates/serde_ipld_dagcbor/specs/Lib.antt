@@ -5,6 +5,7 @@ pub use Rattle.dagcbor_heads.specs.IoReading
 pub use Rattle.dagcbor_heads.specs.Fronts
 pub use Rattle.dagcbor_heads.specs.Looking
 pub use Rattle.dagcbor_core.specs.Causes
+pub use Rattle.dagcbor_core.specs.Steps
 pub use Rattle.dagcbor_heads.specs.Refusals
 pub use Rattle.dagcbor_core.specs.Names
 pub use Rattle.dagcbor_heads.specs.Written

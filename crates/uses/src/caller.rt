@@ -2,7 +2,7 @@
 
 ghost use Rattle.std.specs.Prelude.{◌≡◌, ◌⊎◌, IfOk, IfErr, List, ℕ};
 ghost use Rattle.serde_ipld_dagcbor.specs.DecodeError.TheVariants.{OutOfMemory};
-ghost use Rattle.serde_ipld_dagcbor.specs.Reading.{default_steps};
+ghost use Rattle.serde_ipld_dagcbor.specs.Steps.{default_steps};
 ghost use Rattle.serde_ipld_dagcbor.specs.Whole.{IsWhole, HoldsNoValue};
 ghost use Rattle.uses.specs.Note.{note_shape};
 

@@ -1,7 +1,7 @@
 use Rattle.std.proofs.Common.{◌≡◌, sym, subst, ◌⊎◌, true}
 use Rattle.serde_ipld_dagcbor.specs.Whole.{IsWhole, HoldsNoValue, OfWhole, LacksMemoryIf}
 use Rattle.dagcbor_blocks.proofs.Keeping.{block_found, no_block_found, digest_of_found, not_got}
-use Rattle.serde_ipld_dagcbor.specs.Reading.{default_steps}
+use Rattle.serde_ipld_dagcbor.specs.Steps.{default_steps}
 use Rattle.serde_ipld_dagcbor.specs.DecodeError.TheVariants.{OutOfMemory}
 use Rattle.dagcbor_blocks.proofs.store.Blocks.get.Goals as goal
 

@@ -6,6 +6,7 @@ const { test } = require('node:test');
 const vm = require('node:vm');
 const { Worker } = require('node:worker_threads');
 const { CID, DagCborError, check, decode, encode, links, name, tape } = require('..');
+const { COLLECTING, SILENT } = require('./collecting.js');
 const { fuzz } = require('./fuzz.js');
 const { spelling } = require('./plain.js');
 const { blocks, vectorsOf } = require('./vectors.js');
@@ -403,19 +404,18 @@ test('a value keeps no block alive', () => {
     const { decode, encode, name } = require(process.argv[1]);
     const texts = Array.from({ length: 1000 }, (_, i) => 'a text of some units ' + i);
     const block = encode({ texts, of: name(Buffer.of(1)), long: 'é'.repeat(50000), z: [1] });
-    const before = (gc(), process.memoryUsage());
+    const before = (gc(), gc(), process.memoryUsage());
     const kept = [];
     for (let i = 0; i < 1000; i++) {
       const { texts, of, z } = decode(block);
       kept.push(texts[i], of, z);
     }
-    gc();
+    gc(), gc();
     const now = process.memoryUsage();
     const more = now.heapUsed + now.arrayBuffers - before.heapUsed - before.arrayBuffers;
     if (more > 5e6) throw new Error('more by ' + more);
     if (kept[0] !== texts[0]) throw new Error(kept[0]);`;
-  const words = ['--expose-gc', '-e', script, join(__dirname, '..')];
-  execFileSync(process.execPath, words, { stdio: ['ignore', 'ignore', 'inherit'] });
+  execFileSync(process.execPath, [...COLLECTING, '-e', script, join(__dirname, '..')], SILENT);
 });
 
 test('nothing is kept', () => {
@@ -442,6 +442,5 @@ test('nothing is kept', () => {
     for (let i = 0; i < 3; i++) settle();
     const more = settle() - before;
     if (more > 20e6) throw new Error('more by ' + more);`;
-  const words = ['--expose-gc', '-e', script, join(__dirname, '..')];
-  execFileSync(process.execPath, words, { stdio: ['ignore', 'ignore', 'inherit'] });
+  execFileSync(process.execPath, [...COLLECTING, '-e', script, join(__dirname, '..')], SILENT);
 });

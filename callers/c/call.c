@@ -89,24 +89,13 @@ static int are_right_tokens(const uint8_t *bytes, size_t length, int check, char
 }
 
 static int is_right_block(char *const field[8]) {
-    static uint8_t block[MOST], links[MOST], wanted_name[MOST], out[MOST], name[36];
-    size_t length = from_hex(field[0], block, 0), packed = from_hex(field[3], links, 1),
-           needed = 99;
+    static uint8_t block[MOST], links[MOST], wanted_name[MOST], name[36];
+    size_t length = from_hex(field[0], block, 0), packed = from_hex(field[3], links, 1);
     const uint8_t *bytes = dagcbor_from(length ? block : NULL, length);
     int check = atoi(field[1]), first = atoi(field[2]);
     from_hex(field[4], wanted_name, 0);
-    memset(out, 0xee, sizeof out);
     if (dagcbor_check(bytes, length) != check) return 0;
-    /* Asked with one byte too few it tells how many are needed, and puts none. */
-    if (dagcbor_links(bytes, length, out, packed ? packed - 1 : 0, &needed) != first) return 0;
-    if (needed != packed || out[0] != 0xee) return 0;
-    /* The usual way to ask how many are needed. */
-    if (dagcbor_links(bytes, length, dagcbor_into(NULL, 0), 0, &needed) != first ||
-        needed != packed)
-        return 0;
-    if (dagcbor_links(bytes, length, out, sizeof out, &needed) != first || needed != packed)
-        return 0;
-    if (memcmp(out, links, packed) != 0 || out[packed] != 0xee) return 0;
+    if (!puts_in_room(dagcbor_links, bytes, length, first, first, links, packed)) return 0;
     if (!is_right_tape(bytes, length, check, field[5])) return 0;
     if (!is_right_compact_tape(bytes, length, check, field[5])) return 0;
     if (!are_right_tokens(bytes, length, check, field)) return 0;
@@ -168,25 +157,27 @@ static int is_right_section(char *const field[3]) {
            dagcbor_verify(cid, size - 1, block, count) == DAGCBOR_INVALID_CID;
 }
 
-/* Where no header begins the bytes, the room stays, and where it ends. */
+/* The place that is to be told beside what is put, and whether it was each time. */
+static size_t told_place;
+static bool are_places;
+
+/* Where a header ends is told beside its roots; where none begins the bytes it stays. */
+static int32_t roots_of(const uint8_t *bytes, size_t length, uint8_t *out, size_t room,
+                        size_t *needed) {
+    size_t end = 99;
+    int32_t code = dagcbor_car_header(bytes, length, out, room, needed, &end);
+    are_places = are_places && end == told_place;
+    return code;
+}
+
 static int is_right_header(char *const field[4]) {
-    static uint8_t header[MOST], roots[MOST], out[MOST];
+    static uint8_t header[MOST], roots[MOST];
     size_t length = from_hex(field[0], header, 0), count = from_hex(field[2], roots, 1);
-    size_t needed = 99, behind = 99, wanted = 99;
     const uint8_t *bytes = dagcbor_from(header, length);
     int code = atoi(field[1]);
-    if (code == 0) wanted = strtoull(field[3], NULL, 10);
-    memset(out, 0xee, sizeof out);
-    if (dagcbor_car_header(bytes, length, dagcbor_into(NULL, 0), 0, &needed, &behind) != code)
-        return 0;
-    if (needed != count || behind != wanted) return 0;
-    if (dagcbor_car_header(bytes, length, out, count ? count - 1 : 0, &needed, &behind) != code)
-        return 0;
-    if (needed != count || behind != wanted || out[0] != 0xee) return 0;
-    behind = 99;
-    if (dagcbor_car_header(bytes, length, out, count, &needed, &behind) != code) return 0;
-    if (needed != count || behind != wanted) return 0;
-    return memcmp(out, roots, count) == 0 && out[count] == 0xee;
+    told_place = code == 0 ? strtoull(field[3], NULL, 10) : 99;
+    are_places = true;
+    return puts_in_room(roots_of, bytes, length, code, code, roots, count) && are_places;
 }
 
 /* Where the front of the file says nothing, the places stay. */
@@ -212,36 +203,32 @@ static int is_right_text(char *const field[4]) {
            puts_right(dagcbor_cid_text, cid, count - 1, DAGCBOR_INVALID_CID, written, 0);
 }
 
-/* The place of a node's fault, which is asked for beside what is put. */
-static size_t fault_place;
-
 static int32_t from_node(const uint8_t *node, size_t length, uint8_t *out, size_t room,
                          size_t *needed) {
-    fault_place = 99;
-    return dagcbor_from_node(node, length, out, room, needed, &fault_place);
+    size_t place = 99;
+    int32_t code = dagcbor_from_node(node, length, out, room, needed, &place);
+    are_places = are_places && place == told_place;
+    return code;
 }
 
-/* The links of a node, packed: asked with one byte too few it tells how many are needed, and puts none. */
-static int are_right_node_links(const uint8_t *node, size_t length, int code, size_t place,
-                                const char *text) {
-    static uint8_t links[MOST], out[MOST];
-    size_t packed = from_hex(text, links, 1), needed = 99, found = 99;
-    memset(out, 0xee, sizeof out);
-    if (dagcbor_node_links(node, length, out, packed ? packed - 1 : 0, &needed, &found) != code)
-        return 0;
-    if (needed != packed || out[0] != 0xee || found != (code < 0 ? place : 0)) return 0;
-    if (dagcbor_node_links(node, length, out, MOST, &needed, &found) != code) return 0;
-    return needed == packed && memcmp(out, links, packed) == 0 && out[packed] == 0xee;
+static int32_t node_links(const uint8_t *node, size_t length, uint8_t *out, size_t room,
+                          size_t *needed) {
+    size_t place = 99;
+    int32_t code = dagcbor_node_links(node, length, out, room, needed, &place);
+    are_places = are_places && place == (code < 0 ? told_place : 0);
+    return code;
 }
 
 static int is_right_node(char *const field[6]) {
-    static uint8_t node[MOST], block[MOST];
+    static uint8_t node[MOST], block[MOST], links[MOST];
     size_t length = from_hex(field[0], node, 0), count = from_hex(field[3], block, 0);
-    size_t place = strtoull(field[2], NULL, 10);
+    size_t packed = from_hex(field[5], links, 1);
     const uint8_t *bytes = dagcbor_from(node, length);
+    int code = atoi(field[4]);
+    told_place = strtoull(field[2], NULL, 10);
+    are_places = true;
     return puts_right(from_node, bytes, length, atoi(field[1]), block, count) &&
-           fault_place == place &&
-           are_right_node_links(bytes, length, atoi(field[4]), place, field[5]);
+           puts_in_room(node_links, bytes, length, code, code, links, packed) && are_places;
 }
 
 static int is_right_model(char *const field[3]) {

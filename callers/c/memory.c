@@ -7,7 +7,7 @@
    reads it whole. Where that is one, the block that tells of it goes to DAG-JSON and back. It prints how
    many allocations each call made. */
 #undef NDEBUG
-#include "dagcbor_memory.h"
+#include "asking.h"
 #include <assert.h>
 #include <stdio.h>
 #include <string.h>
@@ -17,44 +17,35 @@ void refuse_nth(unsigned long n);
 
 enum { MOST = 1 << 16 };
 
-typedef int32_t Call(const uint8_t *, size_t, uint8_t *, size_t, size_t *);
-
-static int32_t from_json(const uint8_t *text, size_t length, uint8_t *out, size_t room,
-                         size_t *needed) {
-    size_t place = 7;
-    int32_t code = dagcbor_from_json(text, length, out, room, needed, &place);
-    assert(place == (code == DAGCBOR_NO_MEMORY ? 0 : length));
-    return code;
-}
-
-static int32_t verified(const uint8_t *frame, size_t length, uint8_t *out, size_t room,
-                        size_t *needed) {
-    const uint8_t *nothing = dagcbor_from(NULL, 0);
+static int32_t verified(Question *it, uint8_t *out, size_t room, size_t *needed) {
     size_t body, end;
-    int32_t kind = dagcbor_event_frame(frame, length, &body, &end);
-    assert(0 < body && body < end && end == length);
+    int32_t kind = dagcbor_event_frame(it->bytes.at, it->bytes.length, &body, &end);
+    assert(0 < body && body < end && end == it->bytes.length);
     *needed = 0;
-    if (kind != DAGCBOR_FRAME_COMMIT) return kind;
-    return dagcbor_verify_event(frame, length, nothing, 0, nothing, 0, out, room, needed);
+    return kind == DAGCBOR_FRAME_COMMIT ? event_of(it, out, room, needed) : kind;
 }
 
-static int32_t proof_of(const uint8_t *file, size_t length, uint8_t *out, size_t room,
-                        size_t *needed) {
-    static const uint8_t key[] = "app.bsky.feed.post/self";
-    return dagcbor_record_proof(file, length, key, sizeof key - 1, out, room, needed);
+static int32_t block_or_none(Question *it, uint8_t *out, size_t room, size_t *needed) {
+    it->place = 7;
+    int32_t code = block_of(it, out, room, needed);
+    assert(it->place == (code == DAGCBOR_NO_MEMORY ? 0 : it->bytes.length));
+    return code;
 }
 
 /* The answer of the call, and how long it is, which it is again once no allocation is left to refuse. */
 static int32_t answer_of(Call *call, const uint8_t *given, size_t length, uint8_t out[MOST],
                          size_t *needed) {
     static uint8_t again[MOST];
-    int32_t code = call(given, length, out, MOST, needed);
+    static const uint8_t key[] = "app.bsky.feed.post/self";
+    Lent nothing = {dagcbor_from(NULL, 0), 0};
+    Question it = {{given, length}, {key, sizeof key - 1}, nothing, nothing, 0, NULL, 0, 0};
+    int32_t code = call(&it, out, MOST, needed);
     assert(code >= 0 && *needed <= MOST);
     for (unsigned long n = 1;; n++) {
         size_t counted = 7;
         memset(again, 0xa5, MOST);
         refuse_nth(n);
-        int32_t answer = call(given, length, again, MOST, &counted);
+        int32_t answer = call(&it, again, MOST, &counted);
         if (!stop_refusing()) {
             assert(answer == code && counted == *needed && memcmp(again, out, counted) == 0);
             printf("%lu\n", n - 1);
@@ -82,15 +73,15 @@ int main(int count, char **paths) {
         assert(answer_of(verified, file, length, block, &needed) == DAGCBOR_VERIFIED && needed);
     }
     size_t length = bytes_of(paths[1], file);
-    int32_t code = answer_of(dagcbor_commit, file, length, block, &needed);
+    int32_t code = answer_of(commit_of, file, length, block, &needed);
     assert(answer_of(proof_of, file, length, text, &size) == code);
     if (code == DAGCBOR_REPOSITORY) { /* the proof has the same commit */
-        assert(answer_of(dagcbor_commit, text, size, back, &again) == code);
+        assert(answer_of(commit_of, text, size, back, &again) == code);
         assert(again == needed && memcmp(block, back, needed) == 0);
     }
-    if (answer_of(dagcbor_repository, file, length, block, &needed) != DAGCBOR_REPOSITORY) return 0;
-    assert(answer_of(dagcbor_to_json, block, needed, text, &size) == DAGCBOR_MAP);
-    assert(answer_of(from_json, text, size, back, &again) == DAGCBOR_MAP);
+    if (answer_of(repository_of, file, length, block, &needed) != DAGCBOR_REPOSITORY) return 0;
+    assert(answer_of(json_of, block, needed, text, &size) == DAGCBOR_MAP);
+    assert(answer_of(block_or_none, text, size, back, &again) == DAGCBOR_MAP);
     assert(again == needed && memcmp(block, back, needed) == 0);
     return 0;
 }

@@ -7,7 +7,7 @@
 #include <stdlib.h>
 #include <string.h>
 
-enum { MOST = 4096 };
+enum { MOST = 4096, LINE = 1 << 17 };
 
 /* The bytes of hexadecimal text, and how many. A '-' is none, and a ',' joins links, each packed
  * behind its length. */
@@ -31,25 +31,32 @@ static inline size_t from_hex(const char *text, uint8_t *out, int packed) {
 /* A call that puts bytes into room, in which all that it needs stands, or nothing changes. */
 typedef int32_t Putter(const uint8_t *, size_t, uint8_t *, size_t, size_t *);
 
-static inline int puts_right(Putter *put, const uint8_t *bytes, size_t length, int code,
-                             const uint8_t *wanted, size_t count) {
+/* Whether the wanted bytes are put. Without room for all the answer is `full`. */
+static inline int puts_in_room(Putter *put, const uint8_t *bytes, size_t length, int code, int full,
+                               const uint8_t *wanted, size_t count) {
     static uint8_t out[MOST];
     size_t needed = 99;
     memset(out, 0xee, sizeof out);
     /* Asked with one byte too few it tells how many are needed, and puts none. */
-    if (put(bytes, length, out, count ? count - 1 : 0, &needed) != (count ? DAGCBOR_NO_ROOM : code))
-        return 0;
+    if (put(bytes, length, out, count ? count - 1 : 0, &needed) != full) return 0;
     if (needed != count || out[0] != 0xee) return 0;
-    if (put(bytes, length, dagcbor_into(NULL, 0), 0, &needed) != (count ? DAGCBOR_NO_ROOM : code))
-        return 0;
-    if (needed != count || put(bytes, length, out, count, &needed) != code || needed != count)
-        return 0;
+    /* The usual way to ask how many are needed. */
+    if (put(bytes, length, dagcbor_into(NULL, 0), 0, &needed) != full || needed != count) return 0;
+    if (put(bytes, length, out, count, &needed) != code || needed != count) return 0;
+    if (memcmp(out, wanted, count) != 0 || out[count] != 0xee) return 0;
+    if (put(bytes, length, out, MOST, &needed) != code || needed != count) return 0;
     return memcmp(out, wanted, count) == 0 && out[count] == 0xee;
+}
+
+static inline int puts_right(Putter *put, const uint8_t *bytes, size_t length, int code,
+                             const uint8_t *wanted, size_t count) {
+    int full = count ? DAGCBOR_NO_ROOM : code;
+    return puts_in_room(put, bytes, length, code, full, wanted, count);
 }
 
 /* The number of rows, each of so many words; or none where one is answered otherwise. */
 static inline int rows_of(const char *name, int words, int is_right(char *const *)) {
-    static char line[4 * MOST];
+    static char line[LINE];
     FILE *table = fopen(name, "r");
     int rows = 0;
     if (!table) return 0;

@@ -23,10 +23,10 @@ static void *some_calloc(size_t count, size_t size) {
 #undef realloc
 #undef calloc
 
+#include "rows.h"
 #include <inttypes.h>
-#include <stdio.h>
 
-enum { MOST = 1 << 16 };
+enum { LONGEST = 1 << 16 };
 
 static const uint8_t *file;
 static size_t length;
@@ -82,7 +82,7 @@ static void tell_missing(const Names *names, char *out) {
 
 /* Whether the file is answered as its row, or there was no memory, which is told. */
 static bool is_right(size_t piece, const char *fault, const char *missing, bool *has_memory) {
-    static char told[MOST];
+    static char told[LONGEST];
     Check check;
     if (!check_start(&check)) exit(2);
     check.car.is_digest = is_digest;
@@ -115,7 +115,7 @@ static bool holds(const char *fault, const char *missing) {
     left = -1;
     for (size_t piece = 1; piece < 200; piece += 1 + piece / 4)
         if (!is_right(piece, fault, missing, &has_memory) || !has_memory) return false;
-    return is_right(MOST, fault, missing, &has_memory) && fails_well(fault, missing);
+    return is_right(LONGEST, fault, missing, &has_memory) && fails_well(fault, missing);
 }
 
 static char *put_hex(char *out, const uint8_t *bytes, size_t count) {
@@ -124,7 +124,7 @@ static char *put_hex(char *out, const uint8_t *bytes, size_t count) {
 }
 
 static void put_roots(char *out, const uint8_t *block, size_t size) {
-    static uint8_t links[MOST];
+    static uint8_t links[LONGEST];
     size_t used;
     dagcbor_links(block, size, links, sizeof links, &used);
     for (size_t at = 0; at < used; at += 1 + links[at]) {
@@ -148,7 +148,7 @@ static char *put_section(char *out, const uint8_t *bytes, const size_t places[3]
 /* What dagcbor_car_next answers of the file that is cut there: all bytes are at hand once those
  * before the cut do not tell what comes next. In the words of a row. */
 static void tell_cut(size_t cut, uint32_t how, char *told) {
-    static char roots[2 * MOST], sections[2 * MOST];
+    static char roots[2 * LONGEST], sections[2 * LONGEST];
     dagcbor_car_walk walk = {0, 0, 0, 0};
     size_t end = cut, from, places[3];
     char *to = sections;
@@ -178,7 +178,7 @@ static void tell_cut(size_t cut, uint32_t how, char *told) {
 
 /* Wherever the file is cut, what the row says is answered. */
 static bool are_right_cuts(char *const field[4]) {
-    static char wanted[4 * MOST], told[4 * MOST];
+    static char wanted[5 * LONGEST], told[5 * LONGEST];
     sprintf(wanted, "%s %s %s", field[1], field[2], field[3]);
     for (size_t cut = 0; cut <= length; cut += 1 + length / 1000)
         for (uint32_t how = 0; how <= DAGCBOR_CAR_UNJUDGED; how += DAGCBOR_CAR_UNJUDGED) {
@@ -188,32 +188,21 @@ static bool are_right_cuts(char *const field[4]) {
     return true;
 }
 
-static size_t from_hex(const char *text, uint8_t *out) {
-    size_t count = 0;
-    unsigned byte;
-    for (; *text != '-' && sscanf(text, "%2x", &byte) == 1; text += 2) out[count++] = (uint8_t)byte;
-    return count;
+static int is_right_file(char *const field[5]) {
+    static uint8_t bytes[LONGEST];
+    static Digest *const ways[] = {NULL, is_of_name};
+    length = from_hex(field[0], bytes, 0);
+    file = bytes;
+    if (!are_right_cuts(field)) return printf("where it is cut: "), 0;
+    for (int way = 0; way < 2; way++) {
+        is_digest = ways[way];
+        if (!holds(field[3], field[4])) return 0;
+    }
+    return 1;
 }
 
 int main(int count, char **words) {
-    static char line[2 * MOST];
-    static uint8_t bytes[MOST];
-    FILE *table = count == 2 ? fopen(words[1], "r") : NULL;
-    int rows = 0;
-    file = bytes;
-    while (table && fgets(line, sizeof line, table)) {
-        static Digest *const ways[] = {NULL, is_of_name};
-        char *field[5];
-        if (line[0] == '#') continue;
-        for (int i = 0; i < 5; i++) field[i] = strtok(i ? NULL : line, " \n");
-        length = from_hex(field[0], bytes);
-        if (!are_right_cuts(field)) return printf("wrong where it is cut: %s\n", field[0]), 1;
-        for (int way = 0; way < 2; way++) {
-            is_digest = ways[way];
-            if (!holds(field[3], field[4])) return printf("wrong: %s\n", field[0]), 1;
-        }
-        rows++;
-    }
+    int rows = count == 2 ? rows_of(words[1], 5, is_right_file) : 0;
     printf("%d files\n", rows);
     return rows < 40;
 }

@@ -113,23 +113,14 @@ def extension(name, crate, variable, sources):
 os.chdir(HERE)
 tagged = wheel_command()
 made = tempfile.TemporaryDirectory(prefix="dagcbor-")  # it is there until this process ends
-native = extension(
-    "dagcbor._native",
-    "dagcbor_ffi",
-    "DAGCBOR_LIBRARY",
-    sources=["src/_native.c", "src/_car.c"],
-)
-native_memory = extension(
-    "dagcbor._native_memory",
-    "dagcbor_memory_ffi",
-    "DAGCBOR_MEMORY_LIBRARY",
-    sources=["src/_native_memory.c"],
-)
 setup(
     packages=["dagcbor"],
     package_dir={"": "src"},
     package_data={"dagcbor": ["*.pyi", "py.typed"]},
-    ext_modules=[native, native_memory],
+    ext_modules=[
+        extension("dagcbor._native", "dagcbor_ffi", "DAGCBOR_LIBRARY", ["src/_native.c", "src/_car.c"]),
+        extension("dagcbor._native_memory", "dagcbor_memory_ffi", "DAGCBOR_MEMORY_LIBRARY", ["src/_native_memory.c"]),
+    ],
     cmdclass={"build_py": WithProgram, "bdist_wheel": tagged},
     zip_safe=False,
     options={

@@ -7,9 +7,6 @@
 #include "native.h"
 
 #include "car.h"
-
-#define WRITER_REALLOC PyMem_Realloc
-#define WRITER_FREE PyMem_Free
 #include "writer.h"
 
 enum {
@@ -640,14 +637,18 @@ static PyObject *of_bytes(PyObject *module, PyObject *given, Call *call) {
     return answer;
 }
 
+/* A function of the module that is such a call. */
+#define OF_BYTES(name, call)                                    \
+    static PyObject *name(PyObject *module, PyObject *given) { \
+        return of_bytes(module, given, call);                  \
+    }
+
 static PyObject *as_bytes(PyObject *module, PyObject *given) {
     (void)module;
     return to_bytes(given);
 }
 
-static PyObject *loads(PyObject *module, PyObject *given) {
-    return of_bytes(module, given, loads_bytes);
-}
+OF_BYTES(loads, loads_bytes)
 
 static PyObject *loads_first(PyObject *module, PyObject *args, PyObject *named) {
     static char *names[] = {"", "start", NULL};
@@ -675,9 +676,7 @@ static PyObject *check_bytes(State *state, PyObject *block) {
     return PyUnicode_FromString(dagcbor_name_of_code(code));
 }
 
-static PyObject *check(PyObject *module, PyObject *given) {
-    return of_bytes(module, given, check_bytes);
-}
+OF_BYTES(check, check_bytes)
 
 /* The block and the path that a call is given: the block, and the path's text, which is `path`'s. */
 static PyObject *block_and_path(PyObject *args, PyObject **path, const char **text,
@@ -765,9 +764,7 @@ static PyObject *links_of(State *state, PyObject *block) {
     return found;
 }
 
-static PyObject *links(PyObject *module, PyObject *given) {
-    return of_bytes(module, given, links_of);
-}
+OF_BYTES(links, links_of)
 
 static PyObject *name_of(State *state, PyObject *block) {
     uint8_t out[36];
@@ -779,9 +776,7 @@ static PyObject *name_of(State *state, PyObject *block) {
     return new_cid(state->cid, out, sizeof out);
 }
 
-static PyObject *name(PyObject *module, PyObject *given) {
-    return of_bytes(module, given, name_of);
-}
+OF_BYTES(name, name_of)
 
 /* Blocks of DAG-PB, by their data model */
 
@@ -826,9 +821,7 @@ static PyObject *node_links_of(State *state, PyObject *node) {
     return found;
 }
 
-static PyObject *node_links(PyObject *module, PyObject *given) {
-    return of_bytes(module, given, node_links_of);
-}
+OF_BYTES(node_links, node_links_of)
 
 static PyObject *from_node_bytes(State *state, PyObject *node) {
     int32_t code = 0;
@@ -838,9 +831,7 @@ static PyObject *from_node_bytes(State *state, PyObject *node) {
     return code == DAGCBOR_NAME_NOT_TEXT ? refuse(state, code) : refuse_at(state, code, place);
 }
 
-static PyObject *from_node(PyObject *module, PyObject *given) {
-    return of_bytes(module, given, from_node_bytes);
-}
+OF_BYTES(from_node, from_node_bytes)
 
 static PyObject *to_node_bytes(State *state, PyObject *block) {
     int32_t code = 0;
@@ -851,9 +842,7 @@ static PyObject *to_node_bytes(State *state, PyObject *block) {
     return is_no_block ? refuse_block(state, code, block) : refuse(state, code);
 }
 
-static PyObject *to_node(PyObject *module, PyObject *given) {
-    return of_bytes(module, given, to_node_bytes);
-}
+OF_BYTES(to_node, to_node_bytes)
 
 /* The module */
 
@@ -920,21 +909,13 @@ static int start(PyObject *module) {
 
 static int traverse(PyObject *module, visitproc visit, void *arg) {
     State *state = PyModule_GetState(module);
-    Py_VISIT(state->cid);
-    Py_VISIT(state->error);
-    Py_VISIT(state->car_error);
-    Py_VISIT(state->car_reader);
-    Py_VISIT(state->section);
+    for (size_t i = 0; i < sizeof *state / sizeof(PyObject *); i++) Py_VISIT(state->all[i]);
     return 0;
 }
 
 static int clear(PyObject *module) {
     State *state = PyModule_GetState(module);
-    Py_CLEAR(state->cid);
-    Py_CLEAR(state->error);
-    Py_CLEAR(state->car_error);
-    Py_CLEAR(state->car_reader);
-    Py_CLEAR(state->section);
+    for (size_t i = 0; i < sizeof *state / sizeof(PyObject *); i++) Py_CLEAR(state->all[i]);
     return 0;
 }
 

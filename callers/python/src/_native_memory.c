@@ -5,112 +5,58 @@
 #include <Python.h>
 #include <stdbool.h>
 
-#include "dagcbor_memory.h"
+#include "asking.h"
 #include "heap.c"
 
-/* What a call is given: bytes, and of an event what is known, or of a record its key. It tells a place. */
-typedef struct {
-    const uint8_t *bytes, *root, *rev, *key;
-    size_t length, root_length, rev_length, key_length, place;
-} Given;
-
-typedef int32_t Call(Given *given, uint8_t *out, size_t room, size_t *needed);
-
-static int32_t repository_of(Given *given, uint8_t *out, size_t room, size_t *needed) {
-    return dagcbor_repository(given->bytes, given->length, out, room, needed);
-}
-
-static int32_t commit_of(Given *given, uint8_t *out, size_t room, size_t *needed) {
-    return dagcbor_commit(given->bytes, given->length, out, room, needed);
-}
-
-static int32_t proof_of(Given *given, uint8_t *out, size_t room, size_t *needed) {
-    return dagcbor_record_proof(given->bytes, given->length, given->key, given->key_length, out, room,
-                                needed);
-}
-
-static int32_t json_of(Given *given, uint8_t *out, size_t room, size_t *needed) {
-    return dagcbor_to_json(given->bytes, given->length, out, room, needed);
-}
-
-static int32_t block_of(Given *given, uint8_t *out, size_t room, size_t *needed) {
-    return dagcbor_from_json(given->bytes, given->length, out, room, needed, &given->place);
-}
-
-static int32_t event_of(Given *given, uint8_t *out, size_t room, size_t *needed) {
-    return dagcbor_verify_event(given->bytes, given->length, given->root, given->root_length,
-                                given->rev, given->rev_length, out, room, needed);
-}
-
 /* What the call answers: its number, the bytes, and the place. The interpreter's lock is let go. */
-static PyObject *answer_to(Given *given, Call *call) {
-    size_t room = given->length + 1024, needed = 0;
-    int32_t code = DAGCBOR_NO_ROOM;
-    uint8_t *out = NULL;
-    Py_BEGIN_ALLOW_THREADS
-    while (code == DAGCBOR_NO_ROOM) { /* what is needed is told, so twice at most */
-        free(out);
-        out = malloc(room);
-        code = out ? call(given, out, room, &needed) : DAGCBOR_NO_MEMORY;
-        room = needed;
-    }
-    Py_END_ALLOW_THREADS
+static PyObject *answer_to(Question *it, Call *call) {
     PyObject *answer = NULL;
-    if (code == DAGCBOR_NO_MEMORY) PyErr_NoMemory();
+    Py_BEGIN_ALLOW_THREADS
+    ask(it, call);
+    Py_END_ALLOW_THREADS
+    if (it->code == DAGCBOR_NO_MEMORY) PyErr_NoMemory();
     else
-        answer = Py_BuildValue("iy#n", (int)code, (const char *)out, (Py_ssize_t)needed,
-                               (Py_ssize_t)given->place);
-    free(out);
+        answer = Py_BuildValue("iy#n", (int)it->code, (const char *)it->answer,
+                               (Py_ssize_t)it->needed, (Py_ssize_t)it->place);
+    free(it->answer);
     return answer;
 }
 
-/* Whether it is a `bytes`, of which the bytes are taken. */
-static bool takes(PyObject *given, const uint8_t **bytes, size_t *length) {
+/* Whether it is a `bytes`, which is lent. */
+static bool takes(PyObject *given, Lent *lent) {
     if (!PyBytes_Check(given)) return PyErr_SetString(PyExc_TypeError, "bytes are wanted"), false;
-    *bytes = (const uint8_t *)PyBytes_AsString(given);
-    *length = (size_t)PyBytes_Size(given);
+    *lent = (Lent){(const uint8_t *)PyBytes_AsString(given), (size_t)PyBytes_Size(given)};
     return true;
 }
 
 static PyObject *answer_of(PyObject *bytes, Call *call) {
-    Given given = {0};
-    return takes(bytes, &given.bytes, &given.length) ? answer_to(&given, call) : NULL;
+    Question it = {0};
+    return takes(bytes, &it.bytes) ? answer_to(&it, call) : NULL;
 }
 
 /* repository(file): 0, and the block that tells of the repository; or 1, and the line that tells why the
-   file is none. */
-static PyObject *repository(PyObject *module, PyObject *file) {
-    (void)module;
-    return answer_of(file, repository_of);
-}
+   file is none. commit(file): the same of the commit alone that the first root names. to_json(block): the
+   number of its kind, and the text; or that of the refusal. from_json(text): the number of the kind, and
+   the block; or that of the refusal, and the place. */
+#define OF_BYTES(name, call)                                   \
+    static PyObject *name(PyObject *module, PyObject *bytes) { \
+        (void)module;                                          \
+        return answer_of(bytes, call);                         \
+    }
 
-/* commit(file): the same of the commit alone that the first root names. */
-static PyObject *commit(PyObject *module, PyObject *file) {
-    (void)module;
-    return answer_of(file, commit_of);
-}
+OF_BYTES(repository, repository_of)
+OF_BYTES(commit, commit_of)
+OF_BYTES(to_json, json_of)
+OF_BYTES(from_json, block_of)
 
 /* proof_of_record(file, key): 0, and the file that proves the record; or 1, and the line that tells why there
    is none. */
 static PyObject *proof_of_record(PyObject *module, PyObject *args) {
     (void)module;
     PyObject *file, *key;
-    Given given = {0};
+    Question it = {0};
     if (!PyArg_ParseTuple(args, "OO", &file, &key)) return NULL;
-    if (!takes(file, &given.bytes, &given.length)) return NULL;
-    return takes(key, &given.key, &given.key_length) ? answer_to(&given, proof_of) : NULL;
-}
-
-/* to_json(block): the number of its kind, and the text; or that of the refusal. */
-static PyObject *to_json(PyObject *module, PyObject *block) {
-    (void)module;
-    return answer_of(block, json_of);
-}
-
-/* from_json(text): the number of the kind, and the block; or that of the refusal, and the place. */
-static PyObject *from_json(PyObject *module, PyObject *text) {
-    (void)module;
-    return answer_of(text, block_of);
+    return takes(file, &it.bytes) && takes(key, &it.key) ? answer_to(&it, proof_of) : NULL;
 }
 
 /* event_frame(bytes, start): of the frame that stands there the number of its kind, or of why there is none;
@@ -119,14 +65,14 @@ static PyObject *event_frame(PyObject *module, PyObject *args) {
     (void)module;
     PyObject *held;
     Py_ssize_t start;
-    const uint8_t *bytes;
-    size_t length, body, end;
-    if (!PyArg_ParseTuple(args, "On", &held, &start) || !takes(held, &bytes, &length)) return NULL;
-    if (start < 0 || (size_t)start > length)
+    Lent bytes;
+    size_t body, end;
+    if (!PyArg_ParseTuple(args, "On", &held, &start) || !takes(held, &bytes)) return NULL;
+    if (start < 0 || (size_t)start > bytes.length)
         return PyErr_SetString(PyExc_ValueError, "no place of the bytes"), NULL;
     int32_t code;
     Py_BEGIN_ALLOW_THREADS
-    code = dagcbor_event_frame(bytes + start, length - (size_t)start, &body, &end);
+    code = dagcbor_event_frame(bytes.at + start, bytes.length - (size_t)start, &body, &end);
     Py_END_ALLOW_THREADS
     if (code == DAGCBOR_NO_MEMORY) return PyErr_NoMemory();
     return Py_BuildValue("inn", (int)code, start + (Py_ssize_t)body, start + (Py_ssize_t)end);
@@ -137,11 +83,10 @@ static PyObject *event_frame(PyObject *module, PyObject *args) {
 static PyObject *verify_event(PyObject *module, PyObject *args) {
     (void)module;
     PyObject *frame, *root, *rev;
-    Given given = {0};
+    Question it = {0};
     if (!PyArg_ParseTuple(args, "OOO", &frame, &root, &rev)) return NULL;
-    if (!takes(frame, &given.bytes, &given.length)) return NULL;
-    if (!takes(root, &given.root, &given.root_length)) return NULL;
-    return takes(rev, &given.rev, &given.rev_length) ? answer_to(&given, event_of) : NULL;
+    bool are_bytes = takes(frame, &it.bytes) && takes(root, &it.root) && takes(rev, &it.rev);
+    return are_bytes ? answer_to(&it, event_of) : NULL;
 }
 
 static PyMethodDef METHODS[] = {

@@ -11,12 +11,12 @@
 #include <stdbool.h>
 
 /* What the module holds. The errors are those of dagcbor._errors. */
-typedef struct {
-    PyTypeObject *cid;
-    PyTypeObject *car_reader;
-    PyTypeObject *section;
-    PyObject *error;
-    PyObject *car_error;
+typedef union {
+    struct {
+        PyTypeObject *cid, *car_reader, *section;
+        PyObject *error, *car_error;
+    };
+    PyObject *all[5];
 } State;
 
 typedef struct {

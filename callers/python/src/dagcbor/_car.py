@@ -3,22 +3,24 @@
 from __future__ import annotations
 
 from collections.abc import Mapping
+from dataclasses import dataclass, field
 from typing import TYPE_CHECKING
 
 from . import _native
+from ._files import put
 from ._native import CID
-from ._writing import put
 
 if TYPE_CHECKING:
     from collections.abc import Iterable
     from mmap import mmap
 
+    from ._files import Writable
     from ._native import Buffer, ForeignCID, Readable, Sha256, Verdict
-    from ._writing import Writable
 
 OTHER_BYTES, NOT_VERIFIED = -22, -23
 
 
+@dataclass(eq=False, slots=True)
 class CarCheck:
     """What was found in a CAR file.
 
@@ -28,15 +30,10 @@ class CarCheck:
     that block are followed.
     """
 
-    __slots__ = ("roots", "verdicts", "missing", "_held")
-
-    def __init__(
-        self, roots: list[CID], verdicts: dict[Verdict, int], missing: list[CID], held: bytes
-    ) -> None:
-        self.roots = roots
-        self.verdicts = verdicts
-        self.missing = missing
-        self._held = held
+    roots: list[CID] = field(repr=False)
+    verdicts: dict[Verdict, int]
+    missing: list[CID]
+    _held: bytes = field(repr=False)
 
     @property
     def held(self) -> list[CID]:
@@ -48,9 +45,6 @@ class CarCheck:
         """Whether nothing is missing, and each verdict is `ok ..` or `not read`."""
         are_well = all(it.startswith("ok ") or it == "not read" for it in self.verdicts)
         return are_well and not self.missing
-
-    def __repr__(self) -> str:
-        return f"CarCheck(verdicts={self.verdicts}, missing={self.missing})"
 
 
 def check_car(source: Buffer | mmap | Readable, *, sha256: Sha256 | None = None) -> CarCheck:

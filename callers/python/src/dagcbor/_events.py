@@ -141,6 +141,10 @@ Event: TypeAlias = (
 )
 
 
+CLASSES: tuple[Any, ...] = (CommitEvent, SyncEvent, IdentityEvent, AccountEvent, InfoEvent, StreamError)
+NAMES = {"prev_data": "prevData", "too_big": "tooBig"}
+
+
 @dataclass(frozen=True)
 class Verified:
     """A commit that its own frame proves: its operations lead to it from the root before.
@@ -201,15 +205,11 @@ def verify_event(event: CommitEvent | Buffer, known: Known | None = None, /) -> 
     if code < 0:
         raise _error(code, answer)
     told = loads(answer)
-    commit = told["commit"]
+    del told["commit"]["version"]
     return Verified(
-        did=commit["did"],
-        rev=commit["rev"],
-        data=commit["data"],
-        prev=commit["prev"],
+        **told["commit"],
         before=told["before"],
         commit=told["cid"],
-        sig=commit["sig"],
         signed=told["signed"],
         changes=tuple(Change(key.decode(), old, new) for key, old, new in told["changes"]),
     )
@@ -257,30 +257,11 @@ def _read(file: Readable, most: int) -> bytes:
 def _event_of(code: int, header: bytes, body: bytes) -> Event:
     """The frame of this kind, by the number of the library."""
     told, frame = loads(body), header + body
-    if code == 0:
-        return _commit_of(told, frame)
-    if code == 6:
+    if code == len(CLASSES):
         return OtherEvent(loads(header)["t"], told, frame=frame)
-    classes: tuple[Any, ...] = (SyncEvent, IdentityEvent, AccountEvent, InfoEvent, StreamError)
-    of = classes[code - 1]
+    of = CLASSES[code]
+    if of is CommitEvent:
+        ops = (RepoOp(it["action"], it["path"], it["cid"], it.get("prev")) for it in told["ops"])
+        told |= {"ops": tuple(ops), "blobs": tuple(told["blobs"])}
     names = [it for it in of.__dataclass_fields__ if it != "frame"]
-    return cast("Event", of(frame=frame, **{it: told.get(it) for it in names}))
-
-
-def _commit_of(told: dict[str, Any], frame: bytes) -> CommitEvent:
-    ops = (RepoOp(it["action"], it["path"], it["cid"], it.get("prev")) for it in told["ops"])
-    return CommitEvent(
-        frame=frame,
-        seq=told["seq"],
-        repo=told["repo"],
-        rev=told["rev"],
-        since=told["since"],
-        commit=told["commit"],
-        ops=tuple(ops),
-        blobs=tuple(told["blobs"]),
-        prev_data=told.get("prevData"),
-        blocks=told["blocks"],
-        too_big=told["tooBig"],
-        rebase=told["rebase"],
-        time=told["time"],
-    )
+    return cast("Event", of(frame=frame, **{it: told.get(NAMES.get(it, it)) for it in names}))

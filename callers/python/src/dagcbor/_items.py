@@ -4,18 +4,15 @@ from __future__ import annotations
 
 from typing import TYPE_CHECKING
 
+from ._files import put, read_all
 from ._native import dumps, loads, loads_first, to_bytes
-
-from ._writing import put
 
 if TYPE_CHECKING:
     from collections.abc import Callable, Iterator
     from typing import Any
 
+    from ._files import Writable
     from ._native import Buffer, Readable
-    from ._writing import Writable
-
-PIECE = 1 << 18
 
 
 def iter_loads(items: Buffer) -> Iterator[Any]:
@@ -28,12 +25,7 @@ def iter_loads(items: Buffer) -> Iterator[Any]:
 
 def load(file: Readable, /) -> Any:
     """The data of the block that a binary file has, from where it stands to its end."""
-    pieces = []
-    while piece := file.read(PIECE):
-        pieces.append(piece)
-    if piece is None:
-        raise BlockingIOError("read() has no bytes yet")
-    return loads(b"".join(pieces))
+    return loads(read_all(file))
 
 
 def dump(value: Any, file: Writable, /, *, default: Callable[[Any], Any] | None = None) -> None:

@@ -4,16 +4,15 @@ from __future__ import annotations
 
 from dataclasses import dataclass
 from mmap import mmap
-from typing import TYPE_CHECKING, Any, cast
+from typing import TYPE_CHECKING, Any
 
 from ._errors import DagCborError
+from ._files import read_all
 from ._native import CID, loads, to_bytes
 from ._native_memory import commit, proof_of_record, repository
 
 if TYPE_CHECKING:
     from ._native import Buffer, Readable
-
-PIECE = 1 << 18
 
 
 @dataclass(frozen=True)
@@ -93,11 +92,5 @@ def _made(answer: tuple[int, bytes, int]) -> bytes:
 
 def _all_of(source: Any) -> bytes:
     """All that it has: of a file, from where it stands."""
-    if isinstance(source, mmap) or not hasattr(source, "read"):
-        return to_bytes(cast("Buffer", source))
-    pieces = []
-    while piece := cast("Readable", source).read(PIECE):
-        pieces.append(piece)
-    if piece is None:
-        raise BlockingIOError("read() has no bytes yet")
-    return b"".join(pieces)
+    is_file = hasattr(source, "read") and not isinstance(source, mmap)
+    return read_all(source) if is_file else to_bytes(source)

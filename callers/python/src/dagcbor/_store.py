@@ -7,6 +7,7 @@ from __future__ import annotations
 
 import contextlib
 import os
+import re
 import shutil
 import subprocess
 import tempfile
@@ -17,7 +18,6 @@ from ._native import CID, to_bytes
 
 if TYPE_CHECKING:
     from collections.abc import Iterator
-    from types import TracebackType
 
     from ._native import Buffer
 
@@ -80,22 +80,15 @@ class Imported(NamedTuple):
     sections: int
 
 
+# How the last line of what is said begins, which tells why.
 REFUSALS: tuple[tuple[str, type[StoreError]], ...] = (
     ("another process has the file open", StoreLocked),
-    ("the file is no store of blocks", StoreUnreadable),
-    ("the index of names has a wrong entry", StoreUnreadable),
-    ("the table of roots has a wrong row", StoreUnreadable),
-    ("the file is of an earlier version", StoreUnreadable),
-    ("the file cannot be opened for reading and writing", StoreUnreadable),
-    ("database or disk is full", StoreFull),
-    ("the file takes no more", StoreFull),
-    ("disk I/O error", StoreDiskError),
-    ("database disk image is malformed", StoreDiskError),
-    ("the transaction must be rolled back", StoreDiskError),
+    ("the file (is no store|is of an earlier version|cannot be opened)", StoreUnreadable),
+    ("the (index of names has a wrong entry|table of roots has a wrong row)", StoreUnreadable),
+    ("database or disk is full|the file takes no more", StoreFull),
+    ("disk I/O error|database disk image is malformed|the transaction must be", StoreDiskError),
     ("out of memory", StoreMemoryError),
-    ("the block is too long for a row", StoreError),
-    ("the block is ", InvalidBlock),
-    ("the block has other bytes", InvalidBlock),
+    ("the block (is (?!too long)|has other bytes)", InvalidBlock),
     ("the input is not a CAR file", InvalidCar),
 )
 
@@ -110,7 +103,7 @@ def refusal_of(said: str) -> StoreError:
         return DamagedBlock(text, CID(name) if name else None)
     if any(it.startswith("after ") for it in lines[:-1]):
         return InvalidCar(text)
-    return next((kind(text) for start, kind in REFUSALS if why.startswith(start)), StoreError(text))
+    return next((kind(text) for start, kind in REFUSALS if re.match(start, why)), StoreError(text))
 
 
 def program_of(given: str | os.PathLike[str] | None) -> str:
@@ -351,12 +344,7 @@ class Store:
     def __enter__(self) -> Store:
         return self
 
-    def __exit__(
-        self,
-        kind: type[BaseException] | None,
-        error: BaseException | None,
-        trace: TracebackType | None,
-    ) -> None:
+    def __exit__(self, *_error: object) -> None:
         self.close()
 
     def __del__(self) -> None:

@@ -1,17 +1,8 @@
-/* A block as it is written. Not proved, and no part of the library, whose dagcbor_check is to say
-   whether it is one. Who includes this may name an allocator of its own. */
+/* A block as it is written, which dagcbor_check is to say whether it is one. */
 #ifndef DAGCBOR_WRITER_H
 #define DAGCBOR_WRITER_H
 
-#include "dagcbor.h"
-#include <stdbool.h>
-#include <stdlib.h>
-#include <string.h>
-
-#ifndef WRITER_REALLOC
-#define WRITER_REALLOC realloc
-#define WRITER_FREE free
-#endif
+#include "native.h"
 
 /* Of lists and maps in each other, in any block. */
 enum { MOST_LEVELS = 128 };
@@ -33,7 +24,7 @@ static inline void room_start(Room *room) {
 }
 
 static inline void room_free(Room *room) {
-    if (room->start != room->first.bytes) WRITER_FREE(room->start);
+    if (room->start != room->first.bytes) PyMem_Free(room->start);
 }
 
 /* Takes so many bytes more; NULL where there is no memory. What was taken before may move. */
@@ -42,7 +33,7 @@ static inline void *room_take(Room *room, size_t count) {
         bool is_first = room->start == room->first.bytes;
         if (count > SIZE_MAX / 4 - room->used) return NULL;
         size_t size = 2 * (room->used + count);
-        char *start = WRITER_REALLOC(is_first ? NULL : room->start, size);
+        char *start = PyMem_Realloc(is_first ? NULL : room->start, size);
         if (!start) return NULL;
         if (is_first) memcpy(start, room->first.bytes, room->used);
         room->start = start;

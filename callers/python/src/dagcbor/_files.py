@@ -1,13 +1,28 @@
-"""Bytes that go to a binary file."""
+"""Bytes that come from a binary file, and go to one."""
 
 from __future__ import annotations
 
 from io import RawIOBase
-from typing import Protocol
+from typing import TYPE_CHECKING, Protocol
+
+if TYPE_CHECKING:
+    from ._native import Readable
+
+PIECE = 1 << 18
 
 
 class Writable(Protocol):
     def write(self, piece: bytes, /) -> int | None: ...
+
+
+def read_all(file: Readable) -> bytes:
+    """All that the file has, from where it stands."""
+    pieces = []
+    while piece := file.read(PIECE):
+        pieces.append(piece)
+    if piece is None:
+        raise BlockingIOError("read() has no bytes yet")
+    return b"".join(pieces)
 
 
 def put(file: Writable, piece: bytes) -> None:

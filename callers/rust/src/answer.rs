@@ -1,37 +1,29 @@
 use core::fmt;
 
-/// What an item is.
-#[derive(Clone, Copy, Debug, PartialEq, Eq, Hash)]
-pub enum Kind {
-    /// null
-    Null,
-    /// false or true
-    Bool,
-    /// an integer of -2^64 .. 2^64 - 1
-    Integer,
-    /// a text
-    String,
-    /// a byte string
-    Bytes,
-    /// a list
-    List,
-    /// a map
-    Map,
-    /// a link, which is a CID
-    Link,
+/// Makes the kinds of items, in the order of their numbers, and the list of them.
+macro_rules! kinds {
+    ($($kind:ident $words:literal,)*) => {
+        /// What an item is.
+        #[derive(Clone, Copy, Debug, PartialEq, Eq, Hash)]
+        pub enum Kind {
+            $(#[doc = $words] $kind,)*
+        }
+
+        /// The kinds, by their numbers.
+        pub(crate) const KINDS: &[Kind] = &[$(Kind::$kind),*];
+    };
 }
 
-/// The kinds, by their numbers.
-pub(crate) const KINDS: [Kind; 8] = [
-    Kind::Null,
-    Kind::Bool,
-    Kind::Integer,
-    Kind::String,
-    Kind::Bytes,
-    Kind::List,
-    Kind::Map,
-    Kind::Link,
-];
+kinds! {
+    Null "null",
+    Bool "false or true",
+    Integer "an integer of -2^64 .. 2^64 - 1",
+    String "a text",
+    Bytes "a byte string",
+    List "a list",
+    Map "a map",
+    Link "a link, which is a CID",
+}
 
 /// Makes the causes of a refusal, each of a number of the library and said by these words, and the
 /// refusal, which has a cause and a place.
@@ -217,7 +209,7 @@ impl fmt::Display for CarRefusal {
 }
 
 /// Where there is no room for what the library would put.
-const NO_ROOM: i32 = -21;
+pub(crate) const NO_ROOM: i32 = -21;
 
 /// What a number of the library says, where the room that it asked for is this.
 pub(crate) fn answer_of(code: i32, needed: usize) -> Result<Kind, Refusal> {

@@ -1,6 +1,6 @@
-use crate::answer::answer_of;
+use crate::answer::{answer_of, NO_ROOM};
 use crate::calls::{dagcbor_cid_from_text, dagcbor_cid_text};
-use crate::{spell_into, Kind, Refusal, Token, MOST_OF_CID};
+use crate::{Refusal, MOST_OF_CID};
 use core::{fmt, str};
 
 /// The greatest length of the text of a CID, as it is written.
@@ -118,16 +118,11 @@ fn take_varint(rest: &mut &[u8]) -> u64 {
 impl TryFrom<&[u8]> for Cid {
     type Error = Refusal;
 
-    /// They are a CID where there is a block that is the link of them, which takes five bytes more.
+    /// They are a CID where they have a text, for which there is no room.
     fn try_from(bytes: &[u8]) -> Result<Cid, Refusal> {
-        let link = Token {
-            kind: Kind::Link as u64,
-            number: bytes.len() as u64,
-            place: 0,
-        };
-        match spell_into(bytes, &[link], &mut [0; 5 + MOST_OF_CID]) {
-            Ok(_) => Ok(Cid::held(bytes)),
-            Err(_) => Err(Refusal::InvalidCid),
+        match dagcbor_cid_text(bytes, &mut [], &mut 0) {
+            NO_ROOM => Ok(Cid::held(bytes)),
+            _ => Err(Refusal::InvalidCid),
         }
     }
 }

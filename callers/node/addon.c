@@ -13,16 +13,18 @@ enum { LATIN1 = 10, WIDE = 11 }; /* the kinds of its parts: of bytes for units, 
 enum { SHARED = 1024 };          /* bytes of a block that may share memory */
 static const uint64_t ABSENT = UINT32_MAX; /* the place of a payload that is not there yet */
 
-/* The one argument; NULL, with an exception thrown, where there is none. */
-static napi_value argument(napi_env env, napi_callback_info info) {
+/* The one argument, and what the call is told; NULL, with an exception thrown, where there is
+ * none. */
+static napi_value argument(napi_env env, napi_callback_info info, void **about) {
     size_t count = 1;
     napi_value given;
-    TRY(napi_get_cb_info(env, info, &count, &given, NULL, NULL));
+    TRY(napi_get_cb_info(env, info, &count, &given, NULL, about));
     return given;
 }
 
-static const uint8_t *bytes_of(napi_env env, napi_callback_info info, size_t *length) {
-    napi_value given = argument(env, info);
+static const uint8_t *bytes_of(napi_env env, napi_callback_info info, size_t *length,
+                               void **about) {
+    napi_value given = argument(env, info, about);
     const uint8_t *bytes = given ? bytes_in(env, given, length) : NULL;
     return bytes || !given ? bytes : no_bytes(env);
 }
@@ -59,7 +61,7 @@ static napi_value read_tape(napi_env env, napi_callback_info info) {
     Own *own = own_of(env);
     size_t *count = &own->count;
     *count = 0;
-    if (!(own->block = bytes_of(env, info, &length))) return NULL;
+    if (!(own->block = bytes_of(env, info, &length, NULL))) return NULL;
     own->tokens = own->kept;
     int32_t code = dagcbor_compact_tape(own->block, length, own->kept, KEPT_TOKENS, count);
     if (code < 0 || *count <= KEPT_TOKENS) return number_of(env, code < 0 ? code : (int64_t)*count);
@@ -95,7 +97,7 @@ static napi_value make_texts(napi_env env, napi_callback_info info) {
     uint16_t room[WINDOW], *units = room;
     uint32_t first;
     const Own *own = own_of(env);
-    napi_value given = argument(env, info), text = NULL;
+    napi_value given = argument(env, info, NULL), text = NULL;
     if (!given) return NULL;
     TRY(napi_get_value_uint32(env, given, &first));
     if (first >= own->count) return raise(env, "no such token");
@@ -201,25 +203,25 @@ static napi_value spell(napi_env env, napi_callback_info info) {
 /* check(block): the number of its kind. */
 static napi_value check(napi_env env, napi_callback_info info) {
     size_t length;
-    const uint8_t *bytes = bytes_of(env, info, &length);
+    const uint8_t *bytes = bytes_of(env, info, &length, NULL);
     return bytes ? number_of(env, dagcbor_check(bytes, length)) : NULL;
 }
 
 /* place(bytes): that of the refusal. */
 static napi_value place(napi_env env, napi_callback_info info) {
     size_t length, needed, at;
-    const uint8_t *bytes = bytes_of(env, info, &length);
+    const uint8_t *bytes = bytes_of(env, info, &length, NULL);
     if (!bytes) return NULL;
     dagcbor_tokens(bytes, length, dagcbor_tape_into(NULL, 0), 0, &needed, &at);
     return number_of(env, (int64_t)at);
 }
 
-/* The two arguments, which are bytes. */
-static bool both(napi_env env, napi_callback_info info, const uint8_t *bytes[2],
-                 size_t lengths[2]) {
+/* The two arguments, which are bytes, and what the call is told. */
+static bool both(napi_env env, napi_callback_info info, const uint8_t *bytes[2], size_t lengths[2],
+                 void **about) {
     size_t count = 2;
     napi_value given[2];
-    if (napi_get_cb_info(env, info, &count, given, NULL, NULL) == napi_ok &&
+    if (napi_get_cb_info(env, info, &count, given, NULL, about) == napi_ok &&
         (bytes[0] = bytes_in(env, given[0], &lengths[0])) &&
         (bytes[1] = bytes_in(env, given[1], &lengths[1])))
         return true;
@@ -227,33 +229,33 @@ static bool both(napi_env env, napi_callback_info info, const uint8_t *bytes[2],
     return false;
 }
 
-/* follow(block, path): a Float64Array of the kind of the last item to which a front of the path
- * leads, where it begins and ends, and how many bytes of the path lead there. */
-static napi_value follow(napi_env env, napi_callback_info info) {
-    const uint8_t *given[2];
-    size_t lengths[2], places[3] = {0};
-    if (!both(env, info, given, lengths)) return NULL;
-    int32_t code = dagcbor_follow(given[0], lengths[0], given[1], lengths[1], places);
-    double told[] = {code, (double)places[0], (double)places[1], (double)places[2]};
-    return code < 0 ? number_of(env, code) : doubles(env, told, 4);
+/* A call that is led from a block to an item of it, and says where that is. */
+typedef int32_t Lead(const uint8_t *block, size_t length, const uint8_t *by, size_t count,
+                     size_t places[3]);
+
+static int32_t part(const uint8_t *block, size_t length, const uint8_t *segment, size_t count,
+                    size_t places[3]) {
+    return dagcbor_part(block, length, segment, count, &places[0], &places[1]);
 }
 
-/* part(block, segment): a Float64Array of the kind of the part to which the segment leads, taken
- * whole, and where it begins and ends. */
-static napi_value part(napi_env env, napi_callback_info info) {
+/* follow(block, path): a Float64Array of the kind of the last item to which a front of the path
+ * leads, where it begins and ends, and how many bytes of the path lead there. part(block, segment):
+ * the same of the part to which the segment leads, taken whole. */
+static napi_value lead(napi_env env, napi_callback_info info) {
     const uint8_t *given[2];
-    size_t lengths[2], place = 0, end = 0;
-    if (!both(env, info, given, lengths)) return NULL;
-    int32_t code = dagcbor_part(given[0], lengths[0], given[1], lengths[1], &place, &end);
-    double told[] = {code, (double)place, (double)end};
-    return code < 0 ? number_of(env, code) : doubles(env, told, 3);
+    size_t lengths[2], places[3] = {0};
+    void *call;
+    if (!both(env, info, given, lengths, &call)) return NULL;
+    int32_t code = ((Lead *)call)(given[0], lengths[0], given[1], lengths[1], places);
+    double told[] = {code, (double)places[0], (double)places[1], (double)places[2]};
+    return code < 0 ? number_of(env, code) : doubles(env, told, 4);
 }
 
 /* verify(cid, block): the number of what is said of the two. */
 static napi_value verify(napi_env env, napi_callback_info info) {
     const uint8_t *given[2];
     size_t lengths[2];
-    if (!both(env, info, given, lengths)) return NULL;
+    if (!both(env, info, given, lengths, NULL)) return NULL;
     return number_of(env, dagcbor_verify(given[0], lengths[0], given[1], lengths[1]));
 }
 
@@ -261,7 +263,7 @@ static napi_value verify(napi_env env, napi_callback_info info) {
 static napi_value tape(napi_env env, napi_callback_info info) {
     size_t length, count;
     void *tokens;
-    const uint8_t *bytes = bytes_of(env, info, &length);
+    const uint8_t *bytes = bytes_of(env, info, &length, NULL);
     if (!bytes) return NULL;
     int32_t code = dagcbor_tape(bytes, length, dagcbor_tape_into(NULL, 0), 0, &count);
     if (code < 0) return number_of(env, code);
@@ -270,72 +272,51 @@ static napi_value tape(napi_env env, napi_callback_info info) {
     return answer;
 }
 
-/* links(block): a Uint8Array of them, packed: a byte of length before each. */
-static napi_value links(napi_env env, napi_callback_info info) {
-    size_t length, needed;
-    uint8_t *packed;
-    const uint8_t *bytes = bytes_of(env, info, &length);
-    if (!bytes) return NULL;
-    int32_t code = dagcbor_links(bytes, length, dagcbor_into(NULL, 0), 0, &needed);
-    if (code < 0) return number_of(env, code);
-    napi_value found = new_bytes(env, needed, &packed);
-    if (found) dagcbor_links(bytes, length, dagcbor_into(packed, needed), needed, &needed);
-    return found;
+/* A call that puts bytes into room, in which all have place or nothing is put. */
+typedef int32_t Put(const uint8_t *given, size_t length, uint8_t *out, size_t room, size_t *needed,
+                    size_t *place);
+
+static int32_t links(const uint8_t *block, size_t length, uint8_t *out, size_t room, size_t *needed,
+                     size_t *place) {
+    (void)place;
+    return dagcbor_links(block, length, out, room, needed);
 }
 
-/* nodeLinks(node): a Uint8Array of them, packed: a byte of length before each. */
-static napi_value node_links(napi_env env, napi_callback_info info) {
-    size_t length, needed, place;
-    uint8_t *packed;
-    const uint8_t *node = bytes_of(env, info, &length);
-    if (!node) return NULL;
-    int32_t code = dagcbor_node_links(node, length, dagcbor_into(NULL, 0), 0, &needed, &place);
-    if (code < 0) return number_of(env, code);
-    napi_value found = new_bytes(env, needed, &packed);
-    if (found)
-        dagcbor_node_links(node, length, dagcbor_into(packed, needed), needed, &needed, &place);
-    return found;
+static int32_t to_node(const uint8_t *block, size_t length, uint8_t *out, size_t room,
+                       size_t *needed, size_t *place) {
+    (void)place;
+    return dagcbor_to_node(block, length, out, room, needed);
 }
 
-/* fromNode(node): its data model as a block of DAG-CBOR. */
-static napi_value from_node(napi_env env, napi_callback_info info) {
+/* A Uint8Array of what the call puts. links(block), nodeLinks(node): the links, packed: a byte of
+ * length before each. fromNode(node): its data model as a block of DAG-CBOR. toNode(block): the
+ * block of DAG-PB whose data model it has. */
+static napi_value put_bytes(napi_env env, napi_callback_info info) {
     size_t length, needed, place;
     uint8_t *out;
-    const uint8_t *node = bytes_of(env, info, &length);
-    if (!node) return NULL;
-    int32_t code = dagcbor_from_node(node, length, dagcbor_into(NULL, 0), 0, &needed, &place);
+    void *call;
+    const uint8_t *bytes = bytes_of(env, info, &length, &call);
+    if (!bytes) return NULL;
+    int32_t code = ((Put *)call)(bytes, length, dagcbor_into(NULL, 0), 0, &needed, &place);
     if (code < 0 && code != DAGCBOR_NO_ROOM) return number_of(env, code);
-    napi_value block = new_bytes(env, needed, &out);
-    if (block) dagcbor_from_node(node, length, dagcbor_into(out, needed), needed, &needed, &place);
-    return block;
+    napi_value answer = new_bytes(env, needed, &out);
+    if (answer) ((Put *)call)(bytes, length, dagcbor_into(out, needed), needed, &needed, &place);
+    return answer;
 }
 
 /* placeInNode(bytes): that of the fault for which they are no block of DAG-PB. */
 static napi_value place_in_node(napi_env env, napi_callback_info info) {
     size_t length, needed, place = 0;
-    const uint8_t *node = bytes_of(env, info, &length);
+    const uint8_t *node = bytes_of(env, info, &length, NULL);
     if (!node) return NULL;
     dagcbor_from_node(node, length, dagcbor_into(NULL, 0), 0, &needed, &place);
     return number_of(env, (int64_t)place);
 }
 
-/* toNode(block): the block of DAG-PB whose data model it has. */
-static napi_value to_node(napi_env env, napi_callback_info info) {
-    size_t length, needed;
-    uint8_t *out;
-    const uint8_t *block = bytes_of(env, info, &length);
-    if (!block) return NULL;
-    int32_t code = dagcbor_to_node(block, length, dagcbor_into(NULL, 0), 0, &needed);
-    if (code < 0 && code != DAGCBOR_NO_ROOM) return number_of(env, code);
-    napi_value node = new_bytes(env, needed, &out);
-    if (node) dagcbor_to_node(block, length, dagcbor_into(out, needed), needed, &needed);
-    return node;
-}
-
 /* name(bytes): that of them as a block, a text of its bytes. */
 static napi_value name(napi_env env, napi_callback_info info) {
     size_t length;
-    const uint8_t *bytes = bytes_of(env, info, &length);
+    const uint8_t *bytes = bytes_of(env, info, &length, NULL);
     uint8_t out[36];
     if (!bytes) return NULL;
     dagcbor_name(bytes, length, out);
@@ -347,7 +328,7 @@ static napi_value cid_text(napi_env env, napi_callback_info info) {
     size_t length, needed;
     char bytes[DAGCBOR_CID_MOST + 2]; /* and one more, for what is too long, and a zero */
     uint8_t text[DAGCBOR_CID_TEXT_MOST];
-    napi_value given = argument(env, info);
+    napi_value given = argument(env, info, NULL);
     if (!given) return NULL;
     TRY(napi_get_value_string_latin1(env, given, bytes, sizeof bytes, &length));
     int32_t code = dagcbor_cid_text((const uint8_t *)bytes, length, text, sizeof text, &needed);
@@ -359,7 +340,7 @@ static napi_value cid_from_text(napi_env env, napi_callback_info info) {
     size_t length, needed;
     char text[256]; /* the front of a longer one is too long likewise */
     uint8_t cid[DAGCBOR_CID_MOST];
-    napi_value given = argument(env, info);
+    napi_value given = argument(env, info, NULL);
     if (!given) return NULL;
     TRY(napi_get_value_string_utf8(env, given, text, sizeof text, &length));
     int32_t code = dagcbor_cid_from_text((const uint8_t *)text, length, cid, sizeof cid, &needed);
@@ -390,22 +371,21 @@ static bool put_own(napi_env env, napi_value exports) {
 }
 
 NAPI_MODULE_INIT() {
-    const struct {
-        const char *name;
-        napi_callback call;
-    } all[] = {{"read", read_tape}, {"texts", make_texts}, {"spell", spell},
-               {"check", check}, {"place", place}, {"tape", tape},
-               {"follow", follow}, {"part", part}, {"links", links}, {"name", name},
-               {"nodeLinks", node_links}, {"fromNode", from_node}, {"placeInNode", place_in_node}, {"toNode", to_node},
-               {"verify", verify}, {"cidText", cid_text}, {"cidFromText", cid_from_text},
-               {"carOpen", car_open}, {"carPut", car_put}, {"carGo", car_go},
-               {"carFound", car_found}};
+    const napi_property_descriptor all[] = {
+        CALL("read", read_tape, NULL), CALL("texts", make_texts, NULL), CALL("spell", spell, NULL),
+        CALL("check", check, NULL), CALL("place", place, NULL), CALL("tape", tape, NULL),
+        CALL("name", name, NULL), CALL("verify", verify, NULL),
+        CALL("follow", lead, dagcbor_follow), CALL("part", lead, part),
+        CALL("links", put_bytes, links), CALL("nodeLinks", put_bytes, dagcbor_node_links),
+        CALL("fromNode", put_bytes, dagcbor_from_node), CALL("toNode", put_bytes, to_node),
+        CALL("placeInNode", place_in_node, NULL),
+        CALL("cidText", cid_text, NULL), CALL("cidFromText", cid_from_text, NULL),
+        CALL("carOpen", car_open, NULL), CALL("carGo", car_go, NULL),
+        CALL("carFound", car_found, NULL)};
     napi_value shared = number_of(env, SHARED);
     if (!is_platform(env)) return NULL;
     if (!shared || !put_own(env, exports)) return raise(env, "a call of Node-API failed");
     TRY(napi_set_named_property(env, exports, "shared", shared));
-    for (size_t i = 0; i < sizeof all / sizeof *all; i++)
-        if (!put_call(env, exports, all[i].name, all[i].call))
-            return raise(env, "a call of Node-API failed");
+    TRY(napi_define_properties(env, exports, sizeof all / sizeof *all, all));
     return exports;
 }

@@ -34,8 +34,22 @@ napi_value copied(napi_env env, const uint8_t *bytes, size_t length);
 napi_value doubles(napi_env env, const void *numbers, size_t count); /* a Float64Array of them */
 napi_value array_of(napi_env env, const napi_value *parts, uint32_t count);
 
-bool put_call(napi_env env, napi_value exports, const char *name, napi_callback call);
+/* A call of an addon, by its name; and what one that serves several names is told. */
+#define CALL(name, call, about) {name, NULL, call, NULL, NULL, NULL, napi_enumerable, about}
+
 bool is_platform(napi_env env); /* for which the code is; else an exception is thrown */
+
+/* A work for a thread of the pool, at the front of what it is about. */
+typedef struct Work Work;
+struct Work {
+    void (*run)(Work *);
+    napi_value (*end)(napi_env, Work *, bool is_done); /* the answer, by the script's thread */
+    napi_async_work async;
+    napi_deferred deferred;
+};
+
+/* A promise of the answer, or of the exception that is pending where it is NULL. */
+napi_value promise_of(napi_env env, Work *work);
 
 /* Of texts */
 size_t put_latin1(const uint8_t *text, size_t length, uint8_t *units);
@@ -45,7 +59,6 @@ uint8_t *put_utf8(const uint16_t *units, size_t count, uint8_t *out);
 
 /* Of CAR files */
 napi_value car_open(napi_env env, napi_callback_info info);
-napi_value car_put(napi_env env, napi_callback_info info);
 napi_value car_go(napi_env env, napi_callback_info info);
 napi_value car_found(napi_env env, napi_callback_info info);
 

@@ -28,4 +28,10 @@ const addonOf = (paths) => {
   return { reasons };
 };
 
-module.exports = { addonOf, addonPaths, inOut, modulePaths, platform, programPaths, thereOf };
+// The error where none of a package's addons loads: how one is made, and the reasons.
+const lacking = (name, of, reasons) => {
+  const how = `\`node build.js\` in ${__dirname} compiles one${of}`;
+  return new Error([`there is no addon of ${name} for ${platform}: ${how}`, ...reasons].join('; '));
+};
+
+module.exports = { addonOf, addonPaths, inOut, lacking, modulePaths, programPaths, thereOf };

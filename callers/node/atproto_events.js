@@ -1,10 +1,11 @@
 // Frames of a host's stream (AT Protocol), and the commits in them: atproto.d.ts says what each
 // call does.
 'use strict';
+const { AtHand } = require('./at_hand.js');
 const { eventRefusal } = require('./atproto_errors.js');
 const { textOfKey } = require('./atproto_keys.js');
 const { memory } = require('./atproto_library.js');
-const { isAlone, isBytes, joined, lengthOf, piecesOf, view, whole } = require('./bytes.js');
+const { isAlone, isBytes, lengthOf, piecesOf, view, whole } = require('./bytes.js');
 const { bytesOf } = require('./cid.js');
 const { decode } = require('./decode.js');
 
@@ -53,53 +54,41 @@ const eventOf = (kind, frame, place) => {
   return new Event({ ...fields, frame });
 };
 
-// The frame at the front of bytes, and where it ends; or the number of why there is none.
-const eventAt = (bytes) => {
-  const told = memory.eventFrame(bytes);
-  if (typeof told === 'number') return told;
+// The frame at the front of bytes of which the library tells, and where it ends.
+const eventIn = (bytes, told) => {
+  if (typeof told === 'number') throw eventRefusal(told);
   const [kind, body, end] = told;
   return { event: eventOf(kind, view(bytes, 0, end).slice(), body), end };
 };
 
 const readEvent = (bytes) => {
-  const found = eventAt(bytes);
-  if (typeof found === 'number') throw eventRefusal(found);
-  return [found.event, view(bytes, found.end, lengthOf.call(bytes))];
+  const { event, end } = eventIn(bytes, memory.eventFrame(bytes));
+  return [event, view(bytes, end, lengthOf.call(bytes))];
 };
 
-// Copies of what comes, each of as many bytes as `next` is given, or more, but for the last.
-const gathered = async function* (source) {
-  let least = yield NOTHING;
-  let [parts, size] = [[], 0];
-  for await (const piece of source) {
-    parts.push(whole(piece).slice());
-    size += parts.at(-1).length;
-    if (size < least) continue;
-    least = yield joined(parts);
-    [parts, size] = [[], 0];
+// The frames that are whole at hand.
+const wholeIn = function* (atHand) {
+  for (let { bytes } = atHand; bytes.length; { bytes } = atHand) {
+    const told = memory.eventFrame(bytes);
+    if (told === NO_END) return;
+    const { event, end } = eventIn(bytes, told);
+    atHand.pass(atHand.place + end);
+    yield event;
   }
-  yield joined(parts);
 };
 
 const eventsOf = async function* (source) {
-  const pieces = gathered(source);
-  try {
-    for (let { value: held } = await pieces.next(); ; ) {
-      const found = held.length ? eventAt(held) : NO_END;
-      if (found === NO_END) {
-        const { value: more } = await pieces.next(held.length < LARGE ? 1 : held.length);
-        if (!more?.length && !held.length) return;
-        if (!more?.length) throw eventRefusal(NO_END);
-        held = joined([held, more]);
-      } else if (typeof found === 'number') throw eventRefusal(found);
-      else {
-        held = view(held, found.end, held.length);
-        yield found.event;
-      }
-    }
-  } finally {
-    await pieces.return();
+  const atHand = new AtHand();
+  let wanted = 0; // bytes
+  for await (const piece of source) {
+    atHand.put(whole(piece));
+    if (atHand.bytes.length < wanted) continue;
+    for (const it of wholeIn(atHand)) yield it;
+    const { length } = atHand.bytes;
+    wanted = length < LARGE ? 0 : 2 * length;
   }
+  for (const it of wholeIn(atHand)) yield it;
+  if (atHand.bytes.length) throw eventRefusal(NO_END);
 };
 
 const readEvents = (source) => eventsOf(piecesOf(source));

@@ -1,26 +1,20 @@
 // Repositories of signed records (AT Protocol): atproto.d.ts says what each call does.
 'use strict';
+const { AtHand } = require('./at_hand.js');
 const { memory } = require('./atproto_library.js');
 const { bytesOfKey, textOfKey } = require('./atproto_keys.js');
-const { piecesOf } = require('./bytes.js');
+const { piecesOf, whole } = require('./bytes.js');
 const { decode } = require('./decode.js');
 const { DagCborError } = require('./errors.js');
 const { latin1 } = require('./platform.js');
 
 const NOTHING = new Uint8Array();
 
-// What the call says of the file that comes, whose bytes the addon keeps meanwhile; or the line
-// that tells why there is nothing to say.
+// What the call says of the file that comes; or the line that tells why there is nothing to say.
 const told = async (call, source, key = NOTHING) => {
-  const file = memory.open();
-  let asked;
-  try {
-    for await (const piece of piecesOf(source)) memory.put(file, piece);
-    asked = call(file, key);
-  } finally {
-    memory.drop(file);
-  }
-  const [code, answer] = await asked;
+  const file = new AtHand();
+  for await (const piece of piecesOf(source)) file.put(whole(piece));
+  const [code, answer] = await call(file.bytes, key);
   if (code === 0) return answer;
   throw new DagCborError(undefined, latin1(answer).replace(/\n$/, ''));
 };

@@ -3,17 +3,11 @@
 'use strict';
 const { native } = require('./library.js');
 const { isBytes, joined, whole } = require('./bytes.js');
-const { CID, bytesOf } = require('./cid.js');
+const { CID, bytesOf, varint } = require('./cid.js');
 const { encode } = require('./encode.js');
 const { refusal } = require('./errors.js');
 
 const [OTHER_BYTES, LEAST] = [-22, -23]; // of verdicts, the second the least one
-
-const varintOf = (count) => {
-  const groups = [];
-  for (; count >= 128; count = Math.floor(count / 128)) groups.push((count % 128) + 128);
-  return Uint8Array.of(...groups, count);
-};
 
 const rootOf = (value) => {
   const cid = CID.asCID(value) ?? (isBytes(value?.bytes) ? new CID(value.bytes) : undefined);
@@ -23,19 +17,19 @@ const rootOf = (value) => {
 
 const headerOf = (roots) => {
   const header = encode({ roots: (Array.isArray(roots) ? roots : [roots]).map(rootOf), version: 1 });
-  return joined([varintOf(header.length), header]);
+  return joined([varint(header.length), header]);
 };
 
 const sectionOf = ({ cid, bytes }) => {
   const [name, block] = [bytesOf(cid), bytes].map(whole);
   const code = native.verify(name, block);
   if (code === OTHER_BYTES || code < LEAST) throw refusal(code);
-  return joined([varintOf(name.length + block.length), name, block]);
+  return joined([varint(name.length + block.length), name, block]);
 };
 
 const blockLength = ({ cid, bytes }) => {
   const length = bytesOf(cid).length + bytes.length;
-  return varintOf(length).length + length;
+  return varint(length).length + length;
 };
 
 // How long the header is of roots of these lengths. A link has a tag, which is of two bytes, and then a
@@ -43,7 +37,7 @@ const blockLength = ({ cid, bytes }) => {
 const calculateHeaderLength = (lengths) => {
   const roots = lengths.map((it) => new Uint8Array(1 + it));
   const length = encode({ roots, version: 1 }).length + 2 * lengths.length;
-  return varintOf(length).length + length;
+  return varint(length).length + length;
 };
 
 const headerLength = ({ roots }) => headerOf(roots).length;

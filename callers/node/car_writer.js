@@ -1,10 +1,10 @@
 // CAR files that are written: index.d.ts says what each call does.
 'use strict';
 const { whole } = require('./bytes.js');
-const { Walk } = require('./car.js');
 const {
   blockLength, calculateHeaderLength, headerLength, headerOf, sectionOf,
 } = require('./car_parts.js');
+const { Walk } = require('./car_walk.js');
 const { DagCborError } = require('./errors.js');
 const { readAll, writeAt } = require('./platform.js');
 
@@ -45,11 +45,11 @@ const channel = () => {
 
 // The header of other roots, which takes the place of that of the file, if it fits.
 const headerInPlace = async (source, roots) => {
-  const { front } = await new Walk(source).begin();
+  const { front } = await new Walk().begin(source);
   const header = headerOf(roots);
   if (front.version !== 1) throw new DagCborError('OtherHeader', 'the file is of version 2');
-  if (header.length === front.place) return header;
-  const lengths = `the header has ${front.place} bytes, and that of these roots ${header.length}`;
+  if (header.length === front.end) return header;
+  const lengths = `the header has ${front.end} bytes, and that of these roots ${header.length}`;
   throw new DagCborError('LengthMismatch', lengths);
 };
 

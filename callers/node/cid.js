@@ -234,6 +234,13 @@ class CID {
 
 const cidOf = (binary) => new CID(binary, MADE);
 
+// The CID of this package that a value is.
+const wantedCid = (value) => {
+  const cid = CID.asCID(value);
+  if (cid === null) throw new TypeError('a CID is wanted');
+  return cid;
+};
+
 // The CIDs of packed names: a byte of its length before each.
 const unpack = (packed) => {
   const found = [];
@@ -243,4 +250,7 @@ const unpack = (packed) => {
   return found;
 };
 
-module.exports = { CID, MARK, binaryOf, bytesOf, cidOf, clonedOf, foreignOf, toldOf, unpack };
+module.exports = {
+  CID, MARK, binaryOf, bytesOf, cidOf, clonedOf, foreignOf, toldOf, unpack, varint,
+  wantedCid,
+};

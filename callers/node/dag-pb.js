@@ -7,6 +7,7 @@ const { CID, unpack } = require('./cid.js');
 const { decode: decodeModel } = require('./decode.js');
 const { encode: encodeModel } = require('./encode.js');
 const { answered } = require('./errors.js');
+const { latin1 } = require('./platform.js');
 
 const name = 'dag-pb';
 const code = 0x70;
@@ -50,12 +51,9 @@ const asLink = (link) => {
 };
 
 // By the bytes of the names, of which none counts as the empty one.
-const order = ({ bytes: a }, { bytes: b }) => {
-  const at = a.findIndex((byte, i) => byte !== b[i]);
-  return at < 0 || at >= b.length ? a.length - b.length : a[at] - b[at];
-};
+const order = ({ key: one }, { key: other }) => (one < other ? -1 : Number(one > other));
 const sorted = (links) => {
-  const named = links.map((link) => ({ link, bytes: encoder.encode(link.Name ?? '') }));
+  const named = links.map((link) => ({ link, key: latin1(encoder.encode(link.Name ?? '')) }));
   return named.sort(order).map(({ link }) => link);
 };
 

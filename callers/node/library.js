@@ -1,7 +1,7 @@
 // What answers the library's calls: an addon, or where none loads the WebAssembly module.
 'use strict';
 const { readFileSync } = require('fs');
-const { addonOf, addonPaths, modulePaths, platform, thereOf } = require('./addons.js');
+const { addonOf, addonPaths, lacking, modulePaths, thereOf } = require('./addons.js');
 
 const byModule = (path) => {
   const { callsOf } = require('./wasm/dagcbor.js');
@@ -19,9 +19,6 @@ const byModule = (path) => {
 
 const { addon, reasons } = addonOf(addonPaths('dagcbor'));
 const [path] = thereOf(modulePaths);
-if (!addon && !path) {
-  const how = `\`node build.js\` in ${__dirname} compiles one`;
-  throw new Error([`there is no addon of dagcbor for ${platform}: ${how}`, ...reasons].join('; '));
-}
+if (!addon && !path) throw lacking('dagcbor', '', reasons);
 
 module.exports = { native: addon ?? byModule(path) };

@@ -1,12 +1,11 @@
 /* What takes memory, for Node: an addon of its own, since its library takes memory and the other
-   does not. A file is put piece by piece into memory of its own, which a thread of the pool reads.
-   While the library reads a frame no script runs, and memory that another thread may write is
-   refused. */
+   does not. A file is read by a thread of the pool, in memory that no script writes meanwhile. While
+   the library reads a frame no script runs, and memory that another thread may write is refused. */
 #define _GNU_SOURCE // NOLINT: the C library names it so; for the place of a stack
 #include "addon.h"
 
-#include "car.h"
-#include "dagcbor_memory.h"
+#include "asking.h"
+#include "reasons.h"
 #include "heap.c"
 #include <pthread.h>
 
@@ -22,53 +21,6 @@ __asm__(".symver pthread_attr_getstack, pthread_attr_getstack@" FIRST);
 #endif
 
 enum { STACK = 1 << 20 }; /* bytes that a call of the library wants */
-enum { MORE = 1024 };     /* bytes of an answer, beside as many as what is asked about has */
-
-/* Bytes that are lent. */
-typedef struct {
-    const uint8_t *at;
-    size_t length;
-} Lent;
-
-/* What a call is given: a file, and a key where one is wanted; or a frame, and what is known. And
- * what it answers: a number and bytes. */
-typedef struct {
-    Lent bytes, key, root, rev;
-    int32_t code;
-    uint8_t *answer;
-    size_t needed;
-} Question;
-
-typedef int32_t Call(const Question *given, uint8_t *out, size_t room, size_t *needed);
-
-static int32_t repository_of(const Question *it, uint8_t *out, size_t room, size_t *needed) {
-    return dagcbor_repository(it->bytes.at, it->bytes.length, out, room, needed);
-}
-
-static int32_t commit_of(const Question *it, uint8_t *out, size_t room, size_t *needed) {
-    return dagcbor_commit(it->bytes.at, it->bytes.length, out, room, needed);
-}
-
-static int32_t proof_of(const Question *it, uint8_t *out, size_t room, size_t *needed) {
-    return dagcbor_record_proof(it->bytes.at, it->bytes.length, it->key.at, it->key.length, out,
-                                room, needed);
-}
-
-static int32_t event_of(const Question *it, uint8_t *out, size_t room, size_t *needed) {
-    return dagcbor_verify_event(it->bytes.at, it->bytes.length, it->root.at, it->root.length,
-                                it->rev.at, it->rev.length, out, room, needed);
-}
-
-/* Asks, and where the answer has no room again: it is told how much is needed. */
-static void ask(Question *it, Call *call) {
-    size_t room = it->bytes.length + MORE;
-    do {
-        free(it->answer);
-        it->answer = malloc(room);
-        it->code = it->answer ? call(it, it->answer, room, &it->needed) : DAGCBOR_NO_MEMORY;
-        room = it->needed;
-    } while (it->code == DAGCBOR_NO_ROOM);
-}
 
 /* [code, bytes]: what was answered. */
 static napi_value answer_of(napi_env env, const Question *it) {
@@ -79,136 +31,62 @@ static napi_value answer_of(napi_env env, const Question *it) {
     return array_of(env, parts, 2);
 }
 
+/* So many arguments, which are bytes, and what the call is told; false, with an exception thrown,
+ * where they are not. */
+static bool takes(napi_env env, napi_callback_info info, size_t count, napi_value *given,
+                  Lent *bytes, void **about) {
+    size_t given_count = count;
+    bool are = napi_get_cb_info(env, info, &given_count, given, NULL, about) == napi_ok;
+    for (size_t i = 0; are && i < count; i++)
+        are = (bytes[i].at = bytes_in(env, given[i], &bytes[i].length)) != NULL;
+    if (!are) no_bytes(env);
+    return are;
+}
+
 /* Of files */
-
-static void file_free(napi_env env, void *given, void *hint) {
-    (void)env, (void)hint;
-    bytes_free(given);
-    free(given);
-}
-
-/* open(): a file of which nothing was put. */
-static napi_value open_file(napi_env env, napi_callback_info info) {
-    napi_value answer;
-    Bytes *file = calloc(1, sizeof *file);
-    (void)info;
-    if (!file) return no_memory(env);
-    if (napi_create_external(env, file, file_free, NULL, &answer) == napi_ok) return answer;
-    free(file);
-    return raise(env, "no file was begun");
-}
-
-/* The file and the bytes that are the arguments; NULL, with an exception thrown, where they are
- * not. */
-static Bytes *file_and_bytes(napi_env env, napi_callback_info info, Lent *bytes) {
-    size_t count = 2;
-    napi_value given[2];
-    void *file;
-    TRY(napi_get_cb_info(env, info, &count, given, NULL, NULL));
-    TRY(napi_get_value_external(env, given[0], &file));
-    bytes->at = bytes_in(env, given[1], &bytes->length);
-    return bytes->at ? file : no_bytes(env);
-}
-
-/* put(file, piece): bytes that follow. */
-static napi_value put(napi_env env, napi_callback_info info) {
-    Lent piece = {0};
-    Bytes *file = file_and_bytes(env, info, &piece);
-    if (!file) return NULL;
-    return bytes_add(file, piece.at, piece.length) ? NULL : no_memory(env);
-}
-
-/* drop(file): lets go of what was put. */
-static napi_value drop(napi_env env, napi_callback_info info) {
-    size_t count = 1;
-    napi_value given;
-    void *file;
-    TRY(napi_get_cb_info(env, info, &count, &given, NULL, NULL));
-    TRY(napi_get_value_external(env, given, &file));
-    bytes_free(file);
-    return NULL;
-}
 
 /* A question about a file, which a thread of the pool asks. */
 typedef struct {
+    Work work;
     Question question;
     Call *call;
-    Bytes file; /* and the key, which stands after it */
-    napi_async_work work;
-    napi_deferred deferred;
+    napi_ref kept; /* the bytes */
 } Task;
 
-static void at_work(napi_env env, void *given) {
-    Task *task = given;
-    (void)env;
+static void task_run(Work *work) {
+    Task *task = (Task *)work;
     ask(&task->question, task->call);
 }
 
-static void task_free(napi_env env, Task *task) {
-    if (task->work) napi_delete_async_work(env, task->work);
-    bytes_free(&task->file);
+static napi_value task_end(napi_env env, Work *work, bool is_done) {
+    Task *task = (Task *)work;
+    napi_value answer = is_done ? answer_of(env, &task->question) : no_memory(env);
+    napi_delete_reference(env, task->kept);
     free(task->question.answer);
     free(task);
+    return answer;
 }
 
-/* Settles the promise. */
-static void ended(napi_env env, napi_status status, void *given) {
-    Task *task = given;
-    napi_deferred deferred = task->deferred;
-    napi_value error, answer = NULL;
-    if (status == napi_ok) answer = answer_of(env, &task->question);
-    else raise(env, "the work was not done");
-    task_free(env, task);
-    if (answer) napi_resolve_deferred(env, deferred, answer);
-    else if (napi_get_and_clear_last_exception(env, &error) == napi_ok)
-        napi_reject_deferred(env, deferred, error);
-}
-
-/* A promise of the answer. */
-static napi_value promise_of(napi_env env, Task *task) {
-    napi_value name, promise;
-    if (napi_create_string_latin1(env, "dagcbor", NAPI_AUTO_LENGTH, &name) == napi_ok &&
-        napi_create_async_work(env, NULL, name, at_work, ended, task, &task->work) == napi_ok &&
-        napi_create_promise(env, &task->deferred, &promise) == napi_ok &&
-        napi_queue_async_work(env, task->work) == napi_ok)
-        return promise;
-    task_free(env, task);
-    return raise(env, "no work was begun");
-}
-
-/* Takes what was put, so that the file is empty, and asks about it. */
-static napi_value ask_later(napi_env env, napi_callback_info info, Call *call) {
-    Lent key = {0};
-    Bytes *file = file_and_bytes(env, info, &key);
-    if (!file) return NULL;
-    size_t length = file->used;
-    Task *task = bytes_add(file, key.at, key.length) ? calloc(1, sizeof *task) : NULL;
+/* repository(file, no bytes), commit(file, no bytes), recordProof(file, key), of bytes that nobody
+ * writes meanwhile: a promise of 0, and the block that tells of the repository or of the commit, or
+ * the file that decides which record the key has; or of 1, and the line that tells why there is
+ * none. */
+static napi_value ask_later(napi_env env, napi_callback_info info) {
+    napi_value given[2], kept, promise = NULL;
+    Lent bytes[2];
+    void *call;
+    if (!takes(env, info, 2, given, bytes, &call)) return NULL;
+    Task *task = calloc(1, sizeof *task);
     if (!task) return no_memory(env);
-    task->file = *file;
-    *file = (Bytes){NULL, 0, 0};
-    task->call = call;
-    const uint8_t *start = dagcbor_from(task->file.start, task->file.used);
-    task->question.bytes = (Lent){start, length};
-    task->question.key = (Lent){start + length, key.length};
-    return promise_of(env, task);
-}
-
-/* repository(file, no bytes): a promise of 0, and the block that tells of the repository; or of 1,
- * and the line that tells why the file is none. */
-static napi_value repository(napi_env env, napi_callback_info info) {
-    return ask_later(env, info, repository_of);
-}
-
-/* commit(file, no bytes): a promise of 0, and the block that tells of the commit; or of 1, and the
- * line. */
-static napi_value commit(napi_env env, napi_callback_info info) {
-    return ask_later(env, info, commit_of);
-}
-
-/* recordProof(file, key): a promise of 0, and the file that decides which record the key has; or of
- * 1, and the line. */
-static napi_value record_proof(napi_env env, napi_callback_info info) {
-    return ask_later(env, info, proof_of);
+    *task = (Task){.work = {.run = task_run, .end = task_end}, .call = call};
+    task->question.bytes = bytes[0];
+    task->question.key = bytes[1];
+    if ((kept = array_of(env, given, 2)) &&
+        napi_create_reference(env, kept, 1, &task->kept) == napi_ok)
+        promise = promise_of(env, &task->work);
+    if (promise) return promise;
+    free(task);
+    return raise(env, "no work was begun");
 }
 
 /* Of frames */
@@ -232,19 +110,12 @@ static bool has_stack(napi_env env) {
     return (uintptr_t)__builtin_frame_address(0) - (uintptr_t)lowest > STACK + STACK / 8;
 }
 
-/* So many arguments, which are bytes; false, with an exception thrown, where they are not. */
-static bool are_bytes(napi_env env, napi_callback_info info, size_t count, Lent *bytes) {
-    size_t given_count = count;
+/* The bytes that are the arguments, if the stack is enough. */
+static bool are_lent(napi_env env, napi_callback_info info, size_t count, Lent *bytes) {
     napi_value given[3];
-    if (!has_stack(env)) {
-        napi_throw_range_error(env, NULL, "a frame is read with 1 MB of the stack left");
-        return false;
-    }
-    bool are = napi_get_cb_info(env, info, &given_count, given, NULL, NULL) == napi_ok;
-    for (size_t i = 0; are && i < count; i++)
-        are = (bytes[i].at = bytes_in(env, given[i], &bytes[i].length)) != NULL;
-    if (!are) no_bytes(env);
-    return are;
+    if (has_stack(env)) return takes(env, info, count, given, bytes, NULL);
+    napi_throw_range_error(env, NULL, "a frame is read with 1 MB of the stack left");
+    return false;
 }
 
 /* eventFrame(bytes): of the frame at their front a Float64Array of the number of its kind, of where
@@ -252,7 +123,7 @@ static bool are_bytes(napi_env env, napi_callback_info info, size_t count, Lent 
 static napi_value event_frame(napi_env env, napi_callback_info info) {
     Lent bytes = {0};
     size_t body = 0, end = 0;
-    if (!are_bytes(env, info, 1, &bytes)) return NULL;
+    if (!are_lent(env, info, 1, &bytes)) return NULL;
     int32_t code = dagcbor_event_frame(bytes.at, bytes.length, &body, &end);
     double told[] = {code, (double)body, (double)end};
     if (code == DAGCBOR_NO_MEMORY) return no_memory(env);
@@ -263,7 +134,7 @@ static napi_value event_frame(napi_env env, napi_callback_info info) {
  * is not, and the CID of a node. */
 static napi_value verify_event(napi_env env, napi_callback_info info) {
     Lent given[3] = {{0}};
-    if (!are_bytes(env, info, 3, given)) return NULL;
+    if (!are_lent(env, info, 3, given)) return NULL;
     Question question = {.bytes = given[0], .root = given[1], .rev = given[2]};
     ask(&question, event_of);
     napi_value answer = answer_of(env, &question);
@@ -271,22 +142,25 @@ static napi_value verify_event(napi_env env, napi_callback_info info) {
     return answer;
 }
 
+/* The reason of a number: its name, and words. */
+static napi_value reason(napi_env env, napi_callback_info info) {
+    size_t count = 1;
+    napi_value given, parts[2];
+    int32_t code;
+    TRY(napi_get_cb_info(env, info, &count, &given, NULL, NULL));
+    TRY(napi_get_value_int32(env, given, &code));
+    TRY(napi_create_string_utf8(env, dagcbor_name_of_code(code), NAPI_AUTO_LENGTH, &parts[0]));
+    TRY(napi_create_string_utf8(env, reason_of_code(code), NAPI_AUTO_LENGTH, &parts[1]));
+    return array_of(env, parts, 2);
+}
+
 NAPI_MODULE_INIT() {
-    const struct {
-        const char *name;
-        napi_callback call;
-    } all[] = {{"open", open_file},
-               {"put", put},
-               {"drop", drop},
-               {"repository", repository},
-               {"commit", commit},
-               {"recordProof", record_proof},
-               {"eventFrame", event_frame},
-               {"verifyEvent", verify_event}};
+    const napi_property_descriptor all[] = {
+        CALL("repository", ask_later, repository_of), CALL("commit", ask_later, commit_of),
+        CALL("recordProof", ask_later, proof_of), CALL("eventFrame", event_frame, NULL),
+        CALL("verifyEvent", verify_event, NULL), CALL("reason", reason, NULL)};
     if (!is_platform(env)) return NULL;
     TRY(napi_set_instance_data(env, end_of_stack(), NULL, NULL));
-    for (size_t i = 0; i < sizeof all / sizeof *all; i++)
-        if (!put_call(env, exports, all[i].name, all[i].call))
-            return raise(env, "a call of Node-API failed");
+    TRY(napi_define_properties(env, exports, sizeof all / sizeof *all, all));
     return exports;
 }

@@ -2,23 +2,21 @@
 'use strict';
 const { native } = require('./library.js');
 const { isAlone, lengthOf, view } = require('./bytes.js');
-const { verify } = require('./car.js');
-const { CID, binaryOf, toldOf } = require('./cid.js');
+const { binaryOf, bytesOf, toldOf, wantedCid } = require('./cid.js');
 const { decode } = require('./decode.js');
 const { DagCborError, answered, refusal } = require('./errors.js');
 
-const [LINK, IDENTITY, NOT_READ, OTHER_BYTES, NOT_VERIFIED] = [7, 0, 9, -22, -23];
+const [LINK, IDENTITY, NOT_READ, OTHER_BYTES] = [7, 0, 9, -22];
 const [NO_SUCH_PATH, NO_TEXT] = [-36, -37];
-const REFUSED = { 'not read': NOT_READ, 'other bytes': OTHER_BYTES, 'not verified': NOT_VERIFIED };
 
-const bytesOf = (text) => {
+const utf8Of = (text) => {
   if (typeof text !== 'string') throw new TypeError('a path is a text, or an array of texts');
   if (isAlone(text)) throw refusal(NO_TEXT);
   return new TextEncoder().encode(text);
 };
 
 // The bytes of a text, or an array of those of each segment.
-const pathOf = (path) => (Array.isArray(path) ? Array.from(path, bytesOf) : bytesOf(path));
+const pathOf = (path) => (Array.isArray(path) ? Array.from(path, utf8Of) : utf8Of(path));
 
 // The last item of the block to which a front of the path leads, whether it is a link, and what is
 // left of the path, or null where nothing is.
@@ -63,15 +61,13 @@ const heldUnder = async (get, cid) => {
 // Refuses bytes that are not the block of the name.
 const verified = (cid, block) => {
   if (native.name(block) === binaryOf(cid)) return block;
-  const code = REFUSED[verify(cid, block)];
-  if (code !== undefined) throw refusal(code);
+  const code = native.verify(bytesOf(cid), block);
+  if (code === NOT_READ || code <= OTHER_BYTES) throw refusal(code);
   return block;
 };
 
 const resolve = async (get, cid, path) => {
-  let left = pathOf(path);
-  let name = CID.asCID(cid);
-  if (name === null) throw new TypeError('a CID is wanted');
+  let [left, name] = [pathOf(path), wantedCid(cid)];
   for (;;) {
     const found = follow(verified(name, await heldUnder(get, name)), left);
     if (found.left === null) return decode(found.item);

@@ -4,7 +4,7 @@ const { access, constants } = require('fs/promises');
 const { resolve } = require('path');
 const { fileURLToPath } = require('url');
 const { isAlone, isBytes, whole } = require('./bytes.js');
-const { CID } = require('./cid.js');
+const { CID, wantedCid } = require('./cid.js');
 const { InvalidBlock, NotFoundError } = require('./store_errors.js');
 const { Program } = require('./store_program.js');
 
@@ -13,12 +13,6 @@ const WORDS = { delete: 'remove', addRoot: 'add-root', dropRoot: 'drop-root' };
 
 const textOf = (bytes) => Buffer.from(bytes).toString();
 const cidsIn = (bytes) => textOf(bytes).split('\n').filter(Boolean).map((it) => new CID(it));
-const cidOf = (value) => {
-  const cid = CID.asCID(value);
-  if (cid === null) throw new TypeError('a CID is wanted');
-  return cid;
-};
-
 // An absolute path, which can stand in a line.
 const pathOf = (path) => {
   const text = path instanceof URL ? fileURLToPath(path) : path;
@@ -36,19 +30,19 @@ const codecOf = (codec) => {
 };
 
 // The request of a change. A block is copied, since it is sent later.
-const requestOf = ({ put, cid, codec = cid ? cidOf(cid).code : 'dag-cbor', ...named }) => {
+const requestOf = ({ put, cid, codec = cid ? wantedCid(cid).code : 'dag-cbor', ...named }) => {
   if (put !== undefined) {
     const block = whole(put).slice();
-    return { line: `add ${codecOf(codec)} ${block.length}`, block, cid: cid && cidOf(cid) };
+    return { line: `add ${codecOf(codec)} ${block.length}`, block, cid: cid && wantedCid(cid) };
   }
   const [[word, value] = []] = Object.entries(named);
   if (!Object.hasOwn(WORDS, word)) throw new TypeError(`no change is named ${word}`);
-  return { line: `${WORDS[word]} ${cidOf(value)}` };
+  return { line: `${WORDS[word]} ${wantedCid(value)}` };
 };
 
 // `put(block, codec)`, or as a blockstore `put(cid, block)`.
 const changeOf = (first, second) =>
-  isBytes(first) ? { put: first, codec: second } : { put: second, cid: cidOf(first) };
+  isBytes(first) ? { put: first, codec: second } : { put: second, cid: wantedCid(first) };
 
 class Store {
   #program;
@@ -121,14 +115,14 @@ class Store {
   }
 
   async get(cid) {
-    const name = cidOf(cid);
+    const name = wantedCid(cid);
     const block = await this.#ask(`get ${name}`);
     if (block === null) throw new NotFoundError(`nothing is stored under ${name}`);
     return block;
   }
 
   async has(cid) {
-    return (await this.#ask(`has ${cidOf(cid)}`)) !== null;
+    return (await this.#ask(`has ${wantedCid(cid)}`)) !== null;
   }
 
   async count() {

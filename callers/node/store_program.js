@@ -3,12 +3,14 @@
 const { spawn } = require('child_process');
 const { existsSync } = require('fs');
 const { programPaths, thereOf } = require('./addons.js');
-const { joined } = require('./bytes.js');
+const { AtHand } = require('./at_hand.js');
 const { CID } = require('./cid.js');
+const { latin1 } = require('./platform.js');
 const errors = require('./store_errors.js');
 
 const [CARRIED = 'dagstore'] = thereOf(programPaths);
 const LINE_FEED = 10;
+const ANSWER = /^(ok|none|refused|bad) (\d+)$/; // before so many bytes
 const HOW = 'name it, or set DAGSTORE, or put it on PATH';
 const missing = (program) => (existsSync(program)
   ? `the program ${program} is for another platform than this: ${HOW}`
@@ -39,7 +41,7 @@ const refusalOf = (said) => {
 class Program {
   #child;
   #pieces; // of what it answers
-  #rest = Buffer.alloc(0); // of the last piece
+  #said = new AtHand(); // of them
   #told = ''; // on standard error
   #isClosed = false;
   #end; // kept with the error that tells of it
@@ -90,23 +92,19 @@ class Program {
   async #more() {
     const { value, done } = await this.#pieces.next().catch(() => ({ done: true }));
     if (done) throw await this.#end;
-    return value;
+    this.#said.put(value);
   }
 
   async #answer() {
-    let [line, rest, parts] = ['', this.#rest, []];
-    for (; !rest.includes(LINE_FEED); rest = await this.#more()) line += rest.latin1Slice();
-    const end = rest.indexOf(LINE_FEED);
-    line += rest.latin1Slice(0, end);
-    const [, word, length] = /^(ok|none|refused|bad) (\d+)$/.exec(line) ?? [];
+    const said = this.#said;
+    let end;
+    while ((end = said.bytes.indexOf(LINE_FEED)) < 0) await this.#more();
+    const [, word, length = Infinity] = ANSWER.exec(latin1(said.bytes, 0, end)) ?? [];
     if (word === undefined) this.#child.kill('SIGKILL'); // it is another program
-    let lacking = Number(length ?? Infinity);
-    for (rest = rest.subarray(end + 1); rest.length < lacking; rest = await this.#more()) {
-      parts.push(rest);
-      lacking -= rest.length;
-    }
-    this.#rest = rest.subarray(lacking);
-    const bytes = joined([...parts, rest.subarray(0, lacking)]);
+    const [from, to] = [end + 1, end + 1 + Number(length)];
+    while (said.bytes.length < to) await this.#more();
+    const bytes = said.bytes.slice(from, to);
+    said.pass(said.place + to);
     if (word === 'ok') return bytes;
     if (word === 'none') return null;
     throw refusalOf(Buffer.from(bytes).toString());

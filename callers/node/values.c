@@ -92,8 +92,30 @@ bool is_platform(napi_env env) {
     return false;
 }
 
-bool put_call(napi_env env, napi_value exports, const char *name, napi_callback call) {
-    napi_value function;
-    return napi_create_function(env, name, NAPI_AUTO_LENGTH, call, NULL, &function) == napi_ok &&
-           napi_set_named_property(env, exports, name, function) == napi_ok;
+static void at_work(napi_env env, void *work) {
+    (void)env;
+    ((Work *)work)->run(work);
+}
+
+/* Settles the promise. */
+static void at_end(napi_env env, napi_status status, void *given) {
+    Work *work = given;
+    napi_deferred deferred = work->deferred;
+    napi_value error;
+    napi_delete_async_work(env, work->async);
+    napi_value answer = work->end(env, work, status == napi_ok);
+    if (answer) napi_resolve_deferred(env, deferred, answer);
+    else if (napi_get_and_clear_last_exception(env, &error) == napi_ok)
+        napi_reject_deferred(env, deferred, error);
+}
+
+napi_value promise_of(napi_env env, Work *work) {
+    napi_value name, promise;
+    TRY(napi_create_string_latin1(env, "dagcbor", NAPI_AUTO_LENGTH, &name));
+    TRY(napi_create_async_work(env, NULL, name, at_work, at_end, work, &work->async));
+    if (napi_create_promise(env, &work->deferred, &promise) == napi_ok &&
+        napi_queue_async_work(env, work->async) == napi_ok)
+        return promise;
+    napi_delete_async_work(env, work->async);
+    return raise(env, "no work was begun");
 }

@@ -13,13 +13,18 @@ const shared = [...scriptsIn(node), ...scriptsIn(join(node, 'wasm'))].filter((it
 
 const names = (inside) => inside.replace(/(\w+): (\w+)/g, '$1 as $2');
 
+// What a file exports: all of some others, and names of its own.
+const OTHERS = /\.\.\.require\('([^']*)'\),\s*/g;
+const exported = (all) =>
+  `${all.match(OTHERS)?.join('').replace(OTHERS, "export * from '$1';\n") ?? ''}export ${all.replace(OTHERS, '')};`;
+
 // A file as Node takes it, by imports and exports.
 const asModule = (text, path) => {
   const made = text
     .replace(/^'use strict';\n/m, '')
     .replace(/^const (\{[^}]*\}|\w+) = require\('([^']*)'\);$/gm, (_, inside, from) =>
       `import ${inside[0] === '{' ? names(inside) : `* as ${inside}`} from './${basename(from)}';`)
-    .replace(/^module\.exports = (\{[^}]*\});$/m, 'export $1;');
+    .replace(/^module\.exports = (\{[^}]*\});$/m, (_, all) => exported(all));
   if (/\brequire\(|\bmodule\.exports\b/.test(made)) throw new Error(`${path} goes into no module`);
   return made;
 };

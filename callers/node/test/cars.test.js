@@ -172,10 +172,10 @@ const section = (block, cid = cidOf(block)) => {
 test('each row by the host, whatever its length', async () => {
   const found = async (bytes, isCheck, sha256) => {
     const car = native.carOpen(isCheck);
-    native.carPut(car, bytes);
-    native.carPut(car, undefined);
     const steps = [];
-    do steps.push(await native.carGo(car, sha256, 0)); while (steps.at(-1)[0] === 0);
+    for (let [code, place] = [0, 0]; code === 0; [code, place] = steps.at(-1)) {
+      steps.push(await native.carGo(car, bytes.subarray(place), true, sha256, 0));
+    }
     return [steps, native.carFound(car)];
   };
   for (const { bytes } of rows) {

@@ -5,11 +5,11 @@
 // It imports nothing, and has a 64-bit memory: addresses and lengths are BigInts.
 const PAGE = 65536;
 const FRONT = 64;
-const NO_ROOM = -21;
 const LEAST = -23; // of verdicts on sections
 const HEADER = 11; // of a walk
 const WALK = 24; // bytes of a walk, which stand at this place of the front
 const ROOM_TOKENS = 1 << 20; // that are given room before they are counted
+const TOKENS = { size: 24 };
 const NOT_READ = 9;
 const OTHERS = -22; // bytes than those that are named
 const CID_MOST = 86;
@@ -56,10 +56,31 @@ class Room {
   copy(at, length) {
     return new Uint8Array(this.memory.buffer, this.base + FRONT + at, length).slice();
   }
+
+  // What a call answers that puts parts of a size behind the bytes; where they stand, and their length.
+  // It has room for so many at first, and is asked again if it tells of more, unless these are too many.
+  ask(call, bytes, { size = 1, few = 0, most = Infinity, out = behind(bytes.length) } = {}) {
+    const given = this.put(bytes);
+    for (let count = few; ; count = this.number()) {
+      this.reserve(out + size * count);
+      const code = call(...given, this.address(out), BigInt(count), this.front, this.front + 8n);
+      const needed = this.number();
+      if (needed <= count || needed > most) return [code, out, size * needed];
+    }
+  }
+
+  // The number of a refusal, or a copy of what the call puts.
+  take(...asked) {
+    const [code, out, length] = this.ask(...asked);
+    return code < 0 ? code : this.copy(out, length);
+  }
 }
 
 // Where tokens stand behind so many bytes: at a multiple of 8.
 const behind = (length) => Math.ceil(length / 8) * 8;
+
+// A number of the library, or what is made of its other answers.
+const told = (answer, make) => (typeof answer === 'number' ? answer : make(answer));
 
 // CIDs, each behind a byte of length.
 const unpacked = (packed) => {
@@ -88,39 +109,20 @@ const putBoth = (room, block, text) => {
   return [...given, room.address(block.length), BigInt(text.length)];
 };
 
-const judging = (calls, room) => ({
+const answering = (calls, room) => ({
   check: (block) => calls.dagcbor_check(...room.put(block)),
   name: (block) => {
     calls.dagcbor_name(...room.put(block), room.front);
     return room.copy(-FRONT, 36);
   },
   // The number of a refusal, or the tokens: three BigInts each.
-  tape: (block) => {
-    const out = behind(block.length);
-    const given = room.put(block);
-    const ask = (count) =>
-      calls.dagcbor_tape(...given, room.address(out), BigInt(count), room.front);
-    const code = ask(0);
-    if (code < 0) return code;
-    const count = room.number();
-    room.reserve(out + 24 * count);
-    ask(count);
-    return new BigUint64Array(room.copy(out, 24 * count).buffer);
-  },
+  tape: (block) => told(room.take(calls.dagcbor_tape, block, TOKENS), ({ buffer }) =>
+    new BigUint64Array(buffer)),
   // The number of a refusal, or the compact tokens: three words of 32 bits each, up to the next call.
   compactTape: (block) => {
-    const out = behind(block.length);
-    const given = room.put(block);
-    const ask = (count) => {
-      room.reserve(out + 12 * count);
-      return calls.dagcbor_compact_tape(...given, room.address(out), BigInt(count), room.front);
-    };
-    const most = Math.min(block.length, ROOM_TOKENS);
-    const code = ask(most);
-    if (code < 0) return code;
-    const count = room.number();
-    if (count > most) ask(count);
-    return new Uint32Array(room.memory.buffer, room.base + FRONT + out, 3 * count);
+    const given = { size: 12, few: Math.min(block.length, ROOM_TOKENS) };
+    const [code, out, length] = room.ask(calls.dagcbor_compact_tape, block, given);
+    return code < 0 ? code : new Uint32Array(room.memory.buffer, room.base + FRONT + out, length / 4);
   },
   // The number of what is said of a block under the name that the bytes of a CID are.
   verify: (cid, block) => calls.dagcbor_verify(...putBoth(room, cid, block)),
@@ -128,17 +130,10 @@ const judging = (calls, room) => ({
   // length where there is none; how many tokens stand before it, and the tokens, or null where they
   // are more than `most`.
   tokens: (bytes, most = Infinity) => {
-    const out = behind(bytes.length);
-    const given = room.put(bytes);
-    const place = room.front + 8n;
-    const ask = (count) =>
-      calls.dagcbor_tokens(...given, room.address(out), BigInt(count), room.front, place);
-    const told = { code: ask(0), place: room.number(1), count: room.number(), tape: null };
-    if (told.count > most) return told;
-    room.reserve(out + 24 * told.count);
-    ask(told.count);
-    told.tape = new BigUint64Array(room.copy(out, 24 * told.count).buffer);
-    return told;
+    const [code, out, length] = room.ask(calls.dagcbor_tokens, bytes, { ...TOKENS, most });
+    const [count, place] = [room.number(0), room.number(1)];
+    const tape = count > most ? null : new BigUint64Array(room.copy(out, length).buffer);
+    return { code, place, count, tape };
   },
   // The number of a refusal; or the kind of the last item to which a front of the path leads, whose
   // UTF-8 it is, where the item begins and ends, and how many bytes of the path lead there.
@@ -155,90 +150,36 @@ const judging = (calls, room) => ({
     return kind < 0 ? kind : { kind, begin: room.number(0), end: room.number(1) };
   },
   // The number of a refusal, or CIDs: packed they are shorter than the block.
-  links: (block) => {
-    const out = block.length;
-    const given = room.put(block, out + 1);
-    const code = calls.dagcbor_links(...given, room.address(out), BigInt(out), room.front);
-    return code < 0 ? code : unpacked(room.copy(out, room.number()));
-  },
-});
-
-const spelling = (calls, room) => ({
+  links: (block) => told(room.take(calls.dagcbor_links, block, { few: block.length }), unpacked),
   // The number of a refusal, or the block that a BigUint64Array of tokens tells, with payloads
   // out of the bytes.
   spell: (bytes, tape) => {
     const at = behind(bytes.length);
     const out = at + 8 * tape.length;
-    const given = room.put(bytes, out + 1 - bytes.length);
+    room.reserve(out);
     new BigUint64Array(room.memory.buffer, room.base + FRONT + at, tape.length).set(tape);
     const tokens = [room.address(at), BigInt(Math.floor(tape.length / 3))];
-    const ask = (length) => calls.dagcbor_spell(
-      ...given, ...tokens, room.address(out), BigInt(length), room.front);
-    const asked = ask(0);
-    if (asked !== NO_ROOM) return asked;
-    const needed = room.number();
-    room.reserve(out + needed);
-    const code = ask(needed);
-    return code < 0 ? code : room.copy(out, needed);
+    const call = (from, length, ...more) => calls.dagcbor_spell(from, length, ...tokens, ...more);
+    return room.take(call, bytes, { out });
   },
+  // The number of a refusal, or the links of a block of DAG-PB: packed they are shorter than it.
+  nodeLinks: (node) => told(room.take(calls.dagcbor_node_links, node, { few: node.length }), unpacked),
+  // The number of a refusal, or the data model of a block of DAG-PB, as a block of DAG-CBOR.
+  fromNode: (node) => room.take(calls.dagcbor_from_node, node),
+  // Where the fault stands for which bytes are no block of DAG-PB.
+  placeInNode: (bytes) => {
+    room.ask(calls.dagcbor_from_node, bytes);
+    return room.number(1);
+  },
+  // The number of a refusal, or the block of DAG-PB whose data model a block of DAG-CBOR has.
+  toNode: (block) => room.take(calls.dagcbor_to_node, block),
+  // The number of a refusal, or the text of a CID.
+  cidText: (bytes) => told(room.take(calls.dagcbor_cid_text, bytes, { few: CID_TEXT_MOST }), (text) =>
+    String.fromCharCode(...text)),
+  // The number of a refusal, or the CID of a text.
+  cidFromText: (text) =>
+    room.take(calls.dagcbor_cid_from_text, new TextEncoder().encode(text), { few: CID_MOST }),
 });
-
-// Blocks of DAG-PB, by their data model.
-const converting = (calls, room) => {
-  // The number of a refusal, or what the call puts, for which it is asked how much room that needs.
-  const answer = (bytes, call) => {
-    const out = bytes.length;
-    const given = room.put(bytes, 1);
-    const ask = (length) => call(...given, room.address(out), BigInt(length), room.front);
-    const asked = ask(0);
-    if (asked !== NO_ROOM) return asked < 0 ? asked : room.copy(out, 0);
-    const needed = room.number();
-    room.reserve(out + needed);
-    ask(needed);
-    return room.copy(out, needed);
-  };
-  const fromNode = (node) =>
-    answer(node, (...given) => calls.dagcbor_from_node(...given, room.front + 8n));
-  return {
-    // The number of a refusal, or the links of a block of DAG-PB: packed they are shorter than it.
-    nodeLinks: (node) => {
-      const out = node.length;
-      const given = room.put(node, out + 1);
-      const code = calls.dagcbor_node_links(
-        ...given, room.address(out), BigInt(out), room.front, room.front + 8n);
-      return code < 0 ? code : unpacked(room.copy(out, room.number()));
-    },
-    // The number of a refusal, or the data model of a block of DAG-PB, as a block of DAG-CBOR.
-    fromNode,
-    // Where the fault stands for which bytes are no block of DAG-PB.
-    placeInNode: (bytes) => {
-      fromNode(bytes);
-      return room.number(1);
-    },
-    // The number of a refusal, or the block of DAG-PB whose data model a block of DAG-CBOR has.
-    toNode: (block) => answer(block, (...given) => calls.dagcbor_to_node(...given)),
-  };
-};
-
-const naming = (calls, room) => {
-  // The number of a refusal, or what the call puts into so much room.
-  const answer = (call, bytes, most) => {
-    const given = room.put(bytes, most);
-    const out = bytes.length;
-    const code = call(...given, room.address(out), BigInt(most), room.front);
-    return code < 0 ? code : room.copy(out, room.number());
-  };
-  return {
-    // The number of a refusal, or the text of a CID.
-    cidText: (bytes) => {
-      const text = answer(calls.dagcbor_cid_text, bytes, CID_TEXT_MOST);
-      return typeof text === 'number' ? text : String.fromCharCode(...text);
-    },
-    // The number of a refusal, or the CID of a text.
-    cidFromText: (text) =>
-      answer(calls.dagcbor_cid_from_text, new TextEncoder().encode(text), CID_MOST),
-  };
-};
 
 const walking = (calls, room) => ({
   // A walk through a CAR file of which no byte was seen. Its first number is the place in the
@@ -285,8 +226,7 @@ const walking = (calls, room) => ({
 const instanceOf = (module) => {
   const { exports: calls } = new WebAssembly.Instance(module);
   const room = new Room(calls);
-  const parts = [judging, spelling, converting, naming, walking].map((it) => it(calls, room));
-  const all = Object.assign({}, ...parts);
+  const all = { ...answering(calls, room), ...walking(calls, room) };
   return { ...all, heldIn: heldBy(all.verify) };
 };
 

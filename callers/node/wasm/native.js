@@ -1,8 +1,8 @@
 // What the addon of callers/node answers, by the WebAssembly module.
 'use strict';
-const { fromLatin1, isAlone, joined, view, whole } = require('../bytes.js');
+const { fromLatin1, isAlone, view, whole } = require('../bytes.js');
 const { latin1, utf8 } = require('../platform.js');
-const { walking } = require('./walk.js');
+const { packed, walking } = require('./walk.js');
 
 const [LINK, WIDE, UTF8, ABSENT] = [7, 11, -8, 2 ** 32 - 1];
 const encoder = new TextEncoder();
@@ -68,19 +68,15 @@ const nativeOf = (calls) => ({
   verify: of(calls.verify),
   name: of((block) => latin1(calls.name(block))),
   place: of((bytes) => calls.tokens(bytes, 0).place),
-  links: of((block) => told(calls.links(block), (found) =>
-    joined(found.flatMap((it) => [[it.length], it])))),
-  nodeLinks: of((node) => told(calls.nodeLinks(node), (found) =>
-    joined(found.flatMap((it) => [[it.length], it])))),
+  links: of((block) => told(calls.links(block), packed)),
+  nodeLinks: of((node) => told(calls.nodeLinks(node), packed)),
   fromNode: of(calls.fromNode),
   placeInNode: of(calls.placeInNode),
   toNode: of(calls.toNode),
-  follow: of((block, path) => told(calls.follow(block, path), ({ kind, begin, end, passed }) =>
-    [kind, begin, end, passed])),
-  part: of((block, segment) => told(calls.part(block, segment), ({ kind, begin, end }) =>
-    [kind, begin, end])),
+  follow: of((block, path) => told(calls.follow(block, path), Object.values)),
+  part: of((block, segment) => told(calls.part(block, segment), Object.values)),
   cidText: (binary) => calls.cidText(fromLatin1(binary)),
-  cidFromText: (text) => told(calls.cidFromText(text), (bytes) => latin1(bytes)),
+  cidFromText: (text) => told(calls.cidFromText(text), latin1),
   ...walking(calls),
 });
 

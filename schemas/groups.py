@@ -1,4 +1,5 @@
-"""How a struct of many fields is read: in groups, each a private struct, since the prover takes few fields at once."""
+"""How a struct of many fields is read: in groups, each a struct that the schema's module keeps to itself, since the prover takes few
+fields at once."""
 
 from schemas.law import MOST_IN_GROUP, field_name, in_parts, may_lack
 from schemas.layout import INSIDE_STRUCT, WIDTH, Group, ghost, lines, pairs_of, typed
@@ -28,7 +29,9 @@ def group_word(struct):
 
 
 class FieldGroup:
-    """A group: what it holds, in a private struct, and its impl by the row of that."""
+    """A group: what it holds, in a struct, and its impl by the row of that."""
+
+    pub = ""  # before the structs and their fields
 
     def __init__(self, struct, number):
         self.struct = struct
@@ -43,15 +46,15 @@ class FieldGroup:
             "",
             f"/// {self.about()}",
             "#[derive(Drop)]",
-            f"struct {self.name} {{",
+            f"{self.pub}struct {self.name} {{",
             *self.held(),
             "}",
             "",
             *typed(f"type {self.row} = ", joined(self.row_types()), 0, ";"),
             "",
             "#[derive(Drop)]",
-            f"struct {self.own} {{",
-            *typed("row: ", joined(self.own_types()), 4, ","),
+            f"{self.pub}struct {self.own} {{",
+            *typed(f"{self.pub}row: ", joined(self.own_types()), 4, ","),
             "}",
         ]
 
@@ -127,7 +130,7 @@ class OfFields(FieldGroup):
         made = []
         for field, kind in self.fields:
             code = self.module.code(kind)
-            made += typed(f"{field_name(field.name)}: ", f"Option<{code}>" if field.optional else code, 4, ",")
+            made += typed(f"{self.pub}{field_name(field.name)}: ", f"Option<{code}>" if field.optional else code, 4, ",")
         return made
 
     def row_types(self):

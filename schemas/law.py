@@ -574,7 +574,7 @@ def refuse_made_name(name, other, place):
     if name in (other.name + "View",) or other.name == name + "View":
         raise SchemaError(place, f"`{name}` and `{other.name}`: what the one is read as has the other's name")
     for one, part in ((name, other.name), (other.name, name)):
-        if re.fullmatch(one + "(Group|Row|Own|Written|Part)[0-9]+", part):
+        if re.fullmatch(one + "(Group|Row|Own|Written)[0-9]+", part):
             raise SchemaError(place, f"`{name}` and `{other.name}`: a group of the one may have the other's name")
 
 

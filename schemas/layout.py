@@ -42,7 +42,7 @@ def lines(node, indent, behind=""):
     if node.head.endswith(("[", "(")) and node.most and all(len(flat(item)) <= SHORT for item in node.items):
         return made + filled_items(node.items, indent + 4) + [margin + node.close + behind]
     for item in node.items:
-        made += lines(item, indent + 4, ",")
+        made += lines(item, indent + 4, "" if item == ".." else ",")
     return made + [margin + node.close + behind]
 
 

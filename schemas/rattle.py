@@ -6,7 +6,7 @@ from schemas.law import MOST_FIELDS, RESERVED, field_name, held_by, may_lack, pa
 from schemas.layout import INSIDE_STRUCT, SHORT_IF, WIDTH, Group, arm, block_arm, filled, ghost, lines, pairs_of, split, typed
 from schemas.parsing import Alias, Enum, Int, Leaf, Link, ListOf, MapOf, Member, Named, Nullable, Struct, Union, Unit
 from schemas.groups import form, groups_of
-from schemas.members import Members
+from schemas.members import Members, by_owners
 from schemas.written import all_groups, written_groups
 
 LEAVES = {
@@ -425,17 +425,19 @@ class Module:
 
     def inline_row(self, union):
         """Of each place in the row of an inline union: the field, its resolved type, its name in code and what shows it in specs."""
-        used, made = set(), []
-        for place, field in enumerate(self.schema.row_of(union)):
+        used, made, fields = set(), [], self.schema.row_of(union)
+        if len(fields) > MOST_AT_ONCE:
+            fields = [field for part in by_owners(self, union, fields) for field in part]
+        for place, field in enumerate(fields):
             name = field_name(field.name)
-            while name in used or name in ("tag", "row", "parts") or re.fullmatch("part[0-9]+", name):
+            while name in used or name in ("tag", "row", "parts"):
                 name += "_"
             used.add(name)
             made.append((field, self.schema.resolve(field.type), name, f"row.1{'.1' * place}.0"))
         return made
 
     def members(self, union):
-        """The members of an inline union, where they have so many fields that these are put into parts."""
+        """The members of an inline union, where they have so many fields that these are read in groups."""
         return Members(self, union) if len(self.schema.row_of(union)) > MOST_AT_ONCE else None
 
     def inline_member(self, case):
@@ -836,13 +838,11 @@ class Module:
         row = self.inline_row(union)
         is_open = self.inline_member(union.cases[0]).open
         end = "()" if is_open else "Closed"
-        tree, meaning, write, of = [], [], ["        match self {"], ["        let (Required(tag), row) = parts;"]
-        for place, (_, _, local, _) in enumerate(row):
-            of.append(f"        let (Omissible({local}), {'row' if place < len(row) - 1 else end}) = row;")
-        if not row:
-            of[0] = f"        let (Required(tag), {end}) = parts;"
         members = self.members(union)
-        of += members.parted() if members else []
+        tree, meaning, write, of = [], [], ["        match self {"], []
+        words = ["Required(tag)", *(members.words() if members else [f"Omissible({local})" for _, _, local, _ in row])]
+        for place, word in enumerate(words):
+            of.append(f"        let ({word}, {'row' if place < len(words) - 1 else end}) = {'row' if place else 'parts'};")
         of.append("        match tag.as_str() {")
         for case in union.cases:
             struct = self.inline_member(case)
@@ -855,9 +855,10 @@ class Module:
         names = Group("let names = &[", [f'"{union.discriminant}"', *(f'"{field.key}"' for field, _, _, _ in row)], "]")
         read = lines(names, 8, ";") + lines(Group("read_struct(", ["alloc", f'"{name}"', "names", "de"], ")"), 8)
         kind = "Closed" if not is_open else "()"
-        for _, held, _, _ in reversed(row):
-            kind = f"(Omissible<{self.code(held)}>, {kind})"
-        shown = pairs_of(["string_bytes v.0.0", *(self.inline_shown(row, place) for place in range(len(row)))])
+        for held in reversed(members.types() if members else [f"Omissible<{self.code(held)}>" for _, held, _, _ in row]):
+            kind = f"({held}, {kind})"
+        shown = members.shown() if members else [self.inline_shown(row, place) for place in range(len(row))]
+        shown = pairs_of(["string_bytes v.0.0", *shown])
         return [
             *(members.items() if members else []),
             *self.serialize_impl(union, cases_of(tree), write),
@@ -1116,9 +1117,10 @@ class Module:
         return words if len(set(words)) == len(words) else None
 
     def inline_answers(self, union, source):
-        """Of a union with a list of lists or the like, the arm of other texts than the members': the search unfolds the row first."""
+        """Of a union of many fields, or with a list of lists or the like, the arm of other texts than the members': the search unfolds
+        the row first."""
         words = self.arm_words(union)
-        if words is None or not any(is_deep(kind) for _, kind, _, _ in self.inline_row(union)):
+        if words is None or not (self.members(union) or any(is_deep(kind) for _, kind, _, _ in self.inline_row(union))):
             return {}
         place = f"{self.name}.{union.name}Made.of_parts"
         steps = [

@@ -85,7 +85,6 @@ REFUSED = [
     ("type A struct {\n" + "".join(f"  f{i} [{{String:Int}}]\n" for i in range(6)) + "} representation tuple", "7:3: `A` is more than the prover takes at once"),
     ("type A struct {\n  x Int\n  y " + "[" * 16 + "Int" + "]" * 16 + "\n}", "3:3: `A` is more than the prover takes at once"),
     ("type A struct {\n" + "".join(f"  f{i} Int\n" for i in range(15)) + "}\ntype AGroup1 int", "18:6: `AGroup1` and `A`: a group of the one may have the other's name"),
-    ("type A union {\n  | B \"b\"\n} representation keyed\ntype B int\ntype APart1 int", "5:6: `APart1` and `A`: a group of the one may have the other's name"),
     ("type A struct {\n" + "".join(f"  f{i} Int\n" for i in range(15)) + "}\ntype AWritten1 int", "18:6: `AWritten1` and `A`: a group of the one may have the other's name"),
     ("type WrittenGroup int", "1:6: `WrittenGroup` is a name of"),
     ("type A struct {\n  m {B:Int}\n}\ntype B enum {\n  | C\n}", "2:6: a map whose keys are an enum's has a name of its own"),
@@ -132,10 +131,10 @@ type C struct {
 
 # A schema, and a line that stands in the code that is made of it.
 MADE = [
-    (WIDE_UNION, "                let others = part3.c1.is_some() | part3.c2.is_some() | part3.c3.is_some();"),
-    (WIDE_UNION, "        let part2 = APart2 { b1, b2, b3 };"),
-    (WIDE_UNION, "                let APart1 { also } = part1;"),
-    (WIDE_UNION.replace("{\n  also", "{ # open\n  also"), "                let APart3 { c1, c2, c3 } = part3;"),
+    (WIDE_UNION, "                let others = group2.c1.is_some() | group2.c2.is_some() | group2.c3.is_some();"),
+    (WIDE_UNION, "    type Parts = (Required<String>, (AGroup1, (AGroup2, Closed)));"),
+    (WIDE_UNION, "                let AGroup1 { also, .. } = group1;"),
+    (WIDE_UNION.replace("{\n  also", "{ # open\n  also"), "                let AGroup2 { c1, c2, c3 } = group2;"),
     (WIDE_UNION.replace("  b3 Int\n", "").replace("  c3 Int\n", ""), "                if c1.is_some() {"),
     ("type A struct {\n  createdAt optional nullable [Int] # as u8\n}", "    pub created_at: Option<Option<Vec<u8>>>,"),
     ("type A struct {\n  type Int\n}", "    pub type_: i64,"),

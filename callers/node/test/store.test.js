@@ -284,7 +284,7 @@ over('where the program is found', async ({ at, path, store }) => {
   if (!fs.existsSync(addon)) return; // the package for WebAssembly has no store
   const out = join(at, 'package', 'out');
   fs.mkdirSync(out, { recursive: true });
-  const files = ['addons', 'bytes', 'cid', 'errors', 'library', 'platform', 'store', 'store_errors', 'store_program'];
+  const files = ['addons', 'at_hand', 'bytes', 'cid', 'errors', 'library', 'platform', 'store', 'store_errors', 'store_program'];
   for (const it of files) fs.copyFileSync(join(__dirname, `../${it}.js`), join(at, 'package', `${it}.js`));
   fs.copyFileSync(addon, join(out, 'dagcbor.node'));
   const code = `require(${JSON.stringify(join(at, 'package', 'store.js'))}).Store.open(${JSON.stringify(path)})

@@ -1,11 +1,11 @@
 #!/usr/bin/env python3
-"""What one core does, for docs/SCALE.md: CAR files of each size by the package for Python, and
+"""What one core does, for docs/FAULTS.md: CAR files of each size by the package for Python, and
 what `verify_folder.py` does with their names.
 
     bench/scale.py [RUNS] [page]
 
 Makes files of 100 MB as bench/cars.py does, and prints a table of processor time, the least of so
-many runs (5 where none is given). With `page` it is put into docs/SCALE.md too. Nothing here is a
+many runs (5 where none is given). With `page` it is put into docs/FAULTS.md too. Nothing here is a
 test."""
 
 import os
@@ -45,7 +45,7 @@ def rates(path, runs, env):
 
 
 def into_page():
-    path = f"{ROOT}/docs/SCALE.md"
+    path = f"{ROOT}/docs/FAULTS.md"
     with open(path, encoding="utf-8") as file:
         before, _, rest = file.read().partition(BEGIN)
     with open(path, "w", encoding="utf-8") as file:

@@ -1,6 +1,6 @@
 //! DAG-CBOR, read and written with proofs: the names of the crate `serde_ipld_dagcbor`.
 //!
-//! docs/CALLING.md has recipes. This one is a test, in `crates/tests_uses/src/tests/recipes.rt`.
+//! docs/TYPES.md lists the calls. This is a test, in `crates/tests_uses/src/tests/recipes.rt`.
 //! `agree` and `is_told` belong to the tests, and fail if the answer differs:
 //!
 //! ```rust

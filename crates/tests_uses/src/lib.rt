@@ -1,4 +1,4 @@
-//! Tests of `uses`, which have the recipes of docs/CALLING.md.
+//! Tests of `uses`, and examples of the calls that docs/TYPES.md lists.
 #![tactic(auto)]
 
 #[cfg(test)]

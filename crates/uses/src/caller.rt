@@ -1,4 +1,4 @@
-//! The caller of docs/CALLING.md, word for word.
+//! The caller of docs/TYPES.md, word for word.
 
 ghost use Rattle.std.specs.Prelude.{◌≡◌, ◌⊎◌, IfOk, IfErr, List, ℕ};
 ghost use Rattle.serde_ipld_dagcbor.specs.DecodeError.TheVariants.{OutOfMemory};
@@ -11,8 +11,8 @@ use serde_ipld_dagcbor::{DecodeError, from_slice};
 use std::alloc::Global;
 use std::convert::Infallible;
 
-/// The year of the note that a block holds. Refused exactly where it holds none, want of memory
-/// aside.
+/// The year of the note that a block holds. Refused exactly if it holds none, or if memory was
+/// refused.
 pub fn year_of(alloc: Global, block: &[u8]) -> Result<u16, DecodeError<Infallible>>
     ensures value { IfOk result
         (λ year. (text : List ℕ) × IsWhole note_shape default_steps block.now (year, (text, tt))) }

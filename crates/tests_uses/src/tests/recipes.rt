@@ -1,4 +1,4 @@
-//! The short recipes of docs/CALLING.md, and the examples beside the calls, word for word.
+//! An example of most calls that docs/TYPES.md lists, and those beside the calls, word for word.
 
 use serde_ipld_dagcbor::codec::DagCborCodec;
 use serde_ipld_dagcbor::{

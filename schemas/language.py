@@ -6,7 +6,7 @@ of a part and no maker knows of."""
 import dataclasses
 import re
 
-from schemas.law import once, parts
+from schemas.law import maker_name, once, parts
 from schemas.parsing import DEFAULT_WIDTH, Alias, Case, Enum, Field, Int, Leaf, Link, ListOf, MapOf, Member, Named, Nullable, SchemaError, Struct, Union, Unit
 
 WIDTH = 100  # of a line
@@ -512,11 +512,6 @@ def power_of_two(number, power, suffix=""):
 def named(one):
     """The type that a definition names."""
     return Named(one.name, one.place)
-
-
-def maker_name(one):
-    """Of the method that makes a definition: that of its form and representation."""
-    return f"{type(one).__name__.lower()}_{one.representation}"
 
 
 def parts_of(node):

@@ -510,6 +510,11 @@ def bounds(width):
     return (0, 2**bits - 1) if width[0] == "u" else (-(2 ** (bits - 1)), 2 ** (bits - 1) - 1)
 
 
+def maker_name(one):
+    """Of the method that makes a definition: that of its form and representation."""
+    return f"{type(one).__name__.lower()}_{one.representation}"
+
+
 def may_lack(field):
     """Whether the data may lack the field: it is optional, or means a value where it is left out."""
     return field.optional or field.implicit is not None

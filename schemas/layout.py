@@ -149,15 +149,36 @@ def ghost(name, rows):
     return [f"    ghost {name} = {{ {rows[0]}", *rows[1:-1], f"{rows[-1]} }};"]
 
 
+def impl(head, *items):
+    """An impl of these items, each of its lines."""
+    return ["", f"impl{head} {{", *[line for item in items for line in ("", *item)][1:], "}"]
+
+
+def function(name, parameters, result, body):
+    """A function of an impl."""
+    return [*lines(Group(f"fn {name}(", parameters, f") -> {result} {{", WIDTH), 4), *body, "    }"]
+
+
+def taken(word):
+    """The lines of an arm that take the value of an option, or give up."""
+    line = f"                let {word} = {word}?;"
+    return [line] if len(line) <= WIDTH else [f"                let {word} =", f"                    {word}?;"]
+
+
+def row_of(values, end="tt"):
+    """A row of values, in pairs, before what stands at the end."""
+    return "".join(f"({value}, " for value in values) + end + ")" * len(values)
+
+
 def pairs_of(rows, end="tt"):
     """What the parts of a row mean, in pairs, before what stands at the end."""
-    flat = "".join(f"({row}, " for row in rows) + end + ")" * len(rows)
+    flat = row_of(rows, end)
     if len(flat) <= 74:
         return [f"λ v. {flat}"]
     made, indent = ["λ v. ("], 6
     for place, row in enumerate(rows):
         margin = " " * indent
-        rest = "".join(f"({other}, " for other in rows[place + 1 :]) + end + ")" * len(rows[place + 1 :])
+        rest = row_of(rows[place + 1 :], end)
         made.append(f"{margin}{row},")
         if place == len(rows) - 1 or len(margin + rest) + 1 <= 100:
             made.append(f"{margin}{rest},")

@@ -5,7 +5,7 @@ from dataclasses import dataclass, replace
 
 from schemas.groups import OfFields
 from schemas.law import in_parts
-from schemas.layout import INSIDE_STRUCT, WIDTH, Group, lines
+from schemas.layout import INSIDE_STRUCT, WIDTH, Group, lines, taken
 from schemas.parsing import Field, Nullable, Struct
 
 MOST_IN_READ = 5  # fields of a group
@@ -119,10 +119,7 @@ class Members:
             if own:
                 rest = [".."] if len(own) < len(some) else []
                 made += lines(Group(f"let {group.name} {{", own + rest, "}", INSIDE_STRUCT), 16, f" = {group.word};")
-        for one in self.needed(case):
-            line = f"{margin}let {one.local} = {one.local}?;"
-            made += [line] if len(line) <= WIDTH else [f"{margin}let {one.local} =", f"{margin}    {one.local}?;"]
-        return made
+        return made + [line for one in self.needed(case) for line in taken(one.local)]
 
 
 def in_rows(head, words, sign, end, indent):

@@ -397,7 +397,7 @@ def failures():
         found = refusal(text)
         yield None if is_refusal(found, wanted) else f"{text}\n    is refused by: {found}\n    in place of: {wanted}"
     for text, wanted in MADE:
-        made = Module(Schema(parse(text)), "trial", "trial").source("trial.ipldsch")
+        made = Module(Schema(parse(text)), "trial", "trial").source()
         yield None if wanted in made.split("\n") else f"{text}\n    makes no line: {wanted}\n{made}"
     for language, text, wanted in REFUSED_IN:
         found = refusal(text, LANGUAGES[language], is_proved=False)

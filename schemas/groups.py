@@ -2,7 +2,7 @@
 fields at once."""
 
 from schemas.law import MOST_IN_GROUP, field_name, in_parts, may_lack
-from schemas.layout import INSIDE_STRUCT, WIDTH, Group, ghost, lines, pairs_of, typed
+from schemas.layout import INSIDE_STRUCT, Group, function, ghost, impl, lines, pairs_of, typed
 from schemas.parsing import Nullable
 
 # The ghost members of a group, in order; those with no rows of their own are as its row's.
@@ -67,49 +67,34 @@ class FieldGroup:
         members = {word: [f"⟦{row}⟧.{word}"] for word in MEMBERS}
         members["own_state"] = [f"λ p. ⟦{row}⟧.own_state p.row"]
         members["own_meaning"] = paired(self.meaning())
-        ghosts = [line for word in MEMBERS for line in (*ghost(word, members[word]), "")]
-        return [
-            "",
-            f"impl<'de> FieldGroup<'de> for {self.name} {{",
-            f"    type Own = {own};",
-            "",
-            *ghosts,
-            f"    fn unread_own(alloc: Global) -> {own} {{",
-            *lines(Group(f"{own} {{", [Group(f"row: {row}::unread_own(", ["alloc"], ")")], "}", INSIDE_STRUCT), 8),
-            "    }",
-            "",
-            "    fn skip_names<'n, 'm>(names: &'n [&'m str]) -> &'n [&'m str] {",
-            f"        {row}::skip_names(names)",
-            "    }",
-            "",
-            "    fn read_own<R: Read>(",
-            f"        own: &mut {own},",
-            "        alloc: Global,",
-            "        names: &[&str],",
-            "        key: &str,",
-            "        de: &mut Deserializer<'de, R>,",
-            "    ) -> Option<ReadResult<(), R>> {",
-            *lines(Group(f"{row}::read_own(", ["&mut own.row", "alloc", "names", "key", "de"], ")"), 8),
-            "    }",
-            "",
-            "    fn read_own_named<R: Read>(",
-            f"        own: &mut {own},",
-            "        alloc: Global,",
-            "        names: &[&str],",
-            "        entries: &mut Accessor<'de>,",
-            "        de: &mut Deserializer<'de, R>,",
-            "        refusal: &mut Option<DecodeError<R::Error>>,",
-            "    ) -> bool {",
-            *lines(Group(f"{row}::read_own_named(", ["&mut own.row", "alloc", "names", "entries", "de", "refusal"], ")"), 8),
-            "    }",
-            "",
-            *lines(Group("fn finish_own(", [f"own: {own}"], f") -> Option<{self.name}> {{", WIDTH), 4),
+        unread = Group(f"{own} {{", [Group(f"row: {row}::unread_own(", ["alloc"], ")")], "}", INSIDE_STRUCT)
+        held, names, de = f"own: &mut {own}", "names: &[&str]", "de: &mut Deserializer<'de, R>"
+        refusal = "refusal: &mut Option<DecodeError<R::Error>>"
+        finished = [
             *lines(Group(f"let row = {row}::finish_own(", ["own.row"], ")?"), 8, ";"),
             *self.row_apart(),
             *lines(Group(f"Some({self.name} {{", self.words(), "})", INSIDE_STRUCT), 8),
-            "    }",
-            "}",
         ]
+        return impl(
+            f"<'de> FieldGroup<'de> for {self.name}",
+            [f"    type Own = {own};"],
+            *(ghost(word, members[word]) for word in MEMBERS),
+            function("unread_own", ["alloc: Global"], own, lines(unread, 8)),
+            function("skip_names<'n, 'm>", ["names: &'n [&'m str]"], "&'n [&'m str]", [f"        {row}::skip_names(names)"]),
+            function(
+                "read_own<R: Read>",
+                [held, "alloc: Global", names, "key: &str", de],
+                "Option<ReadResult<(), R>>",
+                lines(Group(f"{row}::read_own(", ["&mut own.row", "alloc", "names", "key", "de"], ")"), 8),
+            ),
+            function(
+                "read_own_named<R: Read>",
+                [held, "alloc: Global", names, "entries: &mut Accessor<'de>", de, refusal],
+                "bool",
+                lines(Group(f"{row}::read_own_named(", ["&mut own.row", "alloc", "names", "entries", "de", "refusal"], ")"), 8),
+            ),
+            function("finish_own", [f"own: {own}"], f"Option<{self.name}>", finished),
+        )
 
 
 class OfFields(FieldGroup):

@@ -150,8 +150,11 @@ def ghost(name, rows):
 
 
 def impl(head, *items):
-    """An impl of these items, each of its lines."""
-    return ["", f"impl{head} {{", *[line for item in items for line in ("", *item)][1:], "}"]
+    """An impl of these items, each of its lines. Where its head is long, that is two."""
+    head = f"impl{head} {{"
+    if len(head) > WIDTH:
+        head = head.replace(" for ", "\n    for ")
+    return ["", *head.split("\n"), *[line for item in items for line in ("", *item)][1:], "}"]
 
 
 def function(name, parameters, result, body):

@@ -1,7 +1,7 @@
 """What is written of a struct of many fields: a row of groups, each with a name, so that no function sees the types of all."""
 
 from schemas.law import MOST_FIELDS, field_name, in_parts
-from schemas.layout import WIDTH, Group, ghost, lines, typed
+from schemas.layout import Group, function, ghost, impl, lines, typed
 
 
 class Written:
@@ -20,11 +20,6 @@ class Written:
             else:
                 yield f'field_before (codes "{field.key}") ({self.module.tree(kind, value)}) ('
 
-    def head(self):
-        """The first lines of its impl: two where they are long."""
-        head, behind = f"impl<'a> WrittenGroup<&'a {self.struct.name}>", f"for {self.name} {{"
-        return [f"{head} {behind}"] if len(f"{head} {behind}") <= WIDTH else [head, f"    {behind}"]
-
     def items(self):
         """The group, with its impl."""
         struct, module = self.struct, self.module
@@ -37,16 +32,12 @@ class Written:
             f"/// The fields of `{struct.name}` that are written from `{field_name(self.kinds[0][0].name)}` on.",
             "#[derive(Clone, Copy)]",
             f"struct {self.name};",
-            "",
-            *self.head(),
-            *typed("type Row = ", halved(types, lambda pair: f"({', '.join(pair)})"), 4, ";"),
-            "",
-            *ghost("fields", ["λ v.", *pairs, f"        none_before{')' * len(pairs)}"]),
-            "",
-            f"    fn row(self, whole: &'a {struct.name}) -> Self::Row {{",
-            *lines(halves(row), 8),
-            "    }",
-            "}",
+            *impl(
+                f"<'a> WrittenGroup<&'a {struct.name}> for {self.name}",
+                typed("type Row = ", halved(types, lambda pair: f"({', '.join(pair)})"), 4, ";"),
+                ghost("fields", ["λ v.", *pairs, f"        none_before{')' * len(pairs)}"]),
+                function("row", ["self", f"whole: &'a {struct.name}"], "Self::Row", lines(halves(row), 8)),
+            ),
         ]
 
 

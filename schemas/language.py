@@ -6,7 +6,7 @@ of a part and no maker knows of."""
 import dataclasses
 import re
 
-from schemas.law import maker_name, once, parts
+from schemas.law import is_a, maker_name, once, parts
 from schemas.parsing import DEFAULT_WIDTH, Alias, Case, Enum, Field, Int, Leaf, Link, ListOf, MapOf, Member, Named, Nullable, SchemaError, Struct, Union, Unit
 
 WIDTH = 100  # of a line
@@ -95,7 +95,7 @@ class Language:
                 self.refuse(node.place, f"`{said.name}` of {name}")
         if isinstance(node, (Struct, Enum, Union, Unit)) and not hasattr(self, maker_name(node)):
             self.refuse(node.place, f"the representation {node.representation} of {name}")
-        for case in node.cases if is_kinded(node) else ():
+        for case in node.cases if is_a(node, "union_kinded") else ():
             if case.data not in self.kinds:
                 self.refuse(case.place, f"the kind {case.data} of {name}")
         for part in parts_of(node):
@@ -191,7 +191,7 @@ class Language:
 
     def others(self, union, case):
         """The fields of the other members of an inline union, which are looked at even where they are skipped, if they are of one type."""
-        struct = self.schema.by_name[self.schema.resolve(case.type).name]
+        struct = self.schema.case_struct(case)
         own = {field.key for field in struct.fields}
         others = [field for field in self.schema.row_of(union) if struct.open and field.key not in own]
         return [field for field in others if self.schema.has_one_type(union, field.key)]
@@ -496,10 +496,6 @@ def filled(template, words):
 def count_needed(struct):
     """How many fields a struct always has."""
     return sum(not field.optional for field in struct.fields)
-
-
-def is_kinded(one):
-    return isinstance(one, Union) and one.representation == "kinded"
 
 
 def power_of_two(number, power, suffix=""):

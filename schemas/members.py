@@ -31,7 +31,7 @@ class Place:
 
 def by_owners(module, union, fields):
     """The fields by the members that have them, in parts of a few."""
-    keys = [{field.key for field in module.inline_member(case).fields} for case in union.cases]
+    keys = [{field.key for field in module.schema.case_struct(case).fields} for case in union.cases]
     found = {}
     for field in fields:
         found.setdefault(tuple(field.key in some for some in keys), []).append(field)
@@ -55,7 +55,7 @@ class Members:
     def __init__(self, module, union):
         self.module, self.union = module, union
         row = [Place(*one) for one in module.inline_row(union)]
-        self.is_open = module.inline_member(union.cases[0]).open
+        self.is_open = module.schema.case_struct(union.cases[0]).open
         left = iter(row)
         self.parts = [[next(left) for _ in part] for part in by_owners(module, union, [one.field for one in row])]
         fields = [replace(one.field, name=one.local, optional=True) for one in row]
@@ -68,7 +68,7 @@ class Members:
                 one.group = group.word
 
     def keys(self, case):
-        return {field.key: field for field in self.module.inline_member(case).fields}
+        return {field.key: field for field in self.module.schema.case_struct(case).fields}
 
     def others(self, case):
         """The fields that it must not have, a few at once."""

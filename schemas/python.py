@@ -3,9 +3,9 @@
 import json
 import keyword
 
-from schemas.law import bounds, snake
-from schemas.language import WAYS, WIDTH, Language, is_kinded, named, named_blocks, power_of_two
-from schemas.parsing import WIDTHS, Alias, Enum, Member, Named, Struct, Union, Unit
+from schemas.law import bounds, is_a, snake
+from schemas.language import WAYS, WIDTH, Language, named, named_blocks, power_of_two
+from schemas.parsing import WIDTHS, Alias, Enum, Member, Struct, Union, Unit
 
 # Names of fields that would stand for a type in the annotations behind them, or for a method or what makes one.
 RESERVED = {"bool", "bytes", "dict", "from_block", "int", "list", "staticmethod", "str", "to_block"}
@@ -269,7 +269,7 @@ class Python(Language):
     # ---- names
 
     def type_names(self, one):
-        has_cases = isinstance(one, Union) and not is_kinded(one)
+        has_cases = isinstance(one, Union) and not is_a(one, "union_kinded")
         return [one.name, *(case_class(one, case) for case in one.cases)] if has_cases else [one.name]
 
     def field_name(self, field):
@@ -304,7 +304,7 @@ class Python(Language):
             return [[f"class {one.name}(Enum):", *docstring(one.text), *rows, "", *methods(one)]]
         if isinstance(one, Alias):
             return [self.alias(one, [self.annotation(one.of)])]
-        if is_kinded(one):
+        if is_a(one, "union_kinded"):
             return [self.alias(one, [self.annotation(case.type) for case in one.cases])]
         classes = [self.declared_case(one, case) for case in one.cases]
         return [*classes, self.alias(one, [case_class(one, case) for case in one.cases])]
@@ -353,7 +353,7 @@ class Python(Language):
         value = field.implicit.value
         if not isinstance(value, Member):
             return self.literal(value)
-        enum = self.schema.by_name[self.schema.implied_type(field).name]
+        enum = self.schema.named(self.schema.implied_type(field))
         return f"{enum.name}.{member_name(enum, value)}"
 
     # ---- statements
@@ -437,10 +437,10 @@ class Python(Language):
     def classes(self, kind):
         """The classes of the values of a type that is of one kind."""
         kind = self.schema.resolve(kind)
-        if isinstance(kind, Named):
-            one = self.schema.by_name[kind.name]
-            return [case_class(one, case) for case in one.cases] if isinstance(one, Union) else [kind.name]
-        return [self.kinds[self.schema.kind_of(kind)]]
+        one = self.schema.named(kind)
+        if isinstance(one, Union):
+            return [case_class(one, case) for case in one.cases]
+        return [one.name if one else self.kinds[self.schema.kind_of(kind)]]
 
 
 for width in WIDTHS:

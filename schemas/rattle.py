@@ -4,7 +4,7 @@ import re
 from typing import NamedTuple
 
 from schemas.groups import form, groups_of
-from schemas.law import MOST_FIELDS, RESERVED, field_name, held_by, maker_name, may_lack, parts, path_name, snake
+from schemas.law import MOST_FIELDS, RESERVED, field_name, held_by, is_a, is_leaf, maker_name, may_lack, parts, path_name, snake
 from schemas.layout import (
     INSIDE_STRUCT,
     SHORT_IF,
@@ -190,7 +190,7 @@ class Module:
         scalar = self.scalar(kind)
         if scalar:
             return scalar.meaning.format(value)
-        if isinstance(kind, Named) and shows_itself(self.schema.by_name[kind.name]):
+        if shows_itself(self.schema.named(kind)):
             return value
         return f"⟦<{self.code(kind)} as Shown>⟧.meaning {value}"
 
@@ -218,20 +218,17 @@ class Module:
 
     def spec_words(self, one):
         """What the specs say of a type."""
-        name = snake(one.name)
-        if isinstance(one, Enum):
-            words = [f"{name}_eq"] if one.name in self.implied else []
-            return words + ([f"{name}_variants", f"{name}_shape"] if one.representation == "string" else [f"{name}_of_number", f"{name}_shape"])
-        of_row = [f"{name}_row", f"{name}_row_shape", f"{name}_of_row", f"{name}_shape"]
-        if isinstance(one, Struct) and is_made(one):
-            return [view_name(one), *of_row]
-        if isinstance(one, (Struct, Unit)):
-            words = [f"{name}_of_bool"] if isinstance(one, Unit) and one.representation != "null" else []
-            return [view_name(one), *words, f"{name}_shape"]
-        made = [view_name(one), *(case_word(one, case) for case in one.cases)]
-        if one.representation in ("inline", "kinded"):
-            return made + of_row
-        return made + [f"{name}_variants", f"{name}_shape"]
+        words = ["shape"]
+        if is_a(one, "union_inline", "union_kinded") or isinstance(one, Struct) and is_made(one):
+            words = ["row", "row_shape", "of_row", "shape"]
+        elif is_a(one, "enum_string", "union_keyed", "union_envelope"):
+            words = ["variants", "shape"]
+        elif is_a(one, "enum_int", "unit_true", "unit_false"):
+            words = ["of_number" if isinstance(one, Enum) else "of_bool", "shape"]
+        if one.name in self.implied:
+            words.insert(0, "eq")
+        views = [] if shows_itself(one) else [view_name(one), *(case_word(one, case) for case in getattr(one, "cases", []))]
+        return [*views, *(f"{snake(one.name)}_{word}" for word in words)]
 
     def variants_import(self, one, ghost):
         head, close = ("ghost use ", ";") if ghost else ("use ", "")
@@ -322,22 +319,13 @@ class Module:
 
     def writing_takes_memory(self, kind):
         """Whether writing it may take memory, where the writer takes none."""
-        if isinstance(kind, Leaf):
-            return kind.kind == "Any"
-        if isinstance(kind, Named):
-            one = self.schema.by_name[kind.name]
-            if isinstance(one, Alias):
-                return self.writing_takes_memory(one.of)
-            is_map = isinstance(one, Struct) and one.representation == "map" or isinstance(one, Union) and one.representation == "envelope"
-            return is_map or any(map(self.writing_takes_memory, held_by(one)))
-        return isinstance(kind, MapOf) or any(map(self.writing_takes_memory, parts(kind)))
+        one = self.schema.named(kind)
+        is_map = isinstance(kind, MapOf) or is_a(one, "struct_map", "union_envelope")
+        return is_map or is_leaf(kind, "Any") or any(map(self.writing_takes_memory, held_by(one) if one else parts(kind)))
 
     def reading_takes_memory(self, kind):
         """Whether reading it may take memory, as far as the specs say."""
-        if isinstance(kind, Named):
-            one = self.schema.by_name[kind.name]
-            return not (isinstance(one, Enum) and one.representation == "int")
-        return not (isinstance(kind, (Int, Link)) or (isinstance(kind, Leaf) and kind.kind == "Bool"))
+        return not (isinstance(kind, (Int, Link)) or is_leaf(kind, "Bool") or is_a(self.schema.named(kind), "enum_int"))
 
     def enum_spec(self, enum):
         name, is_text = snake(enum.name), enum.representation == "string"
@@ -441,9 +429,6 @@ class Module:
         """The members of an inline union, where they have so many fields that these are read in groups."""
         return Members(self, union) if len(self.schema.row_of(union)) > MOST_AT_ONCE else None
 
-    def inline_member(self, case):
-        return self.schema.by_name[self.schema.resolve(case.type).name]
-
     def inline_spec(self, union):
         name, row = snake(union.name), self.inline_row(union)
         shown = ["List ℕ", *(self.optional_view(kind, True) for _, kind, _, _ in row)]
@@ -458,7 +443,7 @@ class Module:
 
     def inline_of_row(self, union, case, row):
         """The rows that make a member of what was read."""
-        fields = {field.key: field for field in self.inline_member(case).fields}
+        fields = {field.key: field for field in self.schema.case_struct(case).fields}
         places = {field.key: (local_name(local), path) for field, _, local, path in row}
         values = [places[key][1 if field.optional else 0] for key, field in fields.items()]
         member, members = f"{case_word(union, case)} {row_of(values)}", self.members(union)
@@ -474,7 +459,7 @@ class Module:
 
     def is_open(self, union):
         """Whether the members of an inline union skip other keys: all do, or none."""
-        return self.inline_member(union.cases[0]).open
+        return self.schema.case_struct(union.cases[0]).open
 
     # ---- the code
 
@@ -775,7 +760,7 @@ class Module:
 
     def inline_order(self, union, case):
         """The fields of a member in the order of their keys, and None for what tells the member."""
-        fields = [*self.fields(self.inline_member(case)), (None, None)]
+        fields = [*self.fields(self.schema.case_struct(case)), (None, None)]
         return sorted(fields, key=lambda row: key_order(row[0].key if row[0] else union.discriminant))
 
     def inline_written(self, union, case, at):
@@ -787,7 +772,7 @@ class Module:
 
     def inline_made(self, union, case, row, members):
         """The arm that makes a member of what was read."""
-        struct = self.inline_member(case)
+        struct = self.schema.case_struct(case)
         fields = {field.key: field for field in struct.fields}
         made = members.made(case) if members else []
         for field, _, local, _ in [] if members else row:
@@ -944,10 +929,10 @@ class Module:
     def arm_answers(self, union):
         """The arms that write a union that is told by a tag, or a keyed one of which a member is a link or bytes, which the search takes
         apart, or has a long text."""
-        cases, is_tagged = getattr(union, "cases", []), union.representation in ("inline", "envelope")
+        cases, is_tagged = getattr(union, "cases", []), is_a(union, "union_inline", "union_envelope")
         taken_apart = any(self.code(self.schema.resolve(case.type)) in ("Cid", "Bytes") for case in cases)
         is_searched = not taken_apart and all(len(case.data) <= LONG_TEXT for case in cases)
-        if len(cases) < 2 or not (is_tagged or (union.representation == "keyed" and not is_searched)):
+        if len(cases) < 2 or not (is_tagged or (is_a(union, "union_keyed") and not is_searched)):
             return {}
         call = "write_struct" if is_tagged else "serialize_newtype_variant"
         rows = arm_rows(cases, cases, call)
@@ -955,7 +940,7 @@ class Module:
 
     def enum_answers(self, enum):
         """The arms that write a long text."""
-        if not isinstance(enum, Enum) or enum.representation != "string" or len(enum.members) < 2:
+        if not is_a(enum, "enum_string") or len(enum.members) < 2:
             return {}
         long = [member for member in enum.members if len(member.data) > LONG_TEXT]
         rows = arm_rows(enum.members, long, "serialize_unit_variant")
@@ -963,9 +948,7 @@ class Module:
 
     def pairs_answers(self, struct):
         """What a list of pairs with a link makes, which the search takes apart: each pair has its field's name, and holds its value."""
-        if not isinstance(struct, Struct) or struct.representation != "listpairs":
-            return {}
-        kinds = [self.code(kind) for _, kind in self.fields(struct)]
+        kinds = [self.code(kind) for _, kind in self.fields(struct)] if is_a(struct, "struct_listpairs") else []
         if len(kinds) < 2 or not any("Cid" in kind for kind in kinds):
             return {}
         signed = any(re.search(r"\bi[0-9]", kind) for kind in kinds)  # which the goal takes through the machine's words
@@ -996,7 +979,7 @@ class Module:
     def text_answers(self, union):
         """Of a union of many fields, or with a list of lists or the like, the arm of other texts than the members': the search unfolds
         the row first."""
-        words = self.arm_words(union) if is_union(union, "inline") else None
+        words = self.arm_words(union) if is_a(union, "union_inline") else None
         if words is None or not (self.members(union) or any(is_deep(kind) for _, kind, _, _ in self.inline_row(union))):
             return {}
         steps = [
@@ -1010,7 +993,7 @@ class Module:
     def content_answers(self, union):
         """What a member holds is refused; of those whose tags are words, or where they are many, also that it is read, and of other tags,
         where they are many or one has a long row. The search finds the rest."""
-        if not is_union(union, "envelope"):
+        if not is_a(union, "union_envelope"):
             return {}
         words, tags = self.arm_words(union), [case.data for case in union.cases]
         many = len(union.cases) > SEARCHED_MEMBERS and words is not None
@@ -1068,13 +1051,12 @@ class Module:
 
     def has_long_row(self, case):
         """Whether the member is an inline union of many fields."""
-        kind = self.schema.resolve(case.type)
-        one = self.schema.by_name[kind.name] if isinstance(kind, Named) else None
-        return is_union(one, "inline") and len(self.schema.row_of(one)) > LONG_ROW
+        one = self.schema.named(self.schema.resolve(case.type))
+        return is_a(one, "union_inline") and len(self.schema.row_of(one)) > LONG_ROW
 
     def variant_answers(self, union):
         """Of a keyed union, that what a member holds was refused. The search finds the rest."""
-        words = self.arm_words(union) if is_union(union, "keyed") else None
+        words = self.arm_words(union) if is_a(union, "union_keyed") else None
         if words is None:
             return {}
         lacks, rows = "refl" if self.takes_memory(union) else "h", []
@@ -1093,9 +1075,9 @@ class Module:
 
     def one_member_answers(self, union):
         """What writes a union of one member, by its name or inside its map: no arm says that the value is that one."""
-        keyed = is_union(union, "keyed")
-        if not (keyed or is_union(union, "inline")) or len(union.cases) != 1:
+        if not is_a(union, "union_keyed", "union_inline") or len(union.cases) != 1:
             return {}
+        keyed = union.representation == "keyed"
         variant = f"{alias(union)}.{union.cases[0].name}"
         rows = [
             "",
@@ -1176,10 +1158,6 @@ def is_deep(kind):
     inner = parts(kind)
     holds = isinstance(kind, (ListOf, MapOf)) and any(isinstance(part, (ListOf, MapOf, Nullable)) for part in inner)
     return holds or any(map(is_deep, inner))
-
-
-def is_union(one, representation):
-    return isinstance(one, Union) and one.representation == representation
 
 
 def is_made(struct):

@@ -3,9 +3,9 @@
 
 import json
 
-from schemas.law import bounds, may_lack
-from schemas.language import WAYS, WIDTH, Language, camel, is_kinded, named, named_blocks, power_of_two
-from schemas.parsing import WIDTHS, Alias, Enum, Int, Member, Named, SchemaError, Struct, Union, Unit
+from schemas.law import bounds, is_a, may_lack
+from schemas.language import WAYS, WIDTH, Language, camel, named, named_blocks, power_of_two
+from schemas.parsing import WIDTHS, Alias, Enum, Int, Member, SchemaError, Struct, Union, Unit
 
 NARROW = ("u8", "u16", "u32", "i8", "i16", "i32")  # the widths that are kept as a number, and not as a bigint
 
@@ -321,7 +321,7 @@ class TypeScript(Language):
             kinds = [self.annotation(one.of)]
         elif isinstance(one, Unit):
             kinds = [one.representation]
-        elif is_kinded(one):
+        elif is_a(one, "union_kinded"):
             kinds = [self.annotation(self.case_kind(case)) for case in one.cases]
         else:
             kinds = [f"{{ kind: {self.quoted(case.name)}; value: {self.annotation(case.type)} }}" for case in one.cases]
@@ -440,7 +440,7 @@ class TypeScript(Language):
 
     def check(self, node):
         super().check(node)
-        if is_kinded(node):
+        if is_a(node, "union_kinded"):
             self.check_kinds(node)
 
     def check_kinds(self, union):
@@ -454,8 +454,7 @@ class TypeScript(Language):
 
     def held_kind(self, kind, data):
         """The kind of the values of a type, whose data is of a kind: a tuple's is an object, an enum's its name."""
-        kind = self.schema.resolve(kind)
-        one = self.schema.by_name[kind.name] if isinstance(kind, Named) else None
+        one = self.schema.named(self.schema.resolve(kind))
         if isinstance(one, (Struct, Union)):
             return "map"
         return "string" if isinstance(one, Enum) else data

@@ -10,6 +10,7 @@ import string
 from schemas.law import MOST_PAIRS, RESERVED, TAKEN, Schema, bounds, field_name, snake
 from schemas.parsing import WIDTHS, SchemaError, parse
 
+LETTERS = string.ascii_letters + string.digits
 LENGTHS = (1, 2, 3, 5, 8, 13, 21, 40)
 LONG = 21  # from here on a word has no capitals behind the first, which would make it longer as a field's name
 SCALARS = ("Int", "String", "Bytes", "Bool", "&Any", "Any")
@@ -50,13 +51,16 @@ class Drawing:
 
     def type_name(self):
         while True:
-            word = self.word(string.ascii_uppercase, string.ascii_letters + string.digits, set(), snake)
+            word = self.word(string.ascii_uppercase, LETTERS, set(), snake)
             if snake(word) not in self.names and not word.endswith("View"):
                 self.names.add(snake(word))
                 return word
 
     def variant(self, taken):
-        return self.word(string.ascii_uppercase, string.ascii_letters + string.digits, taken, str.lower)
+        return self.word(string.ascii_uppercase, LETTERS, taken, str.lower)
+
+    def field_name(self, taken):
+        return self.word(string.ascii_letters, LETTERS + "_", taken, field_name)
 
     def text(self, taken):
         """What stands in the data: any printable text that the law allows."""
@@ -116,7 +120,7 @@ class Drawing:
         names, keys, rows = set(), set(), []
         count = self.some(MOST_IN_ALL)
         for kind, note, before in self.field_types(count):
-            word = self.word(string.ascii_letters, string.ascii_letters + string.digits + "_", names, field_name)
+            word = self.field_name(names)
             key = self.text(keys) if self.random.random() < 0.4 or word in keys else word
             keys.add(key)
             behind = [f'rename "{key}"'] if key != word else []
@@ -134,7 +138,7 @@ class Drawing:
         there = self.random.choice((count, count, self.random.randint(0, count)))
         for place in range(count):
             kind, note = self.value()
-            word = self.word(string.ascii_letters, string.ascii_letters + string.digits + "_", names, field_name)
+            word = self.field_name(names)
             rows.append(f"  {word} {'optional ' if place >= there else ''}{self.random.choice(('', 'nullable '))}{kind}{note}")
         return [f"type {name} struct {{", *rows, "} representation tuple"]
 
@@ -242,7 +246,7 @@ class Drawing:
             for _ in range(min(self.random.choice((0, 1, 2, 3)), self.left)):
                 self.left -= 1
                 kind, note = self.value()
-                word = self.word(string.ascii_letters, string.ascii_letters + string.digits + "_", names, field_name)
+                word = self.field_name(names)
                 rows.append(f'  {word} {self.random.choice(("", "optional "))}{kind} (rename "{self.text(keys)}"){note}')
             self.lines.append([f"type {member} struct {{{is_open}", *rows, "}"])
             members.append(f'  | {member} "{self.text(set())[:39]}{len(members)}"')

@@ -23,7 +23,7 @@ from schemas.layout import (
     taken,
     typed,
 )
-from schemas.members import Members, by_owners
+from schemas.members import members_of
 from schemas.parsing import Alias, Enum, Int, Leaf, Link, ListOf, MapOf, Member, Named, Nullable, Struct, Union, Unit
 from schemas.written import all_groups, written_groups
 
@@ -412,54 +412,19 @@ class Module:
         of_bool = [f"abbrev pub {name}_of_bool : Bool → Option {view}", f"{name}_of_bool b = if b then {true} else {false}"]
         return [declared, of_bool, [*shape, f"{name}_shape = finishing {name}_of_bool (leaf view_bool)"]]
 
-    def inline_row(self, union):
-        """Of each place in the row of an inline union: the field, its resolved type, its name in code and what shows it in specs."""
-        used, made, fields = set(), [], self.schema.row_of(union)
-        if len(fields) > MOST_AT_ONCE:
-            fields = [field for part in by_owners(self, union, fields) for field in part]
-        for place, field in enumerate(fields):
-            name = field_name(field.name)
-            while name in used or name in ("tag", "row", "parts"):
-                name += "_"
-            used.add(name)
-            made.append((field, self.schema.resolve(field.type), name, f"row.1{'.1' * place}.0"))
-        return made
-
-    def members(self, union):
-        """The members of an inline union, where they have so many fields that these are read in groups."""
-        return Members(self, union) if len(self.schema.row_of(union)) > MOST_AT_ONCE else None
-
     def inline_spec(self, union):
-        name, row = snake(union.name), self.inline_row(union)
-        shown = ["List ℕ", *(self.optional_view(kind, True) for _, kind, _, _ in row)]
+        name, members = snake(union.name), members_of(self, union)
+        shown = ["List ℕ", *(self.optional_view(one.kind, True) for one in members.row)]
         steps = [f'required_field (codes "{union.discriminant}") (owned_leaf view_text) (']
-        steps += [f'omissible_field (codes "{field.key}") {wrapped(self.shape(kind))} (' for field, kind, _, _ in row]
+        steps += [f'omissible_field (codes "{one.field.key}") {wrapped(self.shape(one.kind))} (' for one in members.row]
         of_row = [f"{name}_of_row row ="]
         for place, case in enumerate(union.cases):
             of_row.append(f'    {"else " if place else ""}if bytes_eq row.0 (codes "{case.data}") then')
-            of_row += self.inline_of_row(union, case, row)
-        shape = shape_rows(f"{name}_row_shape = struct_shape (", steps, "no_fields" if self.is_open(union) else "no_other_fields")
+            places = {one.field.key: one for one in members.row}
+            values = [places[key].path if field.optional else local_name(places[key].local) for key, field in members.keys(case).items()]
+            of_row += members.spec(case, f"{case_word(union, case)} {row_of(values)}")
+        shape = shape_rows(f"{name}_row_shape = struct_shape (", steps, "no_fields" if members.is_open else "no_other_fields")
         return self.finished_spec(name, view_name(union), view_rows(f"{name}_row", shown), shape, [*of_row, "    else None"])
-
-    def inline_of_row(self, union, case, row):
-        """The rows that make a member of what was read."""
-        fields = {field.key: field for field in self.schema.case_struct(case).fields}
-        places = {field.key: (local_name(local), path) for field, _, local, path in row}
-        values = [places[key][1 if field.optional else 0] for key, field in fields.items()]
-        member, members = f"{case_word(union, case)} {row_of(values)}", self.members(union)
-        if members:
-            return members.spec(case, member)
-        made = []
-        for field, _, local, path in row:
-            if field.key not in fields and not self.is_open(union):
-                made.append(f"    absent {path} (")
-            elif field.key in fields and not fields[field.key].optional:
-                made.append(f"    there {path} (λ {local_name(local)}.")
-        return [*made, f"    Some ({member}){')' * len(made)}"]
-
-    def is_open(self, union):
-        """Whether the members of an inline union skip other keys: all do, or none."""
-        return self.schema.case_struct(union.cases[0]).open
 
     # ---- the code
 
@@ -723,30 +688,25 @@ class Module:
         return cases_of(rows)
 
     def union_inline(self, union):
-        row, members = self.inline_row(union), self.members(union)
-        words = members.words() if members else [f"Omissible({local})" for _, _, local, _ in row]
-        end = "()" if self.is_open(union) else "Closed"
-        of = [*apart([f"({word}, {{}})" for word in ("Required(tag)", *words)], end, "parts"), "        match tag.as_str() {"]
-        for case in union.cases:
-            of += self.inline_made(union, case, row, members)
-        names = Group("let names = &[", [f'"{union.discriminant}"', *(f'"{field.key}"' for field, _, _, _ in row)], "]")
-        read = lines(names, 8, ";") + lines(Group("read_struct(", ["alloc", f'"{union.name}"', "names", "de"], ")"), 8)
-        parts = end
-        for held in reversed(members.types() if members else [f"Omissible<{self.code(kind)}>" for _, kind, _, _ in row]):
+        members = members_of(self, union)
+        end = parts = "()" if members.is_open else "Closed"
+        for held in reversed(members.types()):
             parts = f"({held}, {parts})"
-        seen = members.shown() if members else [
-            self.optional_meaning(kind, True, "v.1" + ".1" * place + ".0.0") for place, (_, kind, _, _) in enumerate(row)
-        ]
+        of = [*apart([f"({word}, {{}})" for word in ("Required(tag)", *members.words())], end, "parts"), "        match tag.as_str() {"]
+        for case in union.cases:
+            of += self.inline_made(union, case, members)
+        names = Group("let names = &[", [f'"{key}"' for key in (union.discriminant, *(one.field.key for one in members.row))], "]")
+        read = lines(names, 8, ";") + lines(Group("read_struct(", ["alloc", f'"{union.name}"', "names", "de"], ")"), 8)
         trees = [self.inline_tree(union, case) for case in union.cases]
 
         def write(place, case):
             return block_arm(f"{union.name}::{case.name}(x)", lambda at: self.inline_written(union, case, at), 12)
 
+        seen, meaning = pairs_of(["string_bytes v.0.0", *members.shown()]), self.union_meaning(union)
         return [
-            *(members.items() if members else []),
+            *members.items(),
             *self.union_impls(union, trees, write),
-            *self.made_impls(union, f"(Required<String>, {parts})", pairs_of(["string_bytes v.0.0", *seen]),
-                             self.union_meaning(union), read, [*of, NONE, "        }"]),
+            *self.made_impls(union, f"(Required<String>, {parts})", seen, meaning, read, [*of, NONE, "        }"]),
         ]
 
     def inline_tree(self, union, case):
@@ -770,23 +730,15 @@ class Module:
             parts.append(entry(field, f"x.{field_name(field.name)}") if field else tag)
         return tagged_row(case, parts, at)
 
-    def inline_made(self, union, case, row, members):
+    @staticmethod
+    def inline_made(union, case, members):
         """The arm that makes a member of what was read."""
-        struct = self.schema.case_struct(case)
-        fields = {field.key: field for field in struct.fields}
-        made = members.made(case) if members else []
-        for field, _, local, _ in [] if members else row:
-            if field.key in fields and not fields[field.key].optional:
-                made += taken(local)
-            elif field.key not in fields and not self.is_open(union):
-                made += [f"                if {local}.is_some() {{", "                    return None;", "                }"]
-        locals_by_key = {field.key: local for field, _, local, _ in row}
-        words = []
-        for field in struct.fields:
-            word, local = field_name(field.name), locals_by_key[field.key]
+        locals_by_key, words = {one.field.key: one.local for one in members.row}, []
+        for key, field in members.keys(case).items():
+            word, local = field_name(field.name), locals_by_key[key]
             words.append(word if word == local else f"{word}: {local}")
-        made += lines(struct_of("let x = ", struct.name, words, ""), 16, ";")
-        return text_arm(case.data, *made, *lines(made_case("Some(", union, case), 16))
+        struct = lines(struct_of("let x = ", members.schema.case_struct(case).name, words, ""), 16, ";")
+        return text_arm(case.data, *members.made(case), *struct, *lines(made_case("Some(", union, case), 16))
 
     def union_keyed(self, union):
         trees = [f'variant_tree (codes "{case.data}") ({self.tree(kind, "x")})' for case, kind in self.cases(union)]
@@ -894,18 +846,17 @@ class Module:
 
     def answers(self):
         """The answers that the search does not find, of each function by the folder of its proof."""
+        answers = {
+            "struct_map": [self.implied_answers],
+            "struct_listpairs": [self.pairs_answers],
+            "enum_string": [self.enum_answers],
+            "union_keyed": [self.variant_answers, self.one_member_answers, self.arm_answers],
+            "union_inline": [self.text_answers, self.one_member_answers, self.arm_answers],
+            "union_envelope": [self.content_answers, self.arm_answers],
+        }
         made = {}
         for one in self.types:
-            for answer in (
-                self.implied_answers,
-                self.pairs_answers,
-                self.content_answers,
-                self.text_answers,
-                self.variant_answers,
-                self.one_member_answers,
-                self.enum_answers,
-                self.arm_answers,
-            ):
+            for answer in answers.get(maker_name(one), []):
                 made |= answer(one)
         return made
 
@@ -917,7 +868,7 @@ class Module:
 
     def implied_answers(self, struct):
         """What writes a struct in which a field means a value where it is left out."""
-        if not isinstance(struct, Struct) or not has_implied(struct):
+        if not has_implied(struct):
             return {}
         calls = [f"c.{unless(kind)}-{field_name(field.name)}.ensures" for field, kind in self.fields(struct) if field.implicit is not None]
         steps, rows = "".join(f"rw (sym {call}) (" for call in calls), []
@@ -929,26 +880,23 @@ class Module:
     def arm_answers(self, union):
         """The arms that write a union that is told by a tag, or a keyed one of which a member is a link or bytes, which the search takes
         apart, or has a long text."""
-        cases, is_tagged = getattr(union, "cases", []), is_a(union, "union_inline", "union_envelope")
-        taken_apart = any(self.code(self.schema.resolve(case.type)) in ("Cid", "Bytes") for case in cases)
-        is_searched = not taken_apart and all(len(case.data) <= LONG_TEXT for case in cases)
-        if len(cases) < 2 or not (is_tagged or (is_a(union, "union_keyed") and not is_searched)):
+        taken_apart = any(self.code(kind) in ("Cid", "Bytes") for _, kind in self.cases(union))
+        is_searched = not taken_apart and all(len(case.data) <= LONG_TEXT for case in union.cases)
+        is_keyed = union.representation == "keyed"
+        if len(union.cases) < 2 or (is_keyed and is_searched):
             return {}
-        call = "write_struct" if is_tagged else "serialize_newtype_variant"
-        rows = arm_rows(cases, cases, call)
+        rows = arm_rows(union.cases, union.cases, "serialize_newtype_variant" if is_keyed else "write_struct")
         return self.file_of(union, "Serialize.serialize", f"The arms that write {union.name}", [], rows)
 
     def enum_answers(self, enum):
         """The arms that write a long text."""
-        if not is_a(enum, "enum_string") or len(enum.members) < 2:
-            return {}
-        long = [member for member in enum.members if len(member.data) > LONG_TEXT]
+        long = [member for member in enum.members if len(member.data) > LONG_TEXT and len(enum.members) > 1]
         rows = arm_rows(enum.members, long, "serialize_unit_variant")
         return self.file_of(enum, "Serialize.serialize", f"The arms that write long texts of {enum.name}", [], rows)
 
     def pairs_answers(self, struct):
         """What a list of pairs with a link makes, which the search takes apart: each pair has its field's name, and holds its value."""
-        kinds = [self.code(kind) for _, kind in self.fields(struct)] if is_a(struct, "struct_listpairs") else []
+        kinds = [self.code(kind) for _, kind in self.fields(struct)]
         if len(kinds) < 2 or not any("Cid" in kind for kind in kinds):
             return {}
         signed = any(re.search(r"\bi[0-9]", kind) for kind in kinds)  # which the goal takes through the machine's words
@@ -979,8 +927,8 @@ class Module:
     def text_answers(self, union):
         """Of a union of many fields, or with a list of lists or the like, the arm of other texts than the members': the search unfolds
         the row first."""
-        words = self.arm_words(union) if is_a(union, "union_inline") else None
-        if words is None or not (self.members(union) or any(is_deep(kind) for _, kind, _, _ in self.inline_row(union))):
+        words, members = self.arm_words(union), members_of(self, union)
+        if words is None or not (members.is_wide or any(is_deep(one.kind) for one in members.row)):
             return {}
         steps = [
             f'    rw (other_name {{name = codes "{case.data}"}} (λ e. c.in_default.not-{word} (c.as_str.ensures.value ∙ e))) ('
@@ -993,8 +941,6 @@ class Module:
     def content_answers(self, union):
         """What a member holds is refused; of those whose tags are words, or where they are many, also that it is read, and of other tags,
         where they are many or one has a long row. The search finds the rest."""
-        if not is_a(union, "union_envelope"):
-            return {}
         words, tags = self.arm_words(union), [case.data for case in union.cases]
         many = len(union.cases) > SEARCHED_MEMBERS and words is not None
         untold = words is not None and (many or any(map(self.has_long_row, union.cases)))
@@ -1056,7 +1002,7 @@ class Module:
 
     def variant_answers(self, union):
         """Of a keyed union, that what a member holds was refused. The search finds the rest."""
-        words = self.arm_words(union) if is_a(union, "union_keyed") else None
+        words = self.arm_words(union)
         if words is None:
             return {}
         lacks, rows = "refl" if self.takes_memory(union) else "h", []
@@ -1075,7 +1021,7 @@ class Module:
 
     def one_member_answers(self, union):
         """What writes a union of one member, by its name or inside its map: no arm says that the value is that one."""
-        if not is_a(union, "union_keyed", "union_inline") or len(union.cases) != 1:
+        if len(union.cases) != 1:
             return {}
         keyed = union.representation == "keyed"
         variant = f"{alias(union)}.{union.cases[0].name}"
@@ -1131,7 +1077,6 @@ KINDS = {
 }
 
 
-MOST_AT_ONCE = 6  # of an inline union: how many fields its members have that are not put into parts
 SEARCHED_MEMBERS = 3  # of an envelope: how many arms the search proves
 UNTOLD_USES = [
     "use Rattle.std.proofs.Common.{◌≡◌, subst, sym}",

@@ -80,13 +80,7 @@ def filled(head, words, close):
         return [one]
     if len(f"    {', '.join(words)},") <= WIDTH:
         return [head + "{", f"    {', '.join(words)},", "}" + close]
-    made, line = [head + "{"], "   "
-    for word in words:
-        if len(line) + len(word) + 2 >= WIDTH:
-            made.append(line)
-            line = "   "
-        line += f" {word},"
-    return made + [line, "}" + close]
+    return [head + "{", *filled_items(words, 4), "}" + close]
 
 
 def typed(head, kind, indent, close):

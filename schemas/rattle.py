@@ -395,8 +395,8 @@ class Module:
         name = snake(union.name)
         held = {case.data: kind for case, kind in self.cases(union)}
         views = [wrapped(self.view(held[kind]) if kind in held else "Unit {0}") for kind in KINDS]
-        shapes = [f"  of_{word} = {self.shape(held[kind]) if kind in held else 'no_kind'};" for kind, (word, _) in KINDS.items()]
-        of_row = [f"{name}_of_row (kinds.{KINDS[case.data][1]} x) = Some ({case_word(union, case)} x)" for case in union.cases]
+        shapes = [f"  of_{word} = {self.shape(held[kind]) if kind in held else 'no_kind'};" for kind, word in KINDS.items()]
+        of_row = [f"{name}_of_row (kinds.{KINDS[case.data].capitalize()} x) = Some ({case_word(union, case)} x)" for case in union.cases]
         if len(held) < len(KINDS):
             of_row.append(f"{name}_of_row _ = None")
         shape = [f"{name}_row_shape = by_kind (record {{", *shapes, "})"]
@@ -756,8 +756,8 @@ class Module:
     def union_kinded(self, union):
         kinds, of = {case.data: self.code(kind) for case, kind in self.cases(union)}, []
         for case in union.cases:
-            of += arm(f"ByKind::{KINDS[case.data][1]}(x)", made_case("Some(", union, case), 12)
-        of += [f"            ByKind::{word}(_) => None," for kind, (_, word) in KINDS.items() if kind not in kinds]
+            of += arm(f"ByKind::{KINDS[case.data].capitalize()}(x)", made_case("Some(", union, case), 12)
+        of += [f"            ByKind::{word.capitalize()}(_) => None," for kind, word in KINDS.items() if kind not in kinds]
         parts = f"ByKind<{', '.join(kinds.get(kind, 'NoKind') for kind in KINDS)}>"
 
         def write(place, case):
@@ -1065,17 +1065,8 @@ class Module:
         ]
 
 
-# The kinds of data, as of a kinded union: in the words of specs, and as a variant of `ByKind`.
-KINDS = {
-    "bool": ("bool", "Bool"),
-    "int": ("integer", "Integer"),
-    "string": ("text", "Text"),
-    "bytes": ("bytes", "Bytes"),
-    "list": ("list", "List"),
-    "map": ("map", "Map"),
-    "link": ("link", "Link"),
-}
-
+# The kinds of data, as of a kinded union, in the words of specs. With a capital they are the variants of `ByKind`.
+KINDS = {"bool": "bool", "int": "integer", "string": "text", "bytes": "bytes", "list": "list", "map": "map", "link": "link"}
 
 SEARCHED_MEMBERS = 3  # of an envelope: how many arms the search proves
 UNTOLD_USES = [
@@ -1305,13 +1296,13 @@ def cases_of(rows):
 
 
 def view_rows(view, shown):
-    one = f"{view} = {''.join(row + ' × (' for row in shown)}"
+    """What a row of values is read as: in one line where it fits."""
     if not shown:
         return [f"{view} = Unit {{0}}"]
-    whole = one[:-1] + "Unit {0}" + ")" * (len(shown) - 1)
-    if len(whole) <= 100:
-        return [whole]
-    return [f"{view} =", *(f"    {row} × (" for row in shown[:-1]), f"    {shown[-1]} × Unit {{0}}{')' * (len(shown) - 1)}"]
+    rows = [f"{row} × (" for row in shown[:-1]]
+    last = f"{shown[-1]} × Unit {{0}}{')' * len(rows)}"
+    whole = f"{view} = {''.join(rows)}{last}"
+    return [whole] if len(whole) <= WIDTH else [f"{view} =", *(f"    {row}" for row in (*rows, last))]
 
 
 def documented(text, indent):

@@ -3,7 +3,7 @@ first tests the others' fields, a few at once, while its own are still in the gr
 
 from dataclasses import dataclass, replace
 
-from schemas.groups import OfFields
+from schemas.groups import of_fields
 from schemas.law import field_name, in_parts
 from schemas.layout import INSIDE_STRUCT, WIDTH, Group, lines, taken
 from schemas.parsing import Field, Struct
@@ -11,12 +11,6 @@ from schemas.parsing import Field, Struct
 MOST_AT_ONCE = 6  # fields of the row, where it is not read in groups
 MOST_IN_READ = 5  # fields of a group
 MOST_IN_TEST = 4  # fields, of which it is tested at once whether any is there
-
-
-class ReadGroup(OfFields):
-    """A group of the row, which is public, as all that stands in an impl of `Made`."""
-
-    pub = "pub "
 
 
 @dataclass
@@ -126,7 +120,7 @@ class WideMembers(Members):
         fields = [replace(one.field, name=one.local, optional=True) for one in self.row]
         whole, self.groups = Struct(union.name, fields, "map", self.is_open, union.place), []
         for some in packed(self.parts, MOST_IN_READ):
-            group = ReadGroup(module, whole, len(self.groups) + 1, fields[: len(some)])
+            group = of_fields(module, whole, len(self.groups) + 1, fields[: len(some)], "pub ")  # as all that stands in an impl of `Made`
             self.groups.append((group, some))
             fields = fields[len(some) :]
             for one in some:

@@ -185,10 +185,10 @@ class Drawing:
         self.random.shuffle(held)
         keys = set()
         cases = [f'  | {kind} "{self.text(keys)}"' for kind in held]
-        return self.told(name, cases) if self.random.random() < 0.3 else [f"type {name} union {{", *cases, "} representation keyed"]
+        return self.told(name, cases) if self.random.random() < 0.3 else union(name, cases, "keyed")
 
     def keyed(self, name):
-        return [f"type {name} union {{", *self.cases(5), "} representation keyed"]
+        return union(name, self.cases(5), "keyed")
 
     def envelope(self, name):
         return self.told(name, self.cases(4))
@@ -199,8 +199,7 @@ class Drawing:
         while len(keys) < 2:
             self.text(keys)
         tag, content = sorted(keys, key=lambda key: (len(key), key))
-        options = [f'  discriminantKey "{tag}"', f'  contentKey "{content}"']
-        return [f"type {name} union {{", *cases, "} representation envelope {", *options, "}"]
+        return union(name, cases, "envelope", f'discriminantKey "{tag}"', f'contentKey "{content}"')
 
     def kinded(self, name):
         """A union of kinds, of which a list and a map are drawn for it."""
@@ -212,19 +211,17 @@ class Drawing:
                 make = self.random.choice((self.tuple, self.items) if kind == "list" else (self.struct, self.entries))
                 self.lines.append(make(held))
             rows.append(f"  | {held} {kind}")
-        return [f"type {name} union {{", *rows, "} representation kinded"]
+        return union(name, rows, "kinded")
+
+    def alias(self, name, form="{}"):
+        kind, note = self.value()
+        return [f"type {name} {form.format(kind)}{note}"]
 
     def items(self, name):
-        kind, note = self.value()
-        return [f"type {name} [{kind}]{note}"]
+        return self.alias(name, "[{}]")
 
     def entries(self, name):
-        kind, note = self.value()
-        return [f"type {name} {{String:{kind}}}{note}"]
-
-    def alias(self, name):
-        kind, note = self.value()
-        return [f"type {name} {kind}{note}"]
+        return self.alias(name, "{{String:{}}}")
 
     def counts(self, name):
         """A map with an enum's keys."""
@@ -250,7 +247,7 @@ class Drawing:
                 rows.append(f'  {word} {self.random.choice(("", "optional "))}{kind} (rename "{self.text(keys)}"){note}')
             self.lines.append([f"type {member} struct {{{is_open}", *rows, "}"])
             members.append(f'  | {member} "{self.text(set())[:39]}{len(members)}"')
-        return [f"type {name} union {{", *members, "} representation inline {", f'  discriminantKey "{tag}"', "}"]
+        return union(name, members, "inline", f'discriminantKey "{tag}"')
 
     def schema(self, kinds):
         forms = [self.struct] * 5 + [self.tuple] * 2 + [self.enum] * 2 + [self.keyed] * 2
@@ -266,6 +263,11 @@ class Drawing:
             self.made.append(name)
         self.random.shuffle(self.lines)
         return "\n\n".join("\n".join(lines) for lines in self.lines) + "\n"
+
+
+def union(name, cases, representation, *options):
+    end = [f"}} representation {representation} {{", *(f"  {option}" for option in options), "}"]
+    return [f"type {name} union {{", *cases, *(end if options else [end[0].removesuffix(" {")])]
 
 
 def drawn(seed):

@@ -3,7 +3,7 @@
 import re
 from typing import NamedTuple
 
-from schemas.groups import form, groups_of
+from schemas.groups import form, groups_of, joined
 from schemas.law import MOST_FIELDS, RESERVED, field_name, held_by, is_a, is_leaf, maker_name, may_lack, parts, path_name, snake
 from schemas.layout import (
     INSIDE_STRUCT,
@@ -555,11 +555,8 @@ class Module:
             if field.implicit is not None:
                 value = meant(kind, field.implicit.value)
                 of += matched(field_name(field.name), [f"None => {value},", f"Some({value}) => return None,", "Some(x) => x,"])
-        parts, seen = end, []
-        for field, kind in reversed(kinds):
-            parts = f"({form(field)}<{self.code(kind)}>, {parts})"
-        for place, (field, kind) in enumerate(kinds):
-            seen.append(self.optional_meaning(kind, may_lack(field), "v" + ".1" * place + ".0.0"))
+        parts = joined([*(f"{form(field)}<{self.code(kind)}>" for field, kind in kinds), end])
+        seen = [self.optional_meaning(kind, may_lack(field), f"v{'.1' * place}.0.0") for place, (field, kind) in enumerate(kinds)]
         of += construct("Some(", struct, ")")
         return self.made_impls(struct, parts, pairs_of(seen), self.struct_meaning(struct), read, of)
 
@@ -586,15 +583,14 @@ class Module:
     def struct_listpairs(self, struct):
         kinds = self.fields(struct)
         names = [field_name(field.name) for field in struct.fields]
-        tree, write, seen, parts = [], [], [], "()"
+        tree, write, seen = [], [], []
         of = apart(item_patterns(struct), "()", "parts")
         for place, (name, (field, kind)) in enumerate(zip(names, kinds)):
             tree.append(f'list_tree (Some (text (codes "{field.key}")) ∷ {self.tree(kind, f"v.{name}")} ∷ []) ∷')
             write += lines(Group(f"let {name} = (", [f'"{field.key}"', f"&self.{name}"], ")"), 8, ";")
             of += lines(Group(f"let {name} = of_name(", [name, f'"{field.key}"'], ")?"), 8, ";")
             seen.append(f"⟦<(String, {self.code(kind)}) as Shown>⟧.meaning v{'.1' * place}.0")
-        for _, kind in reversed(kinds):
-            parts = f"((String, {self.code(kind)}), {parts})"
+        parts = joined([*(f"(String, {self.code(kind)})" for _, kind in kinds), "()"])
         write += [*written_row([f"Part(&{name})" for name in names], 8), f"        write_parts(alloc, {len(kinds)}, row, ser)"]
         read, meaning = [f"        read_tuple(alloc, {len(kinds)}, de)"], self.struct_meaning(struct)
         return [
@@ -689,9 +685,8 @@ class Module:
 
     def union_inline(self, union):
         members = members_of(self, union)
-        end = parts = "()" if members.is_open else "Closed"
-        for held in reversed(members.types()):
-            parts = f"({held}, {parts})"
+        end = "()" if members.is_open else "Closed"
+        parts = joined(["Required<String>", *members.types(), end])
         of = [*apart([f"({word}, {{}})" for word in ("Required(tag)", *members.words())], end, "parts"), "        match tag.as_str() {"]
         for case in union.cases:
             of += self.inline_made(union, case, members)
@@ -706,7 +701,7 @@ class Module:
         return [
             *members.items(),
             *self.union_impls(union, trees, write),
-            *self.made_impls(union, f"(Required<String>, {parts})", seen, meaning, read, [*of, NONE, "        }"]),
+            *self.made_impls(union, parts, seen, meaning, read, [*of, NONE, "        }"]),
         ]
 
     def inline_tree(self, union, case):

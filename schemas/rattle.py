@@ -25,7 +25,7 @@ from schemas.layout import (
 )
 from schemas.members import members_of
 from schemas.parsing import Alias, Enum, Int, Leaf, Link, ListOf, MapOf, Member, Named, Nullable, Struct, Union, Unit
-from schemas.written import all_groups, written_groups
+from schemas.written import all_groups, entry, written_groups
 
 
 class Scalar(NamedTuple):
@@ -74,11 +74,17 @@ WORDS = {
     "Rattle.dagcbor_schema.specs.Members": "there absent",
     "Rattle.dagcbor_schema.specs.WrittenGroups": "field_before optional_before none_before",
 }
-SCHEMA_WORDS = """ByKind Enveloped InGroups Made NoKind Numbered OneGroup OptionalPart Part WrittenGroup
-    of_name read_enveloped read_made read_numbered unless_meant write_parts""".split()
-LIBRARY_WORDS = """Accessor Bytes Cid Closed DecodeError Deserialize DeserializeOwned Deserializer EnumAccessor Field FieldGroup Ipld
-    Omissible OmissibleItem Optional Read ReadResult Required Serialize Serializer Shown Variants Write WriteResult read_enum read_struct
-    read_tuple write_struct""".split()
+
+# Where each word of the code stands.
+HOMES = {
+    "dagcbor_schema": """ByKind Enveloped InGroups Made NoKind Numbered OneGroup OptionalPart Part WrittenGroup of_name read_enveloped
+        read_made read_numbered unless_meant write_parts""",
+    "serde_ipld_dagcbor": """Accessor Bytes Cid Closed DecodeError Deserialize DeserializeOwned Deserializer EnumAccessor Field FieldGroup
+        Ipld Omissible OmissibleItem Optional Read ReadResult Required Serialize Serializer Shown Variants Write WriteResult read_enum
+        read_struct read_tuple write_struct""",
+    "std::alloc": "Global",
+    "std::collections": "BTreeMap",
+}
 KINDS_PATH = "Rattle.dagcbor_schema.specs.declared.by_kind.ByKind.TheVariants as kinds"
 LETTERS = {"ℕ": "ℕ", "ℤ": "ℤ", "^": "◌^◌", "[]": "[]", "∷": "◌∷◌", "if": "if◌then◌else◌"}
 PUNCTUATION = str.maketrans({char: " " for char in "();,={}⟦⟧<>|[].λ:"})
@@ -456,15 +462,12 @@ class Module:
     def code_imports(text):
         text = "\n".join(line for line in text.split("\n") if "///" not in line)
         text = re.sub(r'"[^"]*"|ByKind::[A-Z]\w*', "ByKind" if "ByKind::" in text else "", text)
-        words = set(re.findall(r"\w+", text))
+        words = {"Global", *re.findall(r"\w+", text)}
         made = []
-        schema = [word for word in SCHEMA_WORDS if word in words]
-        if schema:
-            made += filled("use dagcbor_schema::", schema, ";")
-        made += filled("use serde_ipld_dagcbor::", [word for word in LIBRARY_WORDS if word in words], ";")
-        made.append("use std::alloc::Global;")
-        if "BTreeMap" in words:
-            made.append("use std::collections::BTreeMap;")
+        for home, there in HOMES.items():
+            used = [word for word in there.split() if word in words]
+            if used:
+                made += filled(f"use {home}::", used, ";")
         return made
 
     def declared(self, one):
@@ -517,11 +520,10 @@ class Module:
                 made += group.items()
         return made + self.deserialize_impl(struct, [*read, *construct("Ok(", struct, ")")])
 
-    def entry_tree(self, field, kind, value):
-        """What a field is in the tree of its map."""
-        if may_lack(field):
-            return f'optional (codes "{field.key}") {self.tree_of(kind)} {value} ('
-        return f'field (codes "{field.key}") ({self.tree(kind, value)}) ∷'
+    def entry_tree(self, field, kind, value, forms=("field {} ∷", "optional {} (")):
+        """What a field is in the tree of its map: in the one form, or in the other where it may be absent."""
+        held = f"{self.tree_of(kind)} {value}" if may_lack(field) else f"({self.tree(kind, value)})"
+        return forms[may_lack(field)].format(f'(codes "{field.key}") {held}')
 
     @staticmethod
     def written_value(field, kind):
@@ -1233,11 +1235,6 @@ def struct_of(before, name, words, behind):
 def construct(before, struct, behind):
     """The lines that make a struct of variables that have its fields' names."""
     return lines(struct_of(before, struct.name, [field_name(field.name) for field in struct.fields], behind), 8)
-
-
-def entry(field, value):
-    """What is written of a field of a map."""
-    return Group("Optional(" if may_lack(field) else "Field(", [f'"{field.key}"', f"&{value}"], ")")
 
 
 def written_row(parts, indent):

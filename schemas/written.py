@@ -1,7 +1,20 @@
 """What is written of a struct of many fields: a row of groups, each with a name, so that no function sees the types of all."""
 
-from schemas.law import MOST_FIELDS, field_name, in_parts
+from schemas.law import MOST_FIELDS, field_name, in_parts, may_lack
 from schemas.layout import Group, function, ghost, impl, lines, typed
+
+
+# What a field is in the map, before those behind it.
+BEFORE = ("field_before {} (", "optional_before {} (")
+
+
+def entry(field, value):
+    """What is written of a field of a map."""
+    return Group(f"{entry_form(field)}(", [f'"{field.key}"', f"&{value}"], ")")
+
+
+def entry_form(field):
+    return "Optional" if may_lack(field) else "Field"
 
 
 class Written:
@@ -11,22 +24,14 @@ class Written:
         self.module, self.struct, self.kinds = module, struct, kinds
         self.name = f"{struct.name}Written{number}"
 
-    def pairs(self):
-        """What each field is in the map, before those behind it."""
-        for field, kind in self.kinds:
-            value = f"v.now.{field_name(field.name)}"
-            if field.optional:
-                yield f'optional_before (codes "{field.key}") {self.module.tree_of(kind)} {value} ('
-            else:
-                yield f'field_before (codes "{field.key}") ({self.module.tree(kind, value)}) ('
-
     def items(self):
         """The group, with its impl."""
-        struct, module = self.struct, self.module
-        forms = ["Optional" if field.optional else "Field" for field, _ in self.kinds]
-        types = [f"{form}<'a, {module.code(kind)}>" for form, (_, kind) in zip(forms, self.kinds)]
-        row = [Group(f"{form}(", [f'"{field.key}"', f"&whole.{field_name(field.name)}"], ")") for form, (field, _) in zip(forms, self.kinds)]
-        pairs = [f"        {pair}" for pair in self.pairs()]
+        struct, types, row, pairs = self.struct, [], [], []
+        for field, kind in self.kinds:
+            name = field_name(field.name)
+            types.append(f"{entry_form(field)}<'a, {self.module.code(kind)}>")
+            row.append(entry(field, f"whole.{name}"))
+            pairs.append(f"        {self.module.entry_tree(field, kind, f'v.now.{name}', BEFORE)}")
         return [
             "",
             f"/// The fields of `{struct.name}` that are written from `{field_name(self.kinds[0][0].name)}` on.",

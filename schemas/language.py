@@ -74,7 +74,7 @@ class Language:
 
     def __init__(self, schema):
         self.schema = schema
-        self.definitions = schema.in_order()
+        self.definitions = schema.ordered
         for one in schema.definitions:
             self.check(one)
         self.check_names()

@@ -79,9 +79,8 @@ class Schema:
         for definition in self.definitions:
             for kind in held_by(definition):
                 self.check_known(kind)
-        if is_proved:
-            self.refuse_recursion()
-        else:
+        self.ordered = self.in_order()
+        if not is_proved:
             self.refuse_endless()
         self.recursive = {one.name for one in self.definitions if one.name in self.reached(one)}  # those that hold themselves
         checks = {Struct: self.check_struct, Enum: self.check_enum, Union: self.check_union}
@@ -435,11 +434,6 @@ class Schema:
 
     # -- recursion
 
-    def refuse_recursion(self):
-        done = set()
-        for definition in self.definitions:
-            self.walk(definition, [], done)
-
     def refuse_endless(self):
         """Refuses a type of which each value holds another, so that none is finite."""
         finite = set()
@@ -462,36 +456,31 @@ class Schema:
             left += new
         return found
 
-    def walk(self, definition, path, done):
-        names = [step.name for step in path]
-        if definition.name in names:
-            around = names[names.index(definition.name) :] + [definition.name]
-            raise SchemaError(
-                definition.place,
-                f"`{definition.name}` holds itself ({' -> '.join(around)}): a type's view is made of those of its parts."
-                " A link, as `&Any`, may lead to it",
-            )
-        if definition.name in done:
-            return
-        for one in self.held(definition):
-            self.walk(one, path + [definition], done)
-        done.add(definition.name)
-
     def in_order(self):
-        """The definitions, each behind those that it holds, but for those that hold it."""
-        found, seen = [], set()
+        """The definitions, each behind those that it holds, but for those that hold it: of proved types none does."""
+        found = {}
 
-        def visit(definition):
-            if definition.name in seen:
-                return
-            seen.add(definition.name)
-            for one in self.held(definition):
-                visit(one)
-            found.append(definition)
+        def visit(definition, path):
+            if definition.name in path and self.is_proved:
+                refuse_circle(definition, path)
+            if definition.name not in path and definition.name not in found:
+                for one in self.held(definition):
+                    visit(one, [*path, definition.name])
+                found[definition.name] = definition
 
         for definition in self.definitions:
-            visit(definition)
-        return found
+            visit(definition, [])
+        return list(found.values())
+
+
+def refuse_circle(definition, path):
+    """Refuses a type that holds itself, by the names that lead to it again."""
+    around = path[path.index(definition.name) :] + [definition.name]
+    raise SchemaError(
+        definition.place,
+        f"`{definition.name}` holds itself ({' -> '.join(around)}): a type's view is made of those of its parts."
+        " A link, as `&Any`, may lead to it",
+    )
 
 
 def bounds(width):

@@ -120,7 +120,7 @@ class Module:
     def __init__(self, schema, crate, name):
         self.schema, self.crate, self.name = schema, crate, name
         self.path, self.file = path_name(name), f"{name}.ipldsch"
-        self.definitions = schema.in_order()
+        self.definitions = schema.ordered
         self.types = [one for one in self.definitions if not isinstance(one, Alias)]
         structs = [one for one in self.types if isinstance(one, Struct)]
         implied = [kind for one in structs for field, kind in self.fields(one) if field.implicit is not None]

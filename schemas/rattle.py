@@ -390,11 +390,10 @@ class Module:
             test, shape = f'bytes_eq name (codes "{case.data}")', wrapped(self.shape(kind))
             parts.append((test, f"option_map {case_word(union, case)} ({shape}.view t)"))
             needs.append((test, f"{shape}.need t"))
-        memory = any(self.reading_takes_memory(kind) for _, kind in self.cases(union))
         return [
             [f"abbrev pub {name}_part : List ℕ → Tree → Option {view}", f"{name}_part name t =", *choice(parts), "    else None"],
             [f"abbrev pub {name}_need : List ℕ → Tree → ℕ", f"{name}_need name t =", *choice(needs), "    else 0"],
-            *self.variants_spec(union, view, f"{name}_part", f"{name}_need", memory),
+            *self.variants_spec(union, view, f"{name}_part", f"{name}_need", self.takes_memory(union)),
         ]
 
     def kinded_spec(self, union):

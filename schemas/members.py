@@ -48,7 +48,7 @@ class Members:
 
     def __init__(self, module, union):
         self.module, self.union, self.schema = module, union, module.schema
-        self.is_open = self.schema.case_struct(union.cases[0]).open
+        self.open = self.schema.case_struct(union.cases[0]).open
         self.row = []
         for field in self.fields():
             local = field_name(field.name)
@@ -69,7 +69,7 @@ class Members:
 
     def is_other(self, case, one):
         """Whether a member must not have a field of the row."""
-        return not self.is_open and one.field.key not in self.keys(case)
+        return not self.open and one.field.key not in self.keys(case)
 
     def spec(self, case, member):
         """The lines that make the member of a row."""
@@ -118,7 +118,7 @@ class WideMembers(Members):
         left = iter(self.row)
         self.parts = [[next(left) for _ in part] for part in self.by_owners()]
         fields = [replace(one.field, name=one.local, optional=True) for one in self.row]
-        whole, self.groups = Struct(union.name, fields, "map", self.is_open, union.place), []
+        whole, self.groups = Struct(union.name, fields, "map", self.open, union.place), []
         for some in packed(self.parts, MOST_IN_READ):
             group = of_fields(module, whole, len(self.groups) + 1, fields[: len(some)], "pub ")  # as all that stands in an impl of `Made`
             self.groups.append((group, some))

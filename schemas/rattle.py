@@ -107,6 +107,7 @@ SAID = {
 PLAIN = ["#[derive(Clone, Copy, Debug, PartialEq, Eq)]"]
 UNKNOWN = '            _ => Err(DecodeError::custom("unknown variant")),'
 NONE = "            _ => None,"
+DE = "de: &mut Deserializer<'de, R>"
 
 
 def wrapped(text):
@@ -428,7 +429,7 @@ class Module:
             places = {one.field.key: one for one in members.row}
             values = [places[key].path if field.optional else local_name(places[key].local) for key, field in members.keys(case).items()]
             of_row += members.spec(case, f"{case_word(union, case)} {row_of(values)}")
-        shape = shape_rows(f"{name}_row_shape = struct_shape (", steps, "no_fields" if members.is_open else "no_other_fields")
+        shape = shape_rows(f"{name}_row_shape = struct_shape (", steps, "no_fields" if members.open else "no_other_fields")
         return self.finished_spec(name, view_name(union), view_rows(f"{name}_row", shown), shape, [*of_row, "    else None"])
 
     # ---- the code
@@ -499,24 +500,21 @@ class Module:
         tree = [self.entry_tree(field, kind, self.written_value(field, kind)) for field, kind in by_key]
         groups = written_groups(self, struct, by_key) if len(kinds) > MOST_FIELDS else []
         made = [line for group in groups for line in group.items()]
-        made += self.written_impls(struct, nested("λ v. entries_tree (", tree, "[]"), self.map_written(kinds, by_key, groups), self.struct_meaning(struct))
-        names = lines(Group("let names = &[", [f'"{field.key}"' for field, _ in kinds], "]"), 8, ";")
-        call = ["alloc", f'"{struct.name}"', "names", "de"]
-        end = "()" if struct.open else "Closed"
-        if has_implied(struct):
-            read = names + lines(Group("read_struct(", call, ")"), 8)
-            return made + self.implied_impls(struct, end, read)
-        read = names + lines(Group("let row = read_struct(", call, ")?"), 8, ";")
-        few = self.schema.row_groups(struct)
+        write = self.map_written(kinds, by_key, groups)
+        made += self.written_impls(struct, nested("λ v. entries_tree (", tree, "[]"), write, self.struct_meaning(struct))
+        return made + (self.implied_impls(struct) if has_implied(struct) else self.map_read(struct))
+
+    def map_read(self, struct):
+        """The impl that reads a struct that is a map, behind the groups in which that is done, if there are several."""
+        read = read_by(struct, "read_struct", [field.key for field in struct.fields], is_row=True)
+        end, few, made = end_of(struct), self.schema.row_groups(struct), []
         if len(few) == 1:
-            read += apart(row_patterns(kinds), end)
+            read += apart(row_patterns(self.fields(struct)), end)
         else:
             groups, row = groups_of(self, struct, few)
+            made = [line for group in groups for line in group.items()]
             read += apart([f"({group.word}, {{}})" for group in row], end)
-            for group in reversed(groups):
-                read += group.apart()
-            for group in groups:
-                made += group.items()
+            read += [line for group in reversed(groups) for line in group.apart()]
         return made + self.deserialize_impl(struct, [*read, *construct("Ok(", struct, ")")])
 
     def entry_tree(self, field, kind, value, forms=("field {} ∷", "optional {} (")):
@@ -548,9 +546,9 @@ class Module:
         name = field_name(field.name)
         return lines(Group(f"let {name} = {unless(kind)}(", [f"&self.{name}", meant(kind, field.implicit.value)], ")"), 8, ";")
 
-    def implied_impls(self, struct, end, read):
+    def implied_impls(self, struct):
         """A struct that is made of a row in which fields are left out that mean a value then."""
-        kinds = self.fields(struct)
+        kinds, end = self.fields(struct), end_of(struct)
         of = apart(row_patterns(kinds), end, "parts")
         for field, kind in kinds:
             if field.implicit is not None:
@@ -559,6 +557,7 @@ class Module:
         parts = joined([*(f"{form(field)}<{self.code(kind)}>" for field, kind in kinds), end])
         seen = [self.optional_meaning(kind, may_lack(field), f"v{'.1' * place}.0.0") for place, (field, kind) in enumerate(kinds)]
         of += construct("Some(", struct, ")")
+        read = read_by(struct, "read_struct", [field.key for field in struct.fields])
         return self.made_impls(struct, parts, pairs_of(seen), self.struct_meaning(struct), read, of)
 
     def struct_meaning(self, struct):
@@ -627,7 +626,7 @@ class Module:
         return [
             *self.enum_impls(enum, 'text (codes "{}")', write),
             *self.variants_impl(enum, ["λ v. v"], match("name", [*read, UNKNOWN]), alloc="_alloc"),
-            *self.read_enum_impl(enum, [member.data for member in enum.members]),
+            *self.deserialize_impl(enum, read_by(enum, "read_enum", [member.data for member in enum.members])),
             *self.unless_enum(enum),
         ]
 
@@ -686,13 +685,11 @@ class Module:
 
     def union_inline(self, union):
         members = members_of(self, union)
-        end = "()" if members.is_open else "Closed"
-        parts = joined(["Required<String>", *members.types(), end])
-        of = [*apart([f"({word}, {{}})" for word in ("Required(tag)", *members.words())], end, "parts"), "        match tag.as_str() {"]
-        for case in union.cases:
-            of += self.inline_made(union, case, members)
-        names = Group("let names = &[", [f'"{key}"' for key in (union.discriminant, *(one.field.key for one in members.row))], "]")
-        read = lines(names, 8, ";") + lines(Group("read_struct(", ["alloc", f'"{union.name}"', "names", "de"], ")"), 8)
+        parts = joined(["Required<String>", *members.types(), end_of(members)])
+        of = apart([f"({word}, {{}})" for word in ("Required(tag)", *members.words())], end_of(members), "parts")
+        arms = [line for case in union.cases for line in self.inline_made(union, case, members)]
+        of += match("tag.as_str()", [*arms, NONE])
+        read = read_by(union, "read_struct", [union.discriminant, *(one.field.key for one in members.row)])
         trees = [self.inline_tree(union, case) for case in union.cases]
 
         def write(place, case):
@@ -702,7 +699,7 @@ class Module:
         return [
             *members.items(),
             *self.union_impls(union, trees, write),
-            *self.made_impls(union, parts, seen, meaning, read, [*of, NONE, "        }"]),
+            *self.made_impls(union, parts, seen, meaning, read, of),
         ]
 
     def inline_tree(self, union, case):
@@ -746,7 +743,7 @@ class Module:
         return [
             *self.union_impls(union, trees, write),
             *self.variants_impl(union, self.union_meaning(union), told_arms(union, "name", "variant.newtype_variant(alloc, de)?")),
-            *self.read_enum_impl(union, [case.data for case in union.cases]),
+            *self.deserialize_impl(union, read_by(union, "read_enum", [case.data for case in union.cases])),
         ]
 
     def union_kinded(self, union):
@@ -796,32 +793,26 @@ class Module:
 
     @staticmethod
     def deserialize_impl(one, body):
-        parameters = ["alloc: Global", "de: &mut Deserializer<'de, R>"]
-        return impl(f"<'de> Deserialize<'de> for {one.name}", function("deserialize<R: Read>", parameters, "ReadResult<Self, R>", body))
+        read = function("deserialize<R: Read>", ["alloc: Global", DE], "ReadResult<Self, R>", body)
+        return impl(f"<'de> Deserialize<'de> for {one.name}", read)
 
     @staticmethod
     def variants_impl(one, meaning, body, alloc="alloc"):
-        parameters = [f"{alloc}: Global", "name: &str", "variant: EnumAccessor", "de: &mut Deserializer<'de, R>"]
+        parameters = [f"{alloc}: Global", "name: &str", "variant: EnumAccessor", DE]
         tactic = ["    #[tactic(auto, using(dagcbor_read::proofs::NamedVariants::held_refused))]"] if alloc == "alloc" else []
         read = function("read_variant<R: Read>", parameters, f"ReadResult<{one.name}, R>", body)
         return impl(f"<'de> Variants<'de> for {one.name}", *seen_as(one, meaning, "variants"), [*tactic, *read])
 
     def enveloped_impl(self, one, body):
-        parameters = ["alloc: Global", "tag: &str", "entries: &mut Accessor<'de>", "de: &mut Deserializer<'de, R>"]
+        parameters = ["alloc: Global", "tag: &str", "entries: &mut Accessor<'de>", DE]
         tactic = "    #[tactic(auto, using(dagcbor_schema::proofs::EnvelopeFronts::content_not_read))]"
         read = function("read_content<R: Read>", parameters, f"ReadResult<{one.name}, R>", body)
         return impl(f"<'de> Enveloped<'de> for {one.name}", *seen_as(one, self.union_meaning(one), "variants"), [tactic, *read])
-
-    def read_enum_impl(self, one, names):
-        names = Group("let names = &[", [f'"{name}"' for name in names], "]")
-        call = Group("read_enum(", ["alloc", f'"{one.name}"', "names", "de"], ")")
-        return self.deserialize_impl(one, lines(names, 8, ";") + lines(call, 8))
 
     def made_impls(self, one, parts, parts_meaning, meaning, read, of, seen=None):
         """The impls that read a type in parts: what those are and mean, and the lines that read them, and make the value of them."""
         name = snake(one.name)
         view, shape, made = seen or (f"{name}_row", f"{name}_row_shape", f"{name}_of_row")
-        parameters = ["alloc: Global", "de: &mut Deserializer<'de, R>"]
         return [
             *impl(
                 f"<'de> Made<'de> for {one.name}",
@@ -832,7 +823,7 @@ class Module:
                 ghost("View", [view_name(one)]),
                 ghost("meaning", meaning),
                 ghost("made", [made]),
-                function("read_parts<R: Read>", parameters, "ReadResult<Self::Parts, R>", read),
+                function("read_parts<R: Read>", ["alloc: Global", DE], "ReadResult<Self::Parts, R>", read),
                 function("of_parts", ["parts: Self::Parts"], f"Option<{one.name}>", of),
             ),
             *self.deserialize_impl(one, ["        read_made(alloc, de)"]),
@@ -1231,6 +1222,15 @@ def struct_of(before, name, words, behind):
     return Group(f"{before}{name} {{", words, f"}}{behind}", INSIDE_STRUCT) if words else f"{before}{name} {{}}{behind}"
 
 
+def read_by(one, call, names, is_row=False):
+    """The lines that read a type by a call with the names of its entries or members; or a row, which is kept."""
+    names = lines(Group("let names = &[", [f'"{name}"' for name in names], "]"), 8, ";")
+    given = ["alloc", f'"{one.name}"', "names", "de"]
+    if is_row:
+        return names + lines(Group(f"let row = {call}(", given, ")?"), 8, ";")
+    return names + lines(Group(f"{call}(", given, ")"), 8)
+
+
 def construct(before, struct, behind):
     """The lines that make a struct of variables that have its fields' names."""
     return lines(struct_of(before, struct.name, [field_name(field.name) for field in struct.fields], behind), 8)
@@ -1248,6 +1248,11 @@ def tagged_row(case, parts, indent):
     """The lines that write a map with the text that tells the member."""
     margin = " " * indent
     return [f'{margin}let tag = "{case.data}";', *written_row(parts, indent), f"{margin}write_struct(alloc, row, ser)"]
+
+
+def end_of(struct):
+    """What stands behind the last field of a row: nothing, where other keys are skipped."""
+    return "()" if struct.open else "Closed"
 
 
 def row_patterns(kinds):

@@ -383,33 +383,33 @@ def refusal_by(make):
     return "none"
 
 
-def refusal(text, make=lambda schema: None, is_proved=True):
-    return refusal_by(lambda: make(Schema(parse(text), is_proved)))
+def made_in(language, text):
+    """What is made of a schema: in Rattle it is to be proved."""
+    schema = Schema(parse(text), is_proved=language == "rattle")
+    if language == "rattle":
+        return Module(schema, "trial", "trial").source()
+    return LANGUAGES[language](schema).text("trial.ipldsch")
 
 
-def is_refusal(found, wanted):
-    return wanted in found and found.startswith(wanted.split(" ")[0])
+def in_all(of_rattle, of_others):
+    """The tests of Rattle, and those of other languages, which begin with its name."""
+    return [*(("rattle", *row) for row in of_rattle), *of_others]
 
 
 def failures():
     """Of each test, what is told of it where it fails, and else None."""
-    for text, wanted in REFUSED:
-        found = refusal(text)
-        yield None if is_refusal(found, wanted) else f"{text}\n    is refused by: {found}\n    in place of: {wanted}"
-    for text, wanted in MADE:
-        made = Module(Schema(parse(text)), "trial", "trial").source()
-        yield None if wanted in made.split("\n") else f"{text}\n    makes no line: {wanted}\n{made}"
-    for language, text, wanted in REFUSED_IN:
-        found = refusal(text, LANGUAGES[language], is_proved=False)
-        yield None if is_refusal(found, wanted) else f"{text}\n    is refused in {language} by: {found}\n    in place of: {wanted}"
-    for language, text, wanted in MADE_IN:
-        made = LANGUAGES[language](Schema(parse(text), is_proved=False)).text("trial.ipldsch")
+    for language, text, wanted in in_all(REFUSED, REFUSED_IN):
+        found = refusal_by(lambda: made_in(language, text))
+        is_wanted = wanted in found and found.startswith(wanted.split(" ")[0])
+        yield None if is_wanted else f"{text}\n    is refused in {language} by: {found}\n    in place of: {wanted}"
+    for language, text, wanted in in_all(MADE, MADE_IN):
+        made = made_in(language, text)
         if language == "python":
             compile(made, "trial.py", "exec")
         yield None if wanted in made.split("\n") else f"{text}\n    makes no line in {language}: {wanted}\n{made}"
     for text in UNPROVED:
-        found = [refusal(text), *(refusal(text, make, is_proved=False) for make in LANGUAGES.values())]
-        yield None if found[0] != "none" and set(found[1:]) == {"none"} else f"{text}\n    is refused by: {found}"
+        found, *others = [refusal_by(lambda: made_in(language, text)) for language in ("rattle", *LANGUAGES)]
+        yield None if found != "none" and set(others) == {"none"} else f"{text}\n    is refused by: {found}, {others}"
     for make in LANGUAGES.values():
         yield more_is_told(make)
     yield from left_alone()

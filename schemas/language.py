@@ -48,9 +48,9 @@ class Part:
 
 
 class Language:
-    """What is made of one schema: one file. A subclass is a language. It has the templates below, and the methods `head`, `declared`,
-    `integer_type`, `list_type`, `helper`, `function`, `field_name`, `quoted`, `meant`, `guarded`, `constructed`, `written_map`, `looked_at`, `enum`,
-    `unit` and `kind_patterns`."""
+    """What is made of one schema: one file. A subclass is a language: it has the templates below, in which {} stands for what is put
+    there, and what no template says, as methods: `head`, `declared`, `field_name`, `function`, `helper`, `integer_type`, `list_type`,
+    `quoted`, `meant`, `guarded`, `constructed`, `written_map`, `looked_at`, `enum`, `unit` and `kind_patterns`."""
 
     called = suffix = ""  # its name, and that of its files
     step, end, gap = 4, "", 1  # of an indent; of a statement; empty lines between two blocks
@@ -67,7 +67,8 @@ class Language:
     has = {"entries": "", "pairs": "", "items": ""}  # whether what is read has a field
     choice_by, choice_end = "", []  # the first row of a choice, and those of its last statement
     refusal = ""  # a statement that refuses what is at a place
-    part, union, told_by, kind = "held", "value", "value", "value"  # what a member holds; a union; what tells its member; its kind
+    part, union = "held", "value"  # the variables of what a member holds, where it is read, and of a union that is written
+    told_by, kind = "value", "value"  # what tells the member that a union is, and its kind
     member, member_pattern, no_member = ("", [], ""), "", ""  # what makes a member, its pattern, and what refuses others
     map_of_data, tagged, prefixed = ("", ""), ("", [], ""), ("", [], "")  # data: a map, one with a tag, a text with a prefix
     tag_of, has_prefix, without_prefix = "", "", ""  # the tag of a map and its other entries; and of a text

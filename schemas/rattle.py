@@ -5,24 +5,7 @@ from typing import NamedTuple
 
 from schemas.groups import form, groups_of, joined
 from schemas.law import MOST_FIELDS, RESERVED, field_name, held_by, is_a, is_leaf, maker_name, may_lack, parts, path_name, snake
-from schemas.layout import (
-    INSIDE_STRUCT,
-    SHORT_IF,
-    WIDTH,
-    Group,
-    arm,
-    block_arm,
-    filled,
-    function,
-    ghost,
-    impl,
-    lines,
-    pairs_of,
-    row_of,
-    split,
-    taken,
-    typed,
-)
+from schemas.layout import INSIDE_STRUCT, SHORT_IF, WIDTH, Group, arm, block_arm, filled, function, ghost, impl, lines, pairs_of, row_of, split, typed
 from schemas.members import members_of
 from schemas.parsing import Alias, Enum, Int, Leaf, Link, ListOf, MapOf, Member, Named, Nullable, Struct, Union, Unit
 from schemas.written import all_groups, entry, written_groups
@@ -423,11 +406,12 @@ class Module:
         shown = ["List ℕ", *(self.optional_view(one.kind, True) for one in members.row)]
         steps = [f'required_field (codes "{union.discriminant}") (owned_leaf view_text) (']
         steps += [f'omissible_field (codes "{one.field.key}") {wrapped(self.shape(one.kind))} (' for one in members.row]
-        of_row = [f"{name}_of_row row ="]
+        of_row, places = [f"{name}_of_row row ="], {one.field.key: one for one in members.row}
         for place, case in enumerate(union.cases):
             of_row.append(f'    {"else " if place else ""}if bytes_eq row.0 (codes "{case.data}") then')
-            places = {one.field.key: one for one in members.row}
-            values = [places[key].path if field.optional else local_name(places[key].local) for key, field in members.keys(case).items()]
+            values = []
+            for key, field in members.keys(case).items():
+                values.append(places[key].path if field.optional else local_name(places[key].local))
             of_row += members.spec(case, f"{case_word(union, case)} {row_of(values)}")
         shape = shape_rows(f"{name}_row_shape = struct_shape (", steps, "no_fields" if members.open else "no_other_fields")
         return self.finished_spec(name, view_name(union), view_rows(f"{name}_row", shown), shape, [*of_row, "    else None"])
@@ -439,7 +423,8 @@ class Module:
         for one in self.definitions:
             body += ["", *self.declared(one)]
         for one in self.types:
-            body += [*getattr(self, maker_name(one))(one), *impl(f"<'de> DeserializeOwned<'de> for {one.name}", ghost("owned", ["refl"]))]
+            body += getattr(self, maker_name(one))(one)
+            body += impl(f"<'de> DeserializeOwned<'de> for {one.name}", ghost("owned", ["refl"]))
         head = [f"//! The types of {self.file}, by ./dagcbor-types. Change that file, and run it again.", ""]
         head += self.imports("\n".join(self.ghost_lines(body)), ghost=True)
         for one in self.types:
@@ -537,7 +522,8 @@ class Module:
         if groups:
             made += [*lines(all_groups(groups), 8, ";"), "        let row = InGroups(self, groups);"]
         else:
-            made += written_row([entry(field, ("self." if field.implicit is None else "") + field_name(field.name)) for field, _ in by_key], 8)
+            holders = ["self." if field.implicit is None else "" for field, _ in by_key]
+            made += written_row([entry(field, holder + field_name(field.name)) for holder, (field, _) in zip(holders, by_key)], 8)
         return [*made, "        write_struct(alloc, row, ser)"]
 
     @staticmethod
@@ -570,10 +556,14 @@ class Module:
         tree, write = [], []
         for field, kind in self.fields(struct):
             name = field_name(field.name)
-            tree.append(f"optional_part {self.tree_of(kind)} v.{name} (" if field.optional else f"{self.tree(kind, f'v.{name}')} ∷")
+            if field.optional:
+                tree.append(f"optional_part {self.tree_of(kind)} v.{name} (")
+            else:
+                tree.append(f"{self.tree(kind, f'v.{name}')} ∷")
             write.append(Group("OptionalPart(" if field.optional else "Part(", [f"&self.{name}"], ")"))
         count = len(write)
-        read = [f"        let row = read_tuple(alloc, {count}, de)?;", *apart(item_patterns(struct), "()"), *construct("Ok(", struct, ")")]
+        read = [f"        let row = read_tuple(alloc, {count}, de)?;", *apart(item_patterns(struct), "()")]
+        read += construct("Ok(", struct, ")")
         write = [*written_row(write, 8), f"        write_parts(alloc, {count}, row, ser)"]
         return [
             *self.written_impls(struct, nested("λ v. list_tree (", tree, "[]"), write, self.struct_meaning(struct)),

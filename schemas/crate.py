@@ -70,10 +70,9 @@ def files_of_crate(schemas, crate):
             seen[one.name] = module.name
     made = {}
     for module in modules:
-        source = f"{module.name}.ipldsch"
-        made[crate / "src" / f"{module.name}.rt"] = module.source(source)
-        made[crate / "specs" / f"{module.path}.antt"] = module.specs(source)
-        for place, text in module.answers(source).items():
+        made[crate / "src" / f"{module.name}.rt"] = module.source()
+        made[crate / "specs" / f"{module.path}.antt"] = module.specs()
+        for place, text in module.answers().items():
             made[crate / "proofs" / place / "Answers.antt"] = text
     made[crate / "src" / "lib.rt"] = lib_of(modules)
     made[crate / "specs" / "Lib.antt"] = specs_of(modules)

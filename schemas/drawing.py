@@ -10,6 +10,7 @@ import string
 from schemas.law import MOST_PAIRS, RESERVED, TAKEN, Schema, bounds, field_name, snake
 from schemas.parsing import WIDTHS, SchemaError, parse
 
+LETTERS = string.ascii_letters + string.digits
 LENGTHS = (1, 2, 3, 5, 8, 13, 21, 40)
 LONG = 21  # from here on a word has no capitals behind the first, which would make it longer as a field's name
 SCALARS = ("Int", "String", "Bytes", "Bool", "&Any", "Any")
@@ -50,13 +51,16 @@ class Drawing:
 
     def type_name(self):
         while True:
-            word = self.word(string.ascii_uppercase, string.ascii_letters + string.digits, set(), snake)
+            word = self.word(string.ascii_uppercase, LETTERS, set(), snake)
             if snake(word) not in self.names and not word.endswith("View"):
                 self.names.add(snake(word))
                 return word
 
     def variant(self, taken):
-        return self.word(string.ascii_uppercase, string.ascii_letters + string.digits, taken, str.lower)
+        return self.word(string.ascii_uppercase, LETTERS, taken, str.lower)
+
+    def field_name(self, taken):
+        return self.word(string.ascii_letters, LETTERS + "_", taken, field_name)
 
     def text(self, taken):
         """What stands in the data: any printable text that the law allows."""
@@ -116,7 +120,7 @@ class Drawing:
         names, keys, rows = set(), set(), []
         count = self.some(MOST_IN_ALL)
         for kind, note, before in self.field_types(count):
-            word = self.word(string.ascii_letters, string.ascii_letters + string.digits + "_", names, field_name)
+            word = self.field_name(names)
             key = self.text(keys) if self.random.random() < 0.4 or word in keys else word
             keys.add(key)
             behind = [f'rename "{key}"'] if key != word else []
@@ -134,7 +138,7 @@ class Drawing:
         there = self.random.choice((count, count, self.random.randint(0, count)))
         for place in range(count):
             kind, note = self.value()
-            word = self.word(string.ascii_letters, string.ascii_letters + string.digits + "_", names, field_name)
+            word = self.field_name(names)
             rows.append(f"  {word} {'optional ' if place >= there else ''}{self.random.choice(('', 'nullable '))}{kind}{note}")
         return [f"type {name} struct {{", *rows, "} representation tuple"]
 
@@ -181,10 +185,10 @@ class Drawing:
         self.random.shuffle(held)
         keys = set()
         cases = [f'  | {kind} "{self.text(keys)}"' for kind in held]
-        return self.told(name, cases) if self.random.random() < 0.3 else [f"type {name} union {{", *cases, "} representation keyed"]
+        return self.told(name, cases) if self.random.random() < 0.3 else union(name, cases, "keyed")
 
     def keyed(self, name):
-        return [f"type {name} union {{", *self.cases(5), "} representation keyed"]
+        return union(name, self.cases(5), "keyed")
 
     def envelope(self, name):
         return self.told(name, self.cases(4))
@@ -195,8 +199,7 @@ class Drawing:
         while len(keys) < 2:
             self.text(keys)
         tag, content = sorted(keys, key=lambda key: (len(key), key))
-        options = [f'  discriminantKey "{tag}"', f'  contentKey "{content}"']
-        return [f"type {name} union {{", *cases, "} representation envelope {", *options, "}"]
+        return union(name, cases, "envelope", f'discriminantKey "{tag}"', f'contentKey "{content}"')
 
     def kinded(self, name):
         """A union of kinds, of which a list and a map are drawn for it."""
@@ -208,19 +211,17 @@ class Drawing:
                 make = self.random.choice((self.tuple, self.items) if kind == "list" else (self.struct, self.entries))
                 self.lines.append(make(held))
             rows.append(f"  | {held} {kind}")
-        return [f"type {name} union {{", *rows, "} representation kinded"]
+        return union(name, rows, "kinded")
+
+    def alias(self, name, form="{}"):
+        kind, note = self.value()
+        return [f"type {name} {form.format(kind)}{note}"]
 
     def items(self, name):
-        kind, note = self.value()
-        return [f"type {name} [{kind}]{note}"]
+        return self.alias(name, "[{}]")
 
     def entries(self, name):
-        kind, note = self.value()
-        return [f"type {name} {{String:{kind}}}{note}"]
-
-    def alias(self, name):
-        kind, note = self.value()
-        return [f"type {name} {kind}{note}"]
+        return self.alias(name, "{{String:{}}}")
 
     def counts(self, name):
         """A map with an enum's keys."""
@@ -242,11 +243,11 @@ class Drawing:
             for _ in range(min(self.random.choice((0, 1, 2, 3)), self.left)):
                 self.left -= 1
                 kind, note = self.value()
-                word = self.word(string.ascii_letters, string.ascii_letters + string.digits + "_", names, field_name)
+                word = self.field_name(names)
                 rows.append(f'  {word} {self.random.choice(("", "optional "))}{kind} (rename "{self.text(keys)}"){note}')
             self.lines.append([f"type {member} struct {{{is_open}", *rows, "}"])
             members.append(f'  | {member} "{self.text(set())[:39]}{len(members)}"')
-        return [f"type {name} union {{", *members, "} representation inline {", f'  discriminantKey "{tag}"', "}"]
+        return union(name, members, "inline", f'discriminantKey "{tag}"')
 
     def schema(self, kinds):
         forms = [self.struct] * 5 + [self.tuple] * 2 + [self.enum] * 2 + [self.keyed] * 2
@@ -262,6 +263,11 @@ class Drawing:
             self.made.append(name)
         self.random.shuffle(self.lines)
         return "\n\n".join("\n".join(lines) for lines in self.lines) + "\n"
+
+
+def union(name, cases, representation, *options):
+    end = [f"}} representation {representation} {{", *(f"  {option}" for option in options), "}"]
+    return [f"type {name} union {{", *cases, *(end if options else [end[0].removesuffix(" {")])]
 
 
 def drawn(seed):

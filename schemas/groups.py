@@ -1,23 +1,56 @@
 """How a struct of many fields is read: in groups, each a struct that the schema's module keeps to itself, since the prover takes few
 fields at once."""
 
+from typing import NamedTuple
+
 from schemas.law import MOST_IN_GROUP, field_name, in_parts, may_lack
-from schemas.layout import INSIDE_STRUCT, WIDTH, Group, ghost, lines, pairs_of, typed
-from schemas.parsing import Nullable
+from schemas.layout import INSIDE_STRUCT, Group, function, ghost, impl, lines, pairs_of, typed
 
 # The ghost members of a group, in order; those with no rows of their own are as its row's.
 MEMBERS = """OwnState own_state own_unread own_shape behind OwnView own_meaning own_finish Held held shape_before joins Shows shows
     finish_before finishes own_refuses""".split()
 
 
+class Part(NamedTuple):
+    """What a group holds: its name and type, what it is in the row that is read and while that is read, what it means, and how it is
+    taken out of the row."""
+
+    word: str
+    code: str
+    row: str
+    own: str
+    meaning: str
+    pattern: str
+
+
 def groups_of(module, struct, few):
     """All groups of a struct whose fields stand in these few, innermost first, and those that its row is made of."""
-    row = [OfFields(module, struct, place + 1, fields) for place, fields in enumerate(few)]
+    row = [of_fields(module, struct, place + 1, fields) for place, fields in enumerate(few)]
     groups = row[:]
     while len(row) > MOST_IN_GROUP:
-        row = [OfGroups(struct, len(groups) + at + 1, part) for at, part in enumerate(in_parts(row, MOST_IN_GROUP))]
+        row = [of_groups(struct, len(groups) + at + 1, part) for at, part in enumerate(in_parts(row, MOST_IN_GROUP))]
         groups += row
     return groups, row
+
+
+def of_fields(module, struct, number, fields, pub=""):
+    """A group of fields."""
+    parts = []
+    for field in fields:
+        kind, name = module.schema.resolve(field.type), field_name(field.name)
+        code, meaning = module.code(kind), module.optional_meaning(kind, field.optional, f"v.{name}")
+        held = f"Option<{code}>" if field.optional else code
+        parts.append(Part(name, held, f"{form(field)}<{code}>", f"Option<{code}>", meaning, f"{form(field)}({name})"))
+    return FieldGroup(struct, number, parts, f"The fields of `{struct.name}` from `{parts[0].word}` on.", pub)
+
+
+def of_groups(struct, number, groups):
+    """A group of groups."""
+    parts = []
+    for group in groups:
+        meaning = f"⟦<{group.name} as FieldGroup<'de>>⟧.own_meaning v.{group.word}"
+        parts.append(Part(group.word, group.name, group.name, group.own, meaning, group.word))
+    return FieldGroup(struct, number, parts, f"The groups of fields of `{struct.name}` from `{groups[0].name}` on.")
 
 
 def group_word(struct):
@@ -31,10 +64,8 @@ def group_word(struct):
 class FieldGroup:
     """A group: what it holds, in a struct, and its impl by the row of that."""
 
-    pub = ""  # before the structs and their fields
-
-    def __init__(self, struct, number):
-        self.struct = struct
+    def __init__(self, struct, number, parts, about, pub=""):
+        self.parts, self.about, self.pub = parts, about, pub  # pub stands before the structs and their fields
         self.name, self.row, self.own = (f"{struct.name}{word}{number}" for word in ("Group", "Row", "Own"))
         self.word = f"{group_word(struct)}{number}"
 
@@ -44,146 +75,64 @@ class FieldGroup:
     def declared(self):
         return [
             "",
-            f"/// {self.about()}",
+            f"/// {self.about}",
             "#[derive(Drop)]",
             f"{self.pub}struct {self.name} {{",
-            *self.held(),
+            *(line for part in self.parts for line in typed(f"{self.pub}{part.word}: ", part.code, 4, ",")),
             "}",
             "",
-            *typed(f"type {self.row} = ", joined(self.row_types()), 0, ";"),
+            *typed(f"type {self.row} = ", joined([part.row for part in self.parts]), 0, ";"),
             "",
             "#[derive(Drop)]",
             f"{self.pub}struct {self.own} {{",
-            *typed(f"{self.pub}row: ", joined(self.own_types()), 4, ","),
+            *typed(f"{self.pub}row: ", joined([part.own for part in self.parts]), 4, ","),
             "}",
         ]
 
     def apart(self):
         """The lines that take it apart."""
-        return lines(Group(f"let {self.name} {{", self.words(), "}", INSIDE_STRUCT), 8, f" = {self.word};")
+        return lines(Group(f"let {self.name} {{", [part.word for part in self.parts], "}", INSIDE_STRUCT), 8, f" = {self.word};")
 
     def group_impl(self):
         row, own = f"<{self.row} as FieldGroup<'de>>", self.own
         members = {word: [f"⟦{row}⟧.{word}"] for word in MEMBERS}
         members["own_state"] = [f"λ p. ⟦{row}⟧.own_state p.row"]
-        members["own_meaning"] = paired(self.meaning())
-        ghosts = [line for word in MEMBERS for line in (*ghost(word, members[word]), "")]
-        return [
-            "",
-            f"impl<'de> FieldGroup<'de> for {self.name} {{",
-            f"    type Own = {own};",
-            "",
-            *ghosts,
-            f"    fn unread_own(alloc: Global) -> {own} {{",
-            *lines(Group(f"{own} {{", [Group(f"row: {row}::unread_own(", ["alloc"], ")")], "}", INSIDE_STRUCT), 8),
-            "    }",
-            "",
-            "    fn skip_names<'n, 'm>(names: &'n [&'m str]) -> &'n [&'m str] {",
-            f"        {row}::skip_names(names)",
-            "    }",
-            "",
-            "    fn read_own<R: Read>(",
-            f"        own: &mut {own},",
-            "        alloc: Global,",
-            "        names: &[&str],",
-            "        key: &str,",
-            "        de: &mut Deserializer<'de, R>,",
-            "    ) -> Option<ReadResult<(), R>> {",
-            *lines(Group(f"{row}::read_own(", ["&mut own.row", "alloc", "names", "key", "de"], ")"), 8),
-            "    }",
-            "",
-            "    fn read_own_named<R: Read>(",
-            f"        own: &mut {own},",
-            "        alloc: Global,",
-            "        names: &[&str],",
-            "        entries: &mut Accessor<'de>,",
-            "        de: &mut Deserializer<'de, R>,",
-            "        refusal: &mut Option<DecodeError<R::Error>>,",
-            "    ) -> bool {",
-            *lines(Group(f"{row}::read_own_named(", ["&mut own.row", "alloc", "names", "entries", "de", "refusal"], ")"), 8),
-            "    }",
-            "",
-            *lines(Group("fn finish_own(", [f"own: {own}"], f") -> Option<{self.name}> {{", WIDTH), 4),
+        *meanings, last = [part.meaning for part in self.parts]
+        members["own_meaning"] = pairs_of(meanings, last)
+        unread = Group(f"{own} {{", [Group(f"row: {row}::unread_own(", ["alloc"], ")")], "}", INSIDE_STRUCT)
+        held, names, de = f"own: &mut {own}", "names: &[&str]", "de: &mut Deserializer<'de, R>"
+        refusal = "refusal: &mut Option<DecodeError<R::Error>>"
+        finished = [
             *lines(Group(f"let row = {row}::finish_own(", ["own.row"], ")?"), 8, ";"),
-            *self.row_apart(),
-            *lines(Group(f"Some({self.name} {{", self.words(), "})", INSIDE_STRUCT), 8),
-            "    }",
-            "}",
+            *(f"        let ({part.pattern}, row) = row;" for part in self.parts[:-1]),
+            f"        let {self.parts[-1].pattern} = row;",
+            *lines(Group(f"Some({self.name} {{", [part.word for part in self.parts], "})", INSIDE_STRUCT), 8),
         ]
-
-
-class OfFields(FieldGroup):
-    """A group of fields."""
-
-    def __init__(self, module, struct, number, fields):
-        super().__init__(struct, number)
-        self.module = module
-        self.fields = [(field, module.schema.resolve(field.type)) for field in fields]
-
-    def about(self):
-        return f"The fields of `{self.struct.name}` from `{self.words()[0]}` on."
-
-    def words(self):
-        return [field_name(field.name) for field, _ in self.fields]
-
-    def held(self):
-        made = []
-        for field, kind in self.fields:
-            code = self.module.code(kind)
-            made += typed(f"{self.pub}{field_name(field.name)}: ", f"Option<{code}>" if field.optional else code, 4, ",")
-        return made
-
-    def row_types(self):
-        return [f"{form(field)}<{self.module.code(kind)}>" for field, kind in self.fields]
-
-    def own_types(self):
-        return [f"Option<{self.module.code(kind)}>" for _, kind in self.fields]
-
-    def meaning(self):
-        kinds = [(field, Nullable(kind, kind.place) if field.optional else kind) for field, kind in self.fields]
-        return [self.module.meaning(kind, f"v.{field_name(field.name)}") for field, kind in kinds]
-
-    def row_apart(self):
-        return row_apart([f"{form(field)}({field_name(field.name)})" for field, _ in self.fields])
-
-
-class OfGroups(FieldGroup):
-    """A group of groups."""
-
-    def __init__(self, struct, number, groups):
-        super().__init__(struct, number)
-        self.groups = groups
-
-    def about(self):
-        return f"The groups of fields of `{self.struct.name}` from `{self.groups[0].name}` on."
-
-    def words(self):
-        return [group.word for group in self.groups]
-
-    def held(self):
-        return [f"    {group.word}: {group.name}," for group in self.groups]
-
-    def row_types(self):
-        return [group.name for group in self.groups]
-
-    def own_types(self):
-        return [group.own for group in self.groups]
-
-    def meaning(self):
-        return [f"⟦<{group.name} as FieldGroup<'de>>⟧.own_meaning v.{group.word}" for group in self.groups]
-
-    def row_apart(self):
-        return row_apart(self.words())
+        return impl(
+            f"<'de> FieldGroup<'de> for {self.name}",
+            [f"    type Own = {own};"],
+            *(ghost(word, members[word]) for word in MEMBERS),
+            function("unread_own", ["alloc: Global"], own, lines(unread, 8)),
+            function("skip_names<'n, 'm>", ["names: &'n [&'m str]"], "&'n [&'m str]", [f"        {row}::skip_names(names)"]),
+            function(
+                "read_own<R: Read>",
+                [held, "alloc: Global", names, "key: &str", de],
+                "Option<ReadResult<(), R>>",
+                lines(Group(f"{row}::read_own(", ["&mut own.row", "alloc", "names", "key", "de"], ")"), 8),
+            ),
+            function(
+                "read_own_named<R: Read>",
+                [held, "alloc: Global", names, "entries: &mut Accessor<'de>", de, refusal],
+                "bool",
+                lines(Group(f"{row}::read_own_named(", ["&mut own.row", "alloc", "names", "entries", "de", "refusal"], ")"), 8),
+            ),
+            function("finish_own", [f"own: {own}"], f"Option<{self.name}>", finished),
+        )
 
 
 def form(field):
     """What holds a field in a row: one that must be there, or that may be absent."""
     return "Omissible" if may_lack(field) else "Required"
-
-
-def row_apart(words):
-    """The lines that take a group's row apart, which has nothing behind the last of these."""
-    return [f"        let ({word}, row) = row;" for word in words[:-1]] + [f"        let {words[-1]} = row;"]
 
 
 def joined(kinds):
@@ -192,8 +141,3 @@ def joined(kinds):
     for kind in reversed(before):
         made = f"({kind}, {made})"
     return made
-
-
-def paired(rows):
-    """What the parts of a group's row mean, in pairs, with nothing behind the last."""
-    return pairs_of(rows[:-1], rows[-1])

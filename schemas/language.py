@@ -1,12 +1,12 @@
-"""What the makers of Python and TypeScript share: which function makes what, names, and what is refused.
+"""What is made of a schema in Python and TypeScript: one walk over its types, with the templates of the language.
 
-A maker has a method for each representation, as `struct_map`; a representation without one is refused by name. So is what a wider
-parser says of a part and no maker knows of."""
+A method makes each representation, as `struct_map`; a representation without one is refused by name. So is what a wider parser says
+of a part and no maker knows of."""
 
 import dataclasses
 import re
 
-from schemas.law import once, parts
+from schemas.law import is_a, maker_name, once, parts
 from schemas.parsing import DEFAULT_WIDTH, Alias, Case, Enum, Field, Int, Leaf, Link, ListOf, MapOf, Member, Named, Nullable, SchemaError, Struct, Union, Unit
 
 WIDTH = 100  # of a line
@@ -34,23 +34,48 @@ KNOWN = {
 }
 
 LEAVES = {"String": "text", "Bytes": "bytes", "Bool": "bool", "Any": "anything"}
+WAYS = ("read", "write")
+
+
+@dataclasses.dataclass
+class Part:
+    """What reads a field: a function, what it is given, and the test of whether a field is there that may be left out."""
+
+    field: Field
+    function: str
+    given: list
+    test: str = ""
 
 
 class Language:
-    """What is made of one schema: one file. A subclass is a language."""
+    """What is made of one schema: one file. A subclass is a language: it has the templates below, in which {} stands for what is put
+    there, and what no template says, as methods: `head`, `declared`, `field_name`, `function`, `helper`, `integer_type`, `list_type`,
+    `quoted`, `meant`, `guarded`, `constructed`, `written_map`, `looked_at`, `enum`, `unit` and `kind_patterns`."""
 
-    called = ""  # the language's name
-    suffix = ""  # of its files
-    step = 4  # of an indent
+    called = suffix = ""  # its name, and that of its files
+    step, end, gap = 4, "", 1  # of an indent; of a statement; empty lines between two blocks
     kinds = ()  # of members of a kinded union
-    taken = frozenset()  # names of types that the made code uses itself
-    closed_modules = frozenset()  # names that no file may have
-    gap = 1  # of empty lines between two blocks
+    taken = closed_modules = frozenset()  # names of types that the made code uses itself, and names that no file may have
     front, back = {}, {}  # the blocks of helpers by their names: before the types, and behind all
+
+    scalars, map_type, null, data = {}, "", "", ""  # types: of leaves, maps, null and all data
+    function_head, function_end = "", []  # of a function that reads or writes: the first row, and those after its body
+    let, let_two, let_list = "", "", ""  # what sets a variable, two variables, and one that is a list of data
+    number, path_of, length, added = "{}", "", "", ""  # a number, a place, how many items a list has, and what adds one
+    struct_value, map_value = "", ""  # the value, where it is a struct or a map
+    is_there, absent = "", ("", "")  # whether a field is there; what stands for one that is not, and where null is a value
+    has = {"entries": "", "pairs": "", "items": ""}  # whether what is read has a field
+    choice_by, choice_end = "", []  # the first row of a choice, and those of its last statement
+    refusal = ""  # a statement that refuses what is at a place
+    part, union = "held", "value"  # the variables of what a member holds, where it is read, and of a union that is written
+    told_by, kind = "value", "value"  # what tells the member that a union is, and its kind
+    member, member_pattern, no_member = ("", [], ""), "", ""  # what makes a member, its pattern, and what refuses others
+    map_of_data, tagged, prefixed = ("", ""), ("", [], ""), ("", [], "")  # data: a map, one with a tag, a text with a prefix
+    tag_of, has_prefix, without_prefix = "", "", ""  # the tag of a map and its other entries; and of a text
 
     def __init__(self, schema):
         self.schema = schema
-        self.definitions = schema.in_order()
+        self.definitions = schema.ordered
         for one in schema.definitions:
             self.check(one)
         self.check_names()
@@ -63,17 +88,17 @@ class Language:
     def check(self, node):
         """Refuses what is not known of a part of the schema, and of the parts in it."""
         kind = type(node)
+        name = f"`{getattr(node, 'name', kind.__name__)}`"
         if kind not in KNOWN:
-            self.refuse(node.place, f"`{getattr(node, 'name', kind.__name__)}`, of the form {kind.__name__.lower()},")
+            self.refuse(node.place, f"{name}, of the form {kind.__name__.lower()},")
         for said in dataclasses.fields(node):
             if said.name not in KNOWN[kind] and said.name != "place" and getattr(node, said.name):
-                self.refuse(node.place, f"`{said.name}` of `{getattr(node, 'name', kind.__name__)}`")
+                self.refuse(node.place, f"`{said.name}` of {name}")
         if isinstance(node, (Struct, Enum, Union, Unit)) and not hasattr(self, maker_name(node)):
-            self.refuse(node.place, f"the representation {node.representation} of `{node.name}`")
-        if isinstance(node, Union) and node.representation == "kinded":
-            for case in node.cases:
-                if case.data not in self.kinds:
-                    self.refuse(case.place, f"the kind {case.data} of `{node.name}`")
+            self.refuse(node.place, f"the representation {node.representation} of {name}")
+        for case in node.cases if is_a(node, "union_kinded") else ():
+            if case.data not in self.kinds:
+                self.refuse(case.place, f"the kind {case.data} of {name}")
         for part in parts_of(node):
             self.check(part)
 
@@ -95,9 +120,6 @@ class Language:
     def type_names(self, one):
         """The names of the types that are made of a definition."""
         return [one.name]
-
-    def field_name(self, field):
-        raise NotImplementedError
 
     # ---- the file, in blocks of lines
 
@@ -129,33 +151,28 @@ class Language:
             before = block
         return rows
 
-    def head(self, source, words):
-        """The lines that begin the file, and what stands in it is of these words: what it is, and imports."""
-        raise NotImplementedError
-
-    def declared(self, one):
-        """The blocks that declare the type."""
-        raise NotImplementedError
-
     def functions(self, one):
         """The blocks of the functions that read the type and write it."""
         if not isinstance(one, Alias):
             return getattr(self, maker_name(one))(one)
         return self.recursive_alias(one) if self.schema.is_recursive_alias(named(one)) else []
 
-    def recursive_alias(self, one):
-        """The functions of a list or a map that holds itself."""
-        raise NotImplementedError
-
     # ---- a type of a value
 
-    def helper(self, word):
-        """The name of a helper, of its words with _ between them."""
-        raise NotImplementedError
-
-    def function(self, way, name):
-        """The name of the function that reads or writes a type that is made."""
-        raise NotImplementedError
+    def annotation(self, kind):
+        """The type as it is written, with the schema's names."""
+        if isinstance(kind, Int):
+            return self.integer_type(kind.width)
+        if isinstance(kind, Link):
+            return "CID"
+        if isinstance(kind, Leaf):
+            return self.scalars[kind.kind]
+        if isinstance(kind, Named):
+            return kind.name
+        part = self.annotation(parts(kind)[0])
+        if isinstance(kind, Nullable):
+            return part if self.has_null(kind.part) else f"{part} | {self.null}"
+        return self.list_type(part) if isinstance(kind, ListOf) else self.map_type.format(part)
 
     def conversion(self, kind, way):
         """The function that checks a value of the type, and reads it, or writes it: where these differ."""
@@ -173,19 +190,9 @@ class Language:
         word = {ListOf: "list_of", MapOf: "map_of", Nullable: "nullable"}[type(kind)]
         return f"{self.helper(word)}({self.conversion(parts(kind)[0], way)})"
 
-    def apart(self, struct):
-        """The fields of a tuple by their places: those that are there, and those that may be left out at the end."""
-        placed = list(enumerate(struct.fields))
-        return [row for row in placed if not row[1].optional], [row for row in placed if row[1].optional]
-
-    def count(self, struct):
-        """How many items a tuple has: the number, or the least and the greatest."""
-        least, most = len(self.apart(struct)[0]), len(struct.fields)
-        return str(most) if least == most else f"{least}, {most}"
-
     def others(self, union, case):
         """The fields of the other members of an inline union, which are looked at even where they are skipped, if they are of one type."""
-        struct = self.schema.by_name[self.schema.resolve(case.type).name]
+        struct = self.schema.case_struct(case)
         own = {field.key for field in struct.fields}
         others = [field for field in self.schema.row_of(union) if struct.open and field.key not in own]
         return [field for field in others if self.schema.has_one_type(union, field.key)]
@@ -199,29 +206,309 @@ class Language:
         """Whether null is a value of the type, so that it can't stand for what is left out."""
         return self.schema.has_null(self.schema.resolve(kind))
 
-    # ---- layout
+    # ---- values
+
+    def literal(self, data):
+        """A text or a number of the data."""
+        return self.quoted(data) if isinstance(data, str) else self.number.format(data)
+
+    def property_name(self, key):
+        """A key in a map that is spelled out."""
+        return self.quoted(key)
+
+    def meant_data(self, field):
+        """What a field means that is left out, in the data."""
+        value = field.implicit.value
+        return self.literal(value.data) if isinstance(value, Member) else self.meant(field)
+
+    def path(self, *steps):
+        """The place of what is so many steps within the value."""
+        return self.path_of.format(", ".join(map(str, steps))) if steps else "at"
+
+    def read(self, case, value, *steps):
+        """What is read of what a member holds, which is so many steps within the whole."""
+        return f"{self.conversion(case.type, 'read')}({value}, {self.path(*steps)})"
+
+    def written(self, part, *steps):
+        """What is written of a field, or of what a member holds."""
+        value = f"held.{self.field_name(part)}" if isinstance(part, Field) else f"{self.union}.value"
+        return f"{self.conversion(part.type, 'write')}({value}, {self.path(*steps)})"
+
+    # ---- statements
 
     def call(self, indent, head, items, close):
         """A call, or another row of items between brackets: in one line where it fits, else each item on its own."""
         margin, inside = " " * indent, ", ".join(items)
-        if indent + len(head) + len(inside) + len(close) <= WIDTH:
+        if not items or indent + len(head) + len(inside) + len(close) <= WIDTH:
             return [f"{margin}{head}{inside}{close}"]
         return [f"{margin}{head}", *(f"{margin}{' ' * self.step}{item}," for item in items), f"{margin}{close}"]
+
+    def statement(self, head, items, close, level=1):
+        """A statement that ends with a row of items between brackets."""
+        return self.call(self.step * level, head, items, close + self.end)
+
+    def row(self, statement, level=1):
+        """A statement on one line."""
+        return f"{' ' * self.step * level}{statement}{self.end}"
+
+    def arm_row(self, head, items, close):
+        """The statement of an arm of a choice, on one line."""
+        return [self.row(head + ", ".join(items) + close, 3)]
+
+    def held(self, struct):
+        """The statement that sets a variable to the value."""
+        return self.row(self.let.format("held") + self.struct_value.format(struct.name))
+
+    def there(self, field):
+        """The test of whether a value has a field that may be left out."""
+        return self.is_there.format(self.field_name(field), self.absent[self.has_null(field.type)])
+
+    def choice(self, value, arms, last):
+        """A choice by a value: of each arm the pattern and the rows; and the last statement, where it is none of these."""
+        rows = [" " * self.step + self.choice_by.format(value)]
+        for pattern, body in arms:
+            rows += [f"{' ' * self.step * 2}case {pattern}:", *body]
+        return rows + [row.format(last) for row in self.choice_end]
+
+    # ---- functions
+
+    def both(self, one, read, write):
+        """The functions that read a type and write it, of their bodies."""
+        if one.name in self.schema.recursive:
+            write = [self.row(f"{self.helper('bounded')}(at)"), *write]
+        return [self.converter("read", one, one.name, read), self.converter("write", one, self.data, write)]
+
+    def converter(self, way, one, kind, body):
+        """The function that reads or writes a type, and makes what is of a type."""
+        return [self.function_head.format(self.function(way, one.name), kind), *body, *self.function_end]
+
+    def recursive_alias(self, one):
+        """Those of a list or a map that holds itself."""
+        return self.both(one, *([self.row(f"return {self.conversion(one.of, way)}(value, at)")] for way in WAYS))
+
+    # -- structs
+
+    def part_of(self, word, field, key):
+        """What reads a field that stands under a key: of the entries by the helper `field`, and of pairs by `paired`."""
+        source = "entries" if word == "field" else "pairs"
+        given = [source, key, "at", self.conversion(field.type, "read")]
+        return Part(field, self.helper(word), given, self.has[source].format(key))
+
+    def struct_map(self, struct):
+        return self.both(struct, self.read_map(struct), self.written_map(struct))
+
+    def read_map(self, struct):
+        keys = [self.quoted(field.key) for field in struct.fields]
+        entries = self.let.format("entries") if keys else ""
+        if struct.open:
+            head = [self.row(entries + self.map_value)]
+        else:
+            head = self.statement(f"{entries}{self.helper('fields')}(", ["value", "at", *keys], ")")
+        parts = []
+        for field, key in zip(struct.fields, keys):
+            part = self.part_of("field", field, key)
+            if field.implicit is not None:
+                part = Part(field, self.helper("implied"), [*part.given, self.meant(field)])
+            parts.append(part)
+        return head + self.constructed(struct, parts)
+
+    def put_entry(self, field):
+        """The rows that add the entry of a field."""
+        key, write = self.quoted(field.key), self.conversion(field.type, "write")
+        if field.implicit is not None:
+            given = ["entries", key, self.written(field, key), self.meant_data(field)]
+            return self.statement(f"{self.helper('put_implied')}(", given, ")")
+        given = [f"held.{self.field_name(field)}", self.path(key)]
+        return self.put(field, f"entries[{key}] = {write}(", given, ")")
+
+    def put(self, field, *added):
+        """The statement that adds a field, under a condition where that may be left out."""
+        return self.guarded(self.there(field), *added) if field.optional else self.statement(*added)
+
+    def struct_tuple(self, struct):
+        return self.both(struct, self.read_tuple(struct), self.written_tuple(struct))
+
+    def items(self, struct):
+        """The items of a list, of which there are as many as a struct has fields."""
+        least, most = count_needed(struct), len(struct.fields)
+        return f"{self.helper('items')}(value, at, {most if least == most else f'{least}, {most}'})"
+
+    def read_tuple(self, struct):
+        parts = []
+        for place, field in enumerate(struct.fields):
+            read, given = self.conversion(field.type, "read"), [f"items[{place}]", self.path(place)]
+            parts.append(Part(field, read, given, self.has["items"].format(place)))
+        return [self.row(self.let.format("items") + self.items(struct)), *self.constructed(struct, parts)]
+
+    def written_tuple(self, struct):
+        rows, items = [self.held(struct)], [self.written(field, place) for place, field in enumerate(struct.fields)]
+        least = count_needed(struct)
+        if least == len(items):
+            return rows + self.statement("return [", items, "]")
+        rows += self.statement(self.let_list.format("items") + "[", items[:least], "]")
+        for place in range(least, len(items)):
+            rows += self.put(struct.fields[place], f"{self.helper('put')}(", ["items", str(place), "at", items[place]], ")")
+        return [*rows, self.row("return items")]
+
+    def struct_listpairs(self, struct):
+        if count_needed(struct) < len(struct.fields):
+            return self.both(struct, self.read_pairs(struct), self.written_pairs(struct))
+        parts, pairs = [], []
+        for place, field in enumerate(struct.fields):
+            key = self.quoted(field.key)
+            given = [f"items[{place}]", self.path(place), key, self.conversion(field.type, "read")]
+            parts.append(Part(field, self.helper("pair"), given))
+            pairs.append(f"[{key}, {self.written(field, place, 1)}]")
+        items, held = (self.let.format(name) if parts else "" for name in ("items", "held"))
+        read = [self.row(items + self.items(struct)), *self.constructed(struct, parts)]
+        write = [self.row(held + self.struct_value.format(struct.name)), *self.statement("return [", pairs, "]")]
+        return self.both(struct, read, write)
+
+    def read_pairs(self, struct):
+        """Of a list of pairs of which some may be left out."""
+        keys = [self.quoted(field.key) for field in struct.fields]
+        head = f"{self.let.format('pairs')}{self.helper('pairs')}("
+        parts = [self.part_of("paired", field, key) for field, key in zip(struct.fields, keys)]
+        return self.statement(head, ["value", "at", str(count_needed(struct)), *keys], ")") + self.constructed(struct, parts)
+
+    def written_pairs(self, struct):
+        rows = [self.held(struct), self.row(self.let_list.format("pairs") + "[]")]
+        for field in struct.fields:
+            pair = [self.quoted(field.key), self.written(field, self.length.format("pairs"), 1)]
+            rows += self.put(field, f"pairs.{self.added}([", pair, "])")
+        return [*rows, self.row("return pairs")]
+
+    def struct_stringjoin(self, struct):
+        join, parts = self.quoted(struct.join), []
+        for place, field in enumerate(struct.fields):
+            parts.append(Part(field, self.conversion(field.type, "read"), [f"pieces[{place}]", "at"]))
+        pieces = f"{self.let.format('pieces')}{self.helper('pieces')}(value, at, {join}, {len(parts)})"
+        joined = self.statement(f"return {self.helper('joined')}(", ["at", join, *map(self.written, struct.fields)], ")")
+        return self.both(struct, [self.row(pieces), *self.constructed(struct, parts)], [self.held(struct), *joined])
+
+    # -- enums and units
+
+    def enum_string(self, enum):
+        return self.enum(enum, f"{self.helper('text')}(value, at)")
+
+    def enum_int(self, enum):
+        width = "i128" if any(member.data < 0 for member in enum.members) else "u64"
+        return self.enum(enum, f"{self.helper(width)}(value, at)")
+
+    def unit_null(self, unit):
+        return self.unit(unit)
+
+    unit_true = unit_false = unit_null
+
+    # -- unions
+
+    def union_keyed(self, union):
+        """A map of one entry, whose key tells the member."""
+
+        def read(case):
+            return self.arm_row(*self.made_member(union, case, self.read(case, self.part, "key")))
+
+        def write(case):
+            return self.arm_row(*self.made_map({case.data: self.written(case, self.quoted(case.data))}))
+
+        head = f"{self.let_two.format('key', self.part)}{self.helper('entry')}(value, at)"
+        return self.told(union, head, "key", self.path("key"), read, write)
+
+    def union_inline(self, union):
+        """The member's map, with the entry that tells the member."""
+        key = self.quoted(union.discriminant)
+
+        def read(case):
+            rows = [row for field in self.others(union, case) for row in self.looked_at(field)]
+            return rows + self.arm_row(*self.made_member(union, case, self.read(case, "entries")))
+
+        def write(case):
+            words = {"key": key, "tag": self.quoted(case.data), "entries": self.written(case)}
+            return self.statement(*filled(self.tagged, words), 3)
+
+        head = self.let_two.format("tag", "entries") + self.tag_of.format(key)
+        return self.told(union, head, "tag", self.path(key), read, write)
+
+    def union_envelope(self, union):
+        """A map of two entries: one tells the member, and the other is what that holds."""
+        tag, content = self.quoted(union.discriminant), self.quoted(union.content)
+
+        def read(case):
+            return self.statement(*self.made_member(union, case, self.read(case, self.part, content)), 3)
+
+        def write(case):
+            entries = {union.discriminant: self.quoted(case.data), union.content: self.written(case, content)}
+            return self.statement(*self.made_map(entries), 3)
+
+        head = f"{self.let_two.format('tag', self.part)}{self.helper('enveloped')}(value, at, {tag}, {content})"
+        return self.told(union, head, "tag", self.path(tag), read, write)
+
+    def union_stringprefix(self, union):
+        """A text that begins with what tells the member."""
+        read = [self.row(f"{self.let.format('whole')}{self.helper('text')}(value, at)")]
+        for case in union.cases:
+            prefix = self.quoted(case.data)
+            value = self.read(case, self.without_prefix.format(prefix))
+            read += self.guarded(self.has_prefix.format(prefix), *self.made_member(union, case, value))
+        read.append(self.row(self.refusal.format("at", "unknown variant")))
+
+        def write(case):
+            return self.statement(*filled(self.prefixed, {"prefix": self.quoted(case.data), "text": self.written(case)}), 3)
+
+        return self.both(union, read, self.written_member(union, write))
+
+    def union_kinded(self, union):
+        """Each value stands for itself."""
+        arms = {way: [] for way in WAYS}
+        for kind, *patterns in self.kind_patterns(union):
+            for way, pattern in zip(WAYS, patterns):
+                arms[way].append((pattern, [self.row(f"return {self.conversion(kind, way)}(value, at)", 3)]))
+        last = self.refusal.format("at", "unknown kind")
+        return self.both(union, *(self.choice(self.kind, some, last) for some in arms.values()))
+
+    def told(self, union, head, tag, at, read, write):
+        """The functions of a union, where a variable tells the member by a text at a place, of what reads and writes each."""
+        arms = [(self.quoted(case.data), read(case)) for case in union.cases]
+        choice = self.choice(tag, arms, self.refusal.format(at, "unknown variant"))
+        return self.both(union, [self.row(head), *choice], self.written_member(union, write))
+
+    def written_member(self, union, write):
+        """The rows that write the member that the value is, by those of each."""
+        arms = [(self.member_pattern.format(union.name, case.name), write(case)) for case in union.cases]
+        held = [self.held(union)] if self.union == "held" else []
+        return held + self.choice(self.told_by, arms, self.no_member.format(union.name))
+
+    def made_member(self, union, case, value):
+        """The statement that makes a member of what it holds."""
+        return filled(self.member, {"union": union.name, "case": case.name, "value": value})
+
+    def made_map(self, entries):
+        """The statement that makes a map of data."""
+        head, close = self.map_of_data
+        return head, [f"{self.property_name(key)}: {value}" for key, value in entries.items()], close
+
+
+def filled(template, words):
+    """A row of items between brackets, with these words in it."""
+    head, items, close = template
+    return head.format(**words), [item.format(**words) for item in items], close.format(**words)
+
+
+def count_needed(struct):
+    """How many fields a struct always has."""
+    return sum(not field.optional for field in struct.fields)
+
+
+def power_of_two(number, power, suffix=""):
+    """A bound of integers, as a power of two."""
+    if number < 0:
+        return f"-({power.format((-number).bit_length() - 1)})"
+    return f"{power.format(number.bit_length())} - 1{suffix}" if number else f"0{suffix}"
 
 
 def named(one):
     """The type that a definition names."""
     return Named(one.name, one.place)
-
-
-def number_of(enum):
-    """The width of the numbers that an enum's are read as."""
-    return "i128" if any(member.data < 0 for member in enum.members) else "u64"
-
-
-def maker_name(one):
-    """Of the method that makes a definition: that of its form and representation."""
-    return f"{type(one).__name__.lower()}_{one.representation}"
 
 
 def parts_of(node):
@@ -242,9 +529,9 @@ def words_of(blocks):
     return set(re.findall(r"\w+", TEXTS.sub("", text)))
 
 
-def named_blocks(text, gap):
+def named_blocks(text):
     """The blocks of a text, by their names: each begins with comments and then the line that declares its name."""
-    blocks = [block.split("\n") for block in text.strip("\n").split("\n" * (gap + 1))]
+    blocks = [block.split("\n") for block in re.split(r"\n\n(?=\S)", text.strip("\n"))]
     return {next(NAME.match(row)[1] for row in rows if NAME.match(row)): rows for rows in blocks}
 
 

@@ -18,7 +18,6 @@ from schemas.parsing import (
     SchemaError,
     Struct,
     Union,
-    Unit,
 )
 
 MOST_FIELDS = 14  # of a row that is read or written as one
@@ -26,6 +25,12 @@ MOST_PAIRS = 3  # of the fields of a struct that is a list of pairs
 MOST_STEPS = 16  # of such a row: one for a field, and one for each list, map, nullable and optional of its type
 MOST_IN_GROUP = 8  # fields of a group, or groups of one, where a row is more than the prover takes at once
 KINDS = ("bool", "int", "string", "bytes", "list", "map", "link")  # of the members of a kinded union
+
+# The kind of all data of a representation, of a leaf and of other types.
+KIND_OF = {Int: "int", Link: "link", ListOf: "list", MapOf: "map", "Bool": "bool", "String": "string", "Bytes": "bytes"}
+KIND_OF |= {"int": "int", "true": "bool", "false": "bool", "null": "null", "tuple": "list", "listpairs": "list"}
+KIND_OF |= {word: "string" for word in ("string", "stringjoin", "stringprefix")}
+KIND_OF |= {word: "map" for word in ("map", "keyed", "inline", "envelope")}
 
 # What a link may lead to, beside the types of the schema.
 DATA_MODEL = ("Any", "Bool", "Bytes", "Float", "Int", "Link", "List", "Map", "String")
@@ -74,13 +79,14 @@ class Schema:
         for definition in self.definitions:
             for kind in held_by(definition):
                 self.check_known(kind)
-        if is_proved:
-            self.refuse_recursion()
-        else:
+        self.ordered = self.in_order()
+        if not is_proved:
             self.refuse_endless()
         self.recursive = {one.name for one in self.definitions if one.name in self.reached(one)}  # those that hold themselves
+        checks = {Struct: self.check_struct, Enum: self.check_enum, Union: self.check_union}
         for definition in self.definitions:
-            self.check(definition)
+            if type(definition) in checks:
+                checks[type(definition)](definition)
 
     # -- names
 
@@ -121,20 +127,28 @@ class Schema:
     def resolved_part(self, kind):
         return kind if self.is_recursive_alias(kind) else self.resolve(kind)
 
+    def named(self, kind):
+        """The definition that a type names; None of other types."""
+        return self.by_name.get(kind.name) if isinstance(kind, Named) else None
+
+    def case_struct(self, case):
+        """The struct that is a member of an inline union."""
+        return self.named(self.resolve(case.type))
+
     def is_recursive_alias(self, kind):
         """Whether it is the name of a list or a map that holds itself."""
-        one = self.by_name[kind.name] if isinstance(kind, Named) and kind.name in self.recursive else None
-        return isinstance(one, Alias) and isinstance(one.of, (ListOf, MapOf))
+        one = self.named(kind)
+        return isinstance(one, Alias) and isinstance(one.of, (ListOf, MapOf)) and one.name in self.recursive
 
     @staticmethod
     def has_null(kind):
-        return isinstance(kind, Nullable) or (isinstance(kind, Leaf) and kind.kind == "Any")
+        return isinstance(kind, Nullable) or is_leaf(kind, "Any")
 
     # -- what is another form of a struct
 
     def plain(self, definition):
         """A map whose keys are an enum's texts, and the unit that is an empty map, are structs."""
-        if isinstance(definition, Unit) and definition.representation == "emptymap":
+        if is_a(definition, "unit_emptymap"):
             return Struct(definition.name, [], "map", False, definition.place, definition.text)
         of = definition.of if isinstance(definition, Alias) else None
         if not isinstance(of, MapOf) or of.key is None:
@@ -147,19 +161,11 @@ class Schema:
         enum = self.by_name.get(kind.key.name)
         if enum is None:
             raise SchemaError(kind.key.place, f"unknown type `{kind.key.name}`")
-        if not isinstance(enum, Enum) or enum.representation != "string":
+        if not is_a(enum, "enum_string"):
             raise SchemaError(kind.key.place, f"keys are String, or of an enum of texts, and not `{kind.key.name}`")
         return enum
 
     # -- each definition
-
-    def check(self, definition):
-        if isinstance(definition, Struct):
-            self.check_struct(definition)
-        elif isinstance(definition, Enum):
-            self.check_enum(definition)
-        elif isinstance(definition, Union):
-            self.check_union(definition)
 
     def check_known(self, kind):
         if isinstance(kind, Named):
@@ -189,38 +195,32 @@ class Schema:
                 raise SchemaError(field.place, f"a field's name has at most 40 letters here: `{field.name}`")
         if self.is_proved:
             self.check_size(struct)
-        if struct.representation == "tuple":
-            self.check_tuple(struct)
-        if struct.representation == "listpairs":
-            self.check_pairs(struct)
+        checks = {"tuple": self.check_tuple, "listpairs": self.check_pairs}
+        if struct.representation in checks:
+            checks[struct.representation](struct)
 
     def implied(self, struct, field):
         """What a field means that is left out, as a value of its type."""
-        kind, literal = self.implied_type(field), field.implicit
-        value, place = literal.value, literal.place
+        kind, value, place = self.implied_type(field), field.implicit.value, field.implicit.place
         if struct.representation != "map":
             raise SchemaError(place, f"a field of a {struct.representation} means nothing where it is left out: `{field.name}`")
         if field.optional:
             raise SchemaError(place, f"`{field.name}` is optional: what is left out means no value")
-        if isinstance(kind, Leaf) and kind.kind == "Bool" and value in ("true", "false"):
-            value = value == "true"
-        if isinstance(kind, Int) and isinstance(value, str) and re.fullmatch(r"0|-?[1-9][0-9]*", value):
-            value = int(value)
-        if isinstance(kind, Leaf) and kind.kind == "Bool" and isinstance(value, bool):
-            return Literal(value, place)
-        if isinstance(kind, Leaf) and kind.kind == "String" and isinstance(value, str) and not self.is_proved:
-            return Literal(value, place)
-        if isinstance(kind, Int) and isinstance(value, int) and not isinstance(value, bool):
-            least, most = bounds(kind.width)
-            if least <= value <= most:
-                return Literal(value, place)
-            raise SchemaError(place, f"{value} is no {kind.width}: `{field.name}`")
-        enum = self.by_name[kind.name] if isinstance(kind, Named) else None
+        enum = self.named(kind)
         if isinstance(enum, Enum):
             for member in enum.members:
                 if value == member.data or enum.representation == "int" and value == str(member.data):
                     return Literal(member, place)
             raise SchemaError(place, f"{value} is no member of `{enum.name}`: `{field.name}`")
+        if isinstance(kind, Int) and re.fullmatch(r"0|-?[1-9][0-9]*", str(value)):
+            least, most = bounds(kind.width)
+            if least <= int(value) <= most:
+                return Literal(int(value), place)
+            raise SchemaError(place, f"{value} is no {kind.width}: `{field.name}`")
+        if is_leaf(kind, "Bool") and (isinstance(value, bool) or value in ("true", "false")):
+            return Literal(value in (True, "true"), place)
+        if is_leaf(kind, "String") and isinstance(value, str) and not self.is_proved:
+            return Literal(value, place)
         others = "a Bool, an Int" if self.is_proved else "a Bool, an Int, a String"
         raise SchemaError(place, f"a field that means a value where it is left out is {others} or of an enum here: `{field.name}`")
 
@@ -324,50 +324,45 @@ class Schema:
         if self.is_proved and (not re.fullmatch(r"[ -~]{0,40}", key) or '"' in key or "\\" in key):
             raise SchemaError(place, f"names in the data are up to 40 printable characters of ASCII here, without \" and \\: {key!r}")
 
-    def check_enum(self, enum):
-        names, data = {}, {}
-        if not enum.members:
-            raise SchemaError(enum.place, f"`{enum.name}` has no members")
-        for member in enum.members:
-            self.check_variant(member)
+    def check_members(self, one, members, data, check):
+        """Checks the members of an enum or a union, whose data is of the name: each by itself too."""
+        names, seen = {}, {}
+        if not members:
+            raise SchemaError(one.place, f"`{one.name}` has no members")
+        for member in members:
+            self.check_capital("member", member.name, member.place)
+            if self.is_proved and member.name in TAKEN_VARIANTS:
+                raise SchemaError(member.place, f"`{member.name}` is a name of Rust or of the library: choose another")
             once(names, member.name.lower(), member.place, "two members have the name")
-            once(data, member.data, member.place, "two members have the representation")
-            if enum.representation == "string":
-                self.check_key(member.data, member.place)
-            elif self.is_proved and member.data < 0:
-                raise SchemaError(member.place, f"{member.data} is not supported: a number from 0 to 2^64 - 1")
+            once(seen, member.data, member.place, f"two members have the {data}")
+            check(member)
 
-    def check_variant(self, member):
-        self.check_capital("member", member.name, member.place)
-        if self.is_proved and member.name in TAKEN_VARIANTS:
-            raise SchemaError(member.place, f"`{member.name}` is a name of Rust or of the library: choose another")
+    def check_enum(self, enum):
+        check = self.check_text_key if enum.representation == "string" else self.check_number
+        self.check_members(enum, enum.members, "representation", check)
+
+    def check_text_key(self, member):
+        self.check_key(member.data, member.place)
+
+    def check_number(self, member):
+        if self.is_proved and member.data < 0:
+            raise SchemaError(member.place, f"{member.data} is not supported: a number from 0 to 2^64 - 1")
 
     def check_union(self, union):
-        names, data = {}, {}
-        if not union.cases:
-            raise SchemaError(union.place, f"`{union.name}` has no members")
-        for case in union.cases:
-            self.check_variant(case)
-            once(names, case.name.lower(), case.place, "two members have the name")
-            once(data, case.data, case.place, "two members have the kind" if union.representation == "kinded" else "two members have the key")
-            if union.representation == "kinded":
-                self.check_kind(case)
-            else:
-                self.check_key(case.data, case.place)
-        if union.representation == "stringprefix":
-            self.check_prefixes(union)
-        if union.representation == "inline":
-            self.check_inline(union)
-        if union.representation == "envelope":
-            self.check_envelope(union)
+        if union.representation == "kinded":
+            self.check_members(union, union.cases, "kind", self.check_kind)
+        else:
+            self.check_members(union, union.cases, "key", self.check_text_key)
+        checks = {"stringprefix": self.check_prefixes, "inline": self.check_inline, "envelope": self.check_envelope}
+        if union.representation in checks:
+            checks[union.representation](union)
 
     def check_inline(self, union):
         """The members are structs that are maps, without the field that tells the member."""
         self.check_key(union.discriminant, union.place)
         for case in union.cases:
-            kind = self.resolve(case.type)
-            struct = self.by_name.get(kind.name) if isinstance(kind, Named) else None
-            if not isinstance(struct, Struct) or struct.representation != "map":
+            struct = self.case_struct(case)
+            if not is_a(struct, "struct_map"):
                 raise SchemaError(case.place, f"a member of an inline union is a struct that is a map: `{case.name}`")
             if union.discriminant in (field.key for field in struct.fields):
                 raise SchemaError(case.place, f"`{struct.name}` has a field `{union.discriminant}`, which tells the members of `{union.name}`")
@@ -378,7 +373,7 @@ class Schema:
         """The members are read as one row: of all their fields, which may be absent, behind the field that tells the member."""
         seen, first = {}, None
         for case in union.cases:
-            struct = self.by_name[self.resolve(case.type).name]
+            struct = self.case_struct(case)
             first = first or struct
             if struct.open != first.open:
                 raise SchemaError(case.place, f"the members of an inline union are all open or none: `{first.name}` and `{struct.name}`")
@@ -400,14 +395,14 @@ class Schema:
         """The fields of an inline union's members, each key once, with whether all members that have it are open."""
         seen = {}
         for case in union.cases:
-            for field in self.by_name[self.resolve(case.type).name].fields:
+            for field in self.case_struct(case).fields:
                 seen.setdefault(field.key, field)
         return list(seen.values())
 
     def has_one_type(self, union, key):
         """Whether the key is of one type in all members of an inline union that have it."""
-        structs = [self.by_name[self.resolve(case.type).name] for case in union.cases]
-        return len({unplaced(self.resolve(field.type)) for struct in structs for field in struct.fields if field.key == key}) == 1
+        fields = [field for case in union.cases for field in self.case_struct(case).fields if field.key == key]
+        return len({unplaced(self.resolve(field.type)) for field in fields}) == 1
 
     def check_envelope(self, union):
         """In Rattle the tag stands before the content, in the order of their keys, so that it tells what to read."""
@@ -434,21 +429,10 @@ class Schema:
     def kind_of(self, kind):
         """The kind of all data of a type; none where it has several."""
         if isinstance(kind, Named):
-            one = self.by_name[kind.name]
-            kinds = {"int": "int", "string": "string", "true": "bool", "false": "bool", "null": "null", "tuple": "list", "listpairs": "list"}
-            kinds |= {"stringjoin": "string", "stringprefix": "string"}
-            kinds |= {word: "map" for word in ("map", "keyed", "inline", "envelope")}
-            return kinds.get(one.representation)
-        if isinstance(kind, Leaf):
-            return {"Bool": "bool", "String": "string", "Bytes": "bytes"}.get(kind.kind)
-        return {Int: "int", Link: "link", ListOf: "list", MapOf: "map"}.get(type(kind))
+            return KIND_OF.get(self.by_name[kind.name].representation)
+        return KIND_OF.get(kind.kind if isinstance(kind, Leaf) else type(kind))
 
     # -- recursion
-
-    def refuse_recursion(self):
-        done = set()
-        for definition in self.definitions:
-            self.walk(definition, [], done)
 
     def refuse_endless(self):
         """Refuses a type of which each value holds another, so that none is finite."""
@@ -459,47 +443,44 @@ class Schema:
             if definition.name not in finite:
                 raise SchemaError(definition.place, f"`{definition.name}` has no finite value: each holds another")
 
+    def held(self, definition):
+        """The definitions that this one names. A link's target is none of them: it is another block."""
+        return [self.by_name[name] for kind in held_by(definition) for name in names_in(kind)]
+
     def reached(self, definition):
         """The names of all types that a value of this one may hold."""
         found, left = set(), [definition]
         while left:
-            names = {named.name for kind in held_by(left.pop()) for named in named_in(kind)} - found
-            found |= names
-            left += [self.by_name[name] for name in names]
+            new = [one for one in self.held(left.pop()) if one.name not in found]
+            found |= {one.name for one in new}
+            left += new
         return found
-
-    def walk(self, definition, path, done):
-        names = [step.name for step in path]
-        if definition.name in names:
-            around = names[names.index(definition.name) :] + [definition.name]
-            raise SchemaError(
-                definition.place,
-                f"`{definition.name}` holds itself ({' -> '.join(around)}): a type's view is made of those of its parts."
-                " A link, as `&Any`, may lead to it",
-            )
-        if definition.name in done:
-            return
-        for kind in held_by(definition):
-            for name in named_in(kind):
-                self.walk(self.by_name[name.name], path + [definition], done)
-        done.add(definition.name)
 
     def in_order(self):
-        """The definitions, each behind those that it holds, but for those that hold it."""
-        found, seen = [], set()
+        """The definitions, each behind those that it holds, but for those that hold it: of proved types none does."""
+        found = {}
 
-        def visit(definition):
-            if definition.name in seen:
-                return
-            seen.add(definition.name)
-            for kind in held_by(definition):
-                for name in named_in(kind):
-                    visit(self.by_name[name.name])
-            found.append(definition)
+        def visit(definition, path):
+            if definition.name in path and self.is_proved:
+                refuse_circle(definition, path)
+            if definition.name not in path and definition.name not in found:
+                for one in self.held(definition):
+                    visit(one, [*path, definition.name])
+                found[definition.name] = definition
 
         for definition in self.definitions:
-            visit(definition)
-        return found
+            visit(definition, [])
+        return list(found.values())
+
+
+def refuse_circle(definition, path):
+    """Refuses a type that holds itself, by the names that lead to it again."""
+    around = path[path.index(definition.name) :] + [definition.name]
+    raise SchemaError(
+        definition.place,
+        f"`{definition.name}` holds itself ({' -> '.join(around)}): a type's view is made of those of its parts."
+        " A link, as `&Any`, may lead to it",
+    )
 
 
 def bounds(width):
@@ -508,6 +489,16 @@ def bounds(width):
     if width == "i128":
         return -(2**64), 2**64 - 1
     return (0, 2**bits - 1) if width[0] == "u" else (-(2 ** (bits - 1)), 2 ** (bits - 1) - 1)
+
+
+def maker_name(one):
+    """Of the method that makes a definition: that of its form and representation, as `struct_map`."""
+    return f"{type(one).__name__.lower()}_{getattr(one, 'representation', '')}"
+
+
+def is_a(one, *names):
+    """Whether a definition is of one of these forms and representations."""
+    return maker_name(one) in names
 
 
 def may_lack(field):
@@ -527,6 +518,10 @@ def in_parts(row, most):
     return [row[begin:end] for begin, end in zip(places, places[1:])]
 
 
+def is_leaf(kind, word):
+    return isinstance(kind, Leaf) and kind.kind == word
+
+
 def depth(kind):
     return 1 + sum(map(depth, parts(kind)))
 
@@ -541,11 +536,9 @@ def parts(kind):
     return []
 
 
-def named_in(kind):
-    """The names in a type. A link's target is none: it is another block."""
-    if isinstance(kind, Named):
-        return [kind]
-    return [name for part in parts(kind) for name in named_in(part)]
+def names_in(kind):
+    """The names in a type."""
+    return [kind.name] if isinstance(kind, Named) else [name for part in parts(kind) for name in names_in(part)]
 
 
 def held_by(definition):

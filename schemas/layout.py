@@ -80,13 +80,7 @@ def filled(head, words, close):
         return [one]
     if len(f"    {', '.join(words)},") <= WIDTH:
         return [head + "{", f"    {', '.join(words)},", "}" + close]
-    made, line = [head + "{"], "   "
-    for word in words:
-        if len(line) + len(word) + 2 >= WIDTH:
-            made.append(line)
-            line = "   "
-        line += f" {word},"
-    return made + [line, "}" + close]
+    return [head + "{", *filled_items(words, 4), "}" + close]
 
 
 def typed(head, kind, indent, close):
@@ -149,15 +143,39 @@ def ghost(name, rows):
     return [f"    ghost {name} = {{ {rows[0]}", *rows[1:-1], f"{rows[-1]} }};"]
 
 
+def impl(head, *items):
+    """An impl of these items, each of its lines. Where its head is long, that is two."""
+    head = f"impl{head} {{"
+    if len(head) > WIDTH:
+        head = head.replace(" for ", "\n    for ")
+    return ["", *head.split("\n"), *[line for item in items for line in ("", *item)][1:], "}"]
+
+
+def function(name, parameters, result, body):
+    """A function of an impl."""
+    return [*lines(Group(f"fn {name}(", parameters, f") -> {result} {{", WIDTH), 4), *body, "    }"]
+
+
+def taken(word):
+    """The lines of an arm that take the value of an option, or give up."""
+    line = f"                let {word} = {word}?;"
+    return [line] if len(line) <= WIDTH else [f"                let {word} =", f"                    {word}?;"]
+
+
+def row_of(values, end="tt"):
+    """A row of values, in pairs, before what stands at the end."""
+    return "".join(f"({value}, " for value in values) + end + ")" * len(values)
+
+
 def pairs_of(rows, end="tt"):
     """What the parts of a row mean, in pairs, before what stands at the end."""
-    flat = "".join(f"({row}, " for row in rows) + end + ")" * len(rows)
+    flat = row_of(rows, end)
     if len(flat) <= 74:
         return [f"λ v. {flat}"]
     made, indent = ["λ v. ("], 6
     for place, row in enumerate(rows):
         margin = " " * indent
-        rest = "".join(f"({other}, " for other in rows[place + 1 :]) + end + ")" * len(rows[place + 1 :])
+        rest = row_of(rows[place + 1 :], end)
         made.append(f"{margin}{row},")
         if place == len(rows) - 1 or len(margin + rest) + 1 <= 100:
             made.append(f"{margin}{rest},")

@@ -19,9 +19,7 @@ UNIONS = {
     "envelope": ("discriminantKey", "contentKey"),
 }
 UNITS = {"null": (), "true": (), "false": (), "emptymap": ()}
-NAME = re.compile(r"[A-Za-z_][A-Za-z0-9_]*")
-NUMBER = re.compile(r"-?[0-9]+")
-MARKS = "{}[]()|&:=,"
+WORD = re.compile(r"(?P<mark>[][{}()|&:=,])|(?P<number>-?[0-9]+)|(?P<name>[A-Za-z_][A-Za-z0-9_]*)")
 
 
 class SchemaError(Exception):
@@ -210,18 +208,11 @@ class Scanner:
             elif char == '"':
                 word, at = scan_text(line, at, place)
                 self.tokens.append(Token("text", word, place))
-            elif char in MARKS:
-                self.tokens.append(Token("mark", char, place))
-                at += 1
-            elif NUMBER.match(line, at):
-                found = NUMBER.match(line, at)
-                self.tokens.append(Token("number", found.group(), place))
-                at = found.end()
             else:
-                found = NAME.match(line, at)
+                found = WORD.match(line, at)
                 if not found:
                     raise SchemaError(place, f"no word begins with {char!r}")
-                self.tokens.append(Token("name", found.group(), place))
+                self.tokens.append(Token(found.lastgroup, found.group(), place))
                 at = found.end()
 
 
@@ -265,27 +256,42 @@ class Parser:
         return token.kind in ("name", "mark") and token.word in words
 
     def take_if(self, word):
-        if self.is_next(word):
-            return self.take()
-        return None
+        return self.take() if self.is_next(word) else None
 
     def expect(self, word):
         token = self.take()
         if token.kind == "text" or token.word != word:
-            raise SchemaError(token.place, f"`{word}` is wanted here, and not {told(token)}")
+            raise unwanted(token, f"`{word}`")
+        return token
+
+    def expect_kind(self, kind, what, form):
+        token = self.take()
+        if token.kind != kind:
+            raise unwanted(token, what, form)
         return token
 
     def expect_name(self, what):
-        token = self.take()
-        if token.kind != "name":
-            raise SchemaError(token.place, f"{what} is wanted here, and not {told(token)}")
-        return token
+        return self.expect_kind("name", what, ",")
 
     def expect_text(self, what):
-        token = self.take()
-        if token.kind != "text":
-            raise SchemaError(token.place, f'{what} is wanted here, as "a", and not {told(token)}')
-        return token
+        return self.expect_kind("text", what, ', as "a",')
+
+    def until(self, close, part):
+        """The parts that stand before a mark, which is taken too."""
+        found = []
+        while not self.take_if(close):
+            found.append(part())
+        return found
+
+    def members(self, part):
+        """The parts of an enum or a union, each behind a `|`."""
+
+        def member():
+            self.expect("|")
+            return part()
+
+        self.expect("{")
+        return self.until("}", member)
 
     # -- comments
 
@@ -317,11 +323,9 @@ class Parser:
     def schema(self):
         definitions = []
         while self.peek().kind != "end":
-            token = self.peek()
             if self.is_next("advanced"):
-                raise SchemaError(token.place, "advanced data layouts are not supported")
-            self.expect("type")
-            definitions.append(self.definition(token.place.line))
+                raise SchemaError(self.peek().place, "advanced data layouts are not supported")
+            definitions.append(self.definition(self.expect("type").place.line))
         self.refuse_idle_notes()
         return definitions
 
@@ -333,28 +337,24 @@ class Parser:
     def definition(self, line):
         name = self.expect_name("the name of a type")
         text = self.text_above(line)
-        if self.take_if("struct"):
-            made = self.struct(name)
-        elif self.take_if("enum"):
-            made = self.enum(name)
-        elif self.take_if("union"):
-            made = self.union(name)
-        elif self.take_if("unit"):
-            made = Unit(name.word, self.representation_of(UNITS, name, "null")[0], name.place)
-        else:
-            self.take_if("=")
-            made = Alias(name.word, self.value_type(lower=True), name.place)
-            self.other_representation(name.word)
+        forms = {"struct": self.struct, "enum": self.enum, "union": self.union, "unit": self.unit}
+        make = forms[self.take().word] if self.is_next(*forms) else self.alias
+        made = make(name)
         made.text = text
         return made
 
-    def other_representation(self, name):
-        """A list or map has one representation here, a scalar none."""
-        if self.is_next("representation"):
-            self.take()
+    def unit(self, name):
+        return Unit(name.word, self.representation_of(UNITS, name, "null")[0], name.place)
+
+    def alias(self, name):
+        """Of another type. A list or map has one representation here, a scalar none."""
+        self.take_if("=")
+        made = Alias(name.word, self.value_type(lower=True), name.place)
+        if self.take_if("representation"):
             token = self.expect_name("a representation")
             if token.word not in ("list", "map"):
-                raise SchemaError(token.place, f"the representation {token.word} of `{name}` is not supported")
+                raise SchemaError(token.place, f"the representation {token.word} of `{name.word}` is not supported")
+        return made
 
     def value_type(self, lower=False):
         token = self.take()
@@ -372,7 +372,7 @@ class Parser:
             self.expect("}")
             return MapOf(value, place, None if key.word == "String" else Named(key.word, key.place))
         if token.kind != "name":
-            raise SchemaError(place, f"a type is wanted here, and not {told(token)}")
+            raise unwanted(token, "a type")
         return self.scalar(token, lower)
 
     def scalar(self, token, lower):
@@ -405,10 +405,7 @@ class Parser:
         is_open = self.note(brace.place.line)[0] == "open"
         if is_open:
             self.noted.add(brace.place.line)
-        fields = []
-        while not self.is_next("}"):
-            fields.append(self.field())
-        self.expect("}")
+        fields = self.until("}", self.field)
         representation, options = self.representation_of(STRUCTS, name, "map")
         return Struct(name.word, fields, representation, is_open, name.place, join=options.get("join", ""))
 
@@ -463,25 +460,23 @@ class Parser:
             return Literal(token.word == "true", token.place)
         if token.kind == "text":
             return Literal(token.word, token.place)
-        raise SchemaError(token.place, f"a text, a number, `true` or `false` is wanted here, and not {told(token)}")
+        raise unwanted(token, "a text, a number, `true` or `false`")
 
     # -- enums
 
     def enum(self, name):
-        self.expect("{")
-        rows = []
-        while not self.is_next("}"):
-            self.expect("|")
-            token = self.expect_name("the name of a member")
-            data = None
-            if self.take_if("("):
-                data = self.expect_text("what stands for the member")
-                self.expect(")")
-            rows.append((token, data))
-        self.expect("}")
+        rows = self.members(self.member)
         representation, _ = self.representation_of(ENUMS, name, "string")
         members = [Member(token.word, self.member_data(representation, token, data), token.place) for token, data in rows]
         return Enum(name.word, members, representation, name.place)
+
+    def member(self):
+        """The name of an enum's member, and the text that stands for it, if any."""
+        token, data = self.expect_name("the name of a member"), None
+        if self.take_if("("):
+            data = self.expect_text("what stands for the member")
+            self.expect(")")
+        return token, data
 
     @staticmethod
     def member_data(representation, token, data):
@@ -496,29 +491,15 @@ class Parser:
     # -- unions
 
     def union(self, name):
-        self.expect("{")
-        rows = []
-        while not self.is_next("}"):
-            self.expect("|")
-            place = self.peek().place
-            held = self.value_type()
-            rows.append((held, self.take(), place))
-        self.expect("}")
+        rows = self.members(lambda: (self.peek().place, self.value_type(), self.take()))
         representation, options = self.representation_of(UNIONS, name)
         cases = []
-        for held, data, place in rows:
+        for place, held, data in rows:
             if data.kind != ("name" if representation == "kinded" else "text"):
-                wanted = {"kinded": "a kind", "stringprefix": 'a prefix, as "a:",'}.get(representation, 'a key, as "a",')
-                raise SchemaError(data.place, f"{wanted} is wanted here, and not {told(data)}")
+                raise unwanted(data, {"kinded": "a kind", "stringprefix": 'a prefix, as "a:",'}.get(representation, 'a key, as "a",'))
             cases.append(Case(case_name(held), held, data.word, place))
-        return Union(
-            name.word,
-            cases,
-            representation,
-            name.place,
-            discriminant=options.get("discriminantKey", ""),
-            content=options.get("contentKey", ""),
-        )
+        tag, content = (options.get(word, "") for word in ("discriminantKey", "contentKey"))
+        return Union(name.word, cases, representation, name.place, discriminant=tag, content=content)
 
 
 def case_name(held):
@@ -534,8 +515,10 @@ def case_name(held):
     raise SchemaError(held.place, "a union holds types that have names: name this one by `type`")
 
 
-def told(token):
-    return {"text": f'the text "{token.word}"', "end": token.word}.get(token.kind, f"`{token.word}`")
+def unwanted(token, what, form=","):
+    """The refusal of a token in place of what is wanted, and how that is written."""
+    told = {"text": f'the text "{token.word}"', "end": token.word}.get(token.kind, f"`{token.word}`")
+    return SchemaError(token.place, f"{what} is wanted here{form} and not {told}")
 
 
 def parse(text):

@@ -3,11 +3,9 @@
 import json
 import keyword
 
-from schemas.law import bounds, snake
-from schemas.language import WIDTH, Language, named, named_blocks, number_of
-from schemas.parsing import WIDTHS, Alias, Enum, Int, Leaf, Link, ListOf, MapOf, Member, Named, Struct, Union, Unit
-
-SCALARS = {"String": "str", "Bytes": "bytes", "Bool": "bool", "Any": "Any"}
+from schemas.law import bounds, is_a, snake
+from schemas.language import WAYS, WIDTH, Language, named, named_blocks, power_of_two
+from schemas.parsing import WIDTHS, Alias, Enum, Member, Struct, Union, Unit
 
 # Names of fields that would stand for a type in the annotations behind them, or for a method or what makes one.
 RESERVED = {"bool", "bytes", "dict", "from_block", "int", "list", "staticmethod", "str", "to_block"}
@@ -27,24 +25,17 @@ PACKAGE = ("CID", "DagCborError", "dumps", "loads")
 FRONT = '''
 _Block: TypeAlias = bytes | bytearray | memoryview
 
-
 _Place: TypeAlias = tuple[str | int, ...]
-
 
 _T = TypeVar("_T")
 
-
 _V = TypeVar("_V")
-
 
 _E = TypeVar("_E", bound=Enum)
 
-
 _Key = TypeVar("_Key", str, int)
 
-
 _Conversion: TypeAlias = Callable[[Any, _Place], _T]
-
 
 class Absent(Enum):
     """Stands for an entry that is left out, where None is null."""
@@ -62,24 +53,20 @@ def _fields(value: Any, at: _Place, *keys: str) -> dict[str, Any]:
             raise _refused("Msg", (*at, key), "unknown field")
     return entries
 
-
 def _field(entries: dict[_Key, Any], key: _Key, at: _Place, read: _Conversion[_T]) -> _T:
     if key not in entries:
         raise _refused("Msg", (*at, key), "missing field")
     return read(entries[key], (*at, key))
-
 
 def _optional(
     entries: dict[_Key, Any], key: _Key, at: _Place, read: _Conversion[_T]
 ) -> _T | None:
     return read(entries[key], (*at, key)) if key in entries else None
 
-
 def _omissible(
     entries: dict[_Key, Any], key: _Key, at: _Place, read: _Conversion[_T]
 ) -> _T | Absent:
     return read(entries[key], (*at, key)) if key in entries else Absent.ABSENT
-
 
 def _implied(
     entries: dict[_Key, Any], key: _Key, at: _Place, read: _Conversion[_T], value: _V
@@ -92,12 +79,10 @@ def _implied(
         raise _refused("Msg", (*at, key), "no such value")
     return found
 
-
 def _put_implied(entries: dict[str, Any], key: str, item: Any, value: Any) -> None:
     """Adds an entry, where it is not what is meant without it."""
     if item != value:
         entries[key] = item
-
 
 def _items(value: Any, at: _Place, least: int, most: int | None = None) -> list[Any]:
     """The items of a list that has so many."""
@@ -108,14 +93,12 @@ def _items(value: Any, at: _Place, least: int, most: int | None = None) -> list[
         raise _refused("LengthMismatch", at, why)
     return items
 
-
 def _pair(item: Any, at: _Place, key: str, read: _Conversion[_T]) -> _T:
     """The value of a pair of this key."""
     found, value = _items(item, at, 2)
     if _text(found, (*at, 0)) != key:
         raise _refused("Msg", (*at, 0), "unknown field")
     return read(value, (*at, 1))
-
 
 def _pairs(value: Any, at: _Place, least: int, *keys: str) -> dict[str, tuple[Any, _Place]]:
     """The values of a list of pairs, with their places. The keys stand in this order."""
@@ -128,7 +111,6 @@ def _pairs(value: Any, at: _Place, least: int, *keys: str) -> dict[str, tuple[An
         found[key] = part, (*at, place, 1)
     return found
 
-
 def _paired(
     pairs: dict[str, tuple[Any, _Place]], key: str, at: _Place, read: _Conversion[_T]
 ) -> _T:
@@ -136,18 +118,15 @@ def _paired(
         raise _refused("Msg", at, f"missing field {key}")
     return read(*pairs[key])
 
-
 def _optional_paired(
     pairs: dict[str, tuple[Any, _Place]], key: str, read: _Conversion[_T]
 ) -> _T | None:
     return read(*pairs[key]) if key in pairs else None
 
-
 def _omissible_paired(
     pairs: dict[str, tuple[Any, _Place]], key: str, read: _Conversion[_T]
 ) -> _T | Absent:
     return read(*pairs[key]) if key in pairs else Absent.ABSENT
-
 
 def _pieces(value: Any, at: _Place, join: str, count: int) -> list[str]:
     """The pieces of a text, of which there are so many."""
@@ -156,7 +135,6 @@ def _pieces(value: Any, at: _Place, join: str, count: int) -> list[str]:
         raise _refused("Msg", at, f"{count} pieces are wanted, and not {len(pieces)}")
     return pieces
 
-
 def _joined(at: _Place, join: str, *pieces: str) -> str:
     """The text of these pieces, which is parted into them again."""
     whole = join.join(pieces)
@@ -164,13 +142,11 @@ def _joined(at: _Place, join: str, *pieces: str) -> str:
         raise _refused("Msg", at, "what separates the pieces is in one")
     return whole
 
-
 def _put(items: list[Any], place: int, at: _Place, item: Any) -> None:
     """Adds an item at its place, before which none is left out."""
     if len(items) != place:
         raise _refused("Msg", (*at, len(items)), "missing field")
     items.append(item)
-
 
 def _entry(value: Any, at: _Place) -> tuple[str, Any]:
     """The key and the value of a map of one entry."""
@@ -179,7 +155,6 @@ def _entry(value: Any, at: _Place) -> tuple[str, Any]:
         raise _refused("Mismatch", at, f"a dict of one entry is wanted, and not of {len(entries)}")
     return next(iter(entries.items()))
 
-
 def _told(value: Any, at: _Place, key: str) -> tuple[str, dict[str, Any]]:
     """What stands under the key, which tells the member of a union, and the other entries."""
     entries = dict(_is(dict, value, at))
@@ -187,24 +162,20 @@ def _told(value: Any, at: _Place, key: str) -> tuple[str, dict[str, Any]]:
     del entries[key]
     return tag, entries
 
-
 def _enveloped(value: Any, at: _Place, tag: str, content: str) -> tuple[str, Any]:
     """What stands under the two keys of a map that has no others."""
     entries = _fields(value, at, tag, content)
     return _field(entries, tag, at, _text), _field(entries, content, at, _anything)
-
 
 def _bounded(at: _Place) -> None:
     """Refuses what is in more lists and maps than a block has in each other, such as a value that holds itself."""
     if len(at) > 127:
         raise _refused("DepthOverflow", at[:127], "too deep")
 
-
 def _unit(one: bool | None, value: Any, at: _Place) -> None:
     """Refuses what is not the one value of a unit."""
     if _is(type(one), value, at) is not one:
         raise _refused("Msg", at, "no such value")
-
 
 def _member(kind: type[_E], data: str | int, at: _Place) -> _E:
     """The member of an Enum that stands for the data."""
@@ -213,13 +184,11 @@ def _member(kind: type[_E], data: str | int, at: _Place) -> _E:
     except ValueError:
         raise _refused("Msg", at, "unknown variant") from None
 
-
 def _list_of(item: _Conversion[_T]) -> _Conversion[list[_T]]:
     def convert(value: Any, at: _Place) -> list[_T]:
         return [item(one, (*at, place)) for place, one in enumerate(_is(list, value, at))]
 
     return convert
-
 
 def _map_of(part: _Conversion[_T]) -> _Conversion[dict[str, _T]]:
     def convert(value: Any, at: _Place) -> dict[str, _T]:
@@ -228,33 +197,26 @@ def _map_of(part: _Conversion[_T]) -> _Conversion[dict[str, _T]]:
 
     return convert
 
-
 def _nullable(part: _Conversion[_T]) -> _Conversion[_T | None]:
     def convert(value: Any, at: _Place) -> _T | None:
         return None if value is None else part(value, at)
 
     return convert
 
-
 def _anything(value: Any, at: _Place) -> Any:
     return value
-
 
 def _bool(value: Any, at: _Place) -> bool:
     return _is(bool, value, at)
 
-
 def _text(value: Any, at: _Place) -> str:
     return _is(str, value, at)
-
 
 def _bytes(value: Any, at: _Place) -> bytes:
     return _is(bytes, value, at)
 
-
 def _link(value: Any, at: _Place) -> CID:
     return _is(CID, value, at)
-
 
 def _integer(least: int, most: int) -> _Conversion[int]:
     def convert(value: Any, at: _Place) -> int:
@@ -265,17 +227,14 @@ def _integer(least: int, most: int) -> _Conversion[int]:
 
     return convert
 
-
 def _is(kind: type[_T], value: Any, at: _Place) -> _T:
     """The value, where it is one of the class. A bool is no int."""
     if isinstance(value, kind) and (kind is bool or not isinstance(value, bool)):
         return value
     raise _other(kind.__name__, value, at)
 
-
 def _other(wanted: str, value: Any, at: _Place) -> DagCborError:
     return _refused("Mismatch", at, f"{wanted} is wanted, and not {type(value).__name__}")
-
 
 def _refused(kind: str, at: _Place, why: str) -> DagCborError:
     place = "/".join(str(step) for step in at)
@@ -286,17 +245,31 @@ def _refused(kind: str, at: _Place, why: str) -> DagCborError:
 class Python(Language):
     called = "Python"
     suffix = ".py"
-    kinds = {"bool": "bool", "int": "int", "string": "str", "bytes": "bytes", "list": "list", "map": "dict", "link": "CID", "null": "None"}  # and the class of each
+    gap = 2
+    # The kinds of data, and the class of each.
+    kinds = {"bool": "bool", "int": "int", "string": "str", "bytes": "bytes", "list": "list", "map": "dict", "link": "CID", "null": "None"}
     taken = frozenset("CID Callable DagCborError Enum Absent TypeAlias TypeVar ValueError False None True".split())
     closed_modules = frozenset({*keyword.kwlist, "collections", "dagcbor", "dataclasses", "enum", "typing"})
-    gap = 2
-    front = named_blocks(FRONT, 2)
-    back = named_blocks(BACK, 2)
+    front, back = named_blocks(FRONT), named_blocks(BACK)
+
+    scalars = {"String": "str", "Bytes": "bytes", "Bool": "bool", "Any": "Any"}
+    map_type, null, data = "dict[str, {}]", "None", "Any"
+    function_head = "def {}(value: Any, at: _Place) -> {}:"
+    let, let_two, let_list = "{} = ", "{}, {} = ", "{}: list[Any] = "
+    path_of, length, added = "(*at, {})", "len({})", "append"
+    struct_value, map_value = "_is({}, value, at)", "_is(dict, value, at)"
+    is_there, absent = "held.{} is not {}", ("None", "Absent.ABSENT")
+    choice_by, choice_end = "match {}:", ["    {}"]
+    refusal = 'raise _refused("Msg", {}, "{}")'
+    member, member_pattern, no_member = ("return {union}{case}(", ["{value}"], ")"), "{}{}()", 'raise _other("{}", value, at)'
+    map_of_data, tagged = ("return {", "}"), ("return {{", ["{key}: {tag}", "**{entries}"], "}}")
+    prefixed = ("return {prefix} + {text}", [], "")
+    tag_of, has_prefix, without_prefix = "_told(value, at, {})", "whole.startswith({})", "whole.removeprefix({})"
 
     # ---- names
 
     def type_names(self, one):
-        has_cases = isinstance(one, Union) and not is_kinded(one)
+        has_cases = isinstance(one, Union) and not is_a(one, "union_kinded")
         return [one.name, *(case_class(one, case) for case in one.cases)] if has_cases else [one.name]
 
     def field_name(self, field):
@@ -319,23 +292,6 @@ class Python(Language):
             rows += [f"from {home} import {', '.join(used)}"] if used else []
         return [*rows, "", "from dagcbor import " + ", ".join(name for name in PACKAGE if name in words)]
 
-    def annotation(self, kind):
-        """The type as it is written, with the schema's names."""
-        if isinstance(kind, Int):
-            return "int"
-        if isinstance(kind, Link):
-            return "CID"
-        if isinstance(kind, Leaf):
-            return SCALARS[kind.kind]
-        if isinstance(kind, ListOf):
-            return f"list[{self.annotation(kind.item)}]"
-        if isinstance(kind, MapOf):
-            return f"dict[str, {self.annotation(kind.value)}]"
-        if isinstance(kind, Named):
-            return kind.name
-        part = self.annotation(kind.part)
-        return part if self.has_null(kind.part) else f"{part} | None"
-
     # ---- declared types
 
     def declared(self, one):
@@ -344,14 +300,20 @@ class Python(Language):
         if isinstance(one, Unit):
             return [[*DATACLASS, f"class {one.name}:", *docstring(one.text), *methods(one)]]
         if isinstance(one, Enum):
-            rows = [f"    {member_name(one, member)} = {literal(member.data)}" for member in one.members]
+            rows = [f"    {member_name(one, member)} = {self.literal(member.data)}" for member in one.members]
             return [[f"class {one.name}(Enum):", *docstring(one.text), *rows, "", *methods(one)]]
         if isinstance(one, Alias):
             return [self.alias(one, [self.annotation(one.of)])]
-        if is_kinded(one):
+        if is_a(one, "union_kinded"):
             return [self.alias(one, [self.annotation(case.type) for case in one.cases])]
         classes = [self.declared_case(one, case) for case in one.cases]
         return [*classes, self.alias(one, [case_class(one, case) for case in one.cases])]
+
+    def integer_type(self, width):
+        return "int"
+
+    def list_type(self, item):
+        return f"list[{item}]"
 
     def alias(self, one, kinds):
         """A name of other types, in quotation marks where these may come after it."""
@@ -363,11 +325,11 @@ class Python(Language):
         return [*comments(one.text, 0), f"{one.name}: TypeAlias = (", *rows, ")"]
 
     def declared_case(self, union, case):
-        said = f"The entry {literal(case.data)} of {union.name}."
+        said = f"The entry {self.quoted(case.data)} of {union.name}."
         if union.representation == "stringprefix":
-            said = f"{union.name}, where {literal(case.data)} comes first."
+            said = f"{union.name}, where {self.quoted(case.data)} comes first."
         elif union.representation != "keyed":
-            said = f"{union.name}, where {literal(union.discriminant)} is {literal(case.data)}."
+            said = f"{union.name}, where {self.quoted(union.discriminant)} is {self.quoted(case.data)}."
         head = ["@dataclass(slots=True)", f"class {case_class(union, case)}:"]
         return [*head, f'    """{said}"""', "", f"    value: {self.annotation(case.type)}"]
 
@@ -382,6 +344,23 @@ class Python(Language):
             rows += [*comments(field.text, 4), f"    {self.field_name(field)}: {kind}"]
         return [*rows, *([""] if struct.fields else []), *methods(struct)]
 
+    # ---- values
+
+    def quoted(self, text):
+        return json.dumps(text, ensure_ascii=False)
+
+    def meant(self, field):
+        value = field.implicit.value
+        if not isinstance(value, Member):
+            return self.literal(value)
+        enum = self.schema.named(self.schema.implied_type(field))
+        return f"{enum.name}.{member_name(enum, value)}"
+
+    # ---- statements
+
+    def guarded(self, test, head, items, close, level=1):
+        return [self.row(f"if {test}:", level), *self.statement(head, items, close, level + 1)]
+
     # ---- functions
 
     def functions(self, one):
@@ -391,274 +370,82 @@ class Python(Language):
     def block_functions(self, one):
         """Those of a type that has no class: of another one's name, or a union."""
         word, kind = snake(one.name), one.name
-        read, write = (self.conversion(named(one), way) for way in ("read", "write"))
+        read, write = (self.conversion(named(one), way) for way in WAYS)
         return [
             [f"def {word}_from_block(block: _Block) -> {kind}:", f"    return {read}(loads(block), ())"],
             [f"def {word}_to_block(value: {kind}) -> bytes:", f"    return dumps({write}(value, ()))"],
         ]
 
-    def both(self, one, read, write):
-        """The two functions, of their bodies."""
-        reads, writes = (self.function(way, one.name) for way in ("read", "write"))
-        bound = ["    _bounded(at)"] if one.name in self.schema.recursive else []
-        return [
-            [f"def {reads}(value: Any, at: _Place) -> {one.name}:", *read],
-            [f"def {writes}(value: Any, at: _Place) -> Any:", *bound, *write],
-        ]
-
-    def recursive_alias(self, one):
-        read, write = (f"    return {self.conversion(one.of, way)}(value, at)" for way in ("read", "write"))
-        return self.both(one, [read], [write])
-
     # -- structs
 
-    def struct_map(self, struct):
-        return self.both(struct, self.read_map(struct), self.written_map(struct))
-
-    def read_map(self, struct):
-        entries = "entries = " if struct.fields else ""
-        keys = ["value", "at", *(literal(field.key) for field in struct.fields)]
-        read = [f"    {entries}_is(dict, value, at)"] if struct.open else self.call(4, f"{entries}_fields(", keys, ")")
-        return read + constructed(struct, self.read_entries((field.key, field) for field in struct.fields))
-
-    def read_entries(self, fields):
-        """The rows that read fields from the entries, each of its key."""
+    def constructed(self, struct, parts):
         rows = []
-        for key, field in fields:
-            how = "_field" if not field.optional else "_omissible" if self.has_null(field.type) else "_optional"
-            given = ["entries", literal(key), "at", self.conversion(field.type, "read")]
-            if field.implicit is not None:
-                how, given = "_implied", [*given, self.meant(field)]
-            rows += self.call(8, f"{self.field_name(field)}={how}(", given, "),")
-        return rows
+        for part in parts:
+            rows += self.call(8, f"{self.field_name(part.field)}={part.function}(", part.given, "),")
+        return [f"    return {struct.name}(", *rows, "    )"] if rows else [f"    return {struct.name}()"]
+
+    def part_of(self, word, field, key):
+        """For fields that may be left out there are other helpers: None stands for that, or Absent where None is a value."""
+        part = super().part_of(word, field, key)
+        if field.optional:
+            part.function = "_omissible" if self.has_null(field.type) else "_optional"
+            if word == "paired":
+                part.function += "_paired"
+                part.given.remove("at")
+        return part
 
     def written_map(self, struct):
         if not struct.fields:
-            return [f"    _is({struct.name}, value, at)", "    return {}"]
-        rows = [f"    held = _is({struct.name}, value, at)", "    entries: dict[str, Any] = {}"]
+            return [self.row(self.struct_value.format(struct.name)), "    return {}"]
+        rows = [self.held(struct), "    entries: dict[str, Any] = {}"]
         for field in struct.fields:
-            held, key, indent = f"held.{self.field_name(field)}", literal(field.key), 4
-            if field.optional:
-                rows.append(self.if_there(field))
-                indent = 8
-            write = self.conversion(field.type, "write")
-            if field.implicit is not None:
-                data = field.implicit.value
-                given = ["entries", key, f"{write}({held}, (*at, {key}))", literal(data.data if isinstance(data, Member) else data)]
-                rows += self.call(4, "_put_implied(", given, ")")
-            else:
-                rows += self.call(indent, f"entries[{key}] = {write}(", [held, f"(*at, {key})"], ")")
+            rows += self.put_entry(field)
         return [*rows, "    return entries"]
 
-    def meant(self, field):
-        """What a field means that is left out."""
-        value = field.implicit.value
-        if not isinstance(value, Member):
-            return literal(value)
-        enum = self.schema.by_name[self.schema.implied_type(field).name]
-        return f"{enum.name}.{member_name(enum, value)}"
-
-    def if_there(self, field):
-        return f"    if held.{self.field_name(field)} is not {'Absent.ABSENT' if self.has_null(field.type) else 'None'}:"
-
-    def struct_tuple(self, struct):
-        return self.both(struct, self.read_tuple(struct), self.written_tuple(struct))
-
     def read_tuple(self, struct):
-        there, absent = self.apart(struct)
-        items = f"_items(value, at, {self.count(struct)})"
-        if absent:
-            return [f"    entries = dict(enumerate({items}))", *constructed(struct, self.read_entries(there + absent))]
-        rows = []
-        for place, field in there:
-            given = [f"items[{place}]", f"(*at, {place})"]
-            rows += self.call(8, f"{self.field_name(field)}={self.conversion(field.type, 'read')}(", given, "),")
-        return [f"    items = {items}", *constructed(struct, rows)]
+        """Where some may be left out, the items are entries of their places."""
+        if not any(field.optional for field in struct.fields):
+            return super().read_tuple(struct)
+        parts = [self.part_of("field", field, str(place)) for place, field in enumerate(struct.fields)]
+        return [f"    entries = dict(enumerate({self.items(struct)}))", *self.constructed(struct, parts)]
 
-    def written_tuple(self, struct):
-        there, absent = self.apart(struct)
-        items = [self.written_item(place, field) for place, field in there]
-        rows = [f"    held = _is({struct.name}, value, at)"]
-        if not absent:
-            return rows + self.call(4, "return [", items, "]")
-        rows += self.call(4, "items: list[Any] = [", items, "]")
-        for place, field in absent:
-            given = ["items", str(place), "at", self.written_item(place, field)]
-            rows += [self.if_there(field), *self.call(8, "_put(", given, ")")]
-        return [*rows, "    return items"]
-
-    def struct_listpairs(self, struct):
-        if any(field.optional for field in struct.fields):
-            return self.both(struct, self.read_pairs(struct), self.written_pairs(struct))
-        items = "items = " if struct.fields else ""
-        parts, pairs = [], []
-        for place, field in enumerate(struct.fields):
-            name, key = self.field_name(field), literal(field.key)
-            given = [f"items[{place}]", f"(*at, {place})", key, self.conversion(field.type, "read")]
-            parts += self.call(8, f"{name}=_pair(", given, "),")
-            pairs.append(f"[{key}, {self.conversion(field.type, 'write')}(held.{name}, (*at, {place}, 1))]")
-        read = [f"    {items}_items(value, at, {len(struct.fields)})", *constructed(struct, parts)]
-        held = "held = " if struct.fields else ""
-        return self.both(struct, read, [f"    {held}_is({struct.name}, value, at)", *self.call(4, "return [", pairs, "]")])
-
-    def struct_stringjoin(self, struct):
-        join, count = literal(struct.join), len(struct.fields)
-        rows, pieces = [], []
-        for place, field in enumerate(struct.fields):
-            name = self.field_name(field)
-            rows += self.call(8, f"{name}={self.conversion(field.type, 'read')}(", [f"pieces[{place}]", "at"], "),")
-            pieces.append(f"{self.conversion(field.type, 'write')}(held.{name}, at)")
-        read = [f"    pieces = _pieces(value, at, {join}, {count})", *constructed(struct, rows)]
-        write = [f"    held = _is({struct.name}, value, at)", *self.call(4, "return _joined(", ["at", join, *pieces], ")")]
-        return self.both(struct, read, write)
-
-    def read_pairs(self, struct):
-        """Of a list of pairs of which some may be left out."""
-        keys = [literal(field.key) for field in struct.fields]
-        least = sum(not field.optional for field in struct.fields)
-        rows = []
-        for field, key in zip(struct.fields, keys):
-            read = self.conversion(field.type, "read")
-            if field.optional:
-                how = "_omissible_paired" if self.has_null(field.type) else "_optional_paired"
-                rows += self.call(8, f"{self.field_name(field)}={how}(", ["pairs", key, read], "),")
-            else:
-                rows += self.call(8, f"{self.field_name(field)}=_paired(", ["pairs", key, "at", read], "),")
-        return [*self.call(4, "pairs = _pairs(", ["value", "at", str(least), *keys], ")"), *constructed(struct, rows)]
-
-    def written_pairs(self, struct):
-        rows = [f"    held = _is({struct.name}, value, at)", "    pairs: list[Any] = []"]
-        for field in struct.fields:
-            indent, write = 4, self.conversion(field.type, "write")
-            if field.optional:
-                rows.append(self.if_there(field))
-                indent = 8
-            pair = [literal(field.key), f"{write}(held.{self.field_name(field)}, (*at, len(pairs), 1))"]
-            rows += self.call(indent, "pairs.append([", pair, "])")
-        return [*rows, "    return pairs"]
-
-    def written_item(self, place, field):
-        return f"{self.conversion(field.type, 'write')}(held.{self.field_name(field)}, (*at, {place}))"
-
-    # -- enums
-
-    def enum_string(self, enum):
-        return self.enum(enum, "_text")
-
-    def enum_int(self, enum):
-        return self.enum(enum, f"_{number_of(enum)}")
+    # -- enums and units
 
     def enum(self, enum, data):
-        read = [f"    return _member({enum.name}, {data}(value, at), at)"]
+        read = [f"    return _member({enum.name}, {data}, at)"]
         return self.both(enum, read, [f"    return _is({enum.name}, value, at).value"])
 
-    # -- units
-
-    def unit_null(self, unit):
-        return self.unit(unit, "None")
-
-    def unit_true(self, unit):
-        return self.unit(unit, "True")
-
-    def unit_false(self, unit):
-        return self.unit(unit, "False")
-
-    def unit(self, unit, one):
+    def unit(self, unit):
+        one = unit.representation.replace("null", "none").capitalize()
         read = [f"    _unit({one}, value, at)", f"    return {unit.name}()"]
         return self.both(unit, read, [f"    _is({unit.name}, value, at)", f"    return {one}"])
 
     # -- unions
 
-    def union_keyed(self, union):
-        read, write = ["    key, held = _entry(value, at)", "    match key:"], ["    match value:"]
-        for case in union.cases:
-            key, kind = literal(case.data), case_class(union, case)
-            call = f"{self.conversion(case.type, 'read')}(held, (*at, key))"
-            read += [f"        case {key}:", f"            return {kind}({call})"]
-            call = f"{self.conversion(case.type, 'write')}(value.value, (*at, {key}))"
-            write += [f"        case {kind}():", f"            return {{{key}: {call}}}"]
-        read.append('    raise _refused("Msg", (*at, key), "unknown variant")')
-        write.append(f'    raise _other("{union.name}", value, at)')
-        return self.both(union, read, write)
+    def looked_at(self, field):
+        return self.statement("_optional(", ["entries", self.quoted(field.key), "at", self.conversion(field.type, "read")], ")", 3)
 
-    def union_inline(self, union):
-        """The member's map, with the entry that tells the member."""
-        key = literal(union.discriminant)
-        read, write = [f"    tag, entries = _told(value, at, {key})", "    match tag:"], ["    match value:"]
-        for case in union.cases:
-            tag, kind = literal(case.data), case_class(union, case)
-            read.append(f"        case {tag}:")
-            for field in self.others(union, case):
-                given = ["entries", literal(field.key), "at", self.conversion(field.type, "read")]
-                read += self.call(12, "_optional(", given, ")")
-            read.append(f"            return {kind}({self.conversion(case.type, 'read')}(entries, at))")
-            call = f"{self.conversion(case.type, 'write')}(value.value, at)"
-            write += [f"        case {kind}():", *self.call(12, "return {", [f"{key}: {tag}", f"**{call}"], "}")]
-        read.append(f'    raise _refused("Msg", (*at, {key}), "unknown variant")')
-        write.append(f'    raise _other("{union.name}", value, at)')
-        return self.both(union, read, write)
-
-    def union_envelope(self, union):
-        tag, content = literal(union.discriminant), literal(union.content)
-        read, write = [f"    tag, held = _enveloped(value, at, {tag}, {content})", "    match tag:"], ["    match value:"]
-        for case in union.cases:
-            key, kind = literal(case.data), case_class(union, case)
-            call = f"{self.conversion(case.type, 'read')}(held, (*at, {content}))"
-            read += [f"        case {key}:", *self.call(12, f"return {kind}(", [call], ")")]
-            call = f"{self.conversion(case.type, 'write')}(value.value, (*at, {content}))"
-            write += [f"        case {kind}():", *self.call(12, "return {", [f"{tag}: {key}", f"{content}: {call}"], "}")]
-        read.append(f'    raise _refused("Msg", (*at, {tag}), "unknown variant")')
-        write.append(f'    raise _other("{union.name}", value, at)')
-        return self.both(union, read, write)
-
-    def union_stringprefix(self, union):
-        read, write = ["    whole = _text(value, at)"], ["    match value:"]
-        for case in union.cases:
-            prefix, kind = literal(case.data), case_class(union, case)
-            call = f"{self.conversion(case.type, 'read')}(whole.removeprefix({prefix}), at)"
-            read += [f"    if whole.startswith({prefix}):", *self.call(8, f"return {kind}(", [call], ")")]
-            call = f"{self.conversion(case.type, 'write')}(value.value, at)"
-            write += [f"        case {kind}():", f"            return {prefix} + {call}"]
-        read.append('    raise _refused("Msg", at, "unknown variant")')
-        write.append(f'    raise _other("{union.name}", value, at)')
-        return self.both(union, read, write)
-
-    def union_kinded(self, union):
-        """Each value stands for itself. A bool is an int to Python, so that it comes first, or is left out."""
-        read, write = ["    match value:"], ["    match value:"]
+    def kind_patterns(self, union):
+        """A bool is an int to Python, so that it comes first, or is left out."""
         has_bool = any(case.data == "bool" for case in union.cases)
         for case in sorted(union.cases, key=lambda case: case.data != "bool"):
             kind = self.case_kind(case)
             guard = " if not isinstance(value, bool)" if case.data == "int" and not has_bool else ""
             pattern = self.kinds[case.data] + "()" * (case.data != "null")
-            read += [f"        case {pattern}{guard}:", f"            return {self.conversion(kind, 'read')}(value, at)"]
-            classes = " | ".join(f"{name}()" for name in self.classes(kind))
-            write += [f"        case {classes}{guard}:", f"            return {self.conversion(kind, 'write')}(value, at)"]
-        last = '    raise _refused("Msg", at, "unknown kind")'
-        return self.both(union, [*read, last], [*write, last])
+            yield kind, pattern + guard, " | ".join(f"{name}()" for name in self.classes(kind)) + guard
 
     def classes(self, kind):
         """The classes of the values of a type that is of one kind."""
         kind = self.schema.resolve(kind)
-        if isinstance(kind, Named):
-            one = self.schema.by_name[kind.name]
-            return [case_class(one, case) for case in one.cases] if isinstance(one, Union) else [kind.name]
-        return [self.kinds[self.schema.kind_of(kind)]]
-
-
-def spelled(number):
-    """A bound of integers."""
-    if number < 0:
-        return f"-(2**{(-number).bit_length() - 1})"
-    return f"2**{number.bit_length()} - 1" if number else "0"
+        one = self.schema.named(kind)
+        if isinstance(one, Union):
+            return [case_class(one, case) for case in one.cases]
+        return [one.name if one else self.kinds[self.schema.kind_of(kind)]]
 
 
 for width in WIDTHS:
-    Python.back[f"_{width}"] = [f"_{width} = _integer({', '.join(map(spelled, bounds(width)))})"]
-
-
-def is_kinded(one):
-    return isinstance(one, Union) and one.representation == "kinded"
+    least, most = (power_of_two(number, "2**{}") for number in bounds(width))
+    Python.back[f"_{width}"] = [f"_{width} = _integer({least}, {most})"]
 
 
 def case_class(union, case):
@@ -668,10 +455,6 @@ def case_class(union, case):
 def member_name(enum, member):
     """Its name, or that and a _, where it would stand for the class in the annotations behind it."""
     return member.name + "_" if keyword.iskeyword(member.name) or member.name == enum.name else member.name
-
-
-def literal(data):
-    return json.dumps(data, ensure_ascii=False) if isinstance(data, str) else str(data)
 
 
 def comments(text, indent):
@@ -694,8 +477,3 @@ def methods(one):
         *[f"        return _read_{word}(loads(block), ())", ""],
         *["    def to_block(self) -> bytes:", f"        return dumps(_write_{word}(self, ()))"],
     ]
-
-
-def constructed(struct, rows):
-    """A struct of these rows, of its fields."""
-    return [f"    return {struct.name}(", *rows, "    )"] if rows else [f"    return {struct.name}()"]

@@ -1,21 +1,37 @@
 """The files of Rattle that are made of a schema: the types with their impls, and what a tree shows to each."""
 
 import re
+from typing import NamedTuple
 
-from schemas.law import MOST_FIELDS, RESERVED, field_name, held_by, may_lack, parts, path_name, snake
-from schemas.layout import INSIDE_STRUCT, SHORT_IF, WIDTH, Group, arm, block_arm, filled, ghost, lines, pairs_of, split, typed
+from schemas.groups import form, groups_of, joined
+from schemas.law import MOST_FIELDS, RESERVED, field_name, held_by, is_a, is_leaf, maker_name, may_lack, parts, path_name, snake
+from schemas.layout import INSIDE_STRUCT, SHORT_IF, WIDTH, Group, arm, block_arm, filled, function, ghost, impl, lines, pairs_of, row_of, split, typed
+from schemas.members import members_of
 from schemas.parsing import Alias, Enum, Int, Leaf, Link, ListOf, MapOf, Member, Named, Nullable, Struct, Union, Unit
-from schemas.groups import form, groups_of
-from schemas.members import Members, by_owners
-from schemas.written import all_groups, written_groups
+from schemas.written import all_groups, entry, written_groups
 
-LEAVES = {
-    # its type, what it is read as, its shape, its tree and its meaning
-    "String": ("String", "List ℕ", "owned_leaf view_text", "Some (text (string_bytes {}))", "string_bytes {}"),
-    "Bytes": ("Bytes", "List ℕ", "owned_leaf view_bytes", "Some (bytes {}.0.items)", "{}.0.items"),
-    "Bool": ("bool", "Bool", "leaf view_bool", "Some (boolean {})", "{}"),
-    "Link": ("Cid", "List ℕ", "leaf view_link", "Some (link (cid_bytes {}))", "cid_bytes {}"),
+
+class Scalar(NamedTuple):
+    """A scalar: in code, what it is read as, its shape, and of a value its tree and what it means."""
+
+    code: str
+    view: str
+    shape: str
+    tree: str
+    meaning: str
+
+
+SCALARS = {
+    "String": Scalar("String", "List ℕ", "owned_leaf view_text", "Some (text (string_bytes {}))", "string_bytes {}"),
+    "Bytes": Scalar("Bytes", "List ℕ", "owned_leaf view_bytes", "Some (bytes {}.0.items)", "{}.0.items"),
+    "Bool": Scalar("bool", "Bool", "leaf view_bool", "Some (boolean {})", "{}"),
+    "Link": Scalar("Cid", "List ℕ", "leaf view_link", "Some (link (cid_bytes {}))", "cid_bytes {}"),
 }
+
+# The other types: in code, what they are read as, and their shapes. A leaf is Any.
+CODE = {Leaf: "Ipld", ListOf: "Vec<{}>", MapOf: "BTreeMap<String, {}>", Nullable: "Option<{}>"}
+VIEWS = {Leaf: "Tree", ListOf: "List {}", MapOf: "List (List ℕ × {})", Nullable: "Option {}"}
+SHAPES = {Leaf: "any_tree", ListOf: "list_of (all_of {})", MapOf: "map_of {}", Nullable: "option_of {}"}
 
 # Where each word of the specs stands.
 LIBRARY = "Rattle.serde_ipld_dagcbor.specs."
@@ -41,11 +57,40 @@ WORDS = {
     "Rattle.dagcbor_schema.specs.Members": "there absent",
     "Rattle.dagcbor_schema.specs.WrittenGroups": "field_before optional_before none_before",
 }
-SCHEMA_WORDS = """ByKind Enveloped InGroups Made NoKind Numbered OneGroup OptionalPart Part WrittenGroup
-    of_name read_enveloped read_made read_numbered unless_meant write_parts""".split()
+
+# Where each word of the code stands.
+HOMES = {
+    "dagcbor_schema": """ByKind Enveloped InGroups Made NoKind Numbered OneGroup OptionalPart Part WrittenGroup of_name read_enveloped
+        read_made read_numbered unless_meant write_parts""",
+    "serde_ipld_dagcbor": """Accessor Bytes Cid Closed DecodeError Deserialize DeserializeOwned Deserializer EnumAccessor Field FieldGroup
+        Ipld Omissible OmissibleItem Optional Read ReadResult Required Serialize Serializer Shown Variants Write WriteResult read_enum
+        read_struct read_tuple write_struct""",
+    "std::alloc": "Global",
+    "std::collections": "BTreeMap",
+}
 KINDS_PATH = "Rattle.dagcbor_schema.specs.declared.by_kind.ByKind.TheVariants as kinds"
 LETTERS = {"ℕ": "ℕ", "ℤ": "ℤ", "^": "◌^◌", "[]": "[]", "∷": "◌∷◌", "if": "if◌then◌else◌"}
 PUNCTUATION = str.maketrans({char: " " for char in "();,={}⟦⟧<>|[].λ:"})
+
+
+# What the data of a type is, in words.
+SAID = {
+    "map": "a map of ",
+    "tuple": "a list of ",
+    "listpairs": "a list of pairs, of ",
+    "string": "a name",
+    "int": "a number",
+    "kinded": "told by its kind",
+    "inline": "a map, told by one of its fields",
+    "keyed": "a map of one entry, from a name",
+    "envelope": "a map of a tag and of what it tells",
+}
+
+# Lines of the code.
+PLAIN = ["#[derive(Clone, Copy, Debug, PartialEq, Eq)]"]
+UNKNOWN = '            _ => Err(DecodeError::custom("unknown variant")),'
+NONE = "            _ => None,"
+DE = "de: &mut Deserializer<'de, R>"
 
 
 def wrapped(text):
@@ -58,94 +103,90 @@ class Module:
 
     def __init__(self, schema, crate, name):
         self.schema, self.crate, self.name = schema, crate, name
-        self.path = path_name(name)
-        self.definitions = schema.in_order()
+        self.path, self.file = path_name(name), f"{name}.ipldsch"
+        self.definitions = schema.ordered
         self.types = [one for one in self.definitions if not isinstance(one, Alias)]
         structs = [one for one in self.types if isinstance(one, Struct)]
-        implied = [self.schema.resolve(field.type) for one in structs for field in one.fields if field.implicit is not None]
+        implied = [kind for one in structs for field, kind in self.fields(one) if field.implicit is not None]
         self.implied = {kind.name for kind in implied if isinstance(kind, Named)}  # the enums of which a member is meant somewhere
+
+    def fields(self, struct):
+        """The fields of a struct, with their resolved types."""
+        return [(field, self.schema.resolve(field.type)) for field in struct.fields]
+
+    def cases(self, union):
+        """The members of a union, with what they hold."""
+        return [(case, self.case_kind(union, case)) for case in union.cases]
+
+    def case_kind(self, union, case):
+        kind = self.schema.resolve(case.type)
+        if union.representation == "kinded" and isinstance(kind, Int):
+            return Int("i128", kind.place)
+        return kind
 
     # ---- a type of a value: in code, in ghost lines, in specs
 
-    def code(self, kind, aliases=False):
-        """In code. With aliases it is a type as the schema has it, and else a resolved one."""
-        if isinstance(kind, Int):
-            return kind.width
-        if isinstance(kind, Link):
-            return LEAVES["Link"][0]
-        if isinstance(kind, Leaf):
-            return "Ipld" if kind.kind == "Any" else LEAVES[kind.kind][0]
-        if isinstance(kind, ListOf):
-            return f"Vec<{self.code(kind.item, aliases)}>"
-        if isinstance(kind, MapOf):
-            return f"BTreeMap<String, {self.code(kind.value, aliases)}>"
-        if isinstance(kind, Named):
-            return kind.name
-        part = self.code(kind.part, aliases)
-        has_null = aliases and not isinstance(self.schema.resolve(kind), Nullable)
-        return part if has_null else f"Option<{part}>"
-
-    def leaf(self, kind):
-        """The row of LEAVES, of a type that has one."""
-        if isinstance(kind, Link):
-            return LEAVES["Link"]
-        if isinstance(kind, Leaf):
-            return LEAVES.get(kind.kind)
+    def scalar(self, kind):
+        """The forms of a scalar. None of Any, and of what is no scalar."""
         if isinstance(kind, Int):
             bits = int(kind.width[1:])
             if kind.width[0] == "u":
-                return (kind.width, "ℕ", f"leaf (view_unsigned (2 ^ {bits}))", "Some (integer (pos {}))", "{}")
-            return (kind.width, "ℤ", f"leaf (view_signed (2 ^ {bits - 1}))", "Some (integer {})", "{}")
-        return None
+                return Scalar(kind.width, "ℕ", f"leaf (view_unsigned (2 ^ {bits}))", "Some (integer (pos {}))", "{}")
+            return Scalar(kind.width, "ℤ", f"leaf (view_signed (2 ^ {bits - 1}))", "Some (integer {})", "{}")
+        return SCALARS.get("Link" if isinstance(kind, Link) else getattr(kind, "kind", None))
+
+    def code(self, kind, aliases=False):
+        """In code. With aliases it is a type as the schema has it, and else a resolved one."""
+        if isinstance(kind, Named):
+            return kind.name
+        scalar = self.scalar(kind)
+        if scalar:
+            return scalar.code
+        inner = [self.code(part, aliases) for part in parts(kind)]
+        if aliases and isinstance(kind, Nullable) and not isinstance(self.schema.resolve(kind), Nullable):
+            return inner[0]
+        return CODE[type(kind)].format(*inner)
 
     def view(self, kind):
         """What it is read as."""
-        leaf = self.leaf(kind)
-        if leaf:
-            return leaf[1]
-        if isinstance(kind, Leaf):
-            return "Tree"
-        if isinstance(kind, ListOf):
-            return f"List {wrapped(self.view(kind.item))}"
-        if isinstance(kind, MapOf):
-            return f"List (List ℕ × {wrapped(self.view(kind.value))})"
-        if isinstance(kind, Nullable):
-            return f"Option {wrapped(self.view(kind.part))}"
-        return view_name(self.schema.by_name[kind.name])
+        if isinstance(kind, Named):
+            return view_name(self.schema.by_name[kind.name])
+        scalar = self.scalar(kind)
+        return scalar.view if scalar else VIEWS[type(kind)].format(*(wrapped(self.view(part)) for part in parts(kind)))
+
+    def optional_view(self, kind, may_lack):
+        """The same, of what may be left out."""
+        return f"Option {wrapped(self.view(kind))}" if may_lack else self.view(kind)
 
     def shape(self, kind):
         """What a tree shows to it."""
-        leaf = self.leaf(kind)
-        if leaf:
-            return leaf[2]
-        if isinstance(kind, Leaf):
-            return "any_tree"
-        if isinstance(kind, ListOf):
-            return f"list_of (all_of {wrapped(self.shape(kind.item))})"
-        if isinstance(kind, MapOf):
-            return f"map_of {wrapped(self.shape(kind.value))}"
-        if isinstance(kind, Nullable):
-            return f"option_of {wrapped(self.shape(kind.part))}"
-        return f"{snake(kind.name)}_shape"
+        if isinstance(kind, Named):
+            return f"{snake(kind.name)}_shape"
+        scalar = self.scalar(kind)
+        return scalar.shape if scalar else SHAPES[type(kind)].format(*(wrapped(self.shape(part)) for part in parts(kind)))
 
     def tree(self, kind, value):
         """The tree of a value."""
-        leaf = self.leaf(kind)
-        return leaf[3].format(value) if leaf else f"⟦<{self.code(kind)} as Serialize>⟧.tree {value}"
+        scalar = self.scalar(kind)
+        return scalar.tree.format(value) if scalar else f"{self.tree_of(kind)} {value}"
 
     def tree_of(self, kind):
         """The same, as a function."""
-        leaf = self.leaf(kind)
-        return f"(λ x. {leaf[3].format('x')})" if leaf else f"⟦<{self.code(kind)} as Serialize>⟧.tree"
+        scalar = self.scalar(kind)
+        return f"(λ x. {scalar.tree.format('x')})" if scalar else f"⟦<{self.code(kind)} as Serialize>⟧.tree"
 
     def meaning(self, kind, value):
         """What a value means."""
-        leaf = self.leaf(kind)
-        if leaf:
-            return leaf[4].format(value)
-        if isinstance(kind, Named) and shows_itself(self.schema.by_name[kind.name]):
+        scalar = self.scalar(kind)
+        if scalar:
+            return scalar.meaning.format(value)
+        if shows_itself(self.schema.named(kind)):
             return value
         return f"⟦<{self.code(kind)} as Shown>⟧.meaning {value}"
+
+    def optional_meaning(self, kind, may_lack, value):
+        """The same, of what may be left out."""
+        return self.meaning(Nullable(kind, kind.place) if may_lack else kind, value)
 
     # ---- imports
 
@@ -167,20 +208,17 @@ class Module:
 
     def spec_words(self, one):
         """What the specs say of a type."""
-        name = snake(one.name)
-        if isinstance(one, Enum):
-            words = [f"{name}_eq"] if one.name in self.implied else []
-            return words + ([f"{name}_variants", f"{name}_shape"] if one.representation == "string" else [f"{name}_of_number", f"{name}_shape"])
-        of_row = [f"{name}_row", f"{name}_row_shape", f"{name}_of_row", f"{name}_shape"]
-        if isinstance(one, Struct) and is_made(one):
-            return [view_name(one), *of_row]
-        if isinstance(one, (Struct, Unit)):
-            words = [f"{name}_of_bool"] if isinstance(one, Unit) and one.representation != "null" else []
-            return [view_name(one), *words, f"{name}_shape"]
-        made = [view_name(one), *(case_word(one, case) for case in one.cases)]
-        if one.representation in ("inline", "kinded"):
-            return made + of_row
-        return made + [f"{name}_variants", f"{name}_shape"]
+        words = ["shape"]
+        if is_a(one, "union_inline", "union_kinded") or isinstance(one, Struct) and is_made(one):
+            words = ["row", "row_shape", "of_row", "shape"]
+        elif is_a(one, "enum_string", "union_keyed", "union_envelope"):
+            words = ["variants", "shape"]
+        elif is_a(one, "enum_int", "unit_true", "unit_false"):
+            words = ["of_number" if isinstance(one, Enum) else "of_bool", "shape"]
+        if one.name in self.implied:
+            words.insert(0, "eq")
+        views = [] if shows_itself(one) else [view_name(one), *(case_word(one, case) for case in getattr(one, "cases", []))]
+        return [*views, *(f"{snake(one.name)}_{word}" for word in words)]
 
     def variants_import(self, one, ghost):
         head, close = ("ghost use ", ";") if ghost else ("use ", "")
@@ -192,143 +230,115 @@ class Module:
 
     # ---- the specs
 
-    def specs(self, source):
-        body = []
-        for one in self.types:
-            body += [""] + self.spec(one)
-        text = "\n".join(line for line in body if not line.startswith("--"))
-        head = [f"-- What a tree shows to the types of {source}, by ./dagcbor-types."]
+    def specs(self):
+        rows = [row for one in self.types for block in self.spec(one) for row in ("", *block)]
+        text = "\n".join(row for row in rows if not row.startswith("--"))
+        head = [f"-- What a tree shows to the types of {self.file}, by ./dagcbor-types."]
         head += self.imports(text, ghost=False)
         if "(kinds." in text:
             head.append(f"use {KINDS_PATH}")
         for one in self.types:
             if shows_itself(one):
                 head += self.variants_import(one, ghost=False)
-        return "\n".join(head + body) + "\n"
+        return "\n".join(head + rows) + "\n"
 
     def spec(self, one):
-        if isinstance(one, Enum):
-            return self.enum_spec(one)
-        if isinstance(one, Unit):
-            return self.unit_spec(one)
-        return self.struct_spec(one) if isinstance(one, Struct) else self.union_spec(one)
+        """What the specs say of a type, in blocks."""
+        specs = {Struct: self.struct_spec, Enum: self.enum_spec, Unit: self.unit_spec, Union: self.union_spec}
+        first, *others = specs[type(one)](one)
+        return [[f"-- {one.name}: {self.said(one)}", *first], *others]
+
+    def said(self, one):
+        """What the data of a type is, in words."""
+        if isinstance(one, Struct):
+            return SAID[one.representation] + listed([field.name for field in one.fields])
+        return f"{one.representation} alone" if isinstance(one, Unit) else SAID[one.representation]
+
+    @staticmethod
+    def finished_spec(name, view, row, shape, of_row):
+        """A shape that is finished: what is read first, the shape of that, and what is made of it."""
+        return [
+            [f"abbrev pub {name}_row : Type 0", *row],
+            [f"abbrev pub {name}_row_shape : Shape Tree {name}_row", *shape],
+            [f"abbrev pub {name}_of_row : {name}_row → Option {view}", *of_row],
+            [f"abbrev pub {name}_shape : Shape Tree {view}", f"{name}_shape = finishing {name}_of_row {name}_row_shape"],
+        ]
 
     def struct_spec(self, struct):
         name, view = snake(struct.name), view_name(struct)
-        kinds = [(field, self.schema.resolve(field.type)) for field in struct.fields]
-        shown = [f"Option {wrapped(self.view(kind))}" if field.optional else self.view(kind) for field, kind in kinds]
-        if struct.representation == "tuple":
-            rows = [f"{'optional' if field.optional else 'first'}_then {wrapped(self.shape(kind))} (" for field, kind in kinds]
-            end, whole = "no_more", "list_of ("
-            said = "a list of " + listed([field.name for field, _ in kinds])
-        elif struct.representation == "listpairs":
-            rows = [f"first_then (text_and_value {wrapped(self.shape(kind))}) (" for _, kind in kinds]
-            end, whole = "no_more", "list_of ("
-            said = "a list of pairs, of " + listed([field.name for field, _ in kinds])
-        else:
-            rows = [
-                f'{"omissible" if may_lack(field) else "required"}_field (codes "{field.key}") {wrapped(self.shape(kind))} ('
-                for field, kind in kinds
-            ]
-            end, whole = "no_fields" if struct.open else "no_other_fields", "struct_shape ("
-            said = "a map of " + listed([field.name for field, _ in kinds])
-        head = [f"-- {struct.name}: {said}", f"abbrev pub {view} : Type 0", *view_rows(view, shown), ""]
-        row = f"{name}_row" if is_made(struct) else name
-        shape = [
-            f"abbrev pub {row}_shape : Shape Tree {row if is_made(struct) else view}",
-            f"{row}_shape = {whole}",
-            *(f"    {row}" for row in rows[:-1]),
-            *([f"    {rows[-1][:-2]} {end}{')' * len(rows)}"] if rows else [f"    {end})"]),
-        ]
+        shown = [self.optional_view(kind, field.optional) for field, kind in self.fields(struct)]
+        declared = [f"abbrev pub {view} : Type 0", *view_rows(view, shown)]
         if not is_made(struct):
-            return head + shape
-        pairs = struct.representation == "listpairs"
-        held = [f"Option {wrapped(self.view(kind))}" if may_lack(field) else self.view(kind) for field, kind in kinds]
-        held = [f"(List ℕ × ({wrapped(one)} × Unit {{0}}))" for one in held] if pairs else held
+            return [declared, [f"abbrev pub {name}_shape : Shape Tree {view}", *self.struct_shape(struct, name)]]
+        held = [self.optional_view(kind, may_lack(field)) for field, kind in self.fields(struct)]
+        if struct.representation == "listpairs":
+            held = [f"(List ℕ × ({wrapped(one)} × Unit {{0}}))" for one in held]
+        shape = self.struct_shape(struct, f"{name}_row")
+        of_row = [f"{name}_of_row row =", *self.struct_of_row(struct)]
+        return [declared, *self.finished_spec(name, view, view_rows(f"{name}_row", held), shape, of_row)]
+
+    def struct_shape(self, struct, name):
+        """The shape of what is read of a struct, step by step."""
+        steps = [self.struct_step(struct, field, wrapped(self.shape(kind))) for field, kind in self.fields(struct)]
+        if struct.representation == "map":
+            return shape_rows(f"{name}_shape = struct_shape (", steps, "no_fields" if struct.open else "no_other_fields")
+        return shape_rows(f"{name}_shape = list_of (", steps, "no_more")
+
+    @staticmethod
+    def struct_step(struct, field, shape):
+        """What a field adds to the shape of its struct."""
+        if struct.representation == "tuple":
+            return f"{'optional' if field.optional else 'first'}_then {shape} ("
+        if struct.representation == "listpairs":
+            return f"first_then (text_and_value {shape}) ("
+        return f'{"omissible" if may_lack(field) else "required"}_field (codes "{field.key}") {shape} ('
+
+    def struct_of_row(self, struct):
+        """The rows that make a struct of what was read: of pairs with the right names, or with what is meant where a field is left out."""
         made, values = [], []
-        for place, (field, kind) in enumerate(kinds):
-            path = "row" + ".1" * place + ".0"
-            local = field_name(field.name) + "'"  # the sign keeps it from being antt's own word
-            if pairs:
+        for place, (field, kind) in enumerate(self.fields(struct)):
+            path, local = "row" + ".1" * place + ".0", local_name(field_name(field.name))
+            if struct.representation == "listpairs":
                 made.append(f'    named (codes "{field.key}") {path} (λ {local}.')
             elif field.implicit is not None:
                 made.append(f"    implied {equal_to(kind, field.implicit.value)} {path} (λ {local}.")
-            values.append(local if made and made[-1].endswith(f"(λ {local}.") else path)
-        pairs = "".join(f"({value}, " for value in values) + "tt" + ")" * len(values)
-        return [
-            *head,
-            f"abbrev pub {name}_row : Type 0",
-            *view_rows(f"{name}_row", held),
-            "",
-            *shape,
-            "",
-            f"abbrev pub {name}_of_row : {name}_row → Option {view}",
-            f"{name}_of_row row =",
-            *made,
-            f"    Some {pairs}{')' * len(made)}",
-            "",
-            f"abbrev pub {name}_shape : Shape Tree {view}",
-            f"{name}_shape = finishing {name}_of_row {name}_row_shape",
-        ]
+            else:
+                local = path
+            values.append(local)
+        return [*made, f"    Some {row_of(values)}{')' * len(made)}"]
 
     def writing_takes_memory(self, kind):
         """Whether writing it may take memory, where the writer takes none."""
-        if isinstance(kind, Leaf):
-            return kind.kind == "Any"
-        if isinstance(kind, Named):
-            one = self.schema.by_name[kind.name]
-            if isinstance(one, Alias):
-                return self.writing_takes_memory(one.of)
-            is_map = isinstance(one, Struct) and one.representation == "map" or isinstance(one, Union) and one.representation == "envelope"
-            return is_map or any(map(self.writing_takes_memory, held_by(one)))
-        return isinstance(kind, MapOf) or any(map(self.writing_takes_memory, parts(kind)))
+        one = self.schema.named(kind)
+        is_map = isinstance(kind, MapOf) or is_a(one, "struct_map", "union_envelope")
+        return is_map or is_leaf(kind, "Any") or any(map(self.writing_takes_memory, held_by(one) if one else parts(kind)))
 
     def reading_takes_memory(self, kind):
         """Whether reading it may take memory, as far as the specs say."""
-        if isinstance(kind, Named):
-            one = self.schema.by_name[kind.name]
-            return not (isinstance(one, Enum) and one.representation == "int")
-        return not (isinstance(kind, (Int, Link)) or (isinstance(kind, Leaf) and kind.kind == "Bool"))
+        return not (isinstance(kind, (Int, Link)) or is_leaf(kind, "Bool") or is_a(self.schema.named(kind), "enum_int"))
 
     def enum_spec(self, enum):
-        name = snake(enum.name)
-        rows, same = [], self.enum_equality(enum) if enum.name in self.implied else []
-        for place, member in enumerate(enum.members):
-            test = f'bytes_eq name (codes "{member.data}")' if enum.representation == "string" else f"nat_eq n {member.data}"
-            rows.append(f"    {'else ' if place else ''}if {test} then Some {alias(enum)}.{member.name}")
-        if enum.representation == "int":
-            return [
-                f"-- {enum.name}: a number",
-                f"abbrev pub {name}_of_number : ℕ → Option {enum.name}",
-                f"{name}_of_number n =",
-                *rows,
-                "    else None",
-                "",
-                f"abbrev pub {name}_shape : Shape Tree {enum.name}",
-                f"{name}_shape = told_by_number {name}_of_number",
-                *same,
-            ]
-        return [
-            f"-- {enum.name}: a name",
-            f"abbrev pub {name}_unit : List ℕ → Option {enum.name}",
-            f"{name}_unit name =",
-            *rows,
-            "    else None",
-            "",
-            *self.variants_spec(enum, enum.name, "λ name t. None", "λ name t. 0", False),
-            *same,
-        ]
+        name, is_text = snake(enum.name), enum.representation == "string"
+        test = 'bytes_eq name (codes "{}")' if is_text else "nat_eq n {}"
+        rows = [*choice((test.format(member.data), f"Some {alias(enum)}.{member.name}") for member in enum.members), "    else None"]
+        same = self.enum_equality(enum) if enum.name in self.implied else []
+        if is_text:
+            unit = [f"abbrev pub {name}_unit : List ℕ → Option {enum.name}", f"{name}_unit name =", *rows]
+            return [unit, *self.variants_spec(enum, enum.name, "λ name t. None", "λ name t. 0", False), *same]
+        of_number = [f"abbrev pub {name}_of_number : ℕ → Option {enum.name}", f"{name}_of_number n =", *rows]
+        shape = [f"abbrev pub {name}_shape : Shape Tree {enum.name}", f"{name}_shape = told_by_number {name}_of_number"]
+        return [of_number, shape, *same]
 
     @staticmethod
     def enum_equality(enum):
         name = snake(enum.name)
+        places = [f"{name}_place {alias(enum)}.{member.name} = {place}" for place, member in enumerate(enum.members)]
         return [
-            "",
-            f"abbrev pub {name}_place : {enum.name} → ℕ",
-            *(f"{name}_place {alias(enum)}.{member.name} = {place}" for place, member in enumerate(enum.members)),
-            "",
-            f"abbrev pub {name}_eq : {enum.name} → {enum.name} → Bool",
-            f"{name}_eq x y = nat_eq ({name}_place x) ({name}_place y)",
+            [f"abbrev pub {name}_place : {enum.name} → ℕ", *places],
+            [
+                f"abbrev pub {name}_eq : {enum.name} → {enum.name} → Bool",
+                f"{name}_eq x y = nat_eq ({name}_place x) ({name}_place y)",
+            ],
         ]
 
     def variants_spec(self, one, view, part, need, memory):
@@ -336,7 +346,7 @@ class Module:
         form = "enum_of"
         if one.representation == "envelope":
             form = f'envelope_of (codes "{one.discriminant}") (codes "{one.content}")'
-        return [
+        variants = [
             f"abbrev pub {name}_variants : EnumShape {view}",
             f"{name}_variants = record {{",
             f"  unit = {name + '_unit' if isinstance(one, Enum) else 'λ name. None'};",
@@ -345,171 +355,83 @@ class Module:
             "  wants_loan = false;",
             f"  memory = {'takes_some' if memory else 'takes_none'};",
             "}",
-            "",
-            f"abbrev pub {name}_shape : Shape Tree {view}",
-            f"{name}_shape = {form} {name}_variants",
         ]
+        return [variants, [f"abbrev pub {name}_shape : Shape Tree {view}", f"{name}_shape = {form} {name}_variants"]]
 
     def union_spec(self, union):
+        view, rows = view_name(union), []
+        for case, kind in self.cases(union):
+            held = self.view(kind)
+            rows.append(f"  {case_word(union, case)} : {wrapped(held) if ' × ' in held else held} → {view}")
+        forms = {"kinded": self.kinded_spec, "inline": self.inline_spec}
+        return [[f"pub data {view} : Type 0 where", *rows], *forms.get(union.representation, self.told_spec)(union)]
+
+    def told_spec(self, union):
+        """A union whose members are told by a name or a tag."""
         name, view = snake(union.name), view_name(union)
-        kinds = [(case, self.case_kind(union, case)) for case in union.cases]
-        data = [
-            f"pub data {view} : Type 0 where",
-            *(f"  {case_word(union, case)} : {wrapped(self.view(kind)) if ' × ' in self.view(kind) else self.view(kind)} → {view}" for case, kind in kinds),
-            "",
-        ]
-        if union.representation == "kinded":
-            return [f"-- {union.name}: told by its kind", *data, *self.kinded_spec(union)]
-        if union.representation == "inline":
-            return [f"-- {union.name}: a map, told by one of its fields", *data, *self.inline_spec(union)]
         parts, needs = [], []
-        for place, (case, kind) in enumerate(kinds):
-            test = f'{"else " if place else ""}if bytes_eq name (codes "{case.data}") then'
-            shape = f"{wrapped(self.shape(kind))}"
-            parts.append(f"    {test} option_map {case_word(union, case)} ({shape}.view t)")
-            needs.append(f"    {test} {shape}.need t")
-        said = "a map of one entry, from a name" if union.representation == "keyed" else "a map of a tag and of what it tells"
+        for case, kind in self.cases(union):
+            test, shape = f'bytes_eq name (codes "{case.data}")', wrapped(self.shape(kind))
+            parts.append((test, f"option_map {case_word(union, case)} ({shape}.view t)"))
+            needs.append((test, f"{shape}.need t"))
         return [
-            f"-- {union.name}: {said}",
-            *data,
-            f"abbrev pub {name}_part : List ℕ → Tree → Option {view}",
-            f"{name}_part name t =",
-            *parts,
-            "    else None",
-            "",
-            f"abbrev pub {name}_need : List ℕ → Tree → ℕ",
-            f"{name}_need name t =",
-            *needs,
-            "    else 0",
-            "",
-            *self.variants_spec(union, view, f"{name}_part", f"{name}_need", any(self.reading_takes_memory(kind) for _, kind in kinds)),
+            [f"abbrev pub {name}_part : List ℕ → Tree → Option {view}", f"{name}_part name t =", *choice(parts), "    else None"],
+            [f"abbrev pub {name}_need : List ℕ → Tree → ℕ", f"{name}_need name t =", *choice(needs), "    else 0"],
+            *self.variants_spec(union, view, f"{name}_part", f"{name}_need", self.takes_memory(union)),
         ]
 
     def kinded_spec(self, union):
-        name, view = snake(union.name), view_name(union)
-        held = {case.data: self.case_kind(union, case) for case in union.cases}
+        name = snake(union.name)
+        held = {case.data: kind for case, kind in self.cases(union)}
         views = [wrapped(self.view(held[kind]) if kind in held else "Unit {0}") for kind in KINDS]
-        shapes = [f"  of_{word} = {self.shape(held[kind]) if kind in held else 'no_kind'};" for kind, (word, _) in KINDS.items()]
-        rows = [f"{name}_of_row (kinds.{KINDS[case.data][1]} x) = Some ({case_word(union, case)} x)" for case in union.cases]
-        return [
-            f"abbrev pub {name}_row : Type 0",
-            *applied(f"{name}_row = ByKind", views),
-            "",
-            f"abbrev pub {name}_row_shape : Shape Tree {name}_row",
-            f"{name}_row_shape = by_kind (record {{",
-            *shapes,
-            "})",
-            "",
-            f"abbrev pub {name}_of_row : {name}_row → Option {view}",
-            *rows,
-            *([f"{name}_of_row _ = None"] if len(held) < len(KINDS) else []),
-            "",
-            f"abbrev pub {name}_shape : Shape Tree {view}",
-            f"{name}_shape = finishing {name}_of_row {name}_row_shape",
-        ]
+        shapes = [f"  of_{word} = {self.shape(held[kind]) if kind in held else 'no_kind'};" for kind, word in KINDS.items()]
+        of_row = [f"{name}_of_row (kinds.{KINDS[case.data].capitalize()} x) = Some ({case_word(union, case)} x)" for case in union.cases]
+        if len(held) < len(KINDS):
+            of_row.append(f"{name}_of_row _ = None")
+        shape = [f"{name}_row_shape = by_kind (record {{", *shapes, "})"]
+        return self.finished_spec(name, view_name(union), applied(f"{name}_row = ByKind", views), shape, of_row)
 
     def unit_spec(self, unit):
         name, view = snake(unit.name), view_name(unit)
-        head = [f"-- {unit.name}: {unit.representation} alone", f"abbrev pub {view} : Type 0", f"{view} = Unit {{0}}", ""]
+        declared = [f"abbrev pub {view} : Type 0", f"{view} = Unit {{0}}"]
+        shape = [f"abbrev pub {name}_shape : Shape Tree {view}"]
         if unit.representation == "null":
-            return [*head, f"abbrev pub {name}_shape : Shape Tree {view}", f"{name}_shape = leaf view_null"]
-        rows = ["Some tt", "None"] if unit.representation == "true" else ["None", "Some tt"]
-        return [
-            *head,
-            f"abbrev pub {name}_of_bool : Bool → Option {view}",
-            f"{name}_of_bool b = if b then {rows[0]} else {rows[1]}",
-            "",
-            f"abbrev pub {name}_shape : Shape Tree {view}",
-            f"{name}_shape = finishing {name}_of_bool (leaf view_bool)",
-        ]
-
-    def inline_row(self, union):
-        """Of each place in the row of an inline union: the field, its resolved type, its name in code and what shows it in specs."""
-        used, made, fields = set(), [], self.schema.row_of(union)
-        if len(fields) > MOST_AT_ONCE:
-            fields = [field for part in by_owners(self, union, fields) for field in part]
-        for place, field in enumerate(fields):
-            name = field_name(field.name)
-            while name in used or name in ("tag", "row", "parts"):
-                name += "_"
-            used.add(name)
-            made.append((field, self.schema.resolve(field.type), name, f"row.1{'.1' * place}.0"))
-        return made
-
-    def members(self, union):
-        """The members of an inline union, where they have so many fields that these are read in groups."""
-        return Members(self, union) if len(self.schema.row_of(union)) > MOST_AT_ONCE else None
-
-    def inline_member(self, case):
-        return self.schema.by_name[self.schema.resolve(case.type).name]
+            return [declared, [*shape, f"{name}_shape = leaf view_null"]]
+        true, false = in_order_of(unit, "Some tt", "None")
+        of_bool = [f"abbrev pub {name}_of_bool : Bool → Option {view}", f"{name}_of_bool b = if b then {true} else {false}"]
+        return [declared, of_bool, [*shape, f"{name}_shape = finishing {name}_of_bool (leaf view_bool)"]]
 
     def inline_spec(self, union):
-        name, view = snake(union.name), view_name(union)
-        row = self.inline_row(union)
-        is_open = self.inline_member(union.cases[0]).open
-        shown = ["List ℕ", *(f"Option {wrapped(self.view(kind))}" for _, kind, _, _ in row)]
-        rows = [f'omissible_field (codes "{field.key}") {wrapped(self.shape(kind))} (' for field, kind, _, _ in row]
-        rows.insert(0, f'required_field (codes "{union.discriminant}") (owned_leaf view_text) (')
-        made, members = [], self.members(union)
-        for case in union.cases:
-            fields = {field.key: field for field in self.inline_member(case).fields}
-            test = f'{"else " if made else ""}if bytes_eq row.0 (codes "{case.data}") then'
-            made.append(f"    {test}")
-            words, close = [], 0
-            for field, _, local, path in row:
-                if field.key in fields and not fields[field.key].optional:
-                    words.append(f"    there {path} (λ {local}'.")
-                    close += 1
-                elif field.key not in fields and not is_open:
-                    words.append(f"    absent {path} (")
-                    close += 1
-            shown_by_key = {field.key: (local + "'", path) for field, _, local, path in row}  # the sign keeps it from being antt's own word
-            parts = [shown_by_key[key][1 if field.optional else 0] for key, field in fields.items()]
-            pairs = "".join(f"({part}, " for part in parts) + "tt" + ")" * len(parts)
-            member = f"{case_word(union, case)} {pairs}"
-            made += members.spec(case, member) if members else words + [f"    Some ({member}){')' * close}"]
-        end = "no_fields" if is_open else "no_other_fields"
-        return [
-            f"abbrev pub {name}_row : Type 0",
-            *view_rows(f"{name}_row", shown),
-            "",
-            f"abbrev pub {name}_row_shape : Shape Tree {name}_row",
-            f"{name}_row_shape = struct_shape (",
-            *(f"    {one}" for one in rows[:-1]),
-            f"    {rows[-1][:-2]} {end}{')' * len(rows)}",
-            "",
-            f"abbrev pub {name}_of_row : {name}_row → Option {view}",
-            f"{name}_of_row row =",
-            *made,
-            "    else None",
-            "",
-            f"abbrev pub {name}_shape : Shape Tree {view}",
-            f"{name}_shape = finishing {name}_of_row {name}_row_shape",
-        ]
-
-    def case_kind(self, union, case):
-        kind = self.schema.resolve(case.type)
-        if union.representation == "kinded" and isinstance(kind, Int):
-            return Int("i128", kind.place)
-        return kind
+        name, members = snake(union.name), members_of(self, union)
+        shown = ["List ℕ", *(self.optional_view(one.kind, True) for one in members.row)]
+        steps = [f'required_field (codes "{union.discriminant}") (owned_leaf view_text) (']
+        steps += [f'omissible_field (codes "{one.field.key}") {wrapped(self.shape(one.kind))} (' for one in members.row]
+        of_row, places = [f"{name}_of_row row ="], {one.field.key: one for one in members.row}
+        for place, case in enumerate(union.cases):
+            of_row.append(f'    {"else " if place else ""}if bytes_eq row.0 (codes "{case.data}") then')
+            values = []
+            for key, field in members.keys(case).items():
+                values.append(places[key].path if field.optional else local_name(places[key].local))
+            of_row += members.spec(case, f"{case_word(union, case)} {row_of(values)}")
+        shape = shape_rows(f"{name}_row_shape = struct_shape (", steps, "no_fields" if members.open else "no_other_fields")
+        return self.finished_spec(name, view_name(union), view_rows(f"{name}_row", shown), shape, [*of_row, "    else None"])
 
     # ---- the code
 
-    def source(self, source):
+    def source(self):
         body = []
         for one in self.definitions:
-            body += [""] + self.declared(one)
+            body += ["", *self.declared(one)]
         for one in self.types:
-            body += self.impls(one)
-        ghost = "\n".join(line for line in self.ghost_lines(body))
-        head = [f"//! The types of {source}, by ./dagcbor-types. Change that file, and run it again.", ""]
-        head += self.imports(ghost, ghost=True)
+            body += getattr(self, maker_name(one))(one)
+            body += impl(f"<'de> DeserializeOwned<'de> for {one.name}", ghost("owned", ["refl"]))
+        head = [f"//! The types of {self.file}, by ./dagcbor-types. Change that file, and run it again.", ""]
+        head += self.imports("\n".join(self.ghost_lines(body)), ghost=True)
         for one in self.types:
             head += split(f"ghost use Rattle.{self.crate}.specs.{self.path}.", self.spec_words(one), ";")
             if isinstance(one, (Enum, Union)):
                 head += self.variants_import(one, ghost=True)
-        head += [""] + self.code_imports("\n".join(body))
-        return "\n".join(head + body) + "\n"
+        return "\n".join([*head, "", *self.code_imports("\n".join(body)), *body]) + "\n"
 
     @staticmethod
     def ghost_lines(body):
@@ -525,120 +447,84 @@ class Module:
     def code_imports(text):
         text = "\n".join(line for line in text.split("\n") if "///" not in line)
         text = re.sub(r'"[^"]*"|ByKind::[A-Z]\w*', "ByKind" if "ByKind::" in text else "", text)
-        words = set("".join(char if char.isalnum() or char == "_" else " " for char in text).split())
+        words = {"Global", *re.findall(r"\w+", text)}
         made = []
-        schema = [word for word in SCHEMA_WORDS if word in words]
-        if schema:
-            made += filled("use dagcbor_schema::", schema, ";")
-        library = """Accessor Bytes Cid Closed DecodeError Deserialize DeserializeOwned Deserializer EnumAccessor Field FieldGroup Ipld Omissible
-            OmissibleItem Optional Read ReadResult Required Serialize Serializer Shown Variants Write WriteResult read_enum read_struct read_tuple
-            write_struct""".split()
-        made += filled("use serde_ipld_dagcbor::", [word for word in library if word in words], ";")
-        made.append("use std::alloc::Global;")
-        if "BTreeMap" in words:
-            made.append("use std::collections::BTreeMap;")
+        for home, there in HOMES.items():
+            used = [word for word in there.split() if word in words]
+            if used:
+                made += filled(f"use {home}::", used, ";")
         return made
 
     def declared(self, one):
+        """The lines that declare the type, with its text."""
         text = documented(one.text, 0)
         if isinstance(one, Alias):
-            kind = self.code(one.of, aliases=True)
-            return text + typed(f"pub type {one.name} = ", kind, 0, ";")
-        if isinstance(one, Struct):
-            rows = []
-            for field in one.fields:
-                kind = self.code(field.type, aliases=True)
-                rows += documented(field.text, 4)
-                rows += typed(f"pub {field_name(field.name)}: ", f"Option<{kind}>" if field.optional else kind, 4, ",")
-            body = [f"pub struct {one.name} {{", *rows, "}"] if rows else [f"pub struct {one.name} {{}}"]
-            return text + ["#[derive(Debug, Drop)]", *body]
+            return text + typed(f"pub type {one.name} = ", self.code(one.of, aliases=True), 0, ";")
         if isinstance(one, Enum):
-            rows = [f"    {member.name}," for member in one.members]
-            return text + ["#[derive(Clone, Copy, Debug, PartialEq, Eq)]", f"pub enum {one.name} {{", *rows, "}"]
+            return [*text, *PLAIN, f"pub enum {one.name} {{", *(f"    {member.name}," for member in one.members), "}"]
         if isinstance(one, Unit):
-            return text + ["#[derive(Clone, Copy, Debug, PartialEq, Eq)]", f"pub struct {one.name};"]
+            return [*text, *PLAIN, f"pub struct {one.name};"]
         rows = []
-        for case in one.cases:
-            kind = "i128" if one.representation == "kinded" and isinstance(self.schema.resolve(case.type), Int) else self.code(case.type, aliases=True)
-            rows.append(f"    {case.name}({kind}),")
-        return text + ["#[derive(Debug, Drop)]", f"pub enum {one.name} {{", *rows, "}"]
-
-    def impls(self, one):
-        if isinstance(one, Struct):
-            forms = {"map": self.struct_impls, "tuple": self.tuple_impls, "listpairs": self.pairs_impls}
-            made = forms[one.representation](one)
-        elif isinstance(one, Enum):
-            made = self.enum_impls(one) if one.representation == "string" else self.number_impls(one)
-            made += self.unless_enum(one)
-        elif isinstance(one, Unit):
-            made = self.unit_impls(one)
-        else:
-            made = getattr(self, f"{one.representation}_impls")(one)
-        return made + [
-            "",
-            f"impl<'de> DeserializeOwned<'de> for {one.name} {{",
-            "    ghost owned = { refl };",
-            "}",
-        ]
+        if isinstance(one, Union):
+            for case, kind in self.cases(one):
+                is_whole = one.representation == "kinded" and isinstance(kind, Int)
+                rows.append(f"    {case.name}({self.code(kind if is_whole else case.type, aliases=True)}),")
+            return [*text, "#[derive(Debug, Drop)]", f"pub enum {one.name} {{", *rows, "}"]
+        for field in one.fields:
+            kind = self.code(field.type, aliases=True)
+            rows += documented(field.text, 4)
+            rows += typed(f"pub {field_name(field.name)}: ", f"Option<{kind}>" if field.optional else kind, 4, ",")
+        body = [f"pub struct {one.name} {{", *rows, "}"] if rows else [f"pub struct {one.name} {{}}"]
+        return [*text, "#[derive(Debug, Drop)]", *body]
 
     # -- structs
 
-    def struct_impls(self, struct):
-        kinds = [(field, self.schema.resolve(field.type)) for field in struct.fields]
-        sorted_kinds = sorted(kinds, key=lambda row: (len(row[0].key), row[0].key))
-        tree = []
-        for field, kind in sorted_kinds:
-            value = f"v.{field_name(field.name)}"
-            if field.implicit is not None:
-                value = f"(unless_implied {equal_to(kind, field.implicit.value)} {value})"
-            if may_lack(field):
-                tree.append(f'optional (codes "{field.key}") {self.tree_of(kind)} {value} (')
-            else:
-                tree.append(f'field (codes "{field.key}") ({self.tree(kind, value)}) ∷')
-        write = []
-        for field, kind in kinds:
-            if field.implicit is not None:
-                write += self.unless_implied(field, kind)
-        written = written_groups(self, struct, sorted_kinds) if len(kinds) > MOST_FIELDS else []
-        if written:
-            write += [*lines(all_groups(written), 8, ";"), "        let row = InGroups(self, groups);"]
+    def struct_map(self, struct):
+        kinds = self.fields(struct)
+        by_key = sorted(kinds, key=lambda row: key_order(row[0].key))
+        tree = [self.entry_tree(field, kind, self.written_value(field, kind)) for field, kind in by_key]
+        groups = written_groups(self, struct, by_key) if len(kinds) > MOST_FIELDS else []
+        made = [line for group in groups for line in group.items()]
+        write = self.map_written(kinds, by_key, groups)
+        made += self.written_impls(struct, nested("λ v. entries_tree (", tree, "[]"), write, self.struct_meaning(struct))
+        return made + (self.implied_impls(struct) if has_implied(struct) else self.map_read(struct))
+
+    def map_read(self, struct):
+        """The impl that reads a struct that is a map, behind the groups in which that is done, if there are several."""
+        read = read_by(struct, "read_struct", [field.key for field in struct.fields], is_row=True)
+        end, few, made = end_of(struct), self.schema.row_groups(struct), []
+        if len(few) == 1:
+            read += apart(row_patterns(self.fields(struct)), end)
         else:
-            write += self.one_row(sorted_kinds)
-        write.append("        write_struct(alloc, row, ser)")
-        names = Group("let names = &[", [f'"{field.key}"' for field, _ in kinds], "]")
-        end = "()" if struct.open else "Closed"
-        read = lines(names, 8, ";")
-        call = ["alloc", f'"{struct.name}"', "names", "de"]
-        whole = ghost_rows("λ v. entries_tree (", tree, "[]")
-        made = [line for group in written for line in group.items()]
-        made += [*self.serialize_impl(struct, whole, write), *self.shown_impl(struct, self.row_meaning(kinds))]
-        if has_implied(struct):
-            read += lines(Group("read_struct(", call, ")"), 8)
-            return made + self.implied_impls(struct, kinds, end, read)
-        read += lines(Group("let row = read_struct(", call, ")?"), 8, ";")
-        few = self.schema.row_groups(struct)
-        if len(few) > 1:
             groups, row = groups_of(self, struct, few)
-            *before, last = row
-            read += [f"        let ({group.word}, row) = row;" for group in before] + [f"        let ({last.word}, {end}) = row;"]
-            for group in reversed(groups):
-                read += group.apart()
-            for group in groups:
-                made += group.items()
-        else:
-            read += self.row_apart(kinds, end)
-        read += lines(self.literal(struct), 8)
-        return made + self.deserialize_impl(struct, read)
+            made = [line for group in groups for line in group.items()]
+            read += apart([f"({group.word}, {{}})" for group in row], end)
+            read += [line for group in reversed(groups) for line in group.apart()]
+        return made + self.deserialize_impl(struct, [*read, *construct("Ok(", struct, ")")])
+
+    def entry_tree(self, field, kind, value, forms=("field {} ∷", "optional {} (")):
+        """What a field is in the tree of its map: in the one form, or in the other where it may be absent."""
+        held = f"{self.tree_of(kind)} {value}" if may_lack(field) else f"({self.tree(kind, value)})"
+        return forms[may_lack(field)].format(f'(codes "{field.key}") {held}')
 
     @staticmethod
-    def one_row(kinds):
-        """The lines that make the row that is written, field by field."""
-        made = ["        let row = ();"]
-        for field, _ in reversed(kinds):
-            held = field_name(field.name) if field.implicit is not None else f"self.{field_name(field.name)}"
-            part = Group("Optional(" if may_lack(field) else "Field(", [f'"{field.key}"', f"&{held}"], ")")
-            made += lines(Group("let row = (", [part, "row"], ")"), 8, ";")
-        return made
+    def written_value(field, kind):
+        """In specs, what is written of a field of `v`."""
+        value = f"v.{field_name(field.name)}"
+        return value if field.implicit is None else f"(unless_implied {equal_to(kind, field.implicit.value)} {value})"
+
+    def map_written(self, kinds, by_key, groups):
+        """The lines that write a struct that is a map: in groups, if there are any."""
+        made = []
+        for field, kind in kinds:
+            if field.implicit is not None:
+                made += self.unless_implied(field, kind)
+        if groups:
+            made += [*lines(all_groups(groups), 8, ";"), "        let row = InGroups(self, groups);"]
+        else:
+            holders = ["self." if field.implicit is None else "" for field, _ in by_key]
+            made += written_row([entry(field, holder + field_name(field.name)) for holder, (field, _) in zip(holders, by_key)], 8)
+        return [*made, "        write_struct(alloc, row, ser)"]
 
     @staticmethod
     def unless_implied(field, kind):
@@ -646,117 +532,61 @@ class Module:
         name = field_name(field.name)
         return lines(Group(f"let {name} = {unless(kind)}(", [f"&self.{name}", meant(kind, field.implicit.value)], ")"), 8, ";")
 
-    def implied_impls(self, struct, kinds, end, read):
+    def implied_impls(self, struct):
         """A struct that is made of a row in which fields are left out that mean a value then."""
-        name = snake(struct.name)
-        of = self.row_apart(kinds, end)
-        of[0] = of[0].replace("= row;", "= parts;")
+        kinds, end = self.fields(struct), end_of(struct)
+        of = apart(row_patterns(kinds), end, "parts")
         for field, kind in kinds:
             if field.implicit is not None:
-                word, value = field_name(field.name), meant(kind, field.implicit.value)
-                of += matched(word, [f"None => {value},", f"Some({value}) => return None,", "Some(x) => x,"])
-        of += lines(Group(f"Some({struct.name} {{", [field_name(field.name) for field in struct.fields], "})", INSIDE_STRUCT), 8)
-        parts, seen = "Closed" if end == "Closed" else "()", []
-        for field, kind in reversed(kinds):
-            part = f"{self.code(kind)}"
-            parts = f"({form(field)}<{part}>, {parts})"
-        for place, (field, kind) in enumerate(kinds):
-            value = self.row_place(kinds, place) + ".0"
-            seen.append(self.meaning(Nullable(kind, kind.place) if may_lack(field) else kind, value))
-        meaning = self.row_meaning(kinds)
-        return [
-            *self.made_impl(struct, parts, [f"{name}_row", pairs_of(seen), f"{name}_row_shape"], meaning, f"{name}_of_row", read, of),
-            *self.deserialize_impl(struct, ["        read_made(alloc, de)"]),
-        ]
+                value = meant(kind, field.implicit.value)
+                of += matched(field_name(field.name), [f"None => {value},", f"Some({value}) => return None,", "Some(x) => x,"])
+        parts = joined([*(f"{form(field)}<{self.code(kind)}>" for field, kind in kinds), end])
+        seen = [self.optional_meaning(kind, may_lack(field), f"v{'.1' * place}.0.0") for place, (field, kind) in enumerate(kinds)]
+        of += construct("Some(", struct, ")")
+        read = read_by(struct, "read_struct", [field.key for field in struct.fields])
+        return self.made_impls(struct, parts, pairs_of(seen), self.struct_meaning(struct), read, of)
 
-    @staticmethod
-    def row_place(kinds, place):
-        """What stands at a place of a row of fields."""
-        return "v" + ".1" * place + ".0"
-
-    def row_meaning(self, kinds):
+    def struct_meaning(self, struct):
         rows = []
-        for field, kind in kinds:
-            value = f"v.{field_name(field.name)}"
-            if field.optional:
-                rows.append(self.meaning(Nullable(kind, kind.place), value))
-            else:
-                rows.append(self.meaning(kind, value))
+        for field, kind in self.fields(struct):
+            rows.append(self.optional_meaning(kind, field.optional, f"v.{field_name(field.name)}"))
         return pairs_of(rows)
 
-    @staticmethod
-    def literal(struct):
-        names = [field_name(field.name) for field in struct.fields]
-        return Group(f"Ok({struct.name} {{", names, "})", INSIDE_STRUCT) if names else f"Ok({struct.name} {{}})"
-
-    def tuple_impls(self, struct):
-        kinds = [(field, self.schema.resolve(field.type)) for field in struct.fields]
-        tree = []
-        for field, kind in kinds:
-            value = f"v.{field_name(field.name)}"
-            tree.append(f"optional_part {self.tree_of(kind)} {value} (" if field.optional else f"{self.tree(kind, value)} ∷")
-        write = ["        let row = ();"]
-        for field, _ in reversed(kinds):
-            part = Group("OptionalPart(" if field.optional else "Part(", [f"&self.{field_name(field.name)}"], ")")
-            write += lines(Group("let row = (", [part, "row"], ")"), 8, ";")
-        write.append(f"        write_parts(alloc, {len(kinds)}, row, ser)")
-        read = [f"        let row = read_tuple(alloc, {len(kinds)}, de)?;"]
-        read += self.list_apart(kinds)
-        read += lines(self.literal(struct), 8)
+    def struct_tuple(self, struct):
+        tree, write = [], []
+        for field, kind in self.fields(struct):
+            name = field_name(field.name)
+            if field.optional:
+                tree.append(f"optional_part {self.tree_of(kind)} v.{name} (")
+            else:
+                tree.append(f"{self.tree(kind, f'v.{name}')} ∷")
+            write.append(Group("OptionalPart(" if field.optional else "Part(", [f"&self.{name}"], ")"))
+        count = len(write)
+        read = [f"        let row = read_tuple(alloc, {count}, de)?;", *apart(item_patterns(struct), "()")]
+        read += construct("Ok(", struct, ")")
+        write = [*written_row(write, 8), f"        write_parts(alloc, {count}, row, ser)"]
         return [
-            *self.serialize_impl(struct, ghost_rows("λ v. list_tree (", tree, "[]"), write),
-            *self.shown_impl(struct, self.row_meaning(kinds)),
+            *self.written_impls(struct, nested("λ v. list_tree (", tree, "[]"), write, self.struct_meaning(struct)),
             *self.deserialize_impl(struct, read),
         ]
 
-    def pairs_impls(self, struct):
-        kinds = [(field, self.schema.resolve(field.type)) for field in struct.fields]
-        tree, write, of, seen, parts = [], [], self.list_apart(kinds), [], "()"
-        for place, (field, kind) in enumerate(kinds):
-            word = field_name(field.name)
-            tree.append(f'list_tree (Some (text (codes "{field.key}")) ∷ {self.tree(kind, f"v.{word}")} ∷ []) ∷')
-            write += lines(Group(f"let {word} = (", [f'"{field.key}"', f"&self.{word}"], ")"), 8, ";")
-            seen.append(f"⟦<(String, {self.code(kind)}) as Shown>⟧.meaning {self.row_place(kinds, place)}")
-        write.append("        let row = ();")
-        for field, kind in reversed(kinds):
-            write.append(f"        let row = (Part(&{field_name(field.name)}), row);")
-            parts = f"((String, {self.code(kind)}), {parts})"
-        write.append(f"        write_parts(alloc, {len(kinds)}, row, ser)")
-        if kinds:
-            of[0] = of[0].replace("= row;", "= parts;")
-        else:
-            of = ["        let () = parts;"]
-        for field, _ in kinds:
-            word = field_name(field.name)
-            of += lines(Group(f"let {word} = of_name(", [word, f'"{field.key}"'], ")?"), 8, ";")
-        names = [field_name(field.name) for field, _ in kinds]
-        of += lines(Group(f"Some({struct.name} {{", names, "})", INSIDE_STRUCT) if names else f"Some({struct.name} {{}})", 8)
-        name, meaning = snake(struct.name), self.row_meaning(kinds)
+    def struct_listpairs(self, struct):
+        kinds = self.fields(struct)
+        names = [field_name(field.name) for field in struct.fields]
+        tree, write, seen = [], [], []
+        of = apart(item_patterns(struct), "()", "parts")
+        for place, (name, (field, kind)) in enumerate(zip(names, kinds)):
+            tree.append(f'list_tree (Some (text (codes "{field.key}")) ∷ {self.tree(kind, f"v.{name}")} ∷ []) ∷')
+            write += lines(Group(f"let {name} = (", [f'"{field.key}"', f"&self.{name}"], ")"), 8, ";")
+            of += lines(Group(f"let {name} = of_name(", [name, f'"{field.key}"'], ")?"), 8, ";")
+            seen.append(f"⟦<(String, {self.code(kind)}) as Shown>⟧.meaning v{'.1' * place}.0")
+        parts = joined([*(f"(String, {self.code(kind)})" for _, kind in kinds), "()"])
+        write += [*written_row([f"Part(&{name})" for name in names], 8), f"        write_parts(alloc, {len(kinds)}, row, ser)"]
+        read, meaning = [f"        read_tuple(alloc, {len(kinds)}, de)"], self.struct_meaning(struct)
         return [
-            *self.serialize_impl(struct, ghost_rows("λ v. list_tree (", tree, "[]"), write),
-            *self.shown_impl(struct, meaning),
-            *self.made_impl(struct, parts, [f"{name}_row", pairs_of(seen), f"{name}_row_shape"], meaning, f"{name}_of_row",
-                            [f"        read_tuple(alloc, {len(kinds)}, de)"], of),
-            *self.deserialize_impl(struct, ["        read_made(alloc, de)"]),
+            *self.written_impls(struct, nested("λ v. list_tree (", tree, "[]"), write, meaning),
+            *self.made_impls(struct, parts, pairs_of(seen), meaning, read, [*of, *construct("Some(", struct, ")")]),
         ]
-
-    @staticmethod
-    def row_apart(kinds, end):
-        """The lines that take a row apart into its fields."""
-        made = []
-        for place, (field, _) in enumerate(kinds):
-            rest = "row" if place < len(kinds) - 1 else end
-            made.append(f"        let ({form(field)}({field_name(field.name)}), {rest}) = row;")
-        return made or [f"        let {end} = row;"]
-
-    @staticmethod
-    def list_apart(kinds):
-        """The lines that take a list's row apart into its items."""
-        made = []
-        for place, (field, _) in enumerate(kinds):
-            name, rest = field_name(field.name), "row" if place < len(kinds) - 1 else "()"
-            made.append(f"        let {f'OmissibleItem({name}, {rest})' if field.optional else f'({name}, {rest})'} = row;")
-        return made or ["        let () = row;"]
 
     # -- enums
 
@@ -769,338 +599,293 @@ class Module:
         ensures = f"    ensures {{ result ≡ unless_implied {name}_eq meant value.now }}"
         return ["", *lines(head, 0), ensures, "{", "    unless_meant(value, meant)", "}"]
 
-    def enum_impls(self, enum):
-        name = enum.name
-        tree = [f'{alias(enum)}.{member.name} ↦ Some (text (codes "{member.data}"))' for member in enum.members]
-        write = ["        match self {"]
-        read = ["        match name {"]
-        for place, member in enumerate(enum.members):
-            call = Group("ser.serialize_unit_variant(", [f'"{name}"', str(place), f'"{member.data}"'], ")")
-            write += arm(f"{name}::{member.name}", call, 12)
-            read += [
-                f'            "{member.data}" => {{',
-                "                variant.unit_variant(de)?;",
-                *lines(Group("Ok(", [f"{name}::{member.name}"], ")", WIDTH), 16),
-                "            }",
-            ]
-        write.append("        }")
-        read += ['            _ => Err(DecodeError::custom("unknown variant")),', "        }"]
+    def enum_impls(self, enum, tree, write):
+        """The impls that write a member, by what makes its tree, and the call that writes it."""
+        trees = [f"{alias(enum)}.{member.name} ↦ Some ({tree.format(member.data)})" for member in enum.members]
+        arms = [line for place, member in enumerate(enum.members) for line in arm(f"{enum.name}::{member.name}", write(place, member), 12)]
+        return self.written_impls(enum, cases_of(trees), match("self", arms), ["λ v. v"], alloc="_alloc")
+
+    def enum_string(self, enum):
+        def write(place, member):
+            return Group("ser.serialize_unit_variant(", [f'"{enum.name}"', str(place), f'"{member.data}"'], ")")
+
+        read = []
+        for member in enum.members:
+            made = lines(Group("Ok(", [f"{enum.name}::{member.name}"], ")", WIDTH), 16)
+            read += text_arm(member.data, "                variant.unit_variant(de)?;", *made)
         return [
-            *self.serialize_impl(enum, cases_of(tree), write, alloc=False),
-            *self.shown_impl(enum, ["λ v. v"]),
-            *self.variants_impl(enum, ["λ v. v"], read, alloc=False),
-            *self.read_enum_impl(enum, [member.data for member in enum.members]),
+            *self.enum_impls(enum, 'text (codes "{}")', write),
+            *self.variants_impl(enum, ["λ v. v"], match("name", [*read, UNKNOWN]), alloc="_alloc"),
+            *self.deserialize_impl(enum, read_by(enum, "read_enum", [member.data for member in enum.members])),
+            *self.unless_enum(enum),
         ]
 
-    def number_impls(self, enum):
-        name = enum.name
-        tree = [f"{alias(enum)}.{member.name} ↦ Some (integer (pos {member.data}))" for member in enum.members]
-        write = ["        match self {"]
+    def enum_int(self, enum):
+        def write(place, member):
+            return Group("ser.serialize_u64(", [str(member.data)], ")")
+
+        of = []
         for member in enum.members:
-            write += arm(f"{name}::{member.name}", Group("ser.serialize_u64(", [str(member.data)], ")"), 12)
-        write.append("        }")
-        of = ["        match number {"]
-        for member in enum.members:
-            of += arm(str(member.data), Group("Some(", [f"{name}::{member.name}"], ")", WIDTH), 12)
-        of += ["            _ => None,", "        }"]
+            of += arm(str(member.data), Group("Some(", [f"{enum.name}::{member.name}"], ")", WIDTH), 12)
+        told = [ghost("View", [view_name(enum)]), ghost("meaning", ["λ v. v"]), ghost("told", [f"{snake(enum.name)}_of_number"])]
+        of_number = function("of_number", ["number: u64"], f"Option<{enum.name}>", match("number", [*of, NONE]))
         return [
-            *self.serialize_impl(enum, cases_of(tree), write, alloc=False),
-            *self.shown_impl(enum, ["λ v. v"]),
-            *self.told_impl(enum, "Numbered", "of_number(number: u64)", ["λ v. v"], f"{snake(name)}_of_number", of),
+            *self.enum_impls(enum, "integer (pos {})", write),
+            *impl(f" Numbered for {enum.name}", *told, of_number),
             *self.deserialize_impl(enum, ["        read_numbered(alloc, de)"]),
+            *self.unless_enum(enum),
         ]
 
     # -- units
 
-    def unit_impls(self, unit):
-        name, word = unit.name, unit.representation
-        tree = "λ v. Some null" if word == "null" else f"λ v. Some (boolean {word})"
-        call = "ser.serialize_unit()" if word == "null" else f"ser.serialize_bool({word})"
-        made = [*self.serialize_impl(unit, [tree], [f"        {call}"], alloc=False), *self.shown_impl(unit, ["λ v. tt"])]
-        if word == "null":
-            read = ["        let () = Deserialize::deserialize(alloc, de)?;", f"        Ok({name})"]
-            return made + self.deserialize_impl(unit, read)
-        of = [f"        if parts {{ {f'Some({name})' if word == 'true' else 'None'} }} else {{ {'None' if word == 'true' else f'Some({name})'} }}"]
+    def unit_impls(self, unit, tree, call):
+        return self.written_impls(unit, [f"λ v. Some {tree}"], [f"        ser.{call}"], ["λ v. tt"], alloc="_alloc")
+
+    def unit_null(self, unit):
+        read = ["        let () = Deserialize::deserialize(alloc, de)?;", f"        Ok({unit.name})"]
+        return self.unit_impls(unit, "null", "serialize_unit()") + self.deserialize_impl(unit, read)
+
+    def unit_true(self, unit):
+        word = unit.representation
+        true, false = in_order_of(unit, f"Some({unit.name})", "None")
+        of = [f"        if parts {{ {true} }} else {{ {false} }}"]
         if len(of[0].strip()) > SHORT_IF:
-            of = ["        if parts {", f"            {f'Some({name})' if word == 'true' else 'None'}", "        } else {",
-                  f"            {'None' if word == 'true' else f'Some({name})'}", "        }"]
+            of = ["        if parts {", f"            {true}", "        } else {", f"            {false}", "        }"]
+        read, seen = ["        bool::deserialize(alloc, de)"], ("Bool", "leaf view_bool", f"{snake(unit.name)}_of_bool")
         return [
-            *made,
-            *self.made_impl(unit, "bool", ["Bool", ["λ b. b"], "leaf view_bool"], ["λ v. tt"], f"{snake(name)}_of_bool",
-                            ["        bool::deserialize(alloc, de)"], of),
-            *self.deserialize_impl(unit, ["        read_made(alloc, de)"]),
+            *self.unit_impls(unit, f"(boolean {word})", f"serialize_bool({word})"),
+            *self.made_impls(unit, "bool", ["λ b. b"], ["λ v. tt"], read, of, seen),
         ]
+
+    unit_false = unit_true
 
     # -- unions
 
-    def inline_impls(self, union):
-        name = union.name
-        row = self.inline_row(union)
-        is_open = self.inline_member(union.cases[0]).open
-        end = "()" if is_open else "Closed"
-        members = self.members(union)
-        tree, meaning, write, of = [], [], ["        match self {"], []
-        words = ["Required(tag)", *(members.words() if members else [f"Omissible({local})" for _, _, local, _ in row])]
-        for place, word in enumerate(words):
-            of.append(f"        let ({word}, {'row' if place < len(words) - 1 else end}) = {'row' if place else 'parts'};")
-        of.append("        match tag.as_str() {")
-        for case in union.cases:
-            struct = self.inline_member(case)
-            tree += self.inline_tree(union, case, struct)
-            meaning.append(f"{alias(union)}.{case.name} x ↦ {case_word(union, case)} ({self.meaning(Named(struct.name, case.place), 'x')})")
-            write += block_arm(f"{name}::{case.name}(x)", lambda at: self.inline_written(union, case, struct, at), 12)
-            of += self.inline_made(union, case, struct, row, is_open, members)
-        write.append("        }")
-        of += ["            _ => None,", "        }"]
-        names = Group("let names = &[", [f'"{union.discriminant}"', *(f'"{field.key}"' for field, _, _, _ in row)], "]")
-        read = lines(names, 8, ";") + lines(Group("read_struct(", ["alloc", f'"{name}"', "names", "de"], ")"), 8)
-        kind = "Closed" if not is_open else "()"
-        for held in reversed(members.types() if members else [f"Omissible<{self.code(held)}>" for _, held, _, _ in row]):
-            kind = f"({held}, {kind})"
-        shown = members.shown() if members else [self.inline_shown(row, place) for place in range(len(row))]
-        shown = pairs_of(["string_bytes v.0.0", *shown])
+    def union_impls(self, union, trees, write):
+        """The impls that write a member, by the trees of the members, and the lines of each one's arm."""
+        trees = [f"{alias(union)}.{case.name} x ↦ {tree}" for case, tree in zip(union.cases, trees)]
+        arms = [line for place, case in enumerate(union.cases) for line in write(place, case)]
+        return self.written_impls(union, cases_of(trees), match("self", arms), self.union_meaning(union))
+
+    def union_meaning(self, union):
+        rows = []
+        for case, kind in self.cases(union):
+            rows.append(f"{alias(union)}.{case.name} x ↦ {case_word(union, case)} {wrapped(self.meaning(kind, 'x'))}")
+        return cases_of(rows)
+
+    def union_inline(self, union):
+        members = members_of(self, union)
+        parts = joined(["Required<String>", *members.types(), end_of(members)])
+        of = apart([f"({word}, {{}})" for word in ("Required(tag)", *members.words())], end_of(members), "parts")
+        arms = [line for case in union.cases for line in self.inline_made(union, case, members)]
+        of += match("tag.as_str()", [*arms, NONE])
+        read = read_by(union, "read_struct", [union.discriminant, *(one.field.key for one in members.row)])
+        trees = [self.inline_tree(union, case) for case in union.cases]
+
+        def write(place, case):
+            return block_arm(f"{union.name}::{case.name}(x)", lambda at: self.inline_written(union, case, at), 12)
+
+        seen, meaning = pairs_of(["string_bytes v.0.0", *members.shown()]), self.union_meaning(union)
         return [
-            *(members.items() if members else []),
-            *self.serialize_impl(union, cases_of(tree), write),
-            *self.shown_impl(union, cases_of(meaning)),
-            *self.made_impl(union, f"(Required<String>, {kind})", [f"{snake(name)}_row", shown, f"{snake(name)}_row_shape"],
-                            cases_of(meaning), f"{snake(name)}_of_row", read, of),
-            *self.deserialize_impl(union, ["        read_made(alloc, de)"]),
+            *members.items(),
+            *self.union_impls(union, trees, write),
+            *self.made_impls(union, parts, seen, meaning, read, of),
         ]
 
-    def inline_shown(self, row, place):
-        """What the field at this place of a row that was read means."""
-        kind = row[place][1]
-        return self.meaning(Nullable(kind, kind.place), "v.1" + ".1" * place + ".0.0")
-
-    def inline_tree(self, union, case, struct):
+    def inline_tree(self, union, case):
         rows = []
-        for field, kind in self.inline_order(union, struct):
+        for field, kind in self.inline_order(union, case):
             if field is None:
                 rows.append(f'field (codes "{union.discriminant}") (Some (text (codes "{case.data}"))) ∷')
-                continue
-            value = f"x.{field_name(field.name)}"
-            if field.optional:
-                rows.append(f'optional (codes "{field.key}") {self.tree_of(kind)} {value} (')
             else:
-                rows.append(f'field (codes "{field.key}") ({self.tree(kind, value)}) ∷')
-        opened = 1 + sum(row.endswith("(") for row in rows)
-        rows[-1] = rows[-1].removesuffix(" (") + f" []{')' * (opened - rows[-1].endswith('('))}"
-        return ["\n          ".join([f"{alias(union)}.{case.name} x ↦ entries_tree (", *rows])]
+                rows.append(self.entry_tree(field, kind, f"x.{field_name(field.name)}"))
+        return "\n".join(nested("entries_tree (", rows, "[]", 10))
 
-    def inline_order(self, union, struct):
-        """The fields in the order of their keys, and None for what tells the member."""
-        kinds = [(field, self.schema.resolve(field.type)) for field in struct.fields] + [(None, None)]
-        key = lambda row: row[0].key if row[0] else union.discriminant
-        return sorted(kinds, key=lambda row: (len(key(row)), key(row)))
+    def inline_order(self, union, case):
+        """The fields of a member in the order of their keys, and None for what tells the member."""
+        fields = [*self.fields(self.schema.case_struct(case)), (None, None)]
+        return sorted(fields, key=lambda row: key_order(row[0].key if row[0] else union.discriminant))
 
-    def inline_written(self, union, case, struct, at):
-        margin = " " * at
-        made = [f'{margin}let tag = "{case.data}";', f"{margin}let row = ();"]
-        for field, _ in reversed(self.inline_order(union, struct)):
-            if field is None:
-                part = Group("Field(", [f'"{union.discriminant}"', "&tag"], ")")
-            else:
-                part = Group("Optional(" if field.optional else "Field(", [f'"{field.key}"', f"&x.{field_name(field.name)}"], ")")
-            made += lines(Group("let row = (", [part, "row"], ")"), at, ";")
-        return made + [f"{margin}write_struct(alloc, row, ser)"]
+    def inline_written(self, union, case, at):
+        parts = []
+        for field, _ in self.inline_order(union, case):
+            tag = Group("Field(", [f'"{union.discriminant}"', "&tag"], ")")
+            parts.append(entry(field, f"x.{field_name(field.name)}") if field else tag)
+        return tagged_row(case, parts, at)
 
     @staticmethod
-    def inline_made(union, case, struct, row, is_open, members):
-        fields = {field.key: field for field in struct.fields}
-        made = [f'            "{case.data}" => {{', *(members.made(case) if members else [])]
-        for field, _, local, _ in [] if members else row:
-            if field.key in fields and not fields[field.key].optional:
-                one = f"                let {local} = {local}?;"
-                made += [one] if len(one) <= WIDTH else [f"                let {local} =", f"                    {local}?;"]
-            elif field.key not in fields and not is_open:
-                made += [f"                if {local}.is_some() {{", "                    return None;", "                }"]
-        locals_by_key = {field.key: local for field, _, local, _ in row}
-        words = []
-        for field in struct.fields:
-            word, local = field_name(field.name), locals_by_key[field.key]
+    def inline_made(union, case, members):
+        """The arm that makes a member of what was read."""
+        locals_by_key, words = {one.field.key: one.local for one in members.row}, []
+        for key, field in members.keys(case).items():
+            word, local = field_name(field.name), locals_by_key[key]
             words.append(word if word == local else f"{word}: {local}")
-        literal = Group(f"{struct.name} {{", words, "}", INSIDE_STRUCT) if words else f"{struct.name} {{}}"
-        made += lines(Group("let x = " + literal.head, words, "}", INSIDE_STRUCT), 16, ";") if words else [f"                let x = {literal};"]
-        return made + [*lines(Group("Some(", [Group(f"{union.name}::{case.name}(", ["x"], ")")], ")", WIDTH), 16), "            }"]
+        struct = lines(struct_of("let x = ", members.schema.case_struct(case).name, words, ""), 16, ";")
+        return text_arm(case.data, *members.made(case), *struct, *lines(made_case("Some(", union, case), 16))
 
-    def keyed_impls(self, union):
-        name = union.name
-        tree, meaning, write, read = [], [], ["        match self {"], ["        match name {"]
-        for place, case in enumerate(union.cases):
-            kind = self.case_kind(union, case)
-            tree.append(f'{alias(union)}.{case.name} x ↦ variant_tree (codes "{case.data}") ({self.tree(kind, "x")})')
-            meaning.append(f"{alias(union)}.{case.name} x ↦ {case_word(union, case)} {wrapped(self.meaning(kind, 'x'))}")
-            parts = ["alloc", f'"{name}"', str(place), f'"{case.data}"', "x"]
-            write += arm(f"{name}::{case.name}(x)", Group("ser.serialize_newtype_variant(", parts, ")"), 12)
-            read += [
-                f'            "{case.data}" => {{',
-                "                let x = variant.newtype_variant(alloc, de)?;",
-                *lines(Group("Ok(", [Group(f"{name}::{case.name}(", ["x"], ")")], ")", WIDTH), 16),
-                "            }",
-            ]
-        write.append("        }")
-        read += ['            _ => Err(DecodeError::custom("unknown variant")),', "        }"]
+    def union_keyed(self, union):
+        trees = [f'variant_tree (codes "{case.data}") ({self.tree(kind, "x")})' for case, kind in self.cases(union)]
+
+        def write(place, case):
+            given = ["alloc", f'"{union.name}"', str(place), f'"{case.data}"', "x"]
+            return arm(f"{union.name}::{case.name}(x)", Group("ser.serialize_newtype_variant(", given, ")"), 12)
+
         return [
-            *self.serialize_impl(union, cases_of(tree), write),
-            *self.shown_impl(union, cases_of(meaning)),
-            *self.variants_impl(union, cases_of(meaning), read),
-            *self.read_enum_impl(union, [case.data for case in union.cases]),
+            *self.union_impls(union, trees, write),
+            *self.variants_impl(union, self.union_meaning(union), told_arms(union, "name", "variant.newtype_variant(alloc, de)?")),
+            *self.deserialize_impl(union, read_by(union, "read_enum", [case.data for case in union.cases])),
         ]
 
-    def kinded_impls(self, union):
-        name = union.name
-        tree, meaning, write, of, types = [], [], ["        match self {"], ["        match parts {"], {}
+    def union_kinded(self, union):
+        kinds, of = {case.data: self.code(kind) for case, kind in self.cases(union)}, []
         for case in union.cases:
-            kind = self.case_kind(union, case)
-            types[case.data] = self.code(kind)
-            tree.append(f"{alias(union)}.{case.name} x ↦ {self.tree(kind, 'x')}")
-            meaning.append(f"{alias(union)}.{case.name} x ↦ {case_word(union, case)} {wrapped(self.meaning(kind, 'x'))}")
-            write += arm(f"{name}::{case.name}(x)", Group("x.serialize(", ["alloc", "ser"], ")"), 12)
-            found = f"ByKind::{KINDS[case.data][1]}(x)"
-            of += arm(found, Group("Some(", [Group(f"{name}::{case.name}(", ["x"], ")")], ")", WIDTH), 12)
-        write.append("        }")
-        of += [f"            ByKind::{word}(_) => None," for kind, (_, word) in KINDS.items() if kind not in types]
-        of.append("        }")
-        parts = f"ByKind<{', '.join(types.get(kind, 'NoKind') for kind in KINDS)}>"
-        seen = [f"{snake(name)}_row", [f"⟦<{parts} as Shown>⟧.meaning"], f"{snake(name)}_row_shape"]
+            of += arm(f"ByKind::{KINDS[case.data].capitalize()}(x)", made_case("Some(", union, case), 12)
+        of += [f"            ByKind::{word.capitalize()}(_) => None," for kind, word in KINDS.items() if kind not in kinds]
+        parts = f"ByKind<{', '.join(kinds.get(kind, 'NoKind') for kind in KINDS)}>"
+
+        def write(place, case):
+            return arm(f"{union.name}::{case.name}(x)", Group("x.serialize(", ["alloc", "ser"], ")"), 12)
+
         return [
-            *self.serialize_impl(union, cases_of(tree), write),
-            *self.shown_impl(union, cases_of(meaning)),
-            *self.made_impl(union, parts, seen, cases_of(meaning), f"{snake(name)}_of_row", ["        ByKind::deserialize(alloc, de)"], of),
-            *self.deserialize_impl(union, ["        read_made(alloc, de)"]),
+            *self.union_impls(union, [self.tree(kind, "x") for _, kind in self.cases(union)], write),
+            *self.made_impls(union, parts, [f"⟦<{parts} as Shown>⟧.meaning"], self.union_meaning(union),
+                             ["        ByKind::deserialize(alloc, de)"], match("parts", of)),
         ]
 
-    @staticmethod
-    def envelope_written(union, case, at):
-        margin = " " * at
-        made = [f'{margin}let tag = "{case.data}";', f"{margin}let row = ();"]
-        for key, value in ((union.content, "x"), (union.discriminant, "&tag")):
-            made += lines(Group("let row = (", [Group("Field(", [f'"{key}"', value], ")"), "row"], ")"), at, ";")
-        return made + [f"{margin}write_struct(alloc, row, ser)"]
-
-    def envelope_impls(self, union):
-        name = union.name
-        tree, meaning, write, read = [], [], ["        match self {"], ["        match tag {"]
-        for case in union.cases:
-            kind = self.case_kind(union, case)
+    def union_envelope(self, union):
+        trees = []
+        for case, kind in self.cases(union):
             tag = f'field (codes "{union.discriminant}") (Some (text (codes "{case.data}")))'
-            held = f'field (codes "{union.content}") ({self.tree(kind, "x")})'
-            tree.append(f"{alias(union)}.{case.name} x ↦ entries_tree ({tag} ∷\n          {held} ∷ [])")
-            meaning.append(f"{alias(union)}.{case.name} x ↦ {case_word(union, case)} {wrapped(self.meaning(kind, 'x'))}")
-            write += block_arm(f"{name}::{case.name}(x)", lambda at: self.envelope_written(union, case, at), 12)
-            read += [
-                f'            "{case.data}" => {{',
-                "                let x = entries.next_value(alloc, de)?;",
-                *lines(Group("Ok(", [Group(f"{name}::{case.name}(", ["x"], ")")], ")", WIDTH), 16),
-                "            }",
-            ]
-        write.append("        }")
-        read += ['            _ => Err(DecodeError::custom("unknown variant")),', "        }"]
+            trees.append(f'entries_tree ({tag} ∷\n          field (codes "{union.content}") ({self.tree(kind, "x")}) ∷ [])')
+        entries = [Group("Field(", [f'"{key}"', value], ")") for key, value in ((union.discriminant, "&tag"), (union.content, "x"))]
+
+        def write(place, case):
+            return block_arm(f"{union.name}::{case.name}(x)", lambda at: tagged_row(case, entries, at), 12)
+
         keys = [f'"{union.discriminant}"', f'"{union.content}"']
         return [
-            *self.serialize_impl(union, cases_of(tree), write),
-            *self.shown_impl(union, cases_of(meaning)),
-            *self.enveloped_impl(union, cases_of(meaning), read),
+            *self.union_impls(union, trees, write),
+            *self.enveloped_impl(union, told_arms(union, "tag", "entries.next_value(alloc, de)?")),
             *self.deserialize_impl(union, lines(Group("read_enveloped(", ["alloc", *keys, "de"], ")"), 8)),
+        ]
+
+    # -- the forms of an impl
+
+    def written_impls(self, one, tree, write, meaning, alloc="alloc"):
+        """The impls that write a type, and say what it means: its tree, and the lines that write it."""
+        takes = "true" if self.writing_takes_memory(Named(one.name, one.place)) else "false"
+        parameters = ["&self", f"{alloc}: Global", "ser: &mut Serializer<W>"]
+        serialize = function("serialize<W: Write>", parameters, "WriteResult<(), W>", write)
+        return [
+            *impl(f" Serialize for {one.name}", ghost("tree", tree), ghost("takes_memory", [takes]), serialize),
+            *impl(f" Shown for {one.name}", *seen_as(one, meaning, "shape")),
+        ]
+
+    @staticmethod
+    def deserialize_impl(one, body):
+        read = function("deserialize<R: Read>", ["alloc: Global", DE], "ReadResult<Self, R>", body)
+        return impl(f"<'de> Deserialize<'de> for {one.name}", read)
+
+    @staticmethod
+    def variants_impl(one, meaning, body, alloc="alloc"):
+        parameters = [f"{alloc}: Global", "name: &str", "variant: EnumAccessor", DE]
+        tactic = ["    #[tactic(auto, using(dagcbor_read::proofs::NamedVariants::held_refused))]"] if alloc == "alloc" else []
+        read = function("read_variant<R: Read>", parameters, f"ReadResult<{one.name}, R>", body)
+        return impl(f"<'de> Variants<'de> for {one.name}", *seen_as(one, meaning, "variants"), [*tactic, *read])
+
+    def enveloped_impl(self, one, body):
+        parameters = ["alloc: Global", "tag: &str", "entries: &mut Accessor<'de>", DE]
+        tactic = "    #[tactic(auto, using(dagcbor_schema::proofs::EnvelopeFronts::content_not_read))]"
+        read = function("read_content<R: Read>", parameters, f"ReadResult<{one.name}, R>", body)
+        return impl(f"<'de> Enveloped<'de> for {one.name}", *seen_as(one, self.union_meaning(one), "variants"), [tactic, *read])
+
+    def made_impls(self, one, parts, parts_meaning, meaning, read, of, seen=None):
+        """The impls that read a type in parts: what those are and mean, and the lines that read them, and make the value of them."""
+        name = snake(one.name)
+        view, shape, made = seen or (f"{name}_row", f"{name}_row_shape", f"{name}_of_row")
+        return [
+            *impl(
+                f"<'de> Made<'de> for {one.name}",
+                typed("type Parts = ", parts, 4, ";"),
+                ghost("PartsView", [view]),
+                ghost("parts_meaning", parts_meaning),
+                ghost("parts_shape", [shape]),
+                ghost("View", [view_name(one)]),
+                ghost("meaning", meaning),
+                ghost("made", [made]),
+                function("read_parts<R: Read>", ["alloc: Global", DE], "ReadResult<Self::Parts, R>", read),
+                function("of_parts", ["parts: Self::Parts"], f"Option<{one.name}>", of),
+            ),
+            *self.deserialize_impl(one, ["        read_made(alloc, de)"]),
         ]
 
     # ---- proofs
 
-    def answers(self, source):
-        """The answers that the search does not find, of each function by the folder of its proof: the arms that write a keyed
-        union one of whose members is a link or bytes, which the search takes apart, or has a long text, and those of an inline union."""
+    def answers(self):
+        """The answers that the search does not find, of each function by the folder of its proof."""
+        answers = {
+            "struct_map": [self.implied_answers],
+            "struct_listpairs": [self.pairs_answers],
+            "enum_string": [self.enum_answers],
+            "union_keyed": [self.variant_answers, self.one_member_answers, self.arm_answers],
+            "union_inline": [self.text_answers, self.one_member_answers, self.arm_answers],
+            "union_envelope": [self.content_answers, self.arm_answers],
+        }
         made = {}
         for one in self.types:
-            if isinstance(one, Struct) and has_implied(one):
-                place = f"{self.name}.{one.name}Serialize.serialize"
-                fields = [field for field in one.fields if field.implicit is not None]
-                calls = [f"c.{unless(self.schema.resolve(field.type))}-{field_name(field.name)}.ensures" for field in fields]
-                steps = "".join(f"rw (sym {call}) (" for call in calls)
-                rows = []
-                for clause in ("written", "well_formed") if len(one.fields) > SEARCHED_FIELDS else ("written",):
-                    goal = f"returns-clause-{clause}"
-                    rows += ["", f"pub {goal} : goal.{goal}"]
-                    rows.append(f"{goal} g c = {steps}c.write_struct.ensures.{clause}{')' * len(calls)}")
-                made[place.replace(".", "/")] = "\n".join([
-                    f"-- What writes {one.name}, of {source}, by ./dagcbor-types.",
-                    "use Rattle.std.proofs.Common.{sym}",
-                    f"use Rattle.{self.crate}.proofs.{place}.Goals as goal",
-                    *rows,
-                    "",
-                ])
-            if isinstance(one, Struct) and one.representation == "listpairs":
-                made |= self.pairs_answers(one, source)
-            if isinstance(one, Union) and one.representation == "envelope":
-                made |= self.envelope_answers(one, source)
-            if isinstance(one, Union) and one.representation == "inline":
-                made |= self.inline_answers(one, source)
-                made |= self.one_member_answers(one, source)
-            if isinstance(one, Union) and one.representation == "keyed":
-                made |= self.variant_answers(one, source)
-                made |= self.one_member_answers(one, source)
-            if isinstance(one, Enum) and one.representation == "string":
-                made |= self.enum_answers(one, source)
-            cases = getattr(one, "cases", [])
-            taken_apart = any(self.code(self.schema.resolve(case.type)) in ("Cid", "Bytes") for case in cases)
-            told = one.representation in ("inline", "envelope")
-            written = taken_apart or any(len(case.data) > LONG_TEXT for case in cases)
-            if len(cases) > 1 and (told or (one.representation == "keyed" and written)):
-                place = f"{self.name}.{one.name}Serialize.serialize"
-                rows = [
-                    f"-- The arms that write {one.name}, of {source}, by ./dagcbor-types.",
-                    f"use Rattle.{self.crate}.proofs.{place}.Goals as goal",
-                ]
-                for case in cases:
-                    goal = f"returns-in-{case.name}-clause-written"
-                    call = "write_struct" if told else "serialize_newtype_variant"
-                    call += f"-in-{case.name}" if case is not cases[0] else ""
-                    rows += ["", f"pub {goal} : goal.{goal}"]
-                    rows.append(f"{goal} g c = rw c.in-{case.name}.is c.{call}.ensures.written")
-                made[place.replace(".", "/")] = "\n".join(rows) + "\n"
+            for answer in answers.get(maker_name(one), []):
+                made |= answer(one)
         return made
 
-    def enum_answers(self, enum, source):
-        """The arms that write a long text."""
-        place = f"{self.name}.{enum.name}Serialize.serialize"
-        rows = []
-        for member in enum.members:
-            if len(member.data) > LONG_TEXT and len(enum.members) > 1:
-                goal = f"returns-in-{member.name}-clause-written"
-                call = "serialize_unit_variant" + (f"-in-{member.name}" if member is not enum.members[0] else "")
-                rows += ["", f"pub {goal} : goal.{goal}"]
-                rows.append(f"{goal} g c = rw c.in-{member.name}.is c.{call}.ensures.written")
-        if not rows:
-            return {}
-        head = [f"-- The arms that write long texts of {enum.name}, of {source}, by ./dagcbor-types."]
-        head.append(f"use Rattle.{self.crate}.proofs.{place}.Goals as goal")
-        return {place.replace(".", "/"): "\n".join(head + rows) + "\n"}
+    def file_of(self, one, function, about, uses, rows):
+        """The file of a function's answers, by its folder. None, where there are none."""
+        place = f"{self.name}.{one.name}{function}"
+        head = [f"-- {about}, of {self.file}, by ./dagcbor-types.", *uses, f"use Rattle.{self.crate}.proofs.{place}.Goals as goal"]
+        return {place.replace(".", "/"): "\n".join([*head, *rows]) + "\n"} if rows else {}
 
-    def pairs_answers(self, struct, source):
+    def implied_answers(self, struct):
+        """What writes a struct in which a field means a value where it is left out."""
+        if not has_implied(struct):
+            return {}
+        calls = [f"c.{unless(kind)}-{field_name(field.name)}.ensures" for field, kind in self.fields(struct) if field.implicit is not None]
+        steps, rows = "".join(f"rw (sym {call}) (" for call in calls), []
+        for clause in ("written", "well_formed") if len(struct.fields) > SEARCHED_FIELDS else ("written",):
+            rows += answer(f"returns-clause-{clause}", f"{steps}c.write_struct.ensures.{clause}{')' * len(calls)}")
+        uses = ["use Rattle.std.proofs.Common.{sym}"]
+        return self.file_of(struct, "Serialize.serialize", f"What writes {struct.name}", uses, rows)
+
+    def arm_answers(self, union):
+        """The arms that write a union that is told by a tag, or a keyed one of which a member is a link or bytes, which the search takes
+        apart, or has a long text."""
+        taken_apart = any(self.code(kind) in ("Cid", "Bytes") for _, kind in self.cases(union))
+        is_searched = not taken_apart and all(len(case.data) <= LONG_TEXT for case in union.cases)
+        is_keyed = union.representation == "keyed"
+        if len(union.cases) < 2 or (is_keyed and is_searched):
+            return {}
+        rows = arm_rows(union.cases, union.cases, "serialize_newtype_variant" if is_keyed else "write_struct")
+        return self.file_of(union, "Serialize.serialize", f"The arms that write {union.name}", [], rows)
+
+    def enum_answers(self, enum):
+        """The arms that write a long text."""
+        long = [member for member in enum.members if len(member.data) > LONG_TEXT and len(enum.members) > 1]
+        rows = arm_rows(enum.members, long, "serialize_unit_variant")
+        return self.file_of(enum, "Serialize.serialize", f"The arms that write long texts of {enum.name}", [], rows)
+
+    def pairs_answers(self, struct):
         """What a list of pairs with a link makes, which the search takes apart: each pair has its field's name, and holds its value."""
-        kinds = [self.code(self.schema.resolve(field.type)) for field in struct.fields]
+        kinds = [self.code(kind) for _, kind in self.fields(struct)]
         if len(kinds) < 2 or not any("Cid" in kind for kind in kinds):
             return {}
         signed = any(re.search(r"\bi[0-9]", kind) for kind in kinds)  # which the goal takes through the machine's words
         end, word = ("(search rules)", "rules") if signed else ("refl", "refl")
-        place = f"{self.name}.{struct.name}Made.of_parts"
         steps, opened = [], ""
         for number, field in enumerate(struct.fields, 1):
             call = f"c.of_name{f'-{number}' if number > 1 else ''}.ensures"
             steps.append(f"    let taken{number} = taken_under _ _ _ (sym {call} ∙ c.in_ok-{field_name(field.name)}.was) in")
             opened += f"rw (taken{number}.0, taken{number}.1) ("
-        return {place.replace(".", "/"): "\n".join([
-            f"-- What the pairs of {struct.name} make, of {source}, by ./dagcbor-types.",
-            f"use Rattle.std.proofs.Common.{{◌∙◌, {word}, sym}}",
-            "use Rattle.dagcbor_schema.proofs.PairNames.{taken_under}",
-            f"use Rattle.{self.crate}.proofs.{place}.Goals as goal",
-            "",
-            "pub returns : goal.returns",
-            "returns c =",
-            *steps,
-            f"    {opened}{end}{')' * len(steps)}",
-            "",
-        ])}
+        uses = [f"use Rattle.std.proofs.Common.{{◌∙◌, {word}, sym}}", "use Rattle.dagcbor_schema.proofs.PairNames.{taken_under}"]
+        rows = ["", "pub returns : goal.returns", "returns c =", *steps, f"    {opened}{end}{')' * len(steps)}"]
+        return self.file_of(struct, "Made.of_parts", f"What the pairs of {struct.name} make", uses, rows)
 
     @staticmethod
     def arm_words(union):
@@ -1116,329 +901,150 @@ class Module:
                 words.append("text" if others == 1 else f"text-{others}")
         return words if len(set(words)) == len(words) else None
 
-    def inline_answers(self, union, source):
+    def text_answers(self, union):
         """Of a union of many fields, or with a list of lists or the like, the arm of other texts than the members': the search unfolds
         the row first."""
-        words = self.arm_words(union)
-        if words is None or not (self.members(union) or any(is_deep(kind) for _, kind, _, _ in self.inline_row(union))):
+        words, members = self.arm_words(union), members_of(self, union)
+        if words is None or not (members.is_wide or any(is_deep(one.kind) for one in members.row)):
             return {}
-        place = f"{self.name}.{union.name}Made.of_parts"
         steps = [
             f'    rw (other_name {{name = codes "{case.data}"}} (λ e. c.in_default.not-{word} (c.as_str.ensures.value ∙ e))) ('
             for case, word in zip(union.cases, words)
         ]
-        return {place.replace(".", "/"): "\n".join([
-            f"-- A text that tells no member of {union.name}, of {source}, by ./dagcbor-types.",
-            "use Rattle.std.proofs.Common.{◌∙◌, refl, codes}",
-            "use Rattle.dagcbor_read.proofs.FieldPlaces.{other_name}",
-            f"use Rattle.{self.crate}.proofs.{place}.Goals as goal",
-            "",
-            "pub returns : goal.returns",
-            "returns c =",
-            *steps,
-            f"    refl{')' * len(steps)}",
-            "",
-        ])}
+        uses = ["use Rattle.std.proofs.Common.{◌∙◌, refl, codes}", "use Rattle.dagcbor_read.proofs.FieldPlaces.{other_name}"]
+        rows = ["", "pub returns : goal.returns", "returns c =", *steps, f"    refl{')' * len(steps)}"]
+        return self.file_of(union, "Made.of_parts", f"A text that tells no member of {union.name}", uses, rows)
 
-    def envelope_answers(self, union, source):
+    def content_answers(self, union):
         """What a member holds is refused; of those whose tags are words, or where they are many, also that it is read, and of other tags,
         where they are many or one has a long row. The search finds the rest."""
-        place, name = f"{self.name}.{union.name}Enveloped.read_content", snake(union.name)
-        words = self.arm_words(union)
+        words, tags = self.arm_words(union), [case.data for case in union.cases]
         many = len(union.cases) > SEARCHED_MEMBERS and words is not None
-        tags = [case.data for case in union.cases]
-        named = words is not None
-        untold = named and (many or any(map(self.has_long_row, union.cases)))
-        words = dict(zip(tags, words or tags))
+        untold = words is not None and (many or any(map(self.has_long_row, union.cases)))
         plain = [case for case in union.cases if many or re.fullmatch(r"[a-z][a-z_]*", case.data) and case.data not in RESERVED]
-        cases = union.cases if named else plain
-        if not cases:
-            return {}
-        takes = any(self.reading_takes_memory(self.case_kind(union, case)) for case in union.cases)
+        cases = plain if words is None else union.cases
+        words = dict(zip(tags, words or tags))
         rows = []
         for case in cases:
-            word = words[case.data]
-            behind = f"-in_err-x-in-{word}" if case is not union.cases[0] else ""
-            shape = wrapped(self.shape(self.case_kind(union, case)))
-            head = f"{name}_variants (λ x. {case_word(union, case)} x) {shape} g.row.R-Error.Denot _"
-            told = f'(codes "{case.data}")'
-            same = f"c.in-{word}.is (λ t. refl) (λ t. refl)"
-            lacks = "refl" if takes else "h"
-            ok, err = (f"returns-in_{way}-x-in-{word}-clause-value" for way in ("ok", "err"))
-            if case in plain and not isinstance(self.case_kind(union, case), Int):  # which the goal takes through the machine's words: the search finds it
-                rows += [
-                    "",
-                    f"pub {ok} : goal.{ok}",
-                    f"{ok} g c = λ sound.",
-                    f"    content_shown {head} _ _ {told} _ _ {same} sound c.in_ok-x-in-{word}.ensures.value",
-                ]
-            rows += [
-                "",
-                f"pub {err} : goal.{err}",
-                f"{err} g c = λ sound.",
-                f"    content_handed_on {head} _ _ _ _ {told} _ _ c.from_residual{behind}.ensures.1 {same}"
-                f" (λ h. h) (λ lends h. {lacks}) sound c.in_err-x-in-{word}.ensures.value",
-            ]
-        imported = []
+            # An integer the goal takes through the machine's words: the search finds it.
+            if case in plain and not isinstance(self.case_kind(union, case), Int):
+                rows += self.content_read(union, case, words[case.data])
+            rows += self.content_refused(union, case, words[case.data])
         if untold:
             rows += self.untold_rows(union, words)
-            imported = ["use Rattle.dagcbor_read.proofs.FieldPlaces.{other_name}", *UNTOLD_USES]
-        text = "\n".join(rows)
-        words = self.imports(text, ghost=False)
-        shapes = [f"{name}_variants", *([f"{name}_part"] if untold else []), *(case_word(union, case) for case in cases)]
-        shapes += sorted({word for word in re.findall(r"\w+_shape", text)})
-        words += split(f"use Rattle.{self.crate}.specs.{self.path}.", shapes, "")
-        lemmas = [word for word in ("content_shown", "content_handed_on") if word in text]
-        words += split("use Rattle.dagcbor_schema.proofs.EnvelopeFronts.", lemmas, "")
-        words += imported
-        words.append(f"use Rattle.{self.crate}.proofs.{place}.Goals as goal")
-        head = f"-- The members of {union.name}, of {source}, by ./dagcbor-types."
-        return {place.replace(".", "/"): "\n".join([head, *words, text]) + "\n"}
+        uses = self.union_uses(union, rows, [f"{snake(union.name)}_part"] if untold else [], cases)
+        lemmas = [word for word in ("content_shown", "content_handed_on") if any(word in row for row in rows)]
+        uses += split("use Rattle.dagcbor_schema.proofs.EnvelopeFronts.", lemmas, "")
+        if untold:
+            uses += ["use Rattle.dagcbor_read.proofs.FieldPlaces.{other_name}", *UNTOLD_USES]
+        return self.file_of(union, "Enveloped.read_content", f"The members of {union.name}", uses, rows)
+
+    def union_uses(self, union, rows, words, cases):
+        """What the answers of a union use of the specs: of the library, and of its own."""
+        text, name = "\n".join(rows), snake(union.name)
+        shapes = sorted(set(re.findall(r"\w+_shape", text)))
+        own = [f"{name}_variants", *words, *(case_word(union, case) for case in cases), *shapes]
+        return self.imports(text, ghost=False) + split(f"use Rattle.{self.crate}.specs.{self.path}.", own, "")
+
+    def member_words(self, union, case):
+        """What a lemma is given of a member: how it is made, and what a tree shows to what it holds."""
+        shape = wrapped(self.shape(self.case_kind(union, case)))
+        return f"{snake(union.name)}_variants (λ x. {case_word(union, case)} x) {shape} g.row.R-Error.Denot _"
+
+    def takes_memory(self, union):
+        """Whether reading a member may take memory."""
+        return any(self.reading_takes_memory(kind) for _, kind in self.cases(union))
+
+    def content_read(self, union, case, word):
+        """That what a member holds is read."""
+        head, told = self.member_words(union, case), f'(codes "{case.data}")'
+        shown = f"    content_shown {head} _ _ {told} _ _ c.in-{word}.is (λ t. refl) (λ t. refl) sound c.in_ok-x-in-{word}.ensures.value"
+        return answer(f"returns-in_ok-x-in-{word}-clause-value", "λ sound.", shown)
+
+    def content_refused(self, union, case, word):
+        """That what a member holds is refused."""
+        head, told = self.member_words(union, case), f'(codes "{case.data}")'
+        behind = residual(union, case, word)
+        lacks = "refl" if self.takes_memory(union) else "h"
+        handed_on = (
+            f"    content_handed_on {head} _ _ _ _ {told} _ _ c.from_residual{behind}.ensures.1 c.in-{word}.is (λ t. refl) (λ t. refl)"
+            f" (λ h. h) (λ lends h. {lacks}) sound c.in_err-x-in-{word}.ensures.value"
+        )
+        return answer(f"returns-in_err-x-in-{word}-clause-value", "λ sound.", handed_on)
 
     def has_long_row(self, case):
         """Whether the member is an inline union of many fields."""
-        kind = self.schema.resolve(case.type)
-        one = self.schema.by_name[kind.name] if isinstance(kind, Named) else None
-        return isinstance(one, Union) and one.representation == "inline" and len(self.schema.row_of(one)) > LONG_ROW
+        one = self.schema.named(self.schema.resolve(case.type))
+        return is_a(one, "union_inline") and len(self.schema.row_of(one)) > LONG_ROW
 
-    def variant_answers(self, union, source):
+    def variant_answers(self, union):
         """Of a keyed union, that what a member holds was refused. The search finds the rest."""
-        place, name = f"{self.name}.{union.name}Variants.read_variant", snake(union.name)
         words = self.arm_words(union)
         if words is None:
             return {}
-        takes = any(self.reading_takes_memory(self.case_kind(union, case)) for case in union.cases)
-        rows = []
+        lacks, rows = "refl" if self.takes_memory(union) else "h", []
         for case, word in zip(union.cases, words):
-            behind = f"-in_err-x-in-{word}" if case is not union.cases[0] else ""
-            shape = wrapped(self.shape(self.case_kind(union, case)))
-            goal = f"returns-in_err-x-in-{word}-clause-variant"
-            rows += [
+            behind = residual(union, case, word)
+            rows += answer(
+                f"returns-in_err-x-in-{word}-clause-variant",
                 "",
-                f"pub {goal} : goal.{goal}",
-                f"{goal} g c =",
-                f"    held_handed_on {name}_variants (λ x. {case_word(union, case)} x) {shape} g.row.R-Error.Denot _ _ _ (enum_state c.args.variant) _ _"
+                f"    held_handed_on {self.member_words(union, case)} _ _ (enum_state c.args.variant) _ _"
                 f' (codes "{case.data}") _ _ c.from_residual{behind}.ensures.1 c.in-{word}.is',
-                f"    refl (λ t. refl) (λ t. refl) (λ h. h) (λ lends h. {'refl' if takes else 'h'}) c.requires.sound c.in_err-x-in-{word}.ensures.part",
-            ]
-        text = "\n".join(rows)
-        shapes = [f"{name}_variants", *(case_word(union, case) for case in union.cases)]
-        shapes += sorted({word for word in re.findall(r"\w+_shape", text)})
-        imports = [
-            *self.imports(text, ghost=False),
-            *split(f"use Rattle.{self.crate}.specs.{self.path}.", shapes, ""),
-            "use Rattle.dagcbor_read.specs.Enums.{enum_state}",
-            "use Rattle.dagcbor_schema.proofs.VariantFronts.{held_handed_on}",
-            f"use Rattle.{self.crate}.proofs.{place}.Goals as goal",
-        ]
-        head = f"-- The members of {union.name} whose values are refused, of {source}, by ./dagcbor-types."
-        return {place.replace(".", "/"): "\n".join([head, *imports, text]) + "\n"}
+                f"    refl (λ t. refl) (λ t. refl) (λ h. h) (λ lends h. {lacks}) c.requires.sound c.in_err-x-in-{word}.ensures.part",
+            )
+        uses = self.union_uses(union, rows, [], union.cases)
+        uses += ["use Rattle.dagcbor_read.specs.Enums.{enum_state}", "use Rattle.dagcbor_schema.proofs.VariantFronts.{held_handed_on}"]
+        return self.file_of(union, "Variants.read_variant", f"The members of {union.name} whose values are refused", uses, rows)
 
-    def one_member_answers(self, union, source):
+    def one_member_answers(self, union):
         """What writes a union of one member, by its name or inside its map: no arm says that the value is that one."""
         if len(union.cases) != 1:
             return {}
-        place, variant = f"{self.name}.{union.name}Serialize.serialize", f"{alias(union)}.{union.cases[0].name}"
         keyed = union.representation == "keyed"
-        call = "serialize_newtype_variant" if keyed else "write_struct"
-        rows = []
-        for clause in ("written", "well_formed") if keyed else ("written",):
-            goal = f"returns-clause-{clause}"
-            rows += ["", f"pub {goal} : goal.{goal}"]
-            rows.append(f"{goal} g c = of c.{call}.ensures.{clause} (rw (held c.args.self.now).1 (λ h. h))")
-        return {place.replace(".", "/"): "\n".join([
-            f"-- What writes the one member of {union.name}, of {source}, by ./dagcbor-types.",
-            "use Rattle.std.proofs.Common.{◌≡◌, refl}",
-            f"use Rattle.{self.crate}.specs.declared.{self.name}.{union.name}.{{{union.name}}}",
-            f"use Rattle.{self.crate}.specs.declared.{self.name}.{union.name}.TheVariants as {alias(union)}",
-            f"use Rattle.{self.crate}.proofs.{place}.Goals as goal",
+        variant = f"{alias(union)}.{union.cases[0].name}"
+        rows = [
             "",
             f"held : (v : {union.name}) → (x : _) × (v ≡ {variant} x)",
             f"held ({variant} x) = (x, refl)",
             "",
             "of : {H G : Type 0} → H → (H → G) → G",
             "of h g = g h",
-            *rows,
-        ]) + "\n"}
+        ]
+        call = "serialize_newtype_variant" if keyed else "write_struct"
+        for clause in ("written", "well_formed") if keyed else ("written",):
+            rows += answer(f"returns-clause-{clause}", f"of c.{call}.ensures.{clause} (rw (held c.args.self.now).1 (λ h. h))")
+        declared = f"use Rattle.{self.crate}.specs.declared.{self.name}.{union.name}"
+        uses = [
+            "use Rattle.std.proofs.Common.{◌≡◌, refl}",
+            f"{declared}.{{{union.name}}}",
+            f"{declared}.TheVariants as {alias(union)}",
+        ]
+        return self.file_of(union, "Serialize.serialize", f"What writes the one member of {union.name}", uses, rows)
 
     @staticmethod
     def untold_rows(union, words):
         """That no content is read behind a tag that is no member's."""
-        name, goal = snake(union.name), "returns-in_default-clause-value"
+        name = snake(union.name)
         tests = [f'(k ≡ codes "{tag}" → ⊥)' for tag in words]
+        places = " ".join(f"n{place}" for place in range(len(words)))
         steps = "".join(f'rw (other_name {{name = codes "{tag}"}} n{place}) (' for place, tag in enumerate(words))
+        others = " ".join(f"c.in_default.not-{word}" for word in words.values())
         return [
             "",
             f"untold : (k : List ℕ) → {' → '.join(tests)} → (t : Tree) → {name}_part k t ≡ None",
-            f"untold k {' '.join(f'n{place}' for place in range(len(words)))} t = {steps}refl{')' * len(words)}",
-            "",
-            "refused : {E : Type 0} (could L B : Type 0) (r : Reading) (message : Name) (e : DecodeError E) → e ≡ Msg message → (could → ⊥) → Refuses could L B Anything r e r",
-            "refused {E} could L B r message e is never = subst (λ x. Refuses {E = E} could L B Anything r x r) (sym is) (refl, never, λ b l. tt)",
-            "",
-            f"pub {goal} : goal.{goal}",
-            f"{goal} g c = λ sound. refused _ _ _ _ _ _ c.custom.ensures.1",
-            f"    (λ h. absurd (cc (subst (λ o. is_some o ≡ true) (untold c.args.tag.now {' '.join(f'c.in_default.not-{word}' for word in words.values())} h.tree) h.accepted)))",
-        ]
-
-    # -- the forms of an impl
-
-    def serialize_impl(self, one, tree, body, alloc=True):
-        words = "alloc" if alloc else "_alloc"
-        takes = self.writing_takes_memory(Named(one.name, one.place))
-        return [
-            "",
-            f"impl Serialize for {one.name} {{",
-            *ghost("tree", tree),
-            "",
-            f"    ghost takes_memory = {{ {'true' if takes else 'false'} }};",
-            "",
-            f"    fn serialize<W: Write>(&self, {words}: Global, ser: &mut Serializer<W>) -> WriteResult<(), W> {{",
-            *body,
-            "    }",
-            "}",
-        ]
-
-    @staticmethod
-    def shown_impl(one, meaning):
-        return [
-            "",
-            f"impl Shown for {one.name} {{",
-            f"    ghost View = {{ {view_name(one)} }};",
-            "",
-            *ghost("meaning", meaning),
-            "",
-            f"    ghost shape = {{ {snake(one.name)}_shape }};",
-            "}",
-        ]
-
-    @staticmethod
-    def deserialize_impl(one, body):
-        return [
-            "",
-            f"impl<'de> Deserialize<'de> for {one.name} {{",
-            "    fn deserialize<R: Read>(alloc: Global, de: &mut Deserializer<'de, R>) -> ReadResult<Self, R> {",
-            *body,
-            "    }",
-            "}",
-        ]
-
-    @staticmethod
-    def variants_impl(one, meaning, body, alloc=True):
-        tactic = ["    #[tactic(auto, using(dagcbor_read::proofs::NamedVariants::held_refused))]"] if alloc else []
-        return [
-            "",
-            f"impl<'de> Variants<'de> for {one.name} {{",
-            f"    ghost View = {{ {view_name(one)} }};",
-            "",
-            *ghost("meaning", meaning),
-            "",
-            f"    ghost shape = {{ {snake(one.name)}_variants }};",
-            "",
-            *tactic,
-            "    fn read_variant<R: Read>(",
-            f"        {'alloc' if alloc else '_alloc'}: Global,",
-            "        name: &str,",
-            "        variant: EnumAccessor,",
-            "        de: &mut Deserializer<'de, R>,",
-            f"    ) -> ReadResult<{one.name}, R> {{",
-            *body,
-            "    }",
-            "}",
-        ]
-
-    @staticmethod
-    def enveloped_impl(one, meaning, body):
-        return [
-            "",
-            f"impl<'de> Enveloped<'de> for {one.name} {{",
-            f"    ghost View = {{ {view_name(one)} }};",
-            "",
-            *ghost("meaning", meaning),
-            "",
-            f"    ghost shape = {{ {snake(one.name)}_variants }};",
-            "",
-            "    #[tactic(auto, using(dagcbor_schema::proofs::EnvelopeFronts::content_not_read))]",
-            "    fn read_content<R: Read>(",
-            "        alloc: Global,",
-            "        tag: &str,",
-            "        entries: &mut Accessor<'de>,",
-            "        de: &mut Deserializer<'de, R>,",
-            f"    ) -> ReadResult<{one.name}, R> {{",
-            *body,
-            "    }",
-            "}",
-        ]
-
-    def read_enum_impl(self, one, names):
-        names = Group("let names = &[", [f'"{name}"' for name in names], "]")
-        call = Group("read_enum(", ["alloc", f'"{one.name}"', "names", "de"], ")")
-        return self.deserialize_impl(one, lines(names, 8, ";") + lines(call, 8))
-
-    @staticmethod
-    def made_impl(one, kind, seen, meaning, made, read, of):
-        """A value that is made of parts: their type, what they show, and the bodies that read them and make the value."""
-        view, parts_meaning, shape = seen
-        return [
-            "",
-            f"impl<'de> Made<'de> for {one.name} {{",
-            *typed("type Parts = ", kind, 4, ";"),
-            "",
-            f"    ghost PartsView = {{ {view} }};",
-            "",
-            *ghost("parts_meaning", parts_meaning),
-            "",
-            f"    ghost parts_shape = {{ {shape} }};",
-            "",
-            f"    ghost View = {{ {view_name(one)} }};",
-            "",
-            *ghost("meaning", meaning),
-            "",
-            f"    ghost made = {{ {made} }};",
-            "",
-            "    fn read_parts<R: Read>(",
-            "        alloc: Global,",
-            "        de: &mut Deserializer<'de, R>,",
-            "    ) -> ReadResult<Self::Parts, R> {",
-            *read,
-            "    }",
-            "",
-            f"    fn of_parts(parts: Self::Parts) -> Option<{one.name}> {{",
-            *of,
-            "    }",
-            "}",
-        ]
-
-    @staticmethod
-    def told_impl(one, trait, head, meaning, told, body):
-        return [
-            "",
-            f"impl {trait} for {one.name} {{",
-            f"    ghost View = {{ {view_name(one)} }};",
-            "",
-            *ghost("meaning", meaning),
-            "",
-            f"    ghost told = {{ {told} }};",
-            "",
-            f"    fn {head} -> Option<{one.name}> {{",
-            *body,
-            "    }",
-            "}",
+            f"untold k {places} t = {steps}refl{')' * len(words)}",
+            *REFUSED,
+            *answer(
+                "returns-in_default-clause-value",
+                "λ sound. refused _ _ _ _ _ _ c.custom.ensures.1",
+                f"    (λ h. absurd (cc (subst (λ o. is_some o ≡ true) (untold c.args.tag.now {others} h.tree) h.accepted)))",
+            ),
         ]
 
 
-# The kinds of data, as of a kinded union: in the words of specs, and as a variant of `ByKind`.
-KINDS = {
-    "bool": ("bool", "Bool"),
-    "int": ("integer", "Integer"),
-    "string": ("text", "Text"),
-    "bytes": ("bytes", "Bytes"),
-    "list": ("list", "List"),
-    "map": ("map", "Map"),
-    "link": ("link", "Link"),
-}
+# The kinds of data, as of a kinded union, in the words of specs. With a capital they are the variants of `ByKind`.
+KINDS = {"bool": "bool", "int": "integer", "string": "text", "bytes": "bytes", "list": "list", "map": "map", "link": "link"}
 
-
-MOST_AT_ONCE = 6  # of an inline union: how many fields its members have that are not put into parts
 SEARCHED_MEMBERS = 3  # of an envelope: how many arms the search proves
 UNTOLD_USES = [
     "use Rattle.std.proofs.Common.{◌≡◌, subst, sym}",
@@ -1449,6 +1055,11 @@ UNTOLD_USES = [
     "use Rattle.serde_ipld_dagcbor.specs.DecodeError.TheVariants.{Msg}",
     "use Rattle.serde_ipld_dagcbor.specs.declared.Name.{Name}",
     "use Rattle.serde_ipld_dagcbor.specs.TypedReads.{Anything}",
+]
+REFUSED = [
+    "",
+    "refused : {E : Type 0} (could L B : Type 0) (r : Reading) (message : Name) (e : DecodeError E) → e ≡ Msg message → (could → ⊥) → Refuses could L B Anything r e r",
+    "refused {E} could L B r message e is never = subst (λ x. Refuses {E = E} could L B Anything r x r) (sym is) (refl, never, λ b l. tt)",
 ]
 SEARCHED_FIELDS = 6  # of a struct where some mean a value: how many the search proves well formed
 LONG_ROW = 5  # an inline member's: of a longer one the search does not find other tags refused
@@ -1522,13 +1133,140 @@ def case_word(union, case):
     return f"{snake(union.name)}_is_{snake(case.name)}"
 
 
-def ghost_rows(head, rows, end):
-    """A row of parts, of which some open a parenthesis that is closed at the end."""
+def local_name(word):
+    """A local name in specs: the sign keeps it from being antt's own word."""
+    return word + "'"
+
+
+def in_order_of(unit, this, other):
+    """What stands for true, and for false: this, where it is the unit's value."""
+    return (this, other) if unit.representation == "true" else (other, this)
+
+
+def key_order(key):
+    return len(key), key
+
+
+def nested(head, rows, end, indent=8):
+    """A row of parts, of which some open a parenthesis, as the head does: these are closed at the end."""
     if not rows:
         return [f"{head}{end})"]
-    last = rows[-1].removesuffix(" (")
-    opened = 1 + sum(row.endswith("(") for row in rows[:-1])
-    return [head, *(f"        {row}" for row in rows[:-1]), f"        {last} {end}{')' * opened}"]
+    *before, last = (" " * indent + row for row in rows)
+    opened = 1 + sum(row.endswith("(") for row in before)
+    return [head, *before, f"{last.removesuffix(' (')} {end}{')' * opened}"]
+
+
+def shape_rows(head, steps, end):
+    """The steps of a shape."""
+    return nested(head, steps, end, 4) if steps else [head, f"    {end})"]
+
+
+def choice(rows):
+    """A choice in specs by tests, each with what is where it holds. What is else stands behind it."""
+    return [f"    {'else ' if place else ''}if {test} then {made}" for place, (test, made) in enumerate(rows)]
+
+
+def answer(goal, first, *others):
+    """The answer of a goal, where it is one of a row."""
+    return ["", f"pub {goal} : goal.{goal}", f"{goal} g c = {first}".rstrip(), *others]
+
+
+def arm_rows(members, some, call):
+    """The answers of the arms that write some of the members, each by a call."""
+    rows = []
+    for one in some:
+        behind = "" if one is members[0] else f"-in-{one.name}"
+        rows += answer(f"returns-in-{one.name}-clause-written", f"rw c.in-{one.name}.is c.{call}{behind}.ensures.written")
+    return rows
+
+
+def residual(union, case, word):
+    """How the prover names what a member's error is made by: that of the first has no word behind it."""
+    return "" if case is union.cases[0] else f"-in_err-x-in-{word}"
+
+
+def match(value, arms):
+    return [f"        match {value} {{", *arms, "        }"]
+
+
+def text_arm(text, *rows):
+    """An arm of a `match` on a text."""
+    return [f'            "{text}" => {{', *rows, "            }"]
+
+
+def told_arms(union, value, read):
+    """A `match` on what tells the member, of which each arm makes one of what is read."""
+    arms = []
+    for case in union.cases:
+        arms += text_arm(case.data, f"                let x = {read};", *lines(made_case("Ok(", union, case), 16))
+    return match(value, [*arms, UNKNOWN])
+
+
+def made_case(head, union, case):
+    """A member of `x`, in what is called with it."""
+    return Group(head, [Group(f"{union.name}::{case.name}(", ["x"], ")")], ")", WIDTH)
+
+
+def struct_of(before, name, words, behind):
+    """A struct that is made of its fields, and what stands around it."""
+    return Group(f"{before}{name} {{", words, f"}}{behind}", INSIDE_STRUCT) if words else f"{before}{name} {{}}{behind}"
+
+
+def read_by(one, call, names, is_row=False):
+    """The lines that read a type by a call with the names of its entries or members; or a row, which is kept."""
+    names = lines(Group("let names = &[", [f'"{name}"' for name in names], "]"), 8, ";")
+    given = ["alloc", f'"{one.name}"', "names", "de"]
+    if is_row:
+        return names + lines(Group(f"let row = {call}(", given, ")?"), 8, ";")
+    return names + lines(Group(f"{call}(", given, ")"), 8)
+
+
+def construct(before, struct, behind):
+    """The lines that make a struct of variables that have its fields' names."""
+    return lines(struct_of(before, struct.name, [field_name(field.name) for field in struct.fields], behind), 8)
+
+
+def written_row(parts, indent):
+    """The lines that make the row that is written, part by part."""
+    made = [" " * indent + "let row = ();"]
+    for part in reversed(parts):
+        made += lines(Group("let row = (", [part, "row"], ")"), indent, ";")
+    return made
+
+
+def tagged_row(case, parts, indent):
+    """The lines that write a map with the text that tells the member."""
+    margin = " " * indent
+    return [f'{margin}let tag = "{case.data}";', *written_row(parts, indent), f"{margin}write_struct(alloc, row, ser)"]
+
+
+def end_of(struct):
+    """What stands behind the last field of a row: nothing, where other keys are skipped."""
+    return "()" if struct.open else "Closed"
+
+
+def row_patterns(kinds):
+    """The patterns of the fields in a row, each with place for the rest."""
+    return [f"({form(field)}({field_name(field.name)}), {{}})" for field, _ in kinds]
+
+
+def item_patterns(struct):
+    """The same of the items of a list."""
+    return [f"{'OmissibleItem' * field.optional}({field_name(field.name)}, {{}})" for field in struct.fields]
+
+
+def apart(patterns, end, row="row"):
+    """The lines that take a row apart, which has its end behind the last of these."""
+    made = []
+    for place, pattern in enumerate(patterns):
+        rest = "row" if place < len(patterns) - 1 else end
+        made.append(f"        let {pattern.format(rest)} = {'row' if place else row};")
+    return made or [f"        let {end} = {row};"]
+
+
+def seen_as(one, meaning, shape):
+    """The ghost members of a type that is shown."""
+    return ghost("View", [view_name(one)]), ghost("meaning", meaning), ghost("shape", [f"{snake(one.name)}_{shape}"])
 
 
 def matched(word, arms):
@@ -1544,13 +1282,13 @@ def cases_of(rows):
 
 
 def view_rows(view, shown):
-    one = f"{view} = {''.join(row + ' × (' for row in shown)}"
+    """What a row of values is read as: in one line where it fits."""
     if not shown:
         return [f"{view} = Unit {{0}}"]
-    whole = one[:-1] + "Unit {0}" + ")" * (len(shown) - 1)
-    if len(whole) <= 100:
-        return [whole]
-    return [f"{view} =", *(f"    {row} × (" for row in shown[:-1]), f"    {shown[-1]} × Unit {{0}}{')' * (len(shown) - 1)}"]
+    rows = [f"{row} × (" for row in shown[:-1]]
+    last = f"{shown[-1]} × Unit {{0}}{')' * len(rows)}"
+    whole = f"{view} = {''.join(rows)}{last}"
+    return [whole] if len(whole) <= WIDTH else [f"{view} =", *(f"    {row}" for row in (*rows, last))]
 
 
 def documented(text, indent):

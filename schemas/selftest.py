@@ -383,33 +383,33 @@ def refusal_by(make):
     return "none"
 
 
-def refusal(text, make=lambda schema: None, is_proved=True):
-    return refusal_by(lambda: make(Schema(parse(text), is_proved)))
+def made_in(language, text):
+    """What is made of a schema: in Rattle it is to be proved."""
+    schema = Schema(parse(text), is_proved=language == "rattle")
+    if language == "rattle":
+        return Module(schema, "trial", "trial").source()
+    return LANGUAGES[language](schema).text("trial.ipldsch")
 
 
-def is_refusal(found, wanted):
-    return wanted in found and found.startswith(wanted.split(" ")[0])
+def in_all(of_rattle, of_others):
+    """The tests of Rattle, and those of other languages, which begin with its name."""
+    return [*(("rattle", *row) for row in of_rattle), *of_others]
 
 
 def failures():
     """Of each test, what is told of it where it fails, and else None."""
-    for text, wanted in REFUSED:
-        found = refusal(text)
-        yield None if is_refusal(found, wanted) else f"{text}\n    is refused by: {found}\n    in place of: {wanted}"
-    for text, wanted in MADE:
-        made = Module(Schema(parse(text)), "trial", "trial").source("trial.ipldsch")
-        yield None if wanted in made.split("\n") else f"{text}\n    makes no line: {wanted}\n{made}"
-    for language, text, wanted in REFUSED_IN:
-        found = refusal(text, LANGUAGES[language], is_proved=False)
-        yield None if is_refusal(found, wanted) else f"{text}\n    is refused in {language} by: {found}\n    in place of: {wanted}"
-    for language, text, wanted in MADE_IN:
-        made = LANGUAGES[language](Schema(parse(text), is_proved=False)).text("trial.ipldsch")
+    for language, text, wanted in in_all(REFUSED, REFUSED_IN):
+        found = refusal_by(lambda: made_in(language, text))
+        is_wanted = wanted in found and found.startswith(wanted.split(" ")[0])
+        yield None if is_wanted else f"{text}\n    is refused in {language} by: {found}\n    in place of: {wanted}"
+    for language, text, wanted in in_all(MADE, MADE_IN):
+        made = made_in(language, text)
         if language == "python":
             compile(made, "trial.py", "exec")
         yield None if wanted in made.split("\n") else f"{text}\n    makes no line in {language}: {wanted}\n{made}"
     for text in UNPROVED:
-        found = [refusal(text), *(refusal(text, make, is_proved=False) for make in LANGUAGES.values())]
-        yield None if found[0] != "none" and set(found[1:]) == {"none"} else f"{text}\n    is refused by: {found}"
+        found, *others = [refusal_by(lambda: made_in(language, text)) for language in ("rattle", *LANGUAGES)]
+        yield None if found != "none" and set(others) == {"none"} else f"{text}\n    is refused by: {found}, {others}"
     for make in LANGUAGES.values():
         yield more_is_told(make)
     yield from left_alone()
@@ -430,13 +430,15 @@ def left_alone():
     yield None if (stand, told) == (wanted, []) else f"{stand} stand, and {told} is told, in place of {wanted}"
 
 
-def refuse_and_make():
-    found = list(failures())
-    told = [one for one in found if one]
-    for one in told:
-        print(one)
-    print(f"{len(found) - len(told)} passed, {len(told)} failed")
-    sys.exit(1 if told else 0)
+def judge(results):
+    """Prints what is told of each test, where anything is: of how many it is one, and whether these passed. Then ends."""
+    counts = {True: 0, False: 0}
+    for count, passed, told in results:
+        counts[passed] += count
+        if told:
+            print(told, flush=True)
+    print(f"{counts[True]} passed, {counts[False]} failed")
+    sys.exit(1 if counts[False] else 0)
 
 
 # ---- schemas at random
@@ -517,7 +519,6 @@ def laid_out(crate, made):
 
 
 def layout(count, first):
-    failed = 0
     with tempfile.TemporaryDirectory() as name:
         folder = pathlib.Path(name)
         (folder / "crates.txt").write_text("", encoding="utf-8")
@@ -527,11 +528,7 @@ def layout(count, first):
             crate, made = files_of([source], folder / "crates" / f"drawn_{seed}")
             write((crate, made), check=False)
             others = laid_out(crate, made)
-            if others:
-                failed += 1
-                print(f"seed {seed}: laid out by rt fmt as another: {others}", flush=True)
-    print(f"{count - failed} passed, {failed} failed")
-    sys.exit(1 if failed else 0)
+            yield 1, not others, f"seed {seed}: laid out by rt fmt as another: {others}" if others else None
 
 
 # A schema, and edits of it: what is edited, a line of it, and what stands there in its place.
@@ -571,7 +568,6 @@ EDITS = [
 
 def wrong():
     """The code is the schema's as it was, and the specs are those of the edited one."""
-    passed = failed = 0
     with tempfile.TemporaryDirectory() as name:
         folder = pathlib.Path(name)
         table = copied(folder)
@@ -589,25 +585,19 @@ def wrong():
             status, log = ran("rt", "check", "--jobs", "2", folder=crate)
             refused = sorted(set(re.findall(r"fn edited_types::(\S+): no(?:t proved| proof)", log)))
             holds = not status and not refused if what == "nothing" else bool(status and refused)
-            passed, failed = (passed + 1, failed) if holds else (passed, failed + 1)
-            print(f"{what}: {'not ' * (what != 'nothing')}proved {', '.join(refused)}".rstrip() if holds else f"{what}: WRONG\n{log[-3000:]}", flush=True)
-    print(f"{passed} passed, {failed} failed")
-    sys.exit(1 if failed else 0)
+            told = f"{'not ' * (what != 'nothing')}proved {', '.join(refused)}".rstrip() if holds else f"WRONG\n{log[-3000:]}"
+            yield 1, holds, f"{what}: {told}"
 
 
 def prove(count, first):
-    passed = failed = 0
     with tempfile.TemporaryDirectory() as name:
         folder = pathlib.Path(name)
         table = copied(folder)
         for batch in batches(range(first, first + count)):
             line, log = judged(batch, folder, table)
-            passed, failed = (passed + len(batch), failed) if log is None else (passed, failed + len(batch))
-            print(f"{'seed' if len(batch) == 1 else 'seeds'} {' '.join(map(str, batch))}: {line}", flush=True)
-            if log is not None:
-                print("\n".join(row for row in log.split("\n") if re.search(r"not proved|no proof|error", row))[:4000], flush=True)
-    print(f"{passed} passed, {failed} failed")
-    sys.exit(1 if failed else 0)
+            told = f"{'seed' if len(batch) == 1 else 'seeds'} {' '.join(map(str, batch))}: {line}"
+            rows = [row for row in (log or "").split("\n") if re.search(r"not proved|no proof|error", row)]
+            yield len(batch), log is None, told if log is None else told + "\n" + "\n".join(rows)[:4000]
 
 
 def main():
@@ -615,11 +605,12 @@ def main():
     if words[:1] == ["draw"]:
         print(drawn(int(words[1])), end="")
     elif words[:1] in (["prove"], ["layout"]):
-        {"prove": prove, "layout": layout}[words[0]](int(words[1]), int(words[2]) if len(words) > 2 else 0)
+        make = {"prove": prove, "layout": layout}[words[0]]
+        judge(make(int(words[1]), int(words[2]) if len(words) > 2 else 0))
     elif words[:1] == ["wrong"]:
-        wrong()
+        judge(wrong())
     else:
-        refuse_and_make()
+        judge((1, told is None, told) for told in failures())
 
 
 if __name__ == "__main__":

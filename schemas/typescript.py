@@ -3,15 +3,17 @@
 
 import json
 
-from schemas.law import bounds
-from schemas.language import WIDTH, Language, camel, named, named_blocks, number_of
-from schemas.parsing import WIDTHS, Alias, Enum, Int, Leaf, Link, ListOf, MapOf, Member, Named, SchemaError, Struct, Union, Unit
+from schemas.law import bounds, is_a, may_lack
+from schemas.language import WAYS, WIDTH, Language, camel, named, named_blocks, power_of_two
+from schemas.parsing import WIDTHS, Alias, Enum, Int, Member, SchemaError, Struct, Union, Unit
 
-SCALARS = {"String": "string", "Bytes": "Uint8Array", "Bool": "boolean", "Any": "Data"}
 NARROW = ("u8", "u16", "u32", "i8", "i16", "i32")  # the widths that are kept as a number, and not as a bigint
 
 # Names that every object has: as those of a field they would be there where it is left out.
 RESERVED = set("constructor hasOwnProperty isPrototypeOf propertyIsEnumerable toLocaleString toString valueOf".split())
+
+# Helpers whose names end so.
+OF_VALUES = ("entry", "fields", "items", "pair", "pairs", "pieces")
 
 PACKAGE = ("CID", "DagCborError", "decode", "encode")
 
@@ -260,12 +262,28 @@ function refused(kind: DagCborError['kind'], at: Place, why: string): DagCborErr
 class TypeScript(Language):
     called = "TypeScript"
     suffix = ".ts"
-    step = 2
+    step, end = 2, ";"
     kinds = ("bool", "int", "string", "bytes", "list", "map", "link", "null")
     taken = frozenset("Array CID Conversion DagCborError Data Entries Number Object BigInt Place Uint8Array".split())
     closed_modules = frozenset({"dagcbor"})
-    front = named_blocks(FRONT, 1)
-    back = named_blocks(BACK, 1)
+    front, back = named_blocks(FRONT), named_blocks(BACK)
+
+    scalars = {"String": "string", "Bytes": "Uint8Array", "Bool": "boolean", "Any": "Data"}
+    map_type, null, data = "{{ [key: string]: {} }}", "null", "Data"
+    function_head, function_end = "function {}(value: unknown, at: Place): {} {{", ["}"]
+    let, let_two, let_list = "const {} = ", "const [{}, {}] = ", "const {}: Data[] = "
+    number, path_of, length, added = "{}n", "[...at, {}]", "{}.length", "push"
+    struct_value, map_value = "object<{}>(value, at)", "entriesOf(value, at)"
+    has = {"entries": "has(entries, {})", "pairs": "pairs.has({})", "items": "items.length > {}"}
+    is_there, absent = "held.{} !== {}", ("undefined", "undefined")
+    choice_by, choice_end = "switch ({}) {{", ["    default:", "      {};", "  }}"]
+    refusal = "throw refused('Msg', {}, '{}')"
+    part, union, told_by, kind = "part", "held", "held.kind", "kindOf(value)"
+    member, member_pattern = ("return {{ ", ["kind: '{case}'", "value: {value}"], " }}"), "'{1}'"
+    no_member = refusal.format("at", "unknown variant")
+    map_of_data, tagged = ("return { ", " }"), ("return tagged(", ["{key}", "{tag}", "{entries}"], ")")
+    prefixed = ("return prefixed(", ["{prefix}", "{text}"], ")")
+    tag_of, has_prefix, without_prefix = "toldBy({}, value, at)", "whole.startsWith({})", "whole.slice({}.length)"
 
     # ---- names
 
@@ -278,7 +296,7 @@ class TypeScript(Language):
                 raise SchemaError(field.place, "no field is named __proto__ in TypeScript, where it is another thing")
 
     def helper(self, word):
-        return camel(word)
+        return camel(word) + ("Of" if word in OF_VALUES else "")
 
     def function(self, way, name):
         one = self.schema.by_name[name]
@@ -292,40 +310,28 @@ class TypeScript(Language):
             rows.append("import type { Data } from 'dagcbor';")
         return [*rows, f"import {{ {', '.join(name for name in PACKAGE if name in words)} }} from 'dagcbor';"]
 
-    def annotation(self, kind):
-        """The type as it is written, with the schema's names."""
-        if isinstance(kind, Int):
-            return "number" if kind.width in NARROW else "bigint"
-        if isinstance(kind, Link):
-            return "CID"
-        if isinstance(kind, Leaf):
-            return SCALARS[kind.kind]
-        if isinstance(kind, ListOf):
-            item = self.annotation(kind.item)
-            return f"({item})[]" if " " in item else f"{item}[]"
-        if isinstance(kind, MapOf):
-            return f"{{ [key: string]: {self.annotation(kind.value)} }}"
-        if isinstance(kind, Named):
-            return kind.name
-        part = self.annotation(kind.part)
-        return part if self.has_null(kind.part) else f"{part} | null"
-
     # ---- declared types
 
     def declared(self, one):
         if isinstance(one, Struct):
             return [self.declared_struct(one), self.companion(one)]
         if isinstance(one, Enum):
-            kinds = [quoted(member.name) for member in one.members]
+            kinds = [self.quoted(member.name) for member in one.members]
         elif isinstance(one, Alias):
             kinds = [self.annotation(one.of)]
         elif isinstance(one, Unit):
             kinds = [one.representation]
-        elif is_kinded(one):
+        elif is_a(one, "union_kinded"):
             kinds = [self.annotation(self.case_kind(case)) for case in one.cases]
         else:
-            kinds = [f"{{ kind: {quoted(case.name)}; value: {self.annotation(case.type)} }}" for case in one.cases]
+            kinds = [f"{{ kind: {self.quoted(case.name)}; value: {self.annotation(case.type)} }}" for case in one.cases]
         return [[*said(one.text, 0), *alternatives(f"export type {one.name} =", kinds)], self.companion(one)]
+
+    def integer_type(self, width):
+        return "number" if width in NARROW else "bigint"
+
+    def list_type(self, item):
+        return f"({item})[]" if " " in item else f"{item}[]"
 
     def declared_struct(self, struct):
         rows = []
@@ -337,7 +343,7 @@ class TypeScript(Language):
 
     def companion(self, one):
         """The object of the type's name."""
-        read, write = (self.conversion(named(one), way) for way in ("read", "write"))
+        read, write = (self.conversion(named(one), way) for way in WAYS)
         return [
             f"export const {one.name} = {{",
             *self.arrow(f"decode: (block: Uint8Array): {one.name} =>", f"{read}(decode(block), [])"),
@@ -350,263 +356,91 @@ class TypeScript(Language):
         one = f"  {head} {body},"
         return [one] if len(one) <= WIDTH else [f"  {head}", f"    {body},"]
 
-    # ---- functions
+    # ---- values
 
-    def both(self, one, read, write):
-        """The two functions, of their bodies."""
-        reads, writes = (self.function(way, one.name) for way in ("read", "write"))
-        bound = ["  bounded(at);"] if one.name in self.schema.recursive else []
-        return [
-            [f"function {reads}(value: unknown, at: Place): {one.name} {{", *read, "}"],
-            [f"function {writes}(value: unknown, at: Place): Data {{", *bound, *write, "}"],
-        ]
-
-    def recursive_alias(self, one):
-        read, write = (f"  return {self.conversion(one.of, way)}(value, at);" for way in ("read", "write"))
-        return self.both(one, [read], [write])
-
-    # -- structs
-
-    def struct_map(self, struct):
-        return self.both(struct, self.read_map(struct), self.written_map(struct))
-
-    def read_map(self, struct):
-        entries = "const entries = " if struct.fields else ""
-        keys = ["value", "at", *(quoted(field.key) for field in struct.fields)]
-        head = [f"  {entries}entriesOf(value, at);"] if struct.open else self.call(2, f"{entries}fieldsOf(", keys, ");")
-        parts, optional = [], []
-        for field in struct.fields:
-            name, key = self.field_name(field), quoted(field.key)
-            given = ["entries", key, "at", self.conversion(field.type, "read")]
-            if field.implicit is not None:
-                parts += self.call(4, f"{name}: implied(", [*given, self.meant(field)], "),")
-            elif field.optional:
-                optional += self.when(f"has(entries, {key})", self.call(2, f"held.{name} = field(", given, ");"))
-            else:
-                parts += self.call(4, f"{name}: field(", given, "),")
-        return head + constructed(struct.name, parts, optional)
-
-    def written_map(self, struct):
-        if not struct.fields:
-            return ["  entriesOf(value, at);", "  return {};"]
-        parts, optional = [], []
-        for field in struct.fields:
-            held, key = f"held.{self.field_name(field)}", quoted(field.key)
-            write, given = self.conversion(field.type, "write"), [held, f"[...at, {key}]"]
-            if field.implicit is not None:
-                item = f"{write}({', '.join(given)})"
-                optional += self.call(2, "putImplied(", ["entries", key, item, self.meant_data(field)], ");")
-            elif field.optional:
-                optional += self.when(f"{held} !== undefined", self.call(2, f"entries[{key}] = {write}(", given, ");"))
-            else:
-                parts += self.call(4, f"{property_name(field.key)}: {write}(", given, "),")
-        rows = [f"  const held = object<{struct.name}>(value, at);"]
-        return rows + constructed("{ [key: string]: Data }", parts, optional, "entries")
+    def quoted(self, text):
+        return "'" + json.dumps(text, ensure_ascii=False)[1:-1].replace('\\"', '"').replace("'", "\\'") + "'"
 
     def meant(self, field):
-        """What a field means that is left out."""
         value, kind = field.implicit.value, self.schema.implied_type(field)
         if isinstance(value, Member):
-            return quoted(value.name)
-        if isinstance(value, str):
-            return quoted(value)
+            return self.quoted(value.name)
         if isinstance(value, bool):
             return "true" if value else "false"
-        return str(value) if kind.width in NARROW else f"{value}n"
+        return str(value) if isinstance(kind, Int) and kind.width in NARROW else self.literal(value)
 
-    def meant_data(self, field):
-        """The same, in the data."""
-        value = field.implicit.value
-        if not isinstance(value, Member):
-            return self.meant(field)
-        return quoted(value.data) if isinstance(value.data, str) else f"{value.data}n"
+    # ---- statements
 
-    @staticmethod
-    def when(test, rows, indent=2):
-        """A statement under a condition."""
-        margin = " " * indent
+    def guarded(self, test, head, items, close, level=1):
+        rows = self.statement(head, items, close, level)
+        margin = " " * self.step * level
         one = f"{margin}if ({test}) {rows[0].strip()}"
         if len(rows) == 1 and len(one) <= WIDTH:
             return [one]
         return [f"{margin}if ({test}) {{", *(f"  {row}" for row in rows), f"{margin}}}"]
 
-    def struct_tuple(self, struct):
-        return self.both(struct, self.read_tuple(struct), self.written_tuple(struct))
+    # ---- functions
 
-    def read_tuple(self, struct):
-        there, absent = self.apart(struct)
-        parts, optional = [], []
-        for place, field in there:
-            parts += self.call(4, f"{self.field_name(field)}: {self.conversion(field.type, 'read')}(", item_at(place), "),")
-        for place, field in absent:
-            head = f"held.{self.field_name(field)} = {self.conversion(field.type, 'read')}("
-            optional += self.when(f"items.length > {place}", self.call(2, head, item_at(place), ");"))
-        return [f"  const items = itemsOf(value, at, {self.count(struct)});", *constructed(struct.name, parts, optional)]
+    # -- structs
 
-    def written_tuple(self, struct):
-        there, absent = self.apart(struct)
-        items = [self.written_item(place, field) for place, field in there]
-        rows = [f"  const held = object<{struct.name}>(value, at);"]
-        if not absent:
-            return rows + self.call(2, "return [", items, "];")
-        rows += self.call(2, "const items: Data[] = [", items, "];")
-        for place, field in absent:
-            put = self.call(2, "put(", ["items", str(place), "at", self.written_item(place, field)], ");")
-            rows += self.when(f"held.{self.field_name(field)} !== undefined", put)
-        return [*rows, "  return items;"]
-
-    def struct_listpairs(self, struct):
-        if any(field.optional for field in struct.fields):
-            return self.both(struct, self.read_pairs(struct), self.written_pairs(struct))
-        items = "const items = " if struct.fields else ""
-        parts, pairs = [], []
-        for place, field in enumerate(struct.fields):
-            name, key = self.field_name(field), quoted(field.key)
-            given = [*item_at(place), key, self.conversion(field.type, "read")]
-            parts += self.call(4, f"{name}: pairOf(", given, "),")
-            pairs.append(f"[{key}, {self.conversion(field.type, 'write')}(held.{name}, [...at, {place}, 1])]")
-        read = [f"  {items}itemsOf(value, at, {len(struct.fields)});", *constructed(struct.name, parts, [])]
-        held = "const held = " if struct.fields else ""
-        return self.both(struct, read, [f"  {held}object<{struct.name}>(value, at);", *self.call(2, "return [", pairs, "];")])
-
-    def struct_stringjoin(self, struct):
-        join, count = quoted(struct.join), len(struct.fields)
-        parts, pieces = [], []
-        for place, field in enumerate(struct.fields):
-            name = self.field_name(field)
-            parts += self.call(4, f"{name}: {self.conversion(field.type, 'read')}(", [f"pieces[{place}]", "at"], "),")
-            pieces.append(f"{self.conversion(field.type, 'write')}(held.{name}, at)")
-        read = [f"  const pieces = piecesOf(value, at, {join}, {count});", *constructed(struct.name, parts, [])]
-        write = [f"  const held = object<{struct.name}>(value, at);", *self.call(2, "return joined(", ["at", join, *pieces], ");")]
-        return self.both(struct, read, write)
-
-    def read_pairs(self, struct):
-        """Of a list of pairs of which some may be left out."""
-        keys = [quoted(field.key) for field in struct.fields]
-        least = sum(not field.optional for field in struct.fields)
-        parts, optional = [], []
-        for field, key in zip(struct.fields, keys):
-            name, given = self.field_name(field), ["pairs", key, "at", self.conversion(field.type, "read")]
-            if field.optional:
-                optional += self.when(f"pairs.has({key})", self.call(2, f"held.{name} = paired(", given, ");"))
+    def constructed(self, struct, parts):
+        required, optional = [], []
+        for part in parts:
+            name = self.field_name(part.field)
+            if part.field.optional:
+                optional += self.guarded(part.test, f"held.{name} = {part.function}(", part.given, ")")
             else:
-                parts += self.call(4, f"{name}: paired(", given, "),")
-        head = self.call(2, "const pairs = pairsOf(", ["value", "at", str(least), *keys], ");")
-        return head + constructed(struct.name, parts, optional)
+                required += self.call(4, f"{name}: {part.function}(", part.given, "),")
+        return made_object(struct.name, required, optional, "held")
 
-    def written_pairs(self, struct):
-        rows = [f"  const held = object<{struct.name}>(value, at);", "  const pairs: Data[] = [];"]
+    def written_map(self, struct):
+        if not struct.fields:
+            return ["  entriesOf(value, at);", "  return {};"]
+        required, others = [], []
         for field in struct.fields:
-            held = f"held.{self.field_name(field)}"
-            pair = [quoted(field.key), f"{self.conversion(field.type, 'write')}({held}, [...at, pairs.length, 1])"]
-            put = self.call(2, "pairs.push([", pair, "]);")
-            rows += self.when(f"{held} !== undefined", put) if field.optional else put
-        return [*rows, "  return pairs;"]
+            if may_lack(field):
+                others += self.put_entry(field)
+            else:
+                head = f"{self.property_name(field.key)}: {self.conversion(field.type, 'write')}("
+                required += self.call(4, head, [f"held.{self.field_name(field)}", self.path(self.quoted(field.key))], "),")
+        return [self.held(struct), *made_object("{ [key: string]: Data }", required, others, "entries")]
 
-    def written_item(self, place, field):
-        return f"{self.conversion(field.type, 'write')}(held.{self.field_name(field)}, [...at, {place}])"
+    # -- enums and units
 
-    # -- enums
+    def enum(self, enum, data):
+        pairs = [(self.literal(member.data), self.quoted(member.name)) for member in enum.members]
+        write = self.replaced("value", [(name, literal) for literal, name in pairs])
+        return self.both(enum, self.replaced(data, pairs), write)
 
-    def enum_string(self, enum):
-        return self.enum(enum, "text(value, at)", quoted)
-
-    def enum_int(self, enum):
-        return self.enum(enum, f"{number_of(enum)}(value, at)", lambda data: f"{data}n")
-
-    def enum(self, enum, data, literal):
-        read, write = [f"  switch ({data}) {{"], ["  switch (value) {"]
-        for member in enum.members:
-            read += [f"    case {literal(member.data)}:", f"      return {quoted(member.name)};"]
-            write += [f"    case {quoted(member.name)}:", f"      return {literal(member.data)};"]
-        return self.both(enum, [*read, *otherwise("at", "unknown variant")], [*write, *otherwise("at", "unknown variant")])
-
-    # -- units
-
-    def unit_null(self, unit):
-        return self.unit(unit)
-
-    def unit_true(self, unit):
-        return self.unit(unit)
-
-    def unit_false(self, unit):
-        return self.unit(unit)
+    def replaced(self, value, pairs):
+        """A choice that makes the other one of a pair."""
+        arms = [(one, [self.row(f"return {other}", 3)]) for one, other in pairs]
+        return self.choice(value, arms, self.no_member)
 
     def unit(self, unit):
         """One function, since the value stands for itself."""
-        head = f"function {self.function('read', unit.name)}(value: unknown, at: Place): {unit.name} {{"
-        return [[head, f"  return unit({unit.representation}, value, at);", "}"]]
+        return [self.converter("read", unit, unit.name, [self.row(f"return unit({unit.representation}, value, at)")])]
 
     # -- unions
 
-    def union_keyed(self, union):
-        read = ["  const [key, part] = entryOf(value, at);", "  switch (key) {"]
-        write = [f"  const held = object<{union.name}>(value, at);", "  switch (held.kind) {"]
-        for case in union.cases:
-            call = f"{self.conversion(case.type, 'read')}(part, [...at, key])"
-            read += [f"    case {quoted(case.data)}:", f"      return {{ kind: {quoted(case.name)}, value: {call} }};"]
-            call = f"{self.conversion(case.type, 'write')}(held.value, [...at, {quoted(case.data)}])"
-            write += [f"    case {quoted(case.name)}:", f"      return {{ {property_name(case.data)}: {call} }};"]
-        read += otherwise("[...at, key]", "unknown variant")
-        return self.both(union, read, [*write, *otherwise("at", "unknown variant")])
+    def property_name(self, key):
+        """A key in an object that is spelled out."""
+        if key == "__proto__":
+            return f"[{self.quoted(key)}]"
+        return key if key.isascii() and key.isidentifier() else self.quoted(key)
 
-    def union_inline(self, union):
-        """The member's map, with the entry that tells the member."""
-        key = quoted(union.discriminant)
-        read = [f"  const [tag, entries] = toldBy({key}, value, at);", "  switch (tag) {"]
-        write = [f"  const held = object<{union.name}>(value, at);", "  switch (held.kind) {"]
-        for case in union.cases:
-            tag, kind = quoted(case.data), quoted(case.name)
-            read.append(f"    case {tag}:")
-            for field in self.others(union, case):
-                given = ["entries", quoted(field.key), "at", self.conversion(field.type, "read")]
-                read += self.when(f"has(entries, {quoted(field.key)})", self.call(6, "field(", given, ");"), 6)
-            read.append(f"      return {{ kind: {kind}, value: {self.conversion(case.type, 'read')}(entries, at) }};")
-            given = [key, tag, f"{self.conversion(case.type, 'write')}(held.value, at)"]
-            write += [f"    case {kind}:", *self.call(6, "return tagged(", given, ");")]
-        read += otherwise(f"[...at, {key}]", "unknown variant")
-        return self.both(union, read, [*write, *otherwise("at", "unknown variant")])
+    def looked_at(self, field):
+        part = self.part_of("field", field, self.quoted(field.key))
+        return self.guarded(part.test, f"{part.function}(", part.given, ")", 3)
 
-    def union_envelope(self, union):
-        tag, content = quoted(union.discriminant), quoted(union.content)
-        read = [f"  const [tag, part] = enveloped(value, at, {tag}, {content});", "  switch (tag) {"]
-        write = [f"  const held = object<{union.name}>(value, at);", "  switch (held.kind) {"]
-        for case in union.cases:
-            kind = quoted(case.name)
-            call = f"{self.conversion(case.type, 'read')}(part, [...at, {content}])"
-            read += [f"    case {quoted(case.data)}:", *self.call(6, "return { ", [f"kind: {kind}", f"value: {call}"], " };")]
-            call = f"{self.conversion(case.type, 'write')}(held.value, [...at, {content}])"
-            rows = [f"{property_name(union.discriminant)}: {quoted(case.data)}", f"{property_name(union.content)}: {call}"]
-            write += [f"    case {kind}:", *self.call(6, "return { ", rows, " };")]
-        read += otherwise(f"[...at, {tag}]", "unknown variant")
-        return self.both(union, read, [*write, *otherwise("at", "unknown variant")])
-
-    def union_stringprefix(self, union):
-        read = ["  const whole = text(value, at);"]
-        write = [f"  const held = object<{union.name}>(value, at);", "  switch (held.kind) {"]
-        for case in union.cases:
-            prefix, kind = quoted(case.data), quoted(case.name)
-            call = f"{self.conversion(case.type, 'read')}(whole.slice({prefix}.length), at)"
-            read += self.when(f"whole.startsWith({prefix})", self.call(2, "return { ", [f"kind: {kind}", f"value: {call}"], " };"))
-            call = f"{self.conversion(case.type, 'write')}(held.value, at)"
-            write += [f"    case {kind}:", *self.call(6, "return prefixed(", [prefix, call], ");")]
-        read.append("  throw refused('Msg', at, 'unknown variant');")
-        return self.both(union, read, [*write, *otherwise("at", "unknown variant")])
-
-    def union_kinded(self, union):
-        """Each value stands for itself."""
-        read, write = ["  switch (kindOf(value)) {"], ["  switch (kindOf(value)) {"]
+    def kind_patterns(self, union):
         for case in union.cases:
             kind = self.case_kind(case)
-            held = self.held_kind(kind, case.data)
-            read += [f"    case {quoted(case.data)}:", f"      return {self.conversion(kind, 'read')}(value, at);"]
-            write += [f"    case {quoted(held)}:", f"      return {self.conversion(kind, 'write')}(value, at);"]
-        last = otherwise("at", "unknown kind")
-        return self.both(union, [*read, *last], [*write, *last])
+            yield kind, self.quoted(case.data), self.quoted(self.held_kind(kind, case.data))
 
     def check(self, node):
         super().check(node)
-        if isinstance(node, Union) and node.representation == "kinded":
+        if is_a(node, "union_kinded"):
             self.check_kinds(node)
 
     def check_kinds(self, union):
@@ -620,49 +454,19 @@ class TypeScript(Language):
 
     def held_kind(self, kind, data):
         """The kind of the values of a type, whose data is of a kind: a tuple's is an object, an enum's its name."""
-        kind = self.schema.resolve(kind)
-        one = self.schema.by_name[kind.name] if isinstance(kind, Named) else None
+        one = self.schema.named(self.schema.resolve(kind))
         if isinstance(one, (Struct, Union)):
             return "map"
         return "string" if isinstance(one, Enum) else data
 
 
-def spelled(number):
-    """A bound of integers that are kept as a bigint."""
-    if number < 0:
-        return f"-(2n ** {(-number).bit_length() - 1}n)"
-    return f"2n ** {number.bit_length()}n - 1n" if number else "0n"
-
-
 for width in WIDTHS:
     least, most = bounds(width)
-    call = f"narrow({least}, {most})" if width in NARROW else f"integer({spelled(least)}, {spelled(most)})"
-    TypeScript.back[width] = [f"const {width} = {call};"]
-
-
-def is_kinded(one):
-    return isinstance(one, Union) and one.representation == "kinded"
-
-
-def quoted(text):
-    return "'" + json.dumps(text, ensure_ascii=False)[1:-1].replace('\\"', '"').replace("'", "\\'") + "'"
-
-
-def item_at(place):
-    """The item at a place of a list, and its path."""
-    return [f"items[{place}]", f"[...at, {place}]"]
-
-
-def property_name(key):
-    """A key in an object that is spelled out."""
-    if key == "__proto__":
-        return f"[{quoted(key)}]"
-    return key if key.isascii() and key.isidentifier() else quoted(key)
-
-
-def otherwise(at, why):
-    """The end of a switch."""
-    return ["    default:", f"      throw refused('Msg', {at}, {quoted(why)});", "  }"]
+    if width in NARROW:
+        TypeScript.back[width] = [f"const {width} = narrow({least}, {most});"]
+    else:
+        least, most = (power_of_two(number, "2n ** {}n", "n") for number in (least, most))
+        TypeScript.back[width] = [f"const {width} = integer({least}, {most});"]
 
 
 def alternatives(head, kinds):
@@ -679,8 +483,8 @@ def said(text, indent):
     return [f"{margin}/**", *(f"{margin} * {line}".rstrip() for line in lines), f"{margin} */"]
 
 
-def constructed(kind, parts, optional, name="held"):
-    """An object of these parts, and of those that may be left out."""
+def made_object(kind, parts, optional, name):
+    """An object of these parts, and of those that may be left out, which are put into a variable of this name."""
     if not optional:
         return ["  return {", *parts, "  };"] if parts else ["  return {};"]
     start = [f"  const {name}: {kind} = {{", *parts, "  };"] if parts else [f"  const {name}: {kind} = {{}};"]

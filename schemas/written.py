@@ -1,7 +1,20 @@
 """What is written of a struct of many fields: a row of groups, each with a name, so that no function sees the types of all."""
 
-from schemas.law import MOST_FIELDS, field_name, in_parts
-from schemas.layout import WIDTH, Group, ghost, lines, typed
+from schemas.law import MOST_FIELDS, field_name, in_parts, may_lack
+from schemas.layout import Group, function, ghost, impl, lines, typed
+
+
+# What a field is in the map, before those behind it.
+BEFORE = ("field_before {} (", "optional_before {} (")
+
+
+def entry(field, value):
+    """What is written of a field of a map."""
+    return Group(f"{entry_form(field)}(", [f'"{field.key}"', f"&{value}"], ")")
+
+
+def entry_form(field):
+    return "Optional" if may_lack(field) else "Field"
 
 
 class Written:
@@ -11,42 +24,25 @@ class Written:
         self.module, self.struct, self.kinds = module, struct, kinds
         self.name = f"{struct.name}Written{number}"
 
-    def pairs(self):
-        """What each field is in the map, before those behind it."""
-        for field, kind in self.kinds:
-            value = f"v.now.{field_name(field.name)}"
-            if field.optional:
-                yield f'optional_before (codes "{field.key}") {self.module.tree_of(kind)} {value} ('
-            else:
-                yield f'field_before (codes "{field.key}") ({self.module.tree(kind, value)}) ('
-
-    def head(self):
-        """The first lines of its impl: two where they are long."""
-        head, behind = f"impl<'a> WrittenGroup<&'a {self.struct.name}>", f"for {self.name} {{"
-        return [f"{head} {behind}"] if len(f"{head} {behind}") <= WIDTH else [head, f"    {behind}"]
-
     def items(self):
         """The group, with its impl."""
-        struct, module = self.struct, self.module
-        forms = ["Optional" if field.optional else "Field" for field, _ in self.kinds]
-        types = [f"{form}<'a, {module.code(kind)}>" for form, (_, kind) in zip(forms, self.kinds)]
-        row = [Group(f"{form}(", [f'"{field.key}"', f"&whole.{field_name(field.name)}"], ")") for form, (field, _) in zip(forms, self.kinds)]
-        pairs = [f"        {pair}" for pair in self.pairs()]
+        struct, types, row, pairs = self.struct, [], [], []
+        for field, kind in self.kinds:
+            name = field_name(field.name)
+            types.append(f"{entry_form(field)}<'a, {self.module.code(kind)}>")
+            row.append(entry(field, f"whole.{name}"))
+            pairs.append(f"        {self.module.entry_tree(field, kind, f'v.now.{name}', BEFORE)}")
         return [
             "",
             f"/// The fields of `{struct.name}` that are written from `{field_name(self.kinds[0][0].name)}` on.",
             "#[derive(Clone, Copy)]",
             f"struct {self.name};",
-            "",
-            *self.head(),
-            *typed("type Row = ", halved(types, lambda pair: f"({', '.join(pair)})"), 4, ";"),
-            "",
-            *ghost("fields", ["λ v.", *pairs, f"        none_before{')' * len(pairs)}"]),
-            "",
-            f"    fn row(self, whole: &'a {struct.name}) -> Self::Row {{",
-            *lines(halves(row), 8),
-            "    }",
-            "}",
+            *impl(
+                f"<'a> WrittenGroup<&'a {struct.name}> for {self.name}",
+                typed("type Row = ", halved(types, lambda pair: f"({', '.join(pair)})"), 4, ";"),
+                ghost("fields", ["λ v.", *pairs, f"        none_before{')' * len(pairs)}"]),
+                function("row", ["self", f"whole: &'a {struct.name}"], "Self::Row", lines(halves(row), 8)),
+            ),
         ]
 
 

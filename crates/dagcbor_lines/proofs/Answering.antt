@@ -1,5 +1,5 @@
 -- What is written for the lines of the input.
-use Rattle.std.proofs.Common.{◌≡◌, ◌++◌, ◌∷◌, ◌<◌, ◌≤◌, ◌+◌, ℕ, List, [], length, length-append, length-drop, take, drop, Option, Some, None, IfSome, Result, Ok, Err, refl, sym, ap, subst, ◌∙◌, append_assoc, arith, OnOk, OnErr, IfOk, append-nil, zero-le, take-append-drop}
+use Rattle.std.proofs.Common.{◌≡◌, ◌≢◌, ◌++◌, ◌∷◌, ◌<◌, ◌≤◌, ◌+◌, ℕ, List, [], length, length-append, length-drop, take, drop, Option, Some, None, IfSome, Result, Ok, Err, refl, sym, ap, subst, ◌∙◌, append_assoc, arith, OnOk, OnErr, IfOk, IfErr, append-nil, zero-le, take-append-drop}
 use Rattle.std.proofs.Math.Seq.{take-add, take-append_seam, drop-append_seam}
 use Rattle.std.proofs.lemmas.List.{drop-drop, flat_map_more}
 use Rattle.std.proofs.lemmas.List.Concat.{flat_map-append}
@@ -11,10 +11,10 @@ use Rattle.std.specs.Str.Lines.{lines}
 use Rattle.std.proofs.KnownBytes.{Appends-nil, Appends-trans, Keeps-refl, starts_with_rest}
 use Rattle.dagcbor_cli.specs.Writing.{WritesFront}
 use Rattle.dagcbor_cli.specs.declared.fault.ToolError.{ToolError}
-use Rattle.dagcbor_cli.specs.declared.fault.ToolError.TheVariants.{OutOfMemory}
+use Rattle.dagcbor_cli.specs.declared.fault.ToolError.TheVariants.{Input, Output, OutOfMemory}
 use Rattle.dagcbor_lines.specs.Pieces.{IsOfOneLine}
 use Rattle.dagcbor_lines.specs.declared.command.Command.{Command}
-use Rattle.dagcbor_lines.specs.Answers.{MayEndBehind, most_lines, answer_to, answers, AppendsLine, BeginsWithLines, AppendsAnswers, WritesWhole, WritesBeginning, HasAnswered, BreaksOff, AnswersAll, AnswersSome}
+use Rattle.dagcbor_lines.specs.Answers.{MayEndBehind, most_lines, answer_to, answers, AppendsLine, BeginsWithLines, AppendsAnswers, WritesWhole, WritesBeginning, WritesUntil, HasAnswered, BreaksOff, AnswersAll, AnswersSome, RunsLines}
 use Rattle.dagcbor_lines.proofs.Lines.{begins_next, lines_last}
 use Rattle.dagcbor_lines.proofs.LinkLines.{kept_before, kept_front}
 
@@ -24,18 +24,11 @@ pub on_err : {E P : Type 0} (r : Result Unit E) → P → OnErr r P
 on_err (Ok v) p = tt
 on_err (Err e) p = p
 
-pub ok_then : {E P Q : Type 0} (r : Result Unit E) → OnOk r P → (P → Q) → OnOk r Q
-ok_then (Ok v) h f = f h
-ok_then (Err e) h f = tt
-
-pub err_then : {E P Q : Type 0} (r : Result Unit E) → OnErr r P → (P → Q) → OnErr r Q
-err_then (Ok v) h f = tt
-err_then (Err e) h f = f h
-
--- after fewer lines than the most a run may end in any way
-pub may_end : (count : ℕ) (e : ToolError) → count < most_lines → MayEndBehind count e
-may_end count OutOfMemory few = few
-may_end count _ few = tt
+-- whole lines were answered until the run ended so
+until_so : (command : Command) (e : ToolError) (done count : ℕ) (input : List ℕ) (old new : Option (List ℕ)) → e ≢ Output → MayEndBehind (done + count) e → WritesWhole command count input old new → WritesUntil command e done input old new
+until_so command Output done count input old new other may wrote = absurd (other refl)
+until_so command Input done count input old new other may wrote = (count, may, wrote)
+until_so command OutOfMemory done count input old new other may wrote = (count, may, wrote)
 
 -- ---- answers, one after the other
 
@@ -140,10 +133,6 @@ nothing_written a = Appends-nil a
 none_whole : (command : Command) (input : List ℕ) (old : Option (List ℕ)) → WritesWhole command 0 input old old
 none_whole command input old = record { enough = zero-le; appended = Appends-nil old }
 
-pub none_written : (command : Command) (before old : Option (List ℕ)) → IfSome before (λ input. WritesWhole command 0 input old old)
-none_written command None old = tt
-none_written command (Some input) old = none_whole command input old
-
 -- nothing was shown, and nothing written
 pub none_answered : (command : Command) (before after old : Option (List ℕ)) (partial : List ℕ) → Keeps before after
     → IfSome (prepend_known partial before) (λ input. HasAnswered command 0 input (prepend_known partial after) old old)
@@ -152,35 +141,41 @@ none_answered command (Some xs) None old partial kept = absurd kept
 none_answered command (Some xs) (Some ys) old partial kept =
     record { left = partial ++ ys; remains = refl; others = ap (λ (s : List ℕ). lines (partial ++ s)) kept; wrote = none_whole command (partial ++ xs) old }
 
--- the fill failed
-pub fill_failed : (command : Command) (before after old : Option (List ℕ)) (partial : List ℕ) → IsOfOneLine partial → Keeps before after
-    → IfSome (prepend_known partial before) (λ input. BreaksOff command input after old old)
-fill_failed command None after old partial plain kept = tt
-fill_failed command (Some xs) None old partial plain kept = absurd kept
-fill_failed command (Some xs) (Some ys) old partial plain kept =
-    record { taken = partial; left = ys; split = ap (λ (s : List ℕ). partial ++ s) (sym kept); remains = refl; of_one_line = plain; wrote = record { part = []; begins = refl; appended = Appends-nil old } }
+-- it broke off within the fill
+pub fill_stopped : (command : Command) (e : ToolError) (done : ℕ) (before after old new : Option (List ℕ)) (partial : List ℕ) → IsOfOneLine partial → Keeps before after
+    → IfSome (prepend_known partial before) (λ input. WritesUntil command e done input old new) → IfSome (prepend_known partial before) (λ input. BreaksOff command e done input after old new)
+fill_stopped command e done None after old new partial plain kept wrote = tt
+fill_stopped command e done (Some xs) None old new partial plain kept wrote = absurd kept
+fill_stopped command e done (Some xs) (Some ys) old new partial plain kept wrote =
+    record { taken = partial; left = ys; split = ap (λ (s : List ℕ). partial ++ s) (sym kept); remains = refl; of_one_line = plain; wrote = wrote }
 
--- of the answers of a fill a front was written, and nothing consumed
-pub fill_broken : (command : Command) (done : List (List ℕ)) (before after old new : Option (List ℕ)) (partial shown left out front back : List ℕ) → IsOfOneLine partial
-    → Keeps before after → IfSome before (λ xs. StartsWith xs shown) → AppendsAnswers command done (partial ++ shown) left [] out → out ≡ front ++ back → Appends old new front
-    → IfSome (prepend_known partial before) (λ input. BreaksOff command input after old new)
-fill_broken command done None after old new partial shown left out front back plain kept starts answered parts grown = tt
-fill_broken command done (Some xs) None old new partial shown left out front back plain kept starts answered parts grown = absurd kept
-fill_broken command done (Some xs) (Some ys) old new partial shown left out front back plain kept starts answered parts grown =
-    let behind = drop (length shown) xs in
-    record {
-      taken = partial;
-      left = ys;
-      split = ap (λ (s : List ℕ). partial ++ s) (sym kept);
-      remains = refl;
-      of_one_line = plain;
-      wrote = record {
-        part = front;
-        begins = begun_first command (lines (partial ++ xs)) done (lines (left ++ behind)) front back
-            (lines_shown behind shown left done xs partial answered.0 (starts_with_rest xs shown starts)) (sym answered.1 ∙ parts);
-        appended = grown;
-      };
-    }
+-- the fill failed
+pub fill_failed : (command : Command) (done : ℕ) (before after old : Option (List ℕ)) (partial : List ℕ) → IsOfOneLine partial → Keeps before after
+    → IfSome (prepend_known partial before) (λ input. BreaksOff command Input done input after old old)
+fill_failed command done before after old partial plain kept = fill_stopped command Input done before after old old partial plain kept (nothing before)
+  where
+    nothing : (before : Option (List ℕ)) → IfSome (prepend_known partial before) (λ input. WritesUntil command Input done input old old)
+    nothing None = tt
+    nothing (Some xs) = (0, tt, none_whole command (partial ++ xs) old)
+
+-- of the answers of a fill a front was written
+pub fill_begun : (command : Command) (done : List (List ℕ)) (before old new : Option (List ℕ)) (partial shown left out front back : List ℕ)
+    → IfSome before (λ xs. StartsWith xs shown) → AppendsAnswers command done (partial ++ shown) left [] out → out ≡ front ++ back → Appends old new front
+    → IfSome (prepend_known partial before) (λ input. WritesBeginning command (lines input) old new)
+fill_begun command done None old new partial shown left out front back starts answered parts grown = tt
+fill_begun command done (Some xs) old new partial shown left out front back starts answered parts grown =
+    let behind = drop (length shown) xs in (
+      front,
+      begun_first command (lines (partial ++ xs)) done (lines (left ++ behind)) front back
+          (lines_shown behind shown left done xs partial answered.0 (starts_with_rest xs shown starts)) (sym answered.1 ∙ parts),
+      grown,
+    )
+
+-- all of them were, and then it broke off
+pub fill_until : (command : Command) (e : ToolError) (lines_done count : ℕ) (before old new : Option (List ℕ)) (partial : List ℕ) → e ≢ Output → MayEndBehind (lines_done + count) e
+    → IfSome (prepend_known partial before) (λ input. WritesWhole command count input old new) → IfSome (prepend_known partial before) (λ input. WritesUntil command e lines_done input old new)
+fill_until command e lines_done count None old new partial other may wrote = tt
+fill_until command e lines_done count (Some xs) old new partial other may wrote = until_so command e lines_done count (partial ++ xs) old new other may wrote
 
 -- ---- the last line
 
@@ -198,7 +193,7 @@ answer_is command line partial old new bytes same empty is some plain h =
 -- a beginning of it was written
 pub last_begun : {E : Type 0} (command : Command) (r : Result Unit E) (asked : List (List ℕ)) (bytes : List ℕ) (old new : Option (List ℕ)) → answers command asked ≡ bytes → WritesFront old new r bytes
     → WritesBeginning command asked old new
-last_begun command r asked bytes old new is wrote = record { part = wrote.0; begins = kept_front wrote.0 wrote.1 (is ∙ wrote.2); appended = wrote.3 }
+last_begun command r asked bytes old new is wrote = (wrote.0, kept_front wrote.0 wrote.1 (is ∙ wrote.2), wrote.3)
 
 -- all of it was
 pub last_answered : {E : Type 0} (command : Command) (r : Result Unit E) (asked : List (List ℕ)) (bytes : List ℕ) (old new : Option (List ℕ)) → answers command asked ≡ bytes → WritesFront old new r bytes
@@ -225,29 +220,18 @@ answered_next n m k command (Some input) mid after old now new sum h next =
       wrote = whole_next command n m input h.left old now new h.others h.wrote o.wrote;
     })
 
-pub answered_whole : (n : ℕ) (command : Command) (before left old new : Option (List ℕ)) → IfSome before (λ input. HasAnswered command n input left old new) → IfSome before (λ input. WritesWhole command n input old new)
-answered_whole n command None left old new h = tt
-answered_whole n command (Some input) left old new h = h.wrote
-
 -- it broke off after lines that were answered
-pub answered_some : (n : ℕ) (command : Command) (before mid after old now new : Option (List ℕ)) → IfSome before (λ input. HasAnswered command n input mid old now)
-    → IfSome mid (λ input. BreaksOff command input after now new) → IfSome before (λ input. AnswersSome command input after old new)
-answered_some n command None mid after old now new h broke = tt
-answered_some n command (Some input) mid after old now new h broke =
+pub answered_some : (n : ℕ) (command : Command) (e : ToolError) (before mid after old now new : Option (List ℕ)) → IfSome before (λ input. HasAnswered command n input mid old now)
+    → IfSome mid (λ input. BreaksOff command e n input after now new) → IfSome before (λ input. AnswersSome command e input after old new)
+answered_some n command e None mid after old now new h broke = tt
+answered_some n command e (Some input) mid after old now new h broke =
     record {
       count = n;
       left = h.left;
       now = now;
       answered = subst (λ (k : Option (List ℕ)). HasAnswered command n input k old now) h.remains h;
-      broken = subst (λ (k : Option (List ℕ)). IfSome k (λ input. BreaksOff command input after now new)) h.remains broke;
+      broken = subst (λ (k : Option (List ℕ)). IfSome k (λ input. BreaksOff command e n input after now new)) h.remains broke;
     }
-
--- what was written after lines that were answered
-pub written_next : (n m : ℕ) (command : Command) (before mid old now new : Option (List ℕ)) → IfSome before (λ input. HasAnswered command n input mid old now)
-    → IfSome mid (λ input. WritesWhole command m input now new) → IfSome before (λ input. WritesWhole command (n + m) input old new)
-written_next n m command None mid old now new h next = tt
-written_next n m command (Some input) mid old now new h next =
-    whole_next command n m input h.left old now new h.others h.wrote (subst (λ (k : Option (List ℕ)). IfSome k (λ input. WritesWhole command m input now new)) h.remains next)
 
 -- ---- the end of the input
 
@@ -265,7 +249,7 @@ held_left (Some xs) partial rest e end =
     let same : partial ++ xs ≡ rest = cc in
     (ap Some end, sym same ∙ ap (λ (s : List ℕ). partial ++ s) end ∙ append-nil partial)
 
-pub all_answered : (n : ℕ) (command : Command) (before after old now new : Option (List ℕ)) (partial : List ℕ) → IfSome before (λ input. HasAnswered command n input (prepend_known partial after) old now)
+all_answered : (n : ℕ) (command : Command) (before after old now new : Option (List ℕ)) (partial : List ℕ) → IfSome before (λ input. HasAnswered command n input (prepend_known partial after) old now)
     → IfSome before (λ _. IsAtEnd after) → Appends now new (answers command (lines partial)) → IfSome before (λ input. AnswersAll command input after old new)
 all_answered n command None after old now new partial h end last = tt
 all_answered n command (Some input) after old now new partial h end last =
@@ -277,27 +261,32 @@ all_answered n command (Some input) after old now new partial h end last =
     }
 
 -- it broke off in the last line
-pub last_broken : (n : ℕ) (command : Command) (before after old now new : Option (List ℕ)) (partial : List ℕ) → IsOfOneLine partial → IfSome before (λ input. HasAnswered command n input (prepend_known partial after) old now)
-    → IfSome before (λ _. IsAtEnd after) → WritesBeginning command (lines partial) now new → IfSome before (λ input. AnswersSome command input after old new)
-last_broken n command None after old now new partial plain h end begun = tt
-last_broken n command (Some input) after old now new partial plain h end begun = answered_some n command (Some input) (prepend_known partial after) after old now new h (broken after end)
+last_broken : (n : ℕ) (command : Command) (e : ToolError) (before after old now new : Option (List ℕ)) (partial : List ℕ) → IsOfOneLine partial → IfSome before (λ input. HasAnswered command n input (prepend_known partial after) old now)
+    → IfSome before (λ _. IsAtEnd after) → WritesUntil command e n partial now new → IfSome before (λ input. AnswersSome command e input after old new)
+last_broken n command e None after old now new partial plain h end wrote = tt
+last_broken n command e (Some input) after old now new partial plain h end wrote = answered_some n command e (Some input) (prepend_known partial after) after old now new h (broken after end)
   where
-    broken : (after : Option (List ℕ)) → IsAtEnd after → IfSome (prepend_known partial after) (λ input. BreaksOff command input after now new)
+    broken : (after : Option (List ℕ)) → IsAtEnd after → IfSome (prepend_known partial after) (λ input. BreaksOff command e n input after now new)
     broken None end = tt
     broken (Some xs) end =
         let whole : partial ++ xs ≡ partial = ap (λ (s : List ℕ). partial ++ s) end ∙ append-nil partial in
-        record { taken = partial; left = xs; split = refl; remains = refl; of_one_line = plain; wrote = subst (λ (s : List ℕ). WritesBeginning command (lines s) now new) (sym whole) begun }
+        record { taken = partial; left = xs; split = refl; remains = refl; of_one_line = plain; wrote = subst (λ (s : List ℕ). WritesUntil command e n s now new) (sym whole) wrote }
 
--- no part of the last line's answer was written
-pub last_unwritten : (n : ℕ) (command : Command) (before mid old now new : Option (List ℕ)) → IfSome before (λ input. HasAnswered command n input mid old now) → Appends now new []
-    → IfSome before (λ input. WritesWhole command n input old new)
-last_unwritten n command None mid old now new h none = tt
-last_unwritten n command (Some input) mid old now new h none =
-    let wrote = answers command (take n (lines input)) in
-    record { enough = h.wrote.enough; appended = subst (Appends old new) (append-nil wrote) (Appends-trans old now new wrote [] h.wrote.appended none) }
+-- what was written for the last line where the run ended there
+last_until : (n : ℕ) (command : Command) (e : ToolError) (now new : Option (List ℕ)) (partial : List ℕ) → n < most_lines → WritesBeginning command (lines partial) now new → (e ≢ Output → Appends now new []) → WritesUntil command e n partial now new
+last_until n command Output now new partial few begun none = begun
+last_until n command Input now new partial few begun none = (0, tt, record { enough = zero-le; appended = none (λ e. cc e) })
+last_until n command OutOfMemory now new partial few begun none = (0, omega (arith, few), record { enough = zero-le; appended = none (λ e. cc e) })
+
+-- the input was at its end, and what was held is answered, or not
+pub last_ended : (n : ℕ) (command : Command) (r : Result Unit ToolError) (before after old now new : Option (List ℕ)) (partial : List ℕ) → n < most_lines → IsOfOneLine partial
+    → IfSome before (λ input. HasAnswered command n input (prepend_known partial after) old now) → IfSome before (λ _. IsAtEnd after) → OnOk r (Appends now new (answers command (lines partial)))
+    → OnErr r (WritesBeginning command (lines partial) now new) → IfErr r (λ e. e ≢ Output → Appends now new []) → RunsLines command before after old new r
+last_ended n command (Ok v) before after old now new partial few plain h end all begun none = all_answered n command before after old now new partial h end all
+last_ended n command (Err e) before after old now new partial few plain h end all begun none = last_broken n command e before after old now new partial plain h end (last_until n command e now new partial few begun none)
 
 -- the run was given up between fills
 pub answered_so_far : (n : ℕ) (command : Command) (before mid old now : Option (List ℕ)) (partial : List ℕ) → IsOfOneLine partial
-    → IfSome before (λ input. HasAnswered command n input (prepend_known partial mid) old now) → IfSome before (λ input. AnswersSome command input mid old now)
+    → IfSome before (λ input. HasAnswered command n input (prepend_known partial mid) old now) → IfSome before (λ input. AnswersSome command Input input mid old now)
 answered_so_far n command before mid old now partial plain h =
-    answered_some n command before (prepend_known partial mid) mid old now now h (fill_failed command mid mid now partial plain (Keeps-refl mid))
+    answered_some n command Input before (prepend_known partial mid) mid old now now h (fill_failed command n mid mid now partial plain (Keeps-refl mid))

@@ -1,5 +1,5 @@
 -- What the program writes for its input.
-use Rattle.std.specs.Prelude.{◌≡◌, ◌≢◌, ℕ, ◌<◌, ◌≤◌, ◌-◌, ◌^◌, List, [], ◌∷◌, ◌++◌, length, take, drop, flat_map, codes, ⊤, Option, Some, Result, Ok, Err, IfSome, OnOk, OnErr, IfErr}
+use Rattle.std.specs.Prelude.{◌≡◌, ℕ, ◌+◌, ◌<◌, ◌≤◌, ◌-◌, ◌^◌, List, [], ◌∷◌, ◌++◌, length, take, drop, flat_map, codes, ⊤, Option, Some, Result, Ok, Err, MatchResult, IfSome, OnOk, IfErr}
 use Rattle.std.specs.Io.{StartsWith}
 use Rattle.std.specs.Io.KnownBytes.{Appends}
 use Rattle.std.specs.Str.Lines.{lines}
@@ -83,6 +83,15 @@ BeginsWithLines text asked left = (more : List ℕ)
 
 -- ---- the answers of many lines
 
+-- after so many lines a run ends, with `Input`
+abbrev pub most_lines : ℕ
+most_lines = 2 ^ 64 - 1
+
+-- after how many lines a run may end so: memory is wanting only before the run ends anyway
+abbrev pub MayEndBehind : ℕ → ToolError → Type 0
+MayEndBehind count OutOfMemory = count < most_lines
+MayEndBehind count _ = ⊤
+
 -- Each definition takes first what was asked, as lines or as bytes, then what is left of that, and
 -- last what the output held before and holds now.
 module _ (command : Command) where
@@ -101,10 +110,9 @@ module _ (command : Command) where
     pub appended : Appends old new (answers (take count (lines input)))
 
   -- what a call wrote is a beginning of the answers of the lines
-  pub record WritesBeginning (asked : List (List ℕ)) (old new : Option (List ℕ)) : Type 0 where
-    pub part : List ℕ
-    pub begins : StartsWith (answers asked) part
-    pub appended : Appends old new part
+  abbrev pub WritesBeginning : List (List ℕ) → (old new : Option (List ℕ)) → Type 0
+  WritesBeginning asked old new =
+      (part : List ℕ) × StartsWith (answers asked) part × Appends old new part
 
   -- so many first lines were taken from the input so far, and each was answered
   pub record HasAnswered (count : ℕ) (input : List ℕ) (remaining old new : Option (List ℕ))
@@ -114,44 +122,39 @@ module _ (command : Command) where
     pub others : lines left ≡ drop count (lines input)
     pub wrote : WritesWhole count input old new
 
-  -- of the next line some was taken from the input, or nothing, and at most a beginning of the
-  -- answers of the next lines was written
-  pub record BreaksOff (input : List ℕ) (remaining old new : Option (List ℕ)) : Type 0 where
+  -- what is written of the answers of the input that is left when a run ends so, after so many lines:
+  -- a beginning, if it was the output that failed; else those of whole lines
+  abbrev pub WritesUntil : ToolError → ℕ → List ℕ → (old new : Option (List ℕ)) → Type 0
+  WritesUntil Output done input old new = WritesBeginning (lines input) old new
+  WritesUntil e done input old new =
+      (count : ℕ) × MayEndBehind (done + count) e × WritesWhole count input old new
+
+  -- after so many lines the run broke off for this: of the next line some was taken from the input, or
+  -- nothing
+  pub record BreaksOff (e : ToolError) (done : ℕ) (input : List ℕ) (remaining old new : Option (List ℕ))
+      : Type 0 where
     pub taken : List ℕ
     pub left : List ℕ
     pub split : input ≡ taken ++ left
     pub remains : remaining ≡ Some left
     pub of_one_line : IsOfOneLine taken
-    pub wrote : WritesBeginning (lines input) old new
+    pub wrote : WritesUntil e done input old new
 
   -- all of the input was taken, and each line was answered
   pub record AnswersAll (input : List ℕ) (remaining old new : Option (List ℕ)) : Type 0 where
     pub wrote : Appends old new (answers (lines input))
     pub at_end : remaining ≡ Some []
 
-  -- whole lines were taken from the input, and each was answered; then the run broke off, in the
-  -- next line or before it, and of the answers of the next lines at most a beginning was written
-  pub record AnswersSome (input : List ℕ) (remaining old new : Option (List ℕ)) : Type 0 where
+  -- whole lines were taken from the input, and each was answered; then the run broke off for this
+  pub record AnswersSome (e : ToolError) (input : List ℕ) (remaining old new : Option (List ℕ))
+      : Type 0 where
     pub count : ℕ
     pub left : List ℕ
     pub now : Option (List ℕ)
     pub answered : HasAnswered count input (Some left) old now
-    pub broken : BreaksOff left remaining now new
+    pub broken : BreaksOff e count left remaining now new
 
--- after so many lines a run ends, with `Input`
-abbrev pub most_lines : ℕ
-most_lines = 2 ^ 64 - 1
-
--- after how many lines a run may end so: memory is wanting only before the run ends anyway
-abbrev pub MayEndBehind : ℕ → ToolError → Type 0
-MayEndBehind count OutOfMemory = count < most_lines
-MayEndBehind count _ = ⊤
-
--- A run of a command over the input, where the reader tells its bytes: each line was answered, or
--- the run broke off; and unless it was the output that failed, whole lines were written.
-pub record RunsLines (command : Command) (before after old new : Option (List ℕ))
-    (r : Result Unit ToolError) : Type 0 where
-  pub answered : OnOk r (IfSome before (λ input. AnswersAll command input after old new))
-  pub broken : OnErr r (IfSome before (λ input. AnswersSome command input after old new))
-  pub whole : IfErr r (λ e. e ≢ Output → (count : ℕ) × MayEndBehind count e
-      × IfSome before (λ input. WritesWhole command count input old new))
+  -- a run over the input, where the reader tells its bytes: each line was answered, or it broke off
+  abbrev pub RunsLines : (before after old new : Option (List ℕ)) → Result Unit ToolError → Type 0
+  RunsLines before after old new r = IfSome before (λ input. MatchResult r
+      (λ _. AnswersAll input after old new) (λ e. AnswersSome e input after old new))

@@ -4,6 +4,7 @@ ghost use Rattle.std.specs.Prelude.{◌≡◌, ◌≢◌, ◌⊎◌, map, string
 ghost use Rattle.std.specs.Prelude.{MatchResult};
 ghost use Rattle.dagcbor_lines.specs.Answers.{AnswersAll, AnswersSome};
 ghost use Rattle.dagcbor_lines.specs.Commands.{command_name, IsCommand};
+ghost use Rattle.dagcbor_cli.specs.declared.fault.ToolError.{ToolError};
 
 use crate::run::run_lines;
 use dagcbor_cli::{ToolError, give_up};
@@ -79,7 +80,7 @@ pub fn run_command<R: BufRead, W: Write, V: Write>(
     ensures quiet { result ≡ 0 → errors.new ≡ errors.old }
     ensures broken { (c : Command) → IsCommand (map string_bytes args.now) c → result ≡ 1
         → IfSome (R.remaining input.old) (λ bytes.
-        AnswersSome c bytes (R.remaining input.new)
+        (e : ToolError) × AnswersSome c e bytes (R.remaining input.new)
         (W.contents output.old) (W.contents output.new)) }
 {
     let Some(command) = command_of(args) else {

@@ -6,7 +6,7 @@ ghost use Rattle.std.specs.Prelude.{OnOk, OnErr, length};
 ghost use Rattle.std.specs.Io.KnownBytes.{prepend_known, Appends, IsAtEnd};
 ghost use Rattle.std.specs.Str.Lines.{lines, strip_carriage_return};
 ghost use Rattle.dagcbor_lines.specs.Answers.{answer_to, answers, AppendsLine, AppendsAnswers};
-ghost use Rattle.dagcbor_lines.specs.Answers.{HasAnswered, WritesBeginning, WritesWhole};
+ghost use Rattle.dagcbor_lines.specs.Answers.{HasAnswered, WritesBeginning};
 ghost use Rattle.dagcbor_lines.specs.Answers.{BreaksOff, RunsLines, MayEndBehind, most_lines};
 
 use crate::answer::push_answer;
@@ -109,14 +109,10 @@ fn answer_fill<R: BufRead, W: Write>(
     ensures most { OnOk result (buffers.new.lines < most_lines) }
     ensures end { result ≡ Ok false
         → IfSome (R.remaining reader.old) (λ _. IsAtEnd (R.remaining reader.new)) }
-    ensures broken { OnErr result
-        (IfSome (prepend_known buffers.old.partial.items (R.remaining reader.old)) (λ input.
-        BreaksOff command input (R.remaining reader.new)
+    ensures broken { IfErr result (λ e.
+        IfSome (prepend_known buffers.old.partial.items (R.remaining reader.old)) (λ input.
+        BreaksOff command e buffers.old.lines input (R.remaining reader.new)
         (W.contents writer.old) (W.contents writer.new))) }
-    ensures whole { IfErr result (λ e. e ≢ ToolError.Output
-        → (count : ℕ) × MayEndBehind (buffers.old.lines + count) e
-        × IfSome (prepend_known buffers.old.partial.items (R.remaining reader.old)) (λ input.
-        WritesWhole command count input (W.contents writer.old) (W.contents writer.new))) }
 {
     let Ok(shown) = reader.fill_buf() else {
         return Err(ToolError::Input);

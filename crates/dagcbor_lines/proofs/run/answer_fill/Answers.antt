@@ -1,7 +1,8 @@
 use Rattle.std.proofs.Common.{◌++◌, length, refl, subst}
 use Rattle.std.proofs.lemmas.Result.{err_from_is_err_and}
+use Rattle.dagcbor_cli.specs.declared.fault.ToolError.TheVariants.{Output}
 use Rattle.dagcbor_lines.specs.Answers.{MayEndBehind}
-use Rattle.dagcbor_lines.proofs.Answering.{answers_are, consumed_shown, fill_answered, fill_broken, fill_written}
+use Rattle.dagcbor_lines.proofs.Answering.{answers_are, consumed_shown, fill_answered, fill_begun, fill_stopped, fill_until, fill_written}
 use Rattle.dagcbor_lines.proofs.run.answer_fill.Goals as goal
 
 pub returns-in_err-write_all-clause-broken : goal.returns-in_err-write_all-clause-broken
@@ -11,7 +12,7 @@ returns-in_err-write_all-clause-broken g c =
     let a = answers_are c.args.command some.0 text some.1 _ _ _ c.clear.ensures.items c.deref.ensures.value some.3 in
     let w = c.in_err-write_all.ensures.written in
     let p = err_from_is_err_and c.from_residual.result c.from_residual.ensures.1 in
-    rw p.1 (fill_broken c.args.command some.0 _ _ _ _ _ c.in-Ok.shown.now some.1 _ w.0 w.1 c.args.buffers.now.one_line c.fill_buf.follows.holds-at-none.0 c.in-Ok.ensures.front a w.2 w.3)
+    rw (p.1, p.2, c.in_err-write_all.ensures.fault) (fill_stopped c.args.command Output c.args.buffers.now.lines _ _ _ _ _ c.args.buffers.now.one_line c.fill_buf.follows.holds-at-none.0 (fill_begun c.args.command some.0 _ _ _ _ c.in-Ok.shown.now some.1 _ w.0 w.1 c.in-Ok.ensures.front a w.2 w.3))
 
 pub returns-in_err-answered : goal.returns-in_err-answered
 returns-in_err-answered g c =
@@ -20,12 +21,14 @@ returns-in_err-answered g c =
     let a = answers_are c.args.command some.0 text some.1 _ _ _ c.clear.ensures.items c.deref.ensures.value some.3 in
     let w = c.in_ok-write_all.ensures.written in
     let p = err_from_is_err_and c.from_residual-in_err-answered.result c.from_residual-in_err-answered.ensures.1 in
+    let e = c.in_err-answered.field-0.0 in
     rw (p.1, p.2) (record {
       answered = tt;
       most = tt;
       end = λ e. absurd (cc e);
-      broken = fill_broken c.args.command some.0 _ _ _ _ _ c.in-Ok.shown.now some.1 _ w.0 w.1 c.args.buffers.now.one_line c.fill_buf.follows.holds-at-none.0 c.in-Ok.ensures.front a w.2 w.3;
-      whole = λ _. (length some.0, subst (λ n. MayEndBehind n c.in_err-answered.field-0.0) some.2 c.in_err-answered.ensures.cause, fill_written c.args.command some.0 _ _ _ _ c.in-Ok.shown.now some.1 _ w.0 w.1 c.in-Ok.ensures.front a w.2 w.3 w.4);
+      broken = fill_stopped c.args.command e c.args.buffers.now.lines _ _ _ _ _ c.args.buffers.now.one_line c.fill_buf.follows.holds-at-none.0
+          (fill_until c.args.command e c.args.buffers.now.lines (length some.0) _ _ _ _ c.in_err-answered.ensures.inner (subst (λ n. MayEndBehind n e) some.2 c.in_err-answered.ensures.cause)
+          (fill_written c.args.command some.0 _ _ _ _ c.in-Ok.shown.now some.1 _ w.0 w.1 c.in-Ok.ensures.front a w.2 w.3 w.4));
     })
 
 pub returns-clause-answered : goal.returns-clause-answered

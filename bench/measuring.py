@@ -219,7 +219,7 @@ def heap_counter(folder):
     if building.c_compiler() is None:
         print("the heap is skipped, since there is no C compiler: cc, gcc or clang, or what CC names")
         return None
-    return in_c(folder, "preload.c", "-shared", "-fPIC")
+    return building.shared(f"{ROOT}/bench/preload.c", folder)
 
 
 def in_cargo(folder, dependencies, programs, *sources):

@@ -82,6 +82,10 @@ def missing_line(name):
     return f"missing {text_of(name)} {CODECS.get(codec, f'codec {codec:#x}')}"
 
 
+def lines_of(lines):
+    return "".join(f"{line}\n" for line in lines).encode()
+
+
 # ---- read
 
 

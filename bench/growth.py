@@ -71,17 +71,11 @@ OF_BYTES = {
     # Of keys of eight digits, ten bytes an entry.
     "a map": lambda size: digits(size // 10, 8),
 }
-DRAWN = (
-    ("check_slice", "records"),
-    ("links_from_slice", "records"),
-    ("from_slice::<Ipld>", "records"),
-    ("to_vec::<Ipld>", "records"),
-    ("from_slice::<Vec<u64>>", "numbers"),
-    ("from_reader::<Vec<u64>>", "numbers"),
-    ("check_slice", "a map"),
-    ("from_slice::<Ipld>", "a map"),
-    ("to_vec::<Ipld>", "a map"),
-)
+DRAWN = {
+    "records": ("check_slice", "links_from_slice", "from_slice::<Ipld>", "to_vec::<Ipld>"),
+    "numbers": ("from_slice::<Vec<u64>>", "from_reader::<Vec<u64>>"),
+    "a map": ("check_slice", "from_slice::<Ipld>", "to_vec::<Ipld>"),
+}
 
 
 def chosen_keys(folder):
@@ -129,7 +123,7 @@ def growth(section):
     program = built("dagcbor_bench")
     section.measured("processor time, ")
     section.head(curves.FIRST, *BYTES)
-    for call, kind in DRAWN:
+    for call, kind in ((call, kind) for kind, calls in DRAWN.items() for call in calls):
         section.row(f"`{call}`, {kind}", *(f"{seconds(program, call, OF_BYTES[kind](size)):.2e}" for size in BYTES.values()))
 
 

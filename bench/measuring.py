@@ -25,6 +25,7 @@ sys.path += [f"{ROOT}/faults", f"{ROOT}/conformance"]
 import bars
 import building
 import curves
+from running import put, read
 
 LANGUAGES = f"{ROOT}/bench/languages"
 PYTHON = "/usr/bin/python3" if os.path.exists("/usr/bin/python3") else sys.executable
@@ -91,7 +92,7 @@ class Section:
 
 
 def into_page(name, lines, page):
-    """Puts the lines into a page, in the place of those that stand there behind the mark of the name, and draws what is made of
+    """Puts the lines into a page, in the place of those that stand there after the mark of the name, and draws what is made of
     them."""
     path = bars.ROOT / "docs" / page
     before, mark, rest = path.read_text(encoding="utf-8").partition(f"<!-- made by bench/{name} page -->\n")
@@ -103,8 +104,8 @@ def into_page(name, lines, page):
 
 
 def measure(sections, runs=9, page="MEASURED.md"):
-    """Makes the sections of a script, or those alone of whose names a word behind the script's is given: each name has the call
-    that makes it. With `page` they are put into the page too. What tells nothing is left as it is."""
+    """Makes the sections of a script by the calls of their names, or those alone of whose names a word after the script's is
+    given. With `page` they are put into the page too. What tells nothing is left as it is."""
     words = sys.argv[1:]
     for name in [it for it in sections if set(it.split()[1:]) & set(words)] or sections:
         with tempfile.TemporaryDirectory(prefix="bench-") as folder:
@@ -117,8 +118,7 @@ def measure(sections, runs=9, page="MEASURED.md"):
 # ---- what runs take
 
 
-# Seconds by the clock, those of the processor, of these the user's alone, and at most the KB of memory and the live bytes of
-# heap.
+# Seconds by the clock, and of the processor, the user's alone, the most KB of memory, and the most live bytes of heap.
 Used = collections.namedtuple("Used", "clock processor user memory heap")
 
 
@@ -142,19 +142,11 @@ def least(runs, *calls):
     return [Used(*map(min, zip(*column))) for column in columns]
 
 
-def put(path, data):
-    """Writes the file, and answers its path."""
-    with open(path, "wb") as file:
-        file.write(data)
-    return path
-
-
 def answered(words, given, library=None):
     """What was printed for the bytes, and what the run took."""
     with tempfile.TemporaryDirectory(prefix="bench-") as folder:
         took = used(words, put(f"{folder}/given", given), f"{folder}/printed", library)
-        with open(f"{folder}/printed", "rb") as file:
-            return file.read(), took
+        return read(f"{folder}/printed"), took
 
 
 def called(program, call, times, block, right=None, library=None):

@@ -22,7 +22,7 @@ SETTLED = "document.querySelector('.car[data-done]')"
 
 
 def processes():
-    """Of each process the words behind its name in /proc: the parent is the second, the ticks of user and system the twelfth and
+    """Of each process the words after its name in /proc: the parent is the second, the ticks of user and system the twelfth and
     next."""
     found = {}
     for it in filter(str.isdigit, os.listdir("/proc")):

@@ -22,7 +22,7 @@ import tempfile
 import threading
 import time
 
-from measuring import ROOT, Used, curves, least, machine, measure, put, used
+from measuring import ROOT, Used, curves, least, machine, measure, put, read, used
 from car_bytes import cid, counted, head, header, link, spelled
 
 PROGRAM = os.environ.get("DAGSTORE") or f"{ROOT}/crates/dagstore/out/dagstore"
@@ -77,11 +77,6 @@ def length(file):
         if byte[0] < 128:
             return n
     return None
-
-
-def read(path):
-    with open(path, "rb") as file:
-        return file.read()
 
 
 # ---- Python's sqlite3

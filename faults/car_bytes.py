@@ -65,6 +65,12 @@ def file_of(roots, blocks):
     return counted(header(*roots)) + b"".join(counted(name + block) for name, block in blocks.items())
 
 
+def wrapped(file, padding=b"", after=b"", begin=None, size=None, index=0, characteristics=bytes(range(16))):
+    """The file in one of version 2."""
+    fields = (51 + len(padding) if begin is None else begin, len(file) if size is None else size, index)
+    return PRAGMA + characteristics + b"".join(it.to_bytes(8, "little") for it in fields) + padding + file + after
+
+
 def text_of(name):
     """A CID as the programs print it: base32, and of version 0 base58btc."""
     if name[:1] != b"\x12":

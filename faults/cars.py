@@ -9,7 +9,7 @@ import json
 import dagpb
 import running
 from car_bytes import (CODECS, PRAGMA, Refusal, cid, counted, counted_at, header, lines_of, link, missing_line, parts_of, section,
-                       text_of, varint)
+                       text_of, varint, wrapped)
 
 NUMBERS = b"\x83\x01\x02\x03"
 AWAY = cid(b"\x61a")  # names a block that no file here has
@@ -257,12 +257,6 @@ def files():
     yield "other hash functions", [counted(header()) + b"".join(section(b"\x05", name=name) for name in names)]
 
 
-def wrapped(file, padding=b"", behind=b"", begin=None, size=None, index=0):
-    """The file in one of version 2."""
-    fields = (51 + len(padding) if begin is None else begin, len(file) if size is None else size, index)
-    return PRAGMA + bytes(range(16)) + b"".join(it.to_bytes(8, "little") for it in fields) + padding + file + behind
-
-
 def damaged(file):
     """The file with each byte of its header of version 2 another one, in some ways; but none begins inside a block."""
     for at in range(51):
@@ -283,7 +277,7 @@ def files_of_version_2():
     inner = [b"", PRAGMA, wrapped(SMALL), SMALL + b"\x00", SMALL[:-1]]
     yield "version 2, other files in it", [wrapped(it, padding) for it in inner for padding in (b"", b"\x00" * 1300, SMALL)]
     sizes = range(len(SMALL) + 3)
-    yield "version 2, each length", [wrapped(SMALL, behind=RAW_NOTHING, size=size) for size in sizes]
+    yield "version 2, each length", [wrapped(SMALL, after=RAW_NOTHING, size=size) for size in sizes]
 
 
 def sweep_files(path, report):

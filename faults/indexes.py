@@ -5,7 +5,7 @@ The bytes of an index are made here, from the format alone (CARv2 specification,
 import random
 
 import running
-from car_bytes import PRAGMA, cid, counted, header, lines_of, link, missing_line, parts_of, text_of, varint
+from car_bytes import cid, counted, header, lines_of, link, missing_line, parts_of, text_of, varint, wrapped
 
 NO_ENTRY = b"dagcar: the index has no right entry of this block\n"
 NO_WAY_ENTRY = b"dagcar: the index has no right entry of a block on the way\n"
@@ -60,12 +60,10 @@ def by_width(entries):
     return varint(0x0400) + buckets(sorted(entries, key=lambda entry: (len(entry[1]), entry[1], entry[2])))
 
 
-def version_2(data, index, padding=b"", listed=True, place=None):
+def version_2(data, index, padding=b"", place=None):
     """The file of version 2 of these parts."""
-    begin = 51 + len(padding)
-    at = begin + len(data) if place is None else place
-    fields = little(begin, 8) + little(len(data), 8) + little(at, 8)
-    return PRAGMA + (b"\x80" if listed else b"\x00") + bytes(15) + fields + padding + data + index
+    place = 51 + len(padding) + len(data) if place is None else place
+    return wrapped(data, padding, index, index=place, characteristics=b"\x80" + bytes(15))
 
 
 SECTIONS = [(cid(leaf, codec=0x55), leaf) for leaf in LEAVES]

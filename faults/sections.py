@@ -10,8 +10,7 @@ import subprocess
 import tempfile
 
 import running
-from car_bytes import (CODECS, PRAGMA, cid, counted, header, lines_of, missing_line, parts_of, section, sections_of, text_of,
-                       varint)
+from car_bytes import CODECS, cid, counted, header, lines_of, missing_line, parts_of, section, sections_of, text_of, varint, wrapped
 from indexes import NOT_OPENED
 
 
@@ -233,8 +232,8 @@ def headers():
     file = first + section(b"a", 0x55) + section(b"\x01")
     for end in range(len(first)):
         yield words, file[:end], (1, b"", b"refused Truncated\n")
-    second = PRAGMA + bytes(16) + (60).to_bytes(8, "little") + len(file).to_bytes(8, "little") + bytes(17) + file
-    yield words, second + b"behind", (0, first + section(b"a", 0x55), b"")
+    second = wrapped(file, bytes(9), b"behind", characteristics=bytes(16))
+    yield words, second, (0, first + section(b"a", 0x55), b"")
 
 
 def sweep(path, folder, report):

@@ -20,17 +20,10 @@ class Stop(Exception):
 
 def number(data, at):
     """The number at this place, in any form of at most ten bytes, and where it ends."""
-    value = 0
-    for count in range(10):
-        if at + count == len(data):
-            raise Refused("Truncated")
-        group = data[at + count]
-        value |= (group & 127) << 7 * count
-        if value >= 2**64:
-            break
-        if group < 128:
-            return value, at + count + 1
-    raise Refused("InvalidVarint")
+    try:
+        return dagpb.number(data, at, len(data))
+    except dagpb.Refused as refused:
+        raise Refused(dagpb.VARIANTS[refused.args[0]]) from None
 
 
 def held(data, at, count):

@@ -1,6 +1,6 @@
 #!/usr/bin/env python3
-"""Puts the ratios of all tables of docs/MEASURED.md into the one of docs/SPEED.md, and those of the codec's calls into README.md, and
-draws some of them as bars (docs/speed.svg).
+"""Puts the ratios of all tables of docs/MEASURED.md into the one of docs/SPEED.md, and those of the codec's calls into README.md,
+and draws some of them as bars (docs/speed.svg).
 
     bench/bars.py          does all anew; so does each script that puts a table into the page
     bench/bars.py check    fails where the table, the sentence or the picture is another than the tables say
@@ -18,13 +18,14 @@ ROOT = pathlib.Path(__file__).resolve().parent.parent
 TABLES, PAGE, README = ROOT / "docs" / "MEASURED.md", ROOT / "docs" / "SPEED.md", ROOT / "README.md"
 PICTURE = ROOT / "docs" / "speed.svg"
 
-# A group of bars: its heading, the first cell of its table's head, the columns of ratios, with what each adds to a row's name, and
-# the rows that are drawn.
+# A group of bars: its heading, the first cell of its table's head, the columns of ratios, with what each adds to a row's name,
+# and the rows that are drawn.
 GROUPS = [
     ("Rust: serde_cbor, which is not strict", "Call", {"ours / serde_cbor": ""}, ".*"),
     ("Rust: a program over serde_cbor, 20 MB of lines", "Program, 20 MB of lines", {"ours / serde_cbor": ""}, ".*from a file"),
     ("Go: fxamacker/cbor, which is not strict", "Call", {"ours / fxamacker/cbor": ""}, ".*"),
-    ("Python: cbor2, which is not strict", "Python", {"loads / cbor2.loads": "loads: ", "dumps / cbor2.dumps": "dumps: "}, "the record|10,000"),
+    ("Python: cbor2, which is not strict", "Python",
+     {"loads / cbor2.loads": "loads: ", "dumps / cbor2.dumps": "dumps: "}, "the record|10,000"),
     ("Node: the engine's own JSON of the same data", "Node",
      {"decode / JSON.parse": "decode: ", "encode / JSON.stringify": "encode: "}, "the record|10,000"),
 ]
@@ -100,7 +101,8 @@ def told(readme, page):
     _, *row = next(row for table in tables(page) for row in ratios_of(table) if row[0] == "ours / serde_cbor")
     ratios = row[0].values()
     said = rf"\g<1>{min(ratios):.1f} to {max(ratios):.1f}\g<2>"
-    return re.sub(r"(calls take )[\d.]+ to [\d.]+( times as long as those of `serde_cbor`)", said, readme)
+    readme, count = re.subn(r"(calls take )[\d.]+ to [\d.]+( times as long as those of `serde_cbor`)", said, readme)
+    return readme if count else sys.exit("README.md has no sentence on the ratios of calls")
 
 
 def text(x, y, words, kind="", anchor="start"):
@@ -109,6 +111,15 @@ def text(x, y, words, kind="", anchor="start"):
 
 def line(x, top, end, kind):
     return f'<line x1="{x:.1f}" y1="{top}" x2="{x:.1f}" y2="{end}" class="{kind}"/>'
+
+
+def opening(height, label, title, note):
+    """The lines that begin a picture."""
+    yield f'<svg xmlns="http://www.w3.org/2000/svg" viewBox="0 0 {WIDTH} {height}" role="img" aria-labelledby="title">'
+    yield f'<title id="title">{label}</title>'
+    yield f"<style>{STYLE}</style>"
+    yield text(16, 24, title, "title")
+    yield text(16, 44, note, "note")
 
 
 def drawn(page):
@@ -122,11 +133,8 @@ def drawn(page):
         return LEFT + (math.log2(ratio) - least) / (most - least) * (RIGHT - LEFT)
 
     height = TOP + sum(STEP * len(bars) + 34 for _, bars in groups) + 6
-    yield f'<svg xmlns="http://www.w3.org/2000/svg" viewBox="0 0 {WIDTH} {height}" role="img" aria-labelledby="title">'
-    yield '<title id="title">Processor time of this library, as a multiple of that of others</title>'
-    yield f"<style>{STYLE}</style>"
-    yield text(16, 24, "Processor time, as a multiple of that of others", "title")
-    yield text(16, 44, "to the left of 1 we take less", "note")
+    title = ["Processor time of this library, as a multiple of that of others", "Processor time, as a multiple of that of others"]
+    yield from opening(height, *title, "to the left of 1 we take less")
     for power in range(least, most + 1):
         yield line(place(2.0 ** power), TOP - 6, height - 8, "one" if power == 0 else "grid")
         yield text(place(2.0 ** power), TOP - 12, str(2 ** power) if power >= 0 else f"1/{2 ** -power}", "note", "middle")
@@ -151,23 +159,21 @@ def made():
     yield README, told(README.read_text(encoding="utf-8"), measured)
 
 
-def draw():
+def write(made):
     for path, text_of in list(made()):
         path.write_text(text_of, encoding="utf-8")
 
 
-def main(words):
-    if words != ["check"]:
-        draw()
+def main(made, script):
+    """Writes each file anew; or with `check` tells of those that are others than the tables say."""
+    if sys.argv[1:] != ["check"]:
+        write(made)
         return 0
     stale = [path.name for path, text_of in made() if not path.exists() or path.read_text(encoding="utf-8") != text_of]
     if stale:
-        print(f"not what the tables of docs/MEASURED.md say: {', '.join(stale)}. Run bench/bars.py")
-    if "times as long as those of `serde_cbor`" not in README.read_text(encoding="utf-8"):
-        stale.append("README.md")
-        print("README.md has no sentence on the ratios of calls")
+        print(f"not what the tables of docs/MEASURED.md say: {', '.join(stale)}. Run {script}")
     return 1 if stale else 0
 
 
 if __name__ == "__main__":
-    sys.exit(main(sys.argv[1:]))
+    sys.exit(main(made, "bench/bars.py"))

@@ -1,21 +1,11 @@
 #!/usr/bin/env python3
-"""Speed of the texts of CIDs through the package for Python, beside Python's own base32.
+"""Speed of the texts of CIDs through the package for Python, beside Python's own base32: bench/cid_texts.py [RUNS] [page]
 
-    bench/cid_texts.py [RUNS] [page]
+RUNS is 9 where none is given. Python's `base64` knows nothing of CIDs: it writes large letters and a padding, and judges no CID.
+bench/measuring.py says the rest."""
 
-Prints a table of processor time, the least of so many runs (9 where none is given). With `page` it
-is put into docs/MEASURED.md too. Python's `base64` knows nothing of CIDs: it writes large letters and a
-padding, and judges no CID. Nothing here is a test."""
+from measuring import in_python, measure
 
-import subprocess
-import sys
-import tempfile
-
-from languages import CRATE, HERE, PYTHON, printed, python_package, table, tell, told
-from measuring import into_page, load, machine
-
-BEGIN = "<!-- made by bench/cid_texts.py page -->\n"
-END = "<!-- so far, of the texts of CIDs -->\n"
 DIGEST = bytes(range(7, 7 + 64))
 CIDS = {
     "version 1, SHA-256, 36 bytes: base32": b"\x01\x71\x12\x20" + DIGEST[:32],
@@ -24,18 +14,10 @@ CIDS = {
 }
 
 
-def main(words):
-    runs = next((int(word) for word in words if word.isdigit()), 9)
-    subprocess.run(["rt", "lib"], cwd=CRATE, stdout=subprocess.DEVNULL, check=True)
-    with tempfile.TemporaryDirectory(prefix="texts-") as folder:
-        env, given = python_package(folder), [it.hex() for it in CIDS.values()]
-        busy = load()
-        rows = printed([PYTHON, f"{HERE}/texts.py", str(runs), *given], env=env)
-    tell(f"Measured {machine()}, {busy}, nanoseconds of processor time, the least of {runs} runs.")
-    columns = ["str(cid)", "CID(text)", "b32encode", "b32decode"]
-    table("Python", columns, CIDS, rows, [(0, 2), (1, 3)])
-    if "page" in words:
-        into_page(BEGIN, told, END)
+def texts(section):
+    rows = in_python(section.folder, "texts.py", section.runs, *(it.hex() for it in CIDS.values()))
+    section.measured("nanoseconds of processor time, ")
+    section.table("Python", ["str(cid)", "CID(text)", "b32encode", "b32decode"], dict(zip(CIDS, rows)), [(0, 2), (1, 3)])
 
 
-main(sys.argv[1:])
+measure({"cid_texts.py": texts})

@@ -1,12 +1,12 @@
 #!/usr/bin/env python3
-"""Draws docs/growth.svg and docs/store.svg: the tables of growth that stand in docs/MEASURED.md, time against the size of a block, and
-of a store, both scales logarithmic.
+"""Draws docs/growth.svg and docs/store.svg: the tables of growth that stand in docs/MEASURED.md, time against the size of a
+block, and of a store, both scales logarithmic.
 
     bench/curves.py          draws them anew; so do `bench/growth.py page` and `bench/store.py page`
     bench/curves.py check    fails where a picture is another than its table says
 
-Nothing is measured here. A call whose time grows as the size does is a line at 45 degrees, which the grid's diagonals are; one whose
-time does not is level."""
+Nothing is measured here. A call whose time grows as the size does is a line at 45 degrees, which the grid's diagonals are; one
+whose time does not is level."""
 
 import math
 import re
@@ -57,11 +57,8 @@ def lines_of(title, sizes, calls):
     wide, bottom = (RIGHT - LEFT) / (sizes[-1] - sizes[0]), TOP + DECADE * (most - least)
     height = max(bottom, TOP + GAP * len(calls)) + 46
     at = lambda size, power: (LEFT + wide * (size - sizes[0]), bottom - DECADE * (power - least))
-    yield f'<svg xmlns="http://www.w3.org/2000/svg" viewBox="0 0 {bars.WIDTH} {height}" role="img" aria-labelledby="title">'
-    yield f'<title id="title">{title}</title>'
-    yield f"<style>{bars.STYLE}</style>"
-    yield bars.text(16, 24, title, "title")
-    yield bars.text(16, 44, "both scales logarithmic; a diagonal of the grid is ten times the time for ten times the bytes", "note")
+    note = "both scales logarithmic; a diagonal of the grid is ten times the time for ten times the bytes"
+    yield from bars.opening(height, title, title, note)
     for size in sizes:
         x, _ = at(size, least)
         yield bars.line(x, TOP, bottom, "grid")
@@ -98,27 +95,12 @@ def drawn(sizes, calls, at):
         yield bars.text(RIGHT + 18, last, name.replace("`", ""))
 
 
-def picture(first):
-    sizes, calls = curves(first)
-    return "\n".join(lines_of(PICTURES[first][1], sizes, calls)) + "\n" if calls else ""
-
-
-def draw():
-    for first, (path, _) in PICTURES.items():
-        path.write_text(picture(first), encoding="utf-8")
-
-
-def main(words):
-    if words != ["check"]:
-        draw()
-        return 0
-    status = 0
-    for first, (path, _) in PICTURES.items():
-        if not path.exists() or path.read_text(encoding="utf-8") != picture(first):
-            print(f"docs/{path.name} is not what the table of docs/MEASURED.md says: run bench/curves.py")
-            status = 1
-    return status
+def made():
+    """Each picture, and its text."""
+    for first, (path, title) in PICTURES.items():
+        sizes, calls = curves(first)
+        yield path, "\n".join(lines_of(title, sizes, calls)) + "\n" if calls else ""
 
 
 if __name__ == "__main__":
-    sys.exit(main(sys.argv[1:]))
+    sys.exit(bars.main(made, "bench/curves.py"))

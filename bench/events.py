@@ -1,24 +1,20 @@
 #!/usr/bin/env python3
-"""What `dagcar event` takes: for frames that are made to be dear, at three sizes; and for honest frames, beside SHA-256 of as many bytes
-by `dagcar name`, and a judge in Python that keeps nodes as dicts (conformance/events.py).
+"""What `dagcar event` takes: for frames that are made to be dear, at three sizes; and for honest frames, beside SHA-256 of as
+many bytes by `dagcar name`, and a judge in Python that keeps nodes as dicts (conformance/events.py).
 
-    bench/events.py [FRAMES]         prints both tables, of so many honest frames (100)
-    bench/events.py [FRAMES] page    puts them into docs/MEASURED.md
+    bench/events.py [FRAMES] [page]    of so many honest frames (100)
 
-The program is the one that `./dagcar` built, or DAGCAR names it. Each run is a process, of which the time of one without input is taken
-off. The least processor time of five runs counts."""
+The program is the one that `./dagcar` built, or DAGCAR names it. Each run is a process, of which the time of one without input is
+taken off. The least processor time of five runs counts. bench/measuring.py says the rest."""
 
 import os
-import resource
 import subprocess
 import sys
-import tempfile
 
-from measuring import ROOT, into_page, load, machine
+from measuring import ROOT, least, machine, measure, put, used
+from car_bytes import spelled
 
 PROGRAM = os.environ.get("DAGCAR") or f"{ROOT}/crates/dagcar/out/dagcar"
-REFERENCE = f"{ROOT}/conformance/events.py"
-BEGIN, END = "<!-- made by bench/events.py page -->\n", "<!-- so far, of events -->\n"
 # The most bytes of blocks of a dear frame.
 SIZES = (125_000, 500_000, 1_990_000)
 RUNS = 5
@@ -28,61 +24,46 @@ HASHED = 20_000_000
 
 def seconds(path, word="event"):
     """The least processor time of a run over the file."""
-    took = []
-    for _ in range(RUNS):
-        before = resource.getrusage(resource.RUSAGE_CHILDREN)
-        with open(path, "rb") as file:
-            subprocess.run([PROGRAM, word], stdin=file, stdout=subprocess.DEVNULL, stderr=subprocess.DEVNULL, check=False)
-        after = resource.getrusage(resource.RUSAGE_CHILDREN)
-        took.append(after.ru_utime + after.ru_stime - before.ru_utime - before.ru_stime)
-    return min(took)
+    return least(RUNS, lambda: used([PROGRAM, word], path, statuses=(0, 1), stderr=subprocess.DEVNULL))[0].processor
 
 
-def dear(at, base):
-    """The rows of the frames that are made to be dear."""
-    sized = []
+def reference(*words):
+    """What the judge in Python says."""
+    words = [sys.executable, f"{ROOT}/conformance/events.py", *map(str, words)]
+    return subprocess.run(words, stdout=subprocess.PIPE, text=True, check=True).stdout
+
+
+def dear(section, base):
+    """The frames that are made to be dear."""
     for size in SIZES:
-        folder = f"{at}/{size}"
-        subprocess.run([sys.executable, REFERENCE, "hostile", folder, str(size)], stdout=subprocess.DEVNULL, check=True)
-        sized.append({name: (os.path.getsize(f"{folder}/{name}"), seconds(f"{folder}/{name}") - base) for name in os.listdir(folder)})
-    yield "| A frame of | KB, ms | KB, ms | KB, ms |\n|---|---|---|---|\n"
-    for name in sorted(sized[0]):
-        cells = " | ".join(f"{length / 1000:,.0f}, {took * 1000:,.1f}" for length, took in (it[name] for it in sized))
-        yield f"| {name.replace('-', ' ')} | {cells} |\n"
+        reference("hostile", f"{section.folder}/{size}", size)
+    section.head("A frame of", *["KB, ms"] * len(SIZES))
+    for name in sorted(os.listdir(f"{section.folder}/{SIZES[0]}")):
+        paths = [f"{section.folder}/{size}/{name}" for size in SIZES]
+        costs = [(os.path.getsize(it) / 1000, (seconds(it) - base) * 1000) for it in paths]
+        section.row(name.replace("-", " "), *(f"{size:,.0f}, {took:,.1f}" for size, took in costs))
 
 
-def hashing(at, base):
-    """The seconds that SHA-256 takes for a byte: those of `dagcar name` over one byte string."""
-    with open(f"{at}/block", "wb") as file:
-        file.write(b"\x5a" + HASHED.to_bytes(4, "big") + bytes(HASHED))
-    return (seconds(f"{at}/block", "name") - base) / HASHED
-
-
-def honest(at, base, count):
-    """The rows of honest frames."""
-    path = f"{at}/stream"
-    subprocess.run([sys.executable, REFERENCE, "stream", path, str(count)], check=True)
-    said = subprocess.run([sys.executable, REFERENCE, "speed", str(count)], capture_output=True, text=True, check=True).stdout
-    theirs = float(said.split(": ")[1].split()[0])
+def honest(section, base, count):
+    """Honest frames, and SHA-256 of as many bytes: `dagcar name` over one byte string."""
+    path = f"{section.folder}/stream"
+    reference("stream", path, count)
+    theirs = float(reference("speed", count).split(": ")[1].split()[0])
     length = os.path.getsize(path)
+    string = put(f"{section.folder}/string", spelled(2, bytes(HASHED)))
+    hashed = (seconds(string, "name") - base) / HASHED * length / count * 1e6
+    section.tell(f"\n{count} frames of {length // count:,} bytes on average, over a repository of 10,000 records:")
+    section.head("", "Microseconds a frame", "Of SHA-256")
     ours = (seconds(path) - base) / count * 1e6
-    hashed = hashing(at, base) * length / count * 1e6
-    yield f"\n{count} frames of {length // count:,} bytes on average, over a repository of 10,000 records:\n\n"
-    yield "| | Microseconds a frame | Of SHA-256 |\n|---|---|---|\n"
     for name, took in (("SHA-256 of its bytes", hashed), ("`dagcar event`", ours), ("Python, by dicts", theirs)):
-        yield f"| {name} | {took:,.1f} | {took / hashed:.1f} |\n"
+        section.row(name, f"{took:,.1f}", f"{took / hashed:.1f}")
 
 
-def main(words):
-    count = next((int(word) for word in words if word.isdigit()), 100)
-    with tempfile.TemporaryDirectory() as at:
-        base = seconds(os.devnull)
-        told = [f"Measured {machine()}, {load()}. A run without input takes {base * 1000:.1f} ms, which is taken off.\n\n"]
-        told += dear(at, base)
-        told += honest(at, base, count)
-    print("".join(told))
-    if "page" in words:
-        into_page(BEGIN, told, END)
+def events(section):
+    base = seconds(os.devnull)
+    section.tell(f"Measured {machine()}, {section.load}. A run without input takes {base * 1000:.1f} ms, which is taken off.")
+    dear(section, base)
+    honest(section, base, section.runs)
 
 
-main(sys.argv[1:])
+measure({"events.py": events}, runs=100)

@@ -3,92 +3,30 @@
 
     bench/round_trip.py [COUNT]    so many trees, 10,000 where no number is given
 
-Of each tree this script writes the block (DAG-CBOR), the text that `show` must say (DAG-JSON), and another text of the same
-data: with spaces, with escapes, its keys in any order. `make` must give the block of both texts, and `show` the text of the
-block. The encoders here are written apart from the crates, and the seeds are fixed. The last line is 'N passed, N failed', and
-the status is 0 if and only if none failed. It wants the program built (`./dagcar one </dev/null`)."""
+Of each tree the block (DAG-CBOR) and the text that `show` must say (DAG-JSON) are written by conformance/, apart from the crates,
+and another text of the same data here: with spaces, with escapes, its keys in any order. `make` must give the block of both
+texts, and `show` the text of the block. The seeds are fixed. The last line is 'N passed, N failed', and the status is 0 if and
+only if none failed. It wants the program built (`./dagcar one </dev/null`)."""
 
-import base64
-import os
 import random
 import subprocess
 import sys
 from concurrent.futures import ThreadPoolExecutor
 
-ROOT = os.path.dirname(os.path.dirname(os.path.realpath(__file__)))
+from measuring import ROOT
+import cidtexts
+from dagjson import to_json, unpadded
+from judge import Link, spell
+
 PROGRAM = f"{ROOT}/crates/dagcar/out/dagcar"
-DIGITS_58 = "123456789ABCDEFGHJKLMNPQRSTUVWXYZabcdefghijkmnopqrstuvwxyz"
 SHORT = {'"': '\\"', "\\": "\\\\", "\b": "\\b", "\t": "\\t", "\n": "\\n", "\f": "\\f", "\r": "\\r"}
 
 
-class Link:
-    """A CID, by its binary form."""
-
-    def __init__(self, name):
-        self.name = name
-
-
-def head(major, number):
-    for size, low in ((0, 24), (1, 1 << 8), (2, 1 << 16), (4, 1 << 32), (8, 1 << 64)):
-        if number < low:
-            first = number if size == 0 else {1: 24, 2: 25, 4: 26, 8: 27}[size]
-            return bytes([major << 5 | first]) + (number.to_bytes(size, "big") if size else b"")
-    raise ValueError(number)
-
-
-def block(data):
-    """The spelling in DAG-CBOR."""
-    if data is None or isinstance(data, bool):
-        return {None: b"\xf6", False: b"\xf4", True: b"\xf5"}[data]
-    if isinstance(data, int):
-        return head(0, data) if data >= 0 else head(1, -1 - data)
-    if isinstance(data, str):
-        text = data.encode()
-        return head(3, len(text)) + text
-    if isinstance(data, bytes):
-        return head(2, len(data)) + data
-    if isinstance(data, Link):
-        return b"\xd8\x2a" + head(2, len(data.name) + 1) + b"\x00" + data.name
-    if isinstance(data, list):
-        return head(4, len(data)) + b"".join(map(block, data))
-    keys = sorted(data, key=lambda key: (len(key.encode()), key.encode()))
-    return head(5, len(keys)) + b"".join(block(key) + block(data[key]) for key in keys)
-
-
-def base_58(name):
-    number, text = int.from_bytes(name, "big"), ""
-    while number:
-        number, digit = divmod(number, 58)
-        text = DIGITS_58[digit] + text
-    return text
-
-
-def cid_text(name, chosen=None):
-    """As it is written; or in a base that is chosen."""
-    if name[:1] == b"\x12":
-        return base_58(name)
-    lower = base64.b32encode(name).decode().rstrip("=").lower()
-    return ("b" + lower, "B" + lower.upper(), "f" + name.hex(), "z" + base_58(name))[chosen or 0]
-
-
-def plain(text):
-    """A text as `show` writes it."""
-    return '"' + "".join(SHORT.get(it, it if it >= " " else f"\\u{ord(it):04x}") for it in text) + '"'
-
-
-def shown(data):
-    """The one text in DAG-JSON."""
-    if isinstance(data, str):
-        return plain(data)
-    if isinstance(data, bytes):
-        return '{"/":{"bytes":"' + base64.b64encode(data).decode().rstrip("=") + '"}}'
-    if isinstance(data, Link):
-        return '{"/":"' + cid_text(data.name) + '"}'
-    if isinstance(data, list):
-        return "[" + ",".join(map(shown, data)) + "]"
-    if isinstance(data, dict):
-        return "{" + ",".join(plain(key) + ":" + shown(data[key]) for key in sorted(data, key=str.encode)) + "}"
-    return {None: "null", False: "false", True: "true"}[data] if data is None or isinstance(data, bool) else str(data)
+def cid_text(rng, name):
+    """In any base; that of version 0 in its one."""
+    texts = ("b" + cidtexts.base32(name), "B" + cidtexts.base32(name).upper(), "f" + name.hex(), "z" + cidtexts.base58(name))
+    chosen = rng.choice(texts)
+    return cidtexts.written(name) if name[:1] == b"\x12" else chosen
 
 
 def spaced(rng, *parts):
@@ -110,26 +48,23 @@ def escaped(rng, text):
 
 def loose(rng, data):
     """Another text of the data."""
-    text = lambda it: escaped(rng, it)
     if isinstance(data, str):
-        return spaced(rng, text(data))
-    if isinstance(data, bytes):
-        inner = spaced(rng, "{", text("bytes"), ":", text(base64.b64encode(data).decode().rstrip("=")), "}")
-        return spaced(rng, "{", text("/"), ":", inner, "}")
+        return spaced(rng, escaped(rng, data))
     if isinstance(data, Link):
-        return spaced(rng, "{", text("/"), ":", text(cid_text(data.name, rng.randrange(4))), "}")
-    parts = []
+        return loose_map(rng, [("/", spaced(rng, escaped(rng, cid_text(rng, data))))])
+    if isinstance(data, bytes):
+        return loose_map(rng, [("/", loose_map(rng, [("bytes", spaced(rng, escaped(rng, unpadded(data))))]))])
     if isinstance(data, list):
-        for it in data:
-            parts += [",", loose(rng, it)]
-        return spaced(rng, "[", *parts[1:], "]")
+        return spaced(rng, "[", *[part for it in data for part in (",", loose(rng, it))][1:], "]")
     if isinstance(data, dict):
-        keys = list(data)
-        rng.shuffle(keys)
-        for key in keys:
-            parts += [",", text(key), ":", loose(rng, data[key])]
-        return spaced(rng, "{", *parts[1:], "}")
-    return spaced(rng, "-0" if data == 0 and data is not False and rng.random() < 0.5 else shown(data))
+        return loose_map(rng, [(key, loose(rng, data[key])) for key in rng.sample(list(data), len(data))])
+    return spaced(rng, "-0" if data == 0 and data is not False and rng.random() < 0.5 else to_json(data))
+
+
+def loose_map(rng, entries):
+    """A map of these keys, and texts of values."""
+    parts = [part for key, text in entries for part in (",", escaped(rng, key), ":", text)]
+    return spaced(rng, "{", *parts[1:], "}")
 
 
 def random_text(rng):
@@ -173,8 +108,8 @@ def goes_around(seed):
     """Whether the data of the seed does, or else what went wrong."""
     rng = random.Random(seed)
     data = random_data(rng, rng.choice((0, 1, 2, 4)))
-    spelled, text, other = block(data), (shown(data) + "\n").encode(), loose(rng, data).encode()
-    for word, given, wanted in (("make", other, spelled), ("show", spelled, text), ("make", text, spelled)):
+    block, text, other = spell(data), (to_json(data) + "\n").encode(), loose(rng, data).encode()
+    for word, given, wanted in (("make", other, block), ("show", block, text), ("make", text, block)):
         found = run(word, given)
         if found != (0, wanted, b""):
             return f"seed {seed}, {word}: {given[:200]!r} gives {found!r:.400}"

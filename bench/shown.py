@@ -1,45 +1,26 @@
 """A block as DAG-JSON: what `dagcar show` takes for 10 MB in one block, beside Python's `json.dumps` of the same data."""
 
-import base64
-import hashlib
 import json
 import random
 import sys
 import time
 
-from blocks import head
-from measuring import built, heap_counter, run
+from measuring import answered, built, heap_counter, heap_of_call
+from car_bytes import cid, head, link, spelled, text_of
 
 SIZE = 10_000_000
-MILLION = 1e6
-
-
-def link_of(number):
-    """A CID, and its text."""
-    form = b"\x01\x71\x12\x20" + hashlib.sha256(b"%d" % number).digest()
-    return form, "b" + base64.b32encode(form).decode().lower().rstrip("=")
-
-
-def text(word):
-    letters = word.encode()
-    return bytes([0x60 + len(letters)]) + letters
-
-
-def integer(number):
-    return bytes([number]) if number < 24 else bytes([24, number]) if number < 256 else head(0, number)
 
 
 def record(chance, number):
     """A record of a link, a text, a number and a list of numbers: its spelling, and what Python takes for it."""
-    form, told = link_of(number)
-    name = "".join(chance.choice("abcdefghijklmnopqrstuvwxyz \n\"é") for _ in range(9))
-    while len(name.encode()) > 23:
-        name = name[:-1]
+    name = cid(b"%d" % number)
+    text = "".join(chance.choice("abcdefghijklmnopqrstuvwxyz \n\"é") for _ in range(9))
+    while len(text.encode()) > 23:
+        text = text[:-1]
     size, tags = chance.randrange(1 << 32), [chance.randrange(1 << 10) for _ in range(3)]
-    link = b"\xd8\x2a\x58\x25\x00" + form
-    items = b"".join(map(integer, tags))
-    spelled = b"\xa4" + text("link") + link + text("name") + text(name) + text("size") + integer(size) + text("tags") + b"\x83" + items
-    return spelled, {"link": {"/": told}, "name": name, "size": size, "tags": tags}
+    values = link(name), spelled(3, text.encode()), head(0, size), head(4, 3) + b"".join(head(0, it) for it in tags)
+    block = head(5, 4) + b"".join(spelled(3, key) + value for key, value in zip((b"link", b"name", b"size", b"tags"), values))
+    return block, {"link": {"/": text_of(name)}, "name": text, "size": size, "tags": tags}
 
 
 def block():
@@ -47,45 +28,38 @@ def block():
     chance = random.Random(11)
     spellings, data, size = [], [], 0
     while size < SIZE:
-        spelled, it = record(chance, len(data))
-        spellings.append(spelled)
+        spelling, it = record(chance, len(data))
+        spellings.append(spelling)
         data.append(it)
-        size += len(spelled)
+        size += len(spelling)
     return head(4, len(data)) + b"".join(spellings), data
 
 
-def dumped(data):
-    """The text, by Python, and the processor seconds that it took."""
+def shown(program, given, data):
+    """The processor seconds of the program, and of Python, which give the same text."""
+    answer, took = answered([program, "show"], given)
     began = time.process_time()
-    line = json.dumps(data, ensure_ascii=False, separators=(",", ":"))
-    return line.encode(), time.process_time() - began
+    text = json.dumps(data, ensure_ascii=False, separators=(",", ":"))
+    theirs = time.process_time() - began
+    if answer != text.encode() + b"\n":
+        sys.exit("bench/shown.py: `dagcar show` and json.dumps differ")
+    return took.processor, theirs
 
 
-def measure(tell, runs, scratch):
-    program, (given, data) = built("dagcar", 1), block()
-    ours, theirs = [], []
-    for _ in range(runs):
-        line, seconds, _ = run([program, "show"], given)
-        wanted, theirs_seconds = dumped(data)
-        if line != wanted + b"\n":
-            sys.exit("bench/shown.py: `dagcar show` and json.dumps differ")
-        ours.append(seconds)
-        theirs.append(theirs_seconds)
-    tell(f"\n| One block of {len(given) / MILLION:.0f} MB, {len(data):,} records | s | heap at its peak, as a factor of the block |")
-    tell("|---|---|---|")
-    library = heap_counter(scratch)
-    factor = f"{run([program, 'show'], given, library)[2] / len(given):.1f}" if library else ""
-    tree = f"{tree_of(given, library) / len(given):.1f}" if library else ""
-    tell(f"| `dagcar show` | {min(ours):.3g} | {factor} |")
-    tell(f"| the tree alone, an `Ipld` | | {tree} |")
-    tell(f"| Python's `json.dumps` | {min(theirs):.3g} | |")
-
-
-def tree_of(given, library):
-    """The heap that the tree takes at most while it is read."""
-    program = built("dagcbor_bench")
-    before, most = (run([program, "from_slice::<Ipld>", times], given, library)[2] for times in ("0", "1"))
-    return most - before
+def measure(section):
+    program, (given, data) = section.dagcar(), block()
+    ours, theirs = map(min, zip(*[shown(program, given, data) for _ in range(section.runs)]))
+    library = heap_counter(section.folder)
+    factor = tree = ""
+    if library:
+        factor = f"{answered([program, 'show'], given, library)[1].heap / len(given):.1f}"
+        tree = f"{heap_of_call(built('dagcbor_bench'), 'from_slice::<Ipld>', given, library) / len(given):.1f}"
+    section.measured()
+    title = f"One block of {len(given) / 1e6:.0f} MB, {len(data):,} records"
+    section.head(title, "s", "heap at its peak, as a factor of the block")
+    section.row("`dagcar show`", f"{ours:.3g}", factor)
+    section.row("the tree alone, an `Ipld`", "", tree)
+    section.row("Python's `json.dumps`", f"{theirs:.3g}", "")
 
 
 if __name__ == "__main__":

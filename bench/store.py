@@ -6,45 +6,70 @@
     bench/store.py large MB        prints what calls on one block take over a store of so many MB, which imports of 1,000 MB make
     bench/store.py large MB made   the same over one whose rows Python's sqlite3 puts into an empty store
 
-A block has 1,000 bytes, and links to the two below it in a tree. Each call of `dagstore` is a process of its own; Python's calls run in
-a process that runs already, and open the file anew. The programs are those that `./dagstore` and `./dagcar` built, or DAGSTORE names the
-first. Nothing here is a test. BENCH_FOLDER names the folder in which the files are made. MINUTES ends the imports of `large` early."""
+A block has 1,000 bytes, and links to the two below it in a tree. Each call of `dagstore` is a process of its own; Python's calls
+run in a process that runs already, and open the file anew. The programs are those that `./dagstore` and `./dagcar` built, or
+DAGSTORE names the first. Nothing here is a test. BENCH_FOLDER names the folder in which the files are made. MINUTES ends the
+imports of `large` early."""
 
 import contextlib
 import hashlib
 import itertools
+import multiprocessing
 import os
-import shutil
-import signal
 import sqlite3
-import subprocess
 import sys
 import tempfile
 import threading
 import time
 
-import curves
-from measuring import ROOT, into_page, load, machine
+from measuring import ROOT, Used, curves, least, machine, measure, put, read, used
+from car_bytes import cid, counted, head, header, link, spelled
 
 PROGRAM = os.environ.get("DAGSTORE") or f"{ROOT}/crates/dagstore/out/dagstore"
 TABLE = "CREATE TABLE block (cid BLOB NOT NULL PRIMARY KEY, bytes BLOB NOT NULL) STRICT"
-BEGIN, END = "<!-- made by bench/store.py page -->\n", "<!-- so far, of stores -->\n"
 SIZES = (1, 10, 100, 1000)
 # The least of so many runs of a call on one block.
 RUNS = 9
-LINK = b"\xd8\x2a\x58\x25\x00"
-FORM = b"\x01\x71\x12\x20"
 
 
-def varint(n):
-    out = b""
-    while n >= 128:
-        out += bytes([128 + n % 128])
-        n //= 128
-    return out + bytes([n])
+# ---- blocks
+
+
+def blocks(count):
+    """So many blocks of 1,000 bytes, the last first: lists of links to blocks 2n + 1 and 2n + 2, where these are, and of
+    bytes."""
+    names = [b""] * count
+    for n in range(count - 1, -1, -1):
+        links = [link(names[m]) for m in (2 * n + 1, 2 * n + 2) if m < count]
+        front = head(4, 1 + len(links)) + b"".join(links)
+        block = front + spelled(2, n.to_bytes(8, "big") + bytes(1000 - len(front) - 3 - 8))
+        names[n] = cid(block)
+        yield n, names[n], block
+
+
+def apart(call, *given):
+    """Calls it in a process of its own, so that this one stays small: the greatest memory of a child is never less than what this
+    one has as it starts it."""
+    process = multiprocessing.Process(target=call, args=given)
+    process.start()
+    process.join()
+    assert process.exitcode == 0, process.exitcode
+
+
+def write_blocks(path, count):
+    """A file of these blocks, whose root is the first, and beside it the name of the second."""
+    with open(path, "wb") as file:
+        file.write(bytes(len(counted(header(cid(b""))))))
+        for n, name, block in blocks(count):
+            file.write(counted(name + block))
+            if n == 1:
+                put(f"{path}.name", name)
+        file.seek(0)
+        file.write(counted(header(name)))
 
 
 def length(file):
+    """The length that stands there in the file, or none at its end."""
     n = shift = 0
     while byte := file.read(1):
         n |= (byte[0] & 127) << shift
@@ -54,274 +79,204 @@ def length(file):
     return None
 
 
-def blocks(count):
-    """So many blocks of 1,000 bytes, the last first: lists of links to blocks 2n + 1 and 2n + 2, where these are, and of bytes."""
-    names = [b""] * count
-    for n in range(count - 1, -1, -1):
-        links = b"".join(LINK + names[m] for m in (2 * n + 1, 2 * n + 2) if m < count)
-        head = bytes([0x81 + len(links) // 41]) + links
-        rest = 1000 - len(head) - 3
-        block = head + b"\x59" + rest.to_bytes(2, "big") + n.to_bytes(8, "big") + bytes(rest - 8)
-        names[n] = FORM + hashlib.sha256(block).digest()
-        yield n, names[n], block
-
-
-def make(path, count):
-    """A file of these blocks, whose root is the first; the name of the second. A process of its own makes it, so that this one stays
-    small: the greatest memory of a child is never less than what this one has as it starts it."""
-    process = os.fork()
-    if process == 0:
-        write_blocks(path, count)
-        os._exit(0)
-    _, status = os.waitpid(process, 0)
-    assert status == 0, status
-    with open(f"{path}.name", "rb") as file:
-        return file.read()
-
-
-def write_blocks(path, count):
-    header = b"\xa2\x65roots\x81" + LINK
-    with open(path, "wb") as file:
-        file.write(bytes(1 + len(header) + 36 + 9))
-        for n, name, block in blocks(count):
-            file.write(varint(len(name) + len(block)) + name + block)
-            if n == 1:
-                with open(f"{path}.name", "wb") as other:
-                    other.write(name)
-        file.seek(0)
-        header += name + b"\x67version\x01"
-        file.write(varint(len(header)) + header)
-
-
 # ---- Python's sqlite3
 
 
+@contextlib.contextmanager
 def opened(path):
     base = sqlite3.connect(path, isolation_level=None)
     base.execute("PRAGMA journal_mode = WAL")
     base.execute("PRAGMA synchronous = FULL")
-    return base
+    yield base
+    base.close()
 
 
-def sections(path):
-    with open(path, "rb") as file:
-        file.read(length(file))
-        while (n := length(file)) is not None:
-            section = file.read(n)
-            yield section[:36], section[36:]
+def tested(name, block):
+    assert hashlib.sha256(block).digest() == name[4:]
+    return block
 
 
 def peer_import(path, cars):
     """Each block's digest is tested, and all are one transaction."""
-    base = opened(path)
-    base.execute(TABLE)
-    base.execute("BEGIN")
-    for name, block in sections(cars):
-        assert hashlib.sha256(block).digest() == name[4:]
-        base.execute("INSERT OR IGNORE INTO block VALUES (?, ?)", (name, block))
-    base.execute("COMMIT")
-    base.close()
+    with opened(path) as base, open(cars, "rb") as file:
+        base.execute(TABLE)
+        base.execute("BEGIN")
+        file.read(length(file))
+        while (n := length(file)) is not None:
+            section = file.read(n)
+            base.execute("INSERT OR IGNORE INTO block VALUES (?, ?)", (section[:36], tested(section[:36], section[36:])))
+        base.execute("COMMIT")
 
 
-def peer_export(path, out):
+def peer_export(path):
     """Each block's digest is tested, in the order of names."""
-    base = opened(path)
-    with open(out, "wb") as file:
+    with opened(path) as base, open(os.devnull, "wb") as file:
         for name, block in base.execute("SELECT cid, bytes FROM block ORDER BY cid"):
-            assert hashlib.sha256(block).digest() == name[4:]
-            file.write(varint(len(name) + len(block)) + name + block)
-    base.close()
+            file.write(counted(name + tested(name, block)))
 
 
 def peer_get(path, name):
-    base = opened(path)
-    found = base.execute("SELECT bytes FROM block WHERE cid = ?", (name,)).fetchall()
-    assert hashlib.sha256(found[0][0]).digest() == name[4:]
-    base.close()
-    return found[0][0]
+    with opened(path) as base:
+        return tested(name, *base.execute("SELECT bytes FROM block WHERE cid = ?", (name,)).fetchone())
 
 
 def peer_put(path):
-    base = opened(path)
-    block = os.urandom(1000)
-    base.execute("INSERT INTO block VALUES (?, ?)", (b"\x01\x55\x12\x20" + hashlib.sha256(block).digest(), block))
-    base.close()
+    with opened(path) as base:
+        block = os.urandom(1000)
+        base.execute("INSERT INTO block VALUES (?, ?)", (cid(block, 0x55), block))
 
 
 def peer_gc(path, root):
     """Keeps what links lead to from the root; each block that is read is tested."""
-    base = opened(path)
-    kept, wanted = set(), [root]
-    while wanted:
-        name = wanted.pop()
-        if name in kept:
-            continue
-        kept.add(name)
-        block = base.execute("SELECT bytes FROM block WHERE cid = ?", (name,)).fetchone()[0]
-        assert hashlib.sha256(block).digest() == name[4:]
-        wanted += [block[1 + 41 * i + 5 : 1 + 41 * (i + 1)] for i in range(block[0] - 0x81)]
-    base.execute("BEGIN")
-    gone = [(name,) for name, in base.execute("SELECT cid FROM block") if name not in kept]
-    base.executemany("DELETE FROM block WHERE cid = ?", gone)
-    base.execute("COMMIT")
-    base.close()
-
-
-PEERS = {"import": peer_import, "export": peer_export, "get": peer_get, "put": peer_put, "gc": peer_gc}
+    with opened(path) as base:
+        kept, wanted = set(), [root]
+        while wanted:
+            name = wanted.pop()
+            if name in kept:
+                continue
+            kept.add(name)
+            block = tested(name, *base.execute("SELECT bytes FROM block WHERE cid = ?", (name,)).fetchone())
+            wanted += [block[1 + 41 * i + 5 : 1 + 41 * (i + 1)] for i in range(block[0] - 0x81)]
+        base.execute("BEGIN")
+        gone = [(name,) for name, in base.execute("SELECT cid FROM block") if name not in kept]
+        base.executemany("DELETE FROM block WHERE cid = ?", gone)
+        base.execute("COMMIT")
 
 
 # ---- what a call takes
 
 
-class Took:
-    """What one run took: seconds by the clock and of the processor, and the greatest memory and log, in MB."""
-
-    def __init__(self, clock, processor, memory, log):
-        self.clock, self.processor, self.memory, self.log = clock, processor, memory, log
-
-
-def watched(base, run):
-    """What the run gives, and the greatest size of the log beside the file in MB."""
-    top, done = [0], threading.Event()
+@contextlib.contextmanager
+def watched(base):
+    """Looks meanwhile at the log beside the file; what is handed out has the most MB of it."""
+    most, done = [0], threading.Event()
 
     def look():
         while not done.wait(0.02):
-            try:
-                top[0] = max(top[0], os.path.getsize(base + "-wal"))
-            except OSError:
-                pass
+            with contextlib.suppress(OSError):
+                most[0] = max(most[0], os.path.getsize(f"{base}-wal") / 1e6)
 
     watch = threading.Thread(target=look)
     watch.start()
     try:
-        return run(), top
+        yield most
     finally:
         done.set()
         watch.join()
 
 
-def child(process, base):
-    before = time.monotonic()
-    (_, status, used), top = watched(base, lambda: os.wait4(process, 0))
-    assert status == 0, status
-    return Took(time.monotonic() - before, used.ru_utime + used.ru_stime, used.ru_maxrss / 1024, top[0] / 1e6)
-
-
-def ours(base, *words, given=None):
+def ours(base, *words, given=os.devnull):
     """A run of the program over the file."""
-    with open(given or os.devnull, "rb") as file, open(os.devnull, "wb") as out:
-        process = subprocess.Popen([PROGRAM, base, *words], stdin=file, stdout=out)
-    took = child(process.pid, base)
-    process.returncode = 0
-    return took
+    return used([PROGRAM, base, *words], given)
 
 
-def theirs(base, call, *words):
-    """A run of the peer over its file, in a process that is forked from this one."""
-    process = os.fork()
-    if process == 0:
-        before, clock = time.process_time(), time.monotonic()
-        PEERS[call](base, *words)
-        print(time.process_time() - before, time.monotonic() - clock, file=open(f"{base}.took", "w", encoding="ascii"))
-        os._exit(0)
-    took = child(process, base)
-    with open(f"{base}.took", encoding="ascii") as file:
-        took.processor, took.clock = (float(it) for it in file.read().split())
-    return took
+def theirs(call, *given):
+    """A run of the peer, in a process that is forked from this one."""
+    took = multiprocessing.Array("d", 2)
+
+    def run():
+        clock, before = time.monotonic(), time.process_time()
+        call(*given)
+        took[:] = time.monotonic() - clock, time.process_time() - before
+
+    apart(run)
+    return Used(*took, 0, 0, 0)
 
 
-def least(run, count=RUNS):
-    runs = [run() for _ in range(count)]
-    return Took(*(min(getattr(it, what) for it in runs) for what in ("clock", "processor", "memory", "log")))
-
-
-def traced(base, *words, given=None):
+def traced(base, *words, given=os.devnull):
     """How many KB of its database and log a call reads, and how often it syncs, by what it asks of the system."""
-    with tempfile.NamedTemporaryFile("r") as out, open(given or os.devnull, "rb") as file:
-        run = ["strace", "-f", "-y", "-e", "trace=read,pread64,preadv,fsync,fdatasync", "-o", out.name]
-        subprocess.run([*run, PROGRAM, base, *words], stdin=file, stdout=subprocess.DEVNULL, check=True)
-        read = syncs = 0
-        for line in out.read().splitlines():
-            if "sync(" in line:
-                syncs += 1
-            elif ".db" in line.split(",")[0] and ") = " in line:
-                read += max(0, int(line.rsplit(") = ", 1)[1].split()[0]))
-    return read / 1000, syncs
+    with tempfile.NamedTemporaryFile("r") as out:
+        tracing = ["strace", "-f", "-y", "-e", "trace=read,pread64,preadv,fsync,fdatasync", "-o", out.name]
+        used([*tracing, PROGRAM, base, *words], given)
+        lines = out.read().splitlines()
+    reads = [line for line in lines if "sync(" not in line and ".db" in line.split(",")[0] and ") = " in line]
+    return sum(max(0, int(line.rsplit(") = ", 1)[1].split()[0])) for line in reads) / 1000, sum("sync(" in line for line in lines)
 
 
 def one_block(at):
     """A file with a block that no store has."""
-    with open(f"{at}/block", "wb") as file:
-        file.write(b"\x59\x03\xe5" + os.urandom(997))
-    return f"{at}/block"
+    return put(f"{at}/block", spelled(2, os.urandom(997)))
+
+
+def timed(base, calls):
+    """What each call takes, of so many runs, and how many MB the log beside its file has at most."""
+    rows = {}
+    for name, (runs, call) in calls.items():
+        with watched(base["Python" in name]) as log:
+            rows[name] = least(runs, call)[0], log
+    return rows
 
 
 def measured(at, size):
     """What each call takes over a store of so many MB, and what of it is counted."""
-    left = make(f"{at}/blocks.car", size * 1000)
-    a, b, root = f"{at}/a.db", f"{at}/b.db", "f" + left.hex()
-    took = {"`import`": ours(a, "import", f"{at}/blocks.car")}
-    took["`import`, Python"] = theirs(b, "import", f"{at}/blocks.car")
-    took["`has`: open, and look up"] = least(lambda: ours(a, "has", root))
-    took["`get`"] = least(lambda: ours(a, "get", root))
-    took["`get`, Python"] = least(lambda: theirs(b, "get", left))
-    took["`put`"] = least(lambda: ours(a, "put", given=one_block(at)))
-    took["`put`, Python"] = least(lambda: theirs(b, "put"))
-    took["`export`"] = ours(a, "export")
-    took["`export`, Python"] = theirs(b, "export", os.devnull)
-    took["`check`"] = ours(a, "check")
-    counted = {
-        "`get`: KB read; syncs": "{:.0f}; {}".format(*traced(a, "get", root)),
-        "`has`: KB read; syncs": "{:.0f}; {}".format(*traced(a, "has", root)),
-        "`roots`: KB read; syncs": "{:.0f}; {}".format(*traced(a, "roots")),
-        "`put`: KB read; syncs": "{:.0f}; {}".format(*traced(a, "put", given=one_block(at))),
-        "`add-root`: KB read; syncs": "{:.0f}; {}".format(*traced(a, "add-root", root)),
-    }
-    took["`gc` of half"] = ours(a, "gc", root)
-    took["`gc` of half, Python"] = theirs(b, "gc", left)
-    for call in ("import", "gc"):
-        key = next(name for name in took if name.startswith(f"`{call}`") and "Python" not in name)
-        counted[f"`{call}`: memory, MB"] = f"{took[key].memory:.0f}"
-    counted["`import`: log at most, MB; Python's"] = f"{took['`import`'].log:.0f}; {took['`import`, Python'].log:.0f}"
-    counted["`get`, by the clock, ms; Python's"] = f"{took['`get`'].clock * 1000:.1f}; {took['`get`, Python'].clock * 1000:.1f}"
-    counted["`put`, by the clock, ms; Python's"] = f"{took['`put`'].clock * 1000:.1f}; {took['`put`, Python'].clock * 1000:.1f}"
-    counted["`import`, by the clock, s; Python's"] = f"{took['`import`'].clock:.1f}; {took['`import`, Python'].clock:.1f}"
-    took["SHA-256 alone of as many bytes"] = Took(0, hashed(at, size), 0, 0)
-    return took, counted
+    cars, a, b = f"{at}/blocks.car", f"{at}/a.db", f"{at}/b.db"
+    apart(write_blocks, cars, size * 1000)
+    left = read(f"{cars}.name")
+    root = "f" + left.hex()
+    took = timed((a, b), {
+        "`import`": (1, lambda: ours(a, "import", cars)),
+        "`import`, Python": (1, lambda: theirs(peer_import, b, cars)),
+        "`has`: open, and look up": (RUNS, lambda: ours(a, "has", root)),
+        "`get`": (RUNS, lambda: ours(a, "get", root)),
+        "`get`, Python": (RUNS, lambda: theirs(peer_get, b, left)),
+        "`put`": (RUNS, lambda: ours(a, "put", given=one_block(at))),
+        "`put`, Python": (RUNS, lambda: theirs(peer_put, b)),
+        "`export`": (1, lambda: ours(a, "export")),
+        "`export`, Python": (1, lambda: theirs(peer_export, b)),
+        "`check`": (1, lambda: ours(a, "check")),
+    })
+    words = {"get": [root], "has": [root], "roots": [], "put": [], "add-root": [root]}
+    reads = {call: traced(a, call, *given, given=one_block(at)) for call, given in words.items()}
+    took |= timed((a, b), {
+        "`gc` of half": (1, lambda: ours(a, "gc", root)),
+        "`gc` of half, Python": (1, lambda: theirs(peer_gc, b, left)),
+        "SHA-256 alone of as many bytes": (1, lambda: hashed(at, size)),
+    })
+    return {name: f"{it.processor:.4f}" for name, (it, _) in took.items()}, counts_of(took, reads)
+
+
+def counts_of(took, reads):
+    """What is counted, and seconds by the clock."""
+    both = lambda name, form, of: "; ".join(format(of(*took[it]), form) for it in (name, f"{name}, Python"))
+    rows = {f"`{call}`: KB read; syncs": f"{read_there:.0f}; {syncs}" for call, (read_there, syncs) in reads.items()}
+    for name in ("`import`", "`gc` of half"):
+        rows[f"{name.partition(' ')[0]}: memory, MB"] = f"{took[name][0].memory / 1024:.0f}"
+    rows["`import`: log at most, MB; Python's"] = both("`import`", ".0f", lambda _, log: log[0])
+    rows["`get`, by the clock, ms; Python's"] = both("`get`", ".1f", lambda it, _: it.clock * 1000)
+    rows["`put`, by the clock, ms; Python's"] = both("`put`", ".1f", lambda it, _: it.clock * 1000)
+    rows["`import`, by the clock, s; Python's"] = both("`import`", ".1f", lambda it, _: it.clock)
+    return rows
 
 
 def hashed(at, size):
-    """The processor seconds of SHA-256 alone, of the toolchain: of `dagcar name` over one byte string of so many MB."""
+    """SHA-256 alone, of the toolchain: `dagcar name` over one byte string of so many MB."""
     with open(f"{at}/string", "wb") as file:
-        file.write(b"\x5a" + (size * 10**6).to_bytes(4, "big"))
+        file.write(head(2, size * 10**6))
         for _ in range(size):
             file.write(bytes(10**6))
-    with open(f"{at}/string", "rb") as file, open(os.devnull, "wb") as out:
-        process = subprocess.Popen([f"{ROOT}/crates/dagcar/out/dagcar", "name"], stdin=file, stdout=out)
-    took = child(process.pid, at)
-    process.returncode = 0
+    took = used([f"{ROOT}/crates/dagcar/out/dagcar", "name"], f"{at}/string")
     os.remove(f"{at}/string")
-    return took.processor
+    return took
 
 
 # ---- a large store
 
 
-# How many blocks an import has: more would want a log of many times their bytes, since most pages of the index go to it each time that
-# its memory is full.
+# How many blocks an import has: more would want a log of many times their bytes, since most pages of the index go to it each time
+# that its memory is full.
 PART = 1_000_000
 
 
 def write_parts(pipe, count):
-    """The blocks, so many each time that the pipe is opened, and then the name of the last of them, which whoever opens it takes away."""
+    """The blocks, so many each time that the pipe is opened, and then the name of the last of them, which whoever opens it takes
+    away."""
     made = blocks(count)
     for _ in range(0, count, PART):
         with open(pipe, "wb") as file:
-            file.write(b"\x11\xa2\x65roots\x80\x67version\x01")
+            file.write(counted(header()))
             for _, name, block in itertools.islice(made, PART):
-                file.write(varint(len(name) + len(block)) + name + block)
-        with open(f"{pipe}.name", "wb") as file:
-            file.write(name)
+                file.write(counted(name + block))
+        put(f"{pipe}.name", name)
         while os.path.exists(f"{pipe}.name"):
             time.sleep(0.1)
 
@@ -330,56 +285,33 @@ def import_parts(at, count):
     """Imports them until MINUTES are over. Prints what each took, and answers the name of the last block."""
     base, pipe, begun = f"{at}/a.db", f"{at}/parts", time.monotonic()
     os.mkfifo(pipe)
-    writer = os.fork()
-    if writer == 0:
-        try:
-            write_parts(pipe, count)
-        finally:
-            os._exit(0)
+    writer = multiprocessing.Process(target=write_parts, args=(pipe, count))
+    writer.start()
     for n in range(PART, count + PART, PART):
-        name, took = b"", ours(base, "import", pipe)
+        with watched(base) as log:
+            took, name = ours(base, "import", pipe), b""
         while not name:
             time.sleep(0.1)
-            with contextlib.suppress(FileNotFoundError), open(f"{pipe}.name", "rb") as file:
-                name = file.read()
+            with contextlib.suppress(FileNotFoundError):
+                name = read(f"{pipe}.name")
         os.remove(f"{pipe}.name")
         times = f"{took.processor:.0f} s of the processor, {took.clock:.0f} s"
         size = os.path.getsize(base) // 1_000_000
-        print(f"{min(n, count) // 1000:,} MB: {times}, log {took.log:,.0f} MB, file {size:,} MB", flush=True)
+        print(f"{min(n, count) // 1000:,} MB: {times}, log {log[0]:,.0f} MB, file {size:,} MB", flush=True)
         if time.monotonic() - begun > 60 * float(os.environ.get("MINUTES", "1000")):
             break
-    os.kill(writer, signal.SIGKILL)
-    os.waitpid(writer, 0)
+    writer.kill()
+    writer.join()
     return name
 
 
-def measure_calls(at, name):
-    """Prints what calls on one block take."""
-    base, name = f"{at}/a.db", "f" + name.hex()
-    another = lambda: "f" + (FORM + os.urandom(32)).hex()
-    ours(base, "add-root", name)
-    calls = {"get": lambda: ["get", name], "has": lambda: ["has", name], "put": lambda: ["put"], "roots": lambda: ["roots"]}
-    calls["add-root"] = lambda: ["add-root", another()]
-    for call, words in calls.items():
-        took = least(lambda words=words: ours(base, *words(), given=one_block(at)))
-        read, syncs = traced(base, *words(), given=one_block(at))
-        times = f"{took.processor * 1000:.1f} ms of the processor, {took.clock * 1000:.1f} ms"
-        print(f"{call}: {times}, {read:.0f} KB read, {syncs} syncs, {took.memory:.1f} MB of memory", flush=True)
-
-
 def make_rows(at, count):
-    """An empty store, into which Python's sqlite3 puts the blocks. Answers the name of the last. The file is one that `dagstore` could
-    have left: the same schema, and no log. A process of its own puts them, so that this one stays small."""
-    ours(f"{at}/a.db", "import", write_empty(at))
-    process = os.fork()
-    if process == 0:
-        put_rows(at, count)
-        os._exit(0)
-    _, status = os.waitpid(process, 0)
-    assert status == 0, status
+    """An empty store, into which Python's sqlite3 puts the blocks. Answers the name of the last. The file is one that `dagstore`
+    could have left: the same schema, and no log."""
+    ours(f"{at}/a.db", "import", put(f"{at}/empty.car", counted(header())))
+    apart(put_rows, at, count)
     print(f"{count // 1000:,} MB put by Python's sqlite3: file {os.path.getsize(f'{at}/a.db') // 1_000_000:,} MB", flush=True)
-    with open(f"{at}/name", "rb") as file:
-        return file.read()
+    return read(f"{at}/name")
 
 
 def put_rows(at, count):
@@ -387,58 +319,48 @@ def put_rows(at, count):
     for what in ("journal_mode = OFF", "synchronous = OFF", "cache_size = -2000000"):
         base.execute(f"PRAGMA {what}")
     base.execute("BEGIN")
-    made = ((name, block) for _, name, block in blocks(count))
-    base.executemany("INSERT INTO block VALUES (?, ?)", made)
+    base.executemany("INSERT INTO block VALUES (?, ?)", ((name, block) for _, name, block in blocks(count)))
     (name,) = base.execute("SELECT cid FROM block ORDER BY rowid DESC LIMIT 1").fetchone()
     base.execute("COMMIT")
     base.execute("PRAGMA journal_mode = WAL")
     base.close()
     os.sync()
-    with open(f"{at}/name", "wb") as file:
-        file.write(name)
+    put(f"{at}/name", name)
 
 
-def write_empty(at):
-    """A file without roots and blocks."""
-    with open(f"{at}/empty.car", "wb") as file:
-        file.write(b"\x11\xa2\x65roots\x80\x67version\x01")
-    return f"{at}/empty.car"
+def measure_calls(at, name):
+    """Prints what calls on one block take."""
+    base, name = f"{at}/a.db", "f" + name.hex()
+    ours(base, "add-root", name)
+    another = lambda: ["f" + cid(os.urandom(32)).hex()]
+    calls = {"get": lambda: [name], "has": lambda: [name], "put": list, "roots": list, "add-root": another}
+    for call, words in calls.items():
+        (took,) = least(RUNS, lambda call=call, words=words: ours(base, call, *words(), given=one_block(at)))
+        read_there, syncs = traced(base, call, *words(), given=one_block(at))
+        times = f"{took.processor * 1000:.1f} ms of the processor, {took.clock * 1000:.1f} ms"
+        print(f"{call}: {times}, {read_there:.0f} KB read, {syncs} syncs, {took.memory / 1024:.1f} MB of memory", flush=True)
 
 
-def measure_large(size, make):
-    at = tempfile.mkdtemp(dir=os.environ.get("BENCH_FOLDER"))
-    try:
-        measure_calls(at, make(at, size * 1000))
-    finally:
-        shutil.rmtree(at)
+def folder():
+    return tempfile.TemporaryDirectory(dir=os.environ.get("BENCH_FOLDER"))
 
 
-def table(head, sizes, columns, form):
-    yield f"| {head} | {' | '.join(f'{size:,} MB' for size in sizes)} |\n"
-    yield f"|{'---|' * (len(sizes) + 1)}\n"
-    for name in columns[0]:
-        yield f"| {name} | {' | '.join(form(column[name]) for column in columns)} |\n"
-
-
-def main(words):
-    if words[:1] == ["large"]:
-        measure_large(int(words[1]), make_rows if "made" in words else import_parts)
-        return
-    sizes = [int(word) for word in words if word.isdigit()] or list(SIZES)
-    told, columns = [f"Measured {machine()}, {load()}.\n\n"], []
+def stores(section):
+    sizes = [int(word) for word in section.words if word.isdigit()] or SIZES
+    columns = []
     for size in sizes:
-        at = tempfile.mkdtemp(dir=os.environ.get("BENCH_FOLDER"))
-        try:
+        with folder() as at:
             columns.append(measured(at, size))
-        finally:
-            shutil.rmtree(at)
-        print(f"{size} MB:", *(f"{name} {it.processor:.4f}," for name, it in columns[-1][0].items()), flush=True)
-    told += table(curves.STORE, sizes, [took for took, _ in columns], lambda it: f"{it.processor:.4f}")
-    told += ["\n", *table("Counted", sizes, [counted for _, counted in columns], str)]
-    print("".join(told))
-    if "page" in words:
-        into_page(BEGIN, told, END)
-        curves.draw()
+        print(f"{size} MB:", *(f"{name} {it}," for name, it in columns[-1][0].items()), flush=True)
+    section.tell(f"Measured {machine()}, {section.load}.")
+    for first, which in ((curves.STORE, 0), ("Counted", 1)):
+        section.head(first, *(f"{size:,} MB" for size in sizes))
+        for name in columns[0][which]:
+            section.row(name, *(column[which][name] for column in columns))
 
 
-main(sys.argv[1:])
+if sys.argv[1:2] == ["large"]:
+    with folder() as large:
+        measure_calls(large, (make_rows if "made" in sys.argv else import_parts)(large, int(sys.argv[2]) * 1000))
+else:
+    measure({"store.py": stores})

@@ -5,13 +5,11 @@ What is wanted of a file is what `Judge` finds, which reads its framing and dige
 
 import hashlib
 import json
-import os
-import resource
-import subprocess
-
-from car_bytes import cid, counted, header, link, missing_line, section, text_of, varint
 
 import dagpb
+import running
+from car_bytes import (CODECS, PRAGMA, Refusal, cid, counted, counted_at, header, lines_of, link, missing_line, parts_of, section,
+                       text_of, varint, wrapped)
 
 NUMBERS = b"\x83\x01\x02\x03"
 AWAY = cid(b"\x61a")  # names a block that no file here has
@@ -34,8 +32,7 @@ HEADERS = {header(): [], header(cid(ROOT)): [cid(ROOT)], header(AWAY, cid(ROOT))
 NO_HEADERS = {b"": "NoBlock", header()[:-1] + b"\x02": "OtherHeader", header()[:-1]: "NoBlock", NUMBERS: "OtherHeader"}
 
 
-# What begins a file of version 2, and blocks that stand there where a byte of it is another.
-PRAGMA = b"\x0a\xa1\x67version\x02"
+# Blocks that stand there where a byte of what begins a file of version 2 is another.
 NO_HEADERS |= {
     PRAGMA[1:]: "OtherHeader",
     PRAGMA[1:10]: "NoBlock",
@@ -46,10 +43,6 @@ NO_HEADERS |= {
     PRAGMA[1:10] + b"\x01": "OtherHeader",
     PRAGMA[1:10] + b"\x03": "OtherHeader",
 }
-
-
-class Refusal(Exception):
-    """The variant of `CarError`."""
 
 
 def is_well(found):
@@ -66,14 +59,15 @@ class Judge:
     """What is to be said of the bytes."""
 
     def __init__(self, bytes_):
-        self.at = 0
         self.checked, self.listed, self.linked, self.held, self.is_well = [], [], set(), set(), True
-        self.sections, self.refusal, self.places, self.roots, self.given = [], [], [], [], bytes_
+        self.sections, self.refusal, self.places, self.given = [], [], [], bytes_
         try:
-            self.bytes, is_short = self.file_in(bytes_)
-            self.header()
-            while self.at < len(self.bytes) or is_short:
-                self.section()
+            file, is_short = self.file_in(bytes_)
+            block, at = counted_at(file, 0)
+            self.header(block)
+            while at < len(file) or is_short:
+                body, at = counted_at(file, at)
+                self.section(body)
         except Refusal as refusal:
             self.refusal = [f"refused {refusal}"]
 
@@ -89,62 +83,27 @@ class Judge:
             raise Refusal("InvalidOffset")
         return bytes_[begin : begin + size], len(bytes_) < begin + size
 
-    @staticmethod
-    def number(bytes_, at):
-        """A varint in shortest form below 2^64, and the place behind it; a word where none stands."""
-        number = 0
-        for count, byte in enumerate(bytes_[at : at + 10]):
-            number += (byte & 127) << 7 * count
-            if byte < 128:
-                return (number, at + count + 1) if (byte or not count) and number < 1 << 64 else ("invalid", at)
-        return ("cut" if len(bytes_) - at < 10 else "invalid"), at
-
-    def counted(self):
-        count, at = self.number(self.bytes, self.at)
-        if count == "invalid":
-            raise Refusal("InvalidLength")
-        if count == "cut" or len(self.bytes) - at < count:
-            raise Refusal("Truncated")
-        self.at = at + count
-        return self.bytes[at : self.at]
-
-    def header(self):
-        block = self.counted()
+    def header(self, block):
         if block in NO_HEADERS:
             raise Refusal(NO_HEADERS[block])
         self.roots = HEADERS[block]
-        self.linked.update(HEADERS[block])
-        self.listed += [f"root {text_of(root)}" for root in HEADERS[block]]
+        self.linked.update(self.roots)
+        self.listed += [f"root {text_of(root)}" for root in self.roots]
 
-    def section(self):
-        body = self.counted()
-        codec, hash_code, digest, end = self.name(body)
-        found = self.verdict(codec, hash_code, digest, body[end:])
+    def section(self, body):
+        codec, hash_code, digest, end = parts_of(body)
+        name, block = body[:end], body[end:]
+        found = self.verdict(codec, hash_code, digest, block)
         self.is_well = self.is_well and is_well(found)
-        self.sections.append((body[:end], body[end:], found))
-        self.checked.append(f"{text_of(body[:end])} {found}")
+        self.sections.append((name, block, found))
+        self.checked.append(f"{text_of(name)} {found}")
         if found.startswith("refused ") and codec == 0x71:
-            self.places.append(f"{text_of(body[:end])}: {found} at byte {PLACES[body[end:]]}")
-        self.listed.append(f"{text_of(body[:end])} {len(body) - end}")
+            self.places.append(f"{text_of(name)}: {found} at byte {PLACES[block]}")
+        self.listed.append(f"{text_of(name)} {len(block)}")
         if found not in ("other bytes", "not verified"):
-            self.held.add(body[:end])
+            self.held.add(name)
         if found.startswith("ok "):
-            self.linked.update(links_of(codec, body[end:]))
-
-    def name(self, body):
-        if body[:2] == b"\x12\x20" and len(body) >= 34:
-            return 0x70, 0x12, body[2:34], 34
-        if body[:1] != b"\x01":
-            raise Refusal("InvalidCid")
-        at, numbers = 1, []
-        for _ in range(3):
-            number, at = self.number(body, at)
-            if number in ("cut", "invalid"):
-                raise Refusal("InvalidCid")
-            numbers.append(number)
-        if numbers[2] > 64 or len(body) - at < numbers[2]:
-            raise Refusal("InvalidCid")
-        return numbers[0], numbers[1], body[at : at + numbers[2]], at + numbers[2]
+            self.linked.update(links_of(codec, block))
 
     @staticmethod
     def verdict(codec, hash_code, digest, block):
@@ -160,7 +119,7 @@ class Judge:
 
     def told(self, line):
         """Nothing is written, and why is told."""
-        return 1, b"", f"{line}\n".encode()
+        return 1, b"", lines_of([line])
 
     def got(self, name):
         """The status, the output and what is told of the block of one name."""
@@ -191,42 +150,38 @@ class Judge:
             if said[name] == "links not read" or said[name].startswith("refused "):
                 return self.told(f"{text_of(name)} {said[name]}")
             out += section(stored[name], name=name)
-            codec = 0x70 if name[0] == 0x12 else name[1]
+            codec = parts_of(name)[0]
             if codec in (0x70, 0x71):
                 waiting += reversed(links_of(codec, stored[name]))
-        told = "".join(missing_line(it) + "\n" for it in lost).encode()
-        return (1 if lost else 0), (b"" if root in lost else out), told
+        return int(bool(lost)), (b"" if root in lost else out), lines_of(map(missing_line, lost))
 
     def wanted(self, command):
-        """The status and the output."""
+        """The same of `check` or `list`."""
         if command == "list":
-            lines, status = self.listed + self.refusal, 1 if self.refusal else 0
-        else:
-            # The order of CIDs: these here are all of version 1, of one codec and by one hash function.
-            missing = [] if self.refusal else sorted(self.linked - self.held)
-            lines = self.checked + self.refusal + [missing_line(it) for it in missing]
-            status = 0 if self.is_well and not missing and not self.refusal else 1
-        return status, "".join(it + "\n" for it in lines).encode()
-
+            return int(bool(self.refusal)), lines_of(self.listed + self.refusal), b""
+        # The order of CIDs: these here are all of version 1, of one codec and by one hash function.
+        missing = [] if self.refusal else sorted(self.linked - self.held)
+        lines = self.checked + self.refusal + [missing_line(it) for it in missing]
+        return int(not self.is_well or bool(missing or self.refusal)), lines_of(lines), lines_of(self.places)
 
     def summary(self):
-        """The status, the output and what is told of `check --summary`: the numbers alone."""
+        """The same of `check --summary`: the numbers alone."""
         if self.refusal:
-            return 1, f"{self.refusal[0]}\n".encode(), b""
+            return 1, lines_of(self.refusal), b""
         found = [it for _, _, it in self.sections]
         missing = len(self.linked - self.held)
         lines = [f"sections {len(found)}", f"ok {sum(it.startswith('ok ') for it in found)}"]
         lines += [f"{it} {found.count(it)}" for it in ("not read", "links not read")]
         lines += [f"refused {sum(it.startswith('refused ') for it in found)}"]
         lines += [f"{it} {found.count(it)}" for it in ("other bytes", "not verified")] + [f"missing {missing}"]
-        return (0 if self.is_well and not missing else 1), "".join(it + "\n" for it in lines).encode(), b""
+        return int(not self.is_well or bool(missing)), lines_of(lines), b""
 
     def facts(self):
         """What `inspect` tells of a whole file."""
         is_second = self.given[:11] == PRAGMA
         rows = {"codecs": {}, "hashes": {}}
         for name, block, _ in self.sections:
-            codec, hash_code, _, _ = self.name(name + block)
+            codec, hash_code, _, _ = parts_of(name)
             for kind, number in (("codecs", codec), ("hashes", hash_code)):
                 count, bytes_ = rows[kind].get(number, (0, 0))
                 rows[kind][number] = count + 1, bytes_ + len(block)
@@ -248,7 +203,7 @@ class Judge:
         }
 
     def inspected(self, as_json):
-        """The status, the output and what is told of `inspect`."""
+        """The same of `inspect`."""
         if self.refusal:
             return self.told(self.refusal[0])
         facts = self.facts()
@@ -259,11 +214,21 @@ class Judge:
         lines += [f"{it} {facts[it]}" for it in ("sections", "repeated", "bytes", "least", "greatest")]
         for kind, word in (("codecs", "codec"), ("hashes", "hash")):
             lines += [f"{word} {it[word]} {it['sections']} {it['bytes']}" for it in facts[kind]]
-        return 0, "".join(it + "\n" for it in lines + [f"missing {facts['missing']}"]).encode(), b""
+        return 0, lines_of(lines + [f"missing {facts['missing']}"]), b""
 
 
-# The names of codecs (multicodec table).
-CODECS = {0x55: "raw", 0x70: "dag-pb", 0x71: "dag-cbor", 0x72: "libp2p-key", 0x129: "dag-json", 0x200: "json"}
+def questions(file):
+    """What is asked of a file, and what is right."""
+    judge = Judge(file)
+    yield ["check"], file, judge.wanted("check")
+    yield ["list"], file, judge.wanted("list")
+    yield ["get", text_of(cid(NUMBERS))], file, judge.got(cid(NUMBERS))
+    yield ["tree", text_of(cid(ROOT))], file, judge.tree(cid(ROOT))
+    yield ["check", "--summary"], file, judge.summary()
+    yield ["inspect"], file, judge.inspected(False)
+    yield ["inspect", "--json"], file, judge.inspected(True)
+
+
 SMALL = counted(header(cid(ROOT))) + section(ROOT) + section(NUMBERS)
 RAW_NOTHING = section(b"", codec=0x55)
 LENGTHS = (1 << 63, (1 << 64) - 1, 1 << 64, 1 << 69, (1 << 63) - 1)
@@ -287,15 +252,9 @@ def files():
     names = (b"\x02\x71\x12\x00", b"\x01\x71\x12\x41", b"\x01\xf1\x00\x12\x00", b"\x12\x20\x00", b"\x01\x71", b"\x01\x71\x12\x20")
     yield "names that are none", [SMALL + section(NUMBERS, name=it) for it in names]
     yield "headers that are none", [counted(it) + section(NUMBERS) for it in NO_HEADERS]
-    rows = [(b"\x05", b"\x01\x71\x00\x01\x05"), (b"\x05", b"\x01\x71\x13\x01\x05"), (b"\x05", b"\x01\x71\x00\x01\x06"), (b"\x05", b"\x01\x71\x12\x01\x05")]
     yield from files_of_version_2()
-    yield "other hash functions", [counted(header()) + b"".join(section(block, name=name) for block, name in rows)]
-
-
-def wrapped(file, padding=b"", behind=b"", begin=None, size=None, index=0):
-    """The file in one of version 2."""
-    fields = (51 + len(padding) if begin is None else begin, len(file) if size is None else size, index)
-    return PRAGMA + bytes(range(16)) + b"".join(it.to_bytes(8, "little") for it in fields) + padding + file + behind
+    names = (b"\x01\x71\x00\x01\x05", b"\x01\x71\x13\x01\x05", b"\x01\x71\x00\x01\x06", b"\x01\x71\x12\x01\x05")
+    yield "other hash functions", [counted(header()) + b"".join(section(b"\x05", name=name) for name in names)]
 
 
 def damaged(file):
@@ -318,39 +277,14 @@ def files_of_version_2():
     inner = [b"", PRAGMA, wrapped(SMALL), SMALL + b"\x00", SMALL[:-1]]
     yield "version 2, other files in it", [wrapped(it, padding) for it in inner for padding in (b"", b"\x00" * 1300, SMALL)]
     sizes = range(len(SMALL) + 3)
-    yield "version 2, each length", [wrapped(SMALL, behind=RAW_NOTHING, size=size) for size in sizes]
-
-
-def limit():
-    """Room for the program, and for nothing that is taken from a length."""
-    resource.setrlimit(resource.RLIMIT_AS, (1 << 28, 1 << 28))
+    yield "version 2, each length", [wrapped(SMALL, after=RAW_NOTHING, size=size) for size in sizes]
 
 
 def sweep_files(path, report):
     """Each file is judged as it must be, with little room."""
     for name, given in files():
-        wrong = []
-        for number, file in enumerate(given):
-            judge = Judge(file)
-            for command in ("check", "list"):
-                how = {"input": file, "capture_output": True, "preexec_fn": limit, "timeout": 60}
-                ran = subprocess.run([path, command], check=False, **how)
-                told = "".join(f"{line}\n" for line in judge.places if command == "check").encode()
-                if (ran.returncode, ran.stdout, ran.stderr) != (*judge.wanted(command), told):
-                    wrong.append((command, number, ran.returncode, ran.stdout[-80:], ran.stderr))
-            for words, wanted in ((("get", NUMBERS), judge.got), (("tree", ROOT), judge.tree)):
-                of = cid(words[1])
-                how = {"input": file, "capture_output": True, "preexec_fn": limit, "timeout": 60}
-                ran = subprocess.run([path, words[0], text_of(of)], check=False, **how)
-                if (ran.returncode, ran.stdout, ran.stderr) != wanted(of):
-                    wrong.append((words[0], number, ran.returncode, ran.stdout[-80:], ran.stderr))
-            of_all = (["check", "--summary"], judge.summary()), (["inspect"], judge.inspected(False))
-            for words, wanted in (*of_all, (["inspect", "--json"], judge.inspected(True))):
-                how = {"input": file, "capture_output": True, "preexec_fn": limit, "timeout": 60}
-                ran = subprocess.run([path, *words], check=False, **how)
-                if (ran.returncode, ran.stdout, ran.stderr) != wanted:
-                    wrong.append((words, number, ran.returncode, ran.stdout[-80:], ran.stderr))
-        report(f"dagcar, {name}", 7 * len(given), wrong)
+        rows = (row for file in given for row in questions(file))
+        running.sweep(report, f"dagcar, {name}", path, rows, preexec_fn=running.short_of_memory)
 
 
 # A block, and its text as `show` writes it and `make` reads it.
@@ -385,7 +319,11 @@ def texts():
     yield "long numbers", [(b"9" * MANY, b"OutOfRange"), (b"-" + b"9" * MANY, b"OutOfRange"), (b"1." + b"0" * MANY, b"Float")]
     keys = b",".join(b'"%d":0' % it for it in range(MANY // 10))
     yield "many keys", [(b"{" + keys + b"}", None), (b"{" + keys + b',"0":1}', b"RepeatedKey")]
-    yield "long texts", [(b'"' + b"\\u0041" * MANY + b'"', None), (b'"' + b"a" * MANY + b"\xff", b"NoText"), (b'"' + b"\\ud800" * MANY + b'"', b"NoJson")]
+    yield "long texts", [
+        (b'"' + b"\\u0041" * MANY + b'"', None),
+        (b'"' + b"a" * MANY + b"\xff", b"NoText"),
+        (b'"' + b"\\ud800" * MANY + b'"', b"NoJson"),
+    ]
     yield "long texts of links and bytes", [
         (b'{"/":"b' + b"a" * MANY + b'"}', b"NoCid"),
         (b'{"/":{"bytes":"' + b"A" * (4 * MANY) + b'"}}', None),
@@ -393,19 +331,18 @@ def texts():
     ]
 
 
+def made_or_refused(cause):
+    """What is right of a text: a block, or this cause."""
+    if cause is None:
+        return lambda status, out, told: status == 0 and out and not told
+    return lambda status, out, told: status == 1 and not out and told.split()[:2] == [b"refused", cause]
+
+
 def sweep_texts(path, report):
     """Each text is made a block, or refused for its cause, with little room."""
     for name, given in texts():
-        wrong = []
-        for number, (text, cause) in enumerate(given):
-            how = {"input": text, "capture_output": True, "preexec_fn": limit, "timeout": 60}
-            ran = subprocess.run([path, "make"], check=False, **how)
-            made = ran.returncode == 0 and ran.stdout and not ran.stderr
-            words = ran.stderr.split()
-            refused = ran.returncode == 1 and not ran.stdout and words[:1] == [b"refused"] and words[1:2] == [cause]
-            if not (made if cause is None else refused):
-                wrong.append((number, ran.returncode, ran.stdout[:80], ran.stderr))
-        report(f"dagcar make, {name}", len(given), wrong)
+        rows = ((["make"], text, made_or_refused(cause)) for text, cause in given)
+        running.sweep(report, f"dagcar make, {name}", path, rows, preexec_fn=running.short_of_memory)
 
 
 def chain(count, block_over):
@@ -430,29 +367,24 @@ def paths():
 
 
 def sweep_paths(path, report):
-    """The blocks on each path are written, `at` answers over them as over all blocks, and without the last one nothing is proved."""
+    """The blocks on each path are written, `at` answers over them as over all blocks, and without the last one nothing is
+    proved."""
     for name, blocks, text, count, answer in paths():
-        wrong = []
-
-        def holds(words, given, wanted):
-            how = {"input": given, "capture_output": True, "preexec_fn": limit, "timeout": 60}
-            ran = subprocess.run([path, *words, f"{text_of(cid(blocks[0]))}/{text}"], check=False, **how)
-            if (ran.returncode, ran.stdout, ran.stderr) != wanted:
-                wrong.append((words, ran.returncode, ran.stdout[-80:], ran.stderr[-80:]))
-
-        first = counted(header(cid(blocks[0])))
+        first, word = counted(header(cid(blocks[0]))), f"{text_of(cid(blocks[0]))}/{text}"
         file = counted(header()) + b"".join(map(section, reversed(blocks)))
-        proof = first + b"".join(map(section, blocks[:count]))
-        cut = first + b"".join(map(section, blocks[: count - 1]))
-        missing = (1, b"", (missing_line(cid(blocks[count - 1])) + "\n").encode())
-        holds(["prove"], file, (0, proof, b""))
-        holds(["prove"], proof, (0, proof, b""))
-        for given, wanted in ((file, answer), (proof, answer), (cut, missing)):
-            holds(["at"], given, wanted)
-        holds(["prove"], cut, missing)
-        report(f"dagcar, a path {name}", 6, wrong)
+        proof, cut = (first + b"".join(map(section, blocks[:end])) for end in (count, count - 1))
+        missing = 1, b"", lines_of([missing_line(cid(blocks[count - 1]))])
+        rows = [(["prove", word], given, (0, proof, b"")) for given in (file, proof)] + [(["prove", word], cut, missing)]
+        rows += [(["at", word], given, wanted) for given, wanted in ((file, answer), (proof, answer), (cut, missing))]
+        running.sweep(report, f"dagcar, a path {name}", path, rows, preexec_fn=running.short_of_memory)
+
+
+def sweep(path, report):
+    sweep_files(path, report)
+    sweep_paths(path, report)
+    sweep_texts(path, report)
 
 
 def wanted_of_small():
     """What each command answers of the small file."""
-    return {command: Judge(SMALL).wanted(command) for command in ("check", "list")}
+    return {command: Judge(SMALL).wanted(command)[:2] for command in ("check", "list")}

@@ -1,11 +1,11 @@
-"""What `dagcar event` says of frames, held to a judge in Python (conformance/events.py): streams, and random events, good and faulty."""
+"""What `dagcar event` says of frames, held to a judge in Python (conformance/events.py): streams, and random events, good and
+faulty."""
 
 import collections
-import pathlib
 import random
-import subprocess
 
 import events
+import running
 
 # How many random events there are, each good, and faulty in each way.
 RANDOM_EVENTS = 60
@@ -24,19 +24,11 @@ TOLD = {
 }
 
 
-def ran(path, file):
-    got = subprocess.run([path, "event", file], capture_output=True, text=True, timeout=300)
-    return got.returncode, got.stdout, got.stderr
-
-
-def streams(path, folder):
+def rows_of_streams(folder):
     """Each stream of the reference."""
-    for number, (what, stream, said, told) in enumerate(events.streams_of(1)):
-        file = pathlib.Path(folder, f"{number}.frames")
-        file.write_bytes(stream)
-        got = ran(path, file)
-        if got != (1 if told else 0, said, told):
-            yield f"{what}: {got}"
+    for number, (_, stream, said, told) in enumerate(events.streams_of(1)):
+        file = running.put(f"{folder}/{number}.frames", stream)
+        yield ["event", file], b"", (int(bool(told)), said.encode(), told.encode())
 
 
 def is_told(line, verdict):
@@ -53,9 +45,9 @@ def random_events(path, folder, count):
     """All frames of so many random events, in one stream; how many are answered wrongly, by what is so of them."""
     rng = random.Random(20261130)
     rows = [row for number in range(count) for row in events.events_of(rng, f"did:plc:{number}")]
-    file = pathlib.Path(folder, "random.frames")
-    file.write_bytes(b"".join(frame for _, frame in rows))
-    _, said, told = ran(path, file)
+    file = running.put(f"{folder}/random.frames", b"".join(frame for _, frame in rows))
+    _, *answer = running.answer([path, "event", file])
+    said, told = (it.decode() for it in answer)
     lines = dict(line.split(" at byte ", 1) for line in told.splitlines())
     wrong, at, good = collections.Counter(), 0, ""
     for number, (what, frame) in enumerate(rows, 1):
@@ -82,7 +74,6 @@ def small():
 
 
 def sweep(path, folder, report, count=RANDOM_EVENTS):
-    rows = list(events.streams_of(1))
-    report("events, streams of the reference", len(rows), list(streams(path, folder)))
+    running.sweep(report, "events, streams of the reference", path, rows_of_streams(folder))
     for what, wrong in random_events(path, folder, count).items():
         report(f"events, {what}", count, [what] * wrong)

@@ -1,5 +1,5 @@
-"""The word `cat` of `dagcar` over files of IPFS: those that Debian's `ipfs-unixfs` makes, and random ones, some of them damaged. What is
-wanted of a random one is what `unixfs.cat` finds, which reads it by itself."""
+"""The word `cat` of `dagcar` over files of IPFS: those that Debian's `ipfs-unixfs` makes, and random ones, some of them damaged.
+What is wanted of a random one is what `unixfs.cat` finds, which reads it by itself."""
 
 import hashlib
 import json
@@ -9,46 +9,41 @@ import re
 import shutil
 import subprocess
 
+import building
 import dagpb
+import running
 import unixfs
-from car_bytes import counted, header, text_of
+from building import REGISTRY
+from car_bytes import file_of, text_of
 
-REGISTRY = "/usr/share/cargo/registry"
-SETTINGS = f'[source.crates-io]\nreplace-with = "here"\n[source.here]\ndirectory = "{REGISTRY}"\n'
 HERE = os.path.dirname(os.path.abspath(__file__))
 NAMES = ["a", "b.txt", "with space", "ünïcode", "sub/h", "sub/deep/er/x", "sub/deep/y"]
 
 
-def car(root, blocks):
-    return counted(header(root)) + b"".join(counted(name + block) for name, block in blocks.items())
-
-
-def run(path, root, names, file):
-    word = "/".join([text_of(root), names])
-    ran = subprocess.run([path, "cat", word], input=file, capture_output=True, check=False)
-    return ran.stdout, ran.stderr.decode(), ran.returncode
+def cat(root, names, blocks, *wanted):
+    """A run of `cat` over a file of the blocks, and what is right."""
+    return ["cat", f"{text_of(root)}/{names}"], file_of([root], blocks), *wanted
 
 
 def wanted(blocks, root):
     content, line = unixfs.cat(blocks, root)
-    return content, "" if line is None else f"{line}\n", int(line is not None)
+    return int(line is not None), content, b"" if line is None else f"{line}\n".encode()
+
+
+def listed(blocks, root):
+    lines, is_well = unixfs.ls(blocks, root)
+    return int(not is_well), lines, b""
 
 
 # ---- files that another program makes
 
 
 def maker(folder):
-    """The program that makes blocks, or why there is none."""
-    if not shutil.which("cargo") or not os.path.isdir(f"{REGISTRY}/ipfs-unixfs-0.2.0"):
-        return None
-    if os.path.exists(f"{folder}/maker"):
-        return f"{folder}/maker/target/release/unixfs_maker"
-    shutil.copytree(f"{HERE}/unixfs_maker", f"{folder}/maker")
-    os.mkdir(f"{folder}/maker/.cargo")
-    with open(f"{folder}/maker/.cargo/config.toml", "w", encoding="utf-8") as file:
-        file.write(SETTINGS)
-    ran = subprocess.run(["cargo", "build", "--release", "--offline", "-q"], cwd=f"{folder}/maker", capture_output=True, check=False)
-    return f"{folder}/maker/target/release/unixfs_maker" if ran.returncode == 0 else None
+    """The program that makes blocks, or none."""
+    if not os.path.exists(f"{folder}/maker"):
+        shutil.copytree(f"{HERE}/unixfs_maker", f"{folder}/maker")
+    programs = building.cargo_built(f"{folder}/maker", "ipfs-unixfs-0.2.0")
+    return programs and f"{programs}/unixfs_maker"
 
 
 def made(program, folder, chunk, links):
@@ -58,41 +53,53 @@ def made(program, folder, chunk, links):
     return dict(rows), rows[-1][0]
 
 
+def refused(line):
+    """A line that ends so, and nothing else."""
+    return lambda status, out, told: status == 1 and not out and told.endswith(f" {line}\n".encode())
+
+
+def cut_before(name, content):
+    """The whole content, or the front of it and that a block is missing."""
+    missing = f"missing {text_of(name)} dag-pb\n".encode()
+    return lambda status, out, told: status == 1 and content.startswith(out) and told == missing
+
+
+def rows_of_made(program, folder):
+    rng = random.Random(1)
+    for chunk, links in ((16, 2), (64, 3), (1000, 11), (4096, 174), (262144, 174)):
+        tree, contents = f"{folder}/tree-{chunk}", {}
+        for name, size in zip(NAMES, [0, 1, chunk - 1, chunk, chunk + 1, 7 * chunk, min(40 * chunk, 2000000)]):
+            os.makedirs(os.path.dirname(f"{tree}/{name}"), exist_ok=True)
+            contents[name] = rng.randbytes(size)
+            running.put(f"{tree}/{name}", contents[name])
+        blocks, root = made(program, tree, chunk, links)
+        for name, content in contents.items():
+            yield cat(root, name, blocks, (0, content, b""))
+        for name, line in (("sub", "refused NotAFile"), ("none", "has nothing at none"), ("a/b", "refused NotADirectory")):
+            yield cat(root, name, blocks, refused(line))
+        for lost in rng.sample(sorted(blocks), min(len(blocks), 12)):
+            fewer = {name: block for name, block in blocks.items() if name != lost}
+            for name, content in contents.items():
+                yield cat(root, name, fewer, (0, content, b""), cut_before(lost, content))
+
+
 def sweep_made(path, folder, report):
     program = maker(folder)
     if program is None:
         report("dagcar cat of files by ipfs-unixfs, which is not here", 0, [])
         return
-    rng, count, wrong = random.Random(1), 0, []
-    for chunk, links in ((16, 2), (64, 3), (1000, 11), (4096, 174), (262144, 174)):
-        tree, contents = f"{folder}/tree-{chunk}", {}
-        sizes = [0, 1, chunk - 1, chunk, chunk + 1, 7 * chunk, min(40 * chunk, 2000000)]
-        for name, size in zip(NAMES, sizes):
-            os.makedirs(os.path.dirname(f"{tree}/{name}"), exist_ok=True)
-            contents[name] = rng.randbytes(size)
-            with open(f"{tree}/{name}", "wb") as file:
-                file.write(contents[name])
-        blocks, root = made(program, tree, chunk, links)
-        file = car(root, blocks)
-        for name, content in contents.items():
-            count += 1
-            if run(path, root, name, file) != (content, "", 0):
-                wrong.append(f"{name} in chunks of {chunk}")
-        for name, line in (("sub", "refused NotAFile"), ("none", "has nothing at none"), ("a/b", "refused NotADirectory")):
-            count += 1
-            out, told, status = run(path, root, name, file)
-            if out or status != 1 or not told.endswith(f" {line}\n"):
-                wrong.append(f"{name} in chunks of {chunk}: {told}")
-        for name in rng.sample(sorted(blocks), min(len(blocks), 12)):
-            fewer = {other: block for other, block in blocks.items() if other != name}
-            for of_file, content in contents.items():
-                count += 1
-                out, told, status = run(path, root, of_file, car(root, fewer))
-                is_whole = (out, told, status) == (content, "", 0)
-                is_cut = content.startswith(out) and status == 1 and told == f"missing {text_of(name)} dag-pb\n"
-                if not is_whole and not is_cut:
-                    wrong.append(f"{of_file} without {text_of(name)}: {told}")
-    report("dagcar cat of files by ipfs-unixfs", count, wrong)
+    running.sweep(report, "dagcar cat of files by ipfs-unixfs", path, rows_of_made(program, folder))
+
+
+def rows_of_named(program, namer, folder):
+    rng = random.Random(5)
+    for size in (1, 7, 262144, 262145, 1000000):
+        tree, content = f"{folder}/named-{size}", rng.randbytes(size)
+        os.mkdir(tree)
+        running.put(f"{tree}/file", content)
+        told = subprocess.run([namer, f"{tree}/file"], capture_output=True, text=True, check=True).stdout
+        blocks, root = made(program, tree, 262144, 174)
+        yield ["cat", json.loads(told)["CIDv0"]], file_of([root], blocks), (0, content, b"")
 
 
 def sweep_named(path, folder, report):
@@ -101,19 +108,7 @@ def sweep_named(path, folder, report):
     if program is None or namer is None:
         report("dagcar cat of files that ipfs_cid names, which is not here", 0, [])
         return
-    rng, wrong, sizes = random.Random(5), [], (1, 7, 262144, 262145, 1000000)
-    for size in sizes:
-        tree, content = f"{folder}/named-{size}", rng.randbytes(size)
-        os.mkdir(tree)
-        with open(f"{tree}/file", "wb") as file:
-            file.write(content)
-        told = subprocess.run([namer, f"{tree}/file"], capture_output=True, text=True, check=True).stdout
-        blocks, root = made(program, tree, 262144, 174)
-        name = json.loads(told)["CIDv0"]
-        ran = subprocess.run([path, "cat", name], input=car(root, blocks), capture_output=True, check=False)
-        if (ran.stdout, ran.stderr, ran.returncode) != (content, b"", 0):
-            wrong.append(f"{name}, of {size} bytes: {ran.stderr}")
-    report("dagcar cat of files that ipfs_cid names", len(sizes), wrong)
+    running.sweep(report, "dagcar cat of files that ipfs_cid names", path, rows_of_named(program, namer, folder))
 
 
 # ---- blocks of go-ipfs, which the sources of `ipfs-unixfs` have
@@ -124,39 +119,33 @@ FOOBAR = ("QmRJHYTNvC3hmd9gJQARxLR1QMEincccBV53bBw524yyq6", "QmWfQ48ChJUj4vWKFsU
 
 def samples():
     """The blocks, each under its name, and the names of blocks that the sources tell."""
-    text = ""
-    for path in SAMPLES:
-        with open(path, encoding="utf-8") as file:
-            text += file.read()
+    text = "".join(running.read(path).decode() for path in SAMPLES)
     blocks = (bytes.fromhex(digits) for digits in re.findall(r'hex!\("([0-9a-f]+)"\)', text))
     blocks = {b"\x12\x20" + hashlib.sha256(block).digest(): block for block in blocks}
     told = set(re.findall(r"\bQm[1-9A-HJ-NP-Za-km-z]{44}\b", text))
     return blocks, told & set(map(text_of, blocks))
 
 
-def sweep_samples(path, report):
+def rows_of_samples(blocks):
     """Each is listed and read out, and the directories of shards are refused by name."""
+    for name, block in blocks.items():
+        yield cat(name, "", blocks, (0, b"foobar\n", b"") if text_of(name) in FOOBAR else wanted(blocks, name))
+        words, is_well = unixfs.entity(blocks, name)
+        right = int(not is_well), f"{words} {text_of(name)}\n".encode(), b""
+        if words.startswith("directory "):
+            right = listed(blocks, name)
+        elif words.startswith("shard "):
+            right = 1, b"", f"{text_of(name)} refused InShards\n".encode()
+        yield ["ls", text_of(name)], file_of([name], blocks), right
+
+
+def sweep_samples(path, report):
     if not all(map(os.path.exists, SAMPLES)):
         report("dagcar of blocks of go-ipfs, which are not here", 0, [])
         return
     blocks, told = samples()
     wrong = [] if len(told) > 10 else [f"only {len(told)} blocks have the names that are told"]
-    for name, block in blocks.items():
-        file = car(name, blocks)
-        right = (b"foobar\n", "", 0) if text_of(name) in FOOBAR else wanted(blocks, name)
-        if run(path, name, "", file) != right:
-            wrong.append(f"cat {text_of(name)}")
-        ran = subprocess.run([path, "ls", text_of(name)], input=file, capture_output=True, check=False)
-        words, is_well = unixfs.entity(blocks, name)
-        if words.startswith("directory "):
-            right = (*unixfs.ls(blocks, name), "")
-        elif words.startswith("shard "):
-            right = (b"", False, f"{text_of(name)} refused InShards\n")
-        else:
-            right = (f"{words} {text_of(name)}\n".encode(), is_well, "")
-        if (ran.stdout, ran.returncode == 0, ran.stderr.decode()) != right:
-            wrong.append(f"ls {text_of(name)}: {ran.stdout} {ran.stderr}")
-    report("dagcar of blocks of go-ipfs", 2 * len(blocks), wrong)
+    running.sweep(report, "dagcar of blocks of go-ipfs", path, rows_of_samples(blocks), wrong=wrong)
 
 
 # ---- random files
@@ -194,7 +183,9 @@ def node(rng, blocks, depth):
         at = rng.randrange(len(data))
         data = data[:at] + rng.randbytes(1) + data[at + rng.randrange(2) :]
     links = [(name, b"", size) for name, size in parts]
-    block = dagpb.field(dagpb.DATA, data) + dagpb.spell(links) if 0.1 < fault < 0.2 else dagpb.spell(links, None if 0.2 < fault < 0.21 else data)
+    block = dagpb.spell(links, None if 0.2 < fault < 0.21 else data)
+    if 0.1 < fault < 0.2:
+        block = dagpb.field(dagpb.DATA, data) + dagpb.spell(links)
     if 0.21 < fault < 0.23:
         at = rng.randrange(len(block))
         block = block[:at] + rng.randbytes(1) + block[at + 1 :]
@@ -203,9 +194,9 @@ def node(rng, blocks, depth):
     return name, total
 
 
-def sweep_random(path, report):
-    rng, wrong, count = random.Random(2), [], 3000
-    for turn in range(count):
+def random_files(count):
+    rng = random.Random(2)
+    for _ in range(count):
         blocks = {}
         root, _ = node(rng, blocks, rng.randrange(1, 5))
         names = sorted(blocks)
@@ -213,10 +204,7 @@ def sweep_random(path, report):
             del blocks[rng.choice(names)]
         elif rng.random() < 0.1:
             blocks[rng.choice(names)] = b"\x0a\x00"
-        found, right = run(path, root, "", car(root, blocks)), wanted(blocks, root)
-        if found != right:
-            wrong.append(f"file {turn}: {found[1:]}, not {right[1:]}")
-    report("dagcar cat of random files", count, wrong)
+        yield cat(root, "", blocks, wanted(blocks, root))
 
 
 # ---- random nodes, listed
@@ -240,13 +228,17 @@ def damaged(rng, block):
     if not block or rng.random() < 0.85:
         return block
     at = rng.randrange(len(block))
-    return rng.choice([block[:at], block[:at] + rng.randbytes(1) + block[at + 1 :], block[:at] + block[at + 1 :], block[:at] + b"\x80" + block[at:]])
+    front, rest = block[:at], block[at + 1 :]
+    return rng.choice([front, front + rng.randbytes(1) + rest, front + rest, front + b"\x80" + block[at:]])
 
 
 def random_node(rng):
     data = b"" if rng.random() < 0.1 else unixfs.spelled(rng.randrange(6), rng.choice([None, b"", b"to"]))
     data = damaged(rng, data + b"".join(field(rng) for _ in range(rng.randrange(4))))
-    links = [(unixfs.leaf_name(rng.randbytes(1)), rng.choice([None, b"", rng.randbytes(2)]), rng.choice([None, 0, 2**64 - 1])) for _ in range(rng.randrange(3))]
+    links = []
+    for _ in range(rng.randrange(3)):
+        name = unixfs.leaf_name(rng.randbytes(1))
+        links.append((name, rng.choice([None, b"", rng.randbytes(2)]), rng.choice([None, 0, 2**64 - 1])))
     return damaged(rng, dagpb.spell(links, data if rng.random() < 0.95 else None))
 
 
@@ -264,17 +256,12 @@ def directory(rng, blocks, count):
     return unixfs.node_name(root)
 
 
-def sweep_nodes(path, report):
-    rng, wrong, turns, count = random.Random(3), [], 100, 1000
-    for turn in range(turns):
+def directories(turns, count):
+    rng = random.Random(3)
+    for _ in range(turns):
         blocks = {}
         root = directory(rng, blocks, count)
-        ran = subprocess.run([path, "ls", text_of(root)], input=car(root, blocks), capture_output=True, check=False)
-        lines, is_well = unixfs.ls(blocks, root)
-        if (ran.stdout, ran.stderr, ran.returncode) != (lines, b"", int(not is_well)):
-            others = [pair for pair in zip(ran.stdout.split(b"\n"), lines.split(b"\n")) if pair[0] != pair[1]]
-            wrong.append(f"directory {turn}: {len(others)} lines, {others[:1]}")
-    report(f"dagcar ls of {turns * count} random nodes", turns, wrong)
+        yield ["ls", text_of(root)], file_of([root], blocks), listed(blocks, root)
 
 
 def chain(count):
@@ -289,14 +276,12 @@ def chain(count):
     return name, blocks
 
 
-def sweep_chains(path, report):
-    wrong, counts = [], (1, 2, 255, 256, 257, 300)
-    for count in counts:
+def chains():
+    for count in (1, 2, 255, 256, 257, 300):
         root, blocks = chain(count)
-        found, right = run(path, root, "", car(root, blocks)), wanted(blocks, root)
-        if found != right or (right[2] == 0) != (count <= unixfs.MOST_DEPTH):
-            wrong.append(f"a chain of {count}: {found}")
-    report("dagcar cat of chains of blocks", len(counts), wrong)
+        right = wanted(blocks, root)
+        assert (right[0] == 0) == (count <= unixfs.MOST_DEPTH)
+        yield cat(root, "", blocks, right)
 
 
 # ---- out of a store
@@ -310,57 +295,52 @@ def is_sound(block, name):
         return False
 
 
-def run_over(path, folder, word, root, blocks):
-    """What the word says of the root in a new store of these blocks, and whether they were stored."""
-    store = f"{folder}/files.db"
-    stored = subprocess.run([path, store, "import"], input=car(root, blocks), capture_output=True, check=False)
-    ran = subprocess.run([path, store, word, text_of(root)], capture_output=True, check=False)
-    for name in os.listdir(folder):
-        if name.startswith("files.db"):
-            os.remove(f"{folder}/{name}")
-    return (ran.stdout, ran.stderr.decode(), ran.returncode), stored.returncode == 0
+def sweep_stored(report, name, path, folder, rows):
+    """Each row is a word, a root, blocks, and the answer that is right over a new store of these."""
+    wrong, count = [], 0
+    for word, root, blocks, right in rows:
+        store = f"{folder}/files.db"
+        stored = running.answer([path, store, "import"], file_of([root], blocks))
+        found = running.answer([path, store, word, text_of(root)])
+        if stored[0] or found != right:
+            wrong.append((count, stored[0], found[0], found[1][-80:], found[2]))
+        count += 1
+        running.remove_store(store)
+    report(name, count, wrong)
 
 
-def sweep_store_files(path, folder, report):
-    """`dagstore cat`, over files of which a store takes each block that is there."""
-    rng, wrong, count = random.Random(4), [], 300
-    for turn in range(count):
+def files_to_store(count):
+    """Files of which a store takes each block that is there."""
+    rng = random.Random(4)
+    for _ in range(count):
         blocks = {}
         root, _ = node(rng, blocks, rng.randrange(1, 5))
         blocks = {name: block for name, block in blocks.items() if is_sound(block, name) and rng.random() < 0.97}
-        (found, is_stored), right = run_over(path, folder, "cat", root, blocks), wanted(blocks, root)
-        if not is_stored or found != right:
-            wrong.append(f"file {turn}: {found[1:]}, not {right[1:]}")
-    report("dagstore cat of random files", count, wrong)
+        yield "cat", root, blocks, wanted(blocks, root)
 
 
-def sweep_store_nodes(path, folder, report):
-    """`dagstore ls`, over directories of which a store takes each block that is there. Some blocks have many links to them."""
-    rng, wrong, turns, count = random.Random(5), [], 100, 100
-    for turn in range(turns):
+def nodes_to_store(turns, count):
+    """Directories of which a store takes each block that is there. Some blocks have many links to them."""
+    rng = random.Random(5)
+    for _ in range(turns):
         blocks = {}
         first = directory(rng, blocks, count)
         links, data = dagpb.read(blocks[first])
         root_block = dagpb.spell(rng.choices(links, k=2 * count), data)
         root = unixfs.node_name(root_block)
         blocks = {name: block for name, block in blocks.items() if is_sound(block, name)} | {root: root_block}
-        found, is_stored = run_over(path, folder, "ls", root, blocks)
-        lines, is_well = unixfs.ls(blocks, root)
-        if not is_stored or found != (lines, "", int(not is_well)):
-            others = [pair for pair in zip(found[0].split(b"\n"), lines.split(b"\n")) if pair[0] != pair[1]]
-            wrong.append(f"directory {turn}: {found[1:]}, {len(others)} lines, {others[:1]}")
-    report(f"dagstore ls of {2 * turns * count} links to random nodes", turns, wrong)
+        yield "ls", root, blocks, listed(blocks, root)
 
 
 def sweep_store(path, folder, report):
-    sweep_store_files(path, folder, report)
-    sweep_store_nodes(path, folder, report)
+    sweep_stored(report, "dagstore cat of random files", path, folder, files_to_store(300))
+    sweep_stored(report, "dagstore ls of 20000 links to random nodes", path, folder, nodes_to_store(100, 100))
 
 
 def sweep(path, folder, report):
     sweep_made(path, folder, report)
     sweep_named(path, folder, report)
     sweep_samples(path, report)
-    sweep_random(path, report)
-    sweep_nodes(path, report)
-    sweep_chains(path, report)
+    running.sweep(report, "dagcar cat of random files", path, random_files(3000))
+    running.sweep(report, "dagcar ls of 100000 random nodes", path, directories(100, 1000))
+    running.sweep(report, "dagcar cat of chains of blocks", path, chains())

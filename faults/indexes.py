@@ -2,17 +2,14 @@
 
 The bytes of an index are made here, from the format alone (CARv2 specification, "Index"): none is copied from a run."""
 
-import os
 import random
-import resource
-import subprocess
 
-from car_bytes import cid, counted, header, link, missing_line, section, text_of, varint
+import running
+from car_bytes import cid, counted, header, lines_of, link, missing_line, parts_of, text_of, varint, wrapped
 
-PRAGMA = b"\x0a\xa1\x67version\x02"
 NO_ENTRY = b"dagcar: the index has no right entry of this block\n"
 NO_WAY_ENTRY = b"dagcar: the index has no right entry of a block on the way\n"
-NOT_OPENED = b"dagcar: the file cannot be opened\n"
+NOT_OPENED = 2, b"", b"dagcar: the file cannot be opened\n"
 
 LEAVES = [b"leaf %d" % number for number in range(40)]
 IDENTITY = b"\x01\x55\x00\x05hello"
@@ -24,31 +21,11 @@ def little(number, size):
     return number.to_bytes(size, "little")
 
 
-def number_of(bytes_, at):
-    """A varint, and the place behind it."""
-    number, place = 0, 0
-    while True:
-        number, place = number + (bytes_[at] % 128 << 7 * place), place + 1
-        at += 1
-        if bytes_[at - 1] < 128:
-            return number, at
-
-
-def multihash(name):
-    """The hash code and the digest of a name."""
-    if name[:1] == b"\x12":
-        return 0x12, name[2:]
-    _codec, at = number_of(name, 1)
-    code, at = number_of(name, at)
-    _length, at = number_of(name, at)
-    return code, name[at:]
-
-
 def data_of(sections, root=None):
     """A file of version 1, and its entries: hash code, digest and place of each section."""
     out, entries = counted(header(*([] if root is None else [root]))), []
     for name, block in sections:
-        entries.append((*multihash(name), len(out)))
+        entries.append((*parts_of(name)[1:3], len(out)))
         out += counted(name + block)
     return out, entries
 
@@ -83,12 +60,10 @@ def by_width(entries):
     return varint(0x0400) + buckets(sorted(entries, key=lambda entry: (len(entry[1]), entry[1], entry[2])))
 
 
-def version_2(data, index, padding=b"", listed=True, place=None):
+def version_2(data, index, padding=b"", place=None):
     """The file of version 2 of these parts."""
-    begin = 51 + len(padding)
-    at = begin + len(data) if place is None else place
-    fields = little(begin, 8) + little(len(data), 8) + little(at, 8)
-    return PRAGMA + (b"\x80" if listed else b"\x00") + bytes(15) + fields + padding + data + index
+    place = 51 + len(padding) + len(data) if place is None else place
+    return wrapped(data, padding, index, index=place, characteristics=b"\x80" + bytes(15))
 
 
 SECTIONS = [(cid(leaf, codec=0x55), leaf) for leaf in LEAVES]
@@ -97,37 +72,9 @@ DATA, ENTRIES = data_of(SECTIONS, root=SECTIONS[0][0])
 SOUGHT, BLOCK = SECTIONS[17]
 
 
-def limit():
-    """Room for the program, and for nothing that is taken from a length."""
-    resource.setrlimit(resource.RLIMIT_AS, (1 << 28, 1 << 28))
-
-
-class Runs:
-    """Runs of the program over files that are named."""
-
-    def __init__(self, path, folder):
-        self.path, self.file = path, os.path.join(folder, "indexed.car")
-
-    def run(self, words, file):
-        with open(self.file, "wb") as out:
-            out.write(file)
-        how = {"capture_output": True, "preexec_fn": limit, "timeout": 60, "stdin": subprocess.DEVNULL}
-        ran = subprocess.run([self.path, *words, self.file], check=False, **how)
-        return ran.returncode, ran.stdout, ran.stderr
-
-    def piped(self, words, file):
-        """What is said of the same bytes on standard input, where nothing is read at places."""
-        ran = subprocess.run([self.path, *words], check=False, input=file, capture_output=True, preexec_fn=limit, timeout=60)
-        return ran.returncode, ran.stdout, ran.stderr
-
-    def wrong(self, rows):
-        """The runs of which the answer is none of those that are wanted."""
-        wrong = []
-        for number, (words, file, *wanted) in enumerate(rows):
-            found = self.run(words, file)
-            if found not in wanted:
-                wrong.append((words[0], number, found[0], found[1][-60:], found[2]))
-        return wrong
+def piped(path, words, file):
+    """What is said of the same bytes on standard input, where nothing is read at places."""
+    return running.answer([path, *words], file, preexec_fn=running.short_of_memory)
 
 
 def get(name):
@@ -198,7 +145,7 @@ def hostile_indexes():
         yield get(SOUGHT), version_2(DATA, kind + by_width(ENTRIES)[2:]), wanted
     empty = little(40, 4) + little(0, 8)
     yield get(SOUGHT), version_2(DATA, varint(0x0400) + little(100_000, 4) + empty * 100_000), wanted
-    many = [(0x12, multihash(SOUGHT)[1], ENTRIES[3][2])] * 100_000
+    many = [(0x12, SOUGHT[-32:], ENTRIES[3][2])] * 100_000
     yield get(SOUGHT), version_2(DATA, by_width(many)), wanted
 
 
@@ -228,7 +175,7 @@ def asks(root=WAY[0][0]):
         yield from (["at", text], ["at", "--raw", text], ["prove", text])
 
 
-def paths_by_index(runs):
+def paths_by_index(path):
     """Paths over blocks to which an index leads, where a scan would read no file."""
     data, entries = data_of(SECTIONS[:9] + WAY + SECTIONS[9:])
     way = [entry for entry in entries if entry[2] in [entries[number][2] for number in (9, 10, 11)]]
@@ -236,7 +183,7 @@ def paths_by_index(runs):
     blank = b"\xff" * first + data[first:last] + b"\xff" * (len(data) - last)
     for root in (WAY[0][0], INLINE):
         for words in asks(root):
-            wanted = runs.piped(words, data)
+            wanted = piped(path, words, data)
             for make in (by_multihash, by_width):
                 for padding in (b"", bytes(100)):
                     yield words, version_2(blank, make(entries), padding), wanted
@@ -251,12 +198,12 @@ def past(wanted):
     return status, out, told + (b"" if status else NO_WAY_ENTRY)
 
 
-def paths_past_index(runs):
+def paths_past_index(path):
     """Paths over blocks of which an index lists not all, or none, or wrong; and files that have not all."""
     data, entries = data_of(SECTIONS[:9] + WAY + SECTIONS[9:])
     cut, left = data_of(SECTIONS[:9] + WAY[:1] + WAY[2:] + SECTIONS[9:])
     for words in asks():
-        wanted = runs.piped(words, data)
+        wanted = piped(path, words, data)
         yield words, version_2(data, by_width(entries), place=0), wanted
         for make in (by_multihash, by_width):
             yield words, version_2(data, make(entries[:9] + entries[10:])), past(wanted)
@@ -265,18 +212,19 @@ def paths_past_index(runs):
                 moved = (*entries[9][:2], place)
                 yield words, version_2(data, make([*entries[:9], moved, *entries[10:]])), past(wanted)
             # The block is not there, of whatever entries: no index says so, but the file.
-            yield words, version_2(cut, make(left)), past(runs.piped(words, cut)) if words[-1][-1] != "/" else runs.piped(words, cut)
-        yield words, version_2(data[:-1], by_width(entries[:9])), runs.piped(words, data[:-1])
+            wanted_of_cut = piped(path, words, cut)
+            yield words, version_2(cut, make(left)), past(wanted_of_cut) if words[-1][-1] != "/" else wanted_of_cut
+        yield words, version_2(data[:-1], by_width(entries[:9])), piped(path, words, data[:-1])
 
 
-def wrong_blocks_on_the_way(runs):
+def wrong_blocks_on_the_way(path):
     """Sections of other bytes under a name on the way, to which an index leads first, or alone."""
     wrong = (WAY[1][0], b"\x81\x07")
     data, entries = data_of([WAY[0], wrong, WAY[1], WAY[2]])
     for words in asks():
         if words[-1][-1] == "/":
             continue
-        wanted = runs.piped(words, data)
+        wanted = piped(path, words, data)
         for make in (by_multihash, by_width):
             yield words, version_2(data, make(entries)), wanted
             yield words, version_2(data, make([entries[0], entries[1], entries[3]])), past(wanted)
@@ -345,7 +293,7 @@ def listed(index):
     lines = [f"index {'Multihash' * has_codes}IndexSorted"]
     for code, digest, offset in entries:
         lines.append(f"{offset} {hex(code) + ' ' if has_codes else ''}{digest.hex()}")
-    return 0, "".join(it + "\n" for it in lines).encode(), b""
+    return 0, lines_of(lines), b""
 
 
 def found(sections, index):
@@ -373,8 +321,7 @@ def judged(sections, index):
     except Fault as fault:
         told = f"refused Index{fault}\n".encode()
         return (1, b"", told), (1, b"", told), "wrong"
-    text = "".join(it + "\n" for it in lines).encode()
-    status = 1 if lines else 0
+    status, text = int(bool(lines)), lines_of(lines)
     return (status, text + f"entries {count}\n".encode(), b""), (status, text, b""), "wrong" if lines else "right"
 
 
@@ -443,7 +390,7 @@ def random_indexes():
             yield sections, bytes(index)
 
 
-def rows_of_judged(runs, given):
+def rows_of_judged(path, given):
     """The words, a file, and what is to be said of it."""
     for sections, index in given:
         data, _ = data_of(sections)
@@ -451,9 +398,9 @@ def rows_of_judged(runs, given):
         alone, beside, word = judged(sections, index)
         yield ["list", "--index"], file, listed(index)
         yield ["check", "--index"], file, alone
-        status, out, told = runs.piped(["check"], file)
+        status, out, told = piped(path, ["check"], file)
         yield ["check"], file, (max(status, beside[0]), out + beside[1], told + beside[2])
-        status, out, told = runs.piped(["inspect"], file)
+        status, out, told = piped(path, ["inspect"], file)
         yield ["inspect"], file, (status, out.replace(b"index yes\n", f"index {word}\n".encode()), told)
 
 
@@ -468,31 +415,27 @@ def files_without_an_index():
     yield ["list", "--index"], cut, listed(by_width(ENTRIES))
 
 
-def judged_whole(runs):
+def judged_whole(path):
     """Files of which `check` and `inspect` say no more than on standard input."""
     for file in (DATA, version_2(DATA, b"", place=0), DATA[:-1], b"", version_2(DATA[:-1], by_width(ENTRIES))):
         for words in (["check"], ["inspect"], ["inspect", "--json"]):
-            yield words, file, runs.piped(words, file)
+            yield words, file, piped(path, words, file)
 
 
 def sweep(path, folder, report):
-    runs = Runs(path, folder)
     for name, rows in (
         ("an index is made", files_to_index()),
         ("get by an index", blocks_by_index()),
         ("get past an index", blocks_past_index()),
-        ("paths by an index", paths_by_index(runs)),
-        ("paths past an index", paths_past_index(runs)),
-        ("wrong blocks on a path's way", wrong_blocks_on_the_way(runs)),
+        ("paths by an index", paths_by_index(path)),
+        ("paths past an index", paths_past_index(path)),
+        ("wrong blocks on a path's way", wrong_blocks_on_the_way(path)),
         ("hostile indexes", hostile_indexes()),
         ("sections that repeat, with an index", repeated_sections()),
-        ("indexes are judged", rows_of_judged(runs, indexes_to_judge())),
-        ("indexes of other bytes are judged", rows_of_judged(runs, random_indexes())),
+        ("indexes are judged", rows_of_judged(path, indexes_to_judge())),
+        ("indexes of other bytes are judged", rows_of_judged(path, random_indexes())),
         ("no index is judged", files_without_an_index()),
-        ("files with no index to judge", judged_whole(runs)),
+        ("files with no index to judge", judged_whole(path)),
     ):
-        rows = list(rows)
-        report(f"dagcar, {name}", len(rows), runs.wrong(rows))
-    away = os.path.join(folder, "away.car")
-    ran = subprocess.run([path, "index", away], check=False, capture_output=True, timeout=60)
-    report("dagcar index, no file", 1, [] if (ran.returncode, ran.stdout, ran.stderr) == (2, b"", NOT_OPENED) else [ran])
+        running.sweep(report, f"dagcar, {name}", path, rows, folder, preexec_fn=running.short_of_memory)
+    running.sweep(report, "dagcar index, no file", path, [(["index", f"{folder}/away.car"], b"", NOT_OPENED)])

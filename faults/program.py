@@ -5,11 +5,10 @@ The answers wanted here are those of the format and of the grammar of refusals (
 import os
 import subprocess
 
-PERSON = "a3646e616d656c477261636520486f707065726a70726f66657373696f6e72636f6d7075746572"
-PERSON += "20736369656e746973746d796561725f6f665f6269727468190772"
-FOO = "015512202c26b46b68ffc68ff99b453c1d30413413422d706483bfa0f98a5e886266e7ae"
-LINK = "d82a582500" + FOO
-THREE_LINKS = "a3626f7282" + LINK * 2 + "63666f6ff564736f6d65a1666e6573746564" + LINK
+from expected import LINK, PERSON, THREE_LINKS
+from running import put
+
+FOO = LINK.removeprefix("d82a582500")
 
 # Each line of input, what `check` answers, and what `links` does where that is another answer.
 ROWS = [
@@ -57,9 +56,7 @@ class Sweep:
         self.program, self.library, self.report = program, library, report
         self.name = "dagcbor" if given is INPUT else "dagcar"
         self.wanted, self.fault_status = wanted, fault_status
-        self.counts, self.input = (os.path.join(folder, name) for name in ("counts", "input"))
-        with open(self.input, "wb") as file:
-            file.write(given)
+        self.counts, self.input = f"{folder}/counts", put(f"{folder}/input", given)
 
     def run(self, words, **faults):
         """Status, standard output and standard error; and how many allocations, reads and writes there were."""
@@ -98,43 +95,32 @@ class Sweep:
 
     def whole(self, command):
         answer, counts = self.run(command.split())
-        wrong = [] if answer == (*self.wanted[command], b"") else [answer]
-        self.report(f"{self.name} {command}, nothing refused", 1, wrong)
-        answer, _ = self.run(command.split(), SHORT_ALL=1)
-        wrong = [] if answer == (*self.wanted[command], b"") else [answer]
-        self.report(f"{self.name} {command}, one byte a read and a write", 1, wrong)
+        short, _ = self.run(command.split(), SHORT_ALL=1)
+        for how, found in (("nothing refused", answer), ("one byte a read and a write", short)):
+            self.report(f"{self.name} {command}, {how}", 1, [] if found == (*self.wanted[command], b"") else [found])
         return counts
 
-    def sweep_one(self, command):
-        """A command that reads all of its input before it answers, with each place failing. A call that is interrupted is read
-        again."""
-        memory, input_, output = (
-            f"{self.name}: {it}\n".encode() for it in ("out of memory", "input failed", "output failed")
-        )
+    def sweep_command(self, command, read_errors, write_errors):
+        """The command with each place failing."""
         allocations, reads, writes = self.whole(command)
+        memory, input_, output = (f"{self.name}: {it}\n".encode() for it in ("out of memory", "input failed", "output failed"))
         self.refused(command, "REFUSE_ALLOCATION", allocations, memory)
         self.refused(command, "REFUSE_FROM", allocations, memory)
-        self.refused(command, "FAIL_READ", reads, input_, ERRNO=EIO)
-        for error in (EIO, ENOSPC, EPIPE, 0):
+        for error in read_errors:
+            self.refused(command, "FAIL_READ", reads, input_, ERRNO=error)
+        for error in write_errors:
             self.refused(command, "FAIL_WRITE", writes, output, ERRNO=error)
         self.short(command, "SHORT_READ", reads)
         self.short(command, "SHORT_WRITE", writes)
 
+    def sweep_one(self, command):
+        """A command that reads all of its input before it answers. A call that is interrupted is read again."""
+        self.sweep_command(command, (EIO,), (EIO, ENOSPC, EPIPE, 0))
+
     def sweep(self, usage, *words):
-        """Each command, with each place failing; and these words, which are no command."""
-        memory, input_, output = (
-            f"{self.name}: {it}\n".encode() for it in ("out of memory", "input failed", "output failed")
-        )
+        """Each command; and these words, which are no command."""
         for command in self.wanted:
-            allocations, reads, writes = self.whole(command)
-            self.refused(command, "REFUSE_ALLOCATION", allocations, memory)
-            self.refused(command, "REFUSE_FROM", allocations, memory)
-            for error in (EIO, EINTR, EAGAIN):
-                self.refused(command, "FAIL_READ", reads, input_, ERRNO=error)
-            for error in (EIO, EINTR, ENOSPC, EPIPE, 0):
-                self.refused(command, "FAIL_WRITE", writes, output, ERRNO=error)
-            self.short(command, "SHORT_READ", reads)
-            self.short(command, "SHORT_WRITE", writes)
+            self.sweep_command(command, (EIO, EINTR, EAGAIN), (EIO, EINTR, ENOSPC, EPIPE, 0))
         # The last two are no text.
         words = ([], *words, [b"\xff"], [b"check\xff"])
         usage = (2, b"", f"usage: {self.name} {usage}\n".encode())

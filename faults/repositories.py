@@ -4,19 +4,18 @@ No row is copied from a run: trees are those of `signed_trees`."""
 
 import base64
 import json
-import os
-import pathlib
 import random
 import re
-import subprocess
 
-from car_bytes import cid, counted, missing_line, section, text_of
-from signed_trees import (MOST_KEY, Node, Pool, Row, commit, fields, file_of, key_text, layer, lines_of, named, record, shared_front, spelled,
-                          tree_of)
+import running
+from car_bytes import cid, counted, header, missing_line, section, text_of
+from signed_trees import (MOST_KEY, Node, Pool, Row, commit, fields, file_of, key_text, layer, lines_of, named, record,
+                          shared_front, spelled, tree_of)
 
 RANDOM_TREES = 2_000
 
-# The name of a record, and the root of the tree of these keys, each of that record: from the tests of the reference implementation.
+# The name of a record, and the root of the tree of these keys, each of that record: from the tests of the reference
+# implementation.
 VALUE = "bafyreie5cvv4h45feadgeuwhbcutmh6t2ceseocckahdoe6uat64zmz454"
 ROOTS = {
     (): "bafyreie5737gdxlw5i64vzichcalba3z2v5n6icifvx5xytvske7mr3hpm",
@@ -158,8 +157,9 @@ def long_key(rng, pool):
 
 
 def no_node(rng, pool):
-    block = rng.choice((b"\x80", b"\xa0", b"\x05", fields((b"e", b"\x80")), fields((b"e", b"\x80"), (b"l", b"\xf6"), (b"m", b"\x01")),
-                        fields((b"e", b"\x81\xa0"), (b"l", b"\xf6"))))
+    empty, none = (b"e", b"\x80"), (b"l", b"\xf6")
+    nodes = fields(empty), fields(empty, none, (b"m", b"\x01")), fields((b"e", b"\x81\xa0"), none)
+    block = rng.choice((b"\x80", b"\xa0", b"\x05", *nodes))
     tree = Node(None, [])
     tree.block = lambda: block
     return over(tree), "node"
@@ -167,8 +167,8 @@ def no_node(rng, pool):
 
 def no_commit(rng, pool):
     tree, _ = some(rng, pool)
-    changed = rng.choice(({"did": None}, {"sig": spelled(3, b"a")}, {"data": b"\xf6"}, {"prev": None}, {"version": spelled(3, b"3")},
-                          {"rev": b"\x01"}, {"version": b"\x20"}))
+    changed = rng.choice(({"did": None}, {"sig": spelled(3, b"a")}, {"data": b"\xf6"}, {"prev": None},
+                          {"version": spelled(3, b"3")}, {"rev": b"\x01"}, {"version": b"\x20"}))
     return over(tree, **changed), "commit"
 
 
@@ -190,7 +190,7 @@ def other_fields(rng, pool):
 
 def no_root(rng, pool):
     tree, _ = some(rng, pool)
-    return counted(b"\xa2\x65roots\x80\x67version\x01") + section(commit(tree.name())), "root"
+    return counted(header()) + section(commit(tree.name())), "root"
 
 
 def later_root(rng, pool):
@@ -206,9 +206,9 @@ def commit_missing(rng, pool):
     return file_of(commit(tree.name()), tree.all(), name), missing_line(name)
 
 
-DAMAGES = (node_missing, short_prefix, long_prefix, lower_key, empty_subtree, empty_chain, empty_root, deep, out_of_order, listed_twice, node_twice,
-           empty_key, long_key, no_node, no_commit, other_version, other_fields, missing_field, no_root, later_root,
-           commit_missing)
+DAMAGES = (node_missing, short_prefix, long_prefix, lower_key, empty_subtree, empty_chain, empty_root, deep, out_of_order,
+           listed_twice, node_twice, empty_key, long_key, no_node, no_commit, other_version, other_fields, missing_field, no_root,
+           later_root, commit_missing)
 
 # What a line says of a damage.
 WORDS = {
@@ -226,12 +226,6 @@ WORDS = {
 }
 
 
-def ran(path, words, data):
-    how = {"input": data, "capture_output": True, "timeout": 120, "check": False}
-    it = subprocess.run([path, *words], **how)
-    return it.returncode, it.stdout.decode("ascii"), it.stderr.decode("utf-8", "replace")
-
-
 def reference():
     """Whether this reading gives the roots of the reference implementation."""
     value = base64.b32decode(VALUE[1:].upper() + "=" * (-len(VALUE[1:]) % 8))
@@ -241,15 +235,13 @@ def reference():
             yield f"{keys}: another root than the reference's"
 
 
-def whole(path, rng, pool, count):
-    for number in range(count):
+def whole(rng, pool, count):
+    for _ in range(count):
         records = pool.take(rng)
         tree = tree_of(records)
         block = commit(tree.name())
         more = rng.choice(([], [named(block)], [tree.name(), record(b"away")]))
-        found = ran(path, ["records"], file_of(block, tree.all(), named(block), *more))
-        if found != (0, lines_of(records), ""):
-            yield f"tree {number}, of {len(records)} records: {found[0]}, {found[2]!r}"
+        yield ["records"], file_of(block, tree.all(), named(block), *more), (0, lines_of(records).encode(), b"")
 
 
 def changed_lines(old, new):
@@ -272,68 +264,60 @@ def later(rng, pool, records):
     return {**kept, **changed, **{key: fresh[key] for key in some_new}}
 
 
-def ran_on_two(path, folder, old, new, which):
-    """`changes` of two files. The one of that number, if it is one of the two, is standard input."""
-    words, data = ["changes"], b""
-    for at, file in enumerate((old, new)):
-        if at == which:
-            data = file
-            words.append("-")
-        else:
-            name = os.path.join(folder, f"{at}.car")
-            pathlib.Path(name).write_bytes(file)
-            words.append(name)
-    return ran(path, words, data)
+def on_two(folder, old, new, which):
+    """The words and the bytes of `changes` of two files. The one of that number, if it is one of the two, is standard input."""
+    files = [old, new]
+    words = ["-" if at == which else running.put(f"{folder}/{at}.car", file) for at, file in enumerate(files)]
+    return ["changes", *words], files[which] if which < 2 else b""
 
 
-def differing(path, folder, rng, pool, count):
+def differing(folder, rng, pool, count):
     """Two repositories that share most records; each third pair is one of equal records."""
     for number in range(count):
         old = pool.take(rng)
         new = old if number % 3 == 2 else later(rng, pool, old)
-        found = ran_on_two(path, folder, over(tree_of(old)), over(tree_of(new)), number % 4)
-        if found != (0, changed_lines(old, new), ""):
-            yield f"changes {number}, of {len(old)} and {len(new)} records: {found[0]}, {found[2]!r}"
+        words, data = on_two(folder, over(tree_of(old)), over(tree_of(new)), number % 4)
+        yield words, data, (0, changed_lines(old, new).encode(), b"")
 
 
 def differing_damaged(path, folder, rng, pool, count):
     """One of the two files damaged, or both: of the old one is told what `records` tells of it, else of the new one."""
     for number in range(count):
-        damage = DAMAGES[number % len(DAMAGES)]
-        bad, wanted = damage(rng, pool)
+        bad, wanted = DAMAGES[number % len(DAMAGES)](rng, pool)
         sound = over(tree_of(pool.take(rng)))
-        old, new, front = ((bad, sound, "old: "), (sound, bad, "new: "), (bad, pick_other(rng, pool), "old: "))[number // len(DAMAGES) % 3]
-        found = ran_on_two(path, folder, old, new, number % 4)
-        told = ran(path, ["records"], bad)[2]
-        if found != (1, "", front + told) or WORDS.get(wanted, wanted) not in told:
-            yield f"changes, {damage.__name__}, {number}: {found!r}"
+        others = (bad, sound, b"old: "), (sound, bad, b"new: "), (bad, pick_other(rng, pool), b"old: ")
+        old, new, front = others[number // len(DAMAGES) % 3]
+        told, words = running.answer([path, "records"], bad)[2], WORDS.get(wanted, wanted).encode()
+        is_right = lambda *found, right=(1, b"", front + told), is_said=words in told: is_said and found == right
+        yield *on_two(folder, old, new, number % 4), is_right
 
 
 def pick_other(rng, pool):
     return rng.choice(DAMAGES)(rng, pool)[0]
 
 
-def not_told(path, folder):
+def not_told(folder):
     """Words and files that are none, of which the status is 2."""
     file = over(tree_of({b"a/b": record(b"1")}))
-    away, here = os.path.join(folder, "away.car"), os.path.join(folder, "here.car")
-    pathlib.Path(here).write_bytes(file)
-    usage = ["changes"], ["changes", here], ["changes", "-", "-"], ["changes", here, here, here]
-    closed = ["changes", away, here], ["changes", here, away], ["changes", "-", away], ["changes", away, "-"], ["changes", away, away]
-    for line, calls in ("usage: dagcar ", usage), ("dagcar: the file cannot be opened\n", closed):
+    away, here = f"{folder}/away.car", running.put(f"{folder}/here.car", file)
+    usage = [], [here], ["-", "-"], [here, here, here]
+    closed = [away, here], [here, away], ["-", away], [away, "-"], [away, away]
+    for front, calls in (b"usage: dagcar ", usage), (b"dagcar: the file cannot be opened\n", closed):
+        is_line = lambda told, front=front: told.startswith(front) and told.count(b"\n") == 1
         for words in calls:
-            status, out, told = ran(path, words, file)
-            if status != 2 or out or not told.startswith(line) or told.count("\n") != 1:
-                yield f"{words[:1]} and {len(words) - 1} files: {status}, {told!r}"
+            yield ["changes", *words], file, lambda status, out, told, is_line=is_line: status == 2 and not out and is_line(told)
 
 
-def damaged(path, rng, pool, count):
+def is_told(wanted):
+    """Whether a line says what is wrong, and nothing else is written."""
+    words = WORDS.get(wanted, wanted).encode()
+    return lambda status, out, told: status == 1 and not out and words in told and told.count(b"\n") == 1
+
+
+def damaged(rng, pool, count):
     for number in range(count):
-        damage = DAMAGES[number % len(DAMAGES)]
-        file, wanted = damage(rng, pool)
-        status, out, told = ran(path, ["records"], file)
-        if status != 1 or out or WORDS.get(wanted, wanted) not in told or told.count("\n") != 1:
-            yield f"{damage.__name__}, {number}: {status}, {len(out)} bytes, {told!r}"
+        file, wanted = DAMAGES[number % len(DAMAGES)](rng, pool)
+        yield ["records"], file, is_told(wanted)
 
 
 def word_of(rng, key):
@@ -347,16 +331,14 @@ def word_of(rng, key):
     return key_text(key).encode()
 
 
-def raw_record(path):
+def raw_record():
     """Of a record whose name says another codec the bytes are not shown, also where they are DAG-CBOR."""
     data = spelled(2, b"raw")
     for codec, word in ((0x55, "raw"), (0x70, "dag-pb"), (0x0129, "dag-json"), (0x300, "codec 0x300")):
         name = cid(data, codec)
         tree = tree_of({b"a/b": name})
         file = file_of(commit(tree.name()), tree.all()) + section(data, codec)
-        found = ran(path, ["record", "a/b"], file)
-        if found != (1, "", f"{text_of(name)} is {word}, not dag-cbor\n"):
-            yield f"{word}: {found!r}"
+        yield ["record", "a/b"], file, (1, b"", f"{text_of(name)} is {word}, not dag-cbor\n".encode())
 
 
 def way_to(tree, key):
@@ -369,15 +351,14 @@ def way_to(tree, key):
     return way
 
 
-def proved(path, word, file):
-    """What `record-proof` says, of which the output is bytes."""
-    got = subprocess.run([path, "record-proof", word], input=file, capture_output=True, timeout=60)
-    return got.returncode, got.stdout, got.stderr.decode()
-
-
 def said_of(block, tree):
     """What `commit` says of a commit of the reference."""
-    return f"commit {text_of(named(block))}\ndid did:plc:abc\nrev 3jzfcijpj2z2a\ndata {text_of(tree.name())}\nprev none\n"
+    name, data = text_of(named(block)), text_of(tree.name())
+    return f"commit {name}\ndid did:plc:abc\nrev 3jzfcijpj2z2a\ndata {data}\nprev none\n".encode()
+
+
+def text_of_bytes(data):
+    return '{"/":{"bytes":"' + base64.b64encode(data).decode().rstrip("=") + '"}}'
 
 
 def json_of(records, blocks):
@@ -386,61 +367,59 @@ def json_of(records, blocks):
     rows = [(key_text(key), name, data.get(name)) for key, name in sorted(records.items())]
     lines = [f'{{"cid":{{"/":"{text_of(name)}"}},"key":{json.dumps(key)},"value":{text}}}\n' for key, name, text in rows if text]
     told = [f"{key}: {missing_line(name)}\n" for key, name, text in rows if not text]
-    return 1 if told else 0, "".join(lines), "".join(told)
+    return int(bool(told)), "".join(lines).encode(), "".join(told).encode()
 
 
-def one_record(path, rng, pool, count):
+def of_one_record(rng, key, records, proof, data):
+    """What is asked of one record of the file, and what is right: its block is that of the data, or there is none."""
+    word = word_of(rng, key)
+    if key not in records:
+        yield ["record-proof", word], (0, proof, b"")
+        yield ["record", word], lambda status, out, told: (status, out) == (1, b"") and b"no record" in told
+    elif records[key] == record(data):
+        yield ["record-proof", word], (0, proof + section(spelled(2, data)), b"")
+        yield ["record", word], (0, f"{text_of_bytes(data)}\n".encode(), b"")
+    else:
+        missing = 1, b"", f"{missing_line(records[key])}\n".encode()
+        yield from ((["record-proof", word], missing), (["record", word], missing))
+
+
+def one_record(rng, pool, count):
     """Each key that there is, and some that are not, over the whole file and over the nodes on the way alone."""
-    for number in range(count):
+    for _ in range(count):
         data = rng.randbytes(8)
         records = {**pool.take(rng), b"app.bsky.feed.post/self": record(data)}
         tree = tree_of(records)
-        block = commit(tree.name())
+        block, blocks = commit(tree.name()), [(spelled(2, data), text_of_bytes(data))]
         key = rng.choice([*records, b"app.bsky.feed.post/none"])
         way = way_to(tree, key)
         for nodes in (tree.all(), way):
             file = file_of(block, nodes) + section(spelled(2, data))
-            word = word_of(rng, key)
-            if ran(path, ["commit"], file) != (0, said_of(block, tree), ""):
-                yield f"commit {number}"
-            shown = '{"/":{"bytes":"' + base64.b64encode(data).decode().rstrip("=") + '"}}'
-            if nodes == tree.all() and ran(path, ["records", "--json"], file) != json_of(records, [(spelled(2, data), shown)]):
-                yield f"records --json {number}"
-            found = b"" if key not in records else section(spelled(2, data))
-            wanted = (0, file_of(block, way) + found, "")
-            if key in records and records[key] != record(data):
-                wanted = (1, b"", missing_line(records[key]) + "\n")
-            if proved(path, word, file) != wanted:
-                yield f"record-proof {number}: {key!r}"
-            status, out, told = ran(path, ["record", word], file)
-            if key not in records:
-                right = (status, out) == (1, "") and "no record" in told
-            elif records[key] == record(data):
-                text = base64.b64encode(data).decode().rstrip("=")
-                right = (status, out, told) == (0, f'{{"/":{{"bytes":"{text}"}}}}\n', "")
-            else:
-                right = (status, out, told) == (1, "", missing_line(records[key]) + "\n")
-            if not right:
-                yield f"record {number}: {key!r}: {status}, {out!r}, {told!r}"
+            yield ["commit"], file, (0, said_of(block, tree), b"")
+            if nodes == tree.all():
+                yield ["records", "--json"], file, json_of(records, blocks)
+            for words, wanted in of_one_record(rng, key, records, file_of(block, way), data):
+                yield words, file, wanted
 
 
 def small(folder):
     """A file of three records, and what is said of it, and of it and another one."""
-    note, link_to = fields((b"text", spelled(3, b"hi"))), spelled(2, b"away")
-    records = {b"app.bsky.feed.post/self": named(note), b"app.bsky.feed.like/1": named(link_to), b"a": record(b"b")}
-    tree = tree_of(records)
-    file = file_of(commit(tree.name()), tree.all()) + section(note) + section(link_to) + section(b"\x41b")
-    lines = lines_of(records).encode()
+    note, link_to, raw = fields((b"text", spelled(3, b"hi"))), spelled(2, b"away"), spelled(2, b"b")
+    key = b"app.bsky.feed.post/self"
+    records = {key: named(note), b"app.bsky.feed.like/1": named(link_to), b"a": named(raw)}
     later_records = {b"a": record(b"c"), b"b/c": record(b"d")}
-    newer = os.path.join(folder, "newer.car")
-    pathlib.Path(newer).write_bytes(over(tree_of(later_records)))
-    changed = changed_lines(records, later_records).encode()
-    block, key = commit(tree.name()), b"app.bsky.feed.post/self"
-    proof = file_of(block, way_to(tree, key)) + section(note)
-    texts = [(note, '{"text":"hi"}'), (link_to, '{"/":{"bytes":"YXdheQ"}}'), (b"\x41b", '{"/":{"bytes":"Yg"}}')]
-    status, data, _ = json_of(records, texts)
-    wanted = {"records": (0, lines), "records --json": (status, data.encode()), f"record {key.decode()}": (0, b'{"text":"hi"}\n'), f"changes - {newer}": (0, changed)}
-    return file, {**wanted, "commit": (0, said_of(block, tree).encode()), f"record-proof {key.decode()}": (0, proof)}
+    texts = [(note, '{"text":"hi"}'), (link_to, text_of_bytes(b"away")), (raw, text_of_bytes(b"b"))]
+    tree = tree_of(records)
+    block = commit(tree.name())
+    newer = running.put(f"{folder}/newer.car", over(tree_of(later_records)))
+    return file_of(block, tree.all()) + b"".join(map(section, (note, link_to, raw))), {
+        "records": (0, lines_of(records).encode()),
+        "records --json": json_of(records, texts)[:2],
+        f"record {key.decode()}": (0, b'{"text":"hi"}\n'),
+        f"changes - {newer}": (0, changed_lines(records, later_records).encode()),
+        "commit": (0, said_of(block, tree)),
+        f"record-proof {key.decode()}": (0, file_of(block, way_to(tree, key)) + section(note)),
+    }
 
 
 def sweep(path, folder, report, count=RANDOM_TREES):
@@ -448,10 +427,13 @@ def sweep(path, folder, report, count=RANDOM_TREES):
     rng = random.Random(20261127)
     pool = Pool(rng)
     report("repositories, roots of the reference", len(ROOTS), list(reference()))
-    report("repositories, random trees", count, list(whole(path, rng, pool, count)))
-    report("repositories, damaged", count // 4, list(damaged(path, rng, pool, count // 4)))
-    report("repositories, one record, its proof, and the commit", 6 * (count // 8), list(one_record(path, rng, pool, count // 8)))
-    report("repositories, a record of another codec", 4, list(raw_record(path)))
-    report("repositories, two random ones", count // 4, list(differing(path, folder, rng, pool, count // 4)))
-    report("repositories, two, damaged", count // 8, list(differing_damaged(path, folder, rng, pool, count // 8)))
-    report("repositories, two, not told", 9, list(not_told(path, folder)))
+    for name, rows in (
+        ("random trees", whole(rng, pool, count)),
+        ("damaged", damaged(rng, pool, count // 4)),
+        ("one record, its proof, and the commit", one_record(rng, pool, count // 8)),
+        ("a record of another codec", raw_record()),
+        ("two random ones", differing(folder, rng, pool, count // 4)),
+        ("two, damaged", differing_damaged(path, folder, rng, pool, count // 8)),
+        ("two, not told", not_told(folder)),
+    ):
+        running.sweep(report, f"repositories, {name}", path, rows)

@@ -3,27 +3,14 @@
 A second reading of its page on repositories, which shares nothing with what is proved."""
 
 import hashlib
-import random
 
-from car_bytes import counted, header, link, section, text_of
+from car_bytes import cid as named
+from car_bytes import counted, head, header, link, section, spelled, text_of
 
 MOST_KEY = 1024
 
 
 # ---- blocks
-
-
-def head(major, number):
-    for bits, code in ((8, 24), (16, 25), (32, 26), (64, 27)):
-        if number < 24:
-            return bytes([major << 5 | number])
-        if number < 1 << bits:
-            return bytes([major << 5 | code]) + number.to_bytes(bits // 8, "big")
-    raise ValueError(number)
-
-
-def spelled(major, data):
-    return head(major, len(data)) + data
 
 
 def fields(*pairs):
@@ -33,10 +20,6 @@ def fields(*pairs):
 
 def linked(name):
     return b"\xf6" if name is None else link(name)
-
-
-def named(block):
-    return b"\x01\x71\x12\x20" + hashlib.sha256(block).digest()
 
 
 # ---- trees

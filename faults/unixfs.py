@@ -4,7 +4,7 @@ encoding of protocol buffers."""
 import hashlib
 
 import dagpb
-from car_bytes import missing_line, text_of, varint
+from car_bytes import cid, missing_line, parts_of, text_of
 
 RAW, DIRECTORY, FILE, METADATA, SYMLINK, SHARD = range(6)
 MOST_DEPTH = 256
@@ -20,17 +20,10 @@ class Stop(Exception):
 
 def number(data, at):
     """The number at this place, in any form of at most ten bytes, and where it ends."""
-    value = 0
-    for count in range(10):
-        if at + count == len(data):
-            raise Refused("Truncated")
-        group = data[at + count]
-        value |= (group & 127) << 7 * count
-        if value >= 2**64:
-            break
-        if group < 128:
-            return value, at + count + 1
-    raise Refused("InvalidVarint")
+    try:
+        return dagpb.number(data, at, len(data))
+    except dagpb.Refused as refused:
+        raise Refused(dagpb.VARIANTS[refused.args[0]]) from None
 
 
 def held(data, at, count):
@@ -74,32 +67,18 @@ def message(data):
 
 
 def codec_of(name):
-    codec = 0x70
-    if name[0] != 0x12:
-        codec, _ = number(name, 1)
-    return codec
+    return parts_of(name)[0]
 
 
 def block_of(blocks, name):
     """The block under the name, if it is the one that it names."""
-    digest_at = 0
-    if name[0] != 0x12:
-        for _ in range(1):
-            _, digest_at = number(name, 1)
-    code, at = number(name, digest_at)
-    length, at = number(name, at)
-    block = blocks.get(name)
-    if block is None and code == 0:
-        block = name[at:]
+    _, code, digest, _ = parts_of(name)
+    block = blocks.get(name, digest if code == 0 else None)
     if block is None:
         raise Stop(missing_line(name))
-    if code == 0:
-        is_named = block == name[at:]
-    elif code == 0x12 and length == 32:
-        is_named = hashlib.sha256(block).digest() == name[at:]
-    else:
+    if code != 0 and (code != 0x12 or len(digest) != 32):
         raise Stop(f"{text_of(name)} not verified")
-    if not is_named:
+    if digest != (block if code == 0 else hashlib.sha256(block).digest()):
         raise Stop(f"{text_of(name)} other bytes")
     return block
 
@@ -203,8 +182,8 @@ def spelled(kind, content=None, file_size=None, sizes=()):
 
 
 def node_name(block):
-    return b"\x01\x70\x12\x20" + hashlib.sha256(block).digest()
+    return cid(block, 0x70)
 
 
 def leaf_name(block):
-    return b"\x01\x55\x12\x20" + hashlib.sha256(block).digest()
+    return cid(block, 0x55)

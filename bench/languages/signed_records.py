@@ -9,7 +9,7 @@ import sys
 sys.path.insert(0, os.path.join(os.path.dirname(os.path.realpath(__file__)), "..", "..", "faults"))
 
 from dagcbor import loads, read_car
-from signed_trees import Node, Row, layer, named, shared_front
+from signed_trees import Node, Row, layer, shared_front
 
 
 def listed(blocks, name, found):

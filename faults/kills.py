@@ -1,10 +1,11 @@
-"""`dagstore` killed within an open, and within an import: at moments by the clock, spread over the time that the call takes here;
-and at calls to the system that make, write, cut or sync a file (kills.c), so that of an open no state that its files go through
-is left out. As when the power fails, what no sync followed is then lost, or some of it.
+"""`dagstore` killed within an open, and within an import: at moments by the clock, spread over the time that the call takes here; and
+at calls to the system that make, write, cut or sync a file (kills.c), so that of an open no state that its files go through is left
+out. As when the power fails, what no sync followed is then lost, or some of it.
 
-Behind each kill SQLite reads a copy of the files; then `dagstore check` opens them, and lists them. Both must have what was said
-to be stored, and of the rest all or nothing."""
+Behind each kill SQLite reads a copy of the files; then `dagstore check` opens them, and lists them. Both must have what was said to be
+stored, and of the rest all or nothing."""
 
+import hashlib
 import os
 import random
 import signal
@@ -14,11 +15,8 @@ import subprocess
 import tempfile
 import time
 
-import building
-import running
-from car_bytes import file_of, lines_of, spelled, text_of
 from serving import frame
-from store import blocks_of, named, tables_of
+from store import block_of, car_of, run, tables_of, text_of
 
 ROOT = os.path.dirname(os.path.dirname(os.path.realpath(__file__)))
 ENDS = ("", "-wal")
@@ -31,13 +29,19 @@ class Files:
     """The files of a store, as they were, and what is committed in them."""
 
     def __init__(self, name, path, kept=NOTHING):
-        self.name, self.kept = name, kept
-        self.parts = {end: running.read(path + end) for end in ENDS if os.path.exists(path + end)}
+        self.name, self.kept, self.parts = name, kept, {}
+        for end in ENDS:
+            if os.path.exists(path + end):
+                with open(path + end, "rb") as file:
+                    self.parts[end] = file.read()
 
     def put(self, path):
-        running.remove_store(path)
-        for end, part in self.parts.items():
-            running.put(path + end, part)
+        for end in ENDS:
+            if os.path.exists(path + end):
+                os.unlink(path + end)
+            if end in self.parts:
+                with open(path + end, "wb") as file:
+                    file.write(self.parts[end])
 
 
 class Call:
@@ -48,18 +52,20 @@ class Call:
 
 
 class Killer:
-    """Kills a call, and finds what was wrong then. It counts the kills before the call said that it was done, and those
-    behind."""
+    """Kills a call, and finds what was wrong then. It counts the kills before the call said that it was done, and those behind."""
 
     def __init__(self, program, library, folder):
         self.program, self.library = program, library
         self.path, self.counts = f"{folder}/killed.db", f"{folder}/calls"
         self.wrong, self.within, self.behind = [], 0, 0
 
+    def words(self, call):
+        return [self.program, self.path, *call.words]
+
     def started(self, call, **env):
         call.files.put(self.path)
         how = {"stdin": subprocess.PIPE, "stdout": subprocess.PIPE, "stderr": subprocess.DEVNULL, "env": {**os.environ, **env}}
-        return subprocess.Popen([self.program, self.path, *call.words], **how)
+        return subprocess.Popen(self.words(call), **how)
 
     def lasting(self, call, count=5):
         """The seconds until the process begins, and those until it has said what it says, of calls that nothing kills."""
@@ -86,22 +92,25 @@ class Killer:
         return count, told
 
     def at_moment(self, call, seconds):
-        call.files.put(self.path)
-        said, status = running.killed([self.program, self.path, *call.words], seconds, call.given)
-        self.ended(call, status, said, f"after {seconds:.4f} s")
+        process = self.started(call)
+        try:
+            said = process.communicate(call.given, timeout=seconds)[0]
+        except subprocess.TimeoutExpired:
+            process.kill()
+            said = process.communicate()[0]
+        self.ended(call, process, said, f"after {seconds:.4f} s")
 
     def at_call(self, call, n, is_half=False, lose=0):
         env = {"LD_PRELOAD": self.library, "KILL_AT": str(n), "KILL_HALF": str(int(is_half)), "KILL_LOSE": str(lose)}
         process = self.started(call, **env)
         said = process.communicate(call.given)[0]
-        how = ", by half" * is_half + f", losing by {lose}" * bool(lose)
-        self.ended(call, process.returncode, said, f"at call {n}{how}")
+        self.ended(call, process, said, f"at call {n}{', by half' if is_half else ''}{f', losing by {lose}' if lose else ''}")
 
-    def ended(self, call, status, said, when):
-        is_said, is_killed = said == call.said, status == -signal.SIGKILL
+    def ended(self, call, process, said, when):
+        is_said, is_killed = said == call.said, process.returncode == -signal.SIGKILL
         self.within += is_killed and not is_said
         self.behind += is_killed and is_said
-        for it in self.faults(call, status, is_said):
+        for it in self.faults(call, process.returncode, is_said):
             self.wrong.append(f"{call.files.name}, {when}: {it}")
 
     def faults(self, call, status, is_said):
@@ -111,11 +120,11 @@ class Killer:
         if found not in ((call.after,) if is_said else (call.files.kept, call.after)):
             blocks = f"{len(call.files.kept[0])} or {len(call.after[0])} blocks"
             yield f"{len(found[0])} blocks and {len(found[1])} roots, and {blocks} were committed"
-        lines = lines_of(f"{text_of(name)} ok bytes" for name in sorted(found[0]))
+        lines = "".join(f"{text_of(name)} ok bytes\n" for name in sorted(found[0])).encode()
         if os.path.exists(self.path):
-            status, out, told = running.answer([self.program, self.path, "check"])
-            if (status, out, told) != (0, lines, b""):
-                yield f"check: {status} {len(out)} bytes, and not {len(lines)}, {told}"
+            ran = run(self.program, self.path, "check")
+            if (ran.returncode, ran.stdout, ran.stderr) != (0, lines, b""):
+                yield f"check: {ran.returncode} {len(ran.stdout)} bytes, and not {len(lines)}, {ran.stderr}"
             if self.found() != found or os.path.getsize(f"{self.path}-wal") > LOG_HEADER:
                 yield "behind check the file has something else, or the log was left"
 
@@ -131,18 +140,25 @@ class Killer:
             return DAMAGED
 
 
+def library(compiler, folder):
+    """The library that kills."""
+    made = f"{folder}/kills.so"
+    words = [*compiler, "-O1", "-Wall", "-shared", "-fPIC", f"{ROOT}/faults/kills.c", "-o", made, "-ldl"]
+    subprocess.run(words, check=True)
+    return made
+
+
 def states(killer, draw, at):
-    """Files that an open finds: none; whole ones; those whose log has what was committed; those whose log has a part of a
-    commit."""
+    """Files that an open finds: none; whole ones; those whose log has what was committed; those whose log has a part of a commit."""
     program, path = killer.program, f"{at}/made.db"
-    blocks = blocks_of(draw, 300)
+    blocks = dict(block_of(draw) for _ in range(300))
     roots = draw.sample(list(blocks), 3)
     none = Files("no file", path)
-    status, _, told = running.answer([program, path, "import"], file_of(roots, blocks))
-    assert status == 0, told
+    ran = run(program, path, "import", given=car_of(blocks, roots))
+    assert ran.returncode == 0, ran.stderr
     whole = Files("a whole file", path, (blocks, roots))
 
-    more = blocks_of(draw, 200)
+    more = dict(block_of(draw) for _ in range(200))
     process = subprocess.Popen([program, path, "serve"], stdin=subprocess.PIPE, stdout=subprocess.PIPE)
     for block in more.values():
         process.stdin.write(b"add dag-cbor %d\n" % len(block) + block)
@@ -155,8 +171,8 @@ def states(killer, draw, at):
     left = Files("a file with its log", path, ({**blocks, **more}, roots))
 
     # An import writes its log, and then moves it into the file.
-    others = blocks_of(draw, 1000)
-    call = Call(whole, ["import"], file_of([], others), b"stored %d\n" % len(others), None)
+    others = dict(block_of(draw) for _ in range(1000))
+    call = Call(whole, ["import"], car_of(others), b"stored %d\n" % len(others), None)
     for n in range(killer.calls(call)[0]):
         process = killer.started(call, LD_PRELOAD=killer.library, KILL_AT=str(n), KILL_HALF="1")
         process.communicate(call.given)
@@ -186,13 +202,13 @@ def opens(killer, draw, files, count):
 
 def imports(killer, draw, files, count):
     """Imports into each of the files: so many moments, and as many calls."""
-    blocks = blocks_of(draw, 1000)
+    blocks = dict(block_of(draw) for _ in range(1000))
     roots = draw.sample(list(blocks), 2)
-    said = lines_of([*(f"root {text_of(it)}" for it in roots), f"stored {len(blocks)}"])
+    said = "".join(f"root {text_of(it)}\n" for it in roots) + f"stored {len(blocks)}\n"
     share = count // len(files)
     for each in files:
         rows, before = each.kept
-        call = Call(each, ["import"], file_of(roots, blocks), said, ({**rows, **blocks}, before + roots))
+        call = Call(each, ["import"], car_of(blocks, roots), said.encode(), ({**rows, **blocks}, before + roots))
         begun, lasted = killer.lasting(call)
         for _ in range(share):
             killer.at_moment(call, begun + draw.random() * (lasted - begun))
@@ -203,16 +219,16 @@ def imports(killer, draw, files, count):
 
 
 def powers(killer, draw, files, count):
-    """The power fails: so many calls in opens and imports, also behind what they say, and then what no sync followed is lost, or
-    some of it."""
-    blocks = blocks_of(draw, 300)
+    """The power fails: so many calls in opens and imports, also behind what they say, and then what no sync followed is lost, or some
+    of it."""
+    blocks = dict(block_of(draw) for _ in range(300))
     share = count // (2 * len(files))
     for each in files:
         rows, roots = each.kept
         said = b"stored %d\n" % len(blocks)
         for call in (
             Call(each, ["serve"], b"rollback\n", frame(b"ok"), each.kept),
-            Call(each, ["import"], file_of([], blocks), said, ({**rows, **blocks}, roots)),
+            Call(each, ["import"], car_of(blocks), said, ({**rows, **blocks}, roots)),
         ):
             number, _ = killer.calls(call)
             for n in range(share):
@@ -223,10 +239,13 @@ def powers(killer, draw, files, count):
 
 def large(killer, draw, whole, count, blocks=160_000):
     """Imports that have more than the 128 MB that are kept in memory, killed once the log has some of it."""
-    new = dict(named(0x71, spelled(2, draw.randbytes(997))) for _ in range(blocks))
+    new = {}
+    for _ in range(blocks):
+        block = b"\x59\x03\xe5" + draw.randbytes(997)
+        new[b"\x01\x71\x12\x20" + hashlib.sha256(block).digest()] = block
     rows, roots = whole.kept
     with tempfile.NamedTemporaryFile(suffix=".car", dir=os.path.dirname(killer.path)) as source:
-        source.write(file_of([], new))
+        source.write(car_of(new))
         source.flush()
         call = Call(whole, ["import", source.name], b"", b"stored %d\n" % blocks, ({**rows, **new}, roots))
         for n in range(count):
@@ -239,21 +258,20 @@ def large(killer, draw, whole, count, blocks=160_000):
             said = process.stdout.read()
             process.stdout.close()
             process.wait()
-            killer.ended(call, process.returncode, said, f"with a log of {wanted} bytes")
+            killer.ended(call, process, said, f"with a log of {wanted} bytes")
     return count
 
 
-def check(report, program, count=200, seed=1):
+def check(report, program, compiler, count=200, seed=1):
     """One line for each kind of run."""
     with tempfile.TemporaryDirectory() as at:
-        killer, draw = Killer(program, building.shared(f"{ROOT}/faults/kills.c", at), at), random.Random(seed)
+        killer, draw = Killer(program, library(compiler, at), at), random.Random(seed)
         files = states(killer, draw, at)
-        for what, said, kill, of, times in (
-            ("killed within an open", "before it said so, {} behind", opens, files, count),
-            ("killed within an import", "before it said so, {} behind", imports, files, count),
-            ("the power fails", "before it said so, {} behind", powers, files, count),
-            ("killed within an import of 160 MB", "before it said so", large, files[1], 4),
-        ):
+        kinds = [("killed within an open", opens), ("killed within an import", imports), ("the power fails", powers)]
+        for what, kill in kinds:
             killer.wrong, killer.within, killer.behind = [], 0, 0
-            tried = kill(killer, draw, of, times)
-            report(f"dagstore: {what} ({killer.within} {said.format(killer.behind)})", tried, killer.wrong)
+            tried = kill(killer, draw, files, count)
+            report(f"dagstore: {what} ({killer.within} before it said so, {killer.behind} behind)", tried, killer.wrong)
+        killer.wrong, killer.within, killer.behind = [], 0, 0
+        tried = large(killer, draw, files[1], 4)
+        report(f"dagstore: killed within an import of 160 MB ({killer.within} before it said so)", tried, killer.wrong)

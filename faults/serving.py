@@ -1,20 +1,20 @@
-"""`dagstore FILE serve`: killed at random moments in a stream of requests, on a full disk, on a file that may not be written,
-beside another process; and what it answers, however its input is cut.
+"""`dagstore FILE serve`: killed at random moments in a stream of requests, on a full disk, on a file that may not be written, beside
+another process; and what it answers, however its input is cut.
 
 What was answered must be there, and of what was not, all or nothing. What the file holds is read by SQLite from a copy."""
 
 import os
 import random
 import resource
+import signal
 import sqlite3
 import subprocess
 import tempfile
 import threading
+import time
 
-import running
-from car_bytes import file_of, text_of
-from running import read, remove_store
-from store import named, rows_of, sweep, tables_of
+import store
+from store import NOBODY, named, rows_of, run, tables_of, text_of
 
 
 def frame(word, body=b""):
@@ -34,7 +34,7 @@ def answers_of(said):
         if end < 0:
             return found
         word, _, length = said[at:end].partition(b" ")
-        body = said[end + 1 : end + 1 + int(length)]
+        body = said[end + 1:end + 1 + int(length)]
         if len(body) < int(length):
             return found
         found.append((word, body))
@@ -48,7 +48,6 @@ def stream_of(draw, count):
         name, block = named(0x55, draw.randbytes(draw.choice([1, 40, 1000, 20000])))
         sort = draw.choice(["put", "put", "add", "add", "add", "commit", "rollback", "remove", "add-root"])
         rows, roots = dict(now[0]), list(now[1])
-        request, answer = f"{sort}\n".encode(), frame(b"ok")
         if sort in ("put", "add"):
             rows[name] = block
             request, answer = asked(sort.encode(), block), frame(b"ok", text_of(name).encode())
@@ -59,9 +58,10 @@ def stream_of(draw, count):
         elif sort == "add-root":
             # One that is a root stays where it is.
             roots += [name] if name not in roots else []
-            request = f"add-root {text_of(name)}\n".encode()
-        elif sort == "rollback":
-            rows, roots = kept
+            request, answer = f"add-root {text_of(name)}\n".encode(), frame(b"ok")
+        else:
+            request, answer = f"{sort}\n".encode(), frame(b"ok")
+            rows, roots = kept if sort == "rollback" else (rows, roots)
         now = (rows, roots)
         kept = now if sort in ("put", "commit") else kept
         requests.append(request)
@@ -69,20 +69,40 @@ def stream_of(draw, count):
     return requests, states
 
 
-def crash(store, path, count, seed):
-    """Kills it at a random moment of a stream, so often."""
-    draw = random.Random(seed)
-    requests, _ = stream_of(draw, 300)
-    # The seconds that a request takes here, of a stream that nothing kills.
-    pace = store.timed(path, "serve", given=b"".join(requests))[1] / len(requests)
+def paced(program, path, draw):
+    """The seconds that a request takes here, of a stream that nothing kills."""
+    requests = stream_of(draw, 300)[0]
+    before = time.monotonic()
+    subprocess.run([program, path, "serve"], input=b"".join(requests), stdout=subprocess.DEVNULL, check=True)
+    return (time.monotonic() - before) / len(requests)
+
+
+def crash(program, path, count, seed):
+    """Kills it at a random moment of a stream, so often; answers what was wrong."""
+    draw, wrong, killed = random.Random(seed), [], 0
+    pace = paced(program, path, draw)
     for n in range(count):
-        remove_store(path)
+        for end in ("", "-wal"):
+            if os.path.exists(path + end):
+                os.unlink(path + end)
         requests, states = stream_of(draw, draw.choice([5, 50, 300]))
+        process = subprocess.Popen([program, path, "serve"], stdin=subprocess.PIPE, stdout=subprocess.PIPE, stderr=subprocess.DEVNULL)
         # A process takes some time to begin.
-        said, _ = store.killed(n, 0.01 + draw.random() * pace * len(requests), path, "serve", given=b"".join(requests))
+        timer = threading.Timer(0.01 + draw.random() * pace * len(requests), process.kill)
+        timer.start()
+        try:
+            said = process.communicate(b"".join(requests))[0]
+        except BrokenPipeError:
+            said = process.stdout.read()
+            process.wait()
+        timer.cancel()
+        timer.join()
+        killed += process.returncode == -signal.SIGKILL
+        if process.returncode not in (0, -signal.SIGKILL):
+            wrong.append(f"{n}: status {process.returncode}")
         told = answers_of(said)
-        is_right = b"".join(frame(*it) for it in told) == b"".join(it for _, it in states[: len(told)])
-        store.must(f"{n}: another answer among {len(told)}", is_right)
+        if b"".join(frame(*it) for it in told) != b"".join(it for _, it in states[:len(told)]):
+            wrong.append(f"{n}: another answer among {len(told)}")
         try:
             found = tables_of(path) if os.path.exists(path) else ({}, [])
         except sqlite3.DatabaseError:
@@ -90,111 +110,125 @@ def crash(store, path, count, seed):
             found = ({}, [])
         kept = states[len(told) - 1][0] if told else ({}, [])
         after = states[len(told)][0] if len(told) < len(states) else kept
-        rows = f"{len(found[0])} rows behind {len(told)} answers, and {len(kept[0])} or {len(after[0])} ought to be there"
-        store.must(f"{n}: {rows}", found in (kept, after))
-        store.ask(f"{n}: count", path, "serve", given=b"count\n", status=None, said=frame(b"ok", b"%d" % len(found[0])))
+        if found not in (kept, after):
+            wrong.append(f"{n}: {len(found[0])} rows behind {len(told)} answers, and {len(kept[0])} or {len(after[0])} ought to be there")
+        own = run(program, path, "serve", given=b"count\n")
+        if own.stdout != frame(b"ok", b"%d" % len(found[0])):
+            wrong.append(f"{n}: the program says {own.stdout} {own.stderr} of {len(found[0])}")
+    return wrong, killed
 
 
-def in_pieces(store, path, given, sizes):
-    """What it says of the bytes, which come in pieces of these sizes."""
-    process = subprocess.Popen([store.program, path, "serve"], stdin=subprocess.PIPE, stdout=subprocess.PIPE, bufsize=0)
-    said = []
-    reader = threading.Thread(target=lambda: said.append(process.stdout.read()))
-    reader.start()
-    at = 0
-    while at < len(given):
-        size = next(sizes)
-        process.stdin.write(given[at : at + size])
-        at += size
-    process.stdin.close()
-    reader.join()
-    process.stdout.close()
-    return process.wait(), said[0]
-
-
-def cuts(store, path, draw):
-    """The same requests in one piece, byte by byte and in random pieces have the same answers; and cut at each byte, those that
-    are whole are answered, and then it is told."""
+def cuts(program, path, draw):
+    """The same requests in one piece, byte by byte and in random pieces have the same answers; and cut at each byte, those that are
+    whole are answered, and then it is told."""
+    wrong = []
     requests, states = stream_of(draw, 30)
-    for n, (count, sizes) in enumerate(((30, (1 << 20,)), (8, (1,)), (8, (1, 7, 100, 5000)))):
-        given, wanted = b"".join(requests[:count]), b"".join(it for _, it in states[:count])
-        found = in_pieces(store, f"{path}.{n}", given, iter(lambda sizes=sizes: draw.choice(sizes), None))
-        store.must(f"in pieces of {sizes}: {found[0]} {len(found[1])} bytes, and not {len(wanted)}", found == (0, wanted))
+    given, wanted = b"".join(requests), b"".join(it for _, it in states)
+    for n, size in enumerate((len(given), 1, None)):
+        if size == 1:
+            given, wanted = b"".join(requests[:8]), b"".join(it for _, it in states[:8])
+        process = subprocess.Popen([program, f"{path}.{n}", "serve"], stdin=subprocess.PIPE, stdout=subprocess.PIPE, bufsize=0)
+        said = []
+        reader = threading.Thread(target=lambda: said.append(process.stdout.read()))
+        reader.start()
+        at = 0
+        while at < len(given):
+            step = size or draw.choice([1, 7, 100, 5000])
+            process.stdin.write(given[at:at + step])
+            at += step
+        process.stdin.close()
+        reader.join()
+        process.stdout.close()
+        if (process.wait(), said) != (0, [wanted]):
+            wrong.append(f"in pieces of {size}: {process.returncode} {len(said[0])} bytes, and not {len(wanted)}")
     small = [b"put raw 3\nabc", b"count\n", b"put 0x71 1\n\xff", b"next\n"]
-    name = frame(b"ok", text_of(named(0x55, b"abc")[0]).encode())
-    no_block = frame(b"refused", b"dagstore: the block is no DAG-CBOR: IndefiniteSize at byte 0\n")
-    said = [name, frame(b"ok", b"1"), no_block, name]
+    name = text_of(named(0x55, b"abc")[0]).encode()
+    said = [frame(b"ok", name), frame(b"ok", b"1"), frame(b"refused", b"dagstore: the block is no DAG-CBOR: IndefiniteSize at byte 0\n"), frame(b"ok", name)]
     whole, ends = b"".join(small), [sum(map(len, small[:n])) for n in range(len(small) + 1)]
     for at in range(len(whole) + 1):
         done = max(n for n, end in enumerate(ends) if end <= at)
         tail = b"" if at in ends else frame(b"bad", b"bad request\n")
-        answer = {"status": 2 if tail else 0, "said": b"".join(said[:done]) + tail}
-        remove_store(f"{path}.cut")
-        store.ask(f"cut at {at}", f"{path}.cut", "serve", given=whole[:at], **answer)
+        for end in ("", "-wal"):
+            if os.path.exists(f"{path}.cut{end}"):
+                os.unlink(f"{path}.cut{end}")
+        ran = run(program, f"{path}.cut", "serve", given=whole[:at])
+        if (ran.returncode, ran.stdout) != (2 if tail else 0, b"".join(said[:done]) + tail):
+            wrong.append(f"cut at {at}: {ran.returncode} {ran.stdout}")
+    return wrong
 
 
 NO_REQUESTS = [
     b"\n", b"get\n", b"get x\n", b"gets x\n", b" count\n", b"count 1\n", b"Count\n", b"put\n", b"put raw\n", b"put raw -1\n",
-    b"put raw +1\na", b"put raw 18446744073709551616\n", b"put cbor 1\na", b"put 0x 1\na", b"put raw 1 \na", b"\xff\n",
-    b"next x\n", b"commit now\n", b"roots\r\n",
+    b"put raw +1\na", b"put raw 18446744073709551616\n", b"put cbor 1\na", b"put 0x 1\na", b"put raw 1 \na", b"\xff\n", b"next x\n", b"commit now\n", b"roots\r\n",
 ]
 
 
-def bad(store, path):
+def bad(program, path):
     """What is no request is told, and ends it; nothing is reserved from a length that is announced."""
-    first, told = frame(b"ok", text_of(named(0x55, b"z")[0]).encode()), frame(b"bad", b"bad request\n")
+    wrong = []
     for line in NO_REQUESTS:
-        store.ask(line, path, "serve", given=b"add raw 1\nz" + line + b"commit\n", status=2, said=first + told)
-        store.must(f"{line} is committed", not rows_of(path))
-    little = lambda: resource.setrlimit(resource.RLIMIT_AS, (1 << 29, 1 << 29))
-    given = b"put raw 18446744073709551615\nabc"
-    store.ask("a length of 2^64 - 1", path, "serve", given=given, status=2, said=told, preexec_fn=little)
+        ran = run(program, path, "serve", given=b"add raw 1\nz" + line + b"commit\n")
+        first = frame(b"ok", text_of(named(0x55, b"z")[0]).encode())
+        if (ran.returncode, ran.stdout) != (2, first + frame(b"bad", b"bad request\n")) or rows_of(path):
+            wrong.append(f"{line}: {ran.returncode} {ran.stdout} {ran.stderr}")
+
+    def little():
+        resource.setrlimit(resource.RLIMIT_AS, (1 << 29, 1 << 29))
+
+    ran = run(program, path, "serve", given=b"put raw 18446744073709551615\nabc", preexec_fn=little)
+    if (ran.returncode, ran.stdout) != (2, frame(b"bad", b"bad request\n")):
+        wrong.append(f"a length of 2^64 - 1: {ran.returncode} {ran.stdout} {ran.stderr}")
+    return wrong
 
 
-def limits(store, path, draw):
+def limits(program, path, draw):
     """A full disk, a second process, a file that may not be written, and files that are imported and exported."""
+    wrong = []
     first, second = named(0x55, b"first"), named(0x55, draw.randbytes(3 << 20))
-    given = asked(b"put", first[1]) + asked(b"put", second[1]) + b"count\n"
-    said = store.ask("a full disk", path, "serve", given=given, preexec_fn=running.short_of_disk(1 << 20), status=None, said=None)
-    wanted = [(b"ok", text_of(first[0]).encode()), (b"refused", b"dagstore: disk I/O error\n")]
-    store.must(f"a full disk: {answers_of(said)}", answers_of(said)[:2] == wanted)
-    store.holds("a full disk", path, dict([first]))
 
-    holder = subprocess.Popen([store.program, path, "serve"], stdin=subprocess.PIPE, stdout=subprocess.PIPE)
+    def full():
+        signal.signal(signal.SIGXFSZ, signal.SIG_IGN)
+        resource.setrlimit(resource.RLIMIT_FSIZE, (1 << 20, 1 << 20))
+
+    given = asked(b"put", first[1]) + asked(b"put", second[1]) + b"count\n"
+    ran = run(program, path, "serve", given=given, preexec_fn=full)
+    told = answers_of(ran.stdout)
+    if told[:1] != [(b"ok", text_of(first[0]).encode())] or told[1:2] != [(b"refused", b"dagstore: disk I/O error\n")] or rows_of(path) != dict([first]):
+        wrong.append(f"a full disk: {ran.returncode} {told} {ran.stderr}")
+
+    holder = subprocess.Popen([program, path, "serve"], stdin=subprocess.PIPE, stdout=subprocess.PIPE)
     holder.stdin.write(b"rollback\n")
     holder.stdin.flush()
     holder.stdout.readline()
-    told = b"dagstore: another process has the file open\n"
-    store.ask("a second process", path, "serve", given=b"count\n", status=2, told=told)
+    ran = run(program, path, "serve", given=b"count\n")
+    if (ran.returncode, ran.stdout, ran.stderr) != (2, b"", b"dagstore: another process has the file open\n"):
+        wrong.append(f"a second process: {ran.returncode} {ran.stdout} {ran.stderr}")
     holder.kill()
     holder.communicate()
 
-    out, none = f"{path}.car".encode(), f"{path}.none".encode()
-    rows = [
-        (b"export %s\n" % out, frame(b"ok")),
-        (b"export %s\n" % out, frame(b"refused", b"dagstore: the file is there, or cannot be made\n")),
-        (b"import %s\n" % out, frame(b"ok", b"stored 1\n")),
-        (b"import %s\n" % none, frame(b"refused", b"dagstore: the input failed\n")),
-        (b"count\n", frame(b"ok", b"1")),
-    ]
-    given, said = (b"".join(it) for it in zip(*rows))
-    store.ask("import and export", path, "serve", given=given, said=said)
-    store.must("what is exported", read(out) == file_of([], dict([first])))
+    out, none = f"{path}.car", f"{path}.none"
+    given = b"".join(b"%s %s\n" % it for it in ((b"export", out.encode()), (b"export", out.encode()), (b"import", out.encode()), (b"import", none.encode()))) + b"count\n"
+    ran = run(program, path, "serve", given=given)
+    wanted = frame(b"ok") + frame(b"refused", b"dagstore: the file is there, or cannot be made\n") + frame(b"ok", b"stored 1\n") + frame(b"refused", b"dagstore: the input failed\n") + frame(b"ok", b"1")
+    if (ran.returncode, ran.stdout) != (0, wanted) or open(out, "rb").read() != store.car_of(dict([first])):
+        wrong.append(f"import and export: {ran.returncode} {ran.stdout} {ran.stderr}")
 
-    before = read(path)
+    before = open(path, "rb").read()
     os.chmod(path, 0o444)
-    store.ask("a file that may not be written", path, "serve", given=b"count\n", preexec_fn=running.as_nobody, status=2)
-    store.must("a file that may not be written was", read(path) == before)
+    drop = (lambda: (os.setgid(NOBODY), os.setuid(NOBODY))) if os.getuid() == 0 else None
+    ran = run(program, path, "serve", given=b"count\n", preexec_fn=drop)
+    if (ran.returncode, ran.stdout) != (2, b"") or open(path, "rb").read() != before:
+        wrong.append(f"a file that may not be written: {ran.returncode} {ran.stdout} {ran.stderr}")
     os.chmod(path, 0o644)
+    return wrong
 
 
 def check(report, program, count=100, seed=1):
-    draw = random.Random(seed)
+    """One line for each kind of run."""
     with tempfile.TemporaryDirectory() as at:
         os.chmod(at, 0o777)
-        sweep(report, program, "dagstore serve", (
-            ("killed at random moments ({} in a stream)", count, crash, f"{at}/a.db", count, seed),
-            ("requests in pieces, and cut at each byte", 1, cuts, f"{at}/b.db", random.Random(seed)),
-            ("what is no request", len(NO_REQUESTS) + 1, bad, f"{at}/c.db"),
-            ("a full disk, a second process, a file that may not be written, files", 4, limits, f"{at}/d.db", draw),
-        ))
+        wrong, killed = crash(program, f"{at}/a.db", count, seed)
+        report(f"dagstore serve: killed at random moments ({killed} in a stream)", count, wrong)
+        report("dagstore serve: requests in pieces, and cut at each byte", 1, cuts(program, f"{at}/b.db", random.Random(seed)))
+        report("dagstore serve: what is no request", len(NO_REQUESTS) + 1, bad(program, f"{at}/c.db"))
+        report("dagstore serve: a full disk, a second process, a file that may not be written, files", 4, limits(program, f"{at}/d.db", random.Random(seed)))

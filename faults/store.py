@@ -3,49 +3,55 @@
 What was said to be stored must be there, and of what was not, all or nothing. What the file holds is read by SQLite
 (Python's sqlite3) from a copy, and then by the program itself."""
 
+import base64
+import hashlib
 import os
 import random
+import resource
 import shutil
 import signal
 import sqlite3
 import subprocess
 import tempfile
+import threading
 import time
 
 import dagpb
-import running
 import unixfs
-from car_bytes import cid, counted, file_of, head, header, lines_of, link, section, sections_of, spelled, text_of
-from running import read
+
+NOBODY = 65534
+HEADER = b"\xa2\x65roots\x80\x67version\x01"
 
 
-# ---- blocks
-
-
-def named(codec, block):
-    """A block of a codec, and its CID."""
-    return cid(block, codec), block
+def varint(n):
+    out = b""
+    while n >= 128:
+        out += bytes([128 + n % 128])
+        n //= 128
+    return out + bytes([n])
 
 
 def block_of(draw):
     """A byte string of a random length, and its CID."""
-    return named(0x71, spelled(2, draw.randbytes(draw.choice([1, 40, 300, 1000, 5000]))))
+    payload = draw.randbytes(draw.choice([1, 40, 300, 1000, 5000]))
+    n = len(payload)
+    head = bytes([0x40 + n]) if n < 24 else b"\x58" + bytes([n]) if n < 256 else b"\x59" + n.to_bytes(2, "big")
+    block = head + payload
+    return b"\x01\x71\x12\x20" + hashlib.sha256(block).digest(), block
 
 
-def blocks_of(draw, count):
-    return dict(block_of(draw) for _ in range(count))
+def head_of(major, n):
+    return bytes([major + n]) if n < 24 else bytes([major + 24, n]) if n < 256 else bytes([major + 25]) + n.to_bytes(2, "big")
 
 
-def parent_of(names):
-    """A list of links, and its CID."""
-    return named(0x71, head(4, len(names)) + b"".join(map(link, names)))
+def links_of(names):
+    """A list of links."""
+    return head_of(0x80, len(names)) + b"".join(b"\xd8\x2a\x58\x25\x00" + name for name in names)
 
 
-def texts_of(names):
-    return lines_of(map(text_of, names))
-
-
-# ---- files
+def car_of(blocks, roots=()):
+    header = b"\xa2\x65roots" + links_of(roots) + b"\x67version\x01"
+    return varint(len(header)) + header + b"".join(varint(len(c) + len(b)) + c + b for c, b in blocks.items())
 
 
 def tables_of(path):
@@ -67,554 +73,663 @@ def rows_of(path):
     return tables_of(path)[0]
 
 
-def change(path, *statements):
-    """Changes the file by hand."""
-    base = sqlite3.connect(path)
-    for statement in statements:
-        base.execute(*statement)
-    base.commit()
-    base.close()
+def run(program, path, *words, given=b"", **how):
+    return subprocess.run([program, path, *words], input=given, capture_output=True, **how)
 
 
-def damage(path, *names):
-    """Puts other bytes under these names."""
-    change(path, *(("UPDATE block SET bytes = x'00' WHERE cid = ?", (name,)) for name in names))
-
-
-class Store:
-    """Runs of the program over files: what was wrong, and how many were killed."""
-
-    def __init__(self, program):
-        self.program, self.wrong, self.kills = program, [], 0
-
-    def must(self, what, is_so):
-        if not is_so:
-            self.wrong.append(what)
-
-    def run(self, path, *words, **how):
-        return running.answer([self.program, path, *words], **how)
-
-    def ask(self, what, path, *words, status=0, said=b"", told=None, **how):
-        """The answer must be this, of which a part that is None may be any. What is told may be judged by a call."""
-        found = self.run(path, *words, **how)
-        is_told = told(found[2]) if callable(told) else told in (None, found[2])
-        is_right = is_told and status in (None, found[0]) and said in (None, found[1])
-        self.must(f"{what}: {found[0]} {found[1][:200]} {found[2]}", is_right)
-        return found[1]
-
-    def holds(self, what, path, rows, roots=None):
-        """The file must have these blocks, and these roots if they are named."""
-        found = tables_of(path)
-        self.must(f"{what}: {len(found[0])} rows, {len(found[1])} roots", found[0] == rows and roots in (None, found[1]))
-
-    def killed(self, n, seconds, path, *words, **how):
-        """What a call said that is killed after so many seconds, and its status."""
-        said, status = running.killed([self.program, path, *words], seconds, **how)
-        self.kills += status == -signal.SIGKILL
-        self.must(f"{n}: status {status}", status in (0, -signal.SIGKILL))
-        return said, status
-
-    def timed(self, path, *words, **how):
-        """An answer, and the seconds that it took."""
-        begun = time.monotonic()
-        return self.run(path, *words, **how), time.monotonic() - begun
-
-
-def telling(words):
-    return lambda told: words in told
-
-
-# ---- killed
-
-
-def crash(store, path, count, seed):
-    """Kills an import at a random moment, so often."""
-    draw, kept = random.Random(seed), {}
-    _, longest = store.timed(path + ".first", "import", given=file_of([], blocks_of(draw, 1000)))
+def crash(program, path, count, seed):
+    """Kills an import at a random moment, so often; answers what was wrong."""
+    draw, kept, wrong, killed = random.Random(seed), {}, [], 0
+    begun = time.monotonic()
+    blocks = dict(block_of(draw) for _ in range(1000))
+    run(program, path + ".first", "import", given=car_of(blocks))
+    longest = time.monotonic() - begun
     for n in range(count):
-        blocks = blocks_of(draw, draw.choice([1, 3, 100, 1000]))
-        seconds = draw.random() * (0.02 + longest * len(blocks) / 500)
-        said, _ = store.killed(n, seconds, path, "import", given=file_of([], blocks))
+        blocks = dict(block_of(draw) for _ in range(draw.choice([1, 3, 100, 1000])))
+        process = subprocess.Popen([program, path, "import"], stdin=subprocess.PIPE, stdout=subprocess.PIPE, stderr=subprocess.DEVNULL)
+        watch = draw.random() * (0.02 + longest * len(blocks) / 500)
+        timer = threading.Timer(watch, process.kill)
+        timer.start()
+        try:
+            said = process.communicate(car_of(blocks))[0]
+        except BrokenPipeError:
+            said = process.stdout.read()
+            process.wait()
+        timer.cancel()
+        timer.join()
+        killed += process.returncode == -signal.SIGKILL
+        if process.returncode not in (0, -signal.SIGKILL):
+            wrong.append(f"{n}: status {process.returncode}")
         both = {**kept, **blocks}
         try:
             rows = rows_of(path) if os.path.exists(path) else {}
         except sqlite3.DatabaseError:
             # A file whose making was cut off is no database yet, and the next open goes on with it.
             rows = {} if not kept else None
-        store.must(f"{n}: said to be stored, and is not", said != b"stored %d\n" % len(blocks) or rows == both)
-        store.must(f"{n}: {rows and len(rows)} rows, and {len(kept)} or {len(both)} were committed", rows in (kept, both))
-        kept = rows if rows in (kept, both) else kept
+        if said == b"stored %d\n" % len(blocks) and rows != both:
+            wrong.append(f"{n}: said to be stored, and is not")
+        if rows not in (kept, both):
+            wrong.append(f"{n}: {rows and len(rows)} rows, and {len(kept)} or {len(both)} were committed")
+            rows = kept
+        kept = rows
         # A file that is not there is none, and no word but `import` makes one.
         wanted = b"holds %d\n" % len(kept) if os.path.exists(path) else b""
-        store.ask(f"{n}: count", path, "count", status=None, said=wanted)
+        own = run(program, path, "count")
+        if own.stdout != wanted:
+            wrong.append(f"{n}: the program says {own.stdout} {own.stderr} of {len(kept)}")
+    return wrong, killed
 
 
-def collect(store, path, count, seed, is_stored=False):
-    """Kills a `gc` at a random moment, so often. Each round adds a tree and blocks that it does not lead to. The tree's root is
-    given, or stored."""
-    draw, longest = random.Random(seed), 0.05
+def collect(program, path, count, seed, is_stored=False):
+    """Kills a `gc` at a random moment, so often; answers what was wrong. Each round adds a tree and blocks that it does not lead to.
+    The tree's root is given, or stored."""
+    draw, wrong, killed, longest = random.Random(seed), [], 0, 0.05
     for n in range(count):
-        leaves = blocks_of(draw, draw.choice([1, 30, 300]))
+        leaves = dict(block_of(draw) for _ in range(draw.choice([1, 30, 300])))
         root, parent = parent_of(list(leaves))
         tree = {root: parent, **leaves}
-        store.run(path, "import", given=file_of([], {**tree, **blocks_of(draw, draw.choice([1, 100, 1000]))}))
-        if is_stored:
-            store.ask(f"{n}: add-root", path, "add-root", text_of(root))
-        before, words = rows_of(path), ["gc"] if is_stored else ["gc", text_of(root)]
-        said, _ = store.killed(n, draw.random() * longest, path, *words)
+        run(program, path, "import", given=car_of({**tree, **dict(block_of(draw) for _ in range(draw.choice([1, 100, 1000])))}))
+        if is_stored and run(program, path, "add-root", text_of(root)).returncode != 0:
+            wrong.append(f"{n}: add-root")
+        before = rows_of(path)
+        words = [program, path, "gc", *([] if is_stored else [text_of(root)])]
+        process = subprocess.Popen(words, stdout=subprocess.PIPE, stderr=subprocess.DEVNULL)
+        timer = threading.Timer(draw.random() * longest, process.kill)
+        timer.start()
+        said = process.communicate()[0]
+        timer.cancel()
+        timer.join()
+        killed += process.returncode == -signal.SIGKILL
+        if process.returncode not in (0, -signal.SIGKILL):
+            wrong.append(f"{n}: status {process.returncode}")
         rows = rows_of(path)
-        store.must(f"{n}: {said} of {len(before)} rows, {len(rows)} are left, and {len(tree)} ought to be",
-                   not said or (said, rows) == (b"removed %d\n" % (len(before) - len(tree)), tree))
-        store.must(f"{n}: {len(rows)} rows, and {len(before)} or {len(tree)} ought to be there", rows in (before, tree))
-        again, seconds = store.timed(path, *words)
-        longest = max(longest, seconds)
-        store.must(f"{n}: a second gc: {again}", again[:2] == (0, b"removed %d\n" % (len(rows) - len(tree))))
-        store.holds(f"{n}: a second gc", path, tree)
-        if is_stored:
-            store.must(f"{n}: the stored root", tables_of(path)[1] == [root])
-            store.ask(f"{n}: drop-root", path, "drop-root", text_of(root), said=b"removed 1\n")
+        if said and (said != b"removed %d\n" % (len(before) - len(tree)) or rows != tree):
+            wrong.append(f"{n}: {said} of {len(before)} rows, {len(rows)} are left, and {len(tree)} ought to be")
+        if rows not in (before, tree):
+            wrong.append(f"{n}: {len(rows)} rows, and {len(before)} or {len(tree)} ought to be there")
+        begun = time.monotonic()
+        again = run(program, path, *words[2:])
+        longest = max(longest, time.monotonic() - begun)
+        if (again.returncode, again.stdout) != (0, b"removed %d\n" % (len(rows) - len(tree))) or rows_of(path) != tree:
+            wrong.append(f"{n}: a second gc: {again.returncode} {again.stdout} {again.stderr}")
+        if is_stored and (tables_of(path)[1] != [root] or run(program, path, "drop-root", text_of(root)).stdout != b"removed 1\n"):
+            wrong.append(f"{n}: the stored root")
+    return wrong, killed
 
 
-def add_roots(store, path, count, seed):
-    """Kills an `add-root` at a random moment, so often. Its names are roots behind the others, or none is."""
-    draw, longest, kept = random.Random(seed), 0.05, []
-    blocks = blocks_of(draw, 50)
-    store.run(path, "import", given=file_of([], blocks))
+def add_roots(program, path, count, seed):
+    """Kills an `add-root` at a random moment, so often; answers what was wrong. Its names are roots behind the others, or none is."""
+    draw, wrong, killed, longest = random.Random(seed), [], 0, 0.05
+    blocks = dict(block_of(draw) for _ in range(50))
+    run(program, path, "import", given=car_of(blocks))
+    kept = []
     for n in range(count):
-        names = [named(0x71, spelled(2, draw.randbytes(16)))[0] for _ in range(draw.choice([1, 30, 500]))]
-        words = ["add-root", *map(text_of, names)]
-        _, status = store.killed(n, draw.random() * longest, path, *words)
+        names = [named(0x71, b"\x50" + draw.randbytes(16))[0] for _ in range(draw.choice([1, 30, 500]))]
+        words = [program, path, "add-root", *(text_of(name) for name in names)]
+        process = subprocess.Popen(words, stdout=subprocess.DEVNULL, stderr=subprocess.DEVNULL)
+        timer = threading.Timer(draw.random() * longest, process.kill)
+        timer.start()
+        process.wait()
+        timer.cancel()
+        timer.join()
+        killed += process.returncode == -signal.SIGKILL
+        if process.returncode not in (0, -signal.SIGKILL):
+            wrong.append(f"{n}: status {process.returncode}")
         rows, roots = tables_of(path)
-        store.must(f"{n}: {len(rows)} rows, {len(roots)} roots, and {len(kept)} or {len(kept) + len(names)} ought to be there",
-                   rows == blocks and roots in ((kept + names,) if status == 0 else (kept, kept + names)))
-        again, seconds = store.timed(path, *words)
-        longest = max(longest, seconds)
+        if rows != blocks or roots not in (kept, kept + names) or (process.returncode == 0 and roots != kept + names):
+            wrong.append(f"{n}: {len(rows)} rows, {len(roots)} roots, and {len(kept)} or {len(kept) + len(names)} ought to be there")
+        begun = time.monotonic()
+        again = run(program, path, *words[2:])
+        longest = max(longest, time.monotonic() - begun)
         kept = kept + names
-        store.must(f"{n}: a second add-root: {again}", again == (0, b"", b"") and tables_of(path) == (blocks, kept))
-    store.ask("roots", path, "roots", said=texts_of(kept))
+        if (again.returncode, again.stdout, again.stderr) != (0, b"", b"") or tables_of(path) != (blocks, kept):
+            wrong.append(f"{n}: a second add-root: {again.returncode} {again.stdout} {again.stderr}")
+    listed = run(program, path, "roots")
+    if (listed.returncode, listed.stdout) != (0, lines_of(kept)):
+        wrong.append(f"roots: {listed.returncode} {len(listed.stdout)} bytes {listed.stderr}")
+    return wrong, killed
 
 
-# ---- limits
+def limits(program, path, draw):
+    """A full disk, a file that may not be written, and a second process."""
+    wrong = []
+    first = dict(block_of(draw) for _ in range(50))
+    if run(program, path, "import", given=car_of(first)).stdout != b"stored 50\n":
+        wrong.append("the first import")
 
+    def full():
+        signal.signal(signal.SIGXFSZ, signal.SIG_IGN)
+        resource.setrlimit(resource.RLIMIT_FSIZE, (1 << 20, 1 << 20))
 
-def limits(store, path, draw):
-    """A full disk, a file that may not be written, a second process, and other bytes."""
-    first = blocks_of(draw, 50)
-    store.ask("the first import", path, "import", given=file_of([], first), said=b"stored 50\n")
+    many = dict(block_of(draw) for _ in range(3000))
+    ran = run(program, path, "import", given=car_of(many), preexec_fn=full)
+    if (ran.returncode, ran.stdout) != (2, b"") or rows_of(path) != first:
+        wrong.append(f"a full disk: {ran.returncode} {ran.stdout} {ran.stderr} {len(rows_of(path))} rows")
 
-    many = file_of([], blocks_of(draw, 3000))
-    store.ask("a full disk", path, "import", given=many, preexec_fn=running.short_of_disk(1 << 20), status=2)
-    store.holds("a full disk", path, first)
-
-    holder = subprocess.Popen([store.program, path, "import"], stdin=subprocess.PIPE, stdout=subprocess.DEVNULL)
+    holder = subprocess.Popen([program, path, "import"], stdin=subprocess.PIPE, stdout=subprocess.DEVNULL)
     time.sleep(1)
-    store.ask("a second process", path, "count", status=2, said=None, told=b"dagstore: another process has the file open\n")
+    ran = run(program, path, "count")
+    if (ran.returncode, ran.stderr) != (2, b"dagstore: another process has the file open\n"):
+        wrong.append(f"a second process: {ran.returncode} {ran.stderr}")
     holder.kill()
     holder.communicate()
 
-    before = read(path)
+    before = open(path, "rb").read()
     os.chmod(path, 0o444)
-    store.ask("a file that may not be written", path, "count", preexec_fn=running.as_nobody, status=2, said=None)
-    store.must("a file that may not be written was", read(path) == before)
+    drop = (lambda: (os.setgid(NOBODY), os.setuid(NOBODY))) if os.getuid() == 0 else None
+    ran = run(program, path, "count", preexec_fn=drop)
+    if ran.returncode != 2 or open(path, "rb").read() != before:
+        wrong.append(f"a file that may not be written: {ran.returncode} {ran.stdout} {ran.stderr}")
     os.chmod(path, 0o644)
 
     name = next(iter(first))
-    damage(path, name)
-    store.ask("a block with other bytes", path, "get", "f" + name.hex(), status=1)
+    base = sqlite3.connect(path)
+    base.execute("UPDATE block SET bytes = x'00' WHERE cid = ?", (name,))
+    base.commit()
+    base.close()
+    ran = run(program, path, "get", "f" + name.hex())
+    if (ran.returncode, ran.stdout) != (1, b""):
+        wrong.append(f"a block with other bytes: {ran.returncode} {ran.stdout}")
+    return wrong
 
 
-# ---- words
+def sections_of(car):
+    """The names and blocks of a file, in its order."""
+    def length(at):
+        n = shift = 0
+        while True:
+            byte = car[at]
+            n |= (byte & 127) << shift
+            shift, at = shift + 7, at + 1
+            if byte < 128:
+                return n, at
+    n, at = length(0)
+    at += n
+    found = []
+    while at < len(car):
+        n, at = length(at)
+        found.append((car[at:at + 36], car[at + 36:at + n]))
+        at += n
+    return found
+
+
+def text_of(name):
+    """A CID of version 1 in base 32."""
+    return "b" + base64.b32encode(name).decode().lower().rstrip("=")
+
+
+def lines_of(names):
+    return "".join(f"{text_of(name)}\n" for name in names).encode()
+
+
+def named(codec, block):
+    """A block of a codec, and its CID."""
+    return b"\x01" + varint(codec) + b"\x12\x20" + hashlib.sha256(block).digest(), block
+
+
+def parent_of(names):
+    """A list of links, and its CID."""
+    block = links_of(names)
+    return b"\x01\x71\x12\x20" + hashlib.sha256(block).digest(), block
 
 
 NO_ROOTS = b"dagstore: no roots are stored; name some, or add-root\n"
 EARLIER = b"dagstore: the file is of an earlier version, which keeps no roots: export it, and import that into a new file\n"
 
 
-def roots(store, at, draw):
+def roots(program, at, draw):
     """What `roots`, `add-root`, `drop-root`, and `export` and `gc` without words say of the roots of a store."""
-    path, again = f"{at}/roots.db", f"{at}/roots2.db"
-    ask = lambda *words, told=b"", **how: store.ask(f"roots: {words[1:3]}", *words, told=told, **how)
+    wrong, path = [], f"{at}/roots.db"
 
-    leaves = blocks_of(draw, 30)
-    first, second, third = (parent_of(list(leaves)[n : n + 10]) for n in (0, 10, 20))
+    def expect(what, ran, status, said, told=b""):
+        if (ran.returncode, ran.stdout, ran.stderr) != (status, said, told):
+            wrong.append(f"{what}: {ran.returncode} {ran.stdout[:200]} {ran.stderr}")
+
+    leaves = dict(block_of(draw) for _ in range(30))
+    first, second, third = (parent_of(list(leaves)[n:n + 10]) for n in (0, 10, 20))
     blocks = {**leaves, **dict([first, second, third])}
-    first, second, third, lost = first[0], second[0], third[0], cid(b"\xf6")
+    lost = named(0x71, b"\xf6")[0]
     ordered = dict(sorted(blocks.items()))
-    names = [third, first]
-    said = lines_of(f"root {text_of(name)}" for name in names) + b"stored %d\n" % len(blocks)
-    ask(path, "import", given=file_of(names, blocks), said=said)
-    ask(path, "roots", said=texts_of(names))
-    exported = ask(path, "export", said=file_of(names, ordered))
-    ask(again, "import", given=exported, said=said)
-    ask(again, "roots", said=texts_of(names))
-    ask(again, "export", said=exported)
-    ask(path, "export", text_of(second), said=file_of([second], ordered))
+    names = [third[0], first[0]]
+    said = "".join(f"root {text_of(name)}\n" for name in names).encode() + b"stored %d\n" % len(blocks)
+    expect("import of roots", run(program, path, "import", given=car_of(blocks, names)), 0, said)
+    expect("roots of an import", run(program, path, "roots"), 0, lines_of(names))
+    exported = run(program, path, "export")
+    expect("export of stored roots", exported, 0, car_of(ordered, names))
+    expect("import of that", run(program, f"{at}/roots2.db", "import", given=exported.stdout), 0, said)
+    expect("roots of that", run(program, f"{at}/roots2.db", "roots"), 0, lines_of(names))
+    expect("export of that", run(program, f"{at}/roots2.db", "export"), 0, exported.stdout)
+    expect("export of given roots", run(program, path, "export", text_of(second[0])), 0, car_of(ordered, [second[0]]))
 
     # Each is a root behind the others, in the order of the words; one that is a root stays where it is.
-    ask(path, "add-root", *map(text_of, (lost, first, second, lost)))
-    names += [lost, second]
-    store.holds("the roots behind add-root", path, blocks, names)
-    ask(path, "roots", said=texts_of(names))
-    ask(path, "export", said=file_of(names, ordered))
-    ask(path, "drop-root", *map(text_of, (first, lost)), said=b"removed 2\n")
-    ask(path, "roots", said=texts_of([third, second]))
+    expect("add-root", run(program, path, "add-root", text_of(lost), text_of(first[0]), text_of(second[0]), text_of(lost)), 0, b"")
+    names += [lost, second[0]]
+    if tables_of(path) != (blocks, names):
+        wrong.append("the roots behind add-root")
+    expect("roots behind add-root", run(program, path, "roots"), 0, lines_of(names))
+    expect("export of more roots", run(program, path, "export"), 0, car_of(ordered, names))
+    expect("drop-root", run(program, path, "drop-root", text_of(first[0]), text_of(lost)), 0, b"removed 2\n")
+    names = [third[0], second[0]]
+    expect("roots behind drop-root", run(program, path, "roots"), 0, lines_of(names))
 
     # A name that is given twice counts once; those that are no roots are told in the order of the words.
-    told = lines_of(f"{text_of(it)} no root" for it in (lost, first))
-    ask(path, "drop-root", *map(text_of, (lost, third, first, third, lost)), status=1, said=b"removed 1\n", told=told)
-    ask(path, "roots", said=texts_of([second]))
-    ask(path, "add-root", text_of(third))
-    ask(path, "drop-root", text_of(third), text_of(third), said=b"removed 1\n")
-    ask(path, "add-root", text_of(third))
-    names = [second, third]
-    store.holds("the roots behind drop-root", path, blocks, names)
+    twice = run(program, path, "drop-root", text_of(lost), text_of(third[0]), text_of(first[0]), text_of(third[0]), text_of(lost))
+    told = f"{text_of(lost)} no root\n{text_of(first[0])} no root\n".encode()
+    expect("drop-root of none", twice, 1, b"removed 1\n", told)
+    expect("roots behind that", run(program, path, "roots"), 0, lines_of([second[0]]))
+    expect("add-root of one", run(program, path, "add-root", text_of(third[0])), 0, b"")
+    expect("drop-root A A", run(program, path, "drop-root", text_of(third[0]), text_of(third[0])), 0, b"removed 1\n")
+    expect("add-root again", run(program, path, "add-root", text_of(third[0])), 0, b"")
+    names = [second[0], third[0]]
+    if tables_of(path) != (blocks, names):
+        wrong.append("the roots behind drop-root")
 
     # What each of the stored roots leads to is kept, and nothing else; with no root nothing is taken out.
-    ask(path, "gc", said=b"removed 11\n")
-    kept = {n: b for n, b in blocks.items() if n != first and n not in list(leaves)[:10]}
-    store.holds("gc of stored roots", path, kept, names)
-    ask(path, "drop-root", *map(text_of, names), said=b"removed 2\n")
-    ask(path, "roots")
-    ask(path, "export", said=file_of([], dict(sorted(kept.items()))))
-    ask(path, "gc", status=1, told=NO_ROOTS)
-    store.holds("gc of no roots", path, kept, [])
-    ask(path, "gc", text_of(third), said=b"removed 11\n")
-    of_earlier_version(store, ask, at, blocks, (first, lost))
+    expect("gc of stored roots", run(program, path, "gc"), 0, b"removed 11\n")
+    kept = {n: b for n, b in blocks.items() if n != first[0] and n not in list(leaves)[:10]}
+    if tables_of(path) != (kept, names):
+        wrong.append("gc of stored roots keeps others")
+    expect("drop-root of all", run(program, path, "drop-root", *map(text_of, names)), 0, b"removed 2\n")
+    expect("roots of none", run(program, path, "roots"), 0, b"")
+    expect("export of no roots", run(program, path, "export"), 0, car_of(dict(sorted(kept.items()))))
+    expect("gc of no roots", run(program, path, "gc"), 1, b"", NO_ROOTS)
+    if tables_of(path) != (kept, []):
+        wrong.append("gc of no roots changes something")
+    expect("gc of given roots", run(program, path, "gc", text_of(third[0])), 0, b"removed 11\n")
 
-
-def of_earlier_version(store, ask, at, blocks, names):
-    """A file of the earlier version, which has no table of roots."""
-    old, new = f"{at}/old.db", f"{at}/new.db"
-    first, lost = names
-    ask(new, "import", given=file_of([], blocks), said=b"stored %d\n" % len(blocks))
-    base = sqlite3.connect(new)
+    # A file of the earlier version, which has no table of roots.
+    old = f"{at}/old.db"
+    expect("import", run(program, f"{at}/new.db", "import", given=car_of(blocks)), 0, b"stored %d\n" % len(blocks))
+    base = sqlite3.connect(f"{at}/new.db")
     table, = base.execute("SELECT sql FROM sqlite_schema WHERE name = 'block'").fetchone()
     base.close()
-    rows = (("INSERT INTO block (cid, bytes) VALUES (?, ?)", row) for row in blocks.items())
-    change(old, ("PRAGMA user_version = 1",), (table,), *rows)
+    base = sqlite3.connect(old)
+    base.execute("PRAGMA user_version = 1")
+    base.execute(table)
+    base.executemany("INSERT INTO block (cid, bytes) VALUES (?, ?)", blocks.items())
+    base.commit()
+    base.close()
+    expect("roots of the earlier version", run(program, old, "roots"), 0, b"")
+    expect("add-root to the earlier version", run(program, old, "add-root", text_of(first[0])), 1, b"", EARLIER)
+    expect("gc of the earlier version", run(program, old, "gc"), 1, b"", NO_ROOTS)
+    expect("drop-root of the earlier version", run(program, old, "drop-root", text_of(lost)), 1, b"removed 0\n", f"{text_of(lost)} no root\n".encode())
+    expect("export of the earlier version", run(program, old, "export"), 0, car_of(ordered))
     more = dict([parent_of([lost])])
-    ask(old, "roots")
-    ask(old, "add-root", text_of(first), status=1, told=EARLIER)
-    ask(old, "gc", status=1, told=NO_ROOTS)
-    ask(old, "drop-root", text_of(lost), status=1, said=b"removed 0\n", told=f"{text_of(lost)} no root\n".encode())
-    ask(old, "export", said=file_of([], dict(sorted(blocks.items()))))
-    ask(old, "import", given=file_of([lost], more), status=1, told=EARLIER)
-    store.holds("a file of the earlier version", old, blocks, [])
-    ask(old, "import", given=file_of([], more), said=b"stored 1\n")
-    store.holds("an import to a file of the earlier version", old, {**blocks, **more}, [])
+    expect("import of a root to the earlier version", run(program, old, "import", given=car_of(more, [lost])), 1, b"", EARLIER)
+    if tables_of(old) != (blocks, []):
+        wrong.append("a file of the earlier version was changed")
+    expect("import of no root to the earlier version", run(program, old, "import", given=car_of(more)), 0, b"stored 1\n")
+    if tables_of(old) != ({**blocks, **more}, []):
+        wrong.append("a file of the earlier version does not have what was imported")
+    return wrong
 
 
-def paths(store, at, draw):
+def paths(program, at, draw):
     """What `at` says of a path over the blocks of a store."""
-    path = f"{at}/paths.db"
-    ask = lambda what, *words, told=b"", **how: store.ask(what, path, "at", *words, told=told, **how)
+    wrong, path = [], f"{at}/paths.db"
+
+    def expect(what, words, status, said, told=b""):
+        ran = run(program, path, "at", *words)
+        if (ran.returncode, ran.stdout, ran.stderr) != (status, said, told):
+            wrong.append(f"{what}: {ran.returncode} {ran.stdout[:200]} {ran.stderr}")
 
     # {"a": [1, h'0102']}, and a list of links to it, to a raw block and to one that is not stored.
     inner, raw = named(0x71, b"\xa1\x61a\x82\x01\x42\x01\x02"), named(0x55, b"foo")
-    lost = cid(b"\xf6")
+    lost = named(0x71, b"\xf6")[0]
     root, block = parent_of([inner[0], raw[0], lost])
-    store.run(path, "import", given=file_of([], {**blocks_of(draw, 20), root: block, **dict([inner, raw])}))
-    top, below, missing = text_of(root), text_of(inner[0]), f"missing {text_of(lost)} dag-cbor\n".encode()
-    ask("at over a link", f"{top}/0/a/0", said=b"1\n")
-    ask("at of bytes", f"{top}/0/a/1", said=b'{"/":{"bytes":"AQI"}}\n')
-    ask("at of a link", f"{top}/0", said=f'{{"/":"{below}"}}\n'.encode())
-    ask("at --raw", "--raw", f"{top}/0/a", said=b"\x82\x01\x42\x01\x02")
-    ask("at of nothing", f"{top}/0/b", status=1, told=f"{below} has nothing at b\n".encode())
-    ask("at over a missing link", f"{top}/2/a", status=1, told=missing)
-    ask("at of a root that is not stored", f"{text_of(lost)}/a", status=1, told=missing)
-    ask("at of no CID", "b!/a", status=2, told=b"no CID: InvalidCharacter\n")
-    store.ask("at of no file", f"{at}/none.db", "at", f"{top}/0", status=1)
-    store.must("at of no file makes one", not os.path.exists(f"{at}/none.db"))
-    damage(path, inner[0])
-    ask("at over a damaged block", f"{top}/0/a/0", status=1, told=telling(b"other bytes"))
+    run(program, path, "import", given=car_of({**dict(block_of(draw) for _ in range(20)), root: block, **dict([inner, raw])}))
+    top, below = text_of(root), text_of(inner[0])
+    expect("at over a link", [f"{top}/0/a/0"], 0, b"1\n")
+    expect("at of bytes", [f"{top}/0/a/1"], 0, b'{"/":{"bytes":"AQI"}}\n')
+    expect("at of a link", [f"{top}/0"], 0, f'{{"/":"{below}"}}\n'.encode())
+    expect("at --raw", ["--raw", f"{top}/0/a"], 0, b"\x82\x01\x42\x01\x02")
+    expect("at of nothing", [f"{top}/0/b"], 1, b"", f"{below} has nothing at b\n".encode())
+    expect("at over a missing link", [f"{top}/2/a"], 1, b"", f"missing {text_of(lost)} dag-cbor\n".encode())
+    expect("at of a root that is not stored", [f"{text_of(lost)}/a"], 1, b"", f"missing {text_of(lost)} dag-cbor\n".encode())
+    expect("at of no CID", ["b!/a"], 2, b"", b"no CID: InvalidCharacter\n")
+    ran = run(program, f"{at}/none.db", "at", f"{top}/0")
+    if (ran.returncode, ran.stdout) != (1, b"") or os.path.exists(f"{at}/none.db"):
+        wrong.append(f"at of no file: {ran.returncode} {ran.stdout} {ran.stderr}")
+    base = sqlite3.connect(path)
+    base.execute("UPDATE block SET bytes = x'00' WHERE cid = ?", (inner[0],))
+    base.commit()
+    base.close()
+    ran = run(program, path, "at", f"{top}/0/a/0")
+    if (ran.returncode, ran.stdout) != (1, b"") or b"other bytes" not in ran.stderr:
+        wrong.append(f"at over a damaged block: {ran.returncode} {ran.stdout} {ran.stderr}")
+    return wrong
 
 
-def file_of_leaves(leaves):
-    """A file of IPFS of leaves of 300,000 bytes: its name, and its node."""
-    node = dagpb.spell([(name, b"", len(it)) for name, it in leaves],
-                       unixfs.spelled(unixfs.FILE, None, 300_000 * len(leaves), [300_000] * len(leaves)))
-    return unixfs.node_name(node), node
-
-
-def contents(store, at, draw):
+def contents(program, at, draw):
     """What `cat` and `ls` write of the files of IPFS in a store."""
-    path = f"{at}/contents.db"
-    ask = lambda what, *words, told=b"", **how: store.ask(what, path, what.split()[0], *words, told=told, **how)
+    wrong, path = [], f"{at}/contents.db"
+
+    def expect(what, words, status, said, told=b""):
+        ran = run(program, path, what.split()[0], *words)
+        if (ran.returncode, ran.stdout, ran.stderr) != (status, said, told):
+            wrong.append(f"{what}: {ran.returncode} {ran.stdout[:200]} {ran.stderr}")
 
     # A directory of a file of three leaves, the last of which is not stored, and of one of two.
     parts = [draw.randbytes(300_000) for _ in range(3)]
     leaves = [(unixfs.leaf_name(it), it) for it in parts]
-    files = [file_of_leaves(leaves[:2]), file_of_leaves(leaves)]
+    whole, cut = (dagpb.spell([(name, b"", len(it)) for name, it in some], unixfs.spelled(unixfs.FILE, None, 300_000 * len(some), [300_000] * len(some))) for some in (leaves[:2], leaves))
+    files = [(unixfs.node_name(it), it) for it in (whole, cut)]
     block = dagpb.spell([(files[0][0], b"whole", 1), (files[1][0], b"cut", 1)], unixfs.spelled(unixfs.DIRECTORY))
     root = unixfs.node_name(block)
-    store.run(path, "import", given=file_of([], {**blocks_of(draw, 20), root: block, **dict(files), **dict(leaves[:2])}))
-    top, whole, cut, leaf, lost = map(text_of, (root, files[0][0], files[1][0], leaves[1][0], leaves[2][0]))
-    missing, nothing = f"missing {lost} raw\n".encode(), f"{top} has nothing at none\n".encode()
-    ask("cat of a file in a directory", f"{top}/whole", said=parts[0] + parts[1])
-    ask("cat of a file", whole, said=parts[0] + parts[1])
-    ask("cat of a leaf", leaf, said=parts[1])
-    ask("cat of a file that is not all there", f"{top}/cut", status=1, said=parts[0] + parts[1], told=missing)
-    ask("cat of nothing", f"{top}/none", status=1, told=nothing)
-    ask("cat of a directory", top, status=1, told=f"{top} refused NotAFile\n".encode())
-    ask("cat of a root that is not stored", f"{lost}/a", status=1, told=missing)
-    ask("cat of no CID", "b!/a", status=2, told=b"no CID: InvalidCharacter\n")
-    ask("ls of a directory", top, said=f"file 900000 {cut} cut\nfile 600000 {whole} whole\n".encode())
-    ask("ls of a file", f"{top}/whole", said=f"file 600000 {whole}\n".encode())
-    ask("ls of a leaf", leaf, said=f"file 300000 {leaf}\n".encode())
-    ask("ls of nothing", f"{top}/none", status=1, told=nothing)
-    ask("ls of a root that is not stored", lost, status=1, told=missing)
-    ask("ls of no CID", "b!/a", status=2, told=b"no CID: InvalidCharacter\n")
-    damage(path, leaves[1][0])
-    ask("cat over a damaged block", f"{top}/whole", status=1, said=parts[0], told=telling(b"other bytes"))
-    damage(path, files[1][0])
-    ask("ls over a damaged block", top, status=1, told=telling(f"{cut} other bytes".encode()))
+    run(program, path, "import", given=car_of({**dict(block_of(draw) for _ in range(20)), root: block, **dict(files), **dict(leaves[:2])}))
+    top, lost = text_of(root), f"missing {text_of(leaves[2][0])} raw\n".encode()
+    expect("cat of a file in a directory", [f"{top}/whole"], 0, parts[0] + parts[1])
+    expect("cat of a file", [text_of(files[0][0])], 0, parts[0] + parts[1])
+    expect("cat of a leaf", [text_of(leaves[1][0])], 0, parts[1])
+    expect("cat of a file that is not all there", [f"{top}/cut"], 1, parts[0] + parts[1], lost)
+    expect("cat of nothing", [f"{top}/none"], 1, b"", f"{top} has nothing at none\n".encode())
+    expect("cat of a directory", [top], 1, b"", f"{top} refused NotAFile\n".encode())
+    expect("cat of a root that is not stored", [f"{text_of(leaves[2][0])}/a"], 1, b"", lost)
+    expect("cat of no CID", ["b!/a"], 2, b"", b"no CID: InvalidCharacter\n")
+    entries = [f"file 900000 {text_of(files[1][0])} cut\n", f"file 600000 {text_of(files[0][0])} whole\n"]
+    expect("ls of a directory", [top], 0, "".join(entries).encode())
+    expect("ls of a file", [f"{top}/whole"], 0, f"file 600000 {text_of(files[0][0])}\n".encode())
+    expect("ls of a leaf", [text_of(leaves[1][0])], 0, f"file 300000 {text_of(leaves[1][0])}\n".encode())
+    expect("ls of nothing", [f"{top}/none"], 1, b"", f"{top} has nothing at none\n".encode())
+    expect("ls of a root that is not stored", [text_of(leaves[2][0])], 1, b"", lost)
+    expect("ls of no CID", ["b!/a"], 2, b"", b"no CID: InvalidCharacter\n")
+    base = sqlite3.connect(path)
+    base.execute("UPDATE block SET bytes = x'00' WHERE cid = ?", (leaves[1][0],))
+    base.commit()
+    base.close()
+    ran = run(program, path, "cat", f"{top}/whole")
+    if (ran.returncode, ran.stdout) != (1, parts[0]) or b"other bytes" not in ran.stderr:
+        wrong.append(f"cat over a damaged block: {ran.returncode} {ran.stdout[:100]} {ran.stderr}")
+    base = sqlite3.connect(path)
+    base.execute("UPDATE block SET bytes = x'00' WHERE cid = ?", (files[1][0],))
+    base.commit()
+    base.close()
+    ran = run(program, path, "ls", top)
+    if (ran.returncode, ran.stdout) != (1, b"") or f"{text_of(files[1][0])} other bytes".encode() not in ran.stderr:
+        wrong.append(f"ls over a damaged block: {ran.returncode} {ran.stdout[:100]} {ran.stderr}")
+    return wrong
 
 
-def words(store, at, draw):
-    """What words say of a store, and of one that was changed by hand; and what is refused."""
-    path = f"{at}/c.db"
-    blocks = blocks_of(draw, 200)
+def words(program, at, draw):
+    """What `export`, `list` and `check` say of a store, and of one that was changed by hand; and what `import` refuses."""
+    wrong, path = [], f"{at}/c.db"
+
+    def expect(what, ran, status, said):
+        if (ran.returncode, ran.stdout) != (status, said):
+            wrong.append(f"{what}: {ran.returncode} {ran.stdout[:200]} {ran.stderr}")
+
+    blocks = dict(block_of(draw) for _ in range(200))
     lost = next(name for name, _ in iter(lambda: block_of(draw), None) if name not in blocks)
     held = next(iter(blocks))
     # A raw leaf, and a node of the codec 0x70 with a link to the lost one.
     raw, node = named(0x55, b"raw"), named(0x70, b"\x12\x26\x0a\x24" + lost)
+    blocks.update((raw, node))
     name, parent = parent_of([lost, held, raw[0], node[0], lost])
-    blocks |= dict([raw, node, (name, parent)])
-    kinds = dict.fromkeys(blocks, "ok bytes") | {name: "ok list", raw[0]: "not read", node[0]: "ok node"}
-    exported = exports(store, at, path, blocks, name, (kinds, lost))
-    trees(store, f"{at}/e.db", blocks, lost, [(it, blocks[it]) for it in (name, held, raw[0], node[0])])
-    puts(store, f"{at}/p.db", f"{at}/none.db", lost)
-    no_words(store, at, path, exported, held)
-    no_files(store, at, path, blocks, draw)
-    other_bytes(store, path, blocks, (kinds, lost, name))
+    blocks[name] = parent
+    stored = sorted(blocks.items())
+    said = b"stored %d\n" % len(blocks)
+    expect("import", run(program, path, "import", given=car_of(blocks)), 0, said)
+    exported = run(program, path, "export")
+    if exported.returncode != 0 or sections_of(exported.stdout) != stored:
+        wrong.append(f"export: {exported.returncode} {len(exported.stdout)} bytes {exported.stderr}")
+    expect("import of the export", run(program, f"{at}/d.db", "import", given=exported.stdout), 0, said)
+    expect("export of the import", run(program, f"{at}/d.db", "export"), 0, exported.stdout)
+    rooted = run(program, path, "export", text_of(name))
+    root = b"\xa2\x65roots\x81\xd8\x2a\x58\x25\x00" + name + b"\x67version\x01"
+    if (rooted.returncode, rooted.stdout) != (0, varint(len(root)) + root + exported.stdout[1 + len(HEADER):]):
+        wrong.append(f"export with a root: {rooted.returncode} {len(rooted.stdout)} bytes {rooted.stderr}")
+    expect("import of the root", run(program, f"{at}/r.db", "import", given=rooted.stdout), 0, b"root %s\n" % text_of(name).encode() + said)
+    expect("list", run(program, path, "list"), 0, "".join(f"{text_of(n)} {len(b)}\n" for n, b in stored).encode())
+    kinds = {n: "ok list" if n == name else "not read" if n == raw[0] else "ok node" if n == node[0] else "ok bytes" for n in blocks}
+    missing = f"missing {text_of(lost)} dag-cbor\n"
+    expect("check", run(program, path, "check"), 1, ("".join(f"{text_of(n)} {kinds[n]}\n" for n, _ in stored) + missing).encode())
 
-
-def checked(kinds, missing=()):
-    """What `check` says of blocks, and of names of no block."""
-    lines = [f"{text_of(it)} {kinds[it]}" for it in sorted(kinds)]
-    return lines_of(lines + [f"missing {text_of(it)} dag-cbor" for it in missing])
-
-
-def exports(store, at, path, blocks, root, found):
-    """A store of these blocks, what an import makes of its export, and what `list` and `check` find."""
-    kinds, lost = found
-    stored, said, copy = sorted(blocks.items()), b"stored %d\n" % len(blocks), f"{at}/d.db"
-    store.ask("import", path, "import", given=file_of([], blocks), said=said)
-    exported = store.ask("export", path, "export", said=None)
-    store.must("export", sections_of(exported)[0] == stored)
-    store.ask("import of the export", copy, "import", given=exported, said=said)
-    store.ask("export of the import", copy, "export", said=exported)
-    rooted = counted(header(root)) + exported[len(counted(header())) :]
-    store.ask("export with a root", path, "export", text_of(root), said=rooted)
-    store.ask("import of the root", f"{at}/r.db", "import", given=rooted, said=f"root {text_of(root)}\n".encode() + said)
-    store.ask("list", path, "list", said=lines_of(f"{text_of(n)} {len(b)}" for n, b in stored))
-    store.ask("check", path, "check", status=1, said=checked(kinds, [lost]))
-    return exported
-
-
-def trees(store, path, blocks, lost, kept):
-    """A parent's tree, which leads to one block twice over, and to the lost one; a root that is not stored; and what `gc`
-    keeps."""
-    (name, _), (held, _), raw, _ = kept
+    # The parent's tree, which leads to one block twice over, and to the lost one; and a root that is not stored.
     above, grandparent = parent_of([name, held, name])
-    given = file_of([], {**blocks, above: grandparent})
-    store.ask("import of a tree", path, "import", given=given, said=b"stored %d\n" % (len(blocks) + 1))
-    tree = dict([(above, grandparent), *kept])
-    missing = f"missing {text_of(lost)} dag-cbor\n".encode()
-    store.ask("tree", path, "tree", text_of(above), status=1, said=file_of([above], tree), told=missing)
-    no_block = b"dagstore: no block has the name\n"
-    store.ask("tree of a root that is not stored", path, "tree", text_of(lost), status=1, told=no_block)
+    expect("import of a tree", run(program, f"{at}/e.db", "import", given=car_of({**blocks, above: grandparent})), 0, b"stored %d\n" % (len(blocks) + 1))
+    root = b"\xa2\x65roots\x81\xd8\x2a\x58\x25\x00" + above + b"\x67version\x01"
+    car = varint(len(root)) + root + b"".join(varint(len(c) + len(b)) + c + b for c, b in ((above, grandparent), (name, parent), (held, blocks[held]), raw, node))
+    ran = run(program, f"{at}/e.db", "tree", text_of(above))
+    if (ran.returncode, ran.stdout, ran.stderr) != (1, car, missing.encode()):
+        wrong.append(f"tree: {ran.returncode} {len(ran.stdout)} bytes {ran.stderr}")
+    ran = run(program, f"{at}/e.db", "tree", text_of(lost))
+    if (ran.returncode, ran.stdout, ran.stderr) != (1, b"", b"dagstore: no block has the name\n"):
+        wrong.append(f"tree of a root that is not stored: {ran.returncode} {ran.stdout[:200]} {ran.stderr}")
 
     # What links lead to is kept, from each root that is given, and nothing else; and of a root that is not stored nothing.
+    tree = {above: grandparent, name: parent, held: blocks[held], raw[0]: raw[1], node[0]: node[1]}
     alone = next(n for n in blocks if n not in tree)
     removed = b"removed %d\n" % (len(blocks) + 1 - len(tree) - 1)
-    store.ask("gc", path, "gc", *map(text_of, (above, alone, held)), said=removed)
-    store.holds("gc of two roots", path, {**tree, alone: blocks[alone]})
-    store.ask("gc again", path, "gc", text_of(above), said=b"removed 1\n")
-    store.holds("gc", path, tree)
-
+    expect("gc", run(program, f"{at}/e.db", "gc", text_of(above), text_of(alone), text_of(held)), 0, removed)
+    if rows_of(f"{at}/e.db") != {**tree, alone: blocks[alone]}:
+        wrong.append("gc of two roots keeps others")
+    expect("gc again", run(program, f"{at}/e.db", "gc", text_of(above)), 0, b"removed 1\n")
+    if rows_of(f"{at}/e.db") != tree:
+        wrong.append("gc keeps others")
+    base = sqlite3.connect(f"{at}/e.db")
+    base.execute("UPDATE block SET bytes = x'00' WHERE cid = ?", (held,))
+    base.commit()
+    base.close()
+    ran = run(program, f"{at}/e.db", "gc", text_of(above))
+    other = f"dagstore: {text_of(held)} other bytes\ndagstore: what is stored under the name has other bytes than it says\n".encode()
+    if (ran.returncode, ran.stdout, ran.stderr) != (1, b"", other) or set(rows_of(f"{at}/e.db")) != set(tree):
+        wrong.append(f"gc of a damaged block: {ran.returncode} {ran.stdout} {ran.stderr}")
     # Each command that reads a damaged block names it.
-    damage(path, held)
-    other = "dagstore: what is stored under the name has other bytes than it says"
-    other = lines_of([f"dagstore: {text_of(held)} other bytes", other])
-    store.ask("gc of a damaged block", path, "gc", text_of(above), status=1, told=other)
-    store.must("gc of a damaged block keeps all", set(rows_of(path)) == set(tree))
-    for given in (["get", text_of(held)], ["tree", text_of(above)], ["export"]):
-        store.ask(f"{given[0]} of a damaged block", path, *given, status=1, said=None, told=other)
-    store.ask("gc beside a damaged block", path, "gc", text_of(raw[0]), said=b"removed 4\n")
+    for words in (("get", text_of(held)), ("tree", text_of(above)), ("export",)):
+        ran = run(program, f"{at}/e.db", *words)
+        if (ran.returncode, ran.stderr) != (1, other):
+            wrong.append(f"{words[0]} of a damaged block: {ran.returncode} {ran.stderr}")
+    expect("gc beside a damaged block", run(program, f"{at}/e.db", "gc", text_of(raw[0])), 0, b"removed 4\n")
     # A root without a block: nothing is taken out.
-    told = f"dagstore: {text_of(lost)} missing\ndagstore: a root has no block\n".encode()
-    store.ask("gc of a root that is not stored", path, "gc", text_of(lost), status=1, told=told)
-    store.must("gc of a root that is not stored takes no blocks out", set(rows_of(path)) == {raw[0]})
+    ran = run(program, f"{at}/e.db", "gc", text_of(lost))
+    if (ran.returncode, ran.stdout, ran.stderr) != (1, b"", f"dagstore: {text_of(lost)} missing\ndagstore: a root has no block\n".encode()):
+        wrong.append(f"gc of a root that is not stored: {ran.returncode} {ran.stdout} {ran.stderr}")
+    if set(rows_of(f"{at}/e.db")) != {raw[0]}:
+        wrong.append("gc of a root that is not stored takes blocks out")
 
-
-def puts(store, path, none, lost):
-    """One block, put by its codec; blocks that are none; and what is removed."""
+    # One block, put by its codec.
+    put = f"{at}/p.db"
     given = {("dag-cbor", 0x71): b"\x83\x01\x02\x03", ("raw", 0x55): b"foo", ("0x70", 0x70): b"\x0a\x00", (None, 0x71): b"\xf6"}
     for (word, code), block in given.items():
-        own = text_of(cid(block, code))
-        store.ask(f"put {word}", path, "put", *([word] if word else []), given=block, said=f"{own}\n".encode())
-        store.ask("has", path, "has", own)
-        store.ask("get", path, "get", own, said=block)
+        own = text_of(named(code, block)[0])
+        expect(f"put {word}", run(program, put, "put", *([word] if word else []), given=block), 0, f"{own}\n".encode())
+        expect("has", run(program, put, "has", own), 0, b"")
+        expect("get", run(program, put, "get", own), 0, block)
     for block, place in ((b"\x18\x17", "NonMinimal at byte 1"), (b"", "Eof at byte 0"), (b"\x01\x01", "TrailingData at byte 1")):
         told = f"dagstore: the block is no DAG-CBOR: {place}\n"
-        for file in (path, none):
-            store.ask("put of no DAG-CBOR", file, "put", given=block, status=1, told=told.encode())
-        told = f"dagstore: after 0 sections\ndagstore: of {text_of(cid(block))}\n{told}".encode()
-        store.ask("import of no DAG-CBOR", path, "import", given=counted(header()) + section(block), status=1, told=told)
+        for file in (put, f"{at}/none.db"):
+            ran = run(program, file, "put", given=block)
+            if (ran.returncode, ran.stdout, ran.stderr) != (1, b"", told.encode()):
+                wrong.append(f"put of no DAG-CBOR: {ran.returncode} {ran.stdout} {ran.stderr}")
+        name = named(0x71, block)[0]
+        ran = run(program, put, "import", given=car_of({name: block}))
+        told = f"dagstore: after 0 sections\ndagstore: of {text_of(name)}\n{told}"
+        if (ran.returncode, ran.stdout, ran.stderr) != (1, b"", told.encode()):
+            wrong.append(f"import of no DAG-CBOR: {ran.returncode} {ran.stdout} {ran.stderr}")
     for word in ("0x", "0x1z", "0x+1", "0x11111111111111111", "dag-pb"):
-        store.ask(f"put {word}", path, "put", word, status=2)
-    store.ask("count", path, "count", said=b"holds 4\n")
-    store.ask("has of another", path, "has", text_of(lost), status=1)
+        expect(f"put {word}", run(program, put, "put", word), 2, b"")
+    expect("count", run(program, put, "count"), 0, b"holds 4\n")
+    expect("has of another", run(program, put, "has", text_of(lost)), 1, b"")
     # A name that is given twice counts once; those under which nothing is listed are told in the order of the words.
-    lost, foo, other, node = map(text_of, (lost, cid(b"foo", 0x55), cid(b"other", 0x55), cid(b"\x0a\x00", 0x70)))
-    told = f"{lost} no block\n{other} no block\n".encode()
-    store.ask("remove", path, "remove", lost, foo, other, foo, lost, status=1, said=b"removed 1\n", told=told)
-    store.ask("remove A A", path, "remove", node, node, said=b"removed 1\n")
-    store.ask("count", path, "count", said=b"holds 2\n")
+    foo, other, node = text_of(named(0x55, b"foo")[0]), text_of(named(0x55, b"other")[0]), text_of(named(0x70, b"\x0a\x00")[0])
+    ran = run(program, put, "remove", text_of(lost), foo, other, foo, text_of(lost))
+    told = f"{text_of(lost)} no block\n{other} no block\n"
+    if (ran.returncode, ran.stdout, ran.stderr) != (1, b"removed 1\n", told.encode()):
+        wrong.append(f"remove: {ran.returncode} {ran.stdout} {ran.stderr}")
+    expect("remove A A", run(program, put, "remove", node, node), 0, b"removed 1\n")
+    expect("count", run(program, put, "count"), 0, b"holds 2\n")
 
-
-def no_words(store, at, path, exported, held):
-    """A file that is read by its path; words that are no CID, or none; and what the program tells of itself."""
-    said, file, none = b"stored %d\n" % len(sections_of(exported)[0]), running.put(f"{at}/in.car", exported), f"{at}/none.db"
-    store.ask("import of a path", f"{at}/f.db", "import", file, said=said)
-    store.ask("import of -", f"{at}/g.db", "import", "-", given=exported, said=said)
-    store.ask("import of no file", none, "import", f"{at}/none.car", status=2)
-    for word, cause in (("mAXASIA", b"UnknownBase"), ("b!", b"InvalidCharacter"), ("f01", b"InvalidCid"), ("", b"UnknownBase")):
+    # A file that is read by its path; words that are no CID, or none; and what the program tells of itself.
+    with open(f"{at}/in.car", "wb") as file:
+        file.write(exported.stdout)
+    expect("import of a path", run(program, f"{at}/f.db", "import", f"{at}/in.car"), 0, said)
+    expect("import of -", run(program, f"{at}/g.db", "import", "-", given=exported.stdout), 0, said)
+    expect("import of no file", run(program, f"{at}/none.db", "import", f"{at}/none.car"), 2, b"")
+    for word, cause in (("mAXASIA", "UnknownBase"), ("b!", "InvalidCharacter"), ("f01", "InvalidCid"), ("", "UnknownBase")):
         for verb in ("export", "get", "has", "remove", "gc", "tree", "add-root", "drop-root"):
-            store.ask(f"{verb} {word}", path, verb, word, status=2, told=b"no CID: %s\n" % cause)
+            ran = run(program, path, verb, word)
+            if (ran.returncode, ran.stdout, ran.stderr) != (2, b"", f"no CID: {cause}\n".encode()):
+                wrong.append(f"{verb} {word}: {ran.returncode} {ran.stdout[:100]} {ran.stderr}")
     for wordless in ("remove", "get", "has", "tree", "at", "ls", "cat", "add-root", "drop-root"):
-        store.ask(f"{wordless} of nothing", path, wordless, status=2)
-    status, said, told = store.run("--help")
-    store.must(f"--help: {status} {said[:100]} {told}", (status, told) == (0, b"") and said.startswith(b"usage: dagstore FILE "))
-    store.ask("--version", "--version", said=b"dagstore 0.7.0\n", told=b"")
-    # A file that is not there is not made.
+        expect(f"{wordless} of nothing", run(program, path, wordless), 2, b"")
+    ran = subprocess.run([program, "--help"], capture_output=True)
+    if ran.returncode != 0 or not ran.stdout.startswith(b"usage: dagstore FILE ") or ran.stderr:
+        wrong.append(f"--help: {ran.returncode} {ran.stdout[:100]} {ran.stderr}")
+    ran = subprocess.run([program, "--version"], capture_output=True)
+    if (ran.returncode, ran.stdout, ran.stderr) != (0, b"dagstore 0.7.0\n", b""):
+        wrong.append(f"--version: {ran.returncode} {ran.stdout} {ran.stderr}")
+
+    # What is no file says which fault it has, and a file that is not there is not made.
+    cut = car_of(dict([block_of(draw)]))[:-1]
+    ran = run(program, path, "import", given=cut)
+    if (ran.returncode, ran.stderr) != (1, b"dagstore: after 0 sections\ndagstore: the input is not a CAR file: Truncated\n"):
+        wrong.append(f"import of a cut file: {ran.returncode} {ran.stderr}")
     for word in ("export", "gc", "roots", "check", "list", "count"):
-        store.ask(f"{word} of no file", none, word, status=1)
+        expect(f"{word} of no file", run(program, f"{at}/none.db", word), 1, b"")
     for word in ("get", "has", "remove", "gc", "tree", "add-root", "drop-root"):
-        store.ask(f"{word} of no file", none, word, text_of(held), status=1)
-    store.must("a word that reads made a file", not os.path.exists(none))
-    store.ask("a word that is none", none, "lists", status=2)
-    store.must("a word that is none made a file", not os.path.exists(none))
+        expect(f"{word} of no file", run(program, f"{at}/none.db", word, text_of(held)), 1, b"")
+    if os.path.exists(f"{at}/none.db"):
+        wrong.append("a word that reads made a file")
 
+    # A file with a block of other bytes at its end, and one that is cut, change nothing.
+    other = block_of(draw)
+    for what, car in (("other bytes", car_of({**dict([block_of(draw)]), other[0]: b"\x41\x00"})), ("cut", car_of(dict([block_of(draw), other]))[:-1])):
+        ran = run(program, path, "import", given=car)
+        if (ran.returncode, ran.stdout) != (1, b"") or rows_of(path) != blocks:
+            wrong.append(f"import of a file that is {what}: {ran.returncode} {ran.stdout} {ran.stderr}")
+    expect("a word that is none", run(program, f"{at}/none.db", "lists"), 2, b"")
+    if os.path.exists(f"{at}/none.db"):
+        wrong.append("a word that is none made a file")
 
-def no_files(store, at, path, blocks, draw):
-    """What is no file says which fault it has; one with a block of other bytes at its end, and one that is cut, change
-    nothing."""
-    told = b"dagstore: after 0 sections\ndagstore: the input is not a CAR file: Truncated\n"
-    store.ask("import of a cut file", path, "import", given=file_of([], blocks_of(draw, 1))[:-1], status=1, said=None, told=told)
-    first, other = block_of(draw), block_of(draw)
-    files = {"other bytes": file_of([], dict([first, (other[0], b"\x41\x00")])), "cut": file_of([], dict([first, other]))[:-1]}
-    for what, file in files.items():
-        store.ask(f"import of a file that is {what}", path, "import", given=file, status=1)
-        store.holds(f"import of a file that is {what}", path, blocks)
-
-
-def other_bytes(store, path, blocks, found):
-    """Other bytes, and no item, under two names; and no missing link once the one that has it is damaged."""
-    kinds, lost, root = found
-    first, second = sorted(blocks)[:2]
-    damage(path, first)
-    change(path, ("UPDATE block SET bytes = x'ff' WHERE cid = ?", (second,)))
-    damaged = dict.fromkeys((first, second), "other bytes")
-    store.ask("check of other bytes", path, "check", status=1, said=checked(kinds | damaged, [] if root in damaged else [lost]))
-    store.ask("export of other bytes", path, "export", status=1, said=None, told=telling(b"other bytes"))
+    # Other bytes, and no row, under two names; and no missing link once the lost one is stored by another.
+    first, second = stored[0][0], stored[1][0]
+    base = sqlite3.connect(path)
+    base.execute("UPDATE block SET bytes = x'00' WHERE cid = ?", (first,))
+    base.execute("UPDATE block SET bytes = x'ff' WHERE cid = ?", (second,))
+    base.commit()
+    base.close()
+    damaged = {first, second}
+    lines = "".join(f"{text_of(n)} other bytes\n" if n in damaged else f"{text_of(n)} {kinds[n]}\n" for n, _ in stored)
+    after = missing if name not in damaged else ""
+    expect("check of other bytes", run(program, path, "check"), 1, (lines + after).encode())
+    ran = run(program, path, "export")
+    if ran.returncode != 1 or b"other bytes" not in ran.stderr:
+        wrong.append(f"export of other bytes: {ran.returncode} {ran.stderr}")
     # Blocks that are damaged are written anew by an import that has them.
-    given = file_of([], {name: blocks[name] for name in damaged})
-    store.ask("import of damaged blocks", path, "import", given=given, said=b"stored 2\n")
-    store.holds("an import of damaged blocks", path, blocks)
+    expect("import of damaged blocks", run(program, path, "import", given=car_of({n: blocks[n] for n in (first, second)})), 0, b"stored 2\n")
+    if rows_of(path) != blocks:
+        wrong.append("an import left a damaged block")
+    return wrong
 
 
-def unread(store, at):
+def unread(program, at):
     """Blocks of which it is not known what links they have: each command has one word for one, and nothing is lost."""
-    path = f"{at}/u.db"
-    ask = lambda what, *words, told=b"", **how: store.ask(what, path, *words, told=told, **how)
+    wrong, path = [], f"{at}/u.db"
+
+    def expect(what, ran, *wanted):
+        if (ran.returncode, ran.stdout, ran.stderr) != wanted:
+            wrong.append(f"{what}: {ran.returncode} {ran.stdout[:200]} {ran.stderr}")
+
+    def over(*names):
+        links = (b"\xd8\x2a" + head_of(0x40, 1 + len(it)) + b"\x00" + it for it in names)
+        return named(0x71, head_of(0x80, len(names)) + b"".join(links))
 
     # A block of DAG-JSON, two raw ones, and lists of links.
     json, raw, alone = named(0x0129, b"[]"), named(0x55, b"\xf6\xf6"), named(0x55, b"alone")
     # The second one is DAG-CBOR by another name, and none.
     item = b"\x01\x71" + raw[0][2:]
-    over_json, over_item = parent_of([alone[0], json[0]]), parent_of([item])
+    over_json, over_item = over(alone[0], json[0]), over(item)
     blocks = dict([json, raw, alone, over_json, over_item])
-    ask("import", "import", given=file_of([], blocks), said=b"stored 5\n")
-    change(path, ("UPDATE block SET cid = ? WHERE cid = ?", (item, raw[0])))
+    expect("import", run(program, path, "import", given=car_of(blocks)), 0, b"stored 5\n", b"")
+    base = sqlite3.connect(path)
+    base.execute("UPDATE block SET cid = ? WHERE cid = ?", (item, raw[0]))
+    base.commit()
+    base.close()
     blocks[item] = blocks.pop(raw[0])
     states = {json[0]: "links not read", item: "refused TrailingData"}
     for root, name in ((over_json[0], json[0]), (over_item[0], item)):
         told = f"dagstore: {text_of(name)} {states[name]}\ndagstore: the links of a block cannot be read\n".encode()
-        ask("gc", "gc", text_of(alone[0]), text_of(root), status=1, told=told)
-        ask("tree", "tree", text_of(root), status=1, told=told)
-        ask("get", "get", text_of(name), said=blocks[name])
-    store.holds("gc", path, blocks)
+        expect("gc", run(program, path, "gc", text_of(alone[0]), text_of(root)), 1, b"", told)
+        expect("tree", run(program, path, "tree", text_of(root)), 1, b"", told)
+        expect("get", run(program, path, "get", text_of(name)), 0, blocks[name], b"")
+    if rows_of(path) != blocks:
+        wrong.append("gc took out a block")
     kinds = {alone[0]: "not read", over_json[0]: "ok list", over_item[0]: "ok list", **states}
-    ask("check", "check", status=1, said=checked(kinds))
+    expect("check", run(program, path, "check"), 1, "".join(f"{text_of(it)} {kinds[it]}\n" for it in sorted(blocks)).encode(), b"")
     # What no root leads to may be of any codec.
-    ask("gc of another root", "gc", text_of(alone[0]), said=b"removed 4\n")
+    expect("gc of another root", run(program, path, "gc", text_of(alone[0])), 0, b"removed 4\n", b"")
     # A stored root without a block is told by `check`, and takes nothing with it.
-    ask("add-root", "add-root", text_of(item))
-    told = f"dagstore: {text_of(item)} missing\ndagstore: a root has no block\n".encode()
-    ask("gc of a stored root", "gc", status=1, told=told)
-    ask("check of a root", "check", status=1, said=checked({alone[0]: "not read"}, [item]))
+    expect("add-root", run(program, path, "add-root", text_of(item)), 0, b"", b"")
+    expect("gc of a stored root", run(program, path, "gc"), 1, b"", f"dagstore: {text_of(item)} missing\ndagstore: a root has no block\n".encode())
+    expect("check of a root", run(program, path, "check"), 1, f"{text_of(alone[0])} not read\nmissing {text_of(item)} dag-cbor\n".encode(), b"")
+    return wrong
 
 
-def foreign(store, at):
+def foreign(program, at):
     """Files that are none of ours are refused, and left as they are."""
-    other, names, text = (f"{at}/{name}" for name in ("other.db", "names.db", "text"))
-    change(other, ("CREATE TABLE note (a)",), ("INSERT INTO note VALUES (1)",))
-    store.run(names, "import", given=file_of([], {}))
-    change(names, ("INSERT INTO block VALUES (x'00', x'00')",))
-    running.put(text, b"a text, and no database\n" * 100)
-    for path in (other, names, text):
-        before = read(path)
-        store.ask(path, path, "count", status=1)
-        store.must(f"{path} was changed", read(path) == before)
+    wrong = []
+    base = sqlite3.connect(f"{at}/other.db")
+    base.execute("CREATE TABLE note (a)")
+    base.execute("INSERT INTO note VALUES (1)")
+    base.commit()
+    base.close()
+    run(program, f"{at}/names.db", "import", given=car_of({}))
+    base = sqlite3.connect(f"{at}/names.db")
+    base.execute("INSERT INTO block VALUES (x'00', x'00')")
+    base.commit()
+    base.close()
+    with open(f"{at}/text", "wb") as file:
+        file.write(b"a text, and no database\n" * 100)
+    for name in ("other.db", "names.db", "text"):
+        before = open(f"{at}/{name}", "rb").read()
+        ran = run(program, f"{at}/{name}", "count")
+        if ran.returncode != 1 or ran.stdout or open(f"{at}/{name}", "rb").read() != before:
+            wrong.append(f"{name}: {ran.returncode} {ran.stdout} {ran.stderr}")
+    return wrong
 
 
-WRONG_ROWS = (
-    ("block (cid, bytes, rowid) VALUES (x'00', x'00', 7)", b"index of names has a wrong entry at row 7",
-     ("count", "list", "check")),
-    ("root (cid, rowid) VALUES (x'00', 9)", b"table of roots has a wrong row at row 9", ("roots", "add-root", "check")),
-)
-
-
-def wrong_rows(store, at):
+def wrong_rows(program, at):
     """An entry, and a row of the roots, that no store writes: each word that meets it names its row, and changes nothing."""
-    held = block_of(random.Random(4))
-    for row, told, words in WRONG_ROWS:
-        path = f"{at}/{row.split()[0]}.db"
-        store.run(path, "import", given=file_of([], dict([held])))
-        change(path, (f"INSERT INTO {row}",))
-        before = read(path)
+    wrong, held = [], block_of(random.Random(4))
+    cases = (
+        ("block", "(cid, bytes, rowid) VALUES (x'00', x'00', 7)", b"the index of names has a wrong entry at row 7", ("count", "list", "check")),
+        ("root", "(cid, rowid) VALUES (x'00', 9)", b"the table of roots has a wrong row at row 9", ("roots", "add-root", "check")),
+    )
+    for table, row, told, words in cases:
+        path = f"{at}/{table}.db"
+        run(program, path, "import", given=car_of(dict([held])))
+        base = sqlite3.connect(path)
+        base.execute(f"INSERT INTO {table} {row}")
+        base.commit()
+        base.close()
+        before = open(path, "rb").read()
         for word in words:
-            given = [text_of(held[0])] if word == "add-root" else []
-            store.ask(f"{word} over {row}", path, word, *given, status=1, told=b"dagstore: the %s\n" % told)
-            store.must(f"{word} over {row} changes something", read(path) == before)
-        store.ask(f"get beside {row}", path, "get", text_of(held[0]), said=held[1])
-
-
-def sweep(report, program, title, parts):
-    """One line for each part: its name, how many runs it is, the call that makes them, and what that is given."""
-    for name, runs, call, *given in parts:
-        store = Store(program)
-        call(store, *given)
-        report(f"{title}: {name.format(store.kills)}", runs, store.wrong)
+            ran = run(program, path, word, *([text_of(held[0])] if word == "add-root" else []))
+            if (ran.returncode, ran.stdout, ran.stderr) != (1, b"", b"dagstore: " + told + b"\n") or open(path, "rb").read() != before:
+                wrong.append(f"{word} over a wrong row of {table}: {ran.returncode} {ran.stdout} {ran.stderr}")
+        ran = run(program, path, "get", text_of(held[0]))
+        if (ran.returncode, ran.stdout) != (0, held[1]):
+            wrong.append(f"get beside a wrong row of {table}: {ran.returncode} {ran.stdout} {ran.stderr}")
+    return wrong
 
 
 def check(report, program, count=200, seed=1):
-    fewer, chance = count // 4, lambda: random.Random(seed)
+    """One line for each kind of run."""
     with tempfile.TemporaryDirectory() as at:
         os.chmod(at, 0o777)
-        sweep(report, program, "dagstore", (
-            ("killed at random moments ({} in an import)", count, crash, f"{at}/a.db", count, seed),
-            ("killed at random moments of a gc ({} in one)", fewer, collect, f"{at}/gc.db", fewer, seed),
-            ("killed at random moments of a gc of stored roots ({} in one)", fewer, collect, f"{at}/gc2.db", fewer, seed, True),
-            ("killed at random moments of an add-root ({} in one)", fewer, add_roots, f"{at}/add.db", fewer, seed),
-            ("a full disk, a second process, a file that may not be written, other bytes", 4, limits, f"{at}/b.db", chance()),
-            ("what its words say of a store, whole and changed by hand", 1, words, at, chance()),
-            ("the roots of a store, and what export and gc do of them", 1, roots, at, chance()),
-            ("what a path leads to in a store", 1, paths, at, chance()),
-            ("what cat and ls write of files of IPFS in a store", 1, contents, at, chance()),
-            ("blocks whose links cannot be read, and roots without a block", 1, unread, at),
-            ("files that are none of ours", 3, foreign, at),
-            ("rows that no store writes", 8, wrong_rows, at),
-        ))
+        wrong, killed = crash(program, f"{at}/a.db", count, seed)
+        report(f"dagstore: killed at random moments ({killed} in an import)", count, wrong)
+        wrong, killed = collect(program, f"{at}/gc.db", count // 4, seed)
+        report(f"dagstore: killed at random moments of a gc ({killed} in one)", count // 4, wrong)
+        wrong, killed = collect(program, f"{at}/gc2.db", count // 4, seed, is_stored=True)
+        report(f"dagstore: killed at random moments of a gc of stored roots ({killed} in one)", count // 4, wrong)
+        wrong, killed = add_roots(program, f"{at}/add.db", count // 4, seed)
+        report(f"dagstore: killed at random moments of an add-root ({killed} in one)", count // 4, wrong)
+        report("dagstore: a full disk, a second process, a file that may not be written, other bytes", 4, limits(program, f"{at}/b.db", random.Random(seed)))
+        report("dagstore: what its words say of a store, whole and changed by hand", 1, words(program, at, random.Random(seed)))
+        report("dagstore: the roots of a store, and what export and gc do of them", 1, roots(program, at, random.Random(seed)))
+        report("dagstore: what a path leads to in a store", 1, paths(program, at, random.Random(seed)))
+        report("dagstore: what cat and ls write of files of IPFS in a store", 1, contents(program, at, random.Random(seed)))
+        report("dagstore: blocks whose links cannot be read, and roots without a block", 1, unread(program, at))
+        report("dagstore: files that are none of ours", 3, foreign(program, at))
+        report("dagstore: rows that no store writes", 8, wrong_rows(program, at))

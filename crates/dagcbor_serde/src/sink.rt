@@ -18,8 +18,8 @@ use crate::error::Refusal;
 use crate::frame::{
     Frame, Stage, append, append_head, append_link, misplaced, replace_behind, set_head,
 };
+use dagcbor_decode::is_cid;
 use dagcbor_write::{Span, put_in_order};
-use ipld_tree::Cid;
 use serde::{Case, NameKind};
 use smallvec::SmallVec;
 use std::alloc::Global;
@@ -288,7 +288,7 @@ impl Sink {
         ensures moved { OnOk result (MovesTop (put_bytes v.now) self.old self.new) }
         ensures refused { IfErr result (CidRefused v.now) }
     {
-        if Cid::try_from(v).is_err() {
+        if !is_cid(v) {
             return Err(Refusal::NoCid);
         }
         append_link(&mut self.bytes, v)?;

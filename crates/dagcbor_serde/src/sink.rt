@@ -36,7 +36,7 @@ pub(crate) const LINK_CASE: Case = Case::Kebab;
 pub(crate) fn is_link_name(name: &str, case: Case) -> bool
     ensures { result ≡ is_link_name name.now case }
 {
-    matches!(case, Case::Kebab) && name == "/"
+    matches!(case, Case::Kebab) && matches!(name.as_bytes(), b"/")
 }
 
 /// What was sent so far.
@@ -378,6 +378,7 @@ impl Sink {
         self.cased(name, case, NameKind::Variant, false)
     }
 
+    #[inline(always)]
     pub(crate) fn field_key(&mut self, name: &str, case: Case) -> Result<(), Refusal>
         ensures { OnOk result (MovesTop (put_field name.now case) self.old self.new) }
     {

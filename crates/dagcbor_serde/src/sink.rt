@@ -13,13 +13,13 @@ ghost use Rattle.dagcbor_serde.specs.Holds.{IsGood, HoldsAll, StepsBy, MovesTop,
 ghost use Rattle.dagcbor_serde.specs.Holds.{BeginsStage, PutsEach};
 ghost use Rattle.dagcbor_serde.specs.Refusing.{LacksMemory, CidRefused, BytesRefused, ItemRefused, TextRefused, NumberRefused, OnlyAt};
 
-use crate::entries::{are_in_order, push_entries};
+use crate::entries::{are_in_order, push_entries, sort};
 use crate::error::Refusal;
 use crate::frame::{
     Frame, Stage, append, append_head, append_link, misplaced, replace_behind, set_head,
 };
 use dagcbor_decode::is_cid;
-use dagcbor_write::{Span, put_in_order};
+use dagcbor_write::Span;
 use serde::{Case, NameKind};
 use smallvec::SmallVec;
 use std::alloc::Global;
@@ -577,7 +577,7 @@ impl Sink {
             (length (drop first self.old.spans.items))) }
     {
         let spans = &mut self.spans[first..];
-        if !put_in_order(&self.bytes, spans) {
+        if !sort(&self.bytes, spans) {
             return Err(Refusal::RepeatedKey);
         }
         self.room.clear();

@@ -1,8 +1,6 @@
-use Rattle.std.proofs.Common.{ℕ, ◌+◌, ◌-◌, ◌<◌, ◌≡◌, arith, length, map, slice_index_or}
+use Rattle.std.proofs.Common.{arith}
 use Rattle.std.proofs.lemmas.List.{length-map}
-use Rattle.dagcbor_write.specs.Maps.{Texts}
 use Rattle.dagcbor_write.specs.Spans.{entry_at}
-use Rattle.dagcbor_serde.specs.Holds.{StandsBefore}
 use Rattle.dagcbor_serde.proofs.Before.{not_before, differ}
 use Rattle.dagcbor_serde.proofs.entries.are_in_order.Goals as goal
 

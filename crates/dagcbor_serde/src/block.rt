@@ -172,16 +172,38 @@ impl<'r> Block<'r> {
         as_text(self.take_payload(3)?)
     }
 
+    #[inline(always)]
     fn take_bytes(&mut self) -> Option<&'r [u8]> {
         match self.link {
-            LinkStage::Nowhere => self.take_payload(2),
             LinkStage::Named => self.take_cid(),
-            _ => None,
+            _ => self.take_string(),
         }
     }
 
+    #[inline(never)]
+    fn take_string(&mut self) -> Option<&'r [u8]> {
+        self.take_payload(2)
+    }
+
     /// The binary form after the tag and the zero byte.
+    #[inline(always)]
     fn take_cid(&mut self) -> Option<&'r [u8]> {
+        let [0xd8, 0x2a, 0x58, count, 0x00, behind @ ..] = self.rest else {
+            return self.take_any_cid();
+        };
+        let count = usize::from(*count).saturating_sub(1);
+        if count > behind.len() {
+            return None;
+        }
+        let (cid, rest) = behind.split_at(count);
+        self.rest = rest;
+        self.link = LinkStage::Read;
+        Some(cid)
+    }
+
+    /// The binary form, with heads of any length.
+    #[inline(never)]
+    fn take_any_cid(&mut self) -> Option<&'r [u8]> {
         let (_, _, payload) = split_head(self.rest)?;
         self.rest = payload;
         self.link = LinkStage::Nowhere;
@@ -252,7 +274,20 @@ impl<'r> Block<'r> {
         Some(find(names, self.take_text()?))
     }
 
+    #[inline(never)]
+    fn begin_entries(&mut self) -> Result<(), Misfit> {
+        let count = taken!(self, self.take_argument(5));
+        self.enter(count)
+    }
+
+    /// The end of a link, for whoever knows no name of it.
+    #[inline(never)]
+    fn end_link(&mut self) -> Option<Option<usize>> {
+        self.next_link_key(&[])
+    }
+
     /// The name of a link, and its end.
+    #[inline(always)]
     fn next_link_key(&mut self, names: &[Name<'_>]) -> Option<Option<usize>> {
         match self.link {
             LinkStage::Begun if is_link_name(names) => {
@@ -405,13 +440,13 @@ impl<'r> Format for Block<'r> {
         Ok(self.comes())
     }
 
+    #[inline(always)]
     fn begin_map(&mut self, _input: &[u8]) -> Result<(), Misfit> {
         if let (Some(0xd8), LinkStage::Nowhere) = (self.rest.first(), self.link) {
             self.link = LinkStage::Begun;
             return Ok(());
         }
-        let count = taken!(self, self.take_argument(5));
-        self.enter(count)
+        self.begin_entries()
     }
 
     /// A list of the fields is no struct.
@@ -424,8 +459,11 @@ impl<'r> Format for Block<'r> {
 
     #[inline(always)]
     fn next_key(&mut self, _input: &[u8], names: &[Name<'_>]) -> Result<Option<usize>, Misfit> {
-        if !self.is_outside() || is_link_name(names) {
+        if is_link_name(names) {
             return Ok(taken!(self, self.next_link_key(names)));
+        }
+        if !self.is_outside() {
+            return Ok(taken!(self, self.end_link()));
         }
         if !self.comes() {
             return Ok(None);

@@ -1,4 +1,5 @@
 pub mod Spans
+pub mod Before
 pub mod AtStages
 pub mod Levels
 pub mod Leaves

@@ -1,5 +1,5 @@
 -- What the writer holds for what is open; for private clauses.
-use Rattle.std.specs.Prelude.{◌≡◌, ℕ, ◌+◌, ◌≤◌, ◌<◌, List, [], ◌∷◌, ◌++◌, length, map, take, drop, Option, Some, None, reverse, Bool, true, false, IsSomeAnd, ⊤, All, flat_map, IsSortedBy}
+use Rattle.std.specs.Prelude.{◌≡◌, ◌⊎◌, ℕ, ◌+◌, ◌≤◌, ◌<◌, List, [], ◌∷◌, ◌++◌, length, map, take, drop, Option, Some, None, reverse, Bool, true, false, IsSomeAnd, ⊤, All, flat_map, IsSortedBy}
 use Rattle.serde.specs.Event.{Log}
 use Rattle.ipld_tree.specs.Tree.{Tree, text, link, IsTree, AreItems, items_of}
 use Rattle.ipld_tree.specs.Spelled.{spelled, spelled_items}
@@ -19,6 +19,12 @@ abbrev pub IsGood : Tree → List ℕ → Type 0
 IsGood t b = (spelled t ≡ Some b) × IsTree t
 
 -- ---- entries
+
+-- the first byte in which they differ is the lesser in the first
+abbrev pub StandsBefore : List ℕ → List ℕ → Type 0
+StandsBefore [] b = ⊥
+StandsBefore (x ∷ a) [] = ⊥
+StandsBefore (x ∷ a) (y ∷ b) = (x < y) ⊎ ((x ≡ y) × StandsBefore a b)
 
 -- the entries stand in the order of their bytes, and no key is that of the one before it
 abbrev pub AreInOrder : List Texts → Type 0

@@ -6,11 +6,12 @@ ghost use Rattle.std.specs.Prelude.{◌≤◌, length};
 use crate::error::Misfit;
 use crate::link::LINK;
 use dagcbor_core::{Name as Kept, split_head};
+use dagcbor_decode::is_short_ascii;
 use dagcbor_items::behind_item;
 use serde::{Case, Format, Kind, Name, find};
 use smallvec::SmallVec;
 use std::alloc::Global;
-use std::str::from_utf8;
+use std::str::{from_utf8, from_utf8_unchecked};
 
 /// What of a link is read, where one is.
 #[derive(Clone, Copy, Drop, PartialEq, Eq)]
@@ -69,6 +70,15 @@ fn behind_name<'a>(rest: &'a [u8], name: &str) -> Option<&'a [u8]> {
         }
     }
     Some(behind)
+}
+
+/// The bytes as a text.
+#[inline(always)]
+fn as_text(bytes: &[u8]) -> Option<&str> {
+    if is_short_ascii(bytes) {
+        return Some(unsafe { from_utf8_unchecked(bytes) });
+    }
+    from_utf8(bytes).ok()
 }
 
 /// Why no item of the wanted kind is taken. Made in place: an answer whose room a call is handed is
@@ -159,19 +169,41 @@ impl<'r> Block<'r> {
 
     #[inline(always)]
     fn take_text(&mut self) -> Option<&'r str> {
-        from_utf8(self.take_payload(3)?).ok()
+        as_text(self.take_payload(3)?)
     }
 
+    #[inline(always)]
     fn take_bytes(&mut self) -> Option<&'r [u8]> {
         match self.link {
-            LinkStage::Nowhere => self.take_payload(2),
             LinkStage::Named => self.take_cid(),
-            _ => None,
+            _ => self.take_string(),
         }
     }
 
+    #[inline(never)]
+    fn take_string(&mut self) -> Option<&'r [u8]> {
+        self.take_payload(2)
+    }
+
     /// The binary form after the tag and the zero byte.
+    #[inline(always)]
     fn take_cid(&mut self) -> Option<&'r [u8]> {
+        let [0xd8, 0x2a, 0x58, count, 0x00, behind @ ..] = self.rest else {
+            return self.take_any_cid();
+        };
+        let count = usize::from(*count).saturating_sub(1);
+        if count > behind.len() {
+            return None;
+        }
+        let (cid, rest) = behind.split_at(count);
+        self.rest = rest;
+        self.link = LinkStage::Read;
+        Some(cid)
+    }
+
+    /// The binary form, with heads of any length.
+    #[inline(never)]
+    fn take_any_cid(&mut self) -> Option<&'r [u8]> {
         let (_, _, payload) = split_head(self.rest)?;
         self.rest = payload;
         self.link = LinkStage::Nowhere;
@@ -242,7 +274,20 @@ impl<'r> Block<'r> {
         Some(find(names, self.take_text()?))
     }
 
+    #[inline(never)]
+    fn begin_entries(&mut self) -> Result<(), Misfit> {
+        let count = taken!(self, self.take_argument(5));
+        self.enter(count)
+    }
+
+    /// The end of a link, for whoever knows no name of it.
+    #[inline(never)]
+    fn end_link(&mut self) -> Option<Option<usize>> {
+        self.next_link_key(&[])
+    }
+
     /// The name of a link, and its end.
+    #[inline(always)]
     fn next_link_key(&mut self, names: &[Name<'_>]) -> Option<Option<usize>> {
         match self.link {
             LinkStage::Begun if is_link_name(names) => {
@@ -395,13 +440,13 @@ impl<'r> Format for Block<'r> {
         Ok(self.comes())
     }
 
+    #[inline(always)]
     fn begin_map(&mut self, _input: &[u8]) -> Result<(), Misfit> {
         if let (Some(0xd8), LinkStage::Nowhere) = (self.rest.first(), self.link) {
             self.link = LinkStage::Begun;
             return Ok(());
         }
-        let count = taken!(self, self.take_argument(5));
-        self.enter(count)
+        self.begin_entries()
     }
 
     /// A list of the fields is no struct.
@@ -414,8 +459,11 @@ impl<'r> Format for Block<'r> {
 
     #[inline(always)]
     fn next_key(&mut self, _input: &[u8], names: &[Name<'_>]) -> Result<Option<usize>, Misfit> {
-        if !self.is_outside() || is_link_name(names) {
+        if is_link_name(names) {
             return Ok(taken!(self, self.next_link_key(names)));
+        }
+        if !self.is_outside() {
+            return Ok(taken!(self, self.end_link()));
         }
         if !self.comes() {
             return Ok(None);

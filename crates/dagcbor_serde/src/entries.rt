@@ -1,32 +1,95 @@
 //! The entries of a map, which stand in one buffer, and their order.
 
-ghost use Rattle.std.specs.Prelude.{◌≡◌, ◌<◌, ◌++◌, length, map, IsTrue, OnOk, IfErr, slice_index_or};
+ghost use Rattle.std.specs.Prelude.{◌≡◌, ◌<◌, ◌++◌, length, map, IsTrue, OnOk, IfErr, IsPermutation};
 ghost use Rattle.std.specs.List.{All, slice_range, flat_map};
-ghost use Rattle.dagcbor_write.specs.Maps.{Texts};
-ghost use Rattle.dagcbor_write.specs.Order.{KeysDiffer, PutsInOrder};
-ghost use Rattle.dagcbor_serde.specs.Holds.{AreInOrder};
+ghost use Rattle.dagcbor_write.specs.Order.{PutsInOrder};
+ghost use Rattle.dagcbor_serde.specs.Holds.{AreInOrder, StandsBefore};
 ghost use Rattle.dagcbor_write.specs.Spans.{whole_at, IsWithin, entry_at};
 ghost use Rattle.dagcbor_serde.specs.Refusing.{LacksMemory};
 
 use crate::error::Refusal;
 use crate::frame::push;
-use dagcbor_write::{Span, entry_bytes, entry_key};
+use dagcbor_write::{Span, entry_bytes, entry_key, put_in_order};
 
-/// Whether the entries stand in the order of their bytes, and no key is that of the one before it.
+/// How many entries are sorted by moving each one back to its place.
+const FEW: usize = 16;
+
+/// Whether a key stands before another by the first byte in which they differ. A key begins with
+/// its length, so none begins another one.
+#[inline(always)]
+fn stands_before(a: &[u8], b: &[u8]) -> bool
+    ensures { IsTrue result → StandsBefore a.now b.now }
+{
+    for i in 0..a.len().min(b.len()) {
+        if a[i] != b[i] {
+            return a[i] < b[i];
+        }
+    }
+    false
+}
+
+/// Whether each entry's key stands before the next one's.
 pub(crate) fn are_in_order(bytes: &[u8], spans: &[Span]) -> bool
     ensures { IsTrue result → All (IsWithin (length bytes.now)) spans.now
         → AreInOrder (map (entry_at bytes.now) spans.now) }
 {
     for i in 1..spans.len() {
-        if entry_bytes(bytes, spans, i)
-            .cmp(entry_bytes(bytes, spans, i - 1))
-            .is_lt()
-            || entry_key(bytes, spans, i - 1) == entry_key(bytes, spans, i)
-        {
+        if !stands_before(entry_key(bytes, spans, i - 1), entry_key(bytes, spans, i)) {
             return false;
         }
     }
     true
+}
+
+/// Moves an entry back to its place among those before it.
+fn move_back(bytes: &[u8], spans: &mut [Span], from: usize)
+    requires { from < length spans.old }
+    ensures { IsPermutation spans.old spans.new }
+{
+    for step in 0..from {
+        let i = from - step;
+        if !stands_before(entry_key(bytes, spans, i), entry_key(bytes, spans, i - 1)) {
+            return;
+        }
+        spans.swap(i - 1, i);
+    }
+}
+
+/// Moves each entry back to its place among those before it.
+fn move_each_back(bytes: &[u8], spans: &mut [Span])
+    ensures { IsPermutation spans.old spans.new }
+{
+    for i in 1..spans.len() {
+        move_back(bytes, spans, i);
+    }
+}
+
+/// Sorts entries if they are few, and says whether they are in order now.
+fn sort_few(bytes: &[u8], spans: &mut [Span]) -> bool
+    ensures moved { IsPermutation spans.old spans.new }
+    ensures order { IsTrue result → All (IsWithin (length bytes.now)) spans.new
+        → AreInOrder (map (entry_at bytes.now) spans.new) }
+{
+    if spans.len() > FEW {
+        return false;
+    }
+    move_each_back(bytes, spans);
+    are_in_order(bytes, spans)
+}
+
+/// Sorts entries by their bytes, and says whether no key is repeated.
+pub(crate) fn sort(bytes: &[u8], spans: &mut [Span]) -> bool
+    ensures order { All (IsWithin (length bytes.now)) spans.old
+        → PutsInOrder (map (entry_at bytes.now) spans.old)
+        (map (entry_at bytes.now) spans.new) result }
+    ensures within { All (IsWithin (length bytes.now)) spans.old
+        → All (IsWithin (length bytes.now)) spans.new }
+    ensures count { length spans.new ≡ length spans.old }
+{
+    if sort_few(bytes, spans) {
+        return true;
+    }
+    put_in_order(bytes, spans)
 }
 
 /// Appends the entries.

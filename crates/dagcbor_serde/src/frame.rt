@@ -5,7 +5,7 @@ ghost use Rattle.dagcbor_core.specs.Head.{head};
 ghost use Rattle.dagcbor_serde.specs.Refusing.{LacksMemory, LacksMemoryOrPlace, ItemRefused};
 
 use crate::error::Refusal;
-use dagcbor_heads::{Write, push_head, push_head_at_once, push_headed_at_once};
+use dagcbor_heads::{Write, push_head, push_head_at_once};
 
 /// What is open, and what it wants next.
 #[derive(Clone, Copy, Default, Drop, PartialEq, Eq)]
@@ -93,6 +93,7 @@ pub(crate) fn append_head(out: &mut Vec<u8>, major: u8, argument: u64) -> Result
 }
 
 /// Appends the shortest head and what follows it.
+#[tactic(auto, unfolding(dagcbor_core::specs::Head::head))]
 #[inline(always)]
 pub(crate) fn append(
     out: &mut Vec<u8>,
@@ -104,10 +105,13 @@ pub(crate) fn append(
     ensures appended { OnOk result (out.new.items ≡ out.old.items ++ (head major argument ++ payload.now)) }
     ensures refused { IfErr result LacksMemory }
 {
-    if push_headed_at_once(out, major, argument, payload) {
-        return Ok(());
+    if argument > 23 {
+        return append_slowly(out, major, argument, payload);
     }
-    append_slowly(out, major, argument, payload)
+    if out.push(32 * major + argument as u8).is_err() {
+        return Err(Refusal::OutOfMemory);
+    }
+    push(out, payload)
 }
 
 #[inline(never)]

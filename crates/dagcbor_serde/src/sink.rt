@@ -13,13 +13,13 @@ ghost use Rattle.dagcbor_serde.specs.Holds.{IsGood, HoldsAll, StepsBy, MovesTop,
 ghost use Rattle.dagcbor_serde.specs.Holds.{BeginsStage, PutsEach};
 ghost use Rattle.dagcbor_serde.specs.Refusing.{LacksMemory, CidRefused, BytesRefused, ItemRefused, TextRefused, NumberRefused, OnlyAt};
 
-use crate::entries::{are_in_order, push_entries};
+use crate::entries::{are_in_order, push_entries, sort};
 use crate::error::Refusal;
 use crate::frame::{
     Frame, Stage, append, append_head, append_link, misplaced, replace_behind, set_head,
 };
-use dagcbor_write::{Span, put_in_order};
-use ipld_tree::Cid;
+use dagcbor_decode::is_cid;
+use dagcbor_write::Span;
 use serde::{Case, NameKind};
 use smallvec::SmallVec;
 use std::alloc::Global;
@@ -36,7 +36,7 @@ pub(crate) const LINK_CASE: Case = Case::Kebab;
 pub(crate) fn is_link_name(name: &str, case: Case) -> bool
     ensures { result ≡ is_link_name name.now case }
 {
-    matches!(case, Case::Kebab) && name == "/"
+    matches!(case, Case::Kebab) && matches!(name.as_bytes(), b"/")
 }
 
 /// What was sent so far.
@@ -288,7 +288,7 @@ impl Sink {
         ensures moved { OnOk result (MovesTop (put_bytes v.now) self.old self.new) }
         ensures refused { IfErr result (CidRefused v.now) }
     {
-        if Cid::try_from(v).is_err() {
+        if !is_cid(v) {
             return Err(Refusal::NoCid);
         }
         append_link(&mut self.bytes, v)?;
@@ -378,6 +378,7 @@ impl Sink {
         self.cased(name, case, NameKind::Variant, false)
     }
 
+    #[inline(always)]
     pub(crate) fn field_key(&mut self, name: &str, case: Case) -> Result<(), Refusal>
         ensures { OnOk result (MovesTop (put_field name.now case) self.old self.new) }
     {
@@ -576,7 +577,7 @@ impl Sink {
             (length (drop first self.old.spans.items))) }
     {
         let spans = &mut self.spans[first..];
-        if !put_in_order(&self.bytes, spans) {
+        if !sort(&self.bytes, spans) {
             return Err(Refusal::RepeatedKey);
         }
         self.room.clear();

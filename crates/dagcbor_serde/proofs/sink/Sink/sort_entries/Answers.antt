@@ -7,7 +7,7 @@ use Rattle.dagcbor_write.specs.Spans.{whole_at}
 pub returns-clause-entries : goal.returns-clause-entries
 returns-clause-entries c =
     let b = c.args.self.now.bytes.items in
-    let sorted = c.put_in_order.new.spans in
+    let sorted = c.sort.new.spans in
     let empty : c.reserve.new.self.items ≡ [] = search rules in
-    ok_then c.args.self.now c.args.self.now c.replace_behind.result (λ is. sorted_by c.args.place b c.replace_behind.new.out.items c.deref.result.now (drop c.args.first c.args.self.now.spans.items) _ sorted c.put_in_order.result c.deref.ensures.value (rest_from c.args.first c.deref_mut.result.now c.args.self.now.spans.items c.deref_mut.ensures.value) (search rules) c.put_in_order.ensures.order c.put_in_order.ensures.within c.put_in_order.ensures.count
+    ok_then c.args.self.now c.args.self.now c.replace_behind.result (λ is. sorted_by c.args.place b c.replace_behind.new.out.items c.deref.result.now (drop c.args.first c.args.self.now.spans.items) _ sorted c.sort.result c.deref.ensures.value (rest_from c.args.first c.deref_mut.result.now c.args.self.now.spans.items c.deref_mut.ensures.value) (search rules) c.sort.ensures.order c.sort.ensures.within c.sort.ensures.count
     (is ∙ ap (λ v. take (c.args.place + 1) b ++ v) (c.deref-3.ensures.value ∙ c.in_ok-push_entries.ensures.appended ∙ ap₂ (λ x y. x ++ flat_map (whole_at y) sorted) empty c.deref-2.ensures.value))) c.replace_behind.ensures.replaced

@@ -6,12 +6,11 @@ ghost use Rattle.std.specs.Prelude.{◌≤◌, length};
 use crate::error::Misfit;
 use crate::link::LINK;
 use dagcbor_core::{Name as Kept, split_head};
-use dagcbor_decode::is_short_ascii;
 use dagcbor_items::behind_item;
 use serde::{Case, Format, Kind, Name, find};
 use smallvec::SmallVec;
 use std::alloc::Global;
-use std::str::{from_utf8, from_utf8_unchecked};
+use std::str::from_utf8;
 
 /// What of a link is read, where one is.
 #[derive(Clone, Copy, Drop, PartialEq, Eq)]
@@ -70,15 +69,6 @@ fn behind_name<'a>(rest: &'a [u8], name: &str) -> Option<&'a [u8]> {
         }
     }
     Some(behind)
-}
-
-/// The bytes as a text.
-#[inline(always)]
-fn as_text(bytes: &[u8]) -> Option<&str> {
-    if is_short_ascii(bytes) {
-        return Some(unsafe { from_utf8_unchecked(bytes) });
-    }
-    from_utf8(bytes).ok()
 }
 
 /// Why no item of the wanted kind is taken. Made in place: an answer whose room a call is handed is
@@ -169,7 +159,7 @@ impl<'r> Block<'r> {
 
     #[inline(always)]
     fn take_text(&mut self) -> Option<&'r str> {
-        as_text(self.take_payload(3)?)
+        from_utf8(self.take_payload(3)?).ok()
     }
 
     #[inline(always)]

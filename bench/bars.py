@@ -97,11 +97,11 @@ def summarised(page, measured):
 
 
 def told(readme, page):
-    """The README's text, with the least and the greatest ratio of the codec's calls in its sentence."""
-    _, *row = next(row for table in tables(page) for row in ratios_of(table) if row[0] == "ours / serde_cbor")
+    """The README's text, with the least and the greatest ratio of the instructions of the codec's calls in its sentence."""
+    _, *row = next(row for table in tables(page) for row in ratios_of(table) if row[0] == "ours / serde_cbor's")
     ratios = row[0].values()
     said = rf"\g<1>{min(ratios):.1f} to {max(ratios):.1f}\g<2>"
-    readme, count = re.subn(r"(calls take )[\d.]+ to [\d.]+( times as long as those of `serde_cbor`)", said, readme)
+    readme, count = re.subn(r"(calls take )[\d.]+ to [\d.]+( times the instructions of `serde_cbor`'s)", said, readme)
     return readme if count else sys.exit("README.md has no sentence on the ratios of calls")
 
 

@@ -1,4 +1,4 @@
--- What the program answers of bytes.
+-- What the program answers for the bytes of its input.
 use Rattle.std.specs.Prelude.{◌≡◌, ◌≢◌, ◌⊎◌, ◌↔◌, ℕ, codes, List, [], ◌++◌, drop, Vec, Bool, true, false, IsTrue, ⊤, Result, Ok, Err, Option, if◌then◌else◌, flat_map}
 use Rattle.std.specs.declared.alloc.Global.{Global}
 use Rattle.std.specs.declared.convert.Infallible.{Infallible}
@@ -42,25 +42,25 @@ use Rattle.dagcbor_cli.specs.declared.fault.ToolError.{ToolError}
 
 -- ---- a file
 
--- the line of a section with the verdict on it
+-- the line of a section with its verdict
 abbrev pub IsVerdictLine : Section → Bool → List ℕ → Type 0
 IsVerdictLine s well text = (v : Verdict) × IsVerdict s v × (well ≡ is_well v)
     × (text ≡ verdict_line (s, v))
 
--- what is told of a section: of one whose block is refused, by which byte
+-- the error output for a section: if its block is refused, the line with the offset of the fault
 abbrev pub TellsPlace : Section → List ℕ → Type 0
 TellsPlace s told = ((e : DecodeError Infallible) × (place : ℕ) × IsVerdict s (Refused e) × IsRefusedAt s.1 e place
     × (told ≡ section_place_line s.0 e place))
     ⊎ (((e : DecodeError Infallible) → ¬ IsVerdict s (Refused e)) × (told ≡ []))
 
--- the lines of the roots and the links that lead nowhere; nothing is wrong where there is none
+-- the lines of missing roots and links; all is well if there are none
 pub record AreMissingLines (roots : List (List ℕ)) (sections : List Section) (well : Bool) (text : List ℕ) : Type 0 where
   pub missing : Vec CidParts Global
   pub lists : ListsMissingInFile roots sections missing
   pub lines : text ≡ flat_map missing_line missing.items
   pub wellness : IsTrue well ↔ (missing.items ≡ [])
 
--- what `check` says: the verdict on each section, and then what leads nowhere
+-- what `check` says: the verdict on each section, then the missing roots and links
 abbrev pub check_speech : Speech
 check_speech = record {
   of_roots = λ roots. [];
@@ -78,7 +78,7 @@ verify_speech = record {
   of_fault = λ line. line;
 }
 
--- what `check --summary` says: how many sections had which verdict
+-- what `check --summary` says: how many sections got each verdict
 abbrev pub summary_speech : Speech
 summary_speech = record {
   of_roots = λ roots. [];
@@ -98,72 +98,72 @@ list_speech = record {
 
 -- ---- one block
 
--- the bytes are a block, and what trails it is another: so is a frame of a repository host's stream
+-- the bytes are a block and then a second block, like a frame of an AT Protocol event stream
 abbrev pub AreTwoBlocks : List ℕ → Type 0
 AreTwoBlocks b = (place : ℕ) × IsRefusedAt {E = Infallible} b TrailingData place × HasBlock (drop place b)
 
--- what is told of two blocks
+-- the error line for two blocks in a row
 abbrev pub two_blocks_line : List ℕ
 two_blocks_line = line (codes "dagcar: two blocks, one after the other: dagcar event reads frames")
 
 abbrev pub IsHint : List ℕ → List ℕ → Type 0
 IsHint b hint = (AreTwoBlocks b × (hint ≡ two_blocks_line)) ⊎ ((¬ AreTwoBlocks b) × (hint ≡ []))
 
--- what `one` and `show` say of bytes that are no block: why and where; and of two blocks also what
--- reads them
+-- what `one` and `show` say of bytes that are not a block: the cause and the offset, and a hint if
+-- they are two blocks
 abbrev pub IsUnreadSaid : List ℕ → Bool → List ℕ → List ℕ → Type 0
 IsUnreadSaid b well out told = (fault hint : List ℕ) × IsSaidOfNoBlock b well out fault
     × IsHint b hint × (told ≡ fault ++ hint)
 
--- what `one` says of bytes: the kind of the block, or why they are none
+-- what `one` says of bytes: the kind of the block, or why they are not one
 abbrev pub IsJudged : List ℕ → Bool → List ℕ → List ℕ → Type 0
 IsJudged b well out told = ((t : Tree) × IsBlock b t × (well ≡ true)
     × (out ≡ line (codes "ok " ++ kind_name (kind_of t))) × (told ≡ []))
     ⊎ IsUnreadSaid b well out told
 
--- the data as DAG-JSON in a line; and a line is told where a map in it has the key `/`
+-- the data as a line of DAG-JSON, and a warning if a map in it has the key `/`
 abbrev pub IsDataSaid : Tree → Bool → List ℕ → List ℕ → Type 0
 IsDataSaid t well out told = (well ≡ true) × (out ≡ line (dag_json t))
     × (told ≡ (if has_reserved_key t then reserved_line else []))
 
--- What `show` says of bytes: the data of the block; or, where they are none, the data model of the node
--- of DAG-PB that they are; or, where they are none of both, why they are no block. No bytes at all are a
--- node too, of which nothing is shown.
+-- What `show` says of bytes: the data of the block. If they are not a block, but a node of DAG-PB,
+-- its
+-- data model. If they are neither, why they are not a block. Empty bytes are a node too, but are
+-- treated as neither.
 abbrev pub IsDataShown : List ℕ → Bool → List ℕ → List ℕ → Type 0
 IsDataShown b well out told = ((t : Tree) × IsBlock b t × IsDataSaid t well out told)
     ⊎ ((¬ HasBlock b) × (b ≢ []) × ((t : Tree) × IsNodeOf b t × IsDataSaid t well out told))
     ⊎ (((b ≡ []) ⊎ ((t : Tree) → ¬ IsNodeOf b t)) × IsUnreadSaid b well out told)
 
--- what `make` gives of a text: the block of the data that it is; or nothing, and a line that tells
--- why it is none. At which byte is not said here.
+-- what `make` makes of a text: the block of its data; or nothing, and a line with the cause of the
+-- refusal, at an offset that is not specified here
 abbrev pub IsMade : List ℕ → Bool → List ℕ → List ℕ → Type 0
 IsMade b well out told = ((t : Tree) × ReadsJson b (Ok t) × IsSpelling out t × (well ≡ true)
     × (told ≡ []))
     ⊎ ((e : DagJsonError) × (offset : ℕ) × ReadsJson b (Err e) × (well ≡ false) × (out ≡ [])
     × (told ≡ cause_line e offset))
 
--- what `name` says of bytes: the CID of the block, of DAG-CBOR and by SHA-256 (multicodec table), or
--- why they are none
+-- what `name` says of bytes: the CID of the block, with the DAG-CBOR codec and SHA-256 (multicodec
+-- table), or why they are not a block
 abbrev pub IsNameSaid : List ℕ → Bool → List ℕ → List ℕ → Type 0
 IsNameSaid b well out told = (HasBlock b × (well ≡ true) × (out ≡ line (cid_text (block_name b)))
     × (told ≡ [])) ⊎ IsSaidOfNoBlock b well out told
 
 -- ---- a run
 
--- the status of a run that ended so: 0 where nothing is wrong, 1 where something is, 2 where it could
--- not be told
+-- the exit status of a run: 0 if all is well, 1 if something is wrong, 2 if the run broke off
 abbrev pub EndsSo : Result Bool ToolError → ℕ → Type 0
 EndsSo (Ok well) status = status ≡ (if well then 0 else 1)
 EndsSo (Err e) status = status ≡ 2
 
--- this is said of the bytes, and beside it of each refused section by which byte it is
+-- the speech's lines for the bytes, and on the error output the offset in each refused section
 abbrev pub SaysWithPlaces : Speech → List ℕ → Option (List ℕ) → Option (List ℕ) → Result Bool ToolError
     → Option (List ℕ) → Option (List ℕ) → Type 0
 SaysWithPlaces speech b old heard ended new after = SaysBytes speech b old ended new
     × SaysBytes (beside TellsPlace) b heard ended after
 
--- a run of a command on these bytes, and on the text after its words, by what the output and the errors
--- hold
+-- a run of a command on these bytes, and on the text after its words: what the output and the error
+-- output hold
 abbrev pub RunsCommand : Command → List ℕ → List ℕ → Option (List ℕ) → Option (List ℕ)
     → Result Bool ToolError → Option (List ℕ) → Option (List ℕ) → Type 0
 RunsCommand commands.Check text b old heard ended new after = SaysWithPlaces check_speech b old heard ended new after
@@ -186,7 +186,7 @@ RunsCommand (commands.Cat root) text b old heard ended new after = SaysFileOf ro
 RunsCommand commands.Records text b old heard ended new after = SaysBoth (IsRecords b) old heard ended new after
 RunsCommand commands.Record text b old heard ended new after = SaysBoth (IsRecord text b) old heard ended new after
 
--- the commands that tell of nothing but of faults
+-- the commands that write only faults to the error output
 abbrev pub IsQuiet : Command → Type 0
 IsQuiet commands.Check = ⊥
 IsQuiet commands.Verify = ⊥

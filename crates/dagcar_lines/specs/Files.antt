@@ -1,4 +1,4 @@
--- What is said of the files and directories of IPFS in a CAR file.
+-- What the program says of IPFS files and directories in a CAR file.
 use Rattle.std.specs.Prelude.{◌≡◌, ◌⊎◌, ℕ, List, [], Bool, false, Option, Result, ⊤}
 use Rattle.ipld_tree.specs.Cid.{CidParts}
 use Rattle.dagcbor_car.specs.Car.{Section}
@@ -11,18 +11,18 @@ use Rattle.held_lines.specs.Holding.{Stores, TellsFault}
 use Rattle.held_lines.specs.declared.holding.Kept.TheVariants as which
 use Rattle.dagcbor_cli.specs.declared.fault.ToolError.{ToolError}
 
--- the bytes are not a CAR file: nothing is written, and a line tells why
+-- the bytes are not a CAR file: the output is empty, and an error line says why
 abbrev pub IsNoFileOfBlocks : List ℕ → Bool → List ℕ → List ℕ → Type 0
 IsNoFileOfBlocks b well out told = (well ≡ false) × (out ≡ []) × TellsFault (λ sections. ⊤) b told
 
--- what `ls` says of a CAR file: what stands under the path from the root, over its sections
+-- what `ls` says of a CAR file: the entries under the path from the root, over its sections
 abbrev pub IsListingOfFile : CidParts → List (List ℕ) → List ℕ → Bool → List ℕ → List ℕ → Type 0
 IsListingOfFile root path b well out told = ((roots : List (List ℕ)) × (sections : List Section)
     × IsFile b roots sections × ((stored : Stored) × Stores which.All sections stored
     × IsListing stored root path well out told))
     ⊎ IsNoFileOfBlocks b well out told
 
--- what `cat` writes of a CAR file: the file of IPFS to which the path leads from the root, over its
+-- what `cat` writes for a CAR file: the IPFS file to which the path leads from the root, over the
 -- sections
 abbrev pub SaysFileOf : CidParts → List (List ℕ) → List ℕ → Option (List ℕ) → Option (List ℕ)
     → Result Bool ToolError → Option (List ℕ) → Option (List ℕ) → Type 0

@@ -1,4 +1,4 @@
--- The lines that the program alone writes.
+-- The lines that only this program writes.
 use Rattle.std.specs.Prelude.{ℕ, List, ◌∷◌, ◌++◌, codes, decimal}
 use Rattle.ipld_tree.specs.Cid.{CidParts}
 use Rattle.cid_text.specs.Texts.{cid_text}
@@ -8,10 +8,10 @@ use Rattle.dagcar_lines.specs.Names.{cause_name}
 use Rattle.dag_json.specs.declared.error.DagJsonError.{DagJsonError}
 use Rattle.dagcbor_core.specs.declared.error.DecodeError.{DecodeError}
 
--- of a text that is refused, at this byte
+-- the line of a text that is refused at this byte
 abbrev pub cause_line : DagJsonError → ℕ → List ℕ
 cause_line e offset = line (codes "refused " ++ (cause_name e ++ (32 ∷ decimal offset)))
 
--- of a section whose block is refused, and by which byte of it
+-- the line of a section whose block is refused at this byte
 abbrev pub section_place_line : {E : Type 0} → CidParts → DecodeError E → ℕ → List ℕ
 section_place_line name e place = cid_text name ++ (58 ∷ (32 ∷ fault_place_line e place))

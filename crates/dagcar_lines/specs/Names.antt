@@ -1,9 +1,9 @@
--- The names of the refusals of a text.
+-- The names of the causes for which a text is refused.
 use Rattle.std.specs.Prelude.{ℕ, List, codes}
 use Rattle.dag_json.specs.declared.error.DagJsonError.{DagJsonError}
 use Rattle.dag_json.specs.declared.error.DagJsonError.TheVariants as causes
 
--- the name of the variant of a text's refusal
+-- the name of this cause
 abbrev pub cause_name : DagJsonError → List ℕ
 cause_name causes.NoText = codes "NoText"
 cause_name causes.NoJson = codes "NoJson"

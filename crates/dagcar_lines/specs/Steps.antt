@@ -14,16 +14,16 @@ use Rattle.dagcbor_cli.specs.declared.fault.ToolError.{ToolError}
 
 -- ---- what a teller knows
 
--- what a teller knows after these sections of a file of these roots
+-- what a teller knows after these sections of a file with these roots
 abbrev pub Knowing : Type 0 → Type 1
 Knowing T = T → List (List ℕ) → List Section → Type 0
 
--- what is known after this section, whatever stood before
+-- what is known after one more section, whatever came before
 abbrev pub KnowsMore : {T : Type 0} → Knowing T → Section → T → T → Type 0
 KnowsMore knows s old new = (roots : List (List ℕ)) (sections : List Section)
     → knows old roots sections → knows new roots (sections ++ s ∷ [])
 
--- what is said at the end of each file after whose sections this is known
+-- what is said at the end of any file after whose sections this is known
 abbrev pub SaysAtEnd : {T E : Type 0} → Speech → Knowing T → T → Result (Vec ℕ Global × Bool) E
     → Type 0
 SaysAtEnd speech knows teller result = (roots : List (List ℕ)) (sections : List Section)
@@ -31,15 +31,15 @@ SaysAtEnd speech knows teller result = (roots : List (List ℕ)) (sections : Lis
 
 -- ---- a teller at work
 
--- the teller, whether nothing is wrong so far, what a device holds, and through which reference it is
--- written
+-- the teller, whether all is well so far, what the device holds, and the reference it is written
+-- through
 pub record Work (T : Type 0) : Type 0 where
   pub teller : T
   pub well : Bool
   pub written : Option (List ℕ)
   pub through : ℕ
 
--- what contracts see of a teller at work, of whose output the bytes are told so
+-- a teller at work as contracts see it, where `contents` gives the bytes of its output
 abbrev pub work_of : {T W V : Type 0} → (W → Option (List ℕ)) → Telling T W V → Work T
 work_of contents t = record {
   teller = t.teller;
@@ -48,7 +48,7 @@ work_of contents t = record {
   through = t.output.ghost_name;
 }
 
--- what contracts see of a teller at work, of whose errors the bytes are told so
+-- a teller at work as contracts see it, where `contents` gives the bytes of its error output
 abbrev pub beside_of : {T W V : Type 0} → (V → Option (List ℕ)) → Telling T W V → Work T
 beside_of contents t = record {
   teller = t.teller;
@@ -57,13 +57,13 @@ beside_of contents t = record {
   through = t.errors.ghost_name;
 }
 
--- a section was told, and its lines went out
+-- a section was told, and its lines were written
 abbrev pub TellsSection : {T : Type 0} → Speech → Knowing T → Section → Work T → Work T → Type 0
 TellsSection speech knows s old new = (well : Bool) × (text : List ℕ)
     × speech.of_section s well text × KnowsMore knows s old.teller new.teller
     × (new.well ≡ (old.well && well)) × Appends old.written new.written text
 
--- a section was told, and its lines went out, or broke off
+-- a section was told, and its lines were written, or broke off
 abbrev pub SaysSection : {T : Type 0} → Speech → Knowing T → Section → Work T
     → Result (Unit {0}) ToolError → Work T → Type 0
 SaysSection speech knows s old result new = (new.through ≡ old.through) × MatchResult result
@@ -72,7 +72,7 @@ SaysSection speech knows s old result new = (new.through ≡ old.through) × Mat
 
 -- ---- the end
 
--- what is said after the sections: at the end of a file; or of what stands there, which is none
+-- what is said after the sections: the end of a whole file, or the fault
 abbrev pub SaysRest : {T : Type 0} → Speech → Knowing T → T → Bool → Result (Ended ToolError) ToolError
     → Option (List ℕ) → Result Bool ToolError → Option (List ℕ) → Type 0
 SaysRest speech knows teller well (Ok ended.Whole) before result after =
@@ -88,8 +88,7 @@ SaysRest speech knows teller well (Err e) before result after = (result ≡ Err 
 
 -- ---- the whole
 
--- what follows a file's header: how many bytes of the file, where that is told, and the input
--- that has them
+-- what follows a file's header: the length of the file, if known, and the input
 pub record Behind : Type 0 where
   pub extent : Option ℕ
   pub source : Reading
@@ -97,7 +96,7 @@ pub record Behind : Type 0 where
 abbrev pub behind : Option ℕ → Reading → Behind
 behind extent source = record { extent = extent; source = source }
 
--- a call that writes: what the device held before, the answer, and what the device holds then
+-- a call that writes: what the device held before, the answer, and what the device holds after
 pub record Run : Type 0 where
   pub before : Option (List ℕ)
   pub answer : Result Bool ToolError
@@ -106,14 +105,14 @@ pub record Run : Type 0 where
 abbrev pub run : Option (List ℕ) → Result Bool ToolError → Option (List ℕ) → Run
 run before answer after = record { before = before; answer = answer; after = after }
 
--- all is said of a file after its header, of whose roots it was said before
+-- all is said of a file after its header, once its roots were said
 abbrev pub SaysSections : {T : Type 0} → Speech → Knowing T → Behind → T → Run → Type 0
 SaysSections speech knows at teller said =
     (start : Reading) (roots : List (List ℕ)) (old : Option (List ℕ))
     → TakesStart start roots at.extent at.source → knows teller roots []
     → Appends old said.before (speech.of_roots roots) → SaysFile speech start old said.answer said.after
 
--- all is said of a file after its header, of whose roots this is said first
+-- all is said of a file after its header, its roots first
 abbrev pub SaysHeader : {T : Type 0} → Speech → Knowing T → Behind → List ℕ → T → Run → Type 0
 SaysHeader speech knows at text teller said =
     (start : Reading) (roots : List (List ℕ))

@@ -1,4 +1,4 @@
--- How many sections of a file had which verdict.
+-- How many sections of a file got each verdict.
 use Rattle.std.specs.Prelude.{◌≡◌, ◌↔◌, ℕ, ◌+◌, List, [], ◌∷◌, ◌++◌, length, codes, Bool, true, false, IsTrue, Vec}
 use Rattle.std.specs.declared.alloc.Global.{Global}
 use Rattle.ipld_tree.specs.Cid.{CidParts}
@@ -41,19 +41,19 @@ abbrev pub is_unverified : Verdict → Bool
 is_unverified verdicts.Unverified = true
 is_unverified _ = false
 
--- one where it is so, else none
+-- 1 if true, else 0
 abbrev pub one_if : Bool → ℕ
 one_if true = 1
 one_if false = 0
 
--- of how many sections the verdict is so
+-- the number of sections whose verdict satisfies this
 abbrev pub how_many : (Verdict → Bool) → List Told → ℕ
 how_many is_so [] = 0
 how_many is_so (p ∷ told) = one_if (is_so p.1) + how_many is_so told
 
 -- ---- the lines
 
--- how many sections there are, of how many the verdict is which, and how many links lead nowhere
+-- the numbers of sections, of each verdict, and of missing roots and links
 abbrev pub summary_lines : List Told → ℕ → List ℕ
 summary_lines told missing = number_line (codes "sections") (length told)
     ++ (number_line (codes "ok") (how_many is_ok told)
@@ -64,12 +64,13 @@ summary_lines told missing = number_line (codes "sections") (length told)
     ++ (number_line (codes "not verified") (how_many is_unverified told)
     ++ number_line (codes "missing") missing))))))
 
--- of a section nothing is said, but whether the verdict on it tells of nothing wrong
+-- a section adds no line, only whether its verdict is well
 abbrev pub IsVerdictCounted : Section → Bool → List ℕ → Type 0
 IsVerdictCounted s well text = (v : Verdict) × IsVerdict s v × (well ≡ is_well v) × (text ≡ [])
 
--- What `check --summary` says at the end: how many sections had which verdict, and how many links lead
--- nowhere; nothing is wrong where none does.
+-- What `check --summary` says at the end: how many sections got each verdict, and how many roots
+-- and
+-- links are missing. All is well if none is.
 pub record IsSummary (roots : List (List ℕ)) (sections : List Section) (well : Bool) (text : List ℕ) : Type 0 where
   pub missing : Vec CidParts Global
   pub lists : ListsMissingInFile roots sections missing
@@ -81,7 +82,7 @@ pub record IsSummary (roots : List (List ℕ)) (sections : List Section) (well :
 
 -- ---- what is counted
 
--- the numbers are those of these verdicts
+-- the counts are those of these verdicts
 pub record AreCounts (counts : Counts) (told : List Told) : Type 0 where
   pub sections : counts.sections ≡ length told
   pub ok : counts.ok ≡ how_many is_ok told
@@ -91,7 +92,7 @@ pub record AreCounts (counts : Counts) (told : List Told) : Type 0 where
   pub other_bytes : counts.other_bytes ≡ how_many is_other_bytes told
   pub unverified : counts.unverified ≡ how_many is_unverified told
 
--- one more is counted, of this verdict
+-- one more section is counted, with this verdict
 pub record CountsOne (v : Verdict) (old new : Counts) : Type 0 where
   pub sections : new.sections ≡ old.sections + 1
   pub ok : new.ok ≡ old.ok + one_if (is_ok v)
@@ -105,12 +106,12 @@ pub record CountsOne (v : Verdict) (old new : Counts) : Type 0 where
 abbrev pub CountsSection : Section → Counts → Counts → Type 0
 CountsSection s old new = (v : Verdict) × IsVerdict s v × CountsOne v old new
 
--- what is known after these sections of a file of these roots
+-- what is known after these sections of a file with these roots
 abbrev pub KnowsCounts : Summing → List (List ℕ) → List Section → Type 0
 KnowsCounts it roots sections = IsAfter it.check roots sections × ((told : List Told)
     × (sections_of told ≡ sections) × AreTold told × AreCounts it.counts told)
 
--- the lines of these numbers
+-- the lines of these counts
 abbrev pub counts_lines : Counts → ℕ → List ℕ
 counts_lines counts missing = number_line (codes "sections") counts.sections
     ++ (number_line (codes "ok") counts.ok

@@ -1,4 +1,4 @@
-//! What is said of all bytes of the input, and what is told beside that.
+//! What a command says of the whole input, on the output and on the error output.
 
 ghost use Rattle.std.specs.Prelude.{◌≡◌, Bool, List, ℕ, IfOk, IfSome};
 ghost use Rattle.block_lines.specs.Lines.{SaysBoth};
@@ -10,14 +10,14 @@ use std::io::{BufRead, ErrorKind, Write};
 
 /// A command on bytes as a whole.
 pub trait Answering {
-    /// What is said and told of the bytes, and whether that tells of nothing wrong.
+    /// The output, the error output, and whether all is well, for these bytes.
     ghost is_said: { List ℕ → Bool → List ℕ → List ℕ → Type 0 };
 
     fn answer(alloc: Global, bytes: &[u8]) -> Result<Answer, ToolError>
         ensures { IfOk result (λ p. Self.is_said bytes.now p.0.1 p.0.0.items p.1.items) };
 }
 
-/// All bytes of the input.
+/// Reads all bytes of the input.
 fn read_all<R: BufRead>(alloc: Global, input: &mut R) -> Result<Vec<u8>, ToolError>
     ensures { IfSome (R.remaining input.old) (λ b. IfOk result (λ v. v.items ≡ b)) }
 {
@@ -29,7 +29,7 @@ fn read_all<R: BufRead>(alloc: Global, input: &mut R) -> Result<Vec<u8>, ToolErr
     }
 }
 
-/// Writes what the command says of the bytes that the input has. Whether nothing is wrong.
+/// Writes the command's answer for the bytes of the input. Returns whether all is well.
 pub fn say_answer<A: Answering, R: BufRead, W: Write, V: Write>(
     alloc: Global,
     input: &mut R,

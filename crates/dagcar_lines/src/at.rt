@@ -1,4 +1,4 @@
-//! `at` and `prove`: what a path leads to in a file.
+//! `at` and `prove`: what a path leads to in a CAR file.
 
 ghost use Rattle.std.specs.Prelude.{IfSome};
 ghost use Rattle.dagcbor_paths.specs.Paths.{segments};
@@ -16,18 +16,19 @@ use std::alloc::Global;
 use std::collections::BTreeMap;
 use std::io::{BufRead, Write};
 
-/// What is asked of a path.
+/// What is asked about a path.
 #[derive(Clone, Copy)]
 pub enum Asked {
     /// The data of the item, as DAG-JSON.
     Data,
     /// The bytes of the item.
     Bytes,
-    /// The file that proves what it leads to.
+    /// The CAR file that proves what the path leads to.
     Proof,
 }
 
-/// Writes what the path leads to from the root, or tells why it leads to nothing. Whether it does.
+/// Writes what the path leads to from the root, or an error line that says why it leads to nothing.
+/// Returns whether it leads to something.
 fn say_at<W: Write, V: Write>(
     alloc: Global,
     root: &Cid,
@@ -50,7 +51,9 @@ fn say_at<W: Write, V: Write>(
     }
 }
 
-/// Writes what is asked of the path from the root, or tells why there is none. Whether there is.
+/// Writes the answer for the path from the root, or an error line that says why there is none.
+/// Returns
+/// whether there is one.
 pub fn say_asked<W: Write, V: Write>(
     alloc: Global,
     asked: Asked,
@@ -71,9 +74,10 @@ pub fn say_asked<W: Write, V: Write>(
     }
 }
 
-/// Writes what is asked of the path from the root, over the blocks of the file that the input is, or
-/// tells why there is none, or why there is no file. Whether there is. The blocks of the input are in
-/// memory.
+/// Writes the answer for the path from the root over the blocks of the input's CAR file, or an
+/// error
+/// line: why there is no answer, or why the input is not a CAR file. Returns whether there is an
+/// answer. Holds the blocks of the input in memory.
 pub fn write_asked<R: BufRead, W: Write, V: Write>(
     alloc: Global,
     asked: Asked,

@@ -20,10 +20,10 @@ use ipld_links::name_of_block;
 use ipld_tree::Cid;
 use std::alloc::{AllocError, Global};
 
-/// What is told of two blocks.
+/// The error line for two blocks in a row.
 const TWO_BLOCKS: &[u8] = b"dagcar: two blocks, one after the other: dagcar event reads frames\n";
 
-/// Whether the bytes are a block, and what trails it is another.
+/// Returns whether the bytes are a block and then a second block.
 fn are_two_blocks(bytes: &[u8]) -> bool
     ensures { MatchBool result (AreTwoBlocks bytes.now) (¬ AreTwoBlocks bytes.now) }
 {
@@ -36,7 +36,7 @@ fn are_two_blocks(bytes: &[u8]) -> bool
     }
 }
 
-/// What is told beside of bytes that are not a block: what reads them, if they are two blocks.
+/// Returns the hint for bytes that are not a block: the command for two blocks, or nothing.
 fn hint_of(alloc: Global, bytes: &[u8]) -> Result<Vec<u8>, AllocError>
     ensures { IfOk result (λ v. IsHint bytes.now v.items) }
 {
@@ -47,7 +47,7 @@ fn hint_of(alloc: Global, bytes: &[u8]) -> Result<Vec<u8>, AllocError>
     }
 }
 
-/// What is said of bytes that are not a block, where this is told of why.
+/// Returns the answer for bytes that are not a block, from the lines that say why.
 fn unread_answer(
     alloc: Global,
     bytes: &[u8],
@@ -62,14 +62,14 @@ fn unread_answer(
     Ok((said, told))
 }
 
-/// The line of a name.
+/// Returns the line of a CID.
 fn name_line(alloc: Global, cid: &Cid) -> Result<Vec<u8>, AllocError>
     ensures { IfOk result (λ v. v.items ≡ line (cid_text cid.now)) }
 {
     line_of(alloc, &cid_text(cid), b"", b"")
 }
 
-/// `name`: the CID of the block, or why the bytes are none.
+/// `name`: the CID of the block, or why the bytes are not a block.
 #[derive(Clone, Copy)]
 pub struct Naming;
 
@@ -87,7 +87,7 @@ impl Answering for Naming {
     }
 }
 
-/// `one`: the kind of the block, or why the bytes are none.
+/// `one`: the kind of the block, or why the bytes are not a block.
 #[derive(Clone, Copy)]
 pub struct Judging;
 
@@ -108,8 +108,9 @@ impl Answering for Judging {
     }
 }
 
-/// The data model of a node of DAG-PB. None where the bytes are no node whose names are texts, and
-/// where there are no bytes, which are a node too.
+/// Returns the data model of a DAG-PB node. `None` if the bytes are not a node whose names are
+/// texts, or
+/// are empty (an empty node).
 fn model_shown(alloc: Global, bytes: &[u8]) -> Result<Option<Answer>, AllocError>
     ensures { IfOk result (λ r. MatchOption r ((bytes.now ≡ []) ⊎ ((t : Tree) → ¬ IsNodeOf bytes.now t))
         (λ p. (bytes.now ≢ []) × ((t : Tree) × IsNodeOf bytes.now t
@@ -124,7 +125,7 @@ fn model_shown(alloc: Global, bytes: &[u8]) -> Result<Option<Answer>, AllocError
     }
 }
 
-/// The data of the block, or of the node of DAG-PB, or why the bytes are no block.
+/// Returns the data of the block or of the DAG-PB node, or why the bytes are not a block.
 fn data_shown(alloc: Global, bytes: &[u8]) -> Result<Answer, AllocError>
     ensures { IfOk result (λ p. IsDataShown bytes.now p.0.1 p.0.0.items p.1.items) }
 {
@@ -138,7 +139,7 @@ fn data_shown(alloc: Global, bytes: &[u8]) -> Result<Answer, AllocError>
     }
 }
 
-/// `show`: the data of the block, or of the node of DAG-PB, or why the bytes are no block.
+/// `show`: the data of the block or of the DAG-PB node, or why the bytes are not a block.
 #[derive(Clone, Copy)]
 pub struct Showing;
 

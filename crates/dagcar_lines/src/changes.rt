@@ -12,7 +12,7 @@ use record_lines::write_changes;
 use std::alloc::Global;
 use std::io::{BufRead, Write};
 
-/// The two files, if the word is `changes`, and not both are standard input.
+/// Returns the two files if the word is `changes` and at most one of them is standard input.
 fn files_behind<'a>(word: &str, old: &'a str, new: &'a str) -> Option<(&'a str, &'a str)>
     ensures { MatchOption result
         ((before after : List ℕ) → ¬ IsChanges (word.now ∷ old.now ∷ new.now ∷ []) before after)
@@ -24,8 +24,8 @@ fn files_behind<'a>(word: &str, old: &'a str, new: &'a str) -> Option<(&'a str, 
     Some((old, new))
 }
 
-/// The two files that the words `changes OLD NEW` name. Standard input, `-`, can be one of them alone.
-/// These words are none of `run_command`: `laws::changes_are_no_command`.
+/// Returns the two files that the words `changes OLD NEW` name. At most one of them can be standard
+/// input, `-`. `run_command` accepts no such words: `laws::changes_are_no_command`.
 pub fn changes_of(args: &[String]) -> Option<(&str, &str)>
     ensures { MatchOption result
         ((old new : List ℕ) → ¬ IsChanges (map string_bytes args.now) old new)
@@ -37,7 +37,7 @@ pub fn changes_of(args: &[String]) -> Option<(&str, &str)>
     }
 }
 
-/// Says what differs between the two files that the inputs are, and answers the exit status.
+/// Writes the differences between the CAR files of the two inputs. Returns the exit status.
 pub fn run_changes<R: BufRead, S: BufRead, W: Write, V: Write>(
     alloc: Global,
     old: &mut R,

@@ -1,4 +1,4 @@
-//! `check`: the verdict on each section, and then the roots and the links that lead nowhere.
+//! `check`: the verdict on each section, then the missing roots and links.
 
 ghost use Rattle.std.specs.Prelude.{◌≡◌, ◌↔◌, [], IsTrue, IfOk, OnOk, refl};
 ghost use Rattle.std.specs.List.{flat_map};
@@ -18,7 +18,7 @@ use ipld_links::Verdict;
 use ipld_tree::Cid;
 use std::alloc::{AllocError, Global};
 
-/// The line that tells by which byte the block of the section is refused.
+/// Returns the line with the offset at which the section's block is refused.
 fn section_place_line(
     alloc: Global,
     section: &Section<'_>,
@@ -34,7 +34,8 @@ fn section_place_line(
     Ok(line)
 }
 
-/// What is told of a section with this verdict: of one that is refused, by which byte of its block.
+/// Returns the error output for a section with this verdict: if it is refused, the line with the
+/// offset.
 fn section_told(
     alloc: Global,
     section: &Section<'_>,
@@ -52,7 +53,7 @@ fn section_told(
     }
 }
 
-/// The line of the section with this verdict, and what is told beside that.
+/// Returns the line of the section with this verdict, and the error output.
 pub fn section_answer(
     alloc: Global,
     section: &Section<'_>,
@@ -68,7 +69,7 @@ pub fn section_answer(
     Ok((said, told))
 }
 
-/// Takes the section, and answers the line of the verdict on it, and what is told beside that.
+/// Takes the section. Returns the line of its verdict, and the error output.
 fn verdict_said(
     alloc: Global,
     check: &mut CarCheck,
@@ -87,7 +88,7 @@ fn verdict_said(
     }
 }
 
-/// The lines of these names. Nothing is wrong where there is none.
+/// Returns the lines of these names. All is well if there are none.
 #[tactic(auto, using(block_lines::proofs::Saying::told_empty))]
 pub(crate) fn names_said(alloc: Global, names: &[Cid]) -> Result<Said, AllocError>
     ensures lines { IfOk result (λ p. p.0.items ≡ flat_map missing_line names.now) }
@@ -97,7 +98,7 @@ pub(crate) fn names_said(alloc: Global, names: &[Cid]) -> Result<Said, AllocErro
     Ok((lines, names.is_empty()))
 }
 
-/// The lines of the roots and the links that lead nowhere.
+/// Returns the lines of the missing roots and links.
 fn missing_said(alloc: Global, check: CarCheck) -> Result<Said, AllocError>
     ensures { SaysAtEnd check_speech IsAfter check result }
 {

@@ -1,4 +1,4 @@
-//! The program's words, and what it answers to them.
+//! The words of the command line, and the program's answers.
 
 ghost use Rattle.std.specs.Prelude.{◌≡◌, ◌≢◌, [], ◌∷◌, ◌++◌, codes, true, map, string_bytes, IfSome, MatchOption, Result, Bool, Option, None, Some, List, ℕ};
 ghost use Rattle.dagcar_lines.specs.Answers.{RunsCommand, EndsSo, IsQuiet};
@@ -40,27 +40,27 @@ use std::alloc::Global;
 use std::io;
 use std::io::{BufRead, Write};
 
-/// What is told of wrong words.
+/// The error text for wrong words.
 pub const USAGE: &str =
     "usage: dagcar check [--summary|--index]|verify|list [--index]|name|one|show|make|get CID|tree CID\
     |at [--raw] CID/PATH|prove CID/PATH|ls CID/PATH|cat CID/PATH|records [--json]|record KEY|record-proof KEY|commit|changes OLD NEW|inspect [--json]\
     |index FILE|filter ..|merge ..|split ..|event\n";
 
-/// What is told of want of memory.
+/// The error line if memory runs out.
 pub const OUT_OF_MEMORY: &str = "dagcar: out of memory\n";
 
-/// What the program can be told to do.
+/// What the program can do.
 #[derive(Clone, Copy, Debug, PartialEq, Eq)]
 pub enum Command {
     /// To judge a CAR file.
     Check,
-    /// To judge a CAR file, and to tell no more than how many sections have which verdict.
+    /// To judge a CAR file, and write only how many sections got each verdict.
     Summary,
-    /// To judge the sections of a CAR file, and follow no link.
+    /// To judge the sections of a CAR file, without following links.
     Verify,
-    /// To tell of the program.
+    /// To print the help text.
     Help,
-    /// To tell its version.
+    /// To print the version.
     Version,
     /// To list a CAR file.
     List,
@@ -68,23 +68,23 @@ pub enum Command {
     Name,
     /// To judge a block.
     One,
-    /// To show what is in a block.
+    /// To show the data of a block.
     Show,
-    /// To make a block of DAG-JSON.
+    /// To make a block from DAG-JSON.
     Make,
-    /// To write the block of this name.
+    /// To write the block of this CID.
     Get(Cid),
     /// To write the blocks that links lead to from this root.
     Tree(Cid),
-    /// To show what a path leads to from this root.
+    /// To show what a path from this root leads to.
     At(Cid),
-    /// To write the bytes of what a path leads to from this root.
+    /// To write the bytes that a path from this root leads to.
     Raw(Cid),
-    /// To write the file that proves what a path leads to from this root.
+    /// To write the CAR file that proves what a path from this root leads to.
     Prove(Cid),
-    /// To list what stands under a path of names from this root.
+    /// To list the entries under a path of names from this root.
     Ls(Cid),
-    /// To write the bytes of the file to which a path of names leads from this root.
+    /// To write the bytes of the file that a path of names from this root leads to.
     Cat(Cid),
     /// To list the records of a repository.
     Records,
@@ -92,7 +92,7 @@ pub enum Command {
     Record,
 }
 
-/// The command of this one word.
+/// Returns the command that this one word names.
 fn command_named(name: &str) -> Option<Command>
     ensures { MatchOption result ((c : Command) → ¬ IsCommand (name.now ∷ []) c)
         (λ c. IsCommand (name.now ∷ []) c) }
@@ -112,7 +112,7 @@ fn command_named(name: &str) -> Option<Command>
     }
 }
 
-/// The command of this word on the block of this name.
+/// Returns the command of this word for the block of this CID.
 fn command_on(word: &str, name: Cid) -> Option<Command>
     ensures { MatchOption result ((word.now ≢ codes "get") × (word.now ≢ codes "tree"))
         (IsCommandOn word.now name) }
@@ -124,7 +124,7 @@ fn command_on(word: &str, name: Cid) -> Option<Command>
     }
 }
 
-/// A name and a path: the text before its first slash, and after it.
+/// Splits a text at its first slash into a name and a path. The path is empty if there is no slash.
 pub fn split_path(text: &str) -> (&str, &str)
     ensures name { result.0.now ≡ name_part text.now }
     ensures path { result.1.now ≡ path_part text.now }
@@ -135,7 +135,7 @@ pub fn split_path(text: &str) -> (&str, &str)
     }
 }
 
-/// The root in a text: a CID, and a path after it.
+/// Returns the CID at the start of a text, before its path.
 fn root_in(text: &str) -> Option<Cid>
     ensures { MatchOption result ((n : CidParts) → ¬ IsTextOf (name_part text.now) n)
         (λ n. IsTextOf (name_part text.now) n) }
@@ -144,7 +144,7 @@ fn root_in(text: &str) -> Option<Cid>
     cid_from_text(name.as_bytes()).ok()
 }
 
-/// The command of a word, an option and a text: `at --raw` of a root.
+/// Returns the command of a word, an option and a text: `at --raw` of a root.
 fn command_with(word: &str, option: &str, text: &str) -> Option<Command>
     ensures { MatchOption result
         ((c : Command) → ¬ IsCommand (word.now ∷ option.now ∷ text.now ∷ []) c)
@@ -156,7 +156,7 @@ fn command_with(word: &str, option: &str, text: &str) -> Option<Command>
     Some(Command::Raw(root_in(text)?))
 }
 
-/// The command `check` with this word after it.
+/// Returns the command for `check` with this option.
 fn check_with(option: &str) -> Option<Command>
     ensures { MatchOption result (option.now ≢ codes "--summary")
         (λ c. (c ≡ Summary) × (option.now ≡ codes "--summary")) }
@@ -167,7 +167,7 @@ fn check_with(option: &str) -> Option<Command>
     }
 }
 
-/// The text after the word of a command, and after an option.
+/// Returns the text after the command's word and option, or an empty text.
 fn text_of(args: &[String]) -> &str
     ensures { result.now ≡ text_of (map string_bytes args.now) }
 {
@@ -178,8 +178,9 @@ fn text_of(args: &[String]) -> &str
     }
 }
 
-/// The command of a word and a text: a CID, with a path after it where the word is `at`, `prove`,
-/// `ls` or `cat`; or what follows `check` or `record`.
+/// Returns the command of a word and a text: a CID, with a path if the word is `at`, `prove`, `ls`
+/// or
+/// `cat`; the option of `check`; or the key of `record`.
 fn command_on_text(word: &str, text: &str) -> Option<Command>
     ensures { MatchOption result ((c : Command) → ¬ IsCommand (word.now ∷ text.now ∷ []) c)
         (λ c. IsCommand (word.now ∷ text.now ∷ []) c) }
@@ -208,7 +209,7 @@ fn command_on_text(word: &str, text: &str) -> Option<Command>
     }
 }
 
-/// The command that the words are.
+/// Returns the command that the words stand for, or `None`.
 pub fn command_of(args: &[String]) -> Option<Command>
     ensures { MatchOption result ((c : Command) → ¬ IsCommand (map string_bytes args.now) c)
         (λ c. IsCommand (map string_bytes args.now) c) }
@@ -221,7 +222,7 @@ pub fn command_of(args: &[String]) -> Option<Command>
     }
 }
 
-/// Why the text is none of a CID.
+/// Returns why the text is not a CID.
 fn text_fault(text: &str) -> Option<CidTextError>
     ensures { (e : CidTextError) → IsTextFault e text.now → result ≡ Some e }
 {
@@ -232,7 +233,7 @@ fn text_fault(text: &str) -> Option<CidTextError>
     }
 }
 
-/// Why no CID stands where one should, after this word.
+/// Returns why the text after this word is not a CID, if it should be one.
 fn no_cid_behind(word: &str, text: &str) -> Option<CidTextError>
     ensures { (e : CidTextError) → IsMistyped (word.now ∷ text.now ∷ []) e → result ≡ Some e }
 {
@@ -244,7 +245,7 @@ fn no_cid_behind(word: &str, text: &str) -> Option<CidTextError>
     }
 }
 
-/// Why no CID stands where one should, after this word and this option.
+/// Returns why the text after this word and option is not a CID, if it should be one.
 fn no_cid_with(word: &str, option: &str, text: &str) -> Option<CidTextError>
     ensures { (e : CidTextError) → IsMistyped (word.now ∷ option.now ∷ text.now ∷ []) e
         → result ≡ Some e }
@@ -255,7 +256,7 @@ fn no_cid_with(word: &str, option: &str, text: &str) -> Option<CidTextError>
     None
 }
 
-/// Why no CID stands in the words where one should.
+/// Returns why the words lack a CID where one should be.
 fn no_cid_in(args: &[String]) -> Option<CidTextError>
     ensures { (e : CidTextError) → IsMistyped (map string_bytes args.now) e → result ≡ Some e }
 {
@@ -266,7 +267,7 @@ fn no_cid_in(args: &[String]) -> Option<CidTextError>
     }
 }
 
-/// Tells what is wrong with the words, and answers the status.
+/// Writes what is wrong with the words to `errors`, and returns the exit status.
 fn tell_wrong<V: Write>(args: &[String], errors: &mut V) -> u8
     ensures status { result ≡ 2 }
     ensures told { (e : CidTextError) → IsMistyped (map string_bytes args.now) e
@@ -279,15 +280,15 @@ fn tell_wrong<V: Write>(args: &[String], errors: &mut V) -> u8
     }
 }
 
-/// Whether the words are a command, or lack no more than a CID where one should stand.
+/// Returns whether the words are a command, or would be but for a malformed CID.
 fn begin_so(words: &[String]) -> bool
     ensures { (c : Command) → IsCommand (map string_bytes words.now) c → result ≡ true }
 {
     command_of(words).is_some() || no_cid_in(words).is_some()
 }
 
-/// The words of a command, and the file that is named after them, if one is. Words that are a command
-/// name none.
+/// Splits the words into those of a command and the file named after them, if any. Words that are
+/// a command by themselves name no file.
 pub fn split_words(args: &[String]) -> (&[String], Option<&str>)
     ensures split { MatchOption result.1 (map string_bytes result.0.now ≡ map string_bytes args.now)
         (λ file. map string_bytes args.now ≡ map string_bytes result.0.now ++ file.now ∷ []) }
@@ -305,7 +306,7 @@ pub fn split_words(args: &[String]) -> (&[String], Option<&str>)
     }
 }
 
-/// The status of a run that ended so. A fault is told on `errors`.
+/// Returns the exit status of a run, and writes its fault, if any, to `errors`.
 pub fn status_of<V: Write>(ended: Result<bool, ToolError>, errors: &mut V) -> u8
     ensures status { EndsSo ended result }
     ensures quiet { result ≢ 2 → errors.new ≡ errors.old }
@@ -319,8 +320,8 @@ pub fn status_of<V: Write>(ended: Result<bool, ToolError>, errors: &mut V) -> u8
     }
 }
 
-/// Says what the teller says of the file that the input is, and tells what it tells beside that.
-/// Whether nothing is wrong.
+/// Writes what the teller says of the input's CAR file, also to `errors`. Returns whether all is
+/// well.
 fn say_input<T: Teller, R: BufRead, W: Write, V: Write>(
     alloc: Global,
     input: &mut R,
@@ -340,7 +341,7 @@ fn say_input<T: Teller, R: BufRead, W: Write, V: Write>(
     result
 }
 
-/// Says this, which is well.
+/// Writes this text. All is well then.
 fn say_text<W: Write>(text: &str, output: &mut W) -> Result<bool, ToolError>
     ensures { SaysToDevice (λ well out. (well ≡ true) × (out ≡ text.now))
         (W.contents output.old) result (W.contents output.new) }
@@ -349,7 +350,7 @@ fn say_text<W: Write>(text: &str, output: &mut W) -> Result<bool, ToolError>
     Ok(true)
 }
 
-/// Says what is asked of the path in the text, from this root. Whether nothing is wrong.
+/// Writes the answer for the path in the text, from this root. Returns whether all is well.
 fn say_path<R: BufRead, W: Write, V: Write>(
     alloc: Global,
     asked: Asked,
@@ -368,7 +369,7 @@ fn say_path<R: BufRead, W: Write, V: Write>(
     write_asked(alloc, asked, root, path, input, output, errors)
 }
 
-/// Lists what stands under the path in the text from this root. Whether nothing is wrong.
+/// Lists the entries under the path in the text, from this root. Returns whether all is well.
 fn say_entries_at<R: BufRead, W: Write, V: Write>(
     alloc: Global,
     root: &Cid,
@@ -386,7 +387,9 @@ fn say_entries_at<R: BufRead, W: Write, V: Write>(
     write_entries(alloc, root, path, input, output, errors)
 }
 
-/// Writes the bytes of the file to which the path in the text leads from this root. Whether it is whole.
+/// Writes the bytes of the file that the path in the text leads to from this root. Returns whether
+/// it
+/// is whole.
 fn say_file_at<R: BufRead, W: Write, V: Write>(
     alloc: Global,
     root: &Cid,
@@ -403,7 +406,7 @@ fn say_file_at<R: BufRead, W: Write, V: Write>(
     write_file(alloc, root, path, input, output, errors)
 }
 
-/// Says of the input what the command asks, and answers whether nothing is wrong.
+/// Runs the command on the input. Returns whether all is well.
 pub fn run<R: BufRead, W: Write, V: Write>(
     alloc: Global,
     command: Command,
@@ -450,7 +453,7 @@ pub fn run<R: BufRead, W: Write, V: Write>(
     }
 }
 
-/// Does what the words say, and answers the exit status.
+/// Runs the command that the words stand for. Returns the exit status.
 pub fn run_command<R: BufRead, W: Write, V: Write>(
     alloc: Global,
     args: &[String],

@@ -1,4 +1,4 @@
-//! A device that is asked for nothing after its first fault.
+//! A device that is not used again after its first fault.
 
 ghost use Rattle.std.specs.Prelude.{◌≡◌, ◌<◌, length, true, false, IfOk, IsErr};
 ghost use Rattle.std.specs.Io.{WritesAtMost};
@@ -7,8 +7,9 @@ ghost use Rattle.std.specs.Io.KnownBytes.{WriteAppends};
 use std::io;
 use std::io::{ErrorKind, Write};
 
-/// A device that is asked for nothing after its first fault: that a write was interrupted, or took
-/// no byte, is one. So a `BufWriter` over it, which would make such a write again, does not.
+/// A device that is not used again after its first fault. An interrupted write, or one that takes
+/// no
+/// byte, is a fault too. So a `BufWriter` over it does not retry such a write.
 #[derive(Drop)]
 pub struct OneFault<W> {
     device: W,

@@ -1,4 +1,4 @@
-//! `ls` and `cat`: files and directories of IPFS.
+//! `ls` and `cat`: IPFS files and directories.
 
 ghost use Rattle.std.specs.Prelude.{IfSome};
 ghost use Rattle.dagcbor_paths.specs.Paths.{segments};
@@ -13,9 +13,11 @@ use ipld_tree::Cid;
 use std::alloc::Global;
 use std::io::{BufRead, Write};
 
-/// Lists what stands under the path of names from the root, over the blocks of the file that the input
-/// is, or tells why there is nothing to list. Whether nothing is wrong. The blocks of the input are in
-/// memory.
+/// Lists the entries under the path of names from the root, over the blocks of the input's CAR
+/// file, or
+/// writes an error line that says why there is nothing to list. Returns whether all is well. Holds
+/// the
+/// blocks of the input in memory.
 pub fn write_entries<R: BufRead, W: Write, V: Write>(
     alloc: Global,
     root: &Cid,
@@ -35,9 +37,10 @@ pub fn write_entries<R: BufRead, W: Write, V: Write>(
     }
 }
 
-/// Writes the bytes of the file to which the path of names leads from the root, over the blocks of the
-/// file that the input is, or tells why it ends before its end, or why there is none. Whether it is
-/// whole. The blocks of the input are in memory.
+/// Writes the bytes of the file that the path of names leads to from the root, over the blocks of
+/// the
+/// input's CAR file, or an error line: why the output ends early, or why there is no file. Returns
+/// whether the file is whole. Holds the blocks of the input in memory.
 pub fn write_file<R: BufRead, W: Write, V: Write>(
     alloc: Global,
     root: &Cid,

@@ -1,4 +1,4 @@
-//! `get`: one block of a file.
+//! `get`: one block of a CAR file.
 
 ghost use Rattle.std.specs.Prelude.{◌≡◌, IfOk, IfSome, MatchBool};
 ghost use Rattle.ipld_links.specs.Verdicts.{IsVerified};
@@ -14,7 +14,7 @@ use ipld_tree::Cid;
 use std::alloc::Global;
 use std::io::{BufRead, Write};
 
-/// What is looked for, and, once it was found, the block.
+/// The CID looked for, and the block once it is found.
 #[derive(Drop)]
 pub struct Search {
     alloc: Global,
@@ -22,14 +22,14 @@ pub struct Search {
     block: Vec<u8>,
 }
 
-/// Why a search takes no section more.
+/// Why a search stops.
 #[derive(Clone, Copy, Drop)]
 pub enum Stop {
     Enough,
     OutOfMemory,
 }
 
-/// Whether the section is of the name, and its bytes are those that it names.
+/// Returns whether the section has this CID and its bytes match it.
 fn is_sought(name: &Cid, section: &Section<'_>) -> bool
     ensures { MatchBool result
         ((section.now.cid ≡ name.now) × IsVerified (section.now.cid, section.now.block.now))
@@ -64,8 +64,9 @@ impl SectionSink for Search {
     }
 }
 
-/// The block of the name in the file that the input is, or what is told of a file that has none. What
-/// stands after the block is not read.
+/// Returns the block of this CID in the input's CAR file, or the error line if there is none. Does
+/// not
+/// read past the block.
 pub fn got<R: BufRead>(alloc: Global, name: &Cid, input: &mut R) -> Result<Answer, ToolError>
     ensures { IfSome (R.remaining input.old) (λ b. IfOk result
         (λ p. IsGot name.now b p.0.1 p.0.0.items p.1.items)) }
@@ -89,8 +90,9 @@ pub fn got<R: BufRead>(alloc: Global, name: &Cid, input: &mut R) -> Result<Answe
     }
 }
 
-/// Writes the block of the name in the file that the input is, or tells why there is none. Whether
-/// there is one.
+/// Writes the block of this CID in the input's CAR file, or an error line that says why there is
+/// none.
+/// Returns whether it was found.
 pub fn get_block<R: BufRead, W: Write, V: Write>(
     alloc: Global,
     name: &Cid,

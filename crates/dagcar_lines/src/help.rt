@@ -1,4 +1,4 @@
-//! What the program tells of itself.
+//! What the program says about itself.
 
 ghost use Rattle.std.specs.Prelude.{◌≡◌};
 ghost use Rattle.dagcar_lines.specs.Help.{help_text, version_text};
@@ -68,14 +68,14 @@ The status is 0 where nothing is wrong, 1 where something is, 2 where it could n
 /// What `--version` writes.
 const VERSION: &str = "dagcar 0.7.0\n";
 
-/// The text of `--help`.
+/// Returns the text of `--help`.
 pub fn help_text() -> &'static str
     ensures { result.now ≡ help_text }
 {
     HELP
 }
 
-/// The text of `--version`.
+/// Returns the text of `--version`.
 pub fn version_text() -> &'static str
     ensures { result.now ≡ version_text }
 {

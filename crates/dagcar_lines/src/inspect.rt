@@ -1,4 +1,4 @@
-//! `inspect`: what a file holds, in numbers.
+//! `inspect`: what a CAR file holds, in numbers.
 
 ghost use Rattle.std.specs.Prelude.{◌≡◌, ◌≢◌, IfSome, Result, Bool, Option, List, ℕ};
 ghost use Rattle.block_lines.specs.Lines.{SaysBoth};
@@ -11,7 +11,8 @@ use inspect_lines::{Form, Index, write_inspected};
 use std::alloc::Global;
 use std::io::{BufRead, Write};
 
-/// Says what the file holds that the input is, and this of its index if it says that it has one. Answers
+/// Writes what the input's CAR file holds, and `index` if the file says that it has an index.
+/// Returns
 /// the exit status.
 pub fn run_inspect<R: BufRead, W: Write, V: Write>(
     alloc: Global,

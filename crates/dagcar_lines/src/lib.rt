@@ -1,5 +1,6 @@
-//! The lines of the program `dagcar`: CAR files (version 1) are judged or listed, and
-//! blocks are named, judged, shown and made.
+//! The program `dagcar`, line by line: judges and lists CAR files, and names, judges, shows and
+//! makes
+//! blocks.
 #![tactic(auto)]
 
 mod answer;

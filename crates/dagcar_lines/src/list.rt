@@ -9,7 +9,7 @@ use dagcbor_car::Section;
 use ipld_tree::Cid;
 use std::alloc::{AllocError, Global};
 
-/// What is kept of a file that is listed, which is nothing.
+/// The state of a listing, which is empty.
 #[derive(Clone, Copy)]
 pub struct Listing;
 

@@ -1,4 +1,4 @@
-//! `make`: the block of the data that a text is.
+//! `make`: the block of the data that a DAG-JSON text spells.
 
 ghost use Rattle.std.specs.Prelude.{◌≡◌, [], true, false, IfOk};
 ghost use Rattle.ipld_tree.specs.Ipld.{tree_of};
@@ -14,14 +14,15 @@ use dagcbor_write::to_vec;
 use ipld_tree::Ipld;
 use std::alloc::Global;
 
-/// The block of the data. What a text spells has one, so that it lacks nothing but memory.
+/// Returns the block of the data. The only error is out of memory, since what a text spells has a
+/// block.
 fn block_of(alloc: Global, value: &Ipld) -> Result<Vec<u8>, ToolError>
     ensures { IfOk result (λ v. IsSpelling v.items (tree_of value.now)) }
 {
     to_vec(alloc, value).map_err(|_| ToolError::OutOfMemory)
 }
 
-/// The block of the data that the text is, or what is told of one that is none.
+/// Returns the block of the text's data, or the error line if the text is refused.
 fn made(alloc: Global, text: &[u8]) -> Result<Answer, ToolError>
     ensures { IfOk result (λ p. IsMade text.now p.0.1 p.0.0.items p.1.items) }
 {

@@ -1,4 +1,4 @@
-//! The names of the refusals of a text, and their lines.
+//! The names of the causes for which a text is refused, and their lines.
 
 ghost use Rattle.std.specs.Prelude.{◌≡◌, IfOk};
 ghost use Rattle.dagcar_lines.specs.Lines.{cause_line};
@@ -8,7 +8,7 @@ use block_lines::line_of;
 use dag_json::{DagJsonError, Refusal};
 use std::alloc::{AllocError, Global};
 
-/// The name of the variant of a text's refusal.
+/// Returns the name of the cause's variant.
 pub fn cause_name(cause: &DagJsonError) -> &'static str
     ensures { result.now ≡ cause_name cause.now }
 {
@@ -27,7 +27,7 @@ pub fn cause_name(cause: &DagJsonError) -> &'static str
     }
 }
 
-/// The line of a text that is refused.
+/// Returns the line of a refused text.
 pub fn cause_line(alloc: Global, refusal: &Refusal) -> Result<Vec<u8>, AllocError>
     ensures { IfOk result (λ v. v.items ≡ cause_line refusal.now.cause refusal.now.offset) }
 {

@@ -1,4 +1,4 @@
-//! `check --summary`: how many sections had which verdict, and how many links lead nowhere.
+//! `check --summary`: how many sections got each verdict, and how many roots and links are missing.
 
 ghost use Rattle.std.specs.Prelude.{◌≡◌, ◌↔◌, ◌++◌, ◌+◌, [], length, IsTrue, IfOk, OnOk, refl};
 ghost use Rattle.dagcbor_car.specs.Checks.{TakesSection};
@@ -14,7 +14,7 @@ use ipld_links::Verdict;
 use ipld_tree::Cid;
 use std::alloc::{AllocError, Global};
 
-/// How many sections had which verdict.
+/// How many sections got each verdict.
 #[derive(Clone, Copy)]
 pub struct Counts {
     pub sections: u64,
@@ -26,7 +26,7 @@ pub struct Counts {
     pub unverified: u64,
 }
 
-/// One more. There are never so many that none can be.
+/// Returns `count + 1`. The count never gets large enough to overflow.
 fn one_more(count: u64) -> Result<u64, AllocError>
     ensures { IfOk result (λ n. n ≡ count + 1) }
 {
@@ -34,7 +34,7 @@ fn one_more(count: u64) -> Result<u64, AllocError>
 }
 
 impl Counts {
-    /// Of no section.
+    /// Returns the counts of no sections.
     fn new() -> Counts
         ensures { AreCounts result [] }
     {
@@ -68,14 +68,14 @@ impl Counts {
     }
 }
 
-/// What is known of a file, and how many of its sections had which verdict.
+/// What is known of a file, and how many of its sections got each verdict.
 #[derive(Drop)]
 pub struct Summing {
     check: CarCheck,
     counts: Counts,
 }
 
-/// Puts the lines of the numbers.
+/// Appends the lines of the counts.
 fn push_counts(
     alloc: Global,
     out: &mut Vec<u8>,
@@ -94,7 +94,7 @@ fn push_counts(
     push_number(alloc, out, "missing", missing)
 }
 
-/// The lines of the numbers. Nothing is wrong where no link leads nowhere.
+/// Returns the lines of the counts. All is well if no root or link is missing.
 #[tactic(auto, using(block_lines::proofs::Saying::told_empty))]
 fn summary_said(alloc: Global, missing: &[Cid], counts: &Counts) -> Result<Said, AllocError>
     ensures lines { IfOk result (λ p. p.0.items ≡ counts_lines counts.now (length missing.now)) }
@@ -105,7 +105,7 @@ fn summary_said(alloc: Global, missing: &[Cid], counts: &Counts) -> Result<Said,
     Ok((lines, missing.is_empty()))
 }
 
-/// Takes the section, and counts it. Whether the verdict on it tells of nothing wrong.
+/// Takes the section, and counts its verdict. Returns whether that is well.
 fn count_section(
     check: &mut CarCheck,
     counts: &mut Counts,

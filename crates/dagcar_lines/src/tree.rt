@@ -1,4 +1,4 @@
-//! `tree`: a file of the blocks that links lead to.
+//! `tree`: a CAR file of the blocks that links lead to.
 
 ghost use Rattle.std.specs.Prelude.{◌∷◌, [], IfSome, MatchBool};
 ghost use Rattle.ipld_tree.specs.Cid.{cid_bytes};
@@ -21,7 +21,7 @@ use std::alloc::Global;
 use std::collections::BTreeMap;
 use std::io::{BufRead, Write};
 
-/// Writes the file of the root, and of the blocks of these names.
+/// Writes the CAR file of the root and the blocks of these names.
 fn send<W: Write>(
     alloc: Global,
     root: &Cid,
@@ -46,7 +46,7 @@ fn send<W: Write>(
     }
 }
 
-/// Whether nothing is held under the name, which is not by the identity.
+/// Returns whether the name is missing: not among the blocks, and not an identity CID.
 fn is_lost(name: &Cid, blocks: &BTreeMap<Cid, Vec<u8>>) -> bool
     ensures { MatchBool result (IsLost (stored_in blocks.now) name.now)
         (¬ IsLost (stored_in blocks.now) name.now) }
@@ -57,8 +57,8 @@ fn is_lost(name: &Cid, blocks: &BTreeMap<Cid, Vec<u8>>) -> bool
     !is_there(blocks, name)
 }
 
-/// Writes the file of the root and of what it leads to, if it leads somewhere: else nothing is
-/// written.
+/// Writes the CAR file of the root and the blocks of these names. Writes nothing if the root is
+/// missing.
 fn send_tree<W: Write>(
     alloc: Global,
     root: &Cid,
@@ -75,8 +75,9 @@ fn send_tree<W: Write>(
     send(alloc, root, blocks, names, output)
 }
 
-/// Writes the file of the root, and of the blocks that links lead to from there, and tells which links
-/// lead nowhere. Whether none does.
+/// Writes the CAR file of the root and the blocks that links lead to from there, and an error line
+/// for
+/// each missing name. Returns whether none is missing.
 fn say_reached<W: Write, V: Write>(
     alloc: Global,
     root: &Cid,
@@ -95,8 +96,9 @@ fn say_reached<W: Write, V: Write>(
     Ok(whole)
 }
 
-/// The same, of the root alone; or tells of the first block on the way whose links can't be read, and
-/// writes nothing. Whether nothing is wrong.
+/// Writes the tree from the root; or nothing, and an error line for the first block on the way
+/// whose
+/// links cannot be read. Returns whether all is well.
 fn say_tree<W: Write, V: Write>(
     alloc: Global,
     root: &Cid,
@@ -116,9 +118,12 @@ fn say_tree<W: Write, V: Write>(
     }
 }
 
-/// Writes the file of the root, and of the blocks that links lead to from there within the file that
-/// the input is, and tells which links lead nowhere; or tells why there is none: the input is no file,
-/// or the links of a block on the way can't be read. Whether nothing is wrong. The blocks of the input are in memory.
+/// Writes the CAR file of the root and the blocks that links lead to from there, within the input's
+/// CAR file, and an error line for each missing name. Or writes only an error line: the input is
+/// not a
+/// CAR file, or the links of a block on the way cannot be read. Returns whether all is well. Holds
+/// the
+/// blocks of the input in memory.
 pub fn write_tree<R: BufRead, W: Write, V: Write>(
     alloc: Global,
     root: &Cid,

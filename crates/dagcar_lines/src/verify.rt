@@ -1,4 +1,4 @@
-//! `verify`: the verdict on each section. No link is followed.
+//! `verify`: the verdict on each section, without following links.
 
 ghost use Rattle.std.specs.Prelude.{⊤, refl};
 ghost use Rattle.dagcar_lines.specs.Answers.{TellsPlace, verify_speech};
@@ -11,7 +11,7 @@ use ipld_links::verify;
 use ipld_tree::Cid;
 use std::alloc::{AllocError, Global};
 
-/// What is kept of a file that is verified, which is nothing.
+/// The state of a verification, which is empty.
 #[derive(Clone, Copy)]
 pub struct Verifying;
 

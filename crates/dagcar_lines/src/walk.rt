@@ -1,4 +1,4 @@
-//! A CAR file, section by section: what a teller says of it goes out as it comes.
+//! Walks a CAR file section by section, and writes what a teller says as it goes.
 
 ghost use Rattle.std.specs.Prelude.{◌≡◌, [], List, ℕ, true, Ok, IfOk, OnOk};
 ghost use Rattle.held_lines.specs.declared.take.Ended.TheVariants.{Whole};
@@ -18,23 +18,23 @@ use ipld_tree::Cid;
 use std::alloc::{AllocError, Global};
 use std::io::Write;
 
-/// What is said of a file: after its header, of each section as it comes, and at the end.
+/// What is said of a file: after its header, for each section as it comes, and at the end.
 pub trait Teller: Sized + Drop {
-    /// What is said, in the words of contracts.
+    /// What is said, as a contract.
     ghost speech: { Speech };
 
-    /// What is told of a section beside that.
+    /// What goes to the error output for a section.
     ghost tells: { CarSection → List ℕ → Type 0 };
 
-    /// What is known after these sections of a file of these roots.
+    /// What is known after these sections of a file with these roots.
     ghost knows: { Self → List (List ℕ) → List CarSection → Type 0 };
 
-    /// After the header, with these roots, and what is said of them.
+    /// Begins after the header with these roots. Returns the teller and what is said of the roots.
     fn begin(alloc: Global, roots: &[Cid]) -> Result<(Self, Vec<u8>), AllocError>
         ensures known { IfOk result (λ p. Self.knows p.0 (forms roots.now) []) }
         ensures said { IfOk result (λ p. p.1.items ≡ Self.speech.of_roots (forms roots.now)) };
 
-    /// Takes the next section, and answers what is said of it, and what is told beside that.
+    /// Takes the next section. Returns what is said of it, and the error output.
     fn tell(&mut self, alloc: Global, section: &Section<'_>) -> Result<Answer, AllocError>
         ensures said { IfOk result (λ p.
             Self.speech.of_section (section.now.cid, section.now.block.now) p.0.1 p.0.0.items) }
@@ -43,27 +43,27 @@ pub trait Teller: Sized + Drop {
         ensures known { OnOk result
             (KnowsMore Self.knows (section.now.cid, section.now.block.now) self.old self.new) };
 
-    /// What is said at the end.
+    /// Returns what is said at the end.
     fn end(self, alloc: Global) -> Result<Said, AllocError>
         ensures { SaysAtEnd Self.speech Self.knows self result };
 
-    /// The line of a fault is said.
+    /// A fault's line is written as it is.
     ghost says_faults: { (line : List ℕ) → Self.speech.of_fault line ≡ line };
 }
 
-/// A teller at work: what it says goes out as it comes.
+/// A teller at work, which writes what it says at once.
 #[derive(Drop)]
 struct Telling<'a, 'b, T, W, V> {
     alloc: Global,
     teller: T,
-    /// Whether nothing is wrong so far.
+    /// Whether all is well so far.
     well: bool,
     output: &'a mut W,
     errors: &'b mut V,
 }
 
 impl<'a, 'b, T: Teller, W: Write, V: Write> Telling<'a, 'b, T, W, V> {
-    /// A teller after the header, of which nothing is wrong so far.
+    /// Returns a teller at work after the header, with all well so far.
     fn new(
         alloc: Global,
         teller: T,
@@ -103,7 +103,7 @@ impl<T: Teller, W: Write, V: Write> SectionSink for Telling<'_, '_, T, W, V> {
     }
 }
 
-/// Writes what is said at the end. Whether that tells of nothing wrong, and nothing was wrong before.
+/// Writes what is said at the end. Returns whether all is well, there and before.
 fn say_end<T: Teller, W: Write>(
     alloc: Global,
     teller: T,
@@ -122,7 +122,7 @@ fn say_end<T: Teller, W: Write>(
     }
 }
 
-/// Writes what is said after the sections. Whether nothing is wrong.
+/// Writes what is said after the sections. Returns whether all is well.
 fn say_rest<T: Teller, W: Write>(
     alloc: Global,
     teller: T,
@@ -140,7 +140,7 @@ fn say_rest<T: Teller, W: Write>(
     }
 }
 
-/// Says what follows the header, of so much of the file. Whether nothing is wrong.
+/// Writes what is said after the header, up to `extent` if given. Returns whether all is well.
 fn say_sections<'de, T: Teller, R: Read, W: Write, V: Write>(
     alloc: Global,
     teller: T,
@@ -170,7 +170,7 @@ fn say_sections<'de, T: Teller, R: Read, W: Write, V: Write>(
     say_rest(alloc, teller, well, ended, output)
 }
 
-/// Says this of the roots, and then what follows the header. Whether nothing is wrong.
+/// Writes `of_roots`, and then what is said after the header. Returns whether all is well.
 fn say_header<'de, T: Teller, R: Read, W: Write, V: Write>(
     alloc: Global,
     teller: T,
@@ -191,8 +191,8 @@ fn say_header<'de, T: Teller, R: Read, W: Write, V: Write>(
     say_sections(alloc, teller, input, extent, output, errors)
 }
 
-/// Writes what the teller says of the file, and where it is refused why, in a line; and what it tells
-/// beside that. Whether nothing is wrong.
+/// Writes what the teller says of the file, and if it is refused, a line that says why; and to
+/// `errors` what it tells of sections. Returns whether all is well.
 pub fn say_file<'de, T: Teller, R: Read, W: Write, V: Write>(
     alloc: Global,
     input: &mut Input<'de, R>,

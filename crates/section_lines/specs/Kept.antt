@@ -8,38 +8,38 @@ use Rattle.inspect_lines.specs.Names.{distinct, is_one_of}
 use Rattle.section_lines.specs.declared.kept.Kept.{Kept}
 use Rattle.section_lines.specs.declared.kept.Kept.TheVariants.{Codec, Named}
 
--- a section of this name is kept: the name says the codec, or is one of those
+-- a section with this CID is kept: its codec is the one wanted, or the CID is one of those listed
 abbrev pub keeps : Kept → CidParts → Bool
 keeps (Codec codec) c = c.codec == codec
 keeps (Named names) c = is_one_of c names.keys
 
--- those roots, and those sections, in their order
+-- the roots and the sections that are kept, in their order
 abbrev pub kept_roots : Kept → List CidParts → List CidParts
 kept_roots kept roots = filter (keeps kept) roots
 
 abbrev pub kept_sections : Kept → List Section → List Section
 kept_sections kept sections = filter (λ s. keeps kept s.0) sections
 
--- the roots of what is written: those that are given, or else the ones that are kept
+-- the roots of the new file: those given, or else the file's roots that are kept
 abbrev pub roots_of : List CidParts → Kept → List CidParts → List CidParts
 roots_of [] kept roots = kept_roots kept roots
 roots_of (given ∷ more) kept roots = given ∷ more
 
--- those of the names that are none of the others, in their order
+-- the names that are not among the others, in their order
 abbrev pub others : List CidParts → List CidParts → List CidParts
 others names found = filter (λ c. not (is_one_of c found)) names
 
--- the names that no section has, where these were found
+-- the wanted names that no section has, if these were found
 abbrev pub missing_of : Kept → List CidParts → List CidParts
 missing_of (Codec codec) found = []
 missing_of (Named names) found = others names.keys found
 
--- the names that are found in sections that are kept
+-- the names found in kept sections
 abbrev pub found_in : Kept → List Section → List CidParts
 found_in (Codec codec) sections = []
 found_in (Named names) sections = distinct (map (λ s. s.0) sections)
 
--- the name of a section that is kept is found
+-- the names found, with that of one more kept section
 abbrev pub note : Kept → List CidParts → CidParts → List CidParts
 note (Codec codec) found c = found
 note (Named names) found c = insert_key cid_cmp found c

@@ -29,20 +29,20 @@ use Rattle.dagcbor_cli.specs.declared.fault.ToolError.{ToolError}
 
 -- ---- roots
 
--- these roots came after the others: whatever comes then is listed as after them
+-- these roots were added after the others, so later roots are listed after them
 abbrev pub AddsRoots : List CidParts → Roots → Roots → Type 0
 AddsRoots roots old new = (more : List CidParts)
     → (new.listed.items ++ once_with new.seen.keys more ≡ old.listed.items ++ once_with old.seen.keys (roots ++ more))
 
 -- ---- sections
 
--- the names that are held, what the device holds, and through which reference it is written
+-- the names held, what the device holds, and the reference it is written through
 pub record Work : Type 0 where
   pub held : HeldNames
   pub written : Option (List ℕ)
   pub through : ℕ
 
--- what contracts see of a merge at work, of whose output the bytes are told so
+-- a merge at work as contracts see it, where `contents` gives the bytes of its output
 abbrev pub merging_work : {W : Type 0} → (W → Option (List ℕ)) → Merging W → Work
 merging_work contents m = record {
   held = m.held;
@@ -50,11 +50,11 @@ merging_work contents m = record {
   through = m.output.ghost_name;
 }
 
--- the name of a section whose bytes are those that it says is held
+-- the section's name is now held, if its bytes match it
 abbrev pub HoldsIt : Section → HeldNames → HeldNames → Type 0
 HoldsIt s old new = (IsVerified s × AddsName s.0 old new) ⊎ ((¬ IsVerified s) × (new ≡ old))
 
--- a section is left out, whose name is held; or it went out; or its going out broke off
+-- a section was left out because its name is held; or it was written; or writing it broke off
 abbrev pub Merges : Section → Work → Result (Unit {0}) ToolError → Work → Type 0
 Merges s old result new = (new.through ≡ old.through) × MatchResult result
     (λ _. (IsHeldName s.0 old.held × (new.held ≡ old.held) × (new.written ≡ old.written))
@@ -62,15 +62,16 @@ Merges s old result new = (new.through ≡ old.through) × MatchResult result
     × Appends old.written new.written (section_bytes s)))
     (λ e. (¬ IsHeldName s.0 old.held) × BreaksLine (λ out. out ≡ section_bytes s) old.written new.written e)
 
--- what went out, and which names are held, after the header of these roots and these sections
+-- the names held, and the output, after the header with these roots and these sections
 pub record Sent (roots : List CidParts) (first : Option (List ℕ)) (w : Work) (done : List Section) : Type 0 where
   pub held : (c : CidParts) → IsHeldName c w.held ↔ IsHeldInFile c done
   pub left : List Section
   pub merged : IsMerged [] done left
   pub out : Appends first w.written (car_bytes (forms roots) left)
 
--- The going out broke off: of what is written of the sections before these, and of one, or none, after
--- them, the former went out, and a front of the rest.
+-- Writing broke off: the output for the sections before was written, and a prefix of what comes
+-- next,
+-- for one section or none.
 abbrev pub BreaksSections : (List Section → Type 0) → List CidParts → Option (List ℕ) → ToolError → Option (List ℕ)
     → Type 0
 BreaksSections IsFront roots first e new = (ss more : List Section) × (said text : List ℕ) × (mid : Option (List ℕ))
@@ -79,8 +80,7 @@ BreaksSections IsFront roots first e new = (ss more : List Section) × (said tex
 
 -- ---- one file
 
--- what follows a file's header: at which place the file is, how many bytes of it, where that is
--- told, and the input that has them
+-- what follows a file's header: the number of the file, its length if known, and the input
 pub record Place : Type 0 where
   pub number : ℕ
   pub extent : Option ℕ
@@ -89,21 +89,21 @@ pub record Place : Type 0 where
 abbrev pub place_of : {R : Type 0} → (R → Reading) → Behind R → Place
 place_of reading f = record { number = f.number; extent = f.extent; source = input_reading reading f.input }
 
--- the bytes begin with the header of a file of these roots, after which the place is
+-- the bytes begin with a header with these roots, and the place follows it
 abbrev pub IsBehind : List ℕ → List CidParts → Place → Type 0
 IsBehind b roots at = (start : Reading) × TakesStart start (forms roots) at.extent at.source × (start.left ≡ Some b)
 
--- these are the sections of a file of these roots that stand in the bytes, all or the first of them
+-- the bytes begin with a header with these roots and with these sections, all or the first ones
 abbrev pub HasFirst : List ℕ → List CidParts → List Section → Type 0
 HasFirst b roots ss = (n : ℕ) × (rest : List ℕ) × IsFileFront b (forms roots) ss n rest
 
--- no section follows these, though bytes do, or are wanting, of which a line tells
+-- the bytes after these sections are not a whole section, and a line says why
 abbrev pub TellsFileBreak : List ℕ → List CidParts → ℕ → List Section → List ℕ → Type 0
 TellsFileBreak b roots number ss told = (n : ℕ) × (rest : List ℕ) × (e : CarError Infallible)
     × IsFileFront b (forms roots) ss n rest × IsNoFile b × RefusesSection n e rest
     × (told ≡ file_line number (refused_line e))
 
--- after the sections of other files those of one went out, or the first ones
+-- the sections of one file, or the first ones, were written after those of the files before
 abbrev pub MergesFile : Place → Work → Result (Option (Vec ℕ Global)) ToolError → Work → Type 0
 MergesFile at old result new = (b : List ℕ) (file roots : List CidParts) (first : Option (List ℕ)) (done : List Section)
     → IsBehind b file at → Sent roots first old done → (new.through ≡ old.through) × MatchResult result
@@ -111,7 +111,7 @@ MergesFile at old result new = (b : List ℕ) (file roots : List CidParts) (firs
     × MatchOption told (IsFile b (forms file) ss) (λ line. TellsFileBreak b file at.number ss line.items))
     (λ e. BreaksSections (λ all. (ss : List Section) × (all ≡ done ++ ss) × HasFirst b file ss) roots first e new.written)
 
--- what is told of how far a file was taken
+-- the error line for how far a file was read
 abbrev pub TellsEnd : ℕ → Result (Ended ToolError) ToolError → Result (Option (Vec ℕ Global)) ToolError → Type 0
 TellsEnd number (Ok ended.Whole) result = result ≡ Ok None
 TellsEnd number (Ok (ended.Stopped e)) result = result ≡ Err e
@@ -121,14 +121,14 @@ TellsEnd number (Err e) result = result ≡ Err e
 
 -- ---- all files
 
--- the bytes begin with the headers of files, after which the places are, from this one on
+-- the bytes begin with headers, and these places follow them, numbered from `n`
 abbrev pub AreBehind : ℕ → List (List ℕ) → List CidParts → List Place → Type 0
 AreBehind n [] roots [] = roots ≡ []
 AreBehind n (b ∷ bs) roots (at ∷ places) = (first more : List CidParts) × IsBehind b first at × (at.number ≡ n)
     × AreBehind (n + 1) bs more places × (roots ≡ first ++ more)
 AreBehind n _ roots _ = ⊥
 
--- the sections of all went out, or the first ones
+-- the sections of all files, or the first ones, were written
 abbrev pub MergesFiles : List Place → Work → Result (Option (Vec ℕ Global)) ToolError → Work → Type 0
 MergesFiles places old result new = (bs : List (List ℕ)) (file_roots roots : List CidParts) (first : Option (List ℕ))
     → AreBehind 1 bs file_roots places → Sent roots first old [] → (new.through ≡ old.through) × MatchResult result
@@ -136,7 +136,7 @@ MergesFiles places old result new = (bs : List (List ℕ)) (file_roots roots : L
     × MatchOption told (AreFiles bs file_roots ss) (λ line. TellsBreak bs file_roots ss line.items))
     (λ e. BreaksSections (FilesFront bs file_roots) roots first e new.written)
 
--- one file more begins, whose roots these are, and its place is the last; or a line tells why none does
+-- one more file begins, with these roots, and its place is the last; or a line says why it does not
 abbrev pub BeginsOne : {R : Type 0} → (R → Reading) → ℕ → Reading → Begun R
     → Result (Option (Vec ℕ Global)) ToolError → Begun R → Type 0
 BeginsOne reading number source old result new = (b : List ℕ) → source.left ≡ Some b → IfOk result (λ told. MatchOption told
@@ -146,13 +146,14 @@ BeginsOne reading number source old result new = (b : List ℕ) → source.left 
     (λ line. (e : CarError Infallible) × IsNoFile b × RefusesStart e b
     × (line.items ≡ file_line number (refused_line e))))
 
--- these bytes are left of the sources, where they tell them
+-- the bytes left in these sources, each of which is known
 abbrev pub AreLeft : List Reading → List (List ℕ) → Type 0
 AreLeft [] [] = ⊤
 AreLeft (source ∷ sources) (b ∷ bs) = (source.left ≡ Some b) × AreLeft sources bs
 AreLeft _ _ = ⊥
 
--- all headers were taken, and their roots are listed; or a line tells which begins no file
+-- all headers were read, and their roots are listed; or a line says which file does not begin, and
+-- why
 abbrev pub BeginsAll : {R : Type 0} → (R → Reading) → List Reading → Result (Begun R) (Vec ℕ Global) → Type 0
 BeginsAll reading sources result = (bs : List (List ℕ)) → AreLeft sources bs → MatchResult result
     (λ begun. (roots : List CidParts) × AreBehind 1 bs roots (map (place_of reading) begun.files.items)
@@ -161,26 +162,26 @@ BeginsAll reading sources result = (bs : List (List ℕ)) → AreLeft sources bs
 
 -- ---- the whole
 
--- these, or where there are none the others
+-- the given roots, or the others if none are given
 abbrev pub given_or : List CidParts → List CidParts → List CidParts
 given_or [] roots = roots
 given_or (given ∷ more) roots = given ∷ more
 
--- what is told after the sections
+-- the error output after the sections
 abbrev pub TellsFault : Result (Option (Vec ℕ Global)) ToolError → Option (List ℕ) → Result Bool ToolError
     → Option (List ℕ) → Type 0
 TellsFault (Ok None) heard result after = (result ≡ Ok true) × (after ≡ heard)
 TellsFault (Ok (Some line)) heard result after = SaysLines line.items false heard result after
 TellsFault (Err e) heard result after = (result ≡ Err e) × (after ≡ heard)
 
--- the header of what is written went out, and then what is left of the sections
+-- the header was written, and then what the merge leaves of the sections
 abbrev pub MergesSections : List Place → Run → Type 0
 MergesSections places r = (bs : List (List ℕ)) (given roots : List CidParts) (first : Option (List ℕ))
     → AreBehind 1 bs roots places → Appends first r.old (header_bytes (forms (merged_roots given roots)))
     → SaysSent (IsMergedFront given bs) (IsMergedOf given bs) first r.heard r.answer r.new r.after
 
--- all that is written of the files went out, after whose headers the places are, and of which these
--- roots are listed
+-- the whole output was written, for files whose headers these places follow and whose distinct
+-- roots are these
 abbrev pub MergesBegun : List CidParts → List CidParts → List Place → Run → Type 0
 MergesBegun given listed places r = (bs : List (List ℕ)) (roots : List CidParts) → AreBehind 1 bs roots places
     → listed ≡ once_with [] roots

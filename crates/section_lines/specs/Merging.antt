@@ -1,4 +1,4 @@
--- A file of the sections of several files.
+-- What `merge` writes: a CAR file of the sections of several files.
 use Rattle.std.specs.Prelude.{◌≡◌, ◌⊎◌, ℕ, ◌+◌, List, [], ◌∷◌, ◌++◌, codes, decimal, length, Bool, true, false, ⊤, if◌then◌else◌}
 use Rattle.std.specs.BTreeSet.{insert_key}
 use Rattle.std.specs.declared.convert.Infallible.{Infallible}
@@ -14,45 +14,47 @@ use Rattle.inspect_lines.specs.Names.{is_one_of}
 
 -- ---- what is written
 
--- those of the CIDs that were not seen, each once, in the order in which they come
+-- the CIDs that were not seen before, each once, in order of first occurrence
 abbrev pub once_with : List CidParts → List CidParts → List CidParts
 once_with seen [] = []
 once_with seen (c ∷ cs) = if is_one_of c seen then once_with seen cs else c ∷ once_with (insert_key cid_cmp seen c) cs
 
--- the roots that are given, or else those of all files, each once
+-- the roots given, or else those of all files, each once
 abbrev pub merged_roots : List CidParts → List CidParts → List CidParts
 merged_roots [] roots = once_with [] roots
 merged_roots (given ∷ more) roots = given ∷ more
 
--- What is left of sections, where these stood before them: each but those before which a section of
--- the same name stood whose bytes are the ones that the name says.
+-- What the merge leaves of sections that come after others: all but those with the CID of an
+-- earlier
+-- section whose bytes match it.
 abbrev pub IsMerged : List Section → List Section → List Section → Type 0
 IsMerged before [] left = left ≡ []
 IsMerged before (s ∷ ss) left = (IsHeldInFile s.0 before × IsMerged (before ++ s ∷ []) ss left)
     ⊎ ((¬ IsHeldInFile s.0 before) × ((more : List Section) × (left ≡ s ∷ more)
     × IsMerged (before ++ s ∷ []) ss more))
 
--- the file of these roots and of what is left of these sections
+-- the CAR file of these roots and of what the merge leaves of these sections
 abbrev pub IsMergedFile : List CidParts → List Section → List ℕ → Type 0
 IsMergedFile roots sections out = (left : List Section) × IsMerged [] sections left
     × (out ≡ car_bytes (forms roots) left)
 
 -- ---- files
 
--- the bytes are files, whose roots and sections these are, one file after the other
+-- the bytes are CAR files, and these are their roots and sections, one file after the other
 abbrev pub AreFiles : List (List ℕ) → List CidParts → List Section → Type 0
 AreFiles [] roots sections = (roots ≡ []) × (sections ≡ [])
 AreFiles (b ∷ bs) roots sections = (first more : List CidParts) × (ss others : List Section)
     × IsFile b (forms first) ss × AreFiles bs more others × (roots ≡ first ++ more) × (sections ≡ ss ++ others)
 
--- the bytes begin with headers of files, whose roots these are
+-- the bytes begin with headers, and these are their roots
 abbrev pub BeginFiles : List (List ℕ) → List CidParts → Type 0
 BeginFiles [] roots = roots ≡ []
 BeginFiles (b ∷ bs) roots = (first more : List CidParts) × ((n : ℕ) × (rest : List ℕ)
     × IsFileFront b (forms first) [] n rest) × BeginFiles bs more × (roots ≡ first ++ more)
 
--- All begin with headers, whose roots these are; those before one are files; and these are the sections
--- of those and the first ones of that, of which so many bytes are wanting and the rest is left.
+-- All begin with headers, with these roots. Those before one are whole files. The sections are
+-- theirs
+-- and the first ones of that one, in which `wanting` bytes are still to come and `rest` is left.
 pub record FilesFront (bs : List (List ℕ)) (roots : List CidParts) (sections : List Section) : Type 0 where
   pub before : List (List ℕ)
   pub at : List ℕ
@@ -73,25 +75,25 @@ pub record FilesFront (bs : List (List ℕ)) (roots : List CidParts) (sections :
 
 -- ---- what is told
 
--- a line about the file at this place, which is counted from 1
+-- a line about the file with this number, counted from 1
 abbrev pub file_line : ℕ → List ℕ → List ℕ
 file_line n told = codes "file " ++ (decimal n ++ (codes ": " ++ told))
 
--- one of the bytes begins no file, all before it do, and a line tells which and why
+-- one of the bytes does not begin a CAR file, all before it do, and a line says which and why
 abbrev pub TellsNoneBegins : List (List ℕ) → List ℕ → Type 0
 TellsNoneBegins bs told = (before : List (List ℕ)) × (b : List ℕ) × (after : List (List ℕ))
     × (roots : List CidParts) × (e : CarError Infallible) × (bs ≡ before ++ b ∷ after) × BeginFiles before roots
     × IsNoFile b × RefusesStart e b × (told ≡ file_line (length before + 1) (refused_line e))
 
--- after these sections no section stands, though bytes do, or are wanting, and a line tells of which
--- file and why
+-- the bytes after these sections are not a whole section, and a line says in which file and why
 abbrev pub TellsBreak : List (List ℕ) → List CidParts → List Section → List ℕ → Type 0
 TellsBreak bs roots sections told = (f : FilesFront bs roots sections) × (e : CarError Infallible)
     × IsNoFile f.at × RefusesSection f.wanting e f.rest
     × (told ≡ file_line (length f.before + 1) (refused_line e))
 
--- What `merge` writes and tells: the file of the sections of all files; or one of them is no file, what
--- stands before the fault is written, and a line tells which and why.
+-- What `merge` writes: the CAR file of the sections of all files; or, if one is not a CAR file,
+-- what
+-- comes before its fault, and a line that says which and why.
 abbrev pub IsMergedOf : List CidParts → List (List ℕ) → Bool → List ℕ → List ℕ → Type 0
 IsMergedOf given bs well out told = ((roots : List CidParts) × (sections : List Section)
     × AreFiles bs roots sections × IsMergedFile (merged_roots given roots) sections out
@@ -100,7 +102,7 @@ IsMergedOf given bs well out told = ((roots : List CidParts) × (sections : List
     ⊎ ((roots : List CidParts) × (sections : List Section) × TellsBreak bs roots sections told
     × IsMergedFile (merged_roots given roots) sections out)))
 
--- what is written of all sections or the first, or nothing
+-- the output for all sections, for the first ones, or nothing
 abbrev pub IsMergedFront : List CidParts → List (List ℕ) → List ℕ → Type 0
 IsMergedFront given bs out = (out ≡ []) ⊎ ((roots : List CidParts) × (sections : List Section)
     × (AreFiles bs roots sections ⊎ FilesFront bs roots sections)

@@ -1,18 +1,18 @@
--- How a file goes out, piece by piece.
+-- How a file is written, piece by piece.
 use Rattle.std.specs.Prelude.{◌≡◌, ◌⊎◌, List, ℕ, [], ◌++◌, Bool, Option, Result, MatchResult}
 use Rattle.std.specs.Io.KnownBytes.{Appends}
 use Rattle.block_lines.specs.Lines.{BreaksLine}
 use Rattle.dagcbor_cli.specs.declared.fault.ToolError.{ToolError}
 use Rattle.dagcbor_cli.specs.declared.fault.ToolError.TheVariants.{Output}
 
--- the text went out; or nothing did; or the device failed, and a front did
+-- the text was written; or nothing was; or the device failed after a prefix
 abbrev pub SendsText : List ℕ → Option (List ℕ) → Result (Unit {0}) ToolError → Option (List ℕ) → Type 0
 SendsText text old result new = MatchResult result (λ _. Appends old new text)
     (λ e. BreaksLine (λ out. out ≡ text) old new e)
 
--- What went out where a run broke off: what is written of the first sections, all of it, or a front
--- where the device failed, and nothing was told; or all that is written, and a front of what is told,
--- for a device failed then.
+-- The output of a run that broke off. Either the output for the first sections, whole or, if the
+-- device failed, a prefix of it, and no error line; or the whole output, and a prefix of the error
+-- lines, because the error output failed.
 abbrev pub BreaksSent : (List ℕ → Type 0) → (Bool → List ℕ → List ℕ → Type 0) → Option (List ℕ)
     → Option (List ℕ) → ToolError → Option (List ℕ) → Option (List ℕ) → Type 0
 BreaksSent IsFirst IsSaid old heard e new after =
@@ -21,8 +21,9 @@ BreaksSent IsFirst IsSaid old heard e new after =
     ⊎ ((well : Bool) × (said told others : List ℕ) × IsSaid well said (told ++ others)
     × (e ≡ Output) × Appends old new said × Appends heard after told)
 
--- What is said went out on the output, what is told on the errors, and whether nothing is wrong is
--- answered; or the run broke off.
+-- The output and the error lines were written, and the answer is whether all is well; or the run
+-- broke
+-- off.
 abbrev pub SaysSent : (List ℕ → Type 0) → (Bool → List ℕ → List ℕ → Type 0) → Option (List ℕ)
     → Option (List ℕ) → Result Bool ToolError → Option (List ℕ) → Option (List ℕ) → Type 0
 SaysSent IsFirst IsSaid old heard result new after = MatchResult result

@@ -29,20 +29,21 @@ use Rattle.dagcbor_cli.specs.declared.fault.ToolError.{ToolError}
 
 -- ---- one part
 
--- The part of this number is begun: its file holds the header, where it is told which files are whole.
+-- The part with this number is begun: its file holds only the header, if the finished files are
+-- known.
 pub record IsBegun {F : Type 0} (contents : F → Option (List ℕ)) (plan : Plan) (number : ℕ) (whole : Option (List Named)) (p : Part F) : Type 0 where
   pub number_is : p.number ≡ number
   pub room : p.room ≡ plan.asked.now.size - length plan.header.items
   pub none : p.holds ≡ false
   pub bytes : (before : List Named) → whole ≡ Some before → contents p.file ≡ Some plan.header.items
 
--- a file has the name of the part of this number; or another fault
+-- the file name of this part is taken; or another fault
 abbrev pub IsFaultOf : Plan → ℕ → (List ℕ → Option Bool) → PartFault → Type 0
 IsFaultOf plan number has (faults.Exists name) = (string_bytes name ≡ part_name plan.asked.now.prefix.now number)
     × (has (string_bytes name) ≢ Some false)
 IsFaultOf plan number has (faults.Failed e) = ⊤
 
--- the part of this number, whose file holds this, is whole; or none more is
+-- the part with this number, whose file holds this, is finished; or no more is
 abbrev pub FinishesPart : Plan → ℕ → Option (List ℕ) → Option (List Named) → Result (Unit {0}) ToolError
     → Option (List Named) → Type 0
 FinishesPart plan number written old result new = MatchResult result
@@ -51,9 +52,11 @@ FinishesPart plan number written old result new = MatchResult result
 
 -- ---- a split at work
 
--- what is asked, which files are whole and which names files have, what the file of the part that is
--- begun holds, its number, how many bytes more it may have, whether it has a section, and through which
--- reference the files are made
+-- the plan, the files finished, the names that are taken, what the file of the current part holds,
+-- its
+-- number, how many more bytes it may have, whether it has a section, and the reference the files
+-- are
+-- made through
 pub record Work : Type 0 where
   pub plan : Plan
   pub whole : Option (List Named)
@@ -64,8 +67,8 @@ pub record Work : Type 0 where
   pub holds : Bool
   pub through : ℕ
 
--- what contracts see of a split at work, of whose files it is told so which are whole, which names
--- files have, and what the one that is begun holds
+-- a split at work as contracts see it, given the files finished, the names that are taken, and what
+-- the current file holds
 abbrev pub splitting_work : {N F : Type 0} → (N → Option (List Named)) → (N → List ℕ → Option Bool) → (F → Option (List ℕ))
     → Splitting N F → Work
 splitting_work whole has contents s = record {
@@ -79,34 +82,35 @@ splitting_work whole has contents s = record {
   through = s.files.ghost_name;
 }
 
--- so many bytes more go into the part that is begun
+-- `n` more bytes go into the current part
 abbrev pub goes_in : Work → ℕ → Bool
 goes_in w n = not w.holds || nat_le n w.room
 
--- the part that was begun is whole
+-- the current part was finished
 abbrev pub IsFinished : Work → Work → Type 0
 IsFinished old new = (b : List ℕ) → old.written ≡ Some b
     → AddsFiles old.whole new.whole ((part_name old.plan.asked.now.prefix.now old.number, b) ∷ [])
 
--- and the next is begun
+-- and the next was begun
 pub record IsNext (old new : Work) : Type 0 where
   pub finished : IsFinished old new
   pub number_is : new.number ≡ old.number + 1
   pub room_is : new.room ≡ old.plan.asked.now.size - length old.plan.header.items
   pub bytes : (before : List Named) → new.whole ≡ Some before → new.written ≡ Some old.plan.header.items
 
--- no part more is whole, by a fault that is none of a name; or the one that was begun is, and the next
--- was not begun, or its file failed
+-- no more parts were finished, because of a fault other than a taken name; or the current one was,
+-- but
+-- the next was not begun, or its file failed
 abbrev pub StopsNext : Work → PartFault → Work → Type 0
 StopsNext old why new = ((new.whole ≡ old.whole) × ((e : ToolError) × (why ≡ faults.Failed e)))
     ⊎ (IsFinished old new × IsFaultOf old.plan (old.number + 1) new.has why)
 
--- the next part is begun
+-- the next part was begun
 abbrev pub BeginsNext : Work → Result (Unit {0}) PartFault → Work → Type 0
 BeginsNext old result new = (new.through ≡ old.through) × (new.plan ≡ old.plan) × MatchResult result
     (λ _. IsNext old new) (λ why. StopsNext old why new)
 
--- so many bytes more go into the part that is begun, which may be the next
+-- `n` more bytes go into the current part, which may be the next one
 abbrev pub HasRoom : Work → ℕ → Work → Type 0
 HasRoom old n new = MatchBool (goes_in old n) (new ≡ old) (IsNext old new)
 
@@ -114,7 +118,7 @@ abbrev pub MakesRoom : ℕ → Work → Result (Unit {0}) PartFault → Work →
 MakesRoom n old result new = (new.through ≡ old.through) × (new.plan ≡ old.plan) × MatchResult result
     (λ _. HasRoom old n new) (λ why. (goes_in old n ≡ false) × StopsNext old why new)
 
--- the bytes went into the part
+-- the bytes were written to the part
 pub record IsPut (b : List ℕ) (old new : Work) : Type 0 where
   pub bytes : Appends old.written new.written b
   pub number_same : new.number ≡ old.number
@@ -125,7 +129,7 @@ abbrev pub PutsBytes : List ℕ → Work → Result (Unit {0}) PartFault → Wor
 PutsBytes b old result new = (new.through ≡ old.through) × (new.plan ≡ old.plan) × (new.whole ≡ old.whole)
     × MatchResult result (λ _. IsPut b old new) (λ why. (e : ToolError) × (why ≡ faults.Failed e))
 
--- a section went into the part that was begun, or into the next; or into none
+-- a section was written to the current part or to the next; or to none
 abbrev pub SplitsSection : Section → Work → Result (Unit {0}) PartFault → Work → Type 0
 SplitsSection s old result new = (new.through ≡ old.through) × (new.plan ≡ old.plan) × MatchResult result
     (λ _. (mid : Work) × HasRoom old (length (section_bytes s)) mid × (new.whole ≡ mid.whole)
@@ -136,11 +140,11 @@ SplitsSection s old result new = (new.through ≡ old.through) × (new.plan ≡ 
 
 -- ---- the whole
 
--- the header is that of the parts of a file of these roots
+-- the header is that of the parts of a file with these roots
 abbrev pub IsPlanOf : List CidParts → Plan → Type 0
 IsPlanOf roots plan = plan.header.items ≡ header_bytes (forms (roots_of_parts plan.asked.now.roots.items roots))
 
--- which files are whole, and which names files have
+-- the files finished, and the names that are taken
 pub record Made : Type 0 where
   pub whole : Option (List Named)
   pub has : List ℕ → Option Bool
@@ -148,7 +152,7 @@ pub record Made : Type 0 where
 abbrev pub made : Option (List Named) → (List ℕ → Option Bool) → Made
 made whole has = record { whole = whole; has = has }
 
--- the part that is begun: its number, and what its file holds
+-- the current part: its number, and what its file holds
 pub record Begun : Type 0 where
   pub number : ℕ
   pub written : Option (List ℕ)
@@ -156,14 +160,14 @@ pub record Begun : Type 0 where
 abbrev pub begun : {F : Type 0} → (F → Option (List ℕ)) → Part F → Begun
 begun contents p = record { number = p.number; written = contents p.file }
 
--- the last part is whole, or none more is
+-- the last part was finished, or no more was
 abbrev pub FinishesLast : Plan → Ended PartFault → Begun → Made → Result (Ended PartFault) ToolError → Made → Type 0
 FinishesLast plan ended last old result new = MatchResult result
     (λ end. (end ≡ ended) × ((b : List ℕ) → last.written ≡ Some b → AddsFiles old.whole new.whole
     ((part_name plan.asked.now.prefix.now last.number, b) ∷ [])))
     (λ _. new.whole ≡ old.whole)
 
--- the last part is whole, if all sections were taken that stand there
+-- the last part was finished, if all sections there were read
 abbrev pub EndsParts : Plan → Result (Ended PartFault) ToolError → Begun → Made → Result (Ended PartFault) ToolError → Made
     → Type 0
 EndsParts plan (Ok ended.Whole) last old result new =
@@ -173,11 +177,11 @@ EndsParts plan (Ok (ended.Fault line)) last old result new =
 EndsParts plan (Ok (ended.Stopped why)) last old result new = (result ≡ Ok (ended.Stopped why)) × (new ≡ old)
 EndsParts plan (Err e) last old result new = (result ≡ Err e) × (new ≡ old)
 
--- only the first parts are whole
+-- only the first parts were finished
 abbrev pub BreaksParts : Split → List ℕ → Making → Type 0
 BreaksParts asked b m = (files : List Named) × IsSplitFront asked b files × AddsFiles m.old m.new files
 
--- how far the sections were split, and which parts are whole
+-- how far the sections were split, and which parts were finished
 abbrev pub SplitsEnded : Split → List ℕ → Result (Ended PartFault) ToolError → Making → Type 0
 SplitsEnded asked b (Ok ended.Whole) m = (files : List Named)
     × IsSplitOf asked b m.has ends.Whole files [] × AddsFiles m.old m.new files
@@ -188,18 +192,18 @@ SplitsEnded asked b (Ok (ended.Stopped (faults.Exists name))) m = (files : List 
 SplitsEnded asked b (Ok (ended.Stopped (faults.Failed e))) m = BreaksParts asked b m
 SplitsEnded asked b (Err e) m = BreaksParts asked b m
 
--- the sections after the header of a file of these roots are split
+-- the sections after the header with these roots were split
 abbrev pub SplitsSections : Plan → Option ℕ → Reading → Result (Ended PartFault) ToolError → Making → Type 0
 SplitsSections plan extent source result m = (start : Reading) (roots : List CidParts) (b : List ℕ)
     → TakesStart start (forms roots) extent source → start.left ≡ Some b → IsPlanOf roots plan
     → SplitsEnded plan.asked.now b result m
 
--- it ended so, and the line went out; or nothing of it did, or a front, where the device failed
+-- the split ended thus, and the line was written; or none of it, or a prefix if the device failed
 abbrev pub EndsTold : SplitEnd → List ℕ → Option (List ℕ) → Result SplitEnd ToolError → Option (List ℕ) → Type 0
 EndsTold end line heard result after = MatchResult result
     (λ answer. (answer ≡ end) × Appends heard after line) (λ e. BreaksLine (λ out. out ≡ line) heard after e)
 
--- what is told of how far they were split
+-- the error output for how far the sections were split
 abbrev pub TellsSplit : Result (Ended PartFault) ToolError → Option (List ℕ) → Result SplitEnd ToolError
     → Option (List ℕ) → Type 0
 TellsSplit (Ok ended.Whole) heard result after = (result ≡ Ok ends.Whole) × (after ≡ heard)
@@ -209,7 +213,7 @@ TellsSplit (Ok (ended.Stopped (faults.Exists name))) heard result after =
 TellsSplit (Ok (ended.Stopped (faults.Failed e))) heard result after = (result ≡ Err e) × (after ≡ heard)
 TellsSplit (Err e) heard result after = (result ≡ Err e) × (after ≡ heard)
 
--- the file of these roots is split, after whose header the input stands
+-- the file with these roots was split, from the input after its header
 abbrev pub SplitsBehind : Split → List CidParts → Behind → Making → Option (List ℕ) → Result SplitEnd ToolError
     → Option (List ℕ) → Type 0
 SplitsBehind asked roots at m heard result after = (start : Reading) (b : List ℕ)

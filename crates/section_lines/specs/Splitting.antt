@@ -1,4 +1,4 @@
--- What `split` writes and tells.
+-- What `split` writes and reports.
 use Rattle.std.specs.Prelude.{◌≡◌, ◌≢◌, ◌⊎◌, ℕ, List, [], ◌∷◌, ◌++◌, codes, Bool, false, Option, Some, Result, MatchResult}
 use Rattle.std.specs.Io.KnownBytes.{Appends}
 use Rattle.std.specs.declared.convert.Infallible.{Infallible}
@@ -18,25 +18,25 @@ use Rattle.section_lines.specs.declared.split.SplitEnd.TheVariants as ends
 use Rattle.dagcbor_cli.specs.declared.fault.ToolError.{ToolError}
 use Rattle.dagcbor_cli.specs.declared.fault.ToolError.TheVariants.{Output}
 
--- what is told of a file that is there
+-- the error line for a file that exists already
 abbrev pub there_line : List ℕ → List ℕ
 there_line name = line (codes "dagcar: there is a file " ++ name)
 
--- these roots and sections stand in the bytes: of a file all sections, or the first of them
+-- the bytes begin with a header with these roots and with these sections, all or the first ones
 abbrev pub HasSections : List ℕ → List CidParts → List Section → Type 0
 HasSections b roots sections = (n : ℕ) × (rest : List ℕ) × IsFileFront b (forms roots) sections n rest
 
--- the bytes are no file for this cause, and the parts of the sections before the fault are these files
+-- the bytes are not a CAR file for this cause, and these files are the parts before the fault
 abbrev pub SplitsBefore : Split → List ℕ → CarError Infallible → List Named → Type 0
 SplitsBefore asked b e files = IsNoFile b × ((RefusesStart e b × (files ≡ []))
     ⊎ ((roots : List CidParts) × (sections : List Section) × (n : ℕ) × (rest : List ℕ)
     × IsFileFront b (forms roots) sections n rest × RefusesSection n e rest
     × (files ≡ split_files asked roots sections)))
 
--- Which files `split` makes of bytes, and what it tells: the parts of the file that they are; or they
--- are no file, the parts of what stands before the fault are made, and a line tells why; or a file
--- has the name of the next part, the parts before that are made, and a line tells the name. Which
--- names files have is asked of `has`.
+-- The files that `split` makes of bytes, and the error output. If they are a CAR file: its parts.
+-- If not:
+-- the parts before the fault, and a line that says why. If the name of the next part is taken: the
+-- parts before that, and a line with the name. `has` says which names are taken.
 abbrev pub IsSplitOf : Split → List ℕ → (List ℕ → Option Bool) → SplitEnd → List Named → List ℕ → Type 0
 IsSplitOf asked b has ends.Whole files told = (roots : List CidParts) × (sections : List Section)
     × IsFile b (forms roots) sections × (files ≡ split_files asked roots sections) × (told ≡ [])
@@ -53,8 +53,7 @@ IsSplitFront asked b files = (files ≡ []) ⊎ ((roots : List CidParts) × (sec
     × (others : List Named) × HasSections b roots sections
     × (split_files asked roots sections ≡ files ++ others))
 
--- which files are whole before a split and after it, and which names files have after it, where these
--- are told
+-- the files finished before a split and after it, and the names taken after it, if these are known
 pub record Making : Type 0 where
   pub old : Option (List Named)
   pub new : Option (List Named)
@@ -63,8 +62,8 @@ pub record Making : Type 0 where
 abbrev pub making : Option (List Named) → Option (List Named) → (List ℕ → Option Bool) → Making
 making old new has = record { old = old; new = new; has = has }
 
--- The files are whole, and what is told went out; or the run broke off, and the first parts are whole,
--- and nothing was told, or a front where the device failed.
+-- The files were finished, and the error lines written; or the run broke off, the first parts were
+-- finished, and no error line was written, or a prefix if the device failed.
 abbrev pub Splits : Split → List ℕ → Making → Option (List ℕ) → Result SplitEnd ToolError → Option (List ℕ) → Type 0
 Splits asked b m heard result after = MatchResult result
     (λ end. (files : List Named) × (told : List ℕ) × IsSplitOf asked b m.has end files told

@@ -19,15 +19,14 @@ use Rattle.dagcbor_cli.specs.declared.fault.ToolError.{ToolError}
 
 -- ---- a filter at work
 
--- what it keeps, the names that were found, what the device holds, and through which reference it is
--- written
+-- what it keeps, the names found, what the device holds, and the reference it is written through
 pub record Work : Type 0 where
   pub kept : Kept
   pub found : List CidParts
   pub written : Option (List ℕ)
   pub through : ℕ
 
--- what contracts see of a filter at work, of whose output the bytes are told so
+-- a filter at work as contracts see it, where `contents` gives the bytes of its output
 abbrev pub filtering_work : {W : Type 0} → (W → Option (List ℕ)) → Filtering W → Work
 filtering_work contents f = record {
   kept = f.kept.now;
@@ -36,21 +35,21 @@ filtering_work contents f = record {
   through = f.output.ghost_name;
 }
 
--- what goes out of a section, and the names that are found after it
+-- what is written for a section, and the names found after it
 abbrev pub sent_of : Kept → Section → List ℕ
 sent_of kept s = if keeps kept s.0 then section_bytes s else []
 
 abbrev pub found_with : Kept → List CidParts → Section → List CidParts
 found_with kept found s = if keeps kept s.0 then note kept found s.0 else found
 
--- a section went out, if it is kept, or its going out broke off
+-- a section was written if it is kept, or writing it broke off
 abbrev pub Filters : Section → Work → Result (Unit {0}) ToolError → Work → Type 0
 Filters s old result new = (new.through ≡ old.through) × (new.kept ≡ old.kept) × MatchResult result
     (λ _. Appends old.written new.written (sent_of old.kept s)
     × (new.found ≡ found_with old.kept old.found s))
     (λ e. BreaksLine (λ out. out ≡ sent_of old.kept s) old.written new.written e)
 
--- what is told after the sections, where these names were found
+-- the error output after the sections, if these names were found
 abbrev pub TellsRest : Kept → List CidParts → Result (Ended ToolError) ToolError → Option (List ℕ)
     → Result Bool ToolError → Option (List ℕ) → Type 0
 TellsRest kept found (Ok ended.Whole) heard result after =
@@ -61,8 +60,7 @@ TellsRest kept found (Err e) heard result after = (result ≡ Err e) × (after �
 
 -- ---- the whole
 
--- what follows a file's header: how many bytes of the file, where that is told, and the input
--- that has them
+-- what follows a file's header: the length of the file, if known, and the input
 pub record Behind : Type 0 where
   pub extent : Option ℕ
   pub source : Reading
@@ -70,7 +68,8 @@ pub record Behind : Type 0 where
 abbrev pub behind : Option ℕ → Reading → Behind
 behind extent source = record { extent = extent; source = source }
 
--- a call that writes and tells: what both devices held before, the answer, and what they hold then
+-- a call that writes output and errors: what both devices held before, the answer, and what they
+-- hold after
 pub record Run : Type 0 where
   pub old : Option (List ℕ)
   pub heard : Option (List ℕ)
@@ -81,19 +80,19 @@ pub record Run : Type 0 where
 abbrev pub run : Option (List ℕ) → Option (List ℕ) → Result Bool ToolError → Option (List ℕ) → Option (List ℕ) → Run
 run old heard answer new after = record { old = old; heard = heard; answer = answer; new = new; after = after }
 
--- the header of what is written went out, and then all that is kept after that of these roots
+-- the new header was written, and then all sections kept after a header with these roots
 abbrev pub FiltersSections : Filter → Behind → Run → Type 0
 FiltersSections f at r = (start : Reading) (roots : List CidParts) (first : Option (List ℕ)) (b : List ℕ)
     → TakesStart start (forms roots) at.extent at.source → start.left ≡ Some b
     → Appends first r.old (header_bytes (forms (roots_of f.roots.items f.kept roots)))
     → SaysSent (IsFilteredFront f b) (IsFiltered f b) first r.heard r.answer r.new r.after
 
--- all that is written of a file of these roots went out, after whose header the input stands
+-- the whole output was written, for a file with these roots, from the input after its header
 abbrev pub FiltersHeader : Filter → List CidParts → Behind → Run → Type 0
 FiltersHeader f roots at r = (start : Reading) (b : List ℕ) → TakesStart start (forms roots) at.extent at.source
     → start.left ≡ Some b → SaysSent (IsFilteredFront f b) (IsFiltered f b) r.old r.heard r.answer r.new r.after
 
--- the same of the bytes that the source has left, where it tells them
+-- the same for the bytes left in the source, if these are known
 abbrev pub FiltersFile : Filter → Reading → Run → Type 0
 FiltersFile f source r = (b : List ℕ) → source.left ≡ Some b
     → SaysSent (IsFilteredFront f b) (IsFiltered f b) r.old r.heard r.answer r.new r.after

@@ -7,7 +7,7 @@ use Rattle.block_lines.specs.Codecs.{codec_name}
 use Rattle.section_lines.specs.declared.words.By.{By}
 use Rattle.section_lines.specs.declared.words.By.TheVariants.{Codec, Names}
 
--- the text is that of this number, below 2 ^ 64, in digits of the radix
+-- the text is this number, below 2 ^ 64, in digits of the radix
 abbrev pub IsNumberIn : ℕ → List ℕ → ℕ → Type 0
 IsNumberIn radix text n = (n ≡ digits_value radix (without_leading_plus text))
     × IsNumeral radix (without_leading_plus text) × (n < 2 ^ 64)
@@ -16,13 +16,13 @@ IsNumberIn radix text n = (n ≡ digits_value radix (without_leading_plus text))
 abbrev pub IsHexText : List ℕ → ℕ → Type 0
 IsHexText text n = (digits : List ℕ) × (text ≡ codes "0x" ++ digits) × IsNumberIn 16 digits n
 
--- the text names the codec, or is its number
+-- the text is the codec's name, or its number in hexadecimal
 abbrev pub IsCodecText : List ℕ → ℕ → Type 0
 IsCodecText text n = (codec_name n ≡ Some text) ⊎ IsHexText text n
 
 -- ---- roots
 
--- the texts that follow `--root` in front of all else, and the words after them
+-- the texts that follow each leading `--root`, and the words after them
 abbrev pub root_texts : List (List ℕ) → List (List ℕ)
 root_texts (option ∷ text ∷ words) = if bytes_eq option (codes "--root") then text ∷ root_texts words else []
 root_texts _ = []
@@ -31,42 +31,42 @@ abbrev pub behind_roots : List (List ℕ) → List (List ℕ)
 behind_roots (option ∷ text ∷ words) = if bytes_eq option (codes "--root") then behind_roots words else option ∷ text ∷ words
 behind_roots words = words
 
--- the texts are those of these CIDs, one of each
+-- the texts are these CIDs, one each
 abbrev pub AreTexts : List (List ℕ) → List CidParts → Type 0
 AreTexts [] [] = ⊤
 AreTexts (text ∷ texts) (c ∷ cs) = IsTextOf text c × AreTexts texts cs
 AreTexts _ _ = ⊥
 
--- a text stands first after `--root`, which is that of this CID, or of none, and then the rest
+-- the words begin with `--root` and a text, which is this CID or none, and then the rest
 abbrev pub HasRoot : List (List ℕ) → Option CidParts → List (List ℕ) → Type 0
 HasRoot words root rest = (text : List ℕ) × (words ≡ codes "--root" ∷ text ∷ rest)
     × MatchOption root ((c : CidParts) → ¬ IsTextOf text c) (IsTextOf text)
 
--- none does
+-- the words do not begin with `--root` and a text
 abbrev pub HasNoRoot : List (List ℕ) → Type 0
 HasNoRoot words = (text : List ℕ) (rest : List (List ℕ)) → words ≢ codes "--root" ∷ text ∷ rest
 
 -- ---- filter
 
--- an option and the word after it say by what is to be kept
+-- an option and the word after it say what to keep
 abbrev pub IsBy : List ℕ → List ℕ → By → Type 0
 IsBy option text (Codec n) = (option ≡ codes "--codec") × IsCodecText text n
 IsBy option text (Names list) = (option ≡ codes "--names") × (text ≡ list.now)
 
--- the words say by what is to be kept, and of which file, if one is named
+-- the words say what to keep, and name the file, if any
 abbrev pub IsByAndFile : List (List ℕ) → By → Option (List ℕ) → Type 0
 IsByAndFile (option ∷ text ∷ []) by None = IsBy option text by
 IsByAndFile (option ∷ text ∷ file ∷ []) by (Some it) = IsBy option text by × (file ≡ it)
 IsByAndFile _ by it = ⊥
 
--- `filter`, roots, by what is to be kept, and the file, if one is named
+-- `filter`, roots, what to keep, and the file, if one is named
 abbrev pub IsFilter : List (List ℕ) → List CidParts → By → Option (List ℕ) → Type 0
 IsFilter words roots by file = (rest : List (List ℕ)) × (words ≡ codes "filter" ∷ rest)
     × AreTexts (root_texts rest) roots × IsByAndFile (behind_roots rest) by file
 
 -- ---- merge
 
--- `merge`, roots, and two files or more
+-- `merge`, roots, and two or more files
 abbrev pub IsMerge : List (List ℕ) → List CidParts → List (List ℕ) → Type 0
 IsMerge words roots files = (rest : List (List ℕ)) × (words ≡ codes "merge" ∷ rest)
     × AreTexts (root_texts rest) roots × (files ≡ behind_roots rest) × (2 ≤ length files)

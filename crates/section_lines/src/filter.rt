@@ -1,4 +1,4 @@
-//! `filter`: the file of the sections that are kept.
+//! `filter`: a CAR file of the sections that are kept.
 
 ghost use Rattle.std.specs.Prelude.{◌≡◌, [], List, ℕ, Some, Option, Result, IfOk, IfSome};
 ghost use Rattle.dagcbor_heads.specs.Inputs.{input_reading};
@@ -26,25 +26,26 @@ use std::alloc::Global;
 use std::collections::BTreeSet;
 use std::io::{BufRead, ErrorKind, Write};
 
-/// Which sections a file has that is made of another, and its roots: those of the other that are kept
-/// by the same rule, where none is given.
+/// What `filter` makes of a CAR file: the roots given, or else the file's roots that are kept, and
+/// the
+/// sections that are kept.
 #[derive(Drop)]
 pub struct Filter {
     pub roots: Vec<Cid>,
     pub kept: Kept,
 }
 
-/// A filter at work: what it keeps goes out as it comes.
+/// A filter at work, which writes each section that it keeps at once.
 #[derive(Drop)]
 struct Filtering<'k, 'a, W> {
     kept: &'k Kept,
-    /// The names of sections that were kept, where it is to be told which have none.
+    /// The names found in kept sections, if names are looked for.
     found: BTreeSet<Cid>,
     output: &'a mut W,
 }
 
 impl<'k, 'a, W: Write> Filtering<'k, 'a, W> {
-    /// A filter that has taken no section.
+    /// Returns a filter that has taken no section.
     fn new(alloc: Global, kept: &'k Kept, output: &'a mut W) -> Filtering<'k, 'a, W>
         ensures kept { result.kept.now ≡ kept.now }
         ensures found { result.found.keys ≡ [] }
@@ -74,7 +75,7 @@ impl<W: Write> SectionSink for Filtering<'_, '_, W> {
     }
 }
 
-/// Tells which names have no section. Whether none is missing.
+/// Writes an error line for each name without a section. Returns whether there is none.
 fn tell_missing<V: Write>(
     alloc: Global,
     kept: &Kept,
@@ -89,7 +90,7 @@ fn tell_missing<V: Write>(
     say((lines, missing.is_empty()), errors)
 }
 
-/// Tells what is to be told after the sections. Whether nothing is wrong.
+/// Writes the error lines after the sections. Returns whether all is well.
 fn tell_rest<V: Write>(
     alloc: Global,
     kept: &Kept,
@@ -107,8 +108,8 @@ fn tell_rest<V: Write>(
     }
 }
 
-/// Writes the sections that are kept of what follows the header, of so much of the file, and tells
-/// what is wrong. Whether nothing is.
+/// Writes the kept sections of the input after its header, up to `extent` if given, and the error
+/// lines. Returns whether all is well.
 fn filter_sections<'de, R: Read, W: Write, V: Write>(
     alloc: Global,
     filter: &Filter,
@@ -133,7 +134,7 @@ fn filter_sections<'de, R: Read, W: Write, V: Write>(
     tell_rest(alloc, kept, &found, ended, errors)
 }
 
-/// Sends the header of what is written, of a file of these roots.
+/// Writes the header of the new file, given the roots of the old one.
 fn send_roots<W: Write>(
     alloc: Global,
     filter: &Filter,
@@ -148,8 +149,9 @@ fn send_roots<W: Write>(
     send_header(alloc, &roots, output)
 }
 
-/// Writes the header, and then what is kept of what follows that of the input, and tells what is
-/// wrong. Whether nothing is.
+/// Writes the new header, then the kept sections of the input after its header, and the error
+/// lines.
+/// Returns whether all is well.
 fn filter_behind<'de, R: Read, W: Write, V: Write>(
     alloc: Global,
     filter: &Filter,
@@ -167,7 +169,7 @@ fn filter_behind<'de, R: Read, W: Write, V: Write>(
     filter_sections(alloc, filter, input, extent, output, errors)
 }
 
-/// Writes the file of what is kept of the file that a source has.
+/// Writes the CAR file of what is kept of the source's file. Returns whether all is well.
 fn filter_file<'de, R: Read, W: Write, V: Write>(
     alloc: Global,
     filter: &Filter,
@@ -188,9 +190,12 @@ fn filter_file<'de, R: Read, W: Write, V: Write>(
     }
 }
 
-/// Writes the file of the sections that are kept of the file that the input is, and tells which names
-/// no section has; or tells where the input is no file, after what stands before the fault. Whether
-/// nothing is wrong. One section is in memory at a time, beside the names that are looked for.
+/// Writes a CAR file of the kept sections of the input's CAR file, and an error line for each
+/// wanted name
+/// without a section. If the input is not a CAR file, writes what is kept before the fault, and a
+/// line
+/// that says why. Returns whether all is well. Holds one section at a time in memory, and the
+/// names.
 pub fn write_filtered<R: BufRead, W: Write, V: Write>(
     alloc: Global,
     filter: &Filter,
@@ -206,7 +211,7 @@ pub fn write_filtered<R: BufRead, W: Write, V: Write>(
     filter_file(alloc, filter, &mut source, output, errors)
 }
 
-/// All bytes of the input.
+/// Reads all bytes of the input.
 fn read_all<R: BufRead>(alloc: Global, input: &mut R) -> Result<Vec<u8>, ToolError>
     ensures { IfSome (R.remaining input.old) (λ b. IfOk result (λ v. v.items ≡ b)) }
 {
@@ -218,7 +223,7 @@ fn read_all<R: BufRead>(alloc: Global, input: &mut R) -> Result<Vec<u8>, ToolErr
     }
 }
 
-/// The same, of the sections of these names.
+/// The same, for sections with these names.
 fn write_named<R: BufRead, W: Write, V: Write>(
     alloc: Global,
     roots: Vec<Cid>,
@@ -239,8 +244,8 @@ fn write_named<R: BufRead, W: Write, V: Write>(
     write_filtered(alloc, &filter, input, output, errors)
 }
 
-/// The same, of the sections of the names that a list has, one a line; or tells which line is none of a
-/// CID, and writes nothing.
+/// The same, for sections named in a list, one CID per line. If a line is not a CID, writes only an
+/// error line that says which and why.
 pub fn write_listed<L: BufRead, R: BufRead, W: Write, V: Write>(
     alloc: Global,
     roots: Vec<Cid>,

@@ -12,14 +12,14 @@ use std::collections::BTreeSet;
 /// Which sections of a file are kept.
 #[derive(Drop)]
 pub enum Kept {
-    /// Those whose names say this codec.
+    /// Those whose CIDs have this codec.
     Codec(u64),
-    /// Those of these names.
+    /// Those with these CIDs.
     Named(BTreeSet<Cid>),
 }
 
 impl Kept {
-    /// Whether a section of this name is kept.
+    /// Returns whether a section with this CID is kept.
     pub fn keeps(&self, cid: &Cid) -> bool
         ensures { result ≡ keeps self.now cid.now }
     {
@@ -30,7 +30,7 @@ impl Kept {
     }
 }
 
-/// Adds the name.
+/// Adds the name to the set.
 pub(crate) fn add_name(names: &mut BTreeSet<Cid>, cid: &Cid) -> Result<(), AllocError>
     ensures { OnOk result (names.new.keys ≡ insert_key cid_cmp names.old.keys cid.now) }
 {
@@ -40,7 +40,7 @@ pub(crate) fn add_name(names: &mut BTreeSet<Cid>, cid: &Cid) -> Result<(), Alloc
     }
 }
 
-/// Notes the name of a section that is kept, where it is to be told which names have none.
+/// Notes the name of a kept section, if names are looked for.
 pub(crate) fn note(kept: &Kept, found: &mut BTreeSet<Cid>, cid: &Cid) -> Result<(), AllocError>
     ensures { OnOk result (found.new.keys ≡ note kept.now found.old.keys cid.now) }
 {
@@ -50,7 +50,7 @@ pub(crate) fn note(kept: &Kept, found: &mut BTreeSet<Cid>, cid: &Cid) -> Result<
     }
 }
 
-/// Puts the name after the others, if it is kept.
+/// Appends the name, if `is_kept`.
 fn push_if(left: &mut Vec<Cid>, is_kept: bool, cid: &Cid) -> Result<(), AllocError>
     ensures { OnOk result
         (left.new.items ≡ (if is_kept then left.old.items ++ cid.now ∷ [] else left.old.items)) }
@@ -61,7 +61,7 @@ fn push_if(left: &mut Vec<Cid>, is_kept: bool, cid: &Cid) -> Result<(), AllocErr
     Ok(())
 }
 
-/// Those of the names that are none of the others.
+/// Returns the names that are not among those found.
 fn others(
     alloc: Global,
     names: &BTreeSet<Cid>,
@@ -76,7 +76,7 @@ fn others(
     Ok(left)
 }
 
-/// The names that no section has, where these were found.
+/// Returns the wanted names that no section has, if these were found.
 pub(crate) fn missing_of(
     alloc: Global,
     kept: &Kept,
@@ -90,7 +90,7 @@ pub(crate) fn missing_of(
     }
 }
 
-/// The roots that are kept by the same rule.
+/// Returns the roots that are kept.
 fn kept_roots(alloc: Global, kept: &Kept, roots: &[Cid]) -> Result<Vec<Cid>, AllocError>
     ensures { IfOk result (λ v. v.items ≡ kept_roots kept.now roots.now) }
 {
@@ -101,7 +101,7 @@ fn kept_roots(alloc: Global, kept: &Kept, roots: &[Cid]) -> Result<Vec<Cid>, All
     Ok(left)
 }
 
-/// The roots of what is written: those that are given, or else those that are kept.
+/// Returns the roots of the new file: those given, or else the file's roots that are kept.
 pub(crate) fn roots_of(
     alloc: Global,
     given: &[Cid],

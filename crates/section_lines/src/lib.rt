@@ -1,4 +1,4 @@
-//! Files of version 1 made of sections of others.
+//! CAR files (version 1) made of the sections of others.
 #![tactic(auto)]
 
 mod filter;

@@ -1,4 +1,4 @@
-//! `merge`: the file of the sections of several files.
+//! `merge`: a CAR file of the sections of several files.
 
 ghost use Rattle.std.specs.Prelude.{◌≡◌, ◌↔◌, ◌∷◌, [], List, ℕ, map, IfOk, IsTrue, OnOk};
 ghost use Rattle.dagcbor_heads.specs.Inputs.{input_reading};
@@ -26,7 +26,7 @@ use std::alloc::{AllocError, Global};
 use std::collections::BTreeSet;
 use std::io::Write;
 
-/// Roots, each once, in the order in which they came.
+/// Roots, each once, in order of first occurrence.
 #[derive(Drop)]
 struct Roots {
     seen: BTreeSet<Cid>,
@@ -34,7 +34,7 @@ struct Roots {
 }
 
 impl Roots {
-    /// None.
+    /// Returns no roots.
     fn new(alloc: Global) -> Roots
         ensures seen { result.seen.keys ≡ [] }
         ensures listed { result.listed.items ≡ [] }
@@ -45,7 +45,7 @@ impl Roots {
         }
     }
 
-    /// Adds the root, if it did not come before.
+    /// Adds the root, unless it was added before.
     fn add(&mut self, root: &Cid) -> Result<(), AllocError>
         ensures { OnOk result (AddsRoots (root.now ∷ []) self.old self.new) }
     {
@@ -57,7 +57,7 @@ impl Roots {
         Ok(())
     }
 
-    /// Adds those of these roots that did not come before.
+    /// Adds those of these roots that were not added before.
     fn add_all(&mut self, roots: &[Cid]) -> Result<(), AllocError>
         ensures { OnOk result (AddsRoots roots.now self.old self.new) }
     {
@@ -68,8 +68,7 @@ impl Roots {
     }
 }
 
-/// A file whose header was taken, at which place it is, and how many bytes of it are left, where that
-/// is told.
+/// A file whose header was read: its number, its input, and its length, if known.
 #[derive(Drop)]
 struct Behind<'de, R> {
     number: usize,
@@ -77,14 +76,14 @@ struct Behind<'de, R> {
     extent: Option<u64>,
 }
 
-/// Files whose headers were taken, and their roots.
+/// Files whose headers were read, and their roots.
 #[derive(Drop)]
 struct Begun<'de, R> {
     roots: Roots,
     files: Vec<Behind<'de, R>>,
 }
 
-/// What is told of the file at this place.
+/// Returns an error line about the file with this number.
 fn file_line(alloc: Global, number: usize, line: &[u8]) -> Result<Vec<u8>, AllocError>
     ensures { IfOk result (λ v. v.items ≡ file_line number line.now) }
 {
@@ -93,7 +92,7 @@ fn file_line(alloc: Global, number: usize, line: &[u8]) -> Result<Vec<u8>, Alloc
     Ok(told)
 }
 
-/// Takes the header of one file more, or answers why none begins, in a line.
+/// Reads the header of one more file. If it is refused, returns a line that says why.
 fn begin<'de, R: Read>(
     alloc: Global,
     begun: &mut Begun<'de, R>,
@@ -122,7 +121,7 @@ fn begin<'de, R: Read>(
     }
 }
 
-/// Takes the headers of all files, or answers why one of them begins none, in a line.
+/// Reads the headers of all files. If one is refused, returns a line that says which and why.
 fn begin_all<'de, R: Read>(
     alloc: Global,
     inputs: Vec<Input<'de, R>>,
@@ -143,16 +142,16 @@ fn begin_all<'de, R: Read>(
     Ok(Ok(begun))
 }
 
-/// A merge at work: sections go out as they come.
+/// A merge at work, which writes sections as they come.
 #[derive(Drop)]
 struct Merging<'a, W> {
-    /// The names of the sections whose bytes were those that the name says.
+    /// The names of the sections whose bytes matched them.
     held: HeldNames,
     output: &'a mut W,
 }
 
 impl<'a, W: Write> Merging<'a, W> {
-    /// A merge that has taken no section.
+    /// Returns a merge that has taken no section.
     fn new(alloc: Global, output: &'a mut W) -> Merging<'a, W>
         ensures none { HoldsNone result.held }
         ensures reference { result.output.ghost_name ≡ output.entry.ghost_name }
@@ -165,7 +164,7 @@ impl<'a, W: Write> Merging<'a, W> {
     }
 }
 
-/// Whether the bytes are those that the section's name says.
+/// Returns whether the section's bytes match its name.
 fn is_named(section: &Section<'_>) -> bool
     ensures { IsTrue result ↔ IsVerified (section.now.cid, section.now.block.now) }
 {
@@ -175,7 +174,7 @@ fn is_named(section: &Section<'_>) -> bool
     )
 }
 
-/// Holds the name of the section, if its bytes are those that the name says.
+/// Adds the section's name to those held, if its bytes match it.
 fn hold(held: &mut HeldNames, section: &Section<'_>) -> Result<(), AllocError>
     ensures { OnOk result (HoldsIt (section.now.cid, section.now.block.now) held.old held.new) }
 {
@@ -200,7 +199,7 @@ impl<W: Write> SectionSink for Merging<'_, W> {
     }
 }
 
-/// What is told of the file at this place, if anything is.
+/// Returns the error line for the file with this number, if there is one.
 fn told_of(
     alloc: Global,
     number: usize,
@@ -215,7 +214,7 @@ fn told_of(
     }
 }
 
-/// Takes the sections of one file, or as many as there are before a fault, of which a line tells.
+/// Writes the sections of one file, or those before a fault, for which it returns a line.
 fn merge_file<'de, R: Read, W: Write>(
     alloc: Global,
     merging: &mut Merging<'_, W>,
@@ -233,7 +232,7 @@ fn merge_file<'de, R: Read, W: Write>(
     told_of(alloc, number, ended)
 }
 
-/// Takes the sections of all files, one after the other, up to the first fault.
+/// Writes the sections of all files, one after the other, up to the first fault.
 fn merge_files<'de, R: Read, W: Write>(
     alloc: Global,
     merging: &mut Merging<'_, W>,
@@ -250,7 +249,7 @@ fn merge_files<'de, R: Read, W: Write>(
     Ok(None)
 }
 
-/// Sends the header of these roots, or of those of the files, where none is given.
+/// Writes the header with the roots given, or else with those of the files.
 fn send_roots<W: Write>(
     alloc: Global,
     given: &[Cid],
@@ -266,7 +265,7 @@ fn send_roots<W: Write>(
     send_header(alloc, given, output)
 }
 
-/// Tells what is to be told after the sections. Whether nothing is.
+/// Writes the error line after the sections, if any. Returns whether there is none.
 fn tell_end<V: Write>(
     told: Result<Option<Vec<u8>>, ToolError>,
     errors: &mut V,
@@ -279,7 +278,7 @@ fn tell_end<V: Write>(
     }
 }
 
-/// Writes what is left of the sections of these files. Whether all of them are files.
+/// Writes the merged sections of these files. Returns whether all are CAR files.
 fn merge_sections<'de, R: Read, W: Write, V: Write>(
     alloc: Global,
     files: Vec<Behind<'de, R>>,
@@ -300,7 +299,7 @@ fn merge_sections<'de, R: Read, W: Write, V: Write>(
     tell_end(told, errors)
 }
 
-/// Writes the file of the sections of these files. Whether all of them are files.
+/// Writes the merged CAR file of these files. Returns whether all are CAR files.
 fn merge_begun<'de, R: Read, W: Write, V: Write>(
     alloc: Global,
     given: &[Cid],
@@ -318,10 +317,13 @@ fn merge_begun<'de, R: Read, W: Write, V: Write>(
     merge_sections(alloc, files, output, errors)
 }
 
-/// Writes the file of the sections of these files, in their order, without those before which one of
-/// the same name stood whose bytes were those that it says; or tells which of them is no file, and why,
-/// after what stands before the fault. Whether nothing is wrong. All files are open, one section is
-/// in memory at a time, and the names are.
+/// Writes the CAR file of the sections of these files, in order. Leaves out each section with the
+/// CID of
+/// an earlier one whose bytes match it. If one of the files is not a CAR file, writes what comes
+/// before
+/// the fault, and a line that says which and why. Returns whether all is well. Holds all files
+/// open,
+/// and one section at a time in memory, and the names.
 pub fn write_merged<'de, R: Read, W: Write, V: Write>(
     alloc: Global,
     given: &[Cid],

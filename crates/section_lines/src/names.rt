@@ -1,4 +1,4 @@
-//! A list of names, one a line.
+//! A list of CIDs, one per line.
 
 ghost use Rattle.std.specs.Prelude.{◌≡◌, IfOk};
 ghost use Rattle.section_lines.specs.Lists.{wrong_line, ReadsNames};
@@ -11,7 +11,7 @@ use ipld_tree::Cid;
 use std::alloc::{AllocError, Global};
 use std::collections::BTreeSet;
 
-/// Which line of a list is none of a CID, and why, in a line.
+/// Returns the error line for a line of the list that is not a CID.
 fn wrong_line(alloc: Global, number: usize, fault: &CidTextError) -> Result<Vec<u8>, AllocError>
     ensures { IfOk result (λ v. v.items ≡ wrong_line number fault.now) }
 {
@@ -20,7 +20,8 @@ fn wrong_line(alloc: Global, number: usize, fault: &CidTextError) -> Result<Vec<
     Ok(told)
 }
 
-/// The names in the text, one a line; or which line is none of a CID, and why, in a line.
+/// Reads the CIDs in the text, one per line. If a line is not a CID, returns a line that says which
+/// and why.
 pub(crate) fn names_in(
     alloc: Global,
     text: &[u8],

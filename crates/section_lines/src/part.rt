@@ -1,4 +1,4 @@
-//! The parts of a file that is split, one after the other.
+//! The parts of a split file, one after the other.
 
 ghost use Rattle.std.specs.Prelude.{◌≡◌, ◌<◌, length, string_bytes, IfOk, MatchResult};
 ghost use Rattle.dagcbor_items.specs.Walks.{forms};
@@ -16,10 +16,10 @@ use ipld_tree::Cid;
 use std::alloc::{AllocError, Global};
 use std::io::Write;
 
-/// Why a part is not made.
+/// Why a part was not made.
 #[derive(Drop)]
 pub(crate) enum PartFault {
-    /// There is a file of its name, which is this.
+    /// A file with the part's name, which is given, exists already.
     Exists(String),
     Failed(ToolError),
 }
@@ -45,25 +45,25 @@ impl From<ToolError> for PartFault {
     }
 }
 
-/// What all parts have.
+/// What all parts share.
 #[derive(Drop)]
 pub(crate) struct Plan<'a> {
     asked: &'a Split<'a>,
     header: Vec<u8>,
 }
 
-/// A part that is begun.
+/// The current part.
 #[derive(Drop)]
 pub(crate) struct Part<F> {
     pub file: F,
     pub number: u64,
-    /// How many bytes more it may have.
+    /// How many more bytes it may have.
     room: u64,
     /// Whether it has a section.
     holds: bool,
 }
 
-/// A split at work. One part is begun, and those before it are whole.
+/// A split at work. One part is begun, and those before it are finished.
 #[derive(Drop)]
 pub(crate) struct Splitting<'p, 'a, N, F> {
     pub alloc: Global,
@@ -72,14 +72,14 @@ pub(crate) struct Splitting<'p, 'a, N, F> {
     pub part: Part<F>,
 }
 
-/// The name of the part of this number.
+/// Returns the file name of the part with this number.
 fn part_name(alloc: Global, prefix: &str, number: u64) -> Result<String, AllocError>
     ensures { IfOk result (λ name. string_bytes name ≡ part_name prefix.now number) }
 {
     format!(in alloc; "{prefix}-{number}.car")
 }
 
-/// The header of the file of these roots.
+/// Returns the header of a CAR file with these roots.
 fn header_of(alloc: Global, roots: &[Cid]) -> Result<Vec<u8>, ToolError>
     ensures { IfOk result (λ v. v.items ≡ header_bytes (forms roots.now)) }
 {
@@ -90,7 +90,7 @@ fn header_of(alloc: Global, roots: &[Cid]) -> Result<Vec<u8>, ToolError>
     }
 }
 
-/// The bytes of the section.
+/// Returns the bytes of the section.
 fn bytes_of(alloc: Global, section: &Section<'_>) -> Result<Vec<u8>, ToolError>
     ensures { IfOk result
         (λ v. v.items ≡ section_bytes (section.now.cid, section.now.block.now)) }
@@ -102,7 +102,7 @@ fn bytes_of(alloc: Global, section: &Section<'_>) -> Result<Vec<u8>, ToolError>
     }
 }
 
-/// What the parts have of a file of these roots.
+/// Returns what the parts of a file with these roots share.
 pub(crate) fn plan_of<'a>(
     alloc: Global,
     asked: &'a Split<'a>,
@@ -119,7 +119,7 @@ pub(crate) fn plan_of<'a>(
     Ok(Plan { asked, header })
 }
 
-/// Begins the part of this number.
+/// Begins the part with this number.
 pub(crate) fn begin_part<N: NewFiles>(
     alloc: Global,
     plan: &Plan<'_>,
@@ -147,7 +147,7 @@ pub(crate) fn begin_part<N: NewFiles>(
     }
 }
 
-/// Makes the part of this number whole.
+/// Finishes the part with this number.
 pub(crate) fn finish_part<N: NewFiles>(
     alloc: Global,
     plan: &Plan<'_>,
@@ -163,7 +163,7 @@ pub(crate) fn finish_part<N: NewFiles>(
 }
 
 impl<'p, 'a, N: NewFiles<File = F>, F: Write + Drop> Splitting<'p, 'a, N, F> {
-    /// A split that has taken no section, and whose first part is begun.
+    /// Returns a split that has taken no section, with its first part begun.
     pub fn new(
         alloc: Global,
         plan: &'p Plan<'p>,
@@ -183,7 +183,7 @@ impl<'p, 'a, N: NewFiles<File = F>, F: Write + Drop> Splitting<'p, 'a, N, F> {
         }
     }
 
-    /// Makes the part whole that is begun, and begins the next.
+    /// Finishes the current part, and begins the next.
     fn begin_next(&mut self) -> Result<(), PartFault>
         ensures { BeginsNext (splitting_work N.whole N.has F.contents self.old) result
             (splitting_work N.whole N.has F.contents self.new) }
@@ -195,7 +195,7 @@ impl<'p, 'a, N: NewFiles<File = F>, F: Write + Drop> Splitting<'p, 'a, N, F> {
             &mut self.part.file,
             self.files,
         )?;
-        // No file has as many parts; a source that never ends may.
+        // No file has this many parts, but a source that never ends may.
         let Some(number) = self.part.number.checked_add(1) else {
             return Err(PartFault::Failed(ToolError::OutOfMemory));
         };
@@ -203,7 +203,7 @@ impl<'p, 'a, N: NewFiles<File = F>, F: Write + Drop> Splitting<'p, 'a, N, F> {
         Ok(())
     }
 
-    /// Begins the next part, if the one that is begun has no room for so many bytes.
+    /// Begins the next part, if the current one has no room for `length` bytes.
     fn make_room(&mut self, length: u64) -> Result<(), PartFault>
         ensures { MakesRoom length (splitting_work N.whole N.has F.contents self.old) result
             (splitting_work N.whole N.has F.contents self.new) }
@@ -214,7 +214,7 @@ impl<'p, 'a, N: NewFiles<File = F>, F: Write + Drop> Splitting<'p, 'a, N, F> {
         self.begin_next()
     }
 
-    /// Puts the bytes of a section into the part that is begun.
+    /// Writes the bytes of a section to the current part.
     fn put(&mut self, bytes: &[u8]) -> Result<(), PartFault>
         ensures { PutsBytes bytes.now (splitting_work N.whole N.has F.contents self.old) result
             (splitting_work N.whole N.has F.contents self.new) }

@@ -1,4 +1,4 @@
-//! The header and the sections of a file, sent to a device.
+//! Writes the header and the sections of a CAR file to a device.
 
 ghost use Rattle.dagcbor_items.specs.Walks.{forms};
 ghost use Rattle.dagcbor_car.specs.Car.{header_bytes, section_bytes};
@@ -12,7 +12,7 @@ use ipld_tree::Cid;
 use std::alloc::Global;
 use std::io::Write;
 
-/// Sends the header of the file of these roots.
+/// Writes the header with these roots.
 pub(crate) fn send_header<W: Write>(
     alloc: Global,
     roots: &[Cid],
@@ -34,7 +34,7 @@ pub(crate) fn send_header<W: Write>(
     }
 }
 
-/// Sends the section.
+/// Writes the section.
 pub(crate) fn send_section<W: Write>(section: &Section<'_>, output: &mut W) -> Result<(), ToolError>
     ensures { SendsText (section_bytes (section.now.cid, section.now.block.now))
         (W.contents output.old) result (W.contents output.new) }

@@ -1,4 +1,4 @@
-//! `split`: the files of the parts of a file.
+//! `split`: CAR files of the parts of a file.
 
 ghost use Rattle.std.specs.Prelude.{◌≡◌, List, ℕ, Some, IfOk, IfSome};
 ghost use Rattle.dagcbor_heads.specs.Inputs.{input_reading};
@@ -23,22 +23,22 @@ use std::io::{BufRead, Write};
 /// How a split ended.
 #[derive(Drop)]
 pub enum SplitEnd {
-    /// The parts of the whole file are made.
+    /// The parts of the whole file were made.
     Whole,
-    /// The file has a fault, and the parts of what stands before it are made.
+    /// The file has a fault, and the parts before it were made.
     Fault,
-    /// There is a file of the name of a part, and the parts before that are made.
+    /// A file with the name of a part exists already, and the parts before that were made.
     Exists,
 }
 
-/// What is told of a file that is there.
+/// Returns the error line for a file that exists already.
 fn there_line(alloc: Global, name: &str) -> Result<Vec<u8>, AllocError>
     ensures { IfOk result (λ v. v.items ≡ there_line name.now) }
 {
     Ok(format!(in alloc; "dagcar: there is a file {name}\n")?.into_bytes())
 }
 
-/// Tells the line, and answers how the split ended.
+/// Writes the error line, and returns how the split ended.
 fn end_told<V: Write>(end: SplitEnd, line: &[u8], errors: &mut V) -> Result<SplitEnd, ToolError>
     ensures { EndsTold end line.now (V.contents errors.old) result (V.contents errors.new) }
 {
@@ -46,7 +46,7 @@ fn end_told<V: Write>(end: SplitEnd, line: &[u8], errors: &mut V) -> Result<Spli
     Ok(end)
 }
 
-/// Tells what is to be told of how far the sections were split.
+/// Writes the error line for how far the sections were split, if any. Returns how the split ended.
 fn tell_split<V: Write>(
     alloc: Global,
     ended: Result<Ended<PartFault>, ToolError>,
@@ -65,7 +65,7 @@ fn tell_split<V: Write>(
     }
 }
 
-/// Makes the last part whole.
+/// Finishes the last part.
 fn end_parts<N: NewFiles>(
     alloc: Global,
     plan: &Plan<'_>,
@@ -95,7 +95,7 @@ fn end_parts<N: NewFiles>(
     }
 }
 
-/// Splits what follows the header, of so much of the file.
+/// Splits the sections after the header, up to `extent` if given.
 fn split_sections<'de, R: Read, N: NewFiles>(
     alloc: Global,
     plan: &Plan<'_>,
@@ -123,7 +123,7 @@ fn split_sections<'de, R: Read, N: NewFiles>(
     end_parts(alloc, plan, ended, part, files)
 }
 
-/// Splits what follows the header of these roots, of so much of the file, and tells how that ended.
+/// Splits the sections after the header with these roots, and writes how that ended.
 fn split_behind<'de, R: Read, N: NewFiles, V: Write>(
     alloc: Global,
     asked: &Split<'_>,
@@ -142,7 +142,7 @@ fn split_behind<'de, R: Read, N: NewFiles, V: Write>(
     tell_split(alloc, ended, errors)
 }
 
-/// Splits the file that a source has.
+/// Splits the CAR file of a source.
 fn split_file<'de, R: Read, N: NewFiles, V: Write>(
     alloc: Global,
     asked: &Split<'_>,
@@ -163,9 +163,11 @@ fn split_file<'de, R: Read, N: NewFiles, V: Write>(
     }
 }
 
-/// Makes the files of the parts of the file that the input is, and tells a fault, or which file is
-/// there already. One part is begun at a time, and one section is in memory, in its bytes and in those
-/// that are written.
+/// Writes the parts of the input's CAR file, each to a file of its own, and an error line for a
+/// fault or
+/// for a part's file that exists already. One part is begun at a time. One section is in memory at
+/// a
+/// time, as read and as written.
 pub fn write_split<R: BufRead, N: NewFiles, V: Write>(
     alloc: Global,
     asked: &Split<'_>,
@@ -181,19 +183,19 @@ pub fn write_split<R: BufRead, N: NewFiles, V: Write>(
     split_file(alloc, asked, &mut source, files, errors)
 }
 
-/// The sections of all parts are those of the file, in their order.
+/// The sections of all parts, in order, are those of the file.
 #[tactic(auto, using(crate::proofs::Dividing::are_all))]
 pub fn parts_are_all()
     ensures { PartsAreAll }
 {}
 
-/// Each part is within the size, or has one section, or none.
+/// Each part is within the size, or has at most one section.
 #[tactic(auto, using(crate::proofs::Dividing::are_within))]
 pub fn parts_are_within()
     ensures { PartsAreWithin }
 {}
 
-/// Only the part of a file without sections has none.
+/// Only a file without sections has a part without sections.
 #[tactic(auto, using(crate::proofs::Dividing::have_sections))]
 pub fn parts_have_sections()
     ensures { PartsHaveSections }

@@ -8,20 +8,20 @@ use crate::words::{behind_word, split_roots};
 use ipld_tree::Cid;
 use std::alloc::{AllocError, Global};
 
-/// What `split` is asked.
+/// What `split` is asked to do.
 #[derive(Drop)]
 pub struct Split<'a> {
-    /// The roots of each part, which are those of the file where none is given.
+    /// The roots of each part. If empty, those of the file.
     pub roots: Vec<Cid>,
-    /// How many bytes a part of several sections has at most.
+    /// The most bytes of a part with several sections.
     pub size: u64,
-    /// The file, which is standard input where this is `-`.
+    /// The file, or `-` for standard input.
     pub file: &'a str,
-    /// What the names of the parts begin with.
+    /// The prefix of the parts' names.
     pub prefix: &'a str,
 }
 
-/// The size that the text is, in bytes.
+/// Returns the size in the text, in bytes.
 fn size_of(text: &str) -> Option<u64>
     ensures { MatchOption result ((n : ℕ) → ¬ IsSizeText text.now n) (IsSizeText text.now) }
 {
@@ -31,7 +31,7 @@ fn size_of(text: &str) -> Option<u64>
     }
 }
 
-/// The size that the text is, the file, and what the names of parts begin with.
+/// Returns the size in the text, the file, and the prefix of the parts' names.
 #[tactic(auto, using(crate::proofs::Wording::none_sized))]
 fn sized<'a>(text: &str, file: &'a str, prefix: &'a str) -> Option<(u64, &'a str, &'a str)>
     ensures { MatchOption result
@@ -45,7 +45,7 @@ fn sized<'a>(text: &str, file: &'a str, prefix: &'a str) -> Option<(u64, &'a str
     Some((size, file, prefix))
 }
 
-/// The size, the file, and what the names of parts begin with.
+/// Returns the size, the file, and the prefix of the parts' names.
 fn size_and_files(args: &[String]) -> Option<(u64, &str, &str)>
     ensures { MatchOption result
         ((size : ℕ) (file prefix : List ℕ)
@@ -58,7 +58,7 @@ fn size_and_files(args: &[String]) -> Option<(u64, &str, &str)>
     }
 }
 
-/// The same, after `--size`.
+/// Returns the same from the words after `--size`.
 fn behind_size(args: &[String]) -> Option<(u64, &str, &str)>
     ensures { MatchOption result
         ((size : ℕ) (file prefix : List ℕ)
@@ -71,7 +71,7 @@ fn behind_size(args: &[String]) -> Option<(u64, &str, &str)>
     size_and_files(rest)
 }
 
-/// What the words `split [--root CID].. --size BYTES FILE PREFIX` ask.
+/// Reads the words `split [--root CID].. --size BYTES FILE PREFIX`. `None` if they are others.
 pub fn split_of(alloc: Global, args: &[String]) -> Result<Option<Split<'_>>, AllocError>
     ensures { IfOk result (λ o. MatchOption o
         ((roots : List CidParts) (size : ℕ) (file prefix : List ℕ)

@@ -11,7 +11,7 @@ use cid_text::cid_from_text;
 use ipld_tree::Cid;
 use std::alloc::{AllocError, Global};
 
-/// The number that the hexadecimal digits are after `0x`.
+/// Returns the number in hexadecimal digits after `0x`.
 fn hex_of(text: &str) -> Option<u64>
     ensures { MatchOption result ((n : ℕ) → ¬ IsHexText text.now n) (IsHexText text.now) }
 {
@@ -19,7 +19,7 @@ fn hex_of(text: &str) -> Option<u64>
     u64::from_str_radix(digits, 16).ok()
 }
 
-/// The codec that the text names, or whose number it is.
+/// Returns the codec that the text names, or whose number it is.
 fn codec_of(text: &str) -> Option<u64>
     ensures { MatchOption result ((n : ℕ) → ¬ IsCodecText text.now n) (IsCodecText text.now) }
 {
@@ -34,7 +34,7 @@ fn codec_of(text: &str) -> Option<u64>
     }
 }
 
-/// The words after this one, if it stands first.
+/// Returns the words after this one, if it comes first.
 pub(crate) fn behind_word<'a>(word: &str, args: &'a [String]) -> Option<&'a [String]>
     ensures { MatchOption result
         ((rest : List (List ℕ)) → map string_bytes args.now ≢ word.now ∷ rest)
@@ -49,7 +49,9 @@ pub(crate) fn behind_word<'a>(word: &str, args: &'a [String]) -> Option<&'a [Str
     Some(rest)
 }
 
-/// The root after `--root`, where that stands first, and the words after it.
+/// Returns the root after a leading `--root`, and the words after it. The root is `None` if the
+/// text is not
+/// a CID.
 #[tactic(auto, using(crate::proofs::Wording::no_root_word, crate::proofs::Wording::no_root_text))]
 fn root_first(args: &[String]) -> Option<(Option<Cid>, &[String])>
     ensures { MatchOption result (HasNoRoot (map string_bytes args.now))
@@ -64,8 +66,9 @@ fn root_first(args: &[String]) -> Option<(Option<Cid>, &[String])>
     Some((cid_from_text(text.as_bytes()).ok(), rest))
 }
 
-/// The roots that follow `--root` in front of all else, and the words after them. None where a
-/// text is none of a CID.
+/// Returns the roots that follow each leading `--root`, and the words after them. `None` if a text
+/// is not
+/// a CID.
 pub(crate) fn split_roots(
     alloc: Global,
     args: &[String],
@@ -87,25 +90,25 @@ pub(crate) fn split_roots(
     Ok(Some((roots, rest)))
 }
 
-/// By what `filter` is to keep sections.
+/// What `filter` keeps sections by.
 #[derive(Clone, Copy)]
 pub enum By<'a> {
-    /// By this codec.
+    /// This codec.
     Codec(u64),
-    /// By the names in this file.
+    /// The CIDs listed in this file.
     Names(&'a str),
 }
 
-/// What `filter` is asked.
+/// What `filter` is asked to do.
 #[derive(Drop)]
 pub struct FilterWords<'a> {
     pub roots: Vec<Cid>,
     pub by: By<'a>,
-    /// The file, which is standard input where none is named.
+    /// The file. `None` for standard input.
     pub file: Option<&'a str>,
 }
 
-/// By what is to be kept, by an option and the word after it.
+/// Returns what to keep, from an option and the word after it.
 #[tactic(auto, using(crate::proofs::Wording::no_codec))]
 fn by_of<'a>(option: &str, text: &'a str) -> Option<By<'a>>
     ensures { MatchOption result ((by : By) → ¬ IsBy option.now text.now by)
@@ -123,7 +126,7 @@ fn by_of<'a>(option: &str, text: &'a str) -> Option<By<'a>>
     None
 }
 
-/// By what is to be kept of a file that no word names.
+/// Returns what to keep, if no file is named.
 #[tactic(auto, using(crate::proofs::Wording::none_alone))]
 fn by_alone<'a>(option: &str, text: &'a str) -> Option<(By<'a>, Option<&'a str>)>
     ensures { MatchOption result ((by : By) (file : Option (List ℕ))
@@ -136,7 +139,7 @@ fn by_alone<'a>(option: &str, text: &'a str) -> Option<(By<'a>, Option<&'a str>)
     Some((by, None))
 }
 
-/// By what is to be kept of the file.
+/// Returns what to keep, and the file.
 #[tactic(auto, using(crate::proofs::Wording::none_with_file))]
 fn by_with_file<'a>(option: &str, text: &'a str, file: &'a str) -> Option<(By<'a>, Option<&'a str>)>
     ensures { MatchOption result ((by : By) (it : Option (List ℕ))
@@ -150,7 +153,7 @@ fn by_with_file<'a>(option: &str, text: &'a str, file: &'a str) -> Option<(By<'a
     Some((by, Some(file)))
 }
 
-/// By what is to be kept, and of which file.
+/// Returns what to keep, and the file, if one is named.
 fn by_and_file(args: &[String]) -> Option<(By<'_>, Option<&str>)>
     ensures { MatchOption result
         ((by : By) (file : Option (List ℕ)) → ¬ IsByAndFile (map string_bytes args.now) by file)
@@ -163,8 +166,9 @@ fn by_and_file(args: &[String]) -> Option<(By<'_>, Option<&str>)>
     }
 }
 
-/// What the words `filter [--root CID].. --codec CODEC [FILE]` and `filter [--root CID].. --names LIST
-/// [FILE]` ask.
+/// Reads the words `filter [--root CID].. --codec CODEC [FILE]` or `filter [--root CID].. --names
+/// LIST
+/// [FILE]`. `None` if they are others.
 pub fn filter_of(alloc: Global, args: &[String]) -> Result<Option<FilterWords<'_>>, AllocError>
     ensures { IfOk result (λ o. MatchOption o
         ((roots : List CidParts) (by : By) (file : Option (List ℕ))
@@ -184,7 +188,8 @@ pub fn filter_of(alloc: Global, args: &[String]) -> Result<Option<FilterWords<'_
     }
 }
 
-/// What the words `merge [--root CID].. FILE FILE..` ask: the roots, and the files.
+/// Reads the words `merge [--root CID].. FILE FILE..`: the roots and the files. `None` if they are
+/// others.
 pub fn merge_of(alloc: Global, args: &[String]) -> Result<Option<(Vec<Cid>, &[String])>, AllocError>
     ensures { IfOk result (λ o. MatchOption o
         ((roots : List CidParts) (files : List (List ℕ))

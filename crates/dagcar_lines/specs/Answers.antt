@@ -127,9 +127,8 @@ IsDataSaid t well out told = (well ≡ true) × (out ≡ line (dag_json t))
     × (told ≡ (if has_reserved_key t then reserved_line else []))
 
 -- What `show` says of bytes: the data of the block. If they are not a block, but a node of DAG-PB,
--- its
--- data model. If they are neither, why they are not a block. Empty bytes are a node too, but are
--- treated as neither.
+-- its data model. If they are neither, why they are not a block. Empty bytes are a node too, but
+-- are treated as neither.
 abbrev pub IsDataShown : List ℕ → Bool → List ℕ → List ℕ → Type 0
 IsDataShown b well out told = ((t : Tree) × IsBlock b t × IsDataSaid t well out told)
     ⊎ ((¬ HasBlock b) × (b ≢ []) × ((t : Tree) × IsNodeOf b t × IsDataSaid t well out told))

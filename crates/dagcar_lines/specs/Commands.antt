@@ -51,10 +51,8 @@ abbrev pub IsRootOf : List (List ℕ) → List ℕ → CidParts → Type 0
 IsRootOf words word name = (text : List ℕ) × (words ≡ word ∷ text ∷ []) × IsTextOf (name_part text) name
 
 -- the words are the command: its name; then, for `get` and `tree`, a CID; for `at`, `prove`, `ls`
--- and
--- `cat`, a CID with a path, and for `at` also `--raw` before that; for `record`, a key; for
--- `check`,
--- also `--summary`
+-- and `cat`, a CID with a path, and for `at` also `--raw` before that; for `record`, a key; for
+-- `check`, also `--summary`
 abbrev pub IsCommand : List (List ℕ) → Command → Type 0
 IsCommand words (commands.Get name) = IsWordOf words (codes "get") name
 IsCommand words (commands.Tree name) = IsWordOf words (codes "tree") name

@@ -20,9 +20,8 @@ use Rattle.dagcar_lines.specs.declared.get.Stop.TheVariants as stops
 -- ---- one block
 
 -- what `get` writes: the block of the first section that has this CID and matches it, from a file
--- that
--- is valid up to there; or nothing, and an error line: the file has no such block, or is refused
--- before one comes
+-- that is valid up to there; or nothing, and an error line: the file has no such block, or is
+-- refused before one comes
 abbrev pub IsGot : CidParts → List ℕ → Bool → List ℕ → List ℕ → Type 0
 IsGot name b well out told = ((roots : List (List ℕ)) × (sections : List Section) × (n : ℕ)
     × (rest : List ℕ) × IsFileFront b roots (sections ++ (name, out) ∷ []) n rest
@@ -46,8 +45,7 @@ IsTreeFile stored root names out = (IsLost stored root × (out ≡ []))
     ⊎ ((¬ IsLost stored root) × (out ≡ car_bytes (cid_bytes root ∷ []) (sections_at stored names)))
 
 -- what `tree` writes if the links of each block on the way are known: the CAR file of the blocks
--- that
--- links lead to from the root, and an error line for each missing name
+-- that links lead to from the root, and an error line for each missing name
 pub record IsTreeFound (stored : Stored) (root : CidParts) (well : Bool) (out told : List ℕ) : Type 0 where
   pub found : List CidParts
   pub lost : List CidParts
@@ -57,8 +55,7 @@ pub record IsTreeFound (stored : Stored) (root : CidParts) (well : Bool) (out to
   pub wellness : IsTrue well ↔ (lost ≡ [])
 
 -- what `tree` writes for stored blocks: `IsTreeFound`; or nothing, and the line of a block on the
--- way
--- whose links are unknown
+-- way whose links are unknown
 abbrev pub IsTreeOf : Stored → CidParts → Bool → List ℕ → List ℕ → Type 0
 IsTreeOf stored root well out told = IsTreeFound stored root well out told
     ⊎ ((well ≡ false) × (out ≡ []) × ((p : CidParts × Verdict) × IsHiddenFrom stored root p

@@ -18,8 +18,7 @@ use Rattle.dagcar_lines.specs.declared.at.Asked.{Asked}
 use Rattle.dagcar_lines.specs.declared.at.Asked.TheVariants as asks
 
 -- The path leads from the root to a tree, which is written as a line of DAG-JSON, with a warning if
--- a
--- map in it has the key `/`.
+-- a map in it has the key `/`.
 abbrev pub IsSaidAt : Stored → CidParts → List (List ℕ) → Bool → List ℕ → List ℕ → Type 0
 IsSaidAt stored root path well out told = (n : ℕ) × (u : Tree) × Leads n stored root path (Some u)
     × (well ≡ true) × (out ≡ line (dag_json u))
@@ -37,8 +36,7 @@ IsAnswerOf asks.Bytes root path stored well out told = IsRawOf stored root path 
 IsAnswerOf asks.Proof root path stored well out told = IsProofOf stored root path well out told
 
 -- what they say of a CAR file: the answer over its sections; or nothing, and a line that says why
--- the
--- bytes are not a CAR file
+-- the bytes are not a CAR file
 abbrev pub IsAnswerOfFile : Asked → CidParts → List (List ℕ) → List ℕ → Bool → List ℕ → List ℕ
     → Type 0
 IsAnswerOfFile asked root path b well out told = ((roots : List (List ℕ))
@@ -47,8 +45,7 @@ IsAnswerOfFile asked root path b well out told = ((roots : List (List ℕ))
     ⊎ ((well ≡ false) × (out ≡ []) × TellsFault (λ sections. ⊤) b told)
 
 -- The CAR file that `prove` writes decides the path: what `at`, or `at --raw`, says of that file,
--- it
--- says of the whole one.
+-- it says of the whole one.
 abbrev pub ProofsDecide : Asked → Type 0
 ProofsDecide asked = (root : CidParts) (path : List (List ℕ)) (b proof told : List ℕ)
     → IsAnswerOfFile asks.Proof root path b true proof told → (well : Bool) (out heard : List ℕ)

@@ -69,8 +69,7 @@ abbrev pub IsVerdictCounted : Section → Bool → List ℕ → Type 0
 IsVerdictCounted s well text = (v : Verdict) × IsVerdict s v × (well ≡ is_well v) × (text ≡ [])
 
 -- What `check --summary` says at the end: how many sections got each verdict, and how many roots
--- and
--- links are missing. All is well if none is.
+-- and links are missing. All is well if none is.
 pub record IsSummary (roots : List (List ℕ)) (sections : List Section) (well : Bool) (text : List ℕ) : Type 0 where
   pub missing : Vec CidParts Global
   pub lists : ListsMissingInFile roots sections missing

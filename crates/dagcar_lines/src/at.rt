@@ -52,8 +52,7 @@ fn say_at<W: Write, V: Write>(
 }
 
 /// Writes the answer for the path from the root, or an error line that says why there is none.
-/// Returns
-/// whether there is one.
+/// Returns whether there is one.
 pub fn say_asked<W: Write, V: Write>(
     alloc: Global,
     asked: Asked,
@@ -75,9 +74,8 @@ pub fn say_asked<W: Write, V: Write>(
 }
 
 /// Writes the answer for the path from the root over the blocks of the input's CAR file, or an
-/// error
-/// line: why there is no answer, or why the input is not a CAR file. Returns whether there is an
-/// answer. Holds the blocks of the input in memory.
+/// error line: why there is no answer, or why the input is not a CAR file. Returns whether there is
+/// an answer. Holds the blocks of the input in memory.
 pub fn write_asked<R: BufRead, W: Write, V: Write>(
     alloc: Global,
     asked: Asked,

@@ -109,8 +109,7 @@ impl Answering for Judging {
 }
 
 /// Returns the data model of a DAG-PB node. `None` if the bytes are not a node whose names are
-/// texts, or
-/// are empty (an empty node).
+/// texts, or are empty (an empty node).
 fn model_shown(alloc: Global, bytes: &[u8]) -> Result<Option<Answer>, AllocError>
     ensures { IfOk result (λ r. MatchOption r ((bytes.now ≡ []) ⊎ ((t : Tree) → ¬ IsNodeOf bytes.now t))
         (λ p. (bytes.now ≢ []) × ((t : Tree) × IsNodeOf bytes.now t

@@ -179,8 +179,7 @@ fn text_of(args: &[String]) -> &str
 }
 
 /// Returns the command of a word and a text: a CID, with a path if the word is `at`, `prove`, `ls`
-/// or
-/// `cat`; the option of `check`; or the key of `record`.
+/// or `cat`; the option of `check`; or the key of `record`.
 fn command_on_text(word: &str, text: &str) -> Option<Command>
     ensures { MatchOption result ((c : Command) → ¬ IsCommand (word.now ∷ text.now ∷ []) c)
         (λ c. IsCommand (word.now ∷ text.now ∷ []) c) }
@@ -287,8 +286,8 @@ fn begin_so(words: &[String]) -> bool
     command_of(words).is_some() || no_cid_in(words).is_some()
 }
 
-/// Splits the words into those of a command and the file named after them, if any. Words that are
-/// a command by themselves name no file.
+/// Splits the words into those of a command and the file named after them, if any. Words that are a
+/// command by themselves name no file.
 pub fn split_words(args: &[String]) -> (&[String], Option<&str>)
     ensures split { MatchOption result.1 (map string_bytes result.0.now ≡ map string_bytes args.now)
         (λ file. map string_bytes args.now ≡ map string_bytes result.0.now ++ file.now ∷ []) }
@@ -388,8 +387,7 @@ fn say_entries_at<R: BufRead, W: Write, V: Write>(
 }
 
 /// Writes the bytes of the file that the path in the text leads to from this root. Returns whether
-/// it
-/// is whole.
+/// it is whole.
 fn say_file_at<R: BufRead, W: Write, V: Write>(
     alloc: Global,
     root: &Cid,

@@ -8,8 +8,7 @@ use std::io;
 use std::io::{ErrorKind, Write};
 
 /// A device that is not used again after its first fault. An interrupted write, or one that takes
-/// no
-/// byte, is a fault too. So a `BufWriter` over it does not retry such a write.
+/// no byte, is a fault too. So a `BufWriter` over it does not retry such a write.
 #[derive(Drop)]
 pub struct OneFault<W> {
     device: W,

@@ -14,10 +14,8 @@ use std::alloc::Global;
 use std::io::{BufRead, Write};
 
 /// Lists the entries under the path of names from the root, over the blocks of the input's CAR
-/// file, or
-/// writes an error line that says why there is nothing to list. Returns whether all is well. Holds
-/// the
-/// blocks of the input in memory.
+/// file, or writes an error line that says why there is nothing to list. Returns whether all is
+/// well. Holds the blocks of the input in memory.
 pub fn write_entries<R: BufRead, W: Write, V: Write>(
     alloc: Global,
     root: &Cid,
@@ -38,9 +36,8 @@ pub fn write_entries<R: BufRead, W: Write, V: Write>(
 }
 
 /// Writes the bytes of the file that the path of names leads to from the root, over the blocks of
-/// the
-/// input's CAR file, or an error line: why the output ends early, or why there is no file. Returns
-/// whether the file is whole. Holds the blocks of the input in memory.
+/// the input's CAR file, or an error line: why the output ends early, or why there is no file.
+/// Returns whether the file is whole. Holds the blocks of the input in memory.
 pub fn write_file<R: BufRead, W: Write, V: Write>(
     alloc: Global,
     root: &Cid,

@@ -65,8 +65,7 @@ impl SectionSink for Search {
 }
 
 /// Returns the block of this CID in the input's CAR file, or the error line if there is none. Does
-/// not
-/// read past the block.
+/// not read past the block.
 pub fn got<R: BufRead>(alloc: Global, name: &Cid, input: &mut R) -> Result<Answer, ToolError>
     ensures { IfSome (R.remaining input.old) (λ b. IfOk result
         (λ p. IsGot name.now b p.0.1 p.0.0.items p.1.items)) }
@@ -91,8 +90,7 @@ pub fn got<R: BufRead>(alloc: Global, name: &Cid, input: &mut R) -> Result<Answe
 }
 
 /// Writes the block of this CID in the input's CAR file, or an error line that says why there is
-/// none.
-/// Returns whether it was found.
+/// none. Returns whether it was found.
 pub fn get_block<R: BufRead, W: Write, V: Write>(
     alloc: Global,
     name: &Cid,

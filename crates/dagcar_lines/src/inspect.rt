@@ -12,8 +12,7 @@ use std::alloc::Global;
 use std::io::{BufRead, Write};
 
 /// Writes what the input's CAR file holds, and `index` if the file says that it has an index.
-/// Returns
-/// the exit status.
+/// Returns the exit status.
 pub fn run_inspect<R: BufRead, W: Write, V: Write>(
     alloc: Global,
     form: Form,

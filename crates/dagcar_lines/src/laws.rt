@@ -5,8 +5,7 @@ ghost use Rattle.dagcar_lines.specs.Paths.{ProofsDecide};
 ghost use Rattle.dagcar_lines.specs.declared.at.Asked.TheVariants.{Data, Bytes};
 
 /// The CAR file that `prove` writes decides its path. What `at` says of that file, it says of the
-/// whole
-/// file, even if the path leads to nothing.
+/// whole file, even if the path leads to nothing.
 pub fn proofs_decide()
     ensures data { ProofsDecide Data }
     ensures bytes { ProofsDecide Bytes }

@@ -1,6 +1,5 @@
 //! The program `dagcar`, line by line: judges and lists CAR files, and names, judges, shows and
-//! makes
-//! blocks.
+//! makes blocks.
 #![tactic(auto)]
 
 mod answer;

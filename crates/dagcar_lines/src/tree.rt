@@ -76,8 +76,7 @@ fn send_tree<W: Write>(
 }
 
 /// Writes the CAR file of the root and the blocks that links lead to from there, and an error line
-/// for
-/// each missing name. Returns whether none is missing.
+/// for each missing name. Returns whether none is missing.
 fn say_reached<W: Write, V: Write>(
     alloc: Global,
     root: &Cid,
@@ -97,8 +96,7 @@ fn say_reached<W: Write, V: Write>(
 }
 
 /// Writes the tree from the root; or nothing, and an error line for the first block on the way
-/// whose
-/// links cannot be read. Returns whether all is well.
+/// whose links cannot be read. Returns whether all is well.
 fn say_tree<W: Write, V: Write>(
     alloc: Global,
     root: &Cid,
@@ -120,10 +118,8 @@ fn say_tree<W: Write, V: Write>(
 
 /// Writes the CAR file of the root and the blocks that links lead to from there, within the input's
 /// CAR file, and an error line for each missing name. Or writes only an error line: the input is
-/// not a
-/// CAR file, or the links of a block on the way cannot be read. Returns whether all is well. Holds
-/// the
-/// blocks of the input in memory.
+/// not a CAR file, or the links of a block on the way cannot be read. Returns whether all is well.
+/// Holds the blocks of the input in memory.
 pub fn write_tree<R: BufRead, W: Write, V: Write>(
     alloc: Global,
     root: &Cid,

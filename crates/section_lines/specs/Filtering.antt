@@ -28,9 +28,8 @@ IsFilteredBefore f b e out = (RefusesStart e b × (out ≡ []))
     × (out ≡ filtered f roots sections))
 
 -- What `filter` writes for bytes. If they are a CAR file: the file of the sections kept, and an
--- error
--- line for each wanted name without a section; any such name is an error. If not: the sections kept
--- before the fault, and a line that says why.
+-- error line for each wanted name without a section; any such name is an error. If not: the
+-- sections kept before the fault, and a line that says why.
 abbrev pub IsFiltered : Filter → List ℕ → Bool → List ℕ → List ℕ → Type 0
 IsFiltered f b well out told = ((roots : List CidParts) × (sections : List Section)
     × IsFile b (forms roots) sections × (out ≡ filtered f roots sections)

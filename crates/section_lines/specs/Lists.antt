@@ -45,8 +45,7 @@ IsListFilter roots text f = (names : BTreeSet CidParts) × ListsNames text names
     × (f.roots.items ≡ roots) × (f.kept ≡ Named names)
 
 -- What `filter --names` writes: the sections named in the list; or nothing, and an error line for
--- the
--- first line of the list that is not a CID.
+-- the first line of the list that is not a CID.
 abbrev pub IsFilteredByList : List CidParts → List ℕ → List ℕ → Bool → List ℕ → List ℕ → Type 0
 IsFilteredByList roots text b well out told =
     ((f : Filter) × IsListFilter roots text f × IsFiltered f b well out told)

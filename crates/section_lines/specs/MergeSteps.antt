@@ -70,8 +70,7 @@ pub record Sent (roots : List CidParts) (first : Option (List ℕ)) (w : Work) (
   pub out : Appends first w.written (car_bytes (forms roots) left)
 
 -- Writing broke off: the output for the sections before was written, and a prefix of what comes
--- next,
--- for one section or none.
+-- next, for one section or none.
 abbrev pub BreaksSections : (List Section → Type 0) → List CidParts → Option (List ℕ) → ToolError → Option (List ℕ)
     → Type 0
 BreaksSections IsFront roots first e new = (ss more : List Section) × (said text : List ℕ) × (mid : Option (List ℕ))

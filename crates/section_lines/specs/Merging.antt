@@ -25,8 +25,7 @@ merged_roots [] roots = once_with [] roots
 merged_roots (given ∷ more) roots = given ∷ more
 
 -- What the merge leaves of sections that come after others: all but those with the CID of an
--- earlier
--- section whose bytes match it.
+-- earlier section whose bytes match it.
 abbrev pub IsMerged : List Section → List Section → List Section → Type 0
 IsMerged before [] left = left ≡ []
 IsMerged before (s ∷ ss) left = (IsHeldInFile s.0 before × IsMerged (before ++ s ∷ []) ss left)
@@ -53,8 +52,8 @@ BeginFiles (b ∷ bs) roots = (first more : List CidParts) × ((n : ℕ) × (res
     × IsFileFront b (forms first) [] n rest) × BeginFiles bs more × (roots ≡ first ++ more)
 
 -- All begin with headers, with these roots. Those before one are whole files. The sections are
--- theirs
--- and the first ones of that one, in which `wanting` bytes are still to come and `rest` is left.
+-- theirs and the first ones of that one, in which `wanting` bytes are still to come and `rest` is
+-- left.
 pub record FilesFront (bs : List (List ℕ)) (roots : List CidParts) (sections : List Section) : Type 0 where
   pub before : List (List ℕ)
   pub at : List ℕ
@@ -92,8 +91,7 @@ TellsBreak bs roots sections told = (f : FilesFront bs roots sections) × (e : C
     × (told ≡ file_line (length f.before + 1) (refused_line e))
 
 -- What `merge` writes: the CAR file of the sections of all files; or, if one is not a CAR file,
--- what
--- comes before its fault, and a line that says which and why.
+-- what comes before its fault, and a line that says which and why.
 abbrev pub IsMergedOf : List CidParts → List (List ℕ) → Bool → List ℕ → List ℕ → Type 0
 IsMergedOf given bs well out told = ((roots : List CidParts) × (sections : List Section)
     × AreFiles bs roots sections × IsMergedFile (merged_roots given roots) sections out

@@ -22,8 +22,7 @@ BreaksSent IsFirst IsSaid old heard e new after =
     × (e ≡ Output) × Appends old new said × Appends heard after told)
 
 -- The output and the error lines were written, and the answer is whether all is well; or the run
--- broke
--- off.
+-- broke off.
 abbrev pub SaysSent : (List ℕ → Type 0) → (Bool → List ℕ → List ℕ → Type 0) → Option (List ℕ)
     → Option (List ℕ) → Result Bool ToolError → Option (List ℕ) → Option (List ℕ) → Type 0
 SaysSent IsFirst IsSaid old heard result new after = MatchResult result

@@ -53,10 +53,8 @@ FinishesPart plan number written old result new = MatchResult result
 -- ---- a split at work
 
 -- the plan, the files finished, the names that are taken, what the file of the current part holds,
--- its
--- number, how many more bytes it may have, whether it has a section, and the reference the files
--- are
--- made through
+-- its number, how many more bytes it may have, whether it has a section, and the reference the
+-- files are made through
 pub record Work : Type 0 where
   pub plan : Plan
   pub whole : Option (List Named)
@@ -99,8 +97,7 @@ pub record IsNext (old new : Work) : Type 0 where
   pub bytes : (before : List Named) → new.whole ≡ Some before → new.written ≡ Some old.plan.header.items
 
 -- no more parts were finished, because of a fault other than a taken name; or the current one was,
--- but
--- the next was not begun, or its file failed
+-- but the next was not begun, or its file failed
 abbrev pub StopsNext : Work → PartFault → Work → Type 0
 StopsNext old why new = ((new.whole ≡ old.whole) × ((e : ToolError) × (why ≡ faults.Failed e)))
     ⊎ (IsFinished old new × IsFaultOf old.plan (old.number + 1) new.has why)

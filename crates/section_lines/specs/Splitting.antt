@@ -34,9 +34,8 @@ SplitsBefore asked b e files = IsNoFile b × ((RefusesStart e b × (files ≡ []
     × (files ≡ split_files asked roots sections)))
 
 -- The files that `split` makes of bytes, and the error output. If they are a CAR file: its parts.
--- If not:
--- the parts before the fault, and a line that says why. If the name of the next part is taken: the
--- parts before that, and a line with the name. `has` says which names are taken.
+-- If not: the parts before the fault, and a line that says why. If the name of the next part is
+-- taken: the parts before that, and a line with the name. `has` says which names are taken.
 abbrev pub IsSplitOf : Split → List ℕ → (List ℕ → Option Bool) → SplitEnd → List Named → List ℕ → Type 0
 IsSplitOf asked b has ends.Whole files told = (roots : List CidParts) × (sections : List Section)
     × IsFile b (forms roots) sections × (files ≡ split_files asked roots sections) × (told ≡ [])

@@ -27,8 +27,7 @@ use std::collections::BTreeSet;
 use std::io::{BufRead, ErrorKind, Write};
 
 /// What `filter` makes of a CAR file: the roots given, or else the file's roots that are kept, and
-/// the
-/// sections that are kept.
+/// the sections that are kept.
 #[derive(Drop)]
 pub struct Filter {
     pub roots: Vec<Cid>,
@@ -150,8 +149,7 @@ fn send_roots<W: Write>(
 }
 
 /// Writes the new header, then the kept sections of the input after its header, and the error
-/// lines.
-/// Returns whether all is well.
+/// lines. Returns whether all is well.
 fn filter_behind<'de, R: Read, W: Write, V: Write>(
     alloc: Global,
     filter: &Filter,
@@ -191,11 +189,9 @@ fn filter_file<'de, R: Read, W: Write, V: Write>(
 }
 
 /// Writes a CAR file of the kept sections of the input's CAR file, and an error line for each
-/// wanted name
-/// without a section. If the input is not a CAR file, writes what is kept before the fault, and a
-/// line
-/// that says why. Returns whether all is well. Holds one section at a time in memory, and the
-/// names.
+/// wanted name without a section. If the input is not a CAR file, writes what is kept before the
+/// fault, and a line that says why. Returns whether all is well. Holds one section at a time in
+/// memory, and the names.
 pub fn write_filtered<R: BufRead, W: Write, V: Write>(
     alloc: Global,
     filter: &Filter,

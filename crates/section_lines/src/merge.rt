@@ -318,12 +318,9 @@ fn merge_begun<'de, R: Read, W: Write, V: Write>(
 }
 
 /// Writes the CAR file of the sections of these files, in order. Leaves out each section with the
-/// CID of
-/// an earlier one whose bytes match it. If one of the files is not a CAR file, writes what comes
-/// before
-/// the fault, and a line that says which and why. Returns whether all is well. Holds all files
-/// open,
-/// and one section at a time in memory, and the names.
+/// CID of an earlier one whose bytes match it. If one of the files is not a CAR file, writes what
+/// comes before the fault, and a line that says which and why. Returns whether all is well. Holds
+/// all files open, and one section at a time in memory, and the names.
 pub fn write_merged<'de, R: Read, W: Write, V: Write>(
     alloc: Global,
     given: &[Cid],

@@ -164,10 +164,8 @@ fn split_file<'de, R: Read, N: NewFiles, V: Write>(
 }
 
 /// Writes the parts of the input's CAR file, each to a file of its own, and an error line for a
-/// fault or
-/// for a part's file that exists already. One part is begun at a time. One section is in memory at
-/// a
-/// time, as read and as written.
+/// fault or for a part's file that exists already. One part is begun at a time. One section is in
+/// memory at a time, as read and as written.
 pub fn write_split<R: BufRead, N: NewFiles, V: Write>(
     alloc: Global,
     asked: &Split<'_>,

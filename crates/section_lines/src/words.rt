@@ -50,8 +50,7 @@ pub(crate) fn behind_word<'a>(word: &str, args: &'a [String]) -> Option<&'a [Str
 }
 
 /// Returns the root after a leading `--root`, and the words after it. The root is `None` if the
-/// text is not
-/// a CID.
+/// text is not a CID.
 #[tactic(auto, using(crate::proofs::Wording::no_root_word, crate::proofs::Wording::no_root_text))]
 fn root_first(args: &[String]) -> Option<(Option<Cid>, &[String])>
     ensures { MatchOption result (HasNoRoot (map string_bytes args.now))
@@ -67,8 +66,7 @@ fn root_first(args: &[String]) -> Option<(Option<Cid>, &[String])>
 }
 
 /// Returns the roots that follow each leading `--root`, and the words after them. `None` if a text
-/// is not
-/// a CID.
+/// is not a CID.
 pub(crate) fn split_roots(
     alloc: Global,
     args: &[String],
@@ -167,8 +165,7 @@ fn by_and_file(args: &[String]) -> Option<(By<'_>, Option<&str>)>
 }
 
 /// Reads the words `filter [--root CID].. --codec CODEC [FILE]` or `filter [--root CID].. --names
-/// LIST
-/// [FILE]`. `None` if they are others.
+/// LIST [FILE]`. `None` if they are others.
 pub fn filter_of(alloc: Global, args: &[String]) -> Result<Option<FilterWords<'_>>, AllocError>
     ensures { IfOk result (λ o. MatchOption o
         ((roots : List CidParts) (by : By) (file : Option (List ℕ))

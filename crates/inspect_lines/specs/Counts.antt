@@ -1,11 +1,11 @@
--- What is counted of blocks, by their names and how many bytes they have.
+-- What is counted of blocks, by their CIDs and lengths.
 use Rattle.std.specs.Prelude.{◌≡◌, ℕ, ◌+◌, List, [], ◌∷◌, length, map, min, max}
 use Rattle.ipld_tree.specs.Cid.{CidParts}
 use Rattle.inspect_lines.specs.Rows.{rows_of}
 use Rattle.inspect_lines.specs.Names.{distinct}
 use Rattle.inspect_lines.specs.declared.counts.Counts.{Counts}
 
--- a block's name, and how many bytes it has
+-- a block's CID, and its length in bytes
 abbrev pub Measure : Type 0
 Measure = CidParts × ℕ
 
@@ -15,23 +15,23 @@ names_of ms = map (λ m. m.0) ms
 abbrev pub lengths_of : List Measure → List ℕ
 lengths_of ms = map (λ m. m.1) ms
 
--- all of them in one
+-- the sum of the numbers
 abbrev pub total : List ℕ → ℕ
 total [] = 0
 total (n ∷ ns) = n + total ns
 
--- the greatest, and 0 where there is none
+-- the greatest number, or 0 if there are none
 abbrev pub greatest : List ℕ → ℕ
 greatest [] = 0
 greatest (n ∷ ns) = max n (greatest ns)
 
--- the least, and 0 where there is none
+-- the least number, or 0 if there are none
 abbrev pub least : List ℕ → ℕ
 least [] = 0
 least (n ∷ []) = n
 least (n ∷ m ∷ ns) = min n (least (m ∷ ns))
 
--- the numbers are those of these blocks
+-- the counts are those of these blocks
 pub record AreCounts (counts : Counts) (ms : List Measure) : Type 0 where
   pub sections : counts.all.count ≡ length ms
   pub bytes : counts.all.bytes ≡ total (lengths_of ms)

@@ -1,4 +1,4 @@
--- What is told of a file, as lines and as JSON (RFC 8259).
+-- What `inspect` writes about a file, as lines and as JSON (RFC 8259).
 use Rattle.std.specs.Prelude.{ℕ, List, ◌∷◌, ◌++◌, length, map, codes, false, if◌then◌else◌, decimal, flat_map, Option, None, Some}
 use Rattle.std.specs.Fmt.{digits}
 use Rattle.cid_text.specs.Texts.{cid_text}
@@ -13,11 +13,11 @@ use Rattle.inspect_lines.specs.declared.facts.Index.TheVariants as indexes
 use Rattle.inspect_lines.specs.declared.kinds.Kind.{Kind}
 use Rattle.inspect_lines.specs.declared.kinds.Kind.TheVariants.{Codec, Hash}
 
--- a number after a word
+-- a word and a number
 abbrev pub number_line : List ℕ → ℕ → List ℕ
 number_line word count = line (word ++ (32 ∷ decimal count))
 
--- a word after a word
+-- two words
 abbrev pub word_line : List ℕ → List ℕ → List ℕ
 word_line word second = line (word ++ (32 ∷ second))
 
@@ -31,7 +31,7 @@ abbrev pub name_or_code : ℕ → Option (List ℕ) → List ℕ
 name_or_code number None = code_text number
 name_or_code number (Some name) = name
 
--- a codec by its name, where programs know one; another number in hexadecimal
+-- a codec by its usual name; any other number in hexadecimal
 abbrev pub shown_number : Kind → ℕ → List ℕ
 shown_number Codec number = name_or_code number (codec_name number)
 shown_number Hash number = code_text number
@@ -55,17 +55,17 @@ index_word (Some indexes.Wrong) = codes "wrong"
 abbrev pub root_told : Root → List ℕ
 root_told root = line (codes "root " ++ (cid_text root.cid ++ (if root.there then codes " there" else codes " missing")))
 
--- of a codec or a hash: how many sections there are, and how many bytes their blocks have
+-- a codec or a hash: the number of its sections, and the total length of their blocks
 abbrev pub row_line : Kind → ℕ × Row → List ℕ
 row_line kind row = line (kind_word kind ++ (32 ∷ (shown_number kind row.0 ++ (32 ∷ (decimal row.1.count ++ (32 ∷ decimal row.1.bytes))))))
 
--- what stands in front of the roots
+-- the lines before the roots
 abbrev pub head_lines : Facts → List ℕ
 head_lines f = number_line (codes "version") f.version
     ++ (word_line (codes "index") (index_word f.index)
     ++ number_line (codes "roots") (length f.roots.items))
 
--- the sections in all
+-- the lines of the section counts
 abbrev pub count_lines : Facts → List ℕ
 count_lines f = number_line (codes "sections") f.all.count
     ++ (number_line (codes "repeated") f.repeated
@@ -91,12 +91,12 @@ row_json kind row = codes "{\"" ++ (kind_word kind ++ (codes "\":\"" ++ (shown_n
     ++ (codes "\",\"sections\":" ++ (decimal row.1.count ++ (codes ",\"bytes\":" ++ (decimal row.1.bytes
     ++ codes "}")))))))
 
--- up to the list of the roots
+-- the object up to the list of roots
 abbrev pub json_head : Facts → List ℕ
 json_head f = codes "{\"version\":" ++ (decimal f.version ++ (codes ",\"index\":\""
     ++ (index_word f.index ++ codes "\",\"roots\":")))
 
--- the sections in all, up to the list of the codecs
+-- the section counts, up to the list of codecs
 abbrev pub json_counts : Facts → List ℕ
 json_counts f = codes ",\"sections\":" ++ (decimal f.all.count
     ++ (codes ",\"repeated\":" ++ (decimal f.repeated
@@ -104,15 +104,15 @@ json_counts f = codes ",\"sections\":" ++ (decimal f.all.count
     ++ (codes ",\"least\":" ++ (decimal f.least
     ++ (codes ",\"greatest\":" ++ (decimal f.greatest ++ codes ",\"codecs\":")))))))))
 
--- up to the list of the codecs
+-- the object up to the list of codecs
 abbrev pub json_front : Facts → List ℕ
 json_front f = json_head f ++ (list_text (map root_json f.roots.items) ++ json_counts f)
 
--- after the list of the hashes
+-- the object after the list of hashes
 abbrev pub json_end : ℕ → List ℕ
 json_end missing = codes ",\"missing\":" ++ (decimal missing ++ codes "}\n")
 
--- after the list of the codecs
+-- the object after the list of codecs
 abbrev pub json_hashes : Facts → List ℕ
 json_hashes f = codes ",\"hashes\":" ++ (list_text (map (row_json Hash) f.hashes.items) ++ json_end f.missing)
 

@@ -1,4 +1,4 @@
--- The first bytes of a file, which tell its version.
+-- The first bytes of a file, which show its version.
 use Rattle.std.specs.Prelude.{◌≡◌, ℕ, List, [], ◌∷◌, ◌++◌, take, Option, Some, MatchOption}
 
 -- the first byte is taken, if there is one
@@ -7,7 +7,7 @@ TakesByte b byte left = MatchOption byte
     ((b ≡ []) × (left ≡ Some []))
     (λ x. (rest : List ℕ) × (b ≡ x ∷ rest) × (left ≡ Some rest))
 
--- the first so many bytes, or all that there are, are taken
+-- the first `n` bytes, or all if there are fewer, are taken
 abbrev pub TakesFront : ℕ → List ℕ → List ℕ → Option (List ℕ) → Type 0
 TakesFront n b front left = (rest : List ℕ) × (b ≡ front ++ rest) × (left ≡ Some rest)
     × (front ≡ take n b)

@@ -22,37 +22,37 @@ use Rattle.inspect_lines.specs.declared.inspect.Form.TheVariants.{Lines, Json}
 
 -- ---- what the first bytes say (CARv2 specification)
 
--- they begin version 2
+-- the bytes begin with the pragma of version 2
 abbrev pub is_version_2 : List ℕ → Bool
 is_version_2 front = bytes_eq (take 11 front) pragma
 
 abbrev pub version_of : List ℕ → ℕ
 version_of front = if is_version_2 front then 2 else 1
 
--- a header of version 2 stands whole, and its last number, which tells where the index stands, is not 0
+-- a header of version 2 is complete, and its last number, the offset of the index, is not 0
 abbrev pub says_index : List ℕ → Bool
 says_index front = is_version_2 front && (nat_le 51 (length front) && not (number_behind 43 front == 0))
 
--- what is told of the index of a file that begins so, if it says that it has one
+-- what is reported of the index, if a file that begins thus says that it has one
 abbrev pub index_told : Index → List ℕ → Option Index
 index_told index front = if says_index front then Some index else None
 
 -- ---- what is told of a file
 
--- the names of the blocks of sections, and how many bytes they have
+-- the CIDs and lengths of the blocks of sections
 abbrev pub measures : List Section → List Measure
 measures sections = map (λ s. (s.0, length s.1)) sections
 
--- a root, whose block is there unless it is one of these
+-- a root, whose block is there unless its CID is one of these
 abbrev pub root_unless : List CidParts → CidParts → Root
 root_unless lost root = record { cid = root; there = not (is_one_of root lost) }
 
--- a root, whose block is there unless it is one of those that are missing
+-- a root, whose block is there unless it is one of those missing
 abbrev pub root_in : List CidParts → CidParts → Root
 root_in missing root = root_unless (distinct missing) root
 
--- What is told of a file that begins so, of these roots and blocks, where these lead to no block. A
--- section is repeated where one in front of it has the same name.
+-- The facts about a file with these first bytes, roots and blocks, and these missing names. A
+-- section is repeated if an earlier one has the same CID.
 pub record AreFacts (facts : Facts) (front : List ℕ) (index : Index) (named : List CidParts) (blocks : List Measure) (lost : List CidParts) : Type 0 where
   pub version : facts.version ≡ version_of front
   pub told : facts.index ≡ index_told index front
@@ -66,28 +66,28 @@ pub record AreFacts (facts : Facts) (front : List ℕ) (index : Index) (named : 
   pub hashes : facts.hashes.items ≡ rows_of (map (λ m. (m.0.hash_code, m.1)) blocks)
   pub missing : facts.missing ≡ length lost
 
--- the same, where what leads to no block is what `check` lists
+-- the same, with the missing names that `check` lists
 abbrev pub AreFactsOf : Facts → List ℕ → Index → List CidParts → List Section → Type 0
 AreFactsOf facts front index roots sections = (missing : Vec CidParts Global)
     × ListsMissingInFile (forms roots) sections missing
     × AreFacts facts front index roots (measures sections) missing.items
 
--- the bytes are a file, of which this is told
+-- the bytes are a CAR file, and these are the facts about it
 abbrev pub AreFactsOfFile : List ℕ → List ℕ → Index → Facts → Type 0
 AreFactsOfFile b front index facts = (roots : List CidParts) × (sections : List Section)
     × IsFile b (forms roots) sections × AreFactsOf facts front index roots sections
 
--- the same; or the bytes are no file, and a line tells why
+-- the same; or the bytes are not a CAR file, and a line says why
 abbrev pub IsFound : List ℕ → List ℕ → Index → Result Facts (Vec ℕ Global) → Type 0
 IsFound b front index found = MatchResult found (AreFactsOfFile b front index) (λ line. TellsFault (λ sections. ⊤) b line.items)
 
--- as lines, or as JSON
+-- the facts as lines, or as JSON
 abbrev pub text_in : Form → Facts → List ℕ
 text_in Lines facts = plain_text facts
 text_in Json facts = json_text facts
 
--- What `inspect` says of bytes: what is told of the file, and this of its index if it says that it has one;
--- or nothing, and a line tells why they are none.
+-- What `inspect` writes for bytes: the facts about the file, with `index` if it says that it has
+-- one; or nothing, and a line that says why they are not a CAR file.
 abbrev pub IsInspected : Form → Index → List ℕ → Bool → List ℕ → List ℕ → Type 0
 IsInspected form index b well out told = ((facts : Facts) × AreFactsOfFile b (take 51 b) index facts × (well ≡ true)
     × (out ≡ text_in form facts) × (told ≡ []))
@@ -95,11 +95,11 @@ IsInspected form index b well out told = ((facts : Facts) × AreFactsOfFile b (t
 
 -- ---- its steps
 
--- what is known after these sections of a file of these roots
+-- what is known after these sections of a file with these roots
 abbrev pub Knows : Inspecting → List (List ℕ) → List Section → Type 0
 Knows it roots sections = IsAfter it.check roots sections × AreCounts it.counts (measures sections)
 
--- what is known after this section, whatever stood before
+-- what is known after one more section, whatever came before
 abbrev pub LearnsNext : SinkTakes Inspecting AllocError
 LearnsNext s old result new = OnOk result ((roots : List (List ℕ)) (sections : List Section)
     → Knows old roots sections → Knows new roots (sections ++ s ∷ []))

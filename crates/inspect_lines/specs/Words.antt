@@ -3,8 +3,8 @@ use Rattle.std.specs.Prelude.{◌≡◌, ◌≢◌, ℕ, List, [], ◌∷◌, co
 use Rattle.inspect_lines.specs.declared.inspect.Form.{Form}
 use Rattle.inspect_lines.specs.declared.inspect.Form.TheVariants.{Lines, Json}
 
--- the words ask for what a file holds, in this form: `inspect`, then `--json` for JSON, and then the file,
--- if one is named
+-- the words ask for what a file holds, in this form: `inspect`, then `--json` for JSON, and then
+-- the file, if one is named
 abbrev pub IsInspect : List (List ℕ) → Form → Option (List ℕ) → Type 0
 IsInspect words Lines None = words ≡ codes "inspect" ∷ []
 IsInspect words Json None = words ≡ codes "inspect" ∷ codes "--json" ∷ []

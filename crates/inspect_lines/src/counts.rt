@@ -8,8 +8,8 @@ use crate::rows::{Row, Rows};
 use ipld_tree::Cid;
 use std::alloc::{AllocError, Global};
 
-/// What is counted of blocks: how many there are, and how many bytes they have, in all and by codec
-/// and by hash; how many the shortest and the longest have; and their names.
+/// What is counted of blocks: their number and total length, in all, by codec and by hash; the
+/// lengths of the shortest and the longest; and their CIDs.
 #[derive(Drop)]
 pub struct Counts {
     pub all: Row,
@@ -20,7 +20,7 @@ pub struct Counts {
     pub names: Names,
 }
 
-/// The least of so many numbers, of which this was the least, and of one more.
+/// Returns the least of `count` numbers, of which the least is `least`, and one more.
 fn least_with(count: u64, least: u64, number: u64) -> u64
     ensures { result ≡ (if count == 0 then number else min least number) }
 {
@@ -31,7 +31,7 @@ fn least_with(count: u64, least: u64, number: u64) -> u64
 }
 
 impl Counts {
-    /// Of no block.
+    /// Returns the counts of no blocks.
     pub fn new(alloc: Global) -> Counts
         ensures { AreCounts result [] }
     {
@@ -45,7 +45,7 @@ impl Counts {
         }
     }
 
-    /// Counts a block of so many bytes under this name. After a refusal nothing is known of the numbers.
+    /// Counts a block of this CID and length. After an error nothing is known of the counts.
     pub fn count(&mut self, cid: &Cid, bytes: u64) -> Result<(), AllocError>
         ensures { OnOk result ((ms : List Measure) → AreCounts self.old ms
             → AreCounts self.new (ms ++ (cid.now, bytes) ∷ [])) }

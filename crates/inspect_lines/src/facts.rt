@@ -1,4 +1,4 @@
-//! What is told of a file.
+//! The facts about a file.
 
 ghost use Rattle.std.specs.Prelude.{◌≡◌};
 ghost use Rattle.inspect_lines.specs.Facts.{index_word};
@@ -6,7 +6,7 @@ ghost use Rattle.inspect_lines.specs.Facts.{index_word};
 use crate::rows::Row;
 use ipld_tree::Cid;
 
-/// What is told of the index that a file says it has.
+/// What is reported of the index that a file says it has.
 #[derive(Clone, Copy, Debug, PartialEq, Eq)]
 pub enum Index {
     /// It was not judged.
@@ -15,7 +15,7 @@ pub enum Index {
     Wrong,
 }
 
-/// The word for an index, or for none.
+/// Returns the word for an index, or for none.
 pub fn index_word(index: Option<Index>) -> &'static str
     ensures { result.now ≡ index_word index }
 {
@@ -34,20 +34,20 @@ pub struct Root {
     pub there: bool,
 }
 
-/// What is told of a file.
+/// The facts about a file.
 #[derive(Drop)]
 pub struct Facts {
     pub version: u64,
-    /// What is told of the index, if the file says that it has one.
+    /// What is reported of the index, if the file says that it has one.
     pub index: Option<Index>,
     pub roots: Vec<Root>,
-    /// All sections.
+    /// The number and total length of all sections' blocks.
     pub all: Row,
-    /// How many sections have a name that stands in front of them.
+    /// How many sections have the CID of an earlier one.
     pub repeated: u64,
-    /// How many bytes the shortest block has.
+    /// The length of the shortest block, in bytes.
     pub least: u64,
-    /// How many bytes the longest block has.
+    /// The length of the longest block, in bytes.
     pub greatest: u64,
     pub codecs: Vec<(u64, Row)>,
     pub hashes: Vec<(u64, Row)>,

@@ -1,4 +1,4 @@
-//! The first bytes of a file, which tell its version.
+//! The first bytes of a file, which show its version.
 
 ghost use Rattle.std.specs.Prelude.{◌≡◌, ◌+◌, ◌≤◌, ◌++◌, ◌∷◌, [], length, IfOk, IfSome, OnOk};
 ghost use Rattle.dagcbor_car.specs.Versions.{number_behind};
@@ -9,10 +9,10 @@ use dagcbor_cli::ToolError;
 use std::alloc::{AllocError, Global};
 use std::io::Read;
 
-/// How many bytes the header of version 2 has.
+/// The length of the header of version 2, in bytes.
 const HEADER_LENGTH: usize = 51;
 
-/// The next byte, if there is one.
+/// Reads the next byte, if there is one.
 fn next_byte<R: Read>(input: &mut R) -> Result<Option<u8>, ToolError>
     ensures { IfSome (R.remaining input.old)
         (λ b. IfOk result (λ byte. TakesByte b byte (R.remaining input.new))) }
@@ -25,7 +25,7 @@ fn next_byte<R: Read>(input: &mut R) -> Result<Option<u8>, ToolError>
     }
 }
 
-/// Puts the byte after the others.
+/// Appends the byte.
 fn push_byte(bytes: &mut Vec<u8>, byte: u8) -> Result<(), AllocError>
     ensures { OnOk result (bytes.new.items ≡ bytes.old.items ++ byte ∷ []) }
 {
@@ -33,7 +33,7 @@ fn push_byte(bytes: &mut Vec<u8>, byte: u8) -> Result<(), AllocError>
     Ok(())
 }
 
-/// So many of the first bytes as a header of version 2 has, or all that there are.
+/// Reads as many bytes as a header of version 2 has, or all if there are fewer.
 pub fn read_front<R: Read>(alloc: Global, input: &mut R) -> Result<Vec<u8>, ToolError>
     ensures { IfSome (R.remaining input.old)
         (λ b. IfOk result (λ front. TakesFront 51 b front.items (R.remaining input.new))) }
@@ -48,12 +48,12 @@ pub fn read_front<R: Read>(alloc: Global, input: &mut R) -> Result<Vec<u8>, Tool
     Ok(front)
 }
 
-/// The bytes that begin version 2: a length, and the map of the version alone.
+/// The pragma of version 2: a length, and a map with only the version.
 const PRAGMA: [u8; 11] = [
     0x0a, 0xa1, 0x67, 0x76, 0x65, 0x72, 0x73, 0x69, 0x6f, 0x6e, 0x02,
 ];
 
-/// Whether the bytes begin version 2.
+/// Returns whether the bytes begin with the pragma of version 2.
 fn is_version_2(front: &[u8]) -> bool
     ensures { result ≡ is_version_2 front.now }
 {
@@ -61,14 +61,14 @@ fn is_version_2(front: &[u8]) -> bool
     front[..count] == PRAGMA[..]
 }
 
-/// The version of a file that begins so.
+/// Returns the version of a file that begins with these bytes.
 pub fn version_of(front: &[u8]) -> u64
     ensures { result ≡ version_of front.now }
 {
     if is_version_2(front) { 2 } else { 1 }
 }
 
-/// The number of eight bytes, the lowest of them first, of which so many stand before.
+/// Returns the little-endian number of eight bytes at offset `before`.
 fn number_behind(bytes: &[u8], before: usize) -> u64
     requires { before + 8 ≤ length bytes.now }
     ensures { result ≡ number_behind before bytes.now }
@@ -79,10 +79,10 @@ fn number_behind(bytes: &[u8], before: usize) -> u64
     }
 }
 
-/// How many bytes of the header of version 2 stand before the place of the index.
+/// The offset of the header field that holds the offset of the index.
 const BEFORE_INDEX: usize = 43;
 
-/// Whether a file that begins so says that it has an index.
+/// Returns whether a file that begins with these bytes says that it has an index.
 pub fn says_index(front: &[u8]) -> bool
     ensures { result ≡ says_index front.now }
 {

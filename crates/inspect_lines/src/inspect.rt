@@ -26,7 +26,7 @@ use ipld_tree::Cid;
 use std::alloc::{AllocError, Global};
 use std::io::{BufRead, Read as Source, Write};
 
-/// How what is told of a file is written.
+/// The form of the output.
 #[derive(Clone, Copy, Debug, PartialEq, Eq)]
 pub enum Form {
     Lines,
@@ -41,7 +41,7 @@ struct Inspecting {
 }
 
 impl Inspecting {
-    /// After the header, with these roots.
+    /// Returns what is known after the header with these roots.
     fn new(alloc: Global, roots: &[Cid]) -> Result<Inspecting, AllocError>
         ensures { IfOk result (λ it. Knows it (forms roots.now) []) }
     {
@@ -64,7 +64,7 @@ impl SectionSink for Inspecting {
     }
 }
 
-/// What is told of a root.
+/// Returns the facts about a root.
 fn root_told(root: &Cid, missing: &Names) -> Root
     ensures { result ≡ root_unless missing.now.cids.keys root.now }
 {
@@ -74,7 +74,7 @@ fn root_told(root: &Cid, missing: &Names) -> Root
     }
 }
 
-/// What is told of the roots.
+/// Returns the facts about the roots.
 fn roots_told(alloc: Global, roots: &[Cid], missing: &[Cid]) -> Result<Vec<Root>, AllocError>
     ensures { IfOk result (λ v. v.items ≡ map (root_in missing.now) roots.now) }
 {
@@ -86,7 +86,7 @@ fn roots_told(alloc: Global, roots: &[Cid], missing: &[Cid]) -> Result<Vec<Root>
     Ok(told)
 }
 
-/// What is told of the index of a file that begins so, if it says that it has one.
+/// Returns `index`, if a file that begins with these bytes says that it has one.
 fn index_told(front: &[u8], index: Index) -> Option<Index>
     ensures { result ≡ index_told index front.now }
 {
@@ -96,7 +96,7 @@ fn index_told(front: &[u8], index: Index) -> Option<Index>
     Some(index)
 }
 
-/// What is told of a file that begins so, of these roots and numbers.
+/// Returns the facts about a file with these first bytes, roots and counts.
 fn facts_of(
     alloc: Global,
     front: &[u8],
@@ -134,7 +134,7 @@ fn facts_of(
     })
 }
 
-/// What is told of a file of these roots, after all of its sections.
+/// Returns the facts about a file with these roots, after all its sections.
 fn facts_behind(
     alloc: Global,
     front: &[u8],
@@ -152,7 +152,8 @@ fn facts_behind(
     }
 }
 
-/// What is told of a file that begins so, of which the header was taken; or why it is none, in a line.
+/// Reads what follows a header, and returns the facts about the file; or a line that says why it is
+/// refused.
 fn find_behind<'de, R: Read>(
     alloc: Global,
     front: &[u8],
@@ -177,7 +178,7 @@ fn find_behind<'de, R: Read>(
     }
 }
 
-/// What is told of the file that the input is, which begins so; or why it is none, in a line.
+/// Reads a CAR file, and returns the facts about it; or a line that says why it is refused.
 fn find_file<'de, R: Read>(
     alloc: Global,
     front: &[u8],
@@ -196,7 +197,7 @@ fn find_file<'de, R: Read>(
     }
 }
 
-/// What is told of the file that the input is, whose first bytes stand before it; or why it is none.
+/// Returns the same for the file made of `front` and the input after it.
 fn find_whole<R: BufRead>(
     alloc: Global,
     front: &[u8],
@@ -209,7 +210,7 @@ fn find_whole<R: BufRead>(
     find_file(alloc, front, index, &mut source)
 }
 
-/// The same, of all that the input has.
+/// Returns the same for the whole input.
 fn find<R: BufRead>(
     alloc: Global,
     index: Index,
@@ -222,7 +223,7 @@ fn find<R: BufRead>(
     find_whole(alloc, &front, index, &mut whole)
 }
 
-/// What is told of the file, in this form.
+/// Returns the text of the facts, in this form.
 fn text_in(alloc: Global, form: Form, facts: &Facts) -> Result<Vec<u8>, AllocError>
     ensures { IfOk result (λ v. v.items ≡ text_in form facts.now) }
 {
@@ -232,8 +233,9 @@ fn text_in(alloc: Global, form: Form, facts: &Facts) -> Result<Vec<u8>, AllocErr
     }
 }
 
-/// Writes what the file holds that the input is, in this form, or tells why it is none. Whether it is
-/// one. `index` is told of the index, if the file says that it has one. It is read once, and one section is in memory at a time, beside the names of its blocks.
+/// Writes what the input's CAR file holds, in this form, or an error line that says why it is not
+/// one. Returns whether it is one. Reports `index`, if the file says that it has one. Reads the
+/// input once. Holds one section at a time in memory, and the CIDs of the blocks.
 pub fn write_inspected<R: BufRead, W: Write, V: Write>(
     alloc: Global,
     form: Form,

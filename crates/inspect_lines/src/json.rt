@@ -1,4 +1,4 @@
-//! What is told of a file, as JSON.
+//! The facts about a file, as JSON.
 
 ghost use Rattle.std.specs.Prelude.{◌≡◌, ◌∷◌, ◌++◌, [], IfOk, map, flat_map, string_bytes};
 ghost use Rattle.dag_json.specs.DagJson.{joined, list_text};
@@ -11,7 +11,7 @@ use crate::rows::Row;
 use cid_text::cid_text;
 use std::alloc::{AllocError, Global};
 
-/// The object of a root.
+/// Returns the object of a root.
 fn root_json(alloc: Global, root: &Root) -> Result<Vec<u8>, AllocError>
     ensures { IfOk result (λ v. v.items ≡ root_json root.now) }
 {
@@ -25,7 +25,7 @@ fn root_json(alloc: Global, root: &Root) -> Result<Vec<u8>, AllocError>
     Ok(out)
 }
 
-/// The objects of these roots, each after a comma.
+/// Returns the objects of these roots, each after a comma.
 fn more_roots(alloc: Global, roots: &[Root]) -> Result<Vec<u8>, AllocError>
     ensures { IfOk result (λ v. v.items ≡ flat_map (λ r. 44 ∷ root_json r) roots.now) }
 {
@@ -37,7 +37,7 @@ fn more_roots(alloc: Global, roots: &[Root]) -> Result<Vec<u8>, AllocError>
     Ok(out)
 }
 
-/// The objects of the roots, a comma between.
+/// Returns the objects of the roots, with commas between.
 fn joined_roots(alloc: Global, roots: &[Root]) -> Result<Vec<u8>, AllocError>
     ensures { IfOk result (λ v. v.items ≡ joined (map root_json roots.now)) }
 {
@@ -51,7 +51,7 @@ fn joined_roots(alloc: Global, roots: &[Root]) -> Result<Vec<u8>, AllocError>
     }
 }
 
-/// The list of these texts, which are joined.
+/// Returns the list of these joined texts.
 fn list_of(alloc: Global, texts: &[u8]) -> Result<Vec<u8>, AllocError>
     ensures { IfOk result (λ v. v.items ≡ 91 ∷ (texts.now ++ 93 ∷ [])) }
 {
@@ -62,7 +62,7 @@ fn list_of(alloc: Global, texts: &[u8]) -> Result<Vec<u8>, AllocError>
     Ok(out)
 }
 
-/// The list of the roots.
+/// Returns the list of the roots.
 fn root_list(alloc: Global, roots: &[Root]) -> Result<Vec<u8>, AllocError>
     ensures { IfOk result (λ v. v.items ≡ list_text (map root_json roots.now)) }
 {
@@ -70,7 +70,7 @@ fn root_list(alloc: Global, roots: &[Root]) -> Result<Vec<u8>, AllocError>
     list_of(alloc, &texts)
 }
 
-/// The object of a codec or a hash.
+/// Returns the object of a codec or a hash.
 fn row_json(alloc: Global, kind: Kind, row: &(u64, Row)) -> Result<Vec<u8>, AllocError>
     ensures { IfOk result (λ v. v.items ≡ row_json kind row.now) }
 {
@@ -88,7 +88,7 @@ fn row_json(alloc: Global, kind: Kind, row: &(u64, Row)) -> Result<Vec<u8>, Allo
     Ok(out)
 }
 
-/// The objects of these codecs or hashes, each after a comma.
+/// Returns the objects of these codecs or hashes, each after a comma.
 fn more_rows(alloc: Global, kind: Kind, rows: &[(u64, Row)]) -> Result<Vec<u8>, AllocError>
     ensures { IfOk result (λ v. v.items ≡ flat_map (λ r. 44 ∷ row_json kind r) rows.now) }
 {
@@ -100,7 +100,7 @@ fn more_rows(alloc: Global, kind: Kind, rows: &[(u64, Row)]) -> Result<Vec<u8>, 
     Ok(out)
 }
 
-/// The objects of the codecs or the hashes, a comma between.
+/// Returns the objects of the codecs or hashes, with commas between.
 fn joined_rows(alloc: Global, kind: Kind, rows: &[(u64, Row)]) -> Result<Vec<u8>, AllocError>
     ensures { IfOk result (λ v. v.items ≡ joined (map (row_json kind) rows.now)) }
 {
@@ -114,7 +114,7 @@ fn joined_rows(alloc: Global, kind: Kind, rows: &[(u64, Row)]) -> Result<Vec<u8>
     }
 }
 
-/// The list of the codecs or the hashes.
+/// Returns the list of the codecs or hashes.
 fn row_list(alloc: Global, kind: Kind, rows: &[(u64, Row)]) -> Result<Vec<u8>, AllocError>
     ensures { IfOk result (λ v. v.items ≡ list_text (map (row_json kind) rows.now)) }
 {
@@ -122,7 +122,7 @@ fn row_list(alloc: Global, kind: Kind, rows: &[(u64, Row)]) -> Result<Vec<u8>, A
     list_of(alloc, &texts)
 }
 
-/// What stands in front of the list of the roots.
+/// Returns the object up to the list of roots.
 fn json_head(alloc: Global, facts: &Facts) -> Result<String, AllocError>
     ensures { IfOk result (λ text. string_bytes text ≡ json_head facts.now) }
 {
@@ -133,7 +133,7 @@ fn json_head(alloc: Global, facts: &Facts) -> Result<String, AllocError>
     )
 }
 
-/// What follows the roots, and in front of the list of the codecs.
+/// Returns the part between the list of roots and the list of codecs.
 fn json_counts(alloc: Global, facts: &Facts) -> Result<String, AllocError>
     ensures { IfOk result (λ text. string_bytes text ≡ json_counts facts.now) }
 {
@@ -143,7 +143,7 @@ fn json_counts(alloc: Global, facts: &Facts) -> Result<String, AllocError>
     )
 }
 
-/// The texts, one after the other.
+/// Returns the three texts joined.
 fn three(alloc: Global, first: &[u8], second: &[u8], third: &[u8]) -> Result<Vec<u8>, AllocError>
     ensures { IfOk result (λ v. v.items ≡ first.now ++ (second.now ++ third.now)) }
 {
@@ -154,7 +154,7 @@ fn three(alloc: Global, first: &[u8], second: &[u8], third: &[u8]) -> Result<Vec
     Ok(out)
 }
 
-/// The object up to the list of the codecs.
+/// Returns the object up to the list of codecs.
 fn json_front(alloc: Global, facts: &Facts) -> Result<Vec<u8>, AllocError>
     ensures { IfOk result (λ v. v.items ≡ json_front facts.now) }
 {
@@ -164,14 +164,14 @@ fn json_front(alloc: Global, facts: &Facts) -> Result<Vec<u8>, AllocError>
     three(alloc, head.as_bytes(), &roots, counts.as_bytes())
 }
 
-/// What follows the list of the hashes.
+/// Returns the part after the list of hashes.
 fn json_end(alloc: Global, missing: u64) -> Result<String, AllocError>
     ensures { IfOk result (λ text. string_bytes text ≡ json_end missing) }
 {
     format!(in alloc; ",\"missing\":{missing}}}\n")
 }
 
-/// The object from the list of the hashes on, and a line feed.
+/// Returns the part from the list of hashes on, and a line feed.
 fn json_hashes(alloc: Global, facts: &Facts) -> Result<Vec<u8>, AllocError>
     ensures { IfOk result (λ v. v.items ≡ json_hashes facts.now) }
 {
@@ -180,7 +180,7 @@ fn json_hashes(alloc: Global, facts: &Facts) -> Result<Vec<u8>, AllocError>
     three(alloc, b",\"hashes\":", &hashes, end.as_bytes())
 }
 
-/// What is told of the file, as one object of JSON.
+/// Returns the facts about the file, as a JSON object in a line.
 pub fn json_text(alloc: Global, facts: &Facts) -> Result<Vec<u8>, AllocError>
     ensures { IfOk result (λ v. v.items ≡ json_text facts.now) }
 {

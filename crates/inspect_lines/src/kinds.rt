@@ -1,4 +1,4 @@
-//! What sections are counted by: codecs and hashes.
+//! What sections are grouped by: codecs and hashes.
 
 ghost use Rattle.std.specs.Prelude.{◌≡◌, IfOk, string_bytes};
 ghost use Rattle.inspect_lines.specs.Facts.{code_text, shown_number, kind_word};
@@ -6,21 +6,21 @@ ghost use Rattle.inspect_lines.specs.Facts.{code_text, shown_number, kind_word};
 use block_lines::codec_name;
 use std::alloc::{AllocError, Global};
 
-/// What sections are counted by: a number of the multicodec table.
+/// What sections are grouped by: a number of the multicodec table.
 #[derive(Clone, Copy, Drop)]
 pub enum Kind {
     Codec,
     Hash,
 }
 
-/// The number in hexadecimal.
+/// Returns the number in hexadecimal, with `0x`.
 fn code_text(alloc: Global, number: u64) -> Result<String, AllocError>
     ensures { IfOk result (λ text. string_bytes text ≡ code_text number) }
 {
     format!(in alloc; "0x{number:x}")
 }
 
-/// The name of the codec, where programs know one; of another number its digits.
+/// Returns a codec's usual name, or any other number in hexadecimal.
 pub fn shown_number(alloc: Global, kind: Kind, number: u64) -> Result<String, AllocError>
     ensures { IfOk result (λ text. string_bytes text ≡ shown_number kind number) }
 {
@@ -33,7 +33,7 @@ pub fn shown_number(alloc: Global, kind: Kind, number: u64) -> Result<String, Al
     }
 }
 
-/// The word for one of the kind.
+/// Returns the word for the kind.
 pub fn kind_word(kind: Kind) -> &'static str
     ensures { result.now ≡ kind_word kind }
 {

@@ -1,4 +1,4 @@
-//! CIDs, each once.
+//! Sets of CIDs.
 
 ghost use Rattle.std.specs.Prelude.{◌≡◌, [], length, IfOk, OnOk};
 ghost use Rattle.std.specs.BTreeSet.{insert_key};
@@ -9,14 +9,14 @@ use ipld_tree::Cid;
 use std::alloc::{AllocError, Global};
 use std::collections::BTreeSet;
 
-/// CIDs, each once.
+/// A set of CIDs.
 #[derive(Drop)]
 pub struct Names {
     cids: BTreeSet<Cid>,
 }
 
 impl Names {
-    /// None.
+    /// Returns the empty set.
     pub fn new(alloc: Global) -> Names
         ensures { result.cids.keys ≡ [] }
     {
@@ -25,7 +25,7 @@ impl Names {
         }
     }
 
-    /// These.
+    /// Returns the set of these.
     pub fn of(alloc: Global, cids: &[Cid]) -> Result<Names, AllocError>
         ensures { IfOk result (λ names. names.cids.keys ≡ distinct cids.now) }
     {
@@ -46,14 +46,14 @@ impl Names {
         }
     }
 
-    /// Whether it has the CID.
+    /// Returns whether the set has the CID.
     pub fn contains(&self, cid: &Cid) -> bool
         ensures { result ≡ is_one_of cid.now self.now.cids.keys }
     {
         self.cids.contains(cid)
     }
 
-    /// How many there are.
+    /// Returns how many CIDs there are.
     pub fn count(&self) -> usize
         ensures { result ≡ length self.now.cids.keys }
     {

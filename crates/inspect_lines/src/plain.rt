@@ -1,4 +1,4 @@
-//! What is told of a file, as lines.
+//! The facts about a file, as lines.
 
 ghost use Rattle.std.specs.Prelude.{◌≡◌, ◌++◌, IfOk, OnOk, flat_map};
 ghost use Rattle.inspect_lines.specs.Facts.{number_line, word_line, root_told, row_line};
@@ -11,7 +11,7 @@ use block_lines::line_of;
 use cid_text::cid_text;
 use std::alloc::{AllocError, Global};
 
-/// Puts the line of a number after a word.
+/// Appends the line of a word and a number.
 pub fn push_number(
     alloc: Global,
     out: &mut Vec<u8>,
@@ -25,7 +25,7 @@ pub fn push_number(
     Ok(())
 }
 
-/// Puts the line of a word after a word.
+/// Appends the line of two words.
 fn push_word(alloc: Global, out: &mut Vec<u8>, word: &str, second: &str) -> Result<(), AllocError>
     ensures { OnOk result (out.new.items ≡ out.old.items ++ word_line word.now second.now) }
 {
@@ -34,7 +34,7 @@ fn push_word(alloc: Global, out: &mut Vec<u8>, word: &str, second: &str) -> Resu
     Ok(())
 }
 
-/// The line of a root.
+/// Returns the line of a root.
 fn root_line(alloc: Global, root: &Root) -> Result<Vec<u8>, AllocError>
     ensures { IfOk result (λ v. v.items ≡ root_told root.now) }
 {
@@ -42,7 +42,7 @@ fn root_line(alloc: Global, root: &Root) -> Result<Vec<u8>, AllocError>
     line_of(alloc, b"root ", &cid_text(&root.cid), end)
 }
 
-/// The lines of the roots.
+/// Returns the lines of the roots.
 fn root_lines(alloc: Global, roots: &[Root]) -> Result<Vec<u8>, AllocError>
     ensures { IfOk result (λ v. v.items ≡ flat_map root_told roots.now) }
 {
@@ -54,7 +54,7 @@ fn root_lines(alloc: Global, roots: &[Root]) -> Result<Vec<u8>, AllocError>
     Ok(lines)
 }
 
-/// The line of a codec or a hash.
+/// Returns the line of a codec or a hash.
 fn row_line(alloc: Global, kind: Kind, row: &(u64, Row)) -> Result<Vec<u8>, AllocError>
     ensures { IfOk result (λ v. v.items ≡ row_line kind row.now) }
 {
@@ -63,7 +63,7 @@ fn row_line(alloc: Global, kind: Kind, row: &(u64, Row)) -> Result<Vec<u8>, Allo
     line_of(alloc, kind_word(kind).as_bytes(), counts.as_bytes(), b"")
 }
 
-/// The lines of the codecs or the hashes.
+/// Returns the lines of the codecs or hashes.
 fn row_lines(alloc: Global, kind: Kind, rows: &[(u64, Row)]) -> Result<Vec<u8>, AllocError>
     ensures { IfOk result (λ v. v.items ≡ flat_map (row_line kind) rows.now) }
 {
@@ -75,7 +75,7 @@ fn row_lines(alloc: Global, kind: Kind, rows: &[(u64, Row)]) -> Result<Vec<u8>, 
     Ok(lines)
 }
 
-/// The lines in front of those of the roots.
+/// Returns the lines before those of the roots.
 fn head_lines(alloc: Global, facts: &Facts) -> Result<Vec<u8>, AllocError>
     ensures { IfOk result (λ v. v.items ≡ head_lines facts.now) }
 {
@@ -88,7 +88,7 @@ fn head_lines(alloc: Global, facts: &Facts) -> Result<Vec<u8>, AllocError>
     Ok(lines)
 }
 
-/// The lines of the sections in all.
+/// Returns the lines of the section counts.
 fn count_lines(alloc: Global, facts: &Facts) -> Result<Vec<u8>, AllocError>
     ensures { IfOk result (λ v. v.items ≡ count_lines facts.now) }
 {
@@ -101,7 +101,7 @@ fn count_lines(alloc: Global, facts: &Facts) -> Result<Vec<u8>, AllocError>
     Ok(lines)
 }
 
-/// What is told of the file, as lines.
+/// Returns the facts about the file, as lines.
 pub fn plain_text(alloc: Global, facts: &Facts) -> Result<Vec<u8>, AllocError>
     ensures { IfOk result (λ v. v.items ≡ plain_text facts.now) }
 {

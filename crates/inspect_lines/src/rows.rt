@@ -1,4 +1,4 @@
-//! How many blocks there are of each number, and how many bytes they have.
+//! For each number, how many blocks have it, and their total length.
 
 ghost use Rattle.std.specs.Prelude.{◌≡◌, ◌+◌, [], IfOk, OnOk};
 ghost use Rattle.inspect_lines.specs.Rows.{joins, row_at, counts_in, no_row};
@@ -6,14 +6,14 @@ ghost use Rattle.inspect_lines.specs.Rows.{joins, row_at, counts_in, no_row};
 use std::alloc::{AllocError, Global};
 use std::collections::BTreeMap;
 
-/// How many blocks there are, and how many bytes they have.
+/// The number of blocks, and their total length in bytes.
 #[derive(Clone, Copy, Drop)]
 pub struct Row {
     pub count: u64,
     pub bytes: u64,
 }
 
-/// Both in one. There are never so many that they are no number.
+/// Returns the sum, which never gets large enough to overflow.
 fn sum(first: u64, second: u64) -> Result<u64, AllocError>
     ensures { IfOk result (λ n. n ≡ first + second) }
 {
@@ -21,14 +21,14 @@ fn sum(first: u64, second: u64) -> Result<u64, AllocError>
 }
 
 impl Row {
-    /// Of no block.
+    /// Returns the row of no blocks.
     pub fn new() -> Row
         ensures { result ≡ no_row }
     {
         Row { count: 0, bytes: 0 }
     }
 
-    /// With one block more, of so many bytes.
+    /// Returns the row with one more block, `bytes` long.
     pub fn with(self, bytes: u64) -> Result<Row, AllocError>
         ensures { IfOk result (λ row. row ≡ joins bytes self) }
     {
@@ -45,7 +45,7 @@ pub struct Rows {
 }
 
 impl Rows {
-    /// None.
+    /// Returns no rows.
     pub fn new(alloc: Global) -> Rows
         ensures { result.rows.entries ≡ [] }
     {
@@ -54,7 +54,7 @@ impl Rows {
         }
     }
 
-    /// The row of the number.
+    /// Returns the row of the number.
     fn row(&self, number: u64) -> Row
         ensures { result ≡ row_at number self.now.rows.entries }
     {
@@ -64,8 +64,8 @@ impl Rows {
         }
     }
 
-    /// Counts a block of so many bytes in the row of the number. After a refusal the rows are as they
-    /// were.
+    /// Counts a block of this length in the row of the number. After an error the rows are as
+    /// before.
     pub fn count(&mut self, number: u64, bytes: u64) -> Result<(), AllocError>
         ensures { OnOk result
             (self.new.rows.entries ≡ counts_in self.old.rows.entries number bytes) }
@@ -77,7 +77,7 @@ impl Rows {
         }
     }
 
-    /// The rows, in the order of their numbers.
+    /// Returns the rows, in the order of their numbers.
     pub fn into_vec(self, alloc: Global) -> Result<Vec<(u64, Row)>, AllocError>
         ensures { IfOk result (λ v. v.items ≡ self.rows.entries) }
     {

@@ -6,14 +6,14 @@ ghost use Rattle.inspect_lines.specs.declared.inspect.Form.{Form};
 
 use crate::inspect::Form;
 
-/// What is to be told of which file: of standard input, if none is named.
+/// The form of the output, and the file. `None` for standard input.
 #[derive(Clone, Copy)]
 pub struct Inspection<'a> {
     pub form: Form,
     pub file: Option<&'a str>,
 }
 
-/// The word and no more.
+/// Reads the word alone.
 fn of_word<'a>(word: &str) -> Option<Inspection<'a>>
     ensures { MatchOption result
         ((form : Form) (file : Option (List ℕ)) → ¬ IsInspect (word.now ∷ []) form file)
@@ -28,7 +28,7 @@ fn of_word<'a>(word: &str) -> Option<Inspection<'a>>
     })
 }
 
-/// The word, and an option or a file.
+/// Reads the word, and an option or a file.
 fn of_two<'a>(word: &str, second: &'a str) -> Option<Inspection<'a>>
     ensures { MatchOption result
         ((form : Form) (file : Option (List ℕ)) → ¬ IsInspect (word.now ∷ second.now ∷ []) form file)
@@ -49,7 +49,7 @@ fn of_two<'a>(word: &str, second: &'a str) -> Option<Inspection<'a>>
     })
 }
 
-/// The word, an option and a file.
+/// Reads the word, an option and a file.
 fn of_three<'a>(word: &str, option: &str, file: &'a str) -> Option<Inspection<'a>>
     ensures { MatchOption result
         ((form : Form) (it : Option (List ℕ))
@@ -66,7 +66,7 @@ fn of_three<'a>(word: &str, option: &str, file: &'a str) -> Option<Inspection<'a
     })
 }
 
-/// What the words `inspect [--json] [FILE]` ask.
+/// Returns what the words `inspect [--json] [FILE]` ask.
 pub fn inspection_of(args: &[String]) -> Option<Inspection<'_>>
     ensures { MatchOption result
         ((form : Form) (file : Option (List ℕ)) → ¬ IsInspect (map string_bytes args.now) form file)

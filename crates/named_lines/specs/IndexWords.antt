@@ -1,4 +1,4 @@
--- The words that ask of the index of a file.
+-- The words that ask about the index of a file.
 use Rattle.std.specs.Prelude.{◌≡◌, ◌≢◌, ℕ, List, [], ◌∷◌, codes}
 use Rattle.dagcar_lines.specs.Commands.{IsCommand}
 use Rattle.dagcar_lines.specs.declared.command.Command.{Command}
@@ -13,6 +13,6 @@ asked_word asks.Judgement = codes "check"
 abbrev pub AreIndexWords : List (List ℕ) → IndexAsked → List ℕ → Type 0
 AreIndexWords words asked file = (words ≡ asked_word asked ∷ codes "--index" ∷ file ∷ []) × (file ≢ codes "-")
 
--- its words are no command
+-- these words are no other command
 abbrev pub IndexWordsAreNoCommand : Type 0
 IndexWordsAreNoCommand = (words : List (List ℕ)) (asked : IndexAsked) (file : List ℕ) (c : Command) → AreIndexWords words asked file → ¬ IsCommand words c

@@ -1,4 +1,4 @@
--- What is said of the index of a file that is named.
+-- What the program says about the index of a named file.
 use Rattle.std.specs.Prelude.{◌≡◌, ◌⊎◌, ◌↔◌, ℕ, List, [], ◌∷◌, ◌++◌, codes, decimal, flat_map, Bool, true, false, IsTrue, ◌&&◌, Option, Result, Ok, Err, MatchResult}
 use Rattle.hex.specs.Hex.{encode_lower}
 use Rattle.cid_text.specs.Texts.{cid_text}
@@ -29,20 +29,20 @@ abbrev pub format_name : Format → List ℕ
 format_name ByWidth = codes "IndexSorted"
 format_name ByMultihash = codes "MultihashIndexSorted"
 
--- an entry: its offset, its hash code where the format tells one, and its digest in hexadecimal
+-- an entry: its offset, its hash code if the format has one, and its digest in hexadecimal
 abbrev pub entry_line : Format → EntryParts → List ℕ
 entry_line ByWidth e = line (decimal e.offset ++ (32 ∷ encode_lower e.digest))
 entry_line ByMultihash e = line (decimal e.offset ++ (32 ∷ (code_text e.hash_code ++ (32 ∷ encode_lower e.digest))))
 
--- the format, and the entries
+-- the lines of an index: its format, and its entries
 abbrev pub listing_text : Format → List EntryParts → List ℕ
 listing_text f es = line (codes "index " ++ format_name f) ++ flat_map (entry_line f) es
 
--- an entry with which something is wrong, after a word for it
+-- an entry with a fault, after a word for the fault
 abbrev pub finding_line : List ℕ → EntryParts → List ℕ
 finding_line word e = line (word ++ (32 ∷ (decimal e.offset ++ (32 ∷ encode_lower e.digest))))
 
--- a section to which no right entry leads: its name, and where it begins
+-- a section that no right entry leads to: its CID, and its offset
 abbrev pub unlisted_line : Placed → List ℕ
 unlisted_line p = line (codes "unlisted " ++ (cid_text p.cid ++ (32 ∷ decimal p.offset)))
 
@@ -51,14 +51,14 @@ findings_text it = flat_map (finding_line (codes "wrong")) it.wrong.items
     ++ (flat_map (finding_line (codes "unordered")) it.unordered.items
     ++ flat_map unlisted_line it.unlisted.items)
 
--- how many entries there are
+-- the number of entries
 abbrev pub count_line : ℕ → List ℕ
 count_line n = line (codes "entries " ++ decimal n)
 
 abbrev pub no_index_line : List ℕ
 no_index_line = line (codes "refused NoIndex")
 
--- why what stands where an index should is none
+-- the line that says why the bytes in the place of an index are not one
 abbrev pub index_fault_line : IndexFault → List ℕ
 index_fault_line faults.Truncated = line (codes "refused IndexTruncated")
 index_fault_line faults.UnknownFormat = line (codes "refused IndexFormat")
@@ -68,26 +68,26 @@ index_fault_line faults.Length = line (codes "refused IndexLength")
 
 -- ---- what is said
 
--- nothing is said but this line, and something is wrong
+-- the only line is this error line, and something is wrong
 abbrev pub IsToldAlone : List ℕ → Bool → List ℕ → List ℕ → Type 0
 IsToldAlone text well out told = (well ≡ false) × (out ≡ []) × (told ≡ text)
 
--- nothing is found of an index
+-- nothing is wrong with an index
 abbrev pub AreNone : Findings → Type 0
 AreNone it = (it.wrong.items ≡ []) × (it.unordered.items ≡ []) × (it.unlisted.items ≡ [])
 
--- what `list --index` says of what an index holds
+-- what `list --index` says about what an index holds
 abbrev pub IsListingSaid : Listed → Bool → List ℕ → List ℕ → Type 0
 IsListingSaid lists.NoIndex well out told = IsToldAlone no_index_line well out told
 IsListingSaid (lists.NoEntries e) well out told = IsToldAlone (index_fault_line e) well out told
 IsListingSaid (lists.Index l) well out told = (well ≡ true) × (out ≡ listing_text l.format l.entries.items) × (told ≡ [])
 
--- what `list --index` says of a file
+-- what `list --index` says about a file
 abbrev pub AreEntriesSaid : List ℕ → Bool → List ℕ → List ℕ → Type 0
 AreEntriesSaid b well out told = (it : Listed) × HoldsEntries b it × IsListingSaid it well out told
 
--- what `check --index` says of what is found of an index: each finding, and how many entries there are.
--- All is well exactly where nothing is found.
+-- what `check --index` says about what was found wrong with an index: each finding, and the number
+-- of entries. All is well exactly if nothing was found.
 abbrev pub IsJudgementSaid : Judged → Bool → List ℕ → List ℕ → Type 0
 IsJudgementSaid judged.NoIndex well out told = IsToldAlone no_index_line well out told
 IsJudgementSaid (judged.NoFile text) well out told = IsToldAlone text.items well out told
@@ -95,12 +95,12 @@ IsJudgementSaid (judged.NoEntries e) well out told = IsToldAlone (index_fault_li
 IsJudgementSaid (judged.Found it) well out told = (IsTrue well ↔ AreNone it.findings)
     × (out ≡ findings_text it.findings ++ count_line it.count) × (told ≡ [])
 
--- what `check --index` says of a file
+-- what `check --index` says about a file
 abbrev pub IsIndexJudged : List ℕ → Bool → List ℕ → List ℕ → Type 0
 IsIndexJudged b well out told = (it : Judged) × IsJudged b it × IsJudgementSaid it well out told
 
--- what `check` says of an index after what it says of the file: each finding; nothing of a file without one,
--- and of bytes that are no file, of which it has told
+-- what `check` says about an index, after what it says about the file: each finding. Nothing for a
+-- file without an index, or for bytes that are not a CAR file, which `check` has reported already.
 abbrev pub IsBesideSaid : Judged → Bool → List ℕ → List ℕ → Type 0
 IsBesideSaid judged.NoIndex well out told = (well ≡ true) × (out ≡ []) × (told ≡ [])
 IsBesideSaid (judged.NoFile text) well out told = (well ≡ true) × (out ≡ []) × (told ≡ [])
@@ -111,12 +111,12 @@ IsBesideSaid (judged.Found it) well out told = (IsTrue well ↔ AreNone it.findi
 abbrev pub IsIndexBeside : List ℕ → Bool → List ℕ → List ℕ → Type 0
 IsIndexBeside b well out told = (it : Judged) × IsJudged b it × IsBesideSaid it well out told
 
--- all is well if the file is, and then this
+-- all is well if the file is, and what follows is
 abbrev pub and_well : Bool → Result Bool ToolError → Result Bool ToolError
 and_well first (Ok second) = Ok (first && second)
 and_well first (Err e) = Err e
 
--- what `check` says of a file that is read at places: what it says of any file, and then of the index
+-- what `check` says about a random-access file: the same as for any file, and then about the index
 abbrev pub SaysChecked : List ℕ → Option (List ℕ) → Option (List ℕ) → Result Bool ToolError
     → Option (List ℕ) → Option (List ℕ) → Type 0
 SaysChecked b old heard ended new after = (first : Result Bool ToolError) × (mid known : Option (List ℕ))
@@ -128,14 +128,15 @@ SaysChecked b old heard ended new after = (first : Result Bool ToolError) × (mi
 
 -- ---- `inspect`
 
--- the word for an index of which this is found: `yes` where there is none to judge, or no file
+-- the word for an index, given the judgement: `yes` if there is no index, or the bytes are not a
+-- CAR file
 abbrev pub IsWordOf : Judged → Index → Type 0
 IsWordOf judged.NoIndex word = word ≡ words.There
 IsWordOf (judged.NoFile text) word = word ≡ words.There
 IsWordOf (judged.NoEntries e) word = word ≡ words.Wrong
 IsWordOf (judged.Found it) word = ((word ≡ words.Right) × AreNone it.findings) ⊎ ((word ≡ words.Wrong) × (¬ AreNone it.findings))
 
--- what `inspect` says of a file that is read at places
+-- what `inspect` says about a random-access file
 abbrev pub IsInspectedHere : Form → List ℕ → Bool → List ℕ → List ℕ → Type 0
 IsInspectedHere form b well out told = (it : Judged) × (word : Index) × IsJudged b it × IsWordOf it word
     × IsInspected form word b well out told

@@ -1,4 +1,4 @@
--- What `at` and `prove` answer of a file that is read at places.
+-- What `at` and `prove` answer for a random-access file.
 use Rattle.std.specs.Prelude.{◌≡◌, ◌⊎◌, ℕ, List, ◌++◌, codes, Bool, true, false}
 use Rattle.ipld_tree.specs.Cid.{CidParts}
 use Rattle.ipld_links.specs.Collisions.{Collides}
@@ -12,7 +12,7 @@ use Rattle.dagcar_lines.specs.declared.command.Command.TheVariants as commands
 use Rattle.index_lines.specs.Layouts.{HasIndex}
 use Rattle.index_ways.specs.Ways.{HoldsWay, LeavesIndex}
 
--- the command that asks this of the root
+-- the command that asks this about the root
 abbrev pub asking : Asked → CidParts → Command
 asking asks.Data root = commands.At root
 asking asks.Bytes root = commands.Raw root
@@ -20,25 +20,25 @@ asking asks.Proof root = commands.Prove root
 
 -- ---- what is answered
 
--- what is told where the index does not lead to a block on the way that the file has
+-- the error line if the index does not lead to a block on the way that the file has
 abbrev pub no_way_line : List ℕ
 no_way_line = line (codes "dagcar: the index has no right entry of a block on the way")
 
--- what is answered over the blocks on the way, each the one that its name says
+-- the answer over the blocks on the way, each of which matches its CID
 abbrev pub IsAnswerBound : Asked → CidParts → List (List ℕ) → Bool → List ℕ → List ℕ → Type 0
 IsAnswerBound asked root path well out told = (stored : Stored) × HoldsWay stored root path
     × IsAnswerOf asked root path stored well out told
 
--- what is answered where the index does not lead to a block on the way: what is answered of any file,
--- and where that has what is asked, a line at last
+-- the answer if the index does not lead to a block on the way: the same as for any file, and if the
+-- path leads to something, a final error line
 abbrev pub IsAnswerPast : Asked → CidParts → List (List ℕ) → List ℕ → Bool → List ℕ → List ℕ → Type 0
 IsAnswerPast asked root path b well out told = ((well ≡ true) × ((heard : List ℕ)
     × (told ≡ heard ++ no_way_line) × IsAnswerOfFile asked root path b true out heard))
     ⊎ ((well ≡ false) × IsAnswerOfFile asked root path b false out told)
 
--- What is answered of a file that is read at places. Without an index: what is answered of any file.
--- With one: what is answered over the blocks on the way; or, if the index does not list one of them,
--- what is answered past the index.
+-- The answer for a random-access file. Without an index: the same as for any file. With one: the
+-- answer over the blocks on the way; or, if the index does not list one of them, the answer past
+-- the index.
 abbrev pub IsAnswerNamed : Asked → CidParts → List (List ℕ) → List ℕ → Bool → List ℕ → List ℕ → Type 0
 IsAnswerNamed asked root path b well out told = ((¬ HasIndex b) × IsAnswerOfFile asked root path b well out told)
     ⊎ (HasIndex b × (IsAnswerBound asked root path well out told
@@ -46,15 +46,17 @@ IsAnswerNamed asked root path b well out told = ((¬ HasIndex b) × IsAnswerOfFi
 
 -- ---- laws
 
--- What is answered of a file with an index is what is answered of it, or of any other file, without, where
--- both have what is asked; or two different byte strings of one SHA-256 are at hand.
+-- What is written for a file with an index is what is written without, for that file or any other,
+-- if the path leads to something in both; or two different byte strings with the same SHA-256 are
+-- at hand.
 abbrev pub IndexLeadsThere : Asked → Type 0
 IndexLeadsThere asked = (root : CidParts) (path : List (List ℕ)) (b other out told plain heard : List ℕ)
     → IsAnswerNamed asked root path b true out told → IsAnswerOfFile asked root path other true plain heard
     → (out ≡ plain) ⊎ Collides
 
--- What is answered over the blocks on the way is what is answered of each file that has what is asked. So
--- if they lead to nothing, no file has it; or two different byte strings of one SHA-256 are at hand.
+-- The answer over the blocks on the way is the answer for each file in which the path leads to
+-- something. So if it leads to nothing there, it does so in all files; or two different byte
+-- strings with the same SHA-256 are at hand.
 abbrev pub WaysBind : Asked → Type 0
 WaysBind asked = (root : CidParts) (path : List (List ℕ)) (well : Bool) (out told other plain heard : List ℕ)
     → IsAnswerBound asked root path well out told → IsAnswerOfFile asked root path other true plain heard

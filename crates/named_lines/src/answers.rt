@@ -1,4 +1,4 @@
-//! What is said of an index.
+//! What the program says about an index.
 
 ghost use Rattle.std.specs.Prelude.{◌≡◌, IfOk};
 ghost use Rattle.named_lines.specs.Indexes.{IsToldAlone, IsListingSaid, IsJudgementSaid};
@@ -11,10 +11,10 @@ use index_lines::{Judged, Judgement, Listed};
 use inspect_lines::Index;
 use std::alloc::{AllocError, Global};
 
-/// What is told of a file that has no index.
+/// The error line for a file without an index.
 const NO_INDEX: &str = "refused NoIndex\n";
 
-/// Nothing but this line, which tells what is wrong.
+/// Returns this error line as the only one.
 fn told_alone(alloc: Global, line: &str) -> Result<Answer, AllocError>
     ensures { IfOk result (λ p. IsToldAlone line.now p.0.1 p.0.0.items p.1.items) }
 {
@@ -22,7 +22,7 @@ fn told_alone(alloc: Global, line: &str) -> Result<Answer, AllocError>
     Ok(((Vec::new(alloc), false), told))
 }
 
-/// What `list --index` says of what an index holds.
+/// Returns what `list --index` says about what an index holds.
 pub(crate) fn listing_answer(alloc: Global, listed: Listed) -> Result<Answer, AllocError>
     ensures { IfOk result (λ p. IsListingSaid listed p.0.1 p.0.0.items p.1.items) }
 {
@@ -36,7 +36,7 @@ pub(crate) fn listing_answer(alloc: Global, listed: Listed) -> Result<Answer, Al
     }
 }
 
-/// The findings, and how many entries there are.
+/// Returns the lines of the findings, and of the number of entries.
 fn judgement_answer(alloc: Global, it: Judgement) -> Result<Answer, AllocError>
     ensures { IfOk result (λ p. IsJudgementSaid (Found it) p.0.1 p.0.0.items p.1.items) }
 {
@@ -45,7 +45,7 @@ fn judgement_answer(alloc: Global, it: Judgement) -> Result<Answer, AllocError>
     Ok(((lines, it.findings.is_empty()), Vec::new(alloc)))
 }
 
-/// What `check --index` says of what is found of an index.
+/// Returns what `check --index` says about what was found wrong with an index.
 pub(crate) fn judged_answer(alloc: Global, judged: Judged) -> Result<Answer, AllocError>
     ensures { IfOk result (λ p. IsJudgementSaid judged p.0.1 p.0.0.items p.1.items) }
 {
@@ -57,7 +57,7 @@ pub(crate) fn judged_answer(alloc: Global, judged: Judged) -> Result<Answer, All
     }
 }
 
-/// The findings.
+/// Returns the lines of the findings.
 fn findings_answer(alloc: Global, it: Judgement) -> Result<Answer, AllocError>
     ensures { IfOk result (λ p. IsBesideSaid (Found it) p.0.1 p.0.0.items p.1.items) }
 {
@@ -65,7 +65,7 @@ fn findings_answer(alloc: Global, it: Judgement) -> Result<Answer, AllocError>
     Ok(((lines, it.findings.is_empty()), Vec::new(alloc)))
 }
 
-/// What `check` says of what is found of an index.
+/// Returns what `check` says about what was found wrong with an index.
 pub(crate) fn beside_answer(alloc: Global, judged: Judged) -> Result<Answer, AllocError>
     ensures { IfOk result (λ p. IsBesideSaid judged p.0.1 p.0.0.items p.1.items) }
 {
@@ -77,7 +77,7 @@ pub(crate) fn beside_answer(alloc: Global, judged: Judged) -> Result<Answer, All
     }
 }
 
-/// The word for an index of which this was found.
+/// Returns the word for an index, given the judgement.
 pub(crate) fn word_of(judged: &Judged) -> Index
     ensures { IsWordOf judged.now result }
 {

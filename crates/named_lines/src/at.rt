@@ -1,4 +1,4 @@
-//! `at` and `prove`: what a path leads to in a file that is read at places.
+//! `at` and `prove`: what a path leads to in a random-access file.
 
 ghost use Rattle.std.specs.Prelude.{◌≡◌, IfSome};
 ghost use Rattle.dagcbor_paths.specs.Paths.{segments};
@@ -15,10 +15,10 @@ use ipld_tree::Cid;
 use std::alloc::Global;
 use std::io::Write;
 
-/// What is told where the index does not lead to a block on the way that the file has.
+/// The error line if the index does not lead to a block on the way that the file has.
 const NO_ENTRY: &str = "dagcar: the index has no right entry of a block on the way\n";
 
-/// The command that asks this of the root.
+/// Returns the command that asks this about the root.
 fn asking(asked: Asked, root: &Cid) -> Command
     ensures { result ≡ asking asked root.now }
 {
@@ -29,7 +29,7 @@ fn asking(asked: Asked, root: &Cid) -> Command
     }
 }
 
-/// Writes what is asked over the whole file, which is read from its first byte on.
+/// Writes the answer over the whole file, which is read from its start.
 fn write_whole<S: ReadAt, W: Write, V: Write>(
     alloc: Global,
     asked: Asked,
@@ -50,7 +50,7 @@ fn write_whole<S: ReadAt, W: Write, V: Write>(
     }
 }
 
-/// The same, and a line where there is what is asked, to which the index did not lead.
+/// The same, with an error line if there is an answer, since the index did not lead to it.
 fn write_past<S: ReadAt, W: Write, V: Write>(
     alloc: Global,
     asked: Asked,
@@ -72,10 +72,10 @@ fn write_past<S: ReadAt, W: Write, V: Write>(
     Ok(well)
 }
 
-/// Writes what is asked of the path in the text, from the root, in the file that is read at places, or
-/// tells why there is none. Whether there is. The blocks on the way are looked up in the index of the
-/// file, if that has one; if the index does not lead to one of them, the file is read from its first
-/// byte on.
+/// Writes the answer for the path in the text, from the root, in a random-access file, or an error
+/// line that says why there is none. Returns whether there is one. Looks the blocks on the way up
+/// in the file's index, if it has one. If the index does not lead to one of them, reads the file
+/// from its start.
 pub fn write_asked_named<S: ReadAt, W: Write, V: Write>(
     alloc: Global,
     asked: Asked,

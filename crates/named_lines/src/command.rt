@@ -1,4 +1,4 @@
-//! The words that ask for an index, or for a block by one, and the status of what is answered.
+//! The words that ask for an index, or for a block by one, and the exit status.
 
 ghost use Rattle.std.specs.Prelude.{◌≡◌, ◌≢◌, [], ◌∷◌, map, string_bytes, IfSome, MatchOption, Result, Bool, Option, List, ℕ};
 ghost use Rattle.block_lines.specs.Lines.{SaysBoth};
@@ -20,7 +20,7 @@ use ipld_tree::Cid;
 use std::alloc::Global;
 use std::io::Write;
 
-/// The file after the word, if that is `index`, and the file is not standard input.
+/// Returns the file after the word, if that is `index`, and the file is not standard input.
 fn file_behind<'a>(word: &str, file: &'a str) -> Option<&'a str>
     ensures { MatchOption result ((f : List ℕ) → ¬ IsIndex (word.now ∷ file.now ∷ []) f)
         (λ f. IsIndex (word.now ∷ file.now ∷ []) f.now) }
@@ -31,7 +31,8 @@ fn file_behind<'a>(word: &str, file: &'a str) -> Option<&'a str>
     Some(file)
 }
 
-/// The file that the words `index FILE` name. These words are no command: `laws::index_is_no_command`.
+/// Returns the file that the words `index FILE` name. These words are no other command:
+/// `laws::index_is_no_command`.
 pub fn index_of(args: &[String]) -> Option<&str>
     ensures { MatchOption result ((f : List ℕ) → ¬ IsIndex (map string_bytes args.now) f)
         (λ f. IsIndex (map string_bytes args.now) f.now) }
@@ -42,7 +43,7 @@ pub fn index_of(args: &[String]) -> Option<&str>
     }
 }
 
-/// The name in the text, if the word is `get`.
+/// Returns the CID in the text, if the word is `get`.
 fn name_behind(word: &str, text: &str) -> Option<Cid>
     ensures { MatchOption result
         ((n : CidParts) → ¬ IsCommand (word.now ∷ text.now ∷ []) (Get n))
@@ -54,7 +55,7 @@ fn name_behind(word: &str, text: &str) -> Option<Cid>
     cid_from_text(text.as_bytes()).ok()
 }
 
-/// The name that the words `get CID` ask for.
+/// Returns the CID that the words `get CID` ask for.
 pub fn name_of(args: &[String]) -> Option<Cid>
     ensures { MatchOption result ((n : CidParts) → ¬ IsCommand (map string_bytes args.now) (Get n))
         (λ n. IsCommand (map string_bytes args.now) (Get n)) }
@@ -65,7 +66,7 @@ pub fn name_of(args: &[String]) -> Option<Cid>
     }
 }
 
-/// Writes the file with an index of its sections, and answers the exit status.
+/// Writes the file with an index of its sections. Returns the exit status.
 pub fn run_index<S: ReadAt, W: Write, V: Write>(
     alloc: Global,
     source: &S,
@@ -81,7 +82,7 @@ pub fn run_index<S: ReadAt, W: Write, V: Write>(
     status_of(ended, errors)
 }
 
-/// Writes the block of the name, and answers the exit status.
+/// Writes the block with this CID. Returns the exit status.
 pub fn run_get<S: ReadAt, W: Write, V: Write>(
     alloc: Global,
     name: &Cid,

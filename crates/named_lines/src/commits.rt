@@ -1,4 +1,4 @@
-//! The status of what is answered of a repository's commit, and of all its records.
+//! A repository's commit, and all its records, with the exit status.
 
 ghost use Rattle.std.specs.Prelude.{◌≡◌, ◌≢◌, IfSome, Result, Bool, Option, List, ℕ};
 ghost use Rattle.block_lines.specs.Lines.{SaysBoth};
@@ -14,7 +14,7 @@ use record_lines::write_records_json;
 use std::alloc::Global;
 use std::io::{BufRead, Write};
 
-/// Says what the commit of the input says, and answers the exit status.
+/// Writes what the commit of the input's repository says. Returns the exit status.
 pub fn run_commit<R: BufRead, W: Write, V: Write>(
     alloc: Global,
     input: &mut R,
@@ -30,8 +30,7 @@ pub fn run_commit<R: BufRead, W: Write, V: Write>(
     status_of(ended, errors)
 }
 
-/// Writes the file that proves the record of the key that the word names, and answers the exit
-/// status.
+/// Writes the CAR file that proves the record with the key in the word. Returns the exit status.
 pub fn run_record_proof<R: BufRead, W: Write, V: Write>(
     alloc: Global,
     word: &str,
@@ -48,7 +47,7 @@ pub fn run_record_proof<R: BufRead, W: Write, V: Write>(
     status_of(ended, errors)
 }
 
-/// Writes the data of each record of the input as DAG-JSON, and answers the exit status.
+/// Writes each record of the input's repository as DAG-JSON. Returns the exit status.
 pub fn run_records_json<R: BufRead, W: Write, V: Write>(
     alloc: Global,
     input: &mut R,

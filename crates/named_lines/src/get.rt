@@ -1,4 +1,4 @@
-//! `get`: one block of a file that is read at places.
+//! `get`: one block of a random-access file.
 
 ghost use Rattle.std.specs.Prelude.{List, ℕ, IfOk, IfSome};
 ghost use Rattle.block_lines.specs.Lines.{SaysBoth};
@@ -16,11 +16,11 @@ use ipld_tree::Cid;
 use std::alloc::Global;
 use std::io::Write;
 
-/// What is told where the index does not lead to a block that the file has.
+/// The error line if the index does not lead to a block that the file has.
 const NO_ENTRY: &str = "dagcar: the index has no right entry of this block\n";
 
-/// The block of the name, or what is told of a file that has none: the file is read from its first byte
-/// on.
+/// Returns the block with this CID, or the error line if there is none. Reads the file from its
+/// start.
 fn got_at<S: ReadAt>(alloc: Global, name: &Cid, source: &S) -> Result<Answer, ToolError>
     ensures { IfSome (S.bytes source.now) (λ b. IfOk result
         (λ p. IsGot name.now b p.0.1 p.0.0.items p.1.items)) }
@@ -31,7 +31,7 @@ fn got_at<S: ReadAt>(alloc: Global, name: &Cid, source: &S) -> Result<Answer, To
     }
 }
 
-/// The same, and a line where there is a block, to which the index did not lead.
+/// Returns the same, with an error line if there is a block, since the index did not lead to it.
 fn past_index(alloc: Global, answer: Answer) -> Result<Answer, ToolError>
     ensures { (name : CidParts) (b : List ℕ)
         → IsGot name b answer.0.1 answer.0.0.items answer.1.items
@@ -47,7 +47,7 @@ fn past_index(alloc: Global, answer: Answer) -> Result<Answer, ToolError>
     }
 }
 
-/// The block of the name, or what is told of a file that has none.
+/// Returns the block with this CID, or the error line if there is none.
 fn got_by<S: ReadAt>(
     alloc: Global,
     name: &Cid,
@@ -67,9 +67,9 @@ fn got_by<S: ReadAt>(
     }
 }
 
-/// Writes the block of the name in the file that is read at places, or tells why there is none. Whether
-/// there is one. It is looked up in the index of the file, if that has one; if the index does not lead to
-/// it, the file is read from its first byte on.
+/// Writes the block with this CID in a random-access file, or an error line that says why there is
+/// none. Returns whether it was found. Looks it up in the file's index, if it has one. If the index
+/// does not lead to it, reads the file from its start.
 pub fn get_named<S: ReadAt, W: Write, V: Write>(
     alloc: Global,
     name: &Cid,

@@ -1,4 +1,4 @@
-//! The words that ask of the index of a file, and the status of what is answered.
+//! The words that ask about the index of a file, and the exit status.
 
 ghost use Rattle.std.specs.Prelude.{◌≡◌, ◌≢◌, [], ◌∷◌, map, string_bytes, IfSome, MatchBool, MatchOption, Result, Bool, Option, List, ℕ};
 ghost use Rattle.block_lines.specs.Lines.{SaysBoth};
@@ -18,7 +18,7 @@ use inspect_lines::Form;
 use std::alloc::Global;
 use std::io::Write;
 
-/// What is asked of an index.
+/// What is asked about an index.
 #[derive(Clone, Copy, Debug, PartialEq, Eq)]
 pub enum IndexAsked {
     /// What it holds.
@@ -27,14 +27,14 @@ pub enum IndexAsked {
     Judgement,
 }
 
-/// What is asked of the index of which file.
+/// What is asked about the index of a file.
 #[derive(Clone, Copy)]
 pub struct IndexWords<'a> {
     pub asked: IndexAsked,
     pub file: &'a str,
 }
 
-/// What these words ask.
+/// Returns what these words ask.
 fn of_three<'a>(word: &str, option: &str, file: &'a str) -> Option<IndexWords<'a>>
     ensures { MatchOption result
         ((asked : IndexAsked) (f : List ℕ)
@@ -57,7 +57,7 @@ fn of_three<'a>(word: &str, option: &str, file: &'a str) -> Option<IndexWords<'a
     }
 }
 
-/// What the words `list --index FILE` or `check --index FILE` ask.
+/// Returns what the words `list --index FILE` or `check --index FILE` ask.
 pub fn index_words_of(args: &[String]) -> Option<IndexWords<'_>>
     ensures { MatchOption result
         ((asked : IndexAsked) (f : List ℕ) → ¬ AreIndexWords (map string_bytes args.now) asked f)
@@ -69,7 +69,7 @@ pub fn index_words_of(args: &[String]) -> Option<IndexWords<'_>>
     }
 }
 
-/// Whether the word is the command `check`.
+/// Returns whether the word is the command `check`.
 fn is_check_word(word: &str) -> bool
     ensures { MatchBool result (IsCommand (word.now ∷ []) Check)
         (¬ IsCommand (word.now ∷ []) Check) }
@@ -77,7 +77,7 @@ fn is_check_word(word: &str) -> bool
     word == "check"
 }
 
-/// Whether the words are the command `check`, with no option.
+/// Returns whether the words are the command `check`, without an option.
 pub fn is_check(args: &[String]) -> bool
     ensures { MatchBool result (IsCommand (map string_bytes args.now) Check)
         (¬ IsCommand (map string_bytes args.now) Check) }
@@ -88,7 +88,7 @@ pub fn is_check(args: &[String]) -> bool
     }
 }
 
-/// Writes the entries of the index of the file, and answers the exit status.
+/// Writes the entries of the file's index. Returns the exit status.
 pub fn run_entries<S: ReadAt, W: Write, V: Write>(
     alloc: Global,
     source: &S,
@@ -104,7 +104,7 @@ pub fn run_entries<S: ReadAt, W: Write, V: Write>(
     status_of(ended, errors)
 }
 
-/// Writes what is found of the index of the file, and answers the exit status.
+/// Writes what is wrong with the file's index. Returns the exit status.
 pub fn run_judged<S: ReadAt, W: Write, V: Write>(
     alloc: Global,
     source: &S,
@@ -120,7 +120,7 @@ pub fn run_judged<S: ReadAt, W: Write, V: Write>(
     status_of(ended, errors)
 }
 
-/// Judges the file, and then its index, if it has one, and answers the exit status.
+/// Judges the file, and then its index, if it has one. Returns the exit status.
 pub fn run_checked<S: ReadAt, W: Write, V: Write>(
     alloc: Global,
     source: &S,
@@ -136,7 +136,7 @@ pub fn run_checked<S: ReadAt, W: Write, V: Write>(
     status_of(ended, errors)
 }
 
-/// Says what the file holds, and whether its index is right, and answers the exit status.
+/// Writes what the file holds, and whether its index is right. Returns the exit status.
 pub fn run_inspected<S: ReadAt, W: Write, V: Write>(
     alloc: Global,
     form: Form,

@@ -1,4 +1,4 @@
-//! What is said of files that are read at places, and of their index.
+//! What the program says about random-access files and their index.
 
 ghost use Rattle.std.specs.Prelude.{◌≡◌, ◌&&◌, IfSome};
 ghost use Rattle.block_lines.specs.Lines.{SaysBoth};
@@ -17,7 +17,8 @@ use inspect_lines::{Form, Index, write_inspected};
 use std::alloc::Global;
 use std::io::Write;
 
-/// Writes the entries of the index of the file, or tells why there are none. Whether there is an index.
+/// Writes the entries of the file's index, or why there are none. Returns whether there is an
+/// index.
 pub fn write_entries<S: ReadAt, W: Write, V: Write>(
     alloc: Global,
     source: &S,
@@ -33,7 +34,7 @@ pub fn write_entries<S: ReadAt, W: Write, V: Write>(
     say_both(said, &told, output, errors)
 }
 
-/// Writes what is found of the index of the file. Whether it is right.
+/// Writes what is wrong with the file's index. Returns whether it is right.
 pub fn write_judged<S: ReadAt, W: Write, V: Write>(
     alloc: Global,
     source: &S,
@@ -49,7 +50,7 @@ pub fn write_judged<S: ReadAt, W: Write, V: Write>(
     say_both(said, &told, output, errors)
 }
 
-/// Says what `check` says of any file.
+/// Writes what `check` says about any file.
 fn write_verdicts<S: ReadAt, W: Write, V: Write>(
     alloc: Global,
     source: &S,
@@ -66,7 +67,7 @@ fn write_verdicts<S: ReadAt, W: Write, V: Write>(
     }
 }
 
-/// Writes what is found of the index of the file, if it has one. Whether that is right.
+/// Writes what is wrong with the file's index, if it has one. Returns whether all is well.
 fn write_beside<S: ReadAt, W: Write, V: Write>(
     alloc: Global,
     source: &S,
@@ -82,15 +83,15 @@ fn write_beside<S: ReadAt, W: Write, V: Write>(
     say_both(said, &told, output, errors)
 }
 
-/// Whether both are so.
+/// Returns whether both are true.
 fn both(first: bool, second: bool) -> bool
     ensures { result ≡ (first && second) }
 {
     first && second
 }
 
-/// Says what `check` says of any file, and then what is found of its index, if it has one. Whether nothing
-/// is wrong.
+/// Writes what `check` says about any file, and then what is wrong with its index, if it has one.
+/// Returns whether all is well.
 pub fn write_checked<S: ReadAt, W: Write, V: Write>(
     alloc: Global,
     source: &S,
@@ -105,7 +106,7 @@ pub fn write_checked<S: ReadAt, W: Write, V: Write>(
     Ok(both(well, right))
 }
 
-/// Says what the file holds, and this of its index.
+/// Writes what the file holds, with this word for its index.
 fn write_with<S: ReadAt, W: Write, V: Write>(
     alloc: Global,
     form: Form,
@@ -124,8 +125,8 @@ fn write_with<S: ReadAt, W: Write, V: Write>(
     }
 }
 
-/// Says what the file holds, in this form, and whether its index is right. It is read once for the index, and
-/// once more.
+/// Writes what the file holds, in this form, and whether its index is right. Reads the file once
+/// for the index, and then once more.
 pub fn write_inspected_here<S: ReadAt, W: Write, V: Write>(
     alloc: Global,
     form: Form,

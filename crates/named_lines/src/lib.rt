@@ -1,4 +1,4 @@
-//! What `dagcar` does of files that are named, which it reads at places.
+//! What `dagcar` does with named files, which it reads by random access.
 #![tactic(auto)]
 
 mod answers;

@@ -1,4 +1,4 @@
-//! The words that ask for what a path leads to, and the status of what is answered.
+//! The words that ask what a path leads to, and the exit status.
 
 ghost use Rattle.std.specs.Prelude.{◌≡◌, ◌≢◌, [], ◌∷◌, map, string_bytes, IfSome, MatchOption, Result, Bool, Option, List, ℕ};
 ghost use Rattle.cid_text.specs.Texts.{IsTextOf};
@@ -19,7 +19,7 @@ use ipld_tree::Cid;
 use std::alloc::Global;
 use std::io::Write;
 
-/// What is asked of which root, and the text that has the path after it.
+/// What is asked about a root, and the text with the path after it.
 #[derive(Clone, Copy)]
 pub struct PathWords<'a> {
     pub asked: Asked,
@@ -27,7 +27,7 @@ pub struct PathWords<'a> {
     pub text: &'a str,
 }
 
-/// What is asked of the root in the text.
+/// Returns what is asked about the root in the text.
 fn asked_on<'a>(asked: Asked, text: &'a str) -> Option<PathWords<'a>>
     ensures { MatchOption result ((n : CidParts) → ¬ IsTextOf (name_part text.now) n)
         (λ it. (it.asked ≡ asked) × IsTextOf (name_part text.now) it.root
@@ -38,7 +38,7 @@ fn asked_on<'a>(asked: Asked, text: &'a str) -> Option<PathWords<'a>>
     Some(PathWords { asked, root, text })
 }
 
-/// What the word asks of the text after it.
+/// Returns what the word asks about the text after it.
 fn of_two<'a>(word: &str, text: &'a str) -> Option<PathWords<'a>>
     ensures { MatchOption result ((asked : Asked) (n : CidParts)
         → ¬ IsCommand (word.now ∷ text.now ∷ []) (asking asked n))
@@ -52,7 +52,7 @@ fn of_two<'a>(word: &str, text: &'a str) -> Option<PathWords<'a>>
     }
 }
 
-/// What the word asks of the text after it, with this option.
+/// Returns what the word asks about the text after it, with this option.
 fn of_three<'a>(word: &str, option: &str, text: &'a str) -> Option<PathWords<'a>>
     ensures { MatchOption result ((asked : Asked) (n : CidParts)
         → ¬ IsCommand (word.now ∷ option.now ∷ text.now ∷ []) (asking asked n))
@@ -65,7 +65,7 @@ fn of_three<'a>(word: &str, option: &str, text: &'a str) -> Option<PathWords<'a>
     asked_on(Asked::Bytes, text)
 }
 
-/// What the words `at CID/PATH`, `at --raw CID/PATH` or `prove CID/PATH` ask.
+/// Returns what the words `at CID/PATH`, `at --raw CID/PATH` or `prove CID/PATH` ask.
 pub fn path_words_of(args: &[String]) -> Option<PathWords<'_>>
     ensures { MatchOption result ((asked : Asked) (n : CidParts)
         → ¬ IsCommand (map string_bytes args.now) (asking asked n))
@@ -79,7 +79,7 @@ pub fn path_words_of(args: &[String]) -> Option<PathWords<'_>>
     }
 }
 
-/// Writes what is asked of the path in the text, from the root, and answers the exit status.
+/// Writes the answer for the path in the text, from the root. Returns the exit status.
 pub fn run_asked<S: ReadAt, W: Write, V: Write>(
     alloc: Global,
     asked: Asked,

@@ -1,4 +1,4 @@
-//! The status of what is answered of files that are made of sections of others.
+//! CAR files made of the sections of others, with the exit status.
 
 ghost use Rattle.std.specs.Prelude.{◌≡◌, ◌≢◌, map, IfSome, IsOk, Result, Bool, Option, List, ℕ};
 ghost use Rattle.dagcar_lines.specs.Answers.{EndsSo};
@@ -22,7 +22,7 @@ use section_lines::{
 use std::alloc::Global;
 use std::io::{BufRead, Write};
 
-/// Writes the file of the sections that are kept, and answers the exit status.
+/// Writes the CAR file of the sections that are kept. Returns the exit status.
 pub fn run_filter<R: BufRead, W: Write, V: Write>(
     alloc: Global,
     filter: &Filter,
@@ -40,7 +40,7 @@ pub fn run_filter<R: BufRead, W: Write, V: Write>(
     status_of(ended, errors)
 }
 
-/// Writes the file of the sections of the names in the list, and answers the exit status.
+/// Writes the CAR file of the sections with the names in the list. Returns the exit status.
 pub fn run_listed<L: BufRead, R: BufRead, W: Write, V: Write>(
     alloc: Global,
     roots: Vec<Cid>,
@@ -59,7 +59,7 @@ pub fn run_listed<L: BufRead, R: BufRead, W: Write, V: Write>(
     status_of(ended, errors)
 }
 
-/// Writes the file of the sections of these files, and answers the exit status.
+/// Writes the CAR file of the sections of these files. Returns the exit status.
 pub fn run_merged<'de, R: Read, W: Write, V: Write>(
     alloc: Global,
     given: &[Cid],
@@ -77,8 +77,8 @@ pub fn run_merged<'de, R: Read, W: Write, V: Write>(
     status_of(ended, errors)
 }
 
-/// Makes the files of the parts of a file, and answers the exit status. That is 2 where there is a file
-/// of the name of a part.
+/// Makes the files of a file's parts. Returns the exit status, which is 2 if the name of a part is
+/// taken.
 pub fn run_split<R: BufRead, N: NewFiles, V: Write>(
     alloc: Global,
     asked: &Split<'_>,

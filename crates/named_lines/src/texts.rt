@@ -1,4 +1,4 @@
-//! The lines of an index, and of what is found of one.
+//! The lines of an index, and of what is wrong with one.
 
 ghost use Rattle.std.specs.Prelude.{◌≡◌, ◌++◌, ◌∷◌, IfOk, OnOk, decimal, flat_map, string_bytes};
 ghost use Rattle.block_lines.specs.Lines.{line};
@@ -12,14 +12,14 @@ use cid_text::cid_text;
 use inspect_lines::{Kind, shown_number};
 use std::alloc::{AllocError, Global};
 
-/// The bytes in hexadecimal.
+/// Returns the bytes in hexadecimal.
 fn hex_text(alloc: Global, bytes: &[u8]) -> Result<String, AllocError>
     ensures { IfOk result (λ text. string_bytes text ≡ encode_lower bytes.now) }
 {
     hex::encode(alloc, bytes)
 }
 
-/// The name of the format (CARv2 specification).
+/// Returns the name of the format (CARv2 specification).
 fn format_name(format: Format) -> &'static str
     ensures { result.now ≡ format_name format }
 {
@@ -29,7 +29,7 @@ fn format_name(format: Format) -> &'static str
     }
 }
 
-/// A line of an offset and a digest.
+/// Returns the line of an offset and a digest.
 fn width_line(alloc: Global, offset: u64, digest: &str) -> Result<String, AllocError>
     ensures { IfOk result (λ text. string_bytes text ≡ line (decimal offset ++ (32 ∷ digest.now))) }
 {
@@ -37,7 +37,7 @@ fn width_line(alloc: Global, offset: u64, digest: &str) -> Result<String, AllocE
     Ok(text)
 }
 
-/// A line of an offset, a hash code and a digest.
+/// Returns the line of an offset, a hash code and a digest.
 fn code_line(alloc: Global, offset: u64, code: &str, digest: &str) -> Result<String, AllocError>
     ensures { IfOk result (λ text. string_bytes text
         ≡ line (decimal offset ++ (32 ∷ (code.now ++ (32 ∷ digest.now))))) }
@@ -46,7 +46,7 @@ fn code_line(alloc: Global, offset: u64, code: &str, digest: &str) -> Result<Str
     Ok(text)
 }
 
-/// A line of a word, an offset and a digest.
+/// Returns the line of a word, an offset and a digest.
 fn word_line(alloc: Global, word: &str, offset: u64, digest: &str) -> Result<String, AllocError>
     ensures { IfOk result (λ text. string_bytes text
         ≡ line (word.now ++ (32 ∷ (decimal offset ++ (32 ∷ digest.now))))) }
@@ -55,7 +55,7 @@ fn word_line(alloc: Global, word: &str, offset: u64, digest: &str) -> Result<Str
     Ok(text)
 }
 
-/// The line of an entry.
+/// Returns the line of an entry.
 fn entry_text(alloc: Global, format: Format, entry: &Entry) -> Result<String, AllocError>
     ensures { IfOk result (λ text. string_bytes text ≡ entry_line format entry.now) }
 {
@@ -69,7 +69,7 @@ fn entry_text(alloc: Global, format: Format, entry: &Entry) -> Result<String, Al
     }
 }
 
-/// The lines of the entries.
+/// Returns the lines of the entries.
 fn entry_lines(alloc: Global, format: Format, entries: &[Entry]) -> Result<Vec<u8>, AllocError>
     ensures { IfOk result (λ v. v.items ≡ flat_map (entry_line format) entries.now) }
 {
@@ -81,7 +81,7 @@ fn entry_lines(alloc: Global, format: Format, entries: &[Entry]) -> Result<Vec<u
     Ok(lines)
 }
 
-/// The lines of an index: its format, and its entries.
+/// Returns the lines of an index: its format, and its entries.
 pub(crate) fn listing_text(alloc: Global, listing: &Listing) -> Result<Vec<u8>, AllocError>
     ensures { IfOk result (λ v. v.items
         ≡ listing_text listing.now.format listing.now.entries.items) }
@@ -96,7 +96,7 @@ pub(crate) fn listing_text(alloc: Global, listing: &Listing) -> Result<Vec<u8>, 
     Ok(lines)
 }
 
-/// The line of an entry with which something is wrong.
+/// Returns the line of an entry with a fault.
 fn finding_text(alloc: Global, word: &str, entry: &Entry) -> Result<String, AllocError>
     ensures { IfOk result (λ text. string_bytes text ≡ finding_line word.now entry.now) }
 {
@@ -104,7 +104,7 @@ fn finding_text(alloc: Global, word: &str, entry: &Entry) -> Result<String, Allo
     word_line(alloc, word, entry.offset(), digest.as_str())
 }
 
-/// The lines of entries with which the same is wrong.
+/// Returns the lines of entries with the same fault.
 fn finding_lines(alloc: Global, word: &str, entries: &[Entry]) -> Result<Vec<u8>, AllocError>
     ensures { IfOk result (λ v. v.items ≡ flat_map (finding_line word.now) entries.now) }
 {
@@ -116,7 +116,7 @@ fn finding_lines(alloc: Global, word: &str, entries: &[Entry]) -> Result<Vec<u8>
     Ok(lines)
 }
 
-/// The line of a section to which no right entry leads.
+/// Returns the line of a section that no right entry leads to.
 fn unlisted_line(alloc: Global, section: &Placed) -> Result<Vec<u8>, AllocError>
     ensures { IfOk result (λ v. v.items ≡ unlisted_line section.now) }
 {
@@ -129,7 +129,7 @@ fn unlisted_line(alloc: Global, section: &Placed) -> Result<Vec<u8>, AllocError>
     )
 }
 
-/// The lines of such sections.
+/// Returns the lines of such sections.
 fn unlisted_lines(alloc: Global, sections: &[Placed]) -> Result<Vec<u8>, AllocError>
     ensures { IfOk result (λ v. v.items ≡ flat_map unlisted_line sections.now) }
 {
@@ -141,7 +141,7 @@ fn unlisted_lines(alloc: Global, sections: &[Placed]) -> Result<Vec<u8>, AllocEr
     Ok(lines)
 }
 
-/// These, and then the others.
+/// Returns the three joined.
 fn joined(first: Vec<u8>, second: &[u8], third: &[u8]) -> Result<Vec<u8>, AllocError>
     ensures { IfOk result (λ v. v.items ≡ first.items ++ (second.now ++ third.now)) }
 {
@@ -151,7 +151,7 @@ fn joined(first: Vec<u8>, second: &[u8], third: &[u8]) -> Result<Vec<u8>, AllocE
     Ok(lines)
 }
 
-/// A line for each finding.
+/// Returns a line for each finding.
 pub(crate) fn findings_text(alloc: Global, found: &Findings) -> Result<Vec<u8>, AllocError>
     ensures { IfOk result (λ v. v.items ≡ findings_text found.now) }
 {
@@ -161,7 +161,7 @@ pub(crate) fn findings_text(alloc: Global, found: &Findings) -> Result<Vec<u8>, 
     joined(wrong, &unordered, &unlisted)
 }
 
-/// Appends how many entries there are.
+/// Appends the line with the number of entries.
 pub(crate) fn push_count(alloc: Global, lines: &mut Vec<u8>, count: u64) -> Result<(), AllocError>
     ensures { OnOk result (lines.new.items ≡ lines.old.items ++ count_line count) }
 {
@@ -169,7 +169,7 @@ pub(crate) fn push_count(alloc: Global, lines: &mut Vec<u8>, count: u64) -> Resu
     lines.extend_from_slice(line.as_bytes())
 }
 
-/// The line that tells why what stands where an index should is none.
+/// Returns the line that says why the bytes in the place of an index are not one.
 pub(crate) fn index_fault_line(fault: IndexFault) -> &'static str
     ensures { result.now ≡ index_fault_line fault }
 {

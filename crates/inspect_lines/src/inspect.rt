@@ -197,7 +197,7 @@ fn find_file<'de, R: Read>(
     }
 }
 
-/// Returns the same for the file made of `front` and the input after it.
+/// Returns the same for a buffered input that begins with `front`.
 fn find_whole<R: BufRead>(
     alloc: Global,
     front: &[u8],
@@ -210,7 +210,7 @@ fn find_whole<R: BufRead>(
     find_file(alloc, front, index, &mut source)
 }
 
-/// Returns the same for the whole input.
+/// Returns the same for an input of which nothing is read yet.
 fn find<R: BufRead>(
     alloc: Global,
     index: Index,

@@ -47,7 +47,7 @@ fn past_index(alloc: Global, answer: Answer) -> Result<Answer, ToolError>
     }
 }
 
-/// Returns the block with this CID, or the error line if there is none.
+/// The block of the name, or what is told of a file that has none.
 fn got_by<S: ReadAt>(
     alloc: Global,
     name: &Cid,

@@ -2,7 +2,7 @@
 use Rattle.std.specs.Prelude.{ℕ, List, ◌++◌, codes, false, Option, None, Some, if◌then◌else◌, ◌==◌}
 use Rattle.std.specs.Fmt.{digits}
 
--- the name of a codec, where programs know one
+-- the usual name of a codec, if it has one
 abbrev pub codec_name : ℕ → Option (List ℕ)
 codec_name codec = if codec == 0x55 then Some (codes "raw")
     else (if codec == 0x70 then Some (codes "dag-pb")

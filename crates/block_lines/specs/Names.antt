@@ -1,4 +1,4 @@
--- The names of the refusals of a file, of a block of DAG-PB, and of a text that should be a CID.
+-- The names of the causes for which a file, a DAG-PB block, or a text as a CID is refused.
 use Rattle.std.specs.Prelude.{ℕ, List, codes}
 use Rattle.dagcbor_car.specs.declared.error.CarError.{CarError}
 use Rattle.dagcbor_car.specs.declared.error.CarError.TheVariants as faults
@@ -7,7 +7,7 @@ use Rattle.dag_pb.specs.declared.error.PbCause.TheVariants as causes
 use Rattle.cid_text.specs.declared.error.CidTextError.{CidTextError}
 use Rattle.cid_text.specs.declared.error.CidTextError.TheVariants as texts
 
--- the name of the variant of a file's refusal
+-- the name of the cause for which a file is refused
 abbrev pub fault_name : {E : Type 0} → CarError E → List ℕ
 fault_name (faults.Read e) = codes "Read"
 fault_name faults.Truncated = codes "Truncated"
@@ -18,7 +18,7 @@ fault_name faults.OtherHeader = codes "OtherHeader"
 fault_name faults.InvalidOffset = codes "InvalidOffset"
 fault_name faults.OutOfMemory = codes "OutOfMemory"
 
--- the name of the variant of a cause for which a block is no DAG-PB
+-- the name of the cause for which a block is not DAG-PB
 abbrev pub pb_cause_name : PbCause → List ℕ
 pb_cause_name causes.Truncated = codes "Truncated"
 pb_cause_name causes.InvalidVarint = codes "InvalidVarint"
@@ -26,7 +26,7 @@ pb_cause_name (causes.UnexpectedField tag) = codes "UnexpectedField"
 pb_cause_name causes.NoHash = codes "NoHash"
 pb_cause_name (causes.InvalidCid e) = codes "InvalidCid"
 
--- the name of the variant of a text's refusal as a CID
+-- the name of the cause for which a text is not a CID
 abbrev pub cid_fault_name : CidTextError → List ℕ
 cid_fault_name texts.UnknownBase = codes "UnknownBase"
 cid_fault_name texts.TooLong = codes "TooLong"

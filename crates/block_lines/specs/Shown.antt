@@ -1,4 +1,4 @@
--- What is said of bytes as a block: its data, or why they are none.
+-- What programs say of bytes as a block: its data, or why they are not one.
 use Rattle.std.specs.Prelude.{◌≡◌, ◌≢◌, ◌⊎◌, ℕ, List, [], ◌++◌, codes, Bool, true, false, decimal, if◌then◌else◌}
 use Rattle.std.specs.declared.convert.Infallible.{Infallible}
 use Rattle.dagcbor_core.specs.declared.error.DecodeError.{DecodeError}
@@ -10,22 +10,22 @@ use Rattle.dagcbor_decode.specs.Blocks.{IsBlock}
 use Rattle.dagcbor_decode.specs.PrintedNames.{variant_name}
 use Rattle.block_lines.specs.Lines.{line}
 
--- of bytes that are no block, and by which byte
+-- the error line for bytes that are not a block, with the offset of the fault
 abbrev pub fault_place_line : {E : Type 0} → DecodeError E → ℕ → List ℕ
 fault_place_line e place =
     line (codes "refused " ++ (variant_name e ++ (codes " at byte " ++ decimal place)))
 
--- of data with a map that has the key `/`
+-- the warning for data with a map that has the key `/`
 abbrev pub reserved_line : List ℕ
 reserved_line = line (codes "dagcar: a map with the key / looks like a link or like bytes")
 
--- what is said of bytes that are no block, and what is told: by which byte they are none
+-- what is said of bytes that are not a block, and on the error output the offset of the fault
 abbrev pub IsSaidOfNoBlock : List ℕ → Bool → List ℕ → List ℕ → Type 0
 IsSaidOfNoBlock b well out told = (e : DecodeError Infallible) × (place : ℕ) × IsRefusedAt b e place × (well ≡ false)
     × (out ≡ line (codes "refused " ++ variant_name e)) × (told ≡ fault_place_line e place)
 
--- what `show` says of bytes: the data of the block as DAG-JSON, or why they are none; and what it
--- tells: a line where a map in the data has the key `/`
+-- what `show` says of bytes: the data of the block as DAG-JSON, with a warning if a map in it has
+-- the key `/`; or why they are not a block
 abbrev pub IsShown : List ℕ → Bool → List ℕ → List ℕ → Type 0
 IsShown b well out told = ((t : Tree) × IsBlock b t × (well ≡ true) × (out ≡ line (dag_json t))
     × (told ≡ (if has_reserved_key t then reserved_line else [])))

@@ -3,7 +3,7 @@
 ghost use Rattle.std.specs.Prelude.{◌≡◌, None, Some, MatchOption};
 ghost use Rattle.block_lines.specs.Codecs.{codec_name};
 
-/// The name of a codec (multicodec table), where programs know one.
+/// Returns the usual name of a codec (multicodec table), if it has one.
 pub fn codec_name(codec: u64) -> Option<&'static str>
     ensures { MatchOption result (codec_name codec ≡ None) (λ name. codec_name codec ≡ Some name.now) }
 {

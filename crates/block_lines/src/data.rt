@@ -1,4 +1,4 @@
-//! The data of a block as DAG-JSON, or why bytes are no block.
+//! The data of a block as DAG-JSON, or why bytes are not a block.
 
 ghost use Rattle.std.specs.Prelude.{◌≡◌, ◌++◌, [], codes, true, false, IfOk, if◌then◌else◌};
 ghost use Rattle.dagcbor_decode.specs.PrintedNames.{variant_name};
@@ -16,10 +16,10 @@ use ipld_tree::Ipld;
 use std::alloc::{AllocError, Global};
 use std::io::Write;
 
-/// What is said, and what is told beside that.
+/// The output and whether all is well, and the error output.
 pub type Answer = (Said, Vec<u8>);
 
-/// The line of bytes that are no block, with the byte by which they are none.
+/// Returns the error line for bytes that are not a block, with the offset of the fault.
 pub fn fault_place_line(alloc: Global, refused: &Refused) -> Result<Vec<u8>, AllocError>
     ensures { IfOk result (λ v. v.items ≡ fault_place_line refused.now.cause refused.now.place) }
 {
@@ -28,7 +28,8 @@ pub fn fault_place_line(alloc: Global, refused: &Refused) -> Result<Vec<u8>, All
     line_of(alloc, b"refused ", name.as_bytes(), place.as_bytes())
 }
 
-/// What is said of bytes that are no block, and by which byte they are none, which is told.
+/// Returns the answer for bytes that are not a block, with the offset of the fault on the error
+/// output.
 pub fn no_block_answer(alloc: Global, refused: &Refused) -> Result<Answer, AllocError>
     ensures { IfOk result (λ p. (p.0.1 ≡ false)
         × (p.0.0.items ≡ line (codes "refused " ++ variant_name refused.now.cause))
@@ -40,7 +41,7 @@ pub fn no_block_answer(alloc: Global, refused: &Refused) -> Result<Answer, Alloc
     Ok(((line, false), told))
 }
 
-/// The line of the data.
+/// Returns the line of the data.
 fn data_line(alloc: Global, value: &Ipld) -> Result<Vec<u8>, AllocError>
     ensures { IfOk result (λ v. v.items ≡ line (dag_json (tree_of value.now))) }
 {
@@ -48,10 +49,10 @@ fn data_line(alloc: Global, value: &Ipld) -> Result<Vec<u8>, AllocError>
     line_of(alloc, &text, b"", b"")
 }
 
-/// What is told of data in which a map has the key `/`.
+/// The warning for data in which a map has the key `/`.
 const RESERVED_LINE: &[u8] = b"dagcar: a map with the key / looks like a link or like bytes\n";
 
-/// What is told of the data.
+/// Returns the warning for the data, if there is one.
 fn told_of(alloc: Global, value: &Ipld) -> Result<Vec<u8>, AllocError>
     ensures { IfOk result (λ v. v.items
         ≡ (if has_reserved_key (tree_of value.now) then reserved_line else [])) }
@@ -63,7 +64,7 @@ fn told_of(alloc: Global, value: &Ipld) -> Result<Vec<u8>, AllocError>
     }
 }
 
-/// What is said of the data, and what is told of it.
+/// Returns the line of the data, and the warning.
 fn data_of(alloc: Global, value: &Ipld) -> Result<Answer, AllocError>
     ensures { IfOk result (λ p. (p.0.1 ≡ true) × (p.0.0.items ≡ line (dag_json (tree_of value.now)))
         × (p.1.items ≡ (if has_reserved_key (tree_of value.now) then reserved_line else []))) }
@@ -73,8 +74,9 @@ fn data_of(alloc: Global, value: &Ipld) -> Result<Answer, AllocError>
     Ok(((line, true), told))
 }
 
-/// The data of the block, or why the bytes are none; and what is told of it. The bytes are judged
-/// first: for a tree of what is no block no memory is taken, and a block lacks nothing but memory.
+/// Returns the data of the block and the warning, or why the bytes are not a block. Judges the
+/// bytes first, so bytes that are not a block take no memory for a tree, and a block fails only if
+/// memory runs out.
 pub fn shown(alloc: Global, block: &[u8]) -> Result<Answer, AllocError>
     ensures { IfOk result (λ p. IsShown block.now p.0.1 p.0.0.items p.1.items) }
 {
@@ -87,7 +89,7 @@ pub fn shown(alloc: Global, block: &[u8]) -> Result<Answer, AllocError>
     }
 }
 
-/// Writes the data of the block, or why the bytes are none. Whether they are one.
+/// Writes the data of the block, or why the bytes are not one. Returns whether they are one.
 pub fn say_shown<W: Write, V: Write>(
     alloc: Global,
     block: &[u8],

@@ -1,4 +1,4 @@
-//! The words and lines that programs say of files and blocks.
+//! The words and lines that programs write about files and blocks.
 #![tactic(auto)]
 
 mod codec;

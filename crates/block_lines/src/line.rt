@@ -1,4 +1,4 @@
-//! The lines that programs write of files and blocks.
+//! The lines that programs write about files and blocks.
 
 ghost use Rattle.std.specs.Prelude.{◌≡◌, ◌++◌, codes, IfOk, List, ℕ};
 ghost use Rattle.std.specs.List.{flat_map};
@@ -16,10 +16,10 @@ use ipld_tree::Cid;
 use std::alloc::{AllocError, Global};
 use std::io::Write;
 
-/// Lines, and whether they tell of nothing wrong.
+/// Lines, and whether all is well.
 pub type Said = (Vec<u8>, bool);
 
-/// Writes the lines, and answers whether they tell of nothing wrong.
+/// Writes the lines. Returns whether all is well.
 pub fn say<W: Write>(said: Said, output: &mut W) -> Result<bool, ToolError>
     ensures { SaysLines said.0.items said.1 (W.contents output.old) result (W.contents output.new) }
 {
@@ -28,7 +28,7 @@ pub fn say<W: Write>(said: Said, output: &mut W) -> Result<bool, ToolError>
     Ok(well)
 }
 
-/// Writes the lines to the output and what is told to the errors, and answers whether nothing is wrong.
+/// Writes the lines to the output, and `told` to the error output. Returns whether all is well.
 #[tactic(auto, using(crate::proofs::Saying::first_broken))]
 pub fn say_both<W: Write, V: Write>(
     said: Said,
@@ -46,10 +46,10 @@ pub fn say_both<W: Write, V: Write>(
     Ok(well)
 }
 
-/// Room for a line of a CID and two words, so that most lines take memory once.
+/// Room for a line of a CID and two words, so that most lines need one allocation.
 const ROOM: usize = 160;
 
-/// The texts, one after the other, and a line feed.
+/// Returns the texts joined, and a line feed.
 pub fn line_of(
     alloc: Global,
     first: &[u8],
@@ -66,7 +66,7 @@ pub fn line_of(
     Ok(out)
 }
 
-/// The line of a section, with the length of the block.
+/// Returns the line of a section, with the length of the block in bytes.
 pub fn listed_line(alloc: Global, cid: &Cid, block: &[u8]) -> Result<Vec<u8>, AllocError>
     ensures { IfOk result (λ v. v.items ≡ listed_line (cid.now, block.now)) }
 {
@@ -74,14 +74,14 @@ pub fn listed_line(alloc: Global, cid: &Cid, block: &[u8]) -> Result<Vec<u8>, Al
     line_of(alloc, &cid_text(cid), b" ", length.as_bytes())
 }
 
-/// The line of a name after a word.
+/// Returns the line of a CID after a word.
 pub fn named_line(alloc: Global, word: &[u8], cid: &Cid) -> Result<Vec<u8>, AllocError>
     ensures { IfOk result (λ v. v.items ≡ named_line word.now (cid_bytes cid.now)) }
 {
     line_of(alloc, word, &cid_text(cid), b"")
 }
 
-/// The line of a root or a link that leads nowhere, with the codec that its name says.
+/// Returns the line of a missing root or link, with its codec.
 pub fn missing_line(alloc: Global, cid: &Cid) -> Result<Vec<u8>, AllocError>
     ensures { IfOk result (λ v. v.items ≡ missing_line cid.now) }
 {
@@ -97,7 +97,7 @@ pub fn missing_line(alloc: Global, cid: &Cid) -> Result<Vec<u8>, AllocError>
     }
 }
 
-/// The lines of the roots and the links that lead nowhere.
+/// Returns the lines of the missing roots and links.
 pub fn missing_lines(alloc: Global, missing: &[Cid]) -> Result<Vec<u8>, AllocError>
     ensures { IfOk result (λ v. v.items ≡ flat_map missing_line missing.now) }
 {
@@ -109,7 +109,7 @@ pub fn missing_lines(alloc: Global, missing: &[Cid]) -> Result<Vec<u8>, AllocErr
     Ok(lines)
 }
 
-/// The lines of the roots.
+/// Returns the lines of the roots.
 pub fn root_lines(alloc: Global, roots: &[Cid]) -> Result<Vec<u8>, AllocError>
     ensures { IfOk result (λ v. v.items ≡ flat_map root_line (forms roots.now)) }
 {
@@ -121,7 +121,7 @@ pub fn root_lines(alloc: Global, roots: &[Cid]) -> Result<Vec<u8>, AllocError>
     Ok(lines)
 }
 
-/// The line of a file that is refused.
+/// Returns the line of a refused file.
 pub fn refused_line<E>(alloc: Global, error: &CarError<E>) -> Result<Vec<u8>, AllocError>
     ensures { IfOk result (λ v. v.items ≡ refused_line error.now) }
 {

@@ -1,4 +1,4 @@
-//! The names of the refusals of a file, and the line of a text that is none of a CID.
+//! The names of the causes for which a file is refused, and the line of a text that is not a CID.
 
 ghost use Rattle.std.specs.Prelude.{◌≡◌};
 ghost use Rattle.block_lines.specs.Lines.{no_cid_line};
@@ -8,7 +8,7 @@ use cid_text::CidTextError;
 use dag_pb::PbCause;
 use dagcbor_car::CarError;
 
-/// The name of the variant of a file's refusal.
+/// Returns the name of the cause for which a file is refused.
 pub fn fault_name<E>(refusal: &CarError<E>) -> &'static str
     ensures { result.now ≡ fault_name refusal.now }
 {
@@ -24,7 +24,7 @@ pub fn fault_name<E>(refusal: &CarError<E>) -> &'static str
     }
 }
 
-/// The name of the variant of a cause for which a block is no DAG-PB.
+/// Returns the name of the cause for which a block is not DAG-PB.
 pub fn pb_cause_name(cause: &PbCause) -> &'static str
     ensures { result.now ≡ pb_cause_name cause.now }
 {
@@ -37,7 +37,7 @@ pub fn pb_cause_name(cause: &PbCause) -> &'static str
     }
 }
 
-/// The line of a text that is none of a CID, where one should stand.
+/// Returns the line of a text that should be a CID and is not.
 pub fn no_cid_line(refusal: &CidTextError) -> &'static str
     ensures { result.now ≡ no_cid_line refusal.now }
 {

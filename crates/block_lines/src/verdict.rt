@@ -11,7 +11,7 @@ use ipld_links::Verdict;
 use ipld_tree::Cid;
 use std::alloc::{AllocError, Global};
 
-/// A verdict in words: what is found, and the name of a kind or a refusal.
+/// Returns a verdict in words: the result, and the name of a kind or a cause.
 pub fn verdict_words(verdict: &Verdict) -> (&'static str, &'static str)
     ensures { result.0.now ++ result.1.now ≡ 32 ∷ verdict_text verdict.now }
 {
@@ -27,7 +27,7 @@ pub fn verdict_words(verdict: &Verdict) -> (&'static str, &'static str)
     }
 }
 
-/// Whether a verdict tells of nothing wrong.
+/// Returns whether a verdict is well.
 pub fn is_well(verdict: &Verdict) -> bool
     ensures { result ≡ is_well verdict.now }
 {
@@ -43,7 +43,7 @@ pub fn is_well(verdict: &Verdict) -> bool
     }
 }
 
-/// The line of a section under this name, with this verdict.
+/// Returns the line of a section with this CID and this verdict, and whether that is well.
 pub fn verdict_line(alloc: Global, cid: &Cid, verdict: &Verdict) -> Result<Said, AllocError>
     ensures line { (block : List ℕ)
         → IfOk result (λ p. p.0.items ≡ verdict_line ((cid.now, block), verdict.now)) }

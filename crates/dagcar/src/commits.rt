@@ -1,5 +1,5 @@
-//! `commit`, `record-proof` and `records --json`: what a repository's commit says, the file that
-//! proves a record, and the data of all records.
+//! `commit`, `record-proof` and `records --json`: what a repository's commit says, the CAR file
+//! that proves a record, and the data of all records.
 
 use crate::{NOT_OPENED, end_output};
 use commit_lines::{CommitAsked, CommitWords};
@@ -9,7 +9,7 @@ use named_lines::{run_commit, run_record_proof, run_records_json};
 use std::io::{BufReader, BufWriter, Read, Write};
 use std::{fs, io};
 
-/// Says what is asked of the source.
+/// Writes the answer for the source. Returns the exit status.
 fn commit_over<S: Read + Drop, V: Write>(
     rt: &HostRuntime,
     asked: CommitAsked<'_>,
@@ -28,7 +28,7 @@ fn commit_over<S: Read + Drop, V: Write>(
     Ok(end_output(&mut output, errors, status))
 }
 
-/// Says what is asked of the file that is named, or of standard input.
+/// Writes the answer for the named file, or for standard input. Returns the exit status.
 pub(crate) fn commit_file<V: Write>(
     rt: &HostRuntime,
     words: CommitWords<'_>,

@@ -1,4 +1,4 @@
-//! `event`: frames of a repository host's stream.
+//! `event`: frames of an AT Protocol event stream.
 
 use crate::{NOT_OPENED, end_output};
 use dagcar_lines::OneFault;
@@ -7,7 +7,7 @@ use event_lines::{EventWords, run_events};
 use std::io::{BufReader, BufWriter, Read, Write};
 use std::{fs, io};
 
-/// Says what the frames of the source tell.
+/// Writes what the frames of the source say. Returns the exit status.
 fn events_over<S: Read + Drop, V: Write>(
     rt: &HostRuntime,
     source: S,
@@ -19,7 +19,7 @@ fn events_over<S: Read + Drop, V: Write>(
     Ok(end_output(&mut output, errors, status))
 }
 
-/// Says what the frames of the file that is named tell, or of standard input.
+/// Writes what the frames of the named file, or of standard input, say. Returns the exit status.
 pub(crate) fn event_file<V: Write>(
     rt: &HostRuntime,
     asked: EventWords<'_>,

@@ -29,10 +29,10 @@ use std::io::{BufReader, BufWriter, ErrorKind, Read, Write};
 use std::process::ExitCode;
 use std::{fs, io};
 
-/// What is told of a file that cannot be opened.
+/// The error line for a file that cannot be opened.
 const NOT_OPENED: &str = "dagcar: the file cannot be opened\n";
 
-/// The status of a run whose output is gathered, and goes out at last.
+/// Flushes the buffered output. Returns the exit status of the run.
 fn end_output<W: Write, V: Write>(output: &mut W, errors: &mut V, status: u8) -> u8 {
     match output.flush() {
         Err(_) if status != 2 => give_up(errors, "dagcar: output failed\n", 2),
@@ -40,22 +40,22 @@ fn end_output<W: Write, V: Write>(output: &mut W, errors: &mut V, status: u8) ->
     }
 }
 
-/// Does what the words say of the source, and answers the exit status. Lines are gathered, and go out
-/// many a call.
+/// Runs the command that the words stand for on the source. Returns the exit status. Buffers the
+/// output, so that one call writes many lines.
 fn run_over<S: Read + Drop, V: Write>(
     rt: &HostRuntime,
     words: &[String],
     source: S,
     errors: &mut V,
 ) -> io::Result<u8> {
-    // A pipe is read a byte a call where no buffer stands before it.
+    // Without a buffer, a pipe is read one byte per call.
     let mut input = BufReader::new(rt.alloc(), source)?;
     let mut output = BufWriter::new(rt.alloc(), OneFault::new(rt.stdout().lock()))?;
     let status = run_command(rt.alloc(), words, &mut input, &mut output, errors);
     Ok(end_output(&mut output, errors, status))
 }
 
-/// Says what differs between the two sources, in the same way.
+/// Writes the differences between the two sources, in the same way.
 fn run_between<R: Read + Drop, S: Read + Drop, V: Write>(
     rt: &HostRuntime,
     old: R,
@@ -69,7 +69,7 @@ fn run_between<R: Read + Drop, S: Read + Drop, V: Write>(
     Ok(end_output(&mut output, errors, status))
 }
 
-/// Says what differs between a source and the new file, or standard input.
+/// Writes the differences between a source and the new file, or standard input.
 fn run_before<R: Read + Drop, V: Write>(
     rt: &HostRuntime,
     old: R,
@@ -85,7 +85,7 @@ fn run_before<R: Read + Drop, V: Write>(
     }
 }
 
-/// Says what differs between two files, of which standard input can be one.
+/// Writes the differences between two files, one of which can be standard input.
 fn run_files<V: Write>(rt: &HostRuntime, old: &str, new: &str, errors: &mut V) -> io::Result<u8> {
     if old == "-" {
         return run_before(rt, rt.reader(), new, errors);
@@ -96,7 +96,7 @@ fn run_files<V: Write>(rt: &HostRuntime, old: &str, new: &str, errors: &mut V) -
     }
 }
 
-/// Writes the file that is named with an index of its sections.
+/// Writes the named file with an index of its sections.
 fn index_file<V: Write>(rt: &HostRuntime, path: &str, errors: &mut V) -> io::Result<u8> {
     let Ok(source) = fs::open(rt, path) else {
         return Ok(give_up(errors, NOT_OPENED, 2));
@@ -106,7 +106,7 @@ fn index_file<V: Write>(rt: &HostRuntime, path: &str, errors: &mut V) -> io::Res
     Ok(end_output(&mut output, errors, status))
 }
 
-/// Says what the index of the file that is named holds, or what is found of it.
+/// Writes what the index of the named file holds, or what is wrong with it.
 fn read_index<V: Write>(rt: &HostRuntime, words: IndexWords<'_>, errors: &mut V) -> io::Result<u8> {
     let Ok(source) = fs::open(rt, words.file) else {
         return Ok(give_up(errors, NOT_OPENED, 2));
@@ -126,7 +126,7 @@ fn check_from<V: Write>(rt: &HostRuntime, source: &File, errors: &mut V) -> io::
     Ok(end_output(&mut output, errors, status))
 }
 
-/// Writes the block of the name, by the index of the file, if that has one.
+/// Writes the block with this CID, by the file's index, if it has one.
 fn get_from<V: Write>(
     rt: &HostRuntime,
     name: &Cid,
@@ -138,7 +138,7 @@ fn get_from<V: Write>(
     Ok(end_output(&mut output, errors, status))
 }
 
-/// Writes what is asked of the path in the text, from the root, by the index of the file, if that has one.
+/// Writes the answer for the path in the text, from the root, by the file's index, if it has one.
 fn ask_from<V: Write>(
     rt: &HostRuntime,
     asked: Asked,
@@ -152,12 +152,12 @@ fn ask_from<V: Write>(
     Ok(end_output(&mut output, errors, status))
 }
 
-/// Whether the file is read at places. A pipe is not.
+/// Returns whether the file has random access. A pipe does not.
 fn has_places(file: &File) -> bool {
     file.metadata().is_ok_and(|it| it.is_file())
 }
 
-/// Does what the words say of the file that is named.
+/// Runs the command that the words stand for on the named file.
 fn run_file<V: Write>(
     rt: &HostRuntime,
     words: &[String],
@@ -182,7 +182,7 @@ fn run_file<V: Write>(
     }
 }
 
-/// Says what the source holds, in this form.
+/// Writes what the source holds, in this form.
 fn inspect_over<S: Read + Drop, V: Write>(
     rt: &HostRuntime,
     form: Form,
@@ -202,7 +202,7 @@ fn inspect_over<S: Read + Drop, V: Write>(
     Ok(end_output(&mut output, errors, status))
 }
 
-/// Says what the file holds that is read at places, and whether its index is right.
+/// Writes what the random-access file holds, and whether its index is right.
 fn inspect_from<V: Write>(
     rt: &HostRuntime,
     form: Form,
@@ -214,7 +214,7 @@ fn inspect_from<V: Write>(
     Ok(end_output(&mut output, errors, status))
 }
 
-/// Says what the file that is named holds, or standard input.
+/// Writes what the named file, or standard input, holds.
 fn inspect_file<V: Write>(
     rt: &HostRuntime,
     asked: Inspection<'_>,
@@ -231,7 +231,7 @@ fn inspect_file<V: Write>(
     }
 }
 
-/// Does what the words say of the files that they name, or of standard input.
+/// Runs the command that the words stand for, on the files that they name or on standard input.
 fn run_words<V: Write>(rt: &HostRuntime, args: &[String], errors: &mut V) -> io::Result<u8> {
     if let Some((old, new)) = changes_of(args) {
         return run_files(rt, old, new, errors);

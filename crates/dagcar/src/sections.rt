@@ -1,4 +1,4 @@
-//! `filter` and `merge`: files of the sections of others.
+//! `filter` and `merge`: CAR files made of the sections of others.
 
 use crate::{NOT_OPENED, end_output};
 use dagcar_lines::OneFault;
@@ -12,7 +12,7 @@ use std::fs::File;
 use std::io::{BufReader, BufWriter, Read, Write};
 use std::{fs, io};
 
-/// Writes what is kept of the source.
+/// Writes the sections of the source that are kept.
 fn filter_over<S: Read + Drop, V: Write>(
     rt: &HostRuntime,
     asked: FilterWords<'_>,
@@ -48,7 +48,7 @@ fn filter_over<S: Read + Drop, V: Write>(
     Ok(end_output(&mut output, errors, status))
 }
 
-/// Writes what is kept of the file that is named, or of standard input.
+/// Writes the sections of the named file, or of standard input, that are kept.
 pub(crate) fn filter_file<V: Write>(
     rt: &HostRuntime,
     asked: FilterWords<'_>,
@@ -64,7 +64,7 @@ pub(crate) fn filter_file<V: Write>(
     }
 }
 
-/// The files that are named, each from its first byte on. None where one cannot be opened.
+/// Opens the named files, each at its start. `None` if one cannot be opened.
 fn open_all<'de>(
     rt: &HostRuntime,
     paths: &[String],
@@ -81,7 +81,7 @@ fn open_all<'de>(
     Ok(Some(inputs))
 }
 
-/// Writes the file of the sections of the files that are named.
+/// Writes the CAR file of the sections of the named files.
 pub(crate) fn merge_files<V: Write>(
     rt: &HostRuntime,
     roots: &[Cid],

@@ -1,4 +1,4 @@
-//! `split`: the files of the parts of a file.
+//! `split`: CAR files of the parts of a file.
 
 ghost use Rattle.std.specs.Prelude.{None};
 
@@ -12,20 +12,20 @@ use std::fs::{File, Files, OpenFile};
 use std::io::{BufReader, BufWriter, ErrorKind, Read, Write};
 use std::{fs, io};
 
-/// Files that are made here. The name of each that is whole is written to a device.
+/// Makes files in the file system, and writes the name of each finished one to a device.
 #[derive(Drop)]
 struct HostFiles<'r, R, W> {
     alloc: Global,
     host: &'r R,
     names: W,
-    /// The name of the file that is begun.
+    /// The name of the current file.
     begun: Option<String>,
 }
 
 impl<R: Files, W: Write> NewFiles for HostFiles<'_, R, W> {
     type File = BufWriter<R::File>;
 
-    // No contract tells what the files of a system hold.
+    // No contract says what the files of a system hold.
     ghost whole = { λ _. None };
 
     ghost has = { λ _ _. None };
@@ -61,7 +61,7 @@ impl<R: Files, W: Write> NewFiles for HostFiles<'_, R, W> {
     }
 }
 
-/// Makes the files of the parts of the source. One that is begun and not whole is removed.
+/// Makes the files of the source's parts. Removes one that was begun and not finished.
 fn split_over<S: Read + Drop, V: Write>(
     rt: &HostRuntime,
     asked: &Split<'_>,
@@ -82,7 +82,7 @@ fn split_over<S: Read + Drop, V: Write>(
     Ok(status)
 }
 
-/// Makes the files of the parts of the file that is named, or of standard input.
+/// Makes the files of the parts of the named file, or of standard input.
 pub(crate) fn split_file<V: Write>(
     rt: &HostRuntime,
     asked: &Split<'_>,

@@ -1,4 +1,4 @@
--- What a tree shows to a record.
+-- The view of a tree as a record.
 use Rattle.std.specs.Prelude.{ℕ, ◌^◌, List, codes}
 use Rattle.ipld_tree.specs.Tree.{Tree}
 use Rattle.dagcbor_read.specs.Shapes.{view_link, view_text, view_unsigned, leaf, owned_leaf, Shape}
@@ -9,7 +9,7 @@ use Rattle.dagcbor_read.specs.Structs.{required_field, no_fields, struct_shape}
 abbrev pub RecordView : Type 0
 RecordView = List ℕ × (List ℕ × (ℕ × (List ℕ × Unit {0})))
 
--- a link, a name, a number and some tags, each of which must be there
+-- a link, a name, a number and tags, all of which are required
 abbrev pub record_shape : Shape Tree RecordView
 record_shape = struct_shape (required_field (codes "link") (leaf view_link)
     (required_field (codes "name") (owned_leaf view_text)

@@ -1,4 +1,4 @@
-//! A list whose number of items comes last, so that they wait for it.
+//! A list whose length is only known at its end, so that its items are kept until then.
 
 ghost use Rattle.std.specs.Prelude.{map, true};
 ghost use Rattle.ipld_tree.specs.Tree.{list_tree};

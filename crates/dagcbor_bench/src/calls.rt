@@ -1,4 +1,4 @@
-//! The calls that are measured, each by its name in Rust.
+//! The calls that are measured, by name.
 
 ghost use Rattle.std.specs.Prelude.{◌≡◌, ◌≤◌, Bool, true, false};
 ghost use Rattle.serde_ipld_dagcbor.specs.Tree.{Tree};
@@ -16,10 +16,10 @@ use serde_ipld_dagcbor::{
 use std::alloc::Global;
 use std::collections::{BTreeMap, HashMap};
 
-/// What is looked for in a list of records.
+/// The path looked up in a list of records.
 const PATH: &str = "5000/year_of_birth";
 
-/// How many of so many calls answer true.
+/// Returns how many of `times` calls answer true.
 fn repeated<F: Fn() -> bool>(times: u64, call: F) -> u64
     requires { F.IsAlwaysCallable call }
     ensures most { result ≤ times }
@@ -35,7 +35,7 @@ fn repeated<F: Fn() -> bool>(times: u64, call: F) -> u64
     count
 }
 
-/// Whether the bytes are a block.
+/// Returns whether the bytes are a block.
 fn is_block(block: &[u8]) -> bool
     ensures block { (t : Tree) → IsBlock block.now t → result ≡ true }
     ensures other { ((t : Tree) → ¬ IsBlock block.now t) → result ≡ false }
@@ -43,7 +43,7 @@ fn is_block(block: &[u8]) -> bool
     check_slice(block).is_ok()
 }
 
-/// Judges the block, so many times.
+/// Judges the block `times` times. Returns how often it succeeds, like the functions below.
 fn judges(block: &[u8], times: u64) -> u64
     ensures block { (t : Tree) → IsBlock block.now t → result ≡ times }
     ensures other { ((t : Tree) → ¬ IsBlock block.now t) → result ≡ 0 }
@@ -51,7 +51,7 @@ fn judges(block: &[u8], times: u64) -> u64
     repeated(times, || is_block(block))
 }
 
-/// Reads a value of the type from the block, so many times.
+/// Reads a value of the type from the block, `times` times.
 fn reads<'de, T: Deserialize<'de> + Drop>(alloc: Global, block: &'de [u8], times: u64) -> u64 {
     let mut count = 0u64;
     for _ in 0..times {
@@ -60,7 +60,7 @@ fn reads<'de, T: Deserialize<'de> + Drop>(alloc: Global, block: &'de [u8], times
     count
 }
 
-/// Reads a value of the type from a reader of the block, so many times.
+/// Reads a value of the type from a reader of the block, `times` times.
 fn reads_source<'de, T: DeserializeOwned<'de> + Drop>(
     alloc: Global,
     block: &[u8],
@@ -73,7 +73,7 @@ fn reads_source<'de, T: DeserializeOwned<'de> + Drop>(
     count
 }
 
-/// Reads the record by its derive, so many times.
+/// Reads the record by its derive, `times` times.
 fn reads_derived(alloc: Global, block: &[u8], times: u64) -> u64 {
     let mut count = 0u64;
     for _ in 0..times {
@@ -84,12 +84,12 @@ fn reads_derived(alloc: Global, block: &[u8], times: u64) -> u64 {
     count
 }
 
-/// Writes the value, so many times.
+/// Writes the value, `times` times.
 fn writes<T: Serialize>(alloc: Global, value: &T, times: u64) -> u64 {
     repeated(times, || to_vec(alloc, value).is_ok())
 }
 
-/// Writes the value that the block holds, so many times.
+/// Writes the value that the block holds, `times` times.
 fn writes_again<'de, T: Deserialize<'de> + Serialize + Drop>(
     alloc: Global,
     block: &'de [u8],
@@ -101,7 +101,7 @@ fn writes_again<'de, T: Deserialize<'de> + Serialize + Drop>(
     }
 }
 
-/// Writes the record that the block holds by its derive, so many times.
+/// Writes the record that the block holds by its derive, `times` times.
 fn writes_derived(alloc: Global, block: &[u8], times: u64) -> u64 {
     let Ok(value) = dagcbor_serde::from_slice::<Derived>(alloc, block) else {
         return 0;
@@ -113,7 +113,7 @@ fn writes_derived(alloc: Global, block: &[u8], times: u64) -> u64 {
     count
 }
 
-/// Writes the numbers that the block holds as a list whose number of items comes last.
+/// Writes the numbers that the block holds as a list whose length is only known at its end.
 fn writes_bag(alloc: Global, block: &[u8], times: u64) -> u64 {
     match from_slice::<Vec<u64>>(alloc, block) {
         Ok(items) => writes(alloc, &Bag { items }, times),
@@ -121,7 +121,7 @@ fn writes_bag(alloc: Global, block: &[u8], times: u64) -> u64 {
     }
 }
 
-/// Whether each item of the stream is a text.
+/// Returns whether each item of the stream is a text.
 fn is_texts(alloc: Global, block: &[u8]) -> bool {
     for text in iter_from_reader::<String, _>(alloc, block) {
         if text.is_err() {
@@ -131,7 +131,7 @@ fn is_texts(alloc: Global, block: &[u8]) -> bool {
     true
 }
 
-/// The successes of so many calls of this name; none where there is no such call.
+/// Returns how many of `times` calls with this name succeed. `None` if there is no such call.
 pub fn successes(alloc: Global, name: &str, block: &[u8], times: u64) -> Option<u64> {
     Some(match name {
         "check_slice" => judges(block, times),

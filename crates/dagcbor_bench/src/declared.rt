@@ -1,4 +1,4 @@
-//! The record once more, whose row of fields stands in another order than its keys.
+//! The record again, with its fields in another order than its keys.
 
 ghost use Rattle.std.specs.Prelude.{Some, [], ◌∷◌, codes, pos, string_bytes, map, true};
 ghost use Rattle.ipld_tree.specs.Cid.{cid_bytes};

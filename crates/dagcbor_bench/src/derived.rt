@@ -1,4 +1,4 @@
-//! The record by a derive, its fields in no key order.
+//! The record with a derive, and its fields out of key order.
 
 use dagcbor_serde::Link;
 use serde::{Deserialize, Serialize};

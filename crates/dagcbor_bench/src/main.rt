@@ -1,5 +1,5 @@
-//! Does one call of the library so many times over the block on standard input, and prints how many
-//! of them succeeded. It is measured from outside.
+//! Makes one call of the library as many times as given, with the block on standard input, and
+//! prints how many calls succeeded. Timing is done from outside.
 #![tactic(auto)]
 
 mod bag;
@@ -12,7 +12,7 @@ use calls::successes;
 use std::io::{ErrorKind, Read};
 use std::{env, io};
 
-/// The call's name and the number of times, after the program's name.
+/// Reads the call's name and the number of times from the words after the program's name.
 fn main(rt: HostRuntime) -> io::Result<()> {
     let alloc = rt.alloc();
     let mut words = Vec::new(alloc);

@@ -1,5 +1,5 @@
-//! What the programs share: why a run ends before its input does, bytes to any writer, the words of a
-//! call.
+//! What the programs share: why a run ends before its input does, bytes to any writer, and the
+//! words of a call.
 #![tactic(auto)]
 
 mod fault;

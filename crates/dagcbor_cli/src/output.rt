@@ -1,4 +1,4 @@
-//! Bytes to any writer. A write that was interrupted is not made again.
+//! Writes bytes to any writer. An interrupted write is not retried.
 
 ghost use Rattle.std.specs.Prelude.{◌≡◌, IfErr, Result};
 ghost use Rattle.dagcbor_cli.specs.declared.fault.ToolError.{ToolError};
@@ -23,7 +23,7 @@ pub fn write_all<W: Write>(writer: &mut W, bytes: &[u8]) -> Result<(), ToolError
     Ok(())
 }
 
-/// Tells a line on `errors`, and answers the status. A fault in telling it is not told.
+/// Writes a line to `errors`, and returns the status. Ignores a fault of that write.
 pub fn give_up<W: Write>(errors: &mut W, line: &str, status: u8) -> u8
     ensures status { result ≡ status }
     ensures told { (told : Result (Unit {0}) ToolError)

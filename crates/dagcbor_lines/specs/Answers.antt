@@ -14,7 +14,7 @@ use Rattle.dagcbor_decode.specs.Decode.{Decoded, Why, got, refused, eof, mismatc
 use Rattle.dagcbor_decode.specs.TreeKinds.{kind_of}
 use Rattle.dagcbor_decode.specs.PrintedNames.{kind_name}
 
--- the name of the variant that says why bytes are refused
+-- the name of the cause for which bytes are refused
 abbrev pub variant : Why → List ℕ
 variant (eof name expect) = codes "Eof"
 variant (mismatch name found) = codes "Mismatch"
@@ -33,12 +33,12 @@ abbrev pub after_spaces : List (List ℕ) → List ℕ
 after_spaces [] = []
 after_spaces (form ∷ others) = (32 ∷ encode_lower form) ++ after_spaces others
 
--- links in hexadecimal, a space between, or the word that there is none
+-- links in hexadecimal, with spaces between, or `none` if there are none
 abbrev pub links_text : List (List ℕ) → List ℕ
 links_text [] = codes "none"
 links_text (first ∷ others) = encode_lower first ++ after_spaces others
 
--- what is said of what is decoded: a word of the tree, or why there is none
+-- what is said of decoded bytes: a word about the tree, or why there is none
 abbrev pub told : (Tree → List ℕ) → Decoded Tree → List ℕ
 told word (got t rest) = word t
 told word (refused why left) = codes "refused " ++ variant why
@@ -47,7 +47,7 @@ told word (refused why left) = codes "refused " ++ variant why
 abbrev pub check_line : List ℕ → List ℕ
 check_line block = told (λ t. codes "ok " ++ kind_name (kind_of t)) (decode block)
 
--- what `links` says of a block: the links of the item that stands first in it
+-- what `links` says of a block: the links of the item at its start
 abbrev pub links_line : List ℕ → List ℕ
 links_line block = told (λ t. links_text (links_of t)) (decode_first block)
 
@@ -56,7 +56,7 @@ abbrev pub said : Command → List ℕ → List ℕ
 said Check = check_line
 said Links = links_line
 
--- what a command says of the bytes that a line is the text of, or of none
+-- what a command says of the bytes that a line encodes, or of a line that is not hexadecimal
 abbrev pub said_of : {E : Type 0} → Command → Result (List ℕ) E → List ℕ
 said_of command (Ok block) = said command block
 said_of command (Err e) = codes "refused hex"
@@ -69,31 +69,32 @@ answer_to command line = said_of command (decode_of line)
 abbrev pub AppendsLine : List ℕ → List ℕ → List ℕ → Type 0
 AppendsLine line old new = new ≡ old ++ (line ++ 10 ∷ [])
 
--- What stood before stays, whatever comes; on `Ok` the line and a line feed follow it; and only
--- memory can be wanting.
+-- What was there before stays, in any case. On `Ok` the line and a line feed follow it. The only
+-- error is out of memory.
 pub record PushesLine (line old new : List ℕ) (r : Result Unit ToolError) : Type 0 where
   pub kept : StartsWith new old
   pub written : OnOk r (AppendsLine line old new)
   pub memory : IfErr r (λ e. e ≡ OutOfMemory)
 
--- whatever follows the text: its lines are those asked, and then those of what is left of it
+-- whatever follows the text: its lines are these, and then those of what is left of it
 abbrev pub BeginsWithLines : List ℕ → List (List ℕ) → List ℕ → Type 0
 BeginsWithLines text asked left = (more : List ℕ)
     → lines (text ++ more) ≡ asked ++ lines (left ++ more)
 
 -- ---- the answers of many lines
 
--- after so many lines a run ends, with `Input`
+-- the number of lines after which a run ends, with `Input`
 abbrev pub most_lines : ℕ
 most_lines = 2 ^ 64 - 1
 
--- after how many lines a run may end so: memory is wanting only before the run ends anyway
+-- the number of lines after which a run may end thus: out of memory only comes before the run ends
+-- anyway
 abbrev pub MayEndBehind : ℕ → ToolError → Type 0
 MayEndBehind count OutOfMemory = count < most_lines
 MayEndBehind count _ = ⊤
 
--- Each definition takes first what was asked, as lines or as bytes, then what is left of that, and
--- last what the output held before and holds now.
+-- Each definition takes first the input, as lines or as bytes, then what is left of it, and last
+-- what the output held before and holds after.
 module _ (command : Command) where
   -- one line of output for each line, in order
   abbrev pub answers : List (List ℕ) → List ℕ
@@ -104,17 +105,17 @@ module _ (command : Command) where
   AppendsAnswers done text left old new =
       BeginsWithLines text done left × (new ≡ old ++ answers done)
 
-  -- what a call wrote are the answers of so many first lines of the input
+  -- a call wrote the answers of the first `count` lines of the input
   pub record WritesWhole (count : ℕ) (input : List ℕ) (old new : Option (List ℕ)) : Type 0 where
     pub enough : count ≤ length (lines input)
     pub appended : Appends old new (answers (take count (lines input)))
 
-  -- what a call wrote is a beginning of the answers of the lines
+  -- a call wrote a prefix of the answers of the lines
   abbrev pub WritesBeginning : List (List ℕ) → (old new : Option (List ℕ)) → Type 0
   WritesBeginning asked old new =
       (part : List ℕ) × StartsWith (answers asked) part × Appends old new part
 
-  -- so many first lines were taken from the input so far, and each was answered
+  -- the first `count` lines were taken from the input so far, and each was answered
   pub record HasAnswered (count : ℕ) (input : List ℕ) (remaining old new : Option (List ℕ))
       : Type 0 where
     pub left : List ℕ
@@ -122,15 +123,15 @@ module _ (command : Command) where
     pub others : lines left ≡ drop count (lines input)
     pub wrote : WritesWhole count input old new
 
-  -- what is written of the answers of the input that is left when a run ends so, after so many lines:
-  -- a beginning, if it was the output that failed; else those of whole lines
+  -- what is written of the answers of the input left, if a run ends thus after `done` lines: a
+  -- prefix, if the output failed; else the answers of whole lines
   abbrev pub WritesUntil : ToolError → ℕ → List ℕ → (old new : Option (List ℕ)) → Type 0
   WritesUntil Output done input old new = WritesBeginning (lines input) old new
   WritesUntil e done input old new =
       (count : ℕ) × MayEndBehind (done + count) e × WritesWhole count input old new
 
-  -- after so many lines the run broke off for this: of the next line some was taken from the input, or
-  -- nothing
+  -- after `done` lines the run broke off with this error, and part of the next line, or none of it,
+  -- was taken from the input
   pub record BreaksOff (e : ToolError) (done : ℕ) (input : List ℕ) (remaining old new : Option (List ℕ))
       : Type 0 where
     pub taken : List ℕ
@@ -140,12 +141,13 @@ module _ (command : Command) where
     pub of_one_line : IsOfOneLine taken
     pub wrote : WritesUntil e done input old new
 
-  -- all of the input was taken, and each line was answered
+  -- the whole input was taken, and each line was answered
   pub record AnswersAll (input : List ℕ) (remaining old new : Option (List ℕ)) : Type 0 where
     pub wrote : Appends old new (answers (lines input))
     pub at_end : remaining ≡ Some []
 
-  -- whole lines were taken from the input, and each was answered; then the run broke off for this
+  -- whole lines were taken from the input, and each was answered; then the run broke off with this
+  -- error
   pub record AnswersSome (e : ToolError) (input : List ℕ) (remaining old new : Option (List ℕ))
       : Type 0 where
     pub count : ℕ
@@ -154,7 +156,7 @@ module _ (command : Command) where
     pub answered : HasAnswered count input (Some left) old now
     pub broken : BreaksOff e count left remaining now new
 
-  -- a run over the input, where the reader tells its bytes: each line was answered, or it broke off
+  -- a run over the input, if its bytes are known: each line was answered, or it broke off
   abbrev pub RunsLines : (before after old new : Option (List ℕ)) → Result Unit ToolError → Type 0
   RunsLines before after old new r = IfSome before (λ input. MatchResult r
       (λ _. AnswersAll input after old new) (λ e. AnswersSome e input after old new))

@@ -1,4 +1,4 @@
--- The program's words.
+-- The words of the command line.
 use Rattle.std.specs.Prelude.{◌≡◌, ℕ, List, [], ◌∷◌, codes}
 use Rattle.dagcbor_lines.specs.declared.command.Command.{Command}
 use Rattle.dagcbor_lines.specs.declared.command.Command.TheVariants.{Check, Links}

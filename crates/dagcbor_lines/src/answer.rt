@@ -29,7 +29,7 @@ fn push_sentence(out: &mut Vec<u8>, word: &str, name: &str) -> Result<(), AllocE
     Ok(())
 }
 
-/// Appends what is said of a refusal.
+/// Appends the line of a refusal.
 fn push_refusal(out: &mut Vec<u8>, refusal: &DecodeError<Infallible>) -> Result<(), ToolError>
     ensures { PushesLine (codes "refused " ++ variant_name refusal.now) out.old.items
         out.new.items result }
@@ -57,7 +57,7 @@ fn push_link(alloc: Global, out: &mut Vec<u8>, link: &Cid) -> Result<(), AllocEr
     out.extend_from_slice(digits.as_bytes())
 }
 
-/// Appends the links in hexadecimal, a space between, and a line feed.
+/// Appends the links in hexadecimal, with spaces between, and a line feed.
 fn push_links(
     alloc: Global,
     out: &mut Vec<u8>,
@@ -77,7 +77,7 @@ fn push_links(
     Ok(())
 }
 
-/// Appends the line for links: `none` where there is none.
+/// Appends the line of links, which is `none` if there are none.
 fn push_links_line(alloc: Global, out: &mut Vec<u8>, links: &[Cid]) -> Result<(), AllocError>
     ensures kept { StartsWith out.new.items out.old.items }
     ensures written { OnOk result (out.new.items ≡ out.old.items
@@ -89,7 +89,7 @@ fn push_links_line(alloc: Global, out: &mut Vec<u8>, links: &[Cid]) -> Result<()
     }
 }
 
-/// Appends what `links` says of a block. Want of memory ends the run.
+/// Appends what `links` says of a block. Out of memory ends the run.
 fn push_link_line(alloc: Global, out: &mut Vec<u8>, block: &[u8]) -> Result<(), ToolError>
     ensures { PushesLine (links_line block.now) out.old.items out.new.items result }
 {
@@ -117,7 +117,7 @@ fn push_said(
     }
 }
 
-/// Decodes the line, if it is hexadecimal text, and answers whether it is.
+/// Decodes the line, if it is hexadecimal. Returns whether it is.
 fn decode_line(line: &[u8], block: &mut Vec<u8>) -> Result<bool, AllocError>
     ensures { IfOk result (λ is_text. MatchResult (decode_of line.now)
         (λ bytes. IsTrue is_text × (block.new.items ≡ bytes)) (λ _. is_text ≡ false)) }
@@ -126,7 +126,7 @@ fn decode_line(line: &[u8], block: &mut Vec<u8>) -> Result<bool, AllocError>
     Ok(hex::decode_to_slice(line, block.as_mut_slice()).is_ok())
 }
 
-/// Appends what is said of a line: of the block, where the line is its text.
+/// Appends what is said of a line: of its block, if the line is hexadecimal.
 fn push_said_of(
     alloc: Global,
     command: Command,
@@ -143,7 +143,7 @@ fn push_said_of(
     Ok(push_sentence(out, "refused ", "hex")?)
 }
 
-/// Appends what is said of a line, or nothing where memory lacks. The block is room for its bytes.
+/// Appends what is said of a line, or nothing if memory runs out. `block` is room for its bytes.
 pub fn push_answer(
     alloc: Global,
     command: Command,

@@ -1,4 +1,4 @@
-//! The program's words, and what it answers to them.
+//! The words of the command line, and the program's answers.
 
 ghost use Rattle.std.specs.Prelude.{◌≡◌, ◌≢◌, ◌⊎◌, map, string_bytes, IfSome, MatchOption};
 ghost use Rattle.std.specs.Prelude.{MatchResult};
@@ -11,22 +11,22 @@ use dagcbor_cli::{ToolError, give_up};
 use std::alloc::Global;
 use std::io::{BufRead, Write};
 
-/// What is told of wrong words.
+/// The error text for wrong words.
 pub const USAGE: &str = "usage: dagcbor check|links\n";
 
-/// What is told of want of memory.
+/// The error line if memory runs out.
 pub const OUT_OF_MEMORY: &str = "dagcbor: out of memory\n";
 
-/// What the program can be told to do with each line.
+/// What the program can do with each line.
 #[derive(Clone, Copy, Debug, PartialEq, Eq)]
 pub enum Command {
-    /// To say whether it is the spelling of a value, and of which kind.
+    /// To say whether it is a DAG-CBOR block, and of which kind.
     Check,
-    /// To list the links of the value that stands first in it.
+    /// To list the links of the item at its start.
     Links,
 }
 
-/// The command of this name.
+/// Returns the command with this name.
 fn command_named(name: &str) -> Option<Command>
     ensures { MatchOption result ((c : Command) → name.now ≢ command_name c)
         (λ c. name.now ≡ command_name c) }
@@ -38,7 +38,7 @@ fn command_named(name: &str) -> Option<Command>
     }
 }
 
-/// The one command that the words are.
+/// Returns the command that the words name, if there is one word.
 fn command_of(args: &[String]) -> Option<Command>
     ensures { MatchOption result ((c : Command) → ¬ IsCommand (map string_bytes args.now) c)
         (λ c. IsCommand (map string_bytes args.now) c) }
@@ -49,7 +49,7 @@ fn command_of(args: &[String]) -> Option<Command>
     }
 }
 
-/// The status of a run that ended so. A fault is told on `errors`.
+/// Returns the exit status of a run, and writes its fault, if any, to `errors`.
 fn status_of<V: Write>(ended: Result<(), ToolError>, errors: &mut V) -> u8
     ensures { MatchResult ended (λ _. (result ≡ 0) × (errors.new ≡ errors.old)) (λ _. result ≡ 1) }
 {
@@ -61,7 +61,7 @@ fn status_of<V: Write>(ended: Result<(), ToolError>, errors: &mut V) -> u8
     }
 }
 
-/// Does what the words say, and answers the exit status.
+/// Runs the command that the words name. Returns the exit status.
 pub fn run_command<R: BufRead, W: Write, V: Write>(
     alloc: Global,
     args: &[String],

@@ -1,5 +1,5 @@
-//! A run of a command: each line of the input is answered by a line of the output, the lines of a
-//! fill in one piece.
+//! Runs a command: answers each line of the input by a line of the output. The answers for one fill
+//! of the input buffer are written at once.
 
 ghost use Rattle.std.specs.Prelude.{◌≡◌, ◌≢◌, ◌++◌, ◌+◌, ◌-◌, ◌^◌, ◌<◌, if◌then◌else◌, [], ℕ, List, All, IfSome, IfErr, false};
 ghost use Rattle.std.specs.Prelude.{OnOk, OnErr, length};
@@ -16,21 +16,21 @@ use dagcbor_cli::{ToolError, write_all};
 use std::alloc::Global;
 use std::io::{BufRead, Write};
 
-/// What is kept from one fill to the next.
+/// The state kept from one fill to the next.
 #[derive(Drop)]
 struct Buffers {
-    /// What follows the last line feed.
+    /// The bytes after the last line feed.
     partial: Vec<u8>,
     /// Room for the bytes of a line's block.
     block: Vec<u8>,
-    /// The answers that are not written yet.
+    /// The answers not yet written.
     out: Vec<u8>,
     /// How many lines were answered.
     lines: u64,
     ghost one_line: { All (λ b. b ≢ 10) partial.items },
 }
 
-/// Answers the line that ends with these bytes, in front of which what is held stands.
+/// Answers the line that `buffers.partial` begins and `end` ends.
 fn answer_line(
     alloc: Global,
     command: Command,
@@ -57,8 +57,8 @@ fn answer_line(
     Ok(())
 }
 
-/// Answers each line that ends in what is shown, and holds what stands after the last of them. The
-/// greatest number of lines is `u64::MAX`: none is answered after it.
+/// Answers each line that ends in the bytes shown, and keeps what follows the last of them. Answers
+/// at most `u64::MAX` lines.
 fn answer_shown(
     alloc: Global,
     command: Command,
@@ -91,7 +91,7 @@ fn answer_shown(
     Ok(())
 }
 
-/// Answers the lines that end in the next fill, and answers whether it showed any byte.
+/// Answers the lines that end in the next fill. Returns whether the fill had any byte.
 #[tactic(auto, using(crate::proofs::Answering::fill_failed, crate::proofs::Answering::none_answered))]
 fn answer_fill<R: BufRead, W: Write>(
     alloc: Global,
@@ -129,7 +129,7 @@ fn answer_fill<R: BufRead, W: Write>(
     Ok(true)
 }
 
-/// Answers the line that is held at the end of the input, if one is.
+/// Answers the line kept at the end of the input, if there is one.
 #[tactic(auto, using(crate::proofs::Answering::nothing_written))]
 fn answer_last<W: Write>(
     alloc: Global,
@@ -158,8 +158,8 @@ fn answer_last<W: Write>(
     write_all(writer, &buffers.out)
 }
 
-/// Answers each line of the input by a line of the output, as the command says. What a fill ends is
-/// answered before the next is waited for.
+/// Answers each line of the input by a line of the output, by the command. Answers the lines that a
+/// fill ends before it waits for the next fill.
 pub fn run_lines<R: BufRead, W: Write>(
     alloc: Global,
     command: Command,
@@ -175,7 +175,7 @@ pub fn run_lines<R: BufRead, W: Write>(
         out: Vec::new(alloc),
         lines: 0,
     };
-    // The fills since the last line ended.
+    // The number of fills since a line ended.
     let mut fills = 0;
     while fills < u64::MAX {
         let lines = buffers.lines;
@@ -188,7 +188,7 @@ pub fn run_lines<R: BufRead, W: Write>(
     Err(ToolError::Input)
 }
 
-/// One fill more where it ended no line, else none.
+/// Returns `fills` and one more if the fill ended no line, else 0.
 fn fills_since(fills: u64, goes_on: bool) -> u64
     requires { fills < 2 ^ 64 - 1 }
     ensures { result ≡ (if goes_on then fills + 1 else 0) }
@@ -196,7 +196,7 @@ fn fills_since(fills: u64, goes_on: bool) -> u64
     if goes_on { fills + 1 } else { 0 }
 }
 
-/// For each line, whether it is the spelling of a value, and of which kind.
+/// Answers for each line whether it is a DAG-CBOR block, and of which kind.
 pub fn run_check<R: BufRead, W: Write>(
     alloc: Global,
     reader: &mut R,
@@ -208,7 +208,7 @@ pub fn run_check<R: BufRead, W: Write>(
     run_lines(alloc, Command::Check, reader, writer)
 }
 
-/// For each line, the links of the value that stands first in it.
+/// Answers for each line the links of the item at its start.
 pub fn run_links<R: BufRead, W: Write>(
     alloc: Global,
     reader: &mut R,

@@ -9,7 +9,7 @@ use std::process::ExitCode;
 fn main(rt: HostRuntime) -> ExitCode {
     let mut errors = rt.stderr().lock();
     let status = match arguments(&rt) {
-        // A pipe is read a byte a call where no buffer stands before it.
+        // Without a buffer, a pipe is read one byte per call.
         Ok(words) => match BufReader::new(rt.alloc(), rt.reader()) {
             Ok(mut input) => run_command(
                 rt.alloc(),

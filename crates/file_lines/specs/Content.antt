@@ -1,4 +1,4 @@
--- A file of IPFS that is read, block by block, over what is stored.
+-- An IPFS file that is read block by block from stored blocks.
 use Rattle.std.specs.Prelude.{◌≡◌, ◌⊎◌, ℕ, List, [], ◌∷◌, ◌++◌, Bool, true, false, Option, Some, Result, MatchResult, MatchOption}
 use Rattle.std.specs.Io.KnownBytes.{Appends}
 use Rattle.ipld_tree.specs.Cid.{CidParts, AreCidParts, cid_bytes}
@@ -12,25 +12,24 @@ use Rattle.file_lines.specs.declared.stop.Stop.{Stop}
 use Rattle.file_lines.specs.declared.stop.Stop.TheVariants as stops
 use Rattle.file_lines.specs.Stops.{is_of_file, stop_line}
 
--- Each block that is stored, and is the one that its name names, is held under the binary form of the
--- name. More may be held.
+-- Each stored block that matches its CID is held under the CID's binary form. More may be held.
 abbrev pub HoldsStored : Stored → (List ℕ → Option (List ℕ)) → Type 0
 HoldsStored stored blocks = (name : CidParts) (b : List ℕ) → AreCidParts name
     → AreBytesOf stored name b → IsVerified (name, b) → blocks (cid_bytes name) ≡ Some b
 
--- links lead so many blocks deep at most, the root included
+-- the most levels of links in a file, the root included
 abbrev pub most_depth : ℕ
 most_depth = 256
 
--- These are the first bytes of the file under the root, and those of what is wanted come after them,
--- whatever else is held.
+-- The bytes under the root are these, followed by those of the blocks still wanted, whatever else
+-- is held.
 abbrev pub IsReadTo : Stored → CidParts → List ℕ → List Asked → Type 0
 IsReadTo stored root out wanted = (blocks : List ℕ → Option (List ℕ)) → HoldsStored stored blocks
     → bytes_under blocks most_depth (cid_bytes root) ≡ joined (Some out) (stack_bytes blocks wanted)
 
 -- ---- one block
 
--- the block of this name is wanted next
+-- the block of this CID is wanted next
 abbrev pub IsNextName : List Asked → List Asked → Asked → CidParts → Type 0
 IsNextName wanted below w name = AreCidParts name × (wanted ≡ below ++ w ∷ []) × (w.cid ≡ cid_bytes name)
 
@@ -39,7 +38,7 @@ abbrev pub IsReadOn : Stored → List Asked → List ℕ → List Asked → Type
 IsReadOn stored old out new = (blocks : List ℕ → Option (List ℕ)) → HoldsStored stored blocks
     → IsTaken blocks old out new
 
--- why nothing is read at the block of the name
+-- why reading stops at the block of this CID
 abbrev pub IsStopAt : Stored → CidParts → Asked → Stop → Type 0
 IsStopAt stored name w stops.Missing = (b : List ℕ) → ¬ AreBytesOf stored name b
 IsStopAt stored name w (stops.NoBlock verdict) = (b : List ℕ) × AreBytesOf stored name b
@@ -47,13 +46,13 @@ IsStopAt stored name w (stops.NoBlock verdict) = (b : List ℕ) × AreBytesOf st
 IsStopAt stored name w (stops.NoPart e) = (b : List ℕ) × AreBytesOf stored name b
     × IsVerified (name, b) × IsCause e w b
 
--- a front of what is handed out
+-- a prefix of what is handed out
 abbrev pub IsFrontOfPart : Stored → List Asked → List ℕ → Type 0
 IsFrontOfPart stored wanted front = (more : List ℕ) × (new : List Asked)
     × IsReadOn stored wanted (front ++ more) new
 
--- A line tells why nothing is read at the block of the name; or memory was wanting, or the device failed,
--- and a front of it went out.
+-- A line says why reading stops at the block of this CID; or memory ran out, or the device failed
+-- after a prefix of the line.
 abbrev pub TellsStop : CidParts → Stop → Option (List ℕ) → Result (Unit {0}) ToolError
     → Option (List ℕ) → Type 0
 TellsStop name stop old result new = MatchResult result
@@ -63,15 +62,15 @@ TellsStop name stop old result new = MatchResult result
 
 -- ---- a file
 
--- The file is read to its end; or the next block that is wanted is no part of it, of which a line tells.
+-- The file is read to its end; or the next block is not a part of it, and a line says why.
 abbrev pub EndsAt : Stored → List Asked → Bool → List ℕ → Type 0
 EndsAt stored wanted well told = ((wanted ≡ []) × (well ≡ true) × (told ≡ []))
     ⊎ ((below : List Asked) × (w : Asked) × (name : CidParts) × (stop : Stop)
     × IsNextName wanted below w name × IsStopAt stored name w stop × (is_of_file stop ≡ true)
     × (well ≡ false) × (told ≡ stop_line name stop))
 
--- What is written and told of what is wanted, up to the next block of it: its bytes; or nothing, and whether
--- the file is read to its end, or why it is not; or it broke off, and a front of both went out.
+-- What is written for the next block: its bytes; or none, and whether the file is read to its end, or
+-- a line that says why not; or writing broke off after a prefix of both.
 abbrev pub SaysNext : {E : Type 0} → Stored → List Asked → List Asked → Option (List ℕ) → Option (List ℕ)
     → Result (Option Bool) E → Option (List ℕ) → Option (List ℕ) → Type 0
 SaysNext stored wanted left old heard result new after = MatchResult result
@@ -83,23 +82,23 @@ SaysNext stored wanted left old heard result new after = MatchResult result
     × ((told ≡ []) ⊎ ((out ≡ []) × ((more : List ℕ) × EndsAt stored wanted false (told ++ more))))
     × Appends old new out × Appends heard after told)
 
--- what is written of the file under the root, and what is told of it
+-- what is written for the file under the root, and the error output
 abbrev pub IsContent : Stored → CidParts → Bool → List ℕ → List ℕ → Type 0
 IsContent stored root well out told = (wanted : List Asked) × IsReadTo stored root out wanted
     × EndsAt stored wanted well told
 
--- the bytes are first in the file under the root
+-- the bytes are a prefix of the file under the root
 abbrev pub IsFrontOfContent : Stored → CidParts → List ℕ → Type 0
 IsFrontOfContent stored root front = (more : List ℕ) × (wanted : List Asked)
     × IsReadTo stored root (front ++ more) wanted
 
--- a front of what is told
+-- a prefix of the error output
 abbrev pub TellsFront : Stored → CidParts → List ℕ → List ℕ → Type 0
 TellsFront stored root out told = (told ≡ [])
     ⊎ ((more : List ℕ) × IsContent stored root false out (told ++ more))
 
--- The bytes of the file went out, as they were read, and a line tells why it ends before its end; or it
--- broke off, and a front of both went out.
+-- The bytes of the file were written as they were read, and a line says why they end early; or
+-- writing broke off after a prefix of both.
 abbrev pub SaysContent : {E : Type 0} → Stored → CidParts → Option (List ℕ) → Option (List ℕ)
     → Result Bool E → Option (List ℕ) → Option (List ℕ) → Type 0
 SaysContent stored root old heard result new after = MatchResult result

@@ -18,19 +18,19 @@ use Rattle.file_lines.specs.declared.names.NamesEnd.{NamesEnd}
 
 -- ---- one directory
 
--- the first entry of the name leads there
+-- the first entry with this name leads there
 abbrev pub HasEntryIn : List ℕ → List ℕ → CidParts → Type 0
 HasEntryIn b name next = IsDirectory b × ((node : NodeParts) × IsNode b node
     × (link_named name node.links ≡ Some next))
 
--- the node is no directory, or has no entry of the name
+-- the node is not a directory, or has no entry with this name
 abbrev pub NamesNothingIn : List ℕ → List ℕ → NoEntry → Type 0
 NamesNothingIn b name (entries.NoDirectory e) = IsNoDirectory e b
 NamesNothingIn b name entries.Nothing = IsDirectory b × ((node : NodeParts) × IsNode b node
     × (link_named name node.links ≡ None))
 NamesNothingIn b name _ = ⊥
 
--- the block under the CID is a directory, whose first entry of the name leads there
+-- the block under the CID is a directory, whose first entry with this name leads there
 abbrev pub HasEntry : Stored → CidParts → List ℕ → CidParts → Type 0
 HasEntry stored cid name next = (b : List ℕ) × AreBytesOf stored cid b × IsVerified (cid, b)
     × IsDagPb cid × HasEntryIn b name next
@@ -45,13 +45,13 @@ NamesNothing stored cid name cause = (b : List ℕ) × AreBytesOf stored cid b �
 
 -- ---- a path
 
--- the names lead there, each by the entry of a directory
+-- the names lead there, each by an entry of a directory
 abbrev pub LeadsByNames : Stored → CidParts → List (List ℕ) → CidParts → Type 0
 LeadsByNames stored cid [] found = cid ≡ found
 LeadsByNames stored cid (name ∷ more) found = (next : CidParts) × HasEntry stored cid name next
     × LeadsByNames stored next more found
 
--- after some of them the next leads nowhere
+-- some of the names lead on, and the next leads nowhere
 abbrev pub EndsByNames : Stored → CidParts → List (List ℕ) → NamesEnd → Type 0
 EndsByNames stored cid [] end = ⊥
 EndsByNames stored cid (name ∷ more) end =
@@ -60,7 +60,7 @@ EndsByNames stored cid (name ∷ more) end =
 
 -- ---- lines
 
--- the name of the variant of a refusal; of a message that is none, that of its cause
+-- the name of the refusal's variant, or of its cause if the data is not a UnixFS message
 abbrev pub directory_error_name : DirectoryError → List ℕ
 directory_error_name (directory.NotANode e) = codes "NotANode"
 directory_error_name directory.NoData = codes "NoData"
@@ -68,7 +68,7 @@ directory_error_name (directory.NoMessage e) = cause_name e.cause
 directory_error_name directory.InShards = codes "InShards"
 directory_error_name (directory.NotADirectory kind) = codes "NotADirectory"
 
--- why a name leads nowhere from the block of this CID
+-- the line that says why a name leads nowhere from the block of this CID
 abbrev pub entry_line : CidParts → List ℕ → NoEntry → List ℕ
 entry_line cid name entries.Missing = missing_line cid
 entry_line cid name (entries.NoBlock verdict) = line (cid_text cid ++ (32 ∷ verdict_text verdict))
@@ -81,12 +81,12 @@ names_line end = entry_line end.block end.name.now end.cause
 
 -- ---- a file under a path
 
--- the path leads to no block: nothing is written, and a line tells why
+-- the path leads to no block: the output is empty, and a line says why
 abbrev pub IsNoPath : Stored → CidParts → List (List ℕ) → Bool → List ℕ → List ℕ → Type 0
 IsNoPath stored root path well out told = (end : NamesEnd) × EndsByNames stored root path end
     × (well ≡ false) × (out ≡ []) × (told ≡ names_line end)
 
--- what is said of the file to which the path leads from the root
+-- what is written for the file that the path leads to from the root
 abbrev pub SaysFile : Stored → CidParts → List (List ℕ) → Option (List ℕ) → Option (List ℕ)
     → Result Bool ToolError → Option (List ℕ) → Option (List ℕ) → Type 0
 SaysFile stored root path old heard result new after =

@@ -1,4 +1,4 @@
--- The line that tells why a file is not read on.
+-- The line that says why reading a file stops.
 use Rattle.std.specs.Prelude.{ℕ, List, ◌∷◌, ◌++◌, codes, Bool, true, false}
 use Rattle.ipld_tree.specs.Cid.{CidParts}
 use Rattle.cid_text.specs.Texts.{cid_text}
@@ -10,7 +10,7 @@ use Rattle.unix_fs.specs.declared.file_error.FileError.TheVariants as errors
 use Rattle.file_lines.specs.declared.stop.Stop.{Stop}
 use Rattle.file_lines.specs.declared.stop.Stop.TheVariants as stops
 
--- the name of the variant of a cause for which bytes are no message of UnixFS
+-- the name of the cause for which bytes are not a UnixFS message
 abbrev pub cause_name : UnixFsCause → List ℕ
 cause_name causes.Truncated = codes "Truncated"
 cause_name causes.InvalidVarint = codes "InvalidVarint"
@@ -19,7 +19,7 @@ cause_name causes.PackedSizes = codes "PackedSizes"
 cause_name (causes.UnknownKind number) = codes "UnknownKind"
 cause_name causes.NoKind = codes "NoKind"
 
--- the name of the variant of a refusal of a block; of a message that is none, that of its cause
+-- the name of the refusal's variant, or of its cause if the data is not a UnixFS message
 abbrev pub file_error_name : FileError → List ℕ
 file_error_name errors.NothingWanted = codes "NothingWanted"
 file_error_name errors.TooDeep = codes "TooDeep"
@@ -33,17 +33,17 @@ file_error_name errors.WrongLinks = codes "WrongLinks"
 file_error_name errors.WrongSize = codes "WrongSize"
 file_error_name errors.OutOfMemory = codes "OutOfMemory"
 
--- the refusal is no want of memory
+-- the refusal is not out of memory
 abbrev pub is_cause : FileError → Bool
 is_cause errors.OutOfMemory = false
 is_cause _ = true
 
--- the file is the reason, and not want of memory
+-- the file is the reason, not out of memory
 abbrev pub is_of_file : Stop → Bool
 is_of_file (stops.NoPart e) = is_cause e
 is_of_file _ = true
 
--- of the block of this name
+-- the line about the block of this CID
 abbrev pub stop_line : CidParts → Stop → List ℕ
 stop_line name stops.Missing = missing_line name
 stop_line name (stops.NoBlock verdict) = line (cid_text name ++ (32 ∷ verdict_text verdict))

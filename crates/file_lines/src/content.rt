@@ -16,10 +16,10 @@ use std::collections::BTreeMap;
 use std::io::Write;
 use unix_fs::FileReader;
 
-/// How many blocks deep the links of a file lead at most, the root included.
+/// The most levels of links in a file, the root included.
 pub const MOST_DEPTH: u32 = 256;
 
-/// A reader of the file under the root, of which nothing is read.
+/// Returns a reader of the file under the root that has read nothing yet.
 pub fn begin_content(alloc: Global, root: &Cid) -> Result<FileReader, ToolError>
     ensures { IfOk result (λ reader. (stored : Stored)
         → IsReadTo stored root.now [] (map asked reader.wanted.items)) }
@@ -30,8 +30,8 @@ pub fn begin_content(alloc: Global, root: &Cid) -> Result<FileReader, ToolError>
     }
 }
 
-/// Tells why the file is not read on at the block of this name. Want of memory is no reason of the
-/// file's.
+/// Writes an error line that says why reading stops at the block of this CID. If the reason is out
+/// of memory, returns that error instead.
 fn tell_stop<V: Write>(
     alloc: Global,
     name: &Cid,
@@ -47,8 +47,8 @@ fn tell_stop<V: Write>(
     write_all(errors, &line)
 }
 
-/// Writes the bytes of the file that stand in the block of this name, which is wanted next, and of
-/// whose name these bytes are stored. None where the file may go on; else whether it is read to its end.
+/// Writes the file's bytes in the block of this CID, which is wanted next, given the bytes stored
+/// under it. Returns `None` if the file may go on; else whether it is read to its end.
 pub fn say_block<W: Write, V: Write>(
     alloc: Global,
     reader: &mut FileReader,
@@ -76,8 +76,8 @@ pub fn say_block<W: Write, V: Write>(
     }
 }
 
-/// Writes the bytes of the file that stand in the next block of it, if one is wanted. None where the
-/// file may go on; else whether it is read to its end.
+/// Writes the file's bytes in its next block, if one is wanted. Returns `None` if the file may go
+/// on; else whether it is read to its end.
 fn say_next<W: Write, V: Write>(
     alloc: Global,
     blocks: &BTreeMap<Cid, Vec<u8>>,
@@ -93,7 +93,7 @@ fn say_next<W: Write, V: Write>(
         return Ok(Some(true));
     };
     let name = wanted.cid;
-    // What is known of a CID comes with its version.
+    // No effect at run time. The proof reads what is known of a CID from this call.
     let _version = name.version();
     say_block(
         alloc,
@@ -105,8 +105,8 @@ fn say_next<W: Write, V: Write>(
     )
 }
 
-/// Writes the bytes of the file under the root, block by block as they are verified, or tells why it
-/// ends before its end. Whether it is whole.
+/// Writes the bytes of the file under the root, block by block as they are verified, or an error
+/// line that says why they end early. Returns whether the file is whole.
 pub fn say_content<W: Write, V: Write>(
     alloc: Global,
     root: &Cid,

@@ -1,4 +1,4 @@
-//! `ls`: what stands under a path of names.
+//! `ls`: what is under a path of names.
 
 ghost use Rattle.std.specs.Prelude.{◌≡◌, ◌++◌, List, codes, option_map, IfOk};
 ghost use Rattle.cid_text.specs.Texts.{cid_text};
@@ -23,16 +23,16 @@ use std::collections::BTreeMap;
 use std::io::Write;
 use unix_fs::Entity;
 
-/// What is listed of a block.
+/// What is listed for a block.
 #[derive(Debug, Drop)]
 pub enum Listed<'b> {
-    /// What is said and told of it, which is all.
+    /// The whole output.
     Whole(Answer),
-    /// The entries of a directory, of which these are the bytes.
+    /// The entries of the directory with these bytes.
     Entries(&'b [u8]),
 }
 
-/// The lines of the links in the block, and whether each has a kind.
+/// Returns the lines of the links in the block, and whether the kind of each is known.
 fn entries_said(
     alloc: Global,
     block: &[u8],
@@ -55,7 +55,7 @@ fn entries_said(
     Ok((lines, well))
 }
 
-/// The line of a block that is no directory.
+/// Returns the line of a block that is not a directory.
 fn own_line(alloc: Global, cid: &Cid, entity: &Entity<'_>) -> Result<Vec<u8>, AllocError>
     ensures { IfOk result (λ v. v.items ≡ own_line cid.now entity.now) }
 {
@@ -63,14 +63,14 @@ fn own_line(alloc: Global, cid: &Cid, entity: &Entity<'_>) -> Result<Vec<u8>, Al
     line_of(alloc, &words, &cid_text(cid), b"")
 }
 
-/// The line of a directory in shards, which is not listed.
+/// Returns the line of a sharded directory, which is not listed.
 fn shard_line(alloc: Global, cid: &Cid) -> Result<Vec<u8>, AllocError>
     ensures { IfOk result (λ v. v.items ≡ line (cid_text cid.now ++ codes " refused InShards")) }
 {
     line_of(alloc, &cid_text(cid), b" refused InShards", b"")
 }
 
-/// What is listed of a block that is this.
+/// Returns what is listed for a block that is this entity.
 fn listed_of<'b>(
     alloc: Global,
     cid: &Cid,
@@ -93,7 +93,7 @@ fn listed_of<'b>(
     }
 }
 
-/// What is listed of the block under the CID, of which these bytes are stored.
+/// Returns what is listed for the block under the CID, given the bytes stored under it.
 pub fn listed_stored<'b>(
     alloc: Global,
     cid: &'b Cid,
@@ -111,7 +111,7 @@ pub fn listed_stored<'b>(
     }
 }
 
-/// What is said of the block under the CID, and what is told of it.
+/// Returns the output for the block under the CID.
 fn listing_under(
     alloc: Global,
     cid: &Cid,
@@ -130,7 +130,7 @@ fn listing_under(
     }
 }
 
-/// What is said of what stands under the path, and what is told of it.
+/// Returns the output for what is under the path.
 fn listing(
     alloc: Global,
     root: &Cid,
@@ -149,9 +149,10 @@ fn listing(
     }
 }
 
-/// Lists what stands under the path from the root: of a directory each entry, with its kind, its size
-/// and its CID; of another block that. Or tells why there is nothing to list. Whether all that is listed
-/// has a kind. The lines are made in memory, and then written.
+/// Lists what is under the path from the root. For a directory: each entry, with its kind, its size
+/// and its CID. For another block: the same of itself. If there is nothing to list: an error line
+/// that says why. Returns whether the kind of all that is listed is known. Makes the lines in
+/// memory, and then writes them.
 pub fn say_entries<W: Write, V: Write>(
     alloc: Global,
     root: &Cid,

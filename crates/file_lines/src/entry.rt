@@ -18,7 +18,7 @@ use std::alloc::{AllocError, Global};
 use std::collections::BTreeMap;
 use unix_fs::{Entity, read_entity};
 
-/// What the block under the CID is, which has these bytes.
+/// Returns the entity that the block with this CID and these bytes is.
 fn entity_named<'b>(cid: &Cid, bytes: &'b [u8]) -> Result<Entity<'b>, Stop>
     ensures { (stored : Stored) → AreBytesOf stored cid.now bytes.now → MatchResult result
         (IsEntityAt stored cid.now bytes.now) (IsNoEntityAt stored cid.now) }
@@ -34,8 +34,7 @@ fn entity_named<'b>(cid: &Cid, bytes: &'b [u8]) -> Result<Entity<'b>, Stop>
     }
 }
 
-/// The block under the CID, of which these bytes are stored, and what it is; or why it is nothing of
-/// UnixFS.
+/// Returns the bytes stored under the CID, and the entity that they are; or why they are not one.
 pub(crate) fn entity_stored<'b>(
     cid: &'b Cid,
     stored: Option<&'b [u8]>,
@@ -52,7 +51,7 @@ pub(crate) fn entity_stored<'b>(
     }
 }
 
-/// The kind and the size of what a block is.
+/// Returns the kind and the size of an entity.
 pub(crate) fn entity_words(alloc: Global, entity: &Entity<'_>) -> Result<Vec<u8>, AllocError>
     ensures { IfOk result (λ v. v.items ≡ entity_words entity.now) }
 {
@@ -68,7 +67,7 @@ pub(crate) fn entity_words(alloc: Global, entity: &Entity<'_>) -> Result<Vec<u8>
     }
 }
 
-/// What stands in place of the kind and the size of a block that has none.
+/// Returns the words for a block that is not an entity.
 fn stop_words(stop: &Stop) -> &'static [u8]
     ensures { result.now ≡ stop_words stop.now }
 {
@@ -79,14 +78,14 @@ fn stop_words(stop: &Stop) -> &'static [u8]
     }
 }
 
-/// Whether a byte of a name is written as it is.
+/// Returns whether a byte of a name is written as it is.
 fn is_shown(byte: u8) -> bool
     ensures { result ≡ is_shown byte }
 {
     byte >= 0x20 && byte != 0x7f && byte != b'\\'
 }
 
-/// The digit of the base 16.
+/// Returns the hexadecimal digit of the number.
 fn hex_digit(number: u8) -> u8
     requires { number < 16 }
     ensures { result ≡ hex_digit number }
@@ -98,7 +97,7 @@ fn hex_digit(number: u8) -> u8
     }
 }
 
-/// Writes a byte of a name after the text: as it is, or as `\x` and two digits.
+/// Appends a byte of a name: as it is, or as `\x` and two digits.
 fn push_shown(out: &mut Vec<u8>, byte: u8) -> Result<(), AllocError>
     ensures { IfOk result (λ _. out.new.items ≡ out.old.items ++ shown_byte byte) }
 {
@@ -109,7 +108,7 @@ fn push_shown(out: &mut Vec<u8>, byte: u8) -> Result<(), AllocError>
     out.extend_from_slice(&[b'\\', b'x', hex_digit(byte / 16), hex_digit(byte % 16)])
 }
 
-/// A space, and the name as it is written, which breaks no line.
+/// Returns a space and the name as it is written, without line breaks.
 fn shown_name(alloc: Global, name: &[u8]) -> Result<Vec<u8>, AllocError>
     ensures { IfOk result (λ v. v.items ≡ 32 ∷ flat_map shown_byte name.now) }
 {
@@ -121,7 +120,7 @@ fn shown_name(alloc: Global, name: &[u8]) -> Result<Vec<u8>, AllocError>
     Ok(out)
 }
 
-/// The line of an entry, of whose block these are the words.
+/// Returns the line of an entry, given the words for its block.
 pub fn entry_line(alloc: Global, words: &[u8], link: &PbLink<'_>) -> Result<Vec<u8>, AllocError>
     ensures { IfOk result (λ v. v.items ≡ entry_line words.now (link_of link.now)) }
 {
@@ -132,7 +131,8 @@ pub fn entry_line(alloc: Global, words: &[u8], link: &PbLink<'_>) -> Result<Vec<
     line_of(alloc, words, &cid_text(&link.hash), &name)
 }
 
-/// The words of the block under the CID, of which these bytes are stored, and whether it has a kind.
+/// Returns the words for the block under the CID, given the bytes stored under it, and whether its
+/// kind is known.
 pub fn words_stored(alloc: Global, cid: &Cid, stored: Option<&[u8]>) -> Result<Said, AllocError>
     ensures { (all : Stored) → all cid.now ≡ option_map (λ b. b.now) stored.entry
         → IfOk result (λ p. AreWordsOf all cid.now p.1 p.0.items) }
@@ -143,7 +143,7 @@ pub fn words_stored(alloc: Global, cid: &Cid, stored: Option<&[u8]>) -> Result<S
     }
 }
 
-/// A copy of the words that are known of the block under the CID, if any are.
+/// Returns a copy of the words known for the block under the CID, if any.
 pub fn known_words(
     alloc: Global,
     cid: &Cid,
@@ -157,7 +157,7 @@ pub fn known_words(
     }
 }
 
-/// Keeps a copy of the words of the block under the CID, so that each block is verified once.
+/// Keeps a copy of the words for the block under the CID, so that each block is verified once.
 pub fn keep_words(
     alloc: Global,
     cid: &Cid,
@@ -174,7 +174,7 @@ pub fn keep_words(
     }
 }
 
-/// The words of the block under the CID, and whether it has a kind, which are known from then on.
+/// Returns the words for the block under the CID, and whether its kind is known. Keeps them.
 fn words_known(
     alloc: Global,
     cid: &Cid,
@@ -193,7 +193,7 @@ fn words_known(
     Ok((words, has_kind))
 }
 
-/// The line of an entry, and whether it has a kind.
+/// Returns the line of an entry, and whether its kind is known.
 pub(crate) fn entry_said(
     alloc: Global,
     link: &PbLink<'_>,

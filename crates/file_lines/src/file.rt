@@ -1,4 +1,4 @@
-//! `cat`: the bytes of the file to which a path of names leads.
+//! `cat`: the bytes of the file that a path of names leads to.
 
 ghost use Rattle.dagcbor_paths.specs.Paths.{segments};
 ghost use Rattle.ipld_links.specs.Reaching.{stored_in};
@@ -13,8 +13,9 @@ use std::alloc::Global;
 use std::collections::BTreeMap;
 use std::io::Write;
 
-/// Writes the bytes of the file to which the path leads from the root, block by block as they are
-/// verified, or tells why it ends before its end, or why the path leads nowhere. Whether it is whole.
+/// Writes the bytes of the file that the path leads to from the root, block by block as they are
+/// verified, or an error line: why they end early, or why the path leads nowhere. Returns whether
+/// the file is whole.
 pub fn say_file<W: Write, V: Write>(
     alloc: Global,
     root: &Cid,

@@ -1,8 +1,8 @@
-//! Laws, each the contract of a function.
+//! Laws, each the contract of a function that does nothing.
 
 ghost use Rattle.file_lines.specs.Entries.{NamesStayInLine, NamesStayApart};
 
-/// No name, as it is written in a line, ends the line or has another control character of ASCII.
+/// A name, as it is written, has no line break and no other ASCII control character.
 pub fn names_stay_in_line()
     ensures { NamesStayInLine }
 {}

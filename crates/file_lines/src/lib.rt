@@ -1,4 +1,4 @@
-//! What programs write of the files of IPFS (UnixFS), over blocks in whatever they are stored.
+//! What programs write about IPFS files (UnixFS), over blocks in any store.
 #![tactic(auto)]
 
 mod content;

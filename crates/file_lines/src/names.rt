@@ -21,26 +21,26 @@ use unix_fs::{DirectoryError, find_entry};
 /// Why a name leads nowhere from a block.
 #[derive(Debug, Drop)]
 pub enum NoEntry {
-    /// No block is under the CID.
+    /// No block is stored under the CID.
     Missing,
-    /// The bytes under the CID are not those that it names, or are no block of its codec.
+    /// The bytes under the CID do not match it, or are not a block of its codec.
     NoBlock(Verdict),
-    /// The node is no directory that is read.
+    /// The node is not a directory that can be read.
     NoDirectory(DirectoryError),
-    /// The directory has no entry of the name, or the block is no node of DAG-PB.
+    /// The directory has no entry with this name, or the block is not a DAG-PB node.
     Nothing,
 }
 
-/// Where a path of names ends that leads to no block.
+/// Where a path of names ends, if it leads to no block.
 #[derive(Debug, Drop)]
 pub struct NamesEnd<'p> {
-    /// The block from which the name leads nowhere.
+    /// The block where the name leads nowhere.
     pub block: Cid,
     pub name: &'p str,
     pub cause: NoEntry,
 }
 
-/// Where the name leads from the node.
+/// Returns the CID that the name leads to from the node.
 fn entry_in(block: &[u8], name: &str) -> Result<Cid, NoEntry>
     requires { HasNode block.now }
     ensures { MatchResult result (HasEntryIn block.now name.now) (NamesNothingIn block.now name.now) }
@@ -52,7 +52,7 @@ fn entry_in(block: &[u8], name: &str) -> Result<Cid, NoEntry>
     }
 }
 
-/// Where the name leads from the block under the CID, which has these bytes.
+/// Returns the CID that the name leads to from the block with this CID and these bytes.
 fn entry_named(cid: &Cid, bytes: &[u8], name: &str) -> Result<Cid, NoEntry>
     ensures { (stored : Stored) → AreBytesOf stored cid.now bytes.now → MatchResult result
         (HasEntry stored cid.now name.now) (NamesNothing stored cid.now name.now) }
@@ -69,7 +69,8 @@ fn entry_named(cid: &Cid, bytes: &[u8], name: &str) -> Result<Cid, NoEntry>
     }
 }
 
-/// Where the name leads from the block under the CID, of which these bytes are stored.
+/// Returns the CID that the name leads to from the block of this CID, given the bytes stored under
+/// it.
 pub fn entry_stored(cid: &Cid, stored: Option<&[u8]>, name: &str) -> Result<Cid, NoEntry>
     ensures { (all : Stored) → all cid.now ≡ option_map (λ b. b.now) stored.entry
         → MatchResult result (HasEntry all cid.now name.now) (NamesNothing all cid.now name.now) }
@@ -80,7 +81,7 @@ pub fn entry_stored(cid: &Cid, stored: Option<&[u8]>, name: &str) -> Result<Cid,
     }
 }
 
-/// Where the path of names leads from the root, over the blocks of the map.
+/// Returns the CID that the path of names leads to from the root, over the blocks of the map.
 pub fn find_named<'p>(
     blocks: &BTreeMap<Cid, Vec<u8>>,
     root: &Cid,
@@ -104,7 +105,7 @@ pub fn find_named<'p>(
     Ok(block)
 }
 
-/// The name of the variant of a refusal; of a message that is none, its cause.
+/// Returns the name of the refusal's variant, or of its cause if the data is not a UnixFS message.
 fn directory_error_name(error: &DirectoryError) -> &'static str
     ensures { result.now ≡ directory_error_name error.now }
 {
@@ -117,7 +118,7 @@ fn directory_error_name(error: &DirectoryError) -> &'static str
     }
 }
 
-/// The line that tells why a path of names leads to no block.
+/// Returns the line that says why a path of names leads to no block.
 pub fn names_line(alloc: Global, end: &NamesEnd<'_>) -> Result<Vec<u8>, AllocError>
     ensures { IfOk result (λ v. v.items ≡ names_line end.now) }
 {

@@ -1,4 +1,4 @@
-//! One block of a file that is read.
+//! One block of a file that is being read.
 
 ghost use Rattle.std.specs.Prelude.{◌≡◌, ◌++◌, ◌∷◌, [], List, ℕ, map, option_map, IfOk, MatchResult};
 ghost use Rattle.ipld_tree.specs.Cid.{AreCidParts, cid_bytes};
@@ -15,18 +15,18 @@ use ipld_tree::Cid;
 use std::alloc::{AllocError, Global};
 use unix_fs::{FileError, FileReader, UnixFsCause};
 
-/// Why a file is not read on at the block that is wanted, or why a block has no kind.
+/// Why reading a file stops at the block wanted, or why the kind of a block is not known.
 #[derive(Debug, Drop)]
 pub enum Stop {
-    /// No block is under the name.
+    /// No block is stored under the CID.
     Missing,
-    /// The bytes under the name are not those that it names, or are no block of its codec.
+    /// The bytes under the CID do not match it, or are not a block of its codec.
     NoBlock(Verdict),
-    /// The block is no part of the file; or, where it is listed, nothing of UnixFS.
+    /// The block is not a part of the file; or, in a listing, not an entity of UnixFS.
     NoPart(FileError),
 }
 
-/// Takes the bytes under the name, which is wanted next, if they are the block that it names.
+/// Takes the bytes of the CID that is wanted next, if they match it.
 fn take_named<'b>(
     alloc: Global,
     reader: &mut FileReader,
@@ -52,8 +52,8 @@ fn take_named<'b>(
     }
 }
 
-/// Takes the block that is wanted next, of whose name these bytes are stored, and hands out the bytes
-/// of the file that stand in it.
+/// Takes the block that is wanted next, given the bytes stored under its CID. Returns the bytes of
+/// the file in it.
 pub fn take_stored<'b>(
     alloc: Global,
     reader: &mut FileReader,
@@ -74,7 +74,7 @@ pub fn take_stored<'b>(
     }
 }
 
-/// Whether the file is the reason, and not want of memory.
+/// Returns whether the file is the reason, not out of memory.
 pub fn is_of_file(stop: &Stop) -> bool
     ensures { result ≡ is_of_file stop.now }
 {
@@ -85,7 +85,7 @@ pub fn is_of_file(stop: &Stop) -> bool
     }
 }
 
-/// Whether the refusal is no want of memory.
+/// Returns whether the refusal is not out of memory.
 fn is_cause(error: &FileError) -> bool
     ensures { result ≡ is_cause error.now }
 {
@@ -104,7 +104,7 @@ fn is_cause(error: &FileError) -> bool
     }
 }
 
-/// The name of the variant of a refusal; of a message that is none, its cause.
+/// Returns the name of the refusal's variant, or of its cause if the data is not a UnixFS message.
 fn file_error_name(error: &FileError) -> &'static str
     ensures { result.now ≡ file_error_name error.now }
 {
@@ -123,7 +123,7 @@ fn file_error_name(error: &FileError) -> &'static str
     }
 }
 
-/// The name of the variant of a cause.
+/// Returns the name of the cause.
 pub(crate) fn cause_name(cause: &UnixFsCause) -> &'static str
     ensures { result.now ≡ cause_name cause.now }
 {
@@ -137,7 +137,7 @@ pub(crate) fn cause_name(cause: &UnixFsCause) -> &'static str
     }
 }
 
-/// The line that tells why a file is not read on at the block of this name.
+/// Returns the line that says why reading stops at the block of this CID.
 pub fn stop_line(alloc: Global, name: &Cid, stop: &Stop) -> Result<Vec<u8>, AllocError>
     ensures { IfOk result (λ v. v.items ≡ stop_line name.now stop.now) }
 {

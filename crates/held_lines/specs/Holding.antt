@@ -1,4 +1,4 @@
--- The blocks of a file, held in memory, and why bytes are no file.
+-- The blocks of a CAR file, held in memory, and why bytes are not a CAR file.
 use Rattle.std.specs.Prelude.{◌≡◌, ◌⊎◌, ℕ, List, [], ◌∷◌, ◌++◌, true, cond, Option, None, Some, is_some, ⊤, Result, MatchResult, OnOk, Vec}
 use Rattle.std.specs.BTreeMap.{BTreeMap, get, is_at}
 use Rattle.std.specs.declared.alloc.Global.{Global}
@@ -23,26 +23,26 @@ use Rattle.held_lines.specs.declared.holding.Held.{Held}
 
 -- ---- no file
 
--- the bytes are no file for this cause: no file begins; or after the sections of which this is so
--- no section stands, though bytes do, or are wanting
+-- the bytes are not a CAR file for this cause: the header is refused; or what follows the first
+-- sections is not a whole section, and these sections satisfy this
 abbrev pub IsFileFault : (List Section → Type 0) → CarError Infallible → List ℕ → Type 0
 IsFileFault IsSo e b = IsNoFile b × (RefusesStart e b
     ⊎ ((roots : List (List ℕ)) × (sections : List Section) × (n : ℕ) × (rest : List ℕ)
     × IsFileFront b roots sections n rest × IsSo sections × RefusesSection n e rest))
 
--- the bytes are no file for some cause, after sections of which this is so, and a line tells it
+-- the same for some cause, and a line says which
 abbrev pub TellsFault : (List Section → Type 0) → List ℕ → List ℕ → Type 0
 TellsFault IsSo b told = (e : CarError Infallible) × IsFileFault IsSo e b × (told ≡ refused_line e)
 
 -- ---- what is held
 
--- which sections are kept: each, or those whose bytes are the ones that the name says, by SHA-256
+-- which sections are kept: all, or those whose bytes match their CID by SHA-256
 abbrev pub IsKeptSection : Kept → Section → Type 0
 IsKeptSection which.All s = ⊤
 IsKeptSection which.Verified s = (s.0.hash_code ≡ 0x12) × IsVerified s
 
--- under each name of a section that is kept stand the bytes of such a section: those that the name
--- says, where a section has them; under no other name stand any
+-- each CID of a kept section has the bytes of such a section: bytes that match it, if a section has
+-- them. No other CID has any.
 pub record Stores (kept : Kept) (sections : List Section) (stored : Stored) : Type 0 where
   pub some : (q : CidParts) (b : List ℕ) → stored q ≡ Some b
       → Among (q, b) sections × IsKeptSection kept (q, b)
@@ -50,7 +50,7 @@ pub record Stores (kept : Kept) (sections : List Section) (stored : Stored) : Ty
   pub named : (s : Section) → Among s sections → IsVerified s → (b : List ℕ) → stored s.0 ≡ Some b
       → IsVerified (s.0, b)
 
--- the roots of a file, and the sections that are kept; or the bytes are no file, and a line tells why
+-- the roots of a file, and the sections kept; or the bytes are not a CAR file, and a line says why
 abbrev pub HoldsFile : Kept → List ℕ → Result Held (Vec ℕ Global) → Type 0
 HoldsFile kept b held = MatchResult held
     (λ h. (sections : List Section) × IsFile b (forms h.roots.items) sections
@@ -59,34 +59,34 @@ HoldsFile kept b held = MatchResult held
 
 -- ---- its steps
 
--- no section is better than this one
+-- no section with the same CID is better than this one
 abbrev pub IsBest : Kept → Section → Type 0
 IsBest which.All s = IsVerified s
 IsBest which.Verified s = (s.0.hash_code ≡ 0x12) × IsVerified s
 
--- a section stays in the place of what stood under its name: none is better; or the same bytes
--- stood there; or none did, and it is kept
+-- a section replaces what was held under its CID: none is better; or the same bytes were held; or
+-- nothing was, and it is kept
 abbrev pub StaysInPlace : Kept → Option (Vec ℕ Global) → Section → Type 0
 StaysInPlace kept before s = IsBest kept s
     ⊎ (((v : Vec ℕ Global) × (before ≡ Some v) × (v.items ≡ s.1))
     ⊎ ((before ≡ None) × IsKeptSection kept s))
 
--- it gives way: others are better, and it is not kept but where a block stood under its name
+-- it does not: others may be better, and if it is kept, a block was held under its CID
 abbrev pub Yields : Kept → Option (Vec ℕ Global) → Section → Type 0
 Yields kept before s = ¬ IsBest kept s × (IsKeptSection kept s → is_some before ≡ true)
 
--- this stands under the name, and under each other name what stood there
+-- the CID has this block again, and every other CID what it had
 abbrev pub PutsBack : CidParts → Option (Vec ℕ Global) → BTreeMap CidParts (Vec ℕ Global)
     → BTreeMap CidParts (Vec ℕ Global) → Type 0
 PutsBack name before old new = (q : CidParts)
     → get cid_cmp new q ≡ cond (is_at (cid_cmp name) q) before (get cid_cmp old q)
 
--- a section is one more of those of which some are kept
+-- one more section was taken, of those of which some are kept
 abbrev pub KeepsSection : {E : Type 0} → Kept → Section → Stored → Result (Unit {0}) E → Stored → Type 0
 KeepsSection kept s old result new = OnOk result ((sections : List Section) → Stores kept sections old
     → Stores kept (sections ++ s ∷ []) new)
 
--- what is held has one section more of those of which some are kept, and which are kept stays
+-- the blocks held are those of one more section, by the same rule
 abbrev pub KeepsNext : SinkTakes Holding AllocError
 KeepsNext s old result new = (new.kept ≡ old.kept)
     × KeepsSection old.kept s (stored_in old.blocks) result (stored_in new.blocks)

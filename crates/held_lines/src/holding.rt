@@ -1,4 +1,4 @@
-//! The blocks of a file, held in memory.
+//! The blocks of a CAR file, held in memory.
 
 ghost use Rattle.std.specs.Prelude.{◌≡◌, is_some, IfOk, IfSome, MatchBool, OnOk};
 ghost use Rattle.ipld_links.specs.Reaching.{stored_in};
@@ -18,13 +18,13 @@ use std::io::BufRead;
 /// Which sections of a file are kept.
 #[derive(Clone, Copy, Drop)]
 pub enum Kept {
-    /// Each, whatever its bytes: who reads a block judges it.
+    /// All, whatever their bytes. Whoever reads a block judges it.
     All,
-    /// Those whose bytes are the ones that the name says, by SHA-256.
+    /// Those whose bytes match their CID, by SHA-256.
     Verified,
 }
 
-/// The blocks of a file, each under its name.
+/// The blocks of a file, by CID.
 #[derive(Drop)]
 struct Holding {
     alloc: Global,
@@ -32,21 +32,21 @@ struct Holding {
     blocks: BTreeMap<Cid, Vec<u8>>,
 }
 
-/// A file in memory: its roots, and its blocks, each under its name.
+/// A CAR file in memory: its roots, and its blocks by CID.
 #[derive(Drop)]
 pub struct Held {
     pub roots: Vec<Cid>,
     pub blocks: BTreeMap<Cid, Vec<u8>>,
 }
 
-/// Whether a block is held under the name.
+/// Returns whether a block is held under the CID.
 pub fn is_there(blocks: &BTreeMap<Cid, Vec<u8>>, name: &Cid) -> bool
     ensures { result ≡ is_some (stored_in blocks.now name.now) }
 {
     stored_bytes(blocks, name).is_some()
 }
 
-/// Whether the bytes are those that the section's name says.
+/// Returns whether the section's bytes match its CID.
 fn is_named(section: &Section<'_>) -> bool
     ensures { MatchBool result (IsVerified (section.now.cid, section.now.block.now))
         (¬ IsVerified (section.now.cid, section.now.block.now)) }
@@ -58,7 +58,7 @@ fn is_named(section: &Section<'_>) -> bool
     }
 }
 
-/// Whether no other section is better.
+/// Returns whether no section with the same CID is better.
 fn is_good(kept: Kept, section: &Section<'_>) -> bool
     ensures { MatchBool result (IsBest kept (section.now.cid, section.now.block.now))
         (¬ IsBest kept (section.now.cid, section.now.block.now)) }
@@ -69,8 +69,8 @@ fn is_good(kept: Kept, section: &Section<'_>) -> bool
     }
 }
 
-/// Whether a section stays in the place of what stood under its name. Its bytes are judged only
-/// where that decides, and once.
+/// Returns whether a section replaces what was held under its CID. Verifies its bytes only if that
+/// decides, and only once.
 fn stays(kept: Kept, before: &Option<Vec<u8>>, section: &Section<'_>) -> bool
     ensures { MatchBool result
         (StaysInPlace kept before.now (section.now.cid, section.now.block.now))
@@ -83,7 +83,7 @@ fn stays(kept: Kept, before: &Option<Vec<u8>>, section: &Section<'_>) -> bool
     }
 }
 
-/// Puts back what stood under the name, which has a block.
+/// Puts back what was held under the CID, which has a block now.
 fn put_back(
     blocks: &mut BTreeMap<Cid, Vec<u8>>,
     name: &Cid,
@@ -103,8 +103,8 @@ fn put_back(
     }
 }
 
-/// Keeps the block of a section, if it is to be kept. Of two under one name the one stays whose
-/// bytes the name says.
+/// Holds the block of a section, if it is to be kept. Of two blocks with the same CID, the one that
+/// matches it stays.
 fn hold(
     alloc: Global,
     kept: Kept,
@@ -136,7 +136,7 @@ impl SectionSink for Holding {
     }
 }
 
-/// The roots and the blocks of the file that the input is, or the line that tells why it is none.
+/// Reads the input's CAR file. Returns its roots and blocks, or a line that says why it is not one.
 pub fn held_of<R: BufRead>(
     alloc: Global,
     kept: Kept,

@@ -1,4 +1,4 @@
-//! CAR files that are taken section by section, and the blocks of a file held in memory.
+//! Takes CAR files section by section, and holds the blocks of a file in memory.
 #![tactic(auto)]
 
 mod holding;

@@ -1,5 +1,4 @@
-//! A CAR file that is taken section by section, until it ends, or what takes a section refuses
-//! it.
+//! Takes a CAR file section by section, until it ends, or the sink refuses a section.
 
 ghost use Rattle.std.specs.Prelude.{IfOk, IfSome, ◌≡◌};
 ghost use Rattle.dagcbor_heads.specs.Inputs.{input_reading, not_lending};
@@ -18,16 +17,16 @@ use std::io::BufRead;
 /// How far a file was taken.
 #[derive(Drop)]
 pub enum Ended<T> {
-    /// All of it.
+    /// To its end.
     Whole,
-    /// Up to a section that was refused, for this cause.
+    /// Up to a section that the sink refused, for this cause.
     Stopped(T),
-    /// Up to where no section stands, though bytes do: a line tells why.
+    /// Up to bytes that are not a whole section. The line says why.
     Fault(Vec<u8>),
 }
 
-/// Why a file is refused, in a line. A fault of the source and want of memory are told in another
-/// way.
+/// Returns the line that says why a file is refused. I/O errors and out of memory are returned as
+/// errors instead.
 pub fn fault_line<E: Drop>(alloc: Global, error: CarError<E>) -> Result<Vec<u8>, ToolError>
     ensures { IfOk result (λ v. IsOfBytes error × (v.items ≡ refused_line error)) }
 {
@@ -38,14 +37,14 @@ pub fn fault_line<E: Drop>(alloc: Global, error: CarError<E>) -> Result<Vec<u8>,
     }
 }
 
-/// How a run ended by this fault.
+/// Returns how a run ended by this refusal.
 fn fault_of<E: Drop, T: Drop>(alloc: Global, error: CarError<E>) -> Result<Ended<T>, ToolError>
     ensures { EndsByFault error result }
 {
     Ok(Ended::Fault(fault_line(alloc, error)?))
 }
 
-/// How a run ended that did not take all sections.
+/// Returns how a run ended that did not take all sections.
 fn ended_by<E: Drop, T: Drop>(
     alloc: Global,
     error: ReadCarError<E, T>,
@@ -59,7 +58,7 @@ fn ended_by<E: Drop, T: Drop>(
     }
 }
 
-/// Takes what follows the header, of so much of the file.
+/// Takes the sections after the header, up to `extent` if given.
 pub fn take_sections<'de, S: SectionSink, R: Read>(
     alloc: Global,
     sink: &mut S,
@@ -76,7 +75,7 @@ pub fn take_sections<'de, S: SectionSink, R: Read>(
     }
 }
 
-/// Takes the file that a source has, and answers its roots.
+/// Takes the source's CAR file. Returns its roots, and how far it was taken.
 fn take_file<'de, S: SectionSink, R: Read>(
     alloc: Global,
     sink: &mut S,
@@ -96,15 +95,15 @@ fn take_file<'de, S: SectionSink, R: Read>(
     }
 }
 
-/// An input that does not lend.
+/// Returns an input that does not lend.
 pub fn input_over<'de, R: Read>(reader: R) -> Input<'de, R>
     ensures { input_reading R.reading result ≡ not_lending (R.reading reader) }
 {
     Input::Reader(reader)
 }
 
-/// Takes the file that the input is, and answers its roots, of which there are none where no file
-/// begins. One section is in memory at a time, beside what the sink keeps.
+/// Takes the input's CAR file. Returns its roots, and how far it was taken. There are no roots if
+/// the header is refused. Holds one section at a time in memory, besides what the sink keeps.
 pub fn take_input<S: SectionSink, R: BufRead>(
     alloc: Global,
     sink: &mut S,

@@ -1,4 +1,4 @@
--- What an index gives of a name.
+-- What an index yields for a CID.
 use Rattle.std.specs.Prelude.{◌≡◌, ℕ, ◌+◌, ◌-◌, ◌^◌, ◌<◌, ◌≤◌, List, ◌∷◌, ◌++◌, length, drop, ⊤, Option, Some, Result, IfOk, IfSome, MatchOption, Vec}
 use Rattle.std.specs.List.{AllByRecursion}
 use Rattle.std.specs.declared.alloc.Global.{Global}
@@ -17,7 +17,7 @@ use Rattle.index_lines.specs.declared.layout.Layout.{Layout}
 use Rattle.index_lines.specs.declared.find.Found.{Found}
 use Rattle.index_lines.specs.declared.find.Found.TheVariants as found
 
--- a section of the name stands first within so many bytes, with the bytes that the name says
+-- the first `long` bytes begin with a section of this CID, whose bytes match it
 pub record BeginsSought (name : CidParts) (long : ℕ) (b : List ℕ) : Type 0 where
   pub block : List ℕ
   pub rest : List ℕ
@@ -26,8 +26,8 @@ pub record BeginsSought (name : CidParts) (long : ℕ) (b : List ℕ) : Type 0 w
   pub section : IsSection (name, block)
   pub verified : IsVerified (name, block)
 
--- The index is one of sorted entries, among the first 16 of the name's multihash is that of a section
--- of the name, and this stands there, with the bytes that the name says.
+-- The file has an index whose entries are sorted. One of the first 16 with the CID's multihash is
+-- that of a section of this CID, which is at that offset, and whose bytes match the CID.
 pub record IsListed (b : List ℕ) (name : CidParts) : Type 0 where
   pub entries : List EntryParts
   pub block : List ℕ
@@ -38,12 +38,12 @@ pub record IsListed (b : List ℕ) (name : CidParts) : Type 0 where
   pub early : before < 16
   pub there : BeginsSought name (length_of b - offset) (drop (begin_of b + offset) b)
 
--- what is given are the bytes that the name says
+-- a block that is returned matches the CID
 abbrev pub GivesVerified : CidParts → Result (Option (Vec ℕ Global)) ToolError → Type 0
 GivesVerified name result = IfOk result (λ o. IfSome o (λ v. IsVerified (name, v.items)))
 
--- a block is given whose bytes are those that the name says; where the bytes of the file are known, it
--- has an index exactly where that is not said to be wanting, and a block is given that it lists
+-- A block that is found matches the CID. If the bytes of the file are known: the file has an index
+-- exactly if the answer is not `NoIndex`, and the index lists no such block if it is `NoEntry`.
 abbrev pub IsFound : Option (List ℕ) → CidParts → Found → Type 0
 IsFound known name (found.Block v) = IsVerified (name, v.items) × IfSome known HasIndex
 IsFound known name found.NoEntry = IfSome known (λ b. HasIndex b × ¬ IsListed b name)
@@ -51,21 +51,21 @@ IsFound known name found.NoIndex = IfSome known (λ b. ¬ HasIndex b)
 
 -- ---- the steps
 
--- a block is given where this is so
+-- a block is returned if this holds
 abbrev pub GivesWhere : Type 0 → Result (Option (Vec ℕ Global)) ToolError → Type 0
 GivesWhere IsSo result = IfOk result (λ o. MatchOption o (¬ IsSo) (λ _. ⊤))
 
--- the same of known bytes
+-- the same for known bytes
 abbrev pub GivesOf : Option (List ℕ) → (List ℕ → Type 0) → Result (Option (Vec ℕ Global)) ToolError
     → Type 0
 GivesOf known IsSo result = IfSome known (λ b. length b < 2 ^ 64 → GivesWhere (IsSo b) result)
 
--- such a section begins so many bytes into the file of version 1
+-- such a section begins at this offset in the CARv1 payload
 abbrev pub IsSoughtAt : CidParts → Layout → ℕ → List ℕ → Type 0
 IsSoughtAt name layout offset b =
     BeginsSought name (layout.length - offset) (drop (layout.begin + offset) b)
 
--- the entries of the name's digest lead to it, so many after the first
+-- the entry of the CID's digest that is `k` after the first leads to it
 pub record LeadsAt (name : CidParts) (layout : Layout) (bucket : Bucket) (k : ℕ) (b : List ℕ) : Type 0 where
   pub whole : ¬ EndsWithin b bucket name.digest
   pub few : bucket.count < 2 ^ 32
@@ -74,22 +74,22 @@ pub record LeadsAt (name : CidParts) (layout : Layout) (bucket : Bucket) (k : �
       × IsEntryOf b bucket name.digest (n + k) offset × IsSoughtAt name layout offset b
       × ((m : ℕ) → m < k → (place : ℕ) × IsEntryOf b bucket name.digest (n + m) place)
 
--- among the first 16
+-- one of the first 16 entries does
 abbrev pub LeadsIn : CidParts → Layout → Bucket → List ℕ → Type 0
 LeadsIn name layout bucket b = (k : ℕ) × (k < 16) × LeadsAt name layout bucket k b
 
--- and these are found
+-- one of the entries that are found does
 abbrev pub LeadsBy : CidParts → Layout → List ℕ → Type 0
 LeadsBy name layout b = (bucket : Bucket)
     × (find_bucket b layout.index name.hash_code name.digest ≡ Some bucket) × LeadsIn name layout bucket b
 
 -- ---- the law
 
--- what `index` writes of these sections and entries
+-- what `index` writes for these sections and entries
 abbrev pub written : List (List ℕ) → List Section → List EntryParts → List ℕ
 written roots sections entries = indexed_bytes (car_bytes roots sections) (index_bytes entries)
 
--- A block of a file that `index` writes is listed, if it is among the first 16 of its multihash.
+-- The index that `index` writes lists a block, if it is among the first 16 with its multihash.
 abbrev pub IndexLists : Type 0
 IndexLists = (roots : List (List ℕ)) (before behind : List Section) (s : Section) (entries : List EntryParts) (k : ℕ)
     → AllByRecursion IsSection (before ++ (s ∷ behind)) → IsVerified s

@@ -1,4 +1,4 @@
--- A file of version 2 with an index of its sections (CARv2 specification).
+-- A CAR file of version 2 with an index of its sections (CARv2 specification).
 use Rattle.std.specs.Prelude.{◌≡◌, ◌⊎◌, ℕ, ◌+◌, List, [], ◌∷◌, ◌++◌, length, replicate, Bool, true, false, Option, Result, MatchResult, IsPermutation, IsSorted}
 use Rattle.std.specs.Int.{w64, to_le_bytes}
 use Rattle.std.specs.Bool.{⊤}
@@ -11,35 +11,35 @@ use Rattle.dagcbor_cli.specs.declared.fault.ToolError.{ToolError}
 
 -- ---- the entries
 
--- the entry of a section before which so many bytes of the file of version 1 stand
+-- the entry of a section at this offset in the CARv1 payload
 abbrev pub entry_of : ℕ → Section → EntryParts
 entry_of place s = record { hash_code = s.0.hash_code; digest = s.0.digest; offset = place }
 
--- the entries of sections that stand one after the other, the first of them at this place
+-- the entries of consecutive sections, the first at this offset
 abbrev pub entries_of : ℕ → List Section → List EntryParts
 entries_of place [] = []
 entries_of place (s ∷ ss) = entry_of place s ∷ entries_of (place + length (section_bytes s)) ss
 
--- these are the entries of all sections of the file of version 1, in order
+-- these are the entries of all sections of the CARv1 payload, in order
 pub record AreEntries (roots : List (List ℕ)) (sections : List Section) (entries : List EntryParts) : Type 0 where
   pub each : IsPermutation (entries_of (length (header_bytes roots)) sections) entries
   pub sorted : IsSorted entry_cmp entries
 
 -- ---- the file
 
--- the header of version 2 before a file of version 1 of so many bytes and an index: what begins
--- version 2; the characteristics, of which the first bit says that each section is listed; where the
--- file of version 1 begins, how long it is, and where the index begins
+-- the CARv2 header before a CARv1 payload of `n` bytes and an index: the pragma; the
+-- characteristics, whose first bit says that all sections are listed; the offset and length of the
+-- payload, and the offset of the index
 abbrev pub version_2_header : ℕ → List ℕ
 version_2_header n = pragma ++ ((0x80 ∷ replicate 15 0)
     ++ (to_le_bytes w64 51 ++ (to_le_bytes w64 n ++ to_le_bytes w64 (51 + n))))
 
--- that, the file of version 1, and the index
+-- the header, the CARv1 payload, and the index
 abbrev pub indexed_bytes : List ℕ → List ℕ → List ℕ
 indexed_bytes car index = version_2_header (length car) ++ (car ++ index)
 
--- What `index` writes of a file: its file of version 1 with an index of all its sections, which is one
--- of version 2. Or the bytes are no file: nothing is written, and a line tells why.
+-- What `index` writes for a file: a CAR file of version 2, with the file's CARv1 payload and an
+-- index of all its sections. If the bytes are not a CAR file: nothing, and a line that says why.
 abbrev pub IsIndexed : List ℕ → Bool → List ℕ → List ℕ → Type 0
 IsIndexed b well out told = ((roots : List (List ℕ)) × (sections : List Section) × (entries : List EntryParts)
     × IsFile b roots sections × AreEntries roots sections entries
@@ -49,8 +49,8 @@ IsIndexed b well out told = ((roots : List (List ℕ)) × (sections : List Secti
 
 -- ---- how it goes out
 
--- what is said went out on the output, and what is told on the errors; or nothing did; or a device or
--- the source failed, and fronts of both did
+-- the output and the error lines were written; or nothing was; or a device or the source failed,
+-- and prefixes of both were
 abbrev pub SaysSome : (Bool → List ℕ → List ℕ → Type 0) → Option (List ℕ) → Option (List ℕ)
     → Result Bool ToolError → Option (List ℕ) → Option (List ℕ) → Type 0
 SaysSome IsSaid old heard result new after = MatchResult result

@@ -1,4 +1,4 @@
--- What is found of the index of a file that is read at places (CARv2 specification, "Index").
+-- What is wrong with the index of a random-access file (CARv2 specification, "Index").
 use Rattle.std.specs.Prelude.{◌≡◌, ℕ, ◌+◌, List, [], ◌∷◌, ◌++◌, length, drop, Result, Ok, Err, MatchResult, Vec}
 use Rattle.std.specs.Bool.{⊤}
 use Rattle.std.specs.declared.alloc.Global.{Global}
@@ -22,26 +22,26 @@ use Rattle.index_lines.specs.declared.judged.Judged.TheVariants as judged
 
 -- ---- the sections
 
--- a section before which so many bytes of the file of version 1 stand
+-- a section at this offset in the CARv1 payload
 abbrev pub placed : ℕ → Section → Placed
 placed place s = record { cid = s.0; offset = place }
 
--- sections that stand one after the other, the first of them at this place
+-- consecutive sections, the first at this offset
 abbrev pub places_of : ℕ → List Section → List Placed
 places_of place [] = []
 places_of place (s ∷ ss) = placed place s ∷ places_of (place + length (section_bytes s)) ss
 
--- those of the file of version 1
+-- the sections of the CARv1 payload
 abbrev pub file_places : List (List ℕ) → List Section → List Placed
 file_places roots sections = places_of (length (header_bytes roots)) sections
 
--- these are the sections of the file; or the bytes are none, and a line tells why
+-- these are the sections of the file; or the bytes are not a CAR file, and a line says why
 abbrev pub ArePlaced : List ℕ → Result (Vec Placed Global) (Vec ℕ Global) → Type 0
 ArePlaced b result = MatchResult result
     (λ v. (roots : List (List ℕ)) × (sections : List Section) × IsFile b roots sections × (v.items ≡ file_places roots sections))
     (λ line. TellsFault (λ sections. ⊤) b line.items)
 
--- the next section stands after those before it
+-- the next section is placed right after those before it
 abbrev pub PlacesNext : SinkTakes Placing AllocError
 PlacesNext s old (Ok u) new = (new.sections.items ≡ old.sections.items ++ placed old.place s ∷ [])
     × (new.place ≡ old.place + length (section_bytes s))
@@ -49,24 +49,24 @@ PlacesNext s old (Err e) new = ⊤
 
 -- ---- the index
 
--- what stands where the header says that the index does
+-- the bytes where the header says that the index is, read as an index
 abbrev pub entries_at : List ℕ → Result (Format × List EntryParts) IndexFault
 entries_at b = index_entries (drop (index_field b) b)
 
--- what an index holds: none is there, or it cannot be read, or these are its entries
+-- what an index holds: there is none, or it cannot be read, or these are its entries
 abbrev pub HoldsEntries : List ℕ → Listed → Type 0
 HoldsEntries b lists.NoIndex = ¬ HasIndex b
 HoldsEntries b (lists.NoEntries e) = HasIndex b × (entries_at b ≡ Err e)
 HoldsEntries b (lists.Index l) = HasIndex b × (entries_at b ≡ Ok (l.format, l.entries.items))
 
--- this is found of an index of this format and these entries, against these sections
+-- this is found by judging an index with this format and these entries against these sections
 abbrev pub JudgesListing : Format → List EntryParts → List Placed → Judged → Type 0
 JudgesListing f es ps judged.NoIndex = ⊥
 JudgesListing f es ps (judged.NoFile line) = ⊥
 JudgesListing f es ps (judged.NoEntries e) = ⊥
 JudgesListing f es ps (judged.Found it) = (it.count ≡ length es) × AreFindings f es ps it.findings
 
--- this is found of what was read as an index
+-- this is found by judging what was read as an index
 abbrev pub JudgesEntries : Result (Format × List EntryParts) IndexFault → List Placed → Judged → Type 0
 JudgesEntries read ps judged.NoIndex = ⊥
 JudgesEntries read ps (judged.NoFile line) = ⊥
@@ -74,8 +74,9 @@ JudgesEntries read ps (judged.NoEntries e) = read ≡ Err e
 JudgesEntries read ps (judged.Found it) = (f : Format) × (es : List EntryParts) × (read ≡ Ok (f, es))
     × JudgesListing f es ps (judged.Found it)
 
--- what is found of an index: none is there; or the bytes are no file, which a line tells; or the file is
--- one, and its index cannot be read; or this is found of its entries against the sections
+-- What is found of an index: there is none; or the bytes are not a CAR file, and a line says why;
+-- or the index cannot be read; or this is found of its entries by judging them against the
+-- sections.
 abbrev pub IsJudged : List ℕ → Judged → Type 0
 IsJudged b judged.NoIndex = ¬ HasIndex b
 IsJudged b (judged.NoFile line) = HasIndex b × TellsFault (λ sections. ⊤) b line.items

@@ -1,13 +1,13 @@
--- Where the parts of a file of version 2 stand (CARv2 specification).
+-- Where the parts of a CAR file of version 2 are (CARv2 specification).
 use Rattle.std.specs.Prelude.{◌≡◌, ◌≢◌, ℕ, List}
 use Rattle.dagcbor_car.specs.Versions.{IsVersion2, number_behind, begin_of, length_of, HasSpan}
 use Rattle.index_lines.specs.declared.layout.Layout.{Layout}
 
--- where the index begins: that follows where the file of version 1 does, and how long it is
+-- the offset of the index, which the header gives after the offset and the length of the payload
 abbrev pub index_field : List ℕ → ℕ
 index_field b = number_behind 43 b
 
--- the bytes are of version 2, and an index is told of
+-- the bytes are of version 2, and their header says that they have an index
 abbrev pub HasIndex : List ℕ → Type 0
 HasIndex b = HasSpan b × (index_field b ≢ 0)
 
@@ -18,7 +18,7 @@ pub record IsLayout (b : List ℕ) (found : Layout) : Type 0 where
   pub long : found.length ≡ length_of b
   pub index : found.index ≡ index_field b
 
--- where the file of version 1 begins, in one of either version
+-- where the CARv1 payload begins, in a file of either version
 pub record BeginsAt (b : List ℕ) (place : ℕ) : Type 0 where
   pub within : HasSpan b → place ≡ begin_of b
   pub whole : (¬ IsVersion2 b) → place ≡ 0

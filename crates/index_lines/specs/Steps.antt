@@ -1,4 +1,4 @@
--- The steps of making an index.
+-- The steps that make an index.
 use Rattle.std.specs.Prelude.{◌≡◌, ℕ, ◌+◌, ◌≤◌, ◌<◌, ◌^◌, List, [], ◌∷◌, ◌++◌, length, take, drop, ⊤, Result, Ok, Err, MatchResult, Vec, Option, Bool, true, IfOk}
 use Rattle.std.specs.declared.alloc.Global.{Global}
 use Rattle.std.specs.declared.alloc.AllocError.{AllocError}
@@ -15,13 +15,14 @@ use Rattle.index_lines.specs.declared.gather.Gathering.{Gathering}
 use Rattle.index_lines.specs.declared.gather.Gathered.{Gathered}
 use Rattle.index_lines.specs.declared.index.Parts.{Parts}
 
--- the entry of the next section is after those of the sections before it
+-- the entry of the next section comes after those of the sections before it
 abbrev pub GathersNext : SinkTakes Gathering AllocError
 GathersNext s old (Ok u) new = (new.entries.items ≡ old.entries.items ++ entry_of old.place s ∷ [])
     × (new.place ≡ old.place + length (section_bytes s))
 GathersNext s old (Err e) new = ⊤
 
--- what is known of a whole file: the entries of its sections, and the length of its file of version 1
+-- what is gathered of a whole file: the entries of its sections, and the length of its CARv1
+-- payload
 pub record IsGathered (b : List ℕ) (found : Gathered) : Type 0 where
   pub roots : List (List ℕ)
   pub sections : List Section
@@ -29,18 +30,18 @@ pub record IsGathered (b : List ℕ) (found : Gathered) : Type 0 where
   pub entries : AreEntries roots sections found.entries.items
   pub length : found.length ≡ length (car_bytes roots sections)
 
--- what was gathered of a file; or the bytes are none, and a line tells why
+-- what was gathered of a file; or the bytes are not a CAR file, and a line says why
 abbrev pub Gathers : List ℕ → Result Gathered (Vec ℕ Global) → Type 0
 Gathers b result = MatchResult result (IsGathered b)
     (λ line. TellsFault (λ sections. ⊤) b line.items)
 
--- what stands before and after the file of version 1 of what was gathered, and where that begins
+-- the bytes before and after the CARv1 payload, given what was gathered, and where it begins
 pub record ArePartsOf (b : List ℕ) (found : Gathered) (parts : Parts) : Type 0 where
   pub before : parts.before.items ≡ version_2_header found.length
   pub begin : BeginsAt b parts.begin
   pub behind : parts.behind.items ≡ index_bytes found.entries.items
 
--- the file of version 2 of what was gathered went out; or a front of it did
+-- the CAR file of version 2 was written, given what was gathered; or a prefix of it was
 abbrev pub SendsFile : Gathered → List ℕ → Option (List ℕ) → Result Bool ToolError → Option (List ℕ)
     → Type 0
 SendsFile found b old result new = IsGathered b found → (roots : List (List ℕ)) × (sections : List Section)

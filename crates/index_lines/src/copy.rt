@@ -1,4 +1,4 @@
-//! Bytes that are copied from a place.
+//! Copies bytes of a random-access source.
 
 ghost use Rattle.std.specs.Prelude.{◌+◌, ◌≤◌, ◌++◌, take, drop, length, IfSome};
 ghost use Rattle.dagcbor_cli.specs.Writing.{WritesFront};
@@ -7,10 +7,10 @@ use car_index::{ReadAt, fill};
 use dagcbor_cli::{ToolError, write_all};
 use std::io::Write;
 
-/// How many bytes are copied at once.
+/// The most bytes copied at once.
 const PIECE: usize = 4096;
 
-/// Writes so many bytes from a place on, if they are there.
+/// Writes `count` bytes of the source from `place` on. An input error if they are not all there.
 #[tactic(auto, using(crate::proofs::Sending::front_none))]
 fn copy_piece<S: ReadAt, W: Write>(
     source: &S,
@@ -35,7 +35,7 @@ fn copy_piece<S: ReadAt, W: Write>(
     }
 }
 
-/// Writes so many bytes from a place on, if they are there.
+/// Writes `count` bytes of the source from `begin` on. An input error if they are not all there.
 fn copy_from<S: ReadAt, W: Write>(
     source: &S,
     begin: u64,
@@ -57,7 +57,7 @@ fn copy_from<S: ReadAt, W: Write>(
     Ok(())
 }
 
-/// Writes so many bytes from a place on, and then these.
+/// Writes `count` bytes of the source from `begin` on, and then `behind`.
 fn send_rest<S: ReadAt, W: Write>(
     source: &S,
     begin: u64,
@@ -72,7 +72,7 @@ fn send_rest<S: ReadAt, W: Write>(
     write_all(output, behind)
 }
 
-/// Writes so many bytes from a place on, between these.
+/// Writes `before`, `count` bytes of the source from `begin` on, and then `behind`.
 pub(crate) fn send_between<S: ReadAt, W: Write>(
     before: &[u8],
     source: &S,

@@ -1,5 +1,5 @@
-//! A block that is found by an index, which anyone may have made: no block is answered but one whose
-//! bytes are those that its name says.
+//! Finds a block by an index. Anyone may have made the index, so no block is returned unless its
+//! bytes match its CID.
 
 ghost use Rattle.std.specs.Prelude.{◌≡◌, List, ℕ, Some, Ok, IfOk, OnOk, IfSome, MatchBool};
 ghost use Rattle.dagcbor_heads.specs.Inputs.{input_reading};
@@ -20,24 +20,24 @@ use std::alloc::Global;
 use std::io;
 use std::io::BufRead;
 
-/// How many entries of one digest are tried.
+/// The most entries of a digest that are tried.
 const MOST_TRIES: u64 = 16;
 
-/// The greatest length of a digest.
+/// The greatest length of a digest, in bytes.
 const LONGEST_DIGEST: usize = 64;
 
-/// What the index of a file gives of a name.
+/// What the index of a file yields for a CID.
 #[derive(Drop)]
 pub enum Found {
-    /// The bytes that the name says.
+    /// The bytes of the block, which match the CID.
     Block(Vec<u8>),
-    /// Nothing: no entry leads to them.
+    /// No entry leads to the block.
     NoEntry,
-    /// Nothing: the file has no index.
+    /// The file has no index.
     NoIndex,
 }
 
-/// The answer of a read at a place.
+/// Returns the answer of a positioned read. Its errors become input errors.
 fn read_so<T: Drop>(read: io::Result<T>) -> Result<T, ToolError>
     ensures { IfOk result (λ value. read ≡ Ok value) }
 {
@@ -47,7 +47,7 @@ fn read_so<T: Drop>(read: io::Result<T>) -> Result<T, ToolError>
     }
 }
 
-/// Whether the section is of the name, and its bytes are those that it names.
+/// Returns whether the section has this CID and its bytes match it.
 fn is_sought(name: &Cid, section: &Section<'_>) -> bool
     ensures { MatchBool result
         ((section.now.cid ≡ name.now) × IsVerified (section.now.cid, section.now.block.now))
@@ -63,7 +63,7 @@ fn is_sought(name: &Cid, section: &Section<'_>) -> bool
     }
 }
 
-/// The block of the section, if that is sought.
+/// Returns the block of the section, if it is the one looked for.
 fn block_sought(
     alloc: Global,
     name: &Cid,
@@ -82,7 +82,7 @@ fn block_sought(
     }
 }
 
-/// Why no section was read, where that is not for its bytes.
+/// Returns the error for which no section was read, unless its cause is in the bytes.
 fn unread<E: Drop>(error: CarError<E>) -> Result<(), ToolError>
     ensures { OnOk result (IsOfBytes error) }
 {
@@ -93,7 +93,7 @@ fn unread<E: Drop>(error: CarError<E>) -> Result<(), ToolError>
     }
 }
 
-/// The block of the next section of the bytes that are left, if that is sought.
+/// Returns the block of the next section, if it is the one looked for.
 fn pull_sought<'de, R: Read>(
     alloc: Global,
     name: &Cid,
@@ -115,7 +115,7 @@ fn pull_sought<'de, R: Read>(
     }
 }
 
-/// The same, of a buffered source.
+/// The same, for a buffered source.
 fn pull_from<R: BufRead>(
     alloc: Global,
     name: &Cid,
@@ -134,7 +134,8 @@ fn pull_from<R: BufRead>(
     result
 }
 
-/// The block of the section that begins so many bytes into the file of version 1, if it is sought.
+/// Returns the block of the section at this offset in the CARv1 payload, if it is the one looked
+/// for.
 fn block_at<S: ReadAt>(
     alloc: Global,
     source: &S,
@@ -157,7 +158,7 @@ fn block_at<S: ReadAt>(
     }
 }
 
-/// The first block that is sought of those to which the entries of the digest lead.
+/// Returns the first block looked for that the entries of the digest lead to.
 fn block_in<S: ReadAt>(
     alloc: Global,
     source: &S,
@@ -168,7 +169,7 @@ fn block_in<S: ReadAt>(
     ensures given { GivesVerified name.now result }
     ensures sought { GivesOf (S.bytes source.now) (LeadsIn name.now layout.now bucket.now) result }
 {
-    // No name has a longer digest.
+    // No CID has a longer digest.
     let digest = name.digest();
     if digest.len() > LONGEST_DIGEST {
         return Ok(None);
@@ -187,7 +188,7 @@ fn block_in<S: ReadAt>(
     Ok(None)
 }
 
-/// The block of the name to which the index leads.
+/// Returns the block of this CID that the index leads to.
 fn block_by<S: ReadAt>(
     alloc: Global,
     source: &S,
@@ -203,8 +204,8 @@ fn block_by<S: ReadAt>(
     }
 }
 
-/// What the index of the file gives of the name. Nothing is read but the header of version 2, parts of
-/// the index, and sections to which entries of the digest lead.
+/// Returns what the index of the file yields for the CID. Reads only the CARv2 header, parts of the
+/// index, and the sections that entries of the digest lead to.
 pub fn find_block<S: ReadAt>(alloc: Global, source: &S, name: &Cid) -> Result<Found, ToolError>
     ensures { IfOk result (IsFound (S.bytes source.now) name.now) }
 {

@@ -1,4 +1,4 @@
-//! The entries of the sections of a file.
+//! Gathers the entries of the sections of a file.
 
 ghost use Rattle.std.specs.Prelude.{◌≡◌, ◌≤◌, List, ℕ, Some, length, IfOk, IfSome};
 ghost use Rattle.dagcbor_heads.specs.Inputs.{input_reading};
@@ -19,21 +19,21 @@ use ipld_tree::Cid;
 use std::alloc::{AllocError, Global};
 use std::io::BufRead;
 
-/// The entries of the sections that were taken, and where the next one begins.
+/// The entries of the sections taken so far, and the offset of the next.
 #[derive(Drop)]
 struct Gathering {
     entries: Vec<Entry>,
     place: u64,
 }
 
-/// The entries of a file, in order, and how long its file of version 1 is.
+/// The entries of a file, in order, and the length of its CARv1 payload.
 #[derive(Drop)]
 pub(crate) struct Gathered {
     pub entries: Vec<Entry>,
     pub length: u64,
 }
 
-/// The groups of seven bits of a number, the lowest first.
+/// Returns the varint of a number: groups of seven bits, the lowest first.
 fn varint_of(number: u64) -> ArrayVec<u8, 10>
     ensures { result.items ≡ varint number }
 {
@@ -47,7 +47,7 @@ fn varint_of(number: u64) -> ArrayVec<u8, 10>
     groups
 }
 
-/// How many bytes a number has as a varint.
+/// Returns the length of a number as a varint, in bytes.
 fn varint_length(number: u64) -> usize
     ensures length { result ≡ length (varint number) }
     ensures short { result ≤ 10 }
@@ -55,7 +55,7 @@ fn varint_length(number: u64) -> usize
     varint_of(number).len()
 }
 
-/// How many bytes the name of a block has.
+/// Returns the length of a CID in its binary form, in bytes.
 fn name_length(cid: &Cid) -> usize
     ensures length { result ≡ length (cid_bytes cid.now) }
     ensures short { result ≤ 86 }
@@ -65,7 +65,7 @@ fn name_length(cid: &Cid) -> usize
     name.len()
 }
 
-/// How many bytes a section has.
+/// Returns the length of a section, in bytes.
 #[tactic(auto, using(crate::proofs::Gathering::section_long))]
 pub(crate) fn section_length(section: &Section<'_>) -> u64
     ensures { result ≡ length (section_bytes (section.now.cid, section.now.block.now)) }
@@ -74,7 +74,7 @@ pub(crate) fn section_length(section: &Section<'_>) -> u64
     (varint_length(body as u64) + body) as u64
 }
 
-/// How many bytes the header of a file of these roots has.
+/// Returns the length of a header with these roots, in bytes.
 pub(crate) fn header_length(alloc: Global, roots: &[Cid]) -> Result<u64, ToolError>
     ensures { IfOk result (λ n. n ≡ length (header_bytes (forms roots.now))) }
 {
@@ -102,7 +102,7 @@ impl SectionSink for Gathering {
     }
 }
 
-/// The entries of what follows the header of these roots, of so much of the file.
+/// Returns the entries of the sections after the header with these roots, up to `extent` if given.
 fn gather_sections<'de, R: Read>(
     alloc: Global,
     roots: &[Cid],
@@ -130,7 +130,7 @@ fn gather_sections<'de, R: Read>(
     }
 }
 
-/// The entries of the file that the input has, or the line that tells why it is none.
+/// Returns the entries of the input's CAR file, or a line that says why it is not one.
 fn gather<'de, R: Read>(
     alloc: Global,
     input: &mut Input<'de, R>,
@@ -146,7 +146,7 @@ fn gather<'de, R: Read>(
     }
 }
 
-/// The same, of a source of bytes.
+/// The same, for a buffered source.
 fn gather_from<R: BufRead>(
     alloc: Global,
     input: &mut R,
@@ -161,7 +161,7 @@ fn gather_from<R: BufRead>(
     result
 }
 
-/// The entries of the file that is read at places, or the line that tells why it is none.
+/// Returns the entries of a random-access file, or a line that says why it is not a CAR file.
 pub(crate) fn gather_at<S: ReadAt>(
     alloc: Global,
     source: &S,

@@ -1,21 +1,21 @@
-//! The header of version 2.
+//! The CARv2 header.
 
 ghost use Rattle.std.specs.Prelude.{◌≡◌, ◌+◌, ◌≤◌, ◌^◌, MatchOption};
 ghost use Rattle.index_lines.specs.Indexed.{version_2_header};
 
 use arrayvec::ArrayVec;
 
-/// The bytes that begin version 2, and the characteristics: each section is listed.
+/// The pragma of version 2, and the characteristics: all sections are listed.
 const BEGINNING: [u8; 27] = [
     0x0a, 0xa1, 0x67, 0x76, 0x65, 0x72, 0x73, 0x69, 0x6f, 0x6e, 0x02, 0x80, 0, 0, 0, 0, 0, 0, 0, 0,
     0, 0, 0, 0, 0, 0, 0,
 ];
 
-/// How many bytes the header of version 2 has.
+/// The length of the CARv2 header, in bytes.
 const HEADER_LENGTH: u64 = 51;
 
-/// The header of version 2 before a file of version 1 of so many bytes and an index. None where the
-/// place of the index is no number below 2^64.
+/// Returns the CARv2 header before a CARv1 payload of this length and an index. `None` if the
+/// offset of the index is not below 2^64.
 pub(crate) fn header_of(length: u64) -> Option<ArrayVec<u8, 51>>
     ensures { MatchOption result (2 ^ 64 ≤ 51 + length) (λ h. h.items ≡ version_2_header length) }
 {

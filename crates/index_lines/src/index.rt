@@ -1,4 +1,4 @@
-//! `index`: a file of version 2 with an index of its sections.
+//! `index`: a CAR file of version 2 with an index of its sections.
 
 ghost use Rattle.std.specs.Prelude.{IfOk, IfSome};
 ghost use Rattle.index_lines.specs.Indexed.{IsIndexed, SaysSome};
@@ -15,7 +15,7 @@ use dagcbor_cli::ToolError;
 use std::alloc::Global;
 use std::io::Write;
 
-/// What stands before and after the file of version 1, and where that begins in the source.
+/// The bytes before and after the CARv1 payload, and where it begins in the source.
 #[derive(Drop)]
 pub(crate) struct Parts {
     before: ArrayVec<u8, 51>,
@@ -23,7 +23,7 @@ pub(crate) struct Parts {
     behind: Vec<u8>,
 }
 
-/// What stands before and after the file of version 1.
+/// Returns the bytes before and after the CARv1 payload, and where it begins in the source.
 fn parts_of<S: ReadAt>(alloc: Global, source: &S, found: &Gathered) -> Result<Parts, ToolError>
     ensures { IfSome (S.bytes source.now) (λ b. IfOk result (ArePartsOf b found.now)) }
 {
@@ -39,7 +39,7 @@ fn parts_of<S: ReadAt>(alloc: Global, source: &S, found: &Gathered) -> Result<Pa
     }
 }
 
-/// Writes the file of version 2 of what was gathered.
+/// Writes the CAR file of version 2, given what was gathered.
 fn say_indexed<S: ReadAt, W: Write>(
     alloc: Global,
     source: &S,
@@ -61,9 +61,9 @@ fn say_indexed<S: ReadAt, W: Write>(
     Ok(true)
 }
 
-/// Writes the file of version 2 with the roots and sections of the file that is read at places, and
-/// an index of all sections; or tells why it is no file. Whether it is one. One section is in memory at
-/// a time, and the entries are.
+/// Writes a CAR file of version 2 with the roots and sections of the random-access file, and an
+/// index of all sections; or an error line that says why it is not a CAR file. Returns whether it
+/// is one. Holds one section at a time in memory, and the entries.
 pub fn write_index<S: ReadAt, W: Write, V: Write>(
     alloc: Global,
     source: &S,

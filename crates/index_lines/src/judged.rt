@@ -1,4 +1,4 @@
-//! The index of a file, read whole, and judged.
+//! Reads the whole index of a file, and judges it.
 
 ghost use Rattle.std.specs.Prelude.{IfOk, IfSome, drop};
 ghost use Rattle.car_index.specs.Entries.{index_entries};
@@ -13,33 +13,33 @@ use std::alloc::Global;
 /// What the index of a file holds.
 #[derive(Drop)]
 pub enum Listed {
-    /// The file has none.
+    /// The file has no index.
     NoIndex,
-    /// What stands there is none.
+    /// The bytes in the place of the index are not one.
     NoEntries(IndexFault),
     Index(Listing),
 }
 
-/// What was found of the entries of an index, and how many these are.
+/// What is wrong with the entries of an index, and their number.
 #[derive(Drop)]
 pub struct Judgement {
     pub count: u64,
     pub findings: Findings,
 }
 
-/// What is found of the index of a file.
+/// What is found by judging the index of a file.
 #[derive(Drop)]
 pub enum Judged {
-    /// The file has none.
+    /// The file has no index.
     NoIndex,
-    /// The bytes are no file: why, in a line.
+    /// The bytes are not a CAR file. The line says why.
     NoFile(Vec<u8>),
-    /// What stands there is none.
+    /// The bytes in the place of the index are not one.
     NoEntries(IndexFault),
     Found(Judgement),
 }
 
-/// What the index of the file holds. Nothing else of the file is read but the header of version 2.
+/// Returns what the index of the file holds. Reads only the CARv2 header and the index.
 pub fn list_index<S: ReadAt>(alloc: Global, source: &S) -> Result<Listed, ToolError>
     ensures { IfSome (S.bytes source.now) (λ b. IfOk result (HoldsEntries b)) }
 {
@@ -54,7 +54,7 @@ pub fn list_index<S: ReadAt>(alloc: Global, source: &S) -> Result<Listed, ToolEr
     }
 }
 
-/// What is found of an index against the sections of its file.
+/// Judges an index against the sections of its file.
 fn judge_listing(alloc: Global, listing: Listing, sections: &[Placed]) -> Result<Judged, ToolError>
     ensures { IfOk result (JudgesListing listing.format listing.entries.items sections.now) }
 {
@@ -65,7 +65,7 @@ fn judge_listing(alloc: Global, listing: Listing, sections: &[Placed]) -> Result
     }
 }
 
-/// What is found of the index at a place against the sections of its file.
+/// Judges the index at this offset against the sections of its file.
 fn judge_at<S: ReadAt>(
     alloc: Global,
     source: &S,
@@ -83,8 +83,8 @@ fn judge_at<S: ReadAt>(
     }
 }
 
-/// What is found of the index of the file, against its sections. The file is read once from its first byte
-/// on, one section in memory at a time, and then the index.
+/// Judges the index of the file against its sections. Reads the file once from its start, one
+/// section in memory at a time, and then the index.
 pub fn judge_index<S: ReadAt>(alloc: Global, source: &S) -> Result<Judged, ToolError>
     ensures { IfSome (S.bytes source.now) (λ b. IfOk result (IsJudged b)) }
 {

@@ -1,8 +1,8 @@
-//! A law of indexes, which is the contract of a function that does nothing.
+//! A law about indexes, which is the contract of a function that does nothing.
 
 ghost use Rattle.index_lines.specs.Finds.{IndexLists};
 
-/// A block of a file that `index` writes is listed.
+/// The index that `index` writes lists the blocks of the file.
 pub fn index_lists()
     ensures { IndexLists }
 {}

@@ -1,4 +1,4 @@
-//! Where the parts of a file of version 2 stand.
+//! Where the parts of a CAR file of version 2 are.
 
 ghost use Rattle.std.specs.Prelude.{◌≡◌, ◌≤◌, length, IfOk, IfSome, MatchOption};
 ghost use Rattle.index_lines.specs.Layouts.{index_field, HasIndex, IsLayout, BeginsAt};
@@ -8,24 +8,24 @@ use car_index::{ReadAt, fill, number_at};
 use dagcbor_car::{Span, file_span};
 use dagcbor_cli::ToolError;
 
-/// How many bytes the header of version 2 has.
+/// The length of the CARv2 header, in bytes.
 const HEADER_LENGTH: usize = 51;
 
-/// Where the header says where the index begins.
+/// The offset of the header field with the offset of the index.
 const INDEX_FIELD: u64 = 43;
 
-/// Where the parts of a file of version 2 stand that has an index.
+/// Where the parts of a CAR file of version 2 with an index are.
 #[derive(Clone, Copy, Drop)]
 pub(crate) struct Layout {
-    /// Where the file of version 1 begins.
+    /// The offset of the CARv1 payload.
     pub begin: u64,
-    /// How long that is.
+    /// The length of the payload, in bytes.
     pub length: u64,
-    /// Where the index begins.
+    /// The offset of the index.
     pub index: u64,
 }
 
-/// Where the header of version 2 says that the file of version 1 stands. None where it is no such
+/// Returns where the CARv2 header says that the CARv1 payload is. `None` if it is not such a
 /// header.
 fn span_in(header: &[u8]) -> Option<Span>
     ensures { IsSpanOf header.now result }
@@ -36,7 +36,7 @@ fn span_in(header: &[u8]) -> Option<Span>
     }
 }
 
-/// Where the file of version 1 stands in one of version 2. None in any other file.
+/// Returns where the CARv1 payload is in a file of version 2. `None` for any other file.
 fn span_at<S: ReadAt>(source: &S) -> Result<Option<Span>, ToolError>
     ensures { IfSome (S.bytes source.now) (λ b. IfOk result (IsSpanOf b)) }
 {
@@ -47,7 +47,7 @@ fn span_at<S: ReadAt>(source: &S) -> Result<Option<Span>, ToolError>
     }
 }
 
-/// Where the file of version 1 begins, in one of either version.
+/// Returns where the CARv1 payload begins, in a file of either version.
 pub(crate) fn data_begin<S: ReadAt>(source: &S) -> Result<u64, ToolError>
     ensures { IfSome (S.bytes source.now) (λ b. IfOk result (BeginsAt b)) }
 {
@@ -57,7 +57,7 @@ pub(crate) fn data_begin<S: ReadAt>(source: &S) -> Result<u64, ToolError>
     }
 }
 
-/// Where the header says that the index begins: 0 where none does, or there is no header.
+/// Returns the offset of the index that the header gives, or 0 if the file is too short.
 fn index_begin<S: ReadAt>(source: &S) -> Result<u64, ToolError>
     ensures { IfSome (S.bytes source.now) (λ b. IfOk result (λ n. 51 ≤ length b
         → n ≡ index_field b)) }
@@ -68,7 +68,7 @@ fn index_begin<S: ReadAt>(source: &S) -> Result<u64, ToolError>
     }
 }
 
-/// Where the parts of the file stand, if it is of version 2 and has an index.
+/// Returns where the parts of the file are, if it is of version 2 and has an index.
 pub(crate) fn layout_of<S: ReadAt>(source: &S) -> Result<Option<Layout>, ToolError>
     ensures { IfSome (S.bytes source.now) (λ b. IfOk result (λ found. MatchOption found
         (¬ HasIndex b) (IsLayout b))) }

@@ -1,4 +1,4 @@
-//! CAR files of version 2, with an index: made, and read at places.
+//! CAR files of version 2 with an index: written, and read by random access.
 #![tactic(auto)]
 
 mod copy;

@@ -17,7 +17,7 @@ use ipld_tree::Cid;
 use std::alloc::{AllocError, Global};
 use std::io::BufRead;
 
-/// The sections that were taken, and where the next one begins.
+/// The sections taken so far, and the offset of the next.
 #[derive(Drop)]
 struct Placing {
     sections: Vec<Placed>,
@@ -44,7 +44,7 @@ impl SectionSink for Placing {
     }
 }
 
-/// The sections of what is after the header of these roots, of so much of the file.
+/// Returns the sections after the header with these roots, up to `extent` if given.
 fn place_sections<'de, R: Read>(
     alloc: Global,
     roots: &[Cid],
@@ -65,7 +65,7 @@ fn place_sections<'de, R: Read>(
     }
 }
 
-/// The sections of the file that the input has, or the line that tells why it is none.
+/// Returns the sections of the input's CAR file, or a line that says why it is not one.
 fn place_file<'de, R: Read>(
     alloc: Global,
     input: &mut Input<'de, R>,
@@ -81,7 +81,7 @@ fn place_file<'de, R: Read>(
     }
 }
 
-/// The same, of a source of bytes.
+/// The same, for a buffered source.
 fn place_from<R: BufRead>(
     alloc: Global,
     input: &mut R,
@@ -96,7 +96,7 @@ fn place_from<R: BufRead>(
     result
 }
 
-/// The sections of the file that is read at places, or the line that tells why it is none.
+/// Returns the sections of a random-access file, or a line that says why it is not a CAR file.
 pub(crate) fn place_at<S: ReadAt>(
     alloc: Global,
     source: &S,

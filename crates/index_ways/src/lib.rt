@@ -1,4 +1,4 @@
-//! The blocks on a path's way in a file, by the index of that file.
+//! Gathers the blocks on a path's way in a file, by the file's index.
 #![tactic(auto)]
 
 mod way;

@@ -1,5 +1,5 @@
-//! The blocks on a path's way, to which the index of a file leads. Anyone may have made that, so each
-//! block is verified before a link in it is followed.
+//! Gathers the blocks on a path's way to which the index of a file leads. Anyone may have made the
+//! index, so each block is verified before a link in it is followed.
 
 ghost use Rattle.std.specs.Prelude.{IfOk};
 ghost use Rattle.dagcbor_paths.specs.Paths.{segments};
@@ -15,18 +15,19 @@ use ipld_tree::Cid;
 use std::alloc::Global;
 use std::collections::BTreeMap;
 
-/// What an index gives of a path's way.
+/// What an index yields for a path's way.
 #[derive(Drop)]
 pub enum Gathered {
     /// The blocks on the way.
     Blocks(BTreeMap<Cid, Vec<u8>>),
-    /// Nothing: no entry leads to one of them.
+    /// No entry leads to one of them.
     NoEntry,
-    /// Nothing: the file has no index.
+    /// The file has no index.
     NoIndex,
 }
 
-/// Puts the block of the name into the map, if the index leads to it. Whether the file has an index.
+/// Adds the block of this CID to the map, if the index leads to it. Returns whether the file has an
+/// index.
 fn look_up<S: ReadAt>(
     alloc: Global,
     source: &S,
@@ -50,8 +51,8 @@ fn look_up<S: ReadAt>(
     }
 }
 
-/// What the index of the file gives of the path's way from the root. Nothing is read but what
-/// `find_block` reads for each block on the way.
+/// Returns the blocks on the path's way from the root, by the index of the file. Reads only what
+/// `find_block` reads for each of them.
 pub fn gather_way<S: ReadAt>(
     alloc: Global,
     source: &S,
@@ -79,6 +80,6 @@ pub fn gather_way<S: ReadAt>(
             Err(_) => return Err(ToolError::OutOfMemory),
         }
     }
-    // Links that go in a circle: no run comes to here.
+    // Only a cycle of links leads here, so no run does.
     Err(ToolError::OutOfMemory)
 }

@@ -1,4 +1,4 @@
--- What is told of a path that ended at no item.
+-- What programs say of a path that does not end at an item.
 use Rattle.std.specs.Prelude.{◌≡◌, ℕ, List, [], ◌∷◌, ◌++◌, codes, Bool, false, ⊤}
 use Rattle.ipld_tree.specs.Cid.{CidParts}
 use Rattle.cid_text.specs.Texts.{cid_text}
@@ -9,7 +9,7 @@ use Rattle.dagcbor_resolve.specs.declared.resolution.End.TheVariants as ends
 use Rattle.dagcbor_resolve.specs.declared.resolution.Resolved.{Resolved}
 use Rattle.block_lines.specs.Lines.{line, missing_line, verdict_text}
 
--- why a path ended at no item, at the block of this name
+-- the line that says why a path does not end at an item, in this block
 abbrev pub end_line : CidParts → End → List ℕ
 end_line name (ends.Item kind place end) = []
 end_line name (ends.NoSuchPath left) = line (cid_text name ++ (codes " has nothing at " ++ left.now))
@@ -18,12 +18,12 @@ end_line name (ends.NoBlock verdict) = line (cid_text name ++ (32 ∷ verdict_te
 end_line name ends.NoModel = line (cid_text name ++ codes " refused NameNotText")
 end_line name ends.Endless = line (cid_text name ++ codes " leads on")
 
--- a path did not end at an item
+-- a path does not end at an item
 abbrev pub IsNoItem : End → Type 0
 IsNoItem (ends.Item kind place end) = ⊥
 IsNoItem _ = ⊤
 
--- The path does not end at an item, of which a line tells.
+-- The path does not end at an item, and a line says why.
 abbrev pub IsToldAt : Stored → CidParts → List (List ℕ) → Bool → List ℕ → List ℕ → Type 0
 IsToldAt stored root path well out told = (r : Resolved) × Resolves stored root path r × IsNoItem r.end
     × (well ≡ false) × (out ≡ []) × (told ≡ end_line r.block r.end)

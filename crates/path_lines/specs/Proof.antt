@@ -1,4 +1,4 @@
--- A file that proves what a path leads to.
+-- A CAR file that proves what a path leads to.
 use Rattle.std.specs.Prelude.{◌≡◌, ◌⊎◌, ℕ, List, [], ◌∷◌, Bool, true, false, ⊤}
 use Rattle.ipld_tree.specs.Cid.{CidParts, cid_bytes}
 use Rattle.ipld_links.specs.Reaching.{Stored}
@@ -10,14 +10,14 @@ use Rattle.dagcbor_resolve.specs.declared.resolution.End.TheVariants as ends
 use Rattle.dagcbor_resolve.specs.declared.resolution.Resolved.{Resolved}
 use Rattle.path_lines.specs.Ends.{end_line}
 
--- the blocks on the way decide what the path leads to: an item, or nothing at a segment
+-- the blocks on the way decide the path: it leads to an item, or to nothing at a segment
 abbrev pub IsDecided : End → Type 0
 IsDecided (ends.Item kind place end) = ⊤
 IsDecided (ends.NoSuchPath left) = ⊤
 IsDecided _ = ⊥
 
--- The file (version 1) of the root, and of the blocks on the path's way that are stored, each once. A
--- name by the identity, under which none is stored, holds its block itself, and has no section.
+-- The CAR file (version 1) of the root and the stored blocks on the path's way, each once. An
+-- identity CID without a stored block holds its block itself, and has no section.
 pub record IsProofFile (stored : Stored) (root : CidParts) (path : List (List ℕ)) (out : List ℕ) : Type 0 where
   pub way : List CidParts
   pub once : List CidParts
@@ -25,8 +25,8 @@ pub record IsProofFile (stored : Stored) (root : CidParts) (path : List (List �
   pub each : AreOnceEach way once
   pub file : IsCar out (cid_bytes root ∷ []) (sections_at stored once)
 
--- what `prove` gives of what is stored: that file, where it decides what the path leads to; else
--- nothing, and a line that tells where the path ended
+-- what `prove` writes over stored blocks: that file, if it decides the path; else nothing, and a
+-- line that says where the path ended
 abbrev pub IsProofOf : Stored → CidParts → List (List ℕ) → Bool → List ℕ → List ℕ → Type 0
 IsProofOf stored root path well out told = (r : Resolved) × Resolves stored root path r
     × ((IsDecided r.end × IsProofFile stored root path out × (well ≡ true) × (told ≡ []))

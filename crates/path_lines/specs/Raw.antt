@@ -7,12 +7,12 @@ use Rattle.ipld_links.specs.Reaching.{Stored}
 use Rattle.dagcbor_resolve.specs.Laws.{Leads}
 use Rattle.path_lines.specs.Ends.{IsToldAt}
 
--- The path leads from the root to a tree, of which this is the block.
+-- The path leads from the root to a tree, and this is its block.
 abbrev pub IsBlockAt : Stored → CidParts → List (List ℕ) → Bool → List ℕ → List ℕ → Type 0
 IsBlockAt stored root path well out told = (n : ℕ) × (u : Tree) × Leads n stored root path (Some u)
     × (well ≡ true) × IsBlock out u × (told ≡ [])
 
--- what `at --raw` says of what is stored
+-- what `at --raw` says of stored blocks
 abbrev pub IsRawOf : Stored → CidParts → List (List ℕ) → Bool → List ℕ → List ℕ → Type 0
 IsRawOf stored root path well out told =
     IsBlockAt stored root path well out told ⊎ IsToldAt stored root path well out told

@@ -1,4 +1,4 @@
-//! What is told of a path that ended at no item.
+//! What programs say of a path that does not end at an item.
 
 ghost use Rattle.std.specs.Prelude.{◌≡◌, [], false, IfOk};
 ghost use Rattle.block_lines.specs.Lines.{SaysBoth};
@@ -12,7 +12,7 @@ use ipld_tree::Cid;
 use std::alloc::{AllocError, Global};
 use std::io::Write;
 
-/// The line that tells why a path ended at no item, in the block of this name.
+/// Returns the line that says why a path does not end at an item, in this block.
 pub fn end_told(alloc: Global, block: &Cid, end: &End<'_>) -> Result<Vec<u8>, AllocError>
     ensures { IfOk result (λ v. v.items ≡ end_line block.now end.now) }
 {
@@ -36,7 +36,7 @@ pub fn end_told(alloc: Global, block: &Cid, end: &End<'_>) -> Result<Vec<u8>, Al
     }
 }
 
-/// Tells why a path ended at no item.
+/// Writes why a path does not end at an item.
 pub fn say_end<W: Write, V: Write>(
     alloc: Global,
     resolved: &Resolved<'_>,

@@ -1,4 +1,5 @@
-//! What programs say of a path over blocks: at its end, the bytes of its item, or a file that proves it.
+//! What programs say of a path over blocks: why it ends early, the bytes of its item, or a CAR file
+//! as proof.
 #![tactic(auto)]
 
 mod end;

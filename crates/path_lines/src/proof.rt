@@ -1,4 +1,4 @@
-//! A file that proves what a path leads to.
+//! A CAR file that proves what a path leads to.
 
 ghost use Rattle.std.specs.Prelude.{List, ℕ, [], ◌∷◌, IfOk, MatchBool};
 ghost use Rattle.ipld_tree.specs.Cid.{cid_bytes};
@@ -21,7 +21,7 @@ use std::alloc::{AllocError, Global};
 use std::collections::BTreeMap;
 use std::io::Write;
 
-/// Whether the blocks on the way decide what the path leads to: an item, or nothing.
+/// Returns whether the blocks on the way decide the path: it leads to an item, or to nothing.
 fn is_decided(end: &End<'_>) -> bool
     ensures { MatchBool result (IsDecided end.now) (¬ IsDecided end.now) }
 {
@@ -35,7 +35,7 @@ fn is_decided(end: &End<'_>) -> bool
     }
 }
 
-/// The file of the root, and of the blocks of these names.
+/// Returns the CAR file of the root and the blocks of these names.
 fn file_of(
     alloc: Global,
     root: &Cid,
@@ -52,7 +52,8 @@ fn file_of(
     }
 }
 
-/// The file that proves what the path leads to from the root, over whose way these names are.
+/// Returns the CAR file that proves what the path leads to from the root, whose way has these
+/// names.
 fn proof_over(
     alloc: Global,
     root: &Cid,
@@ -66,8 +67,9 @@ fn proof_over(
     file_of(alloc, root, blocks, &names)
 }
 
-/// Writes the file that proves what the path leads to from the root, or that it leads to nothing; or
-/// tells why that is not decided. Whether it is. The file is made in memory, and then written.
+/// Writes the CAR file that proves what the path leads to from the root, or that it leads to
+/// nothing; or an error line that says why this is not decided. Returns whether it is. Makes the
+/// file in memory, and then writes it.
 pub fn say_proof<W: Write, V: Write>(
     alloc: Global,
     root: &Cid,

@@ -13,8 +13,8 @@ use std::alloc::Global;
 use std::collections::BTreeMap;
 use std::io::Write;
 
-/// Writes the bytes of the item to which the path leads from the root, which are a block, or tells why
-/// it leads to none. Whether it does.
+/// Writes the bytes of the item that the path leads to from the root, which are a block, or an
+/// error line that says why it leads to none. Returns whether it leads to one.
 pub fn say_raw<W: Write, V: Write>(
     alloc: Global,
     root: &Cid,

@@ -1,4 +1,4 @@
--- How a line goes out.
+-- How a line is written.
 use Rattle.std.proofs.Common.{◌≡◌, ◌↔◌, inl, inr, ℕ, ◌==◌, List, [], ◌∷◌, ◌++◌, length, Bool, true, IsTrue, ◌&&◌, eqb-true, refl, sym, ap, ◌∙◌, subst, append_assoc, append-nil, Option, Result, Ok, Err, OnOk, IsErrAnd}
 use Rattle.std.proofs.Math.Bool.{and-true, and_assoc}
 use Rattle.std.proofs.lemmas.List.{nil_from_length}
@@ -28,20 +28,20 @@ both_said IsSaid lines text well old heard (Err e) new after is (inl none) = inl
 both_said IsSaid lines text well old heard (Err e) new after is (inr k) =
     inr (k.0, k.1, k.2, k.3, k.4, subst (λ x. x) (λ i. IsSaid (sym k.5.0 i) (sym k.5.1 i) (sym k.5.2 i)) is, k.6, k.7, k.8)
 
--- what is said of the one is said of the other
+-- what holds of one answer holds of the other
 pub both_of : (P Q : Bool → List ℕ → List ℕ → Type 0) (old heard : Option (List ℕ)) (r : Result Bool ToolError) (new after : Option (List ℕ)) → ((well : Bool) (said told : List ℕ) → P well said told → Q well said told) → SaysBoth P old heard r new after → SaysBoth Q old heard r new after
 both_of P Q old heard (Ok w) new after f k = (k.0, k.1, f w k.0 k.1 k.2, k.3, k.4)
 both_of P Q old heard (Err e) new after f (inl none) = inl none
 both_of P Q old heard (Err e) new after f (inr k) = inr (k.0, k.1, k.2, k.3, k.4, f k.0 (k.1 ++ k.2) (k.3 ++ k.4) k.5, k.6, k.7, k.8)
 
--- where the first of the two broke off, nothing is told
+-- if writing the output broke off, there is no error line
 pub first_broken : (lines text bytes : List ℕ) (well : Bool) (old heard : Option (List ℕ)) (r : Result Bool ToolError) (new : Option (List ℕ)) (x : ToolError) → bytes ≡ lines → IsErrAnd r (λ e. e ≡ x) → x ≡ Output
     → ((front back : List ℕ) × (bytes ≡ front ++ back) × Appends old new front) → SaysBoth (λ w said told. (w ≡ well) × (said ≡ lines) × (told ≡ text)) old heard r new heard
 first_broken lines text bytes well old heard (Ok w) new x same is fault k = absurd is
 first_broken lines text bytes well old heard (Err e) new x same is fault k =
     inr (well, k.0, k.1, [], text, (refl, sym k.2 ∙ same, refl), is ∙ fault, k.3, Appends-nil heard)
 
--- a list is told to be empty exactly where it is
+-- a list is reported as empty exactly if it is
 pub told_empty : {X : Type 0} (xs : List X) (b : Bool) → b ≡ (length xs == 0) → IsTrue b ↔ (xs ≡ [])
 told_empty xs b is = (λ h. nil_from_length xs (eqb-true (length xs) 0 (sym is ∙ h)), λ none. is ∙ ap (λ l. length l == 0) none)
 

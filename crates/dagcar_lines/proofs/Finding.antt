@@ -50,7 +50,7 @@ still_none name sections s none other h = elim (among_push (name, h.0) sections 
   | inr e ↦ other (sym (ap (λ (p : Section). p.0) e), subst IsVerified e h.2)
 ]
 
--- a search that found none is as it was
+-- a search that found nothing is unchanged
 abbrev pub FoundNone : Search → Search → List Section → Type 0
 FoundNone first now sections = (now ≡ first) × ¬ IsHeldInFile first.name sections
 
@@ -86,7 +86,7 @@ got_of b old new roots (ended.Stopped stops.Enough) (inr h) =
     let same : h.section ≡ (old.name, new.block.items) = λ i. (name i, sym h.refused.2 i) in
     (forms roots.items, h.first.sections, h.wanting, h.rest, subst (λ s. IsFileFront b (forms roots.items) (h.first.sections ++ s ∷ []) h.wanting h.rest) same h.front, none.1, subst IsVerified same h.refused.1)
 
--- ---- how a tree goes out
+-- ---- how a tree is written
 
 pub front_sent : {E : Type 0} (text : List ℕ) (old new : Written) (e : EncodeError E) (f : E) (before after : Option (List ℕ)) → Stops (Some text) old new e → e ≡ unsent.Write f → old.bytes ≡ before → new.bytes ≡ after → BreaksLine (λ out. out ≡ text) before after Output
 front_sent text old new e f before after stops is b a =

@@ -1,4 +1,4 @@
--- Which byte is told of a section whose block is refused.
+-- The offset reported for a section whose block is refused.
 use Rattle.std.proofs.Common.{◌≡◌, inl, ℕ, refl, sym, arith, Result, Ok, Err, IfOk, Vec, Global}
 use Rattle.std.specs.declared.convert.Infallible.{Infallible}
 use Rattle.dagcbor_core.specs.declared.error.DecodeError.{DecodeError}
@@ -29,7 +29,7 @@ other_verdict s verdicts.Unverified h other e k = h (verified_testable s k.0)
 pub judged_so : (s : NamedBlock) (e : DecodeError Infallible) (r : Refused) → IsVerdict s (verdicts.Refused e) → judged (Err r) ≡ verdict s.1 (decode s.1) → IsVerdict s (verdicts.Refused r.cause)
 judged_so s e r h j = (h.0, (h.1.0, refused_for s.1 r.cause r.place (sym j)))
 
--- and its place is told
+-- and its offset is reported
 pub place_told : {E : Type 0} (r : Result (Vec ℕ Global) E) (s : NamedBlock) (e : Refused) → IfOk r (λ v. v.items ≡ section_place_line s.0 e.cause e.place) → IsVerdict s (verdicts.Refused e.cause) → judged (Err e) ≡ verdict s.1 (decode s.1) → IfOk r (λ v. TellsPlace s v.items)
 place_told (Ok v) s e h is j = inl (e.cause, e.place, is, sym j, h)
 place_told (Err x) s e h is j = tt

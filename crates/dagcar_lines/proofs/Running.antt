@@ -1,4 +1,4 @@
--- What a run of a command says, where its input tells its bytes.
+-- What a run of a command says, if the bytes of its input are known.
 use Rattle.std.proofs.Common.{◌≡◌, ◌≢◌, ◌⊎◌, inl, inr, ℕ, List, [], ◌∷◌, length, take, drop, ◌+◌, ◌*◌, Bool, true, false, arith, length-drop, map, ◌<◌, ◌≤◌, ap₂, refl, sym, ap, ◌∙◌, subst, get_or, Option, None, Some, MatchOption, codes, if◌then◌else◌, ◌==◌}
 use Rattle.std.specs.Prelude.{⊤}
 use Rattle.std.specs.List.{position_or_len}
@@ -100,7 +100,7 @@ counted words commands.Summary h = (ap length h, ap first_letters h)
 counted words commands.Record h = (ap length h.1, ap first_letters h.1)
 counted words c h = (ap length h, ap first_letters h)
 
--- two commands of one text have as many words and the same letters
+-- two commands for the same words have the same number of words and the same letters
 abbrev Differ : Command → Command → Type 0
 Differ c d = (count_of c ≡ count_of d) → (letter_of c ≡ letter_of d) → ⊥
 
@@ -145,11 +145,11 @@ three_of_changes : (c : Command) → 3 ≡ count_of c → letters_of (codes "cha
 three_of_changes (commands.Raw n) e f = omega (arith, f)
 three_of_changes c e f = omega (arith, e)
 
--- the words of `changes` are no command
+-- the words of `changes` are no other command
 pub changes_apart : (words : List (List ℕ)) (old new : List ℕ) (c : Command) → IsChanges words old new → IsCommand words c → ⊥
 changes_apart words old new c h k = three_of_changes c (sym (ap length h.0) ∙ (counted words c k).0) (sym (ap first_letters h.0) ∙ (counted words c k).1)
 
--- ---- which words are none
+-- ---- which words are not a command
 
 -- a word and a text
 pub no_word : (word text : List ℕ) → word ≢ codes "at" → word ≢ codes "prove" → word ≢ codes "ls" → word ≢ codes "cat" → word ≢ codes "check" → word ≢ codes "record" → ((n : CidParts) → ((word ≡ codes "get") ⊎ (word ≡ codes "tree")) → IsTextOf text n → ⊥) → (c : Command) → IsCommand (word ∷ text ∷ []) c → ⊥

@@ -35,7 +35,7 @@ so_far_push speech roots ss s all well said line h is = (h.0 ++ line, each_push 
 none_yet : (speech : Speech) (roots : List (List ℕ)) (text : List ℕ) → text ≡ speech.of_roots roots → IsSaidSoFar speech roots [] true text
 none_yet speech roots text is = ([], (refl, refl), is ∙ sym (append-nil (speech.of_roots roots)))
 
--- a file is a front of itself
+-- a file is a prefix of itself
 whole_front : {b : List ℕ} {roots : List (List ℕ)} {ss : List Section} → IsFile b roots ss → IsFileFront b roots ss 0 []
 whole_front {b} {roots} {ss} h = (h.0, h.1, record { header = h.2.header; all = h.2.all; is = h.2.is ∙ sym (append-nil (car_bytes roots ss)) })
 
@@ -56,7 +56,7 @@ last_said IsLast speech b whole before between after (Err e) first out next k =
 
 -- ---- a teller at work
 
--- what is told beside lines is told, and nothing of a fault or at the end
+-- the error lines about sections were written, and there are none for a fault or at the end
 pub rest_silent : {T : Type 0} (speech : Speech) (TellsOf : Section → List ℕ → Type 0) (knows : Knowing T) (teller : T) (well : Bool) (w : Result (Ended ToolError) ToolError) (before heard : Option (List ℕ)) (r : Result Bool ToolError) (after : Option (List ℕ)) → SaysRest speech knows teller well w before r after → SaysRest (beside TellsOf) knows teller well w heard r heard
 rest_silent speech TellsOf knows teller well (Ok ended.Whole) before heard (Ok answer) after says = λ roots sections k.
     let s = says roots sections k in
@@ -109,7 +109,7 @@ module _ {S T : Type 0} (speech : Speech) (knows : Knowing T) (work : S → Work
       broken speech b h.said before (work it).written (work new).written (λ text. (well : Bool) × speech.of_section s well text) e (first_lines it ss n rest h front) h.out
       (λ text is. inl (inr (roots, ss ++ s ∷ [], m, behind, (work it).well && is.0, next, so_far_push speech roots ss s (work it).well is.0 h.said text h.far is.1))) k.1
 
-  -- a line that tells why no section stands there
+  -- a line that says why the bytes are not a section
   none_said : (it : S) (e : CarError Infallible) (text : List ℕ) (old : S) (h : FaultBehind (Tells speech knows work) roots b old e it) → (far : SoFar it h.first.sections) → text ≡ speech.of_fault (refused_line e) → IsSaidOfBytes speech b false (far.said ++ text)
   none_said it e text old h far is = inr (
     refl,
@@ -165,7 +165,7 @@ module _ {S T : Type 0} (speech : Speech) (knows : Knowing T) (work : S → Work
 
 -- ---- the roots
 
--- the device failed in what is said of the roots
+-- the device failed while the lines of the roots were written
 pub roots_broken : (speech : Speech) (start now : Reading) (extent : Option ℕ) (roots : List (List ℕ)) (text : List ℕ) (before after : Option (List ℕ)) (r : Result Bool ToolError) (e : ToolError) (w : Result Unit ToolError) → TakesStart start roots extent now → text ≡ speech.of_roots roots → IsErrAnd r (λ x. x ≡ e) → e ≡ Output → WritesFront before after w text
     → SaysFile speech start before r after
 roots_broken speech start now extent roots text before after (Ok v) e w h is same out k b l = absurd same
@@ -186,7 +186,7 @@ header_said speech old now before after e line r h is same says b l =
     as_last (Err x) (inl none) = inl none
     as_last (Err x) (inr k) = inr (k.0, k.1, (false, (refl, k.2)), k.3, k.4)
 
--- no file begins, and nothing is told beside the line
+-- no file begins, and the only error line is for that
 pub header_silent : {E : Type 0} (TellsOf : Section → List ℕ → Type 0) (old now : Reading) (heard before after : Option (List ℕ)) (e : CarError E) (line : List ℕ) (r : Result Bool ToolError) → CarRefuses RefusesStart old e now → IsOfBytes e → SaysLines line false before r after → SaysFile (beside TellsOf) old heard r heard
 header_silent TellsOf old now heard before after e line r h is says =
     header_said (beside TellsOf) old now heard heard e [] r h is refl (as_nothing r says)
@@ -198,7 +198,7 @@ header_silent TellsOf old now heard before after e line r h is says =
 pub not_begun : (speech : Speech) (old : Reading) (before : Option (List ℕ)) (e : ToolError) → SaysFile speech old before (Err e) before
 not_begun speech old before e b l = record { whole = []; front = []; first = inl refl; out = Appends-nil before; next = inl refl }
 
--- nothing went out
+-- nothing was written
 pub broke : (speech : Speech) (old : Reading) (before : Option (List ℕ)) (e : ToolError) (r : Result Bool ToolError) → IsErrAnd r (λ x. x ≡ e) → SaysFile speech old before r before
 broke speech old before e (Ok v) is b l = absurd is
 broke speech old before e (Err x) is b l = not_begun speech old before x b l

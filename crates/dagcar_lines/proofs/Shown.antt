@@ -8,7 +8,7 @@ use Rattle.dagcbor_resolve.proofs.Binding.{block_unique}
 use Rattle.block_lines.specs.Shown.{IsShown, IsSaidOfNoBlock}
 use Rattle.dagcar_lines.specs.Answers.{IsDataSaid, IsDataShown}
 
--- what is said of a node
+-- what `show` says of a node
 abbrev pub IsNodeSaid : List ℕ → Bool → List ℕ → List ℕ → Type 0
 IsNodeSaid b well said told = (b ≢ []) × ((t : Tree) × IsNodeOf b t × IsDataSaid t well said told)
 
@@ -27,7 +27,7 @@ pub node_shown : (b : List ℕ) (before : Bool) (line lines : List ℕ) → IsSh
 node_shown b before line lines (inl k) not well said told h = absurd (let clash : true ≡ false = sym k.2 ∙ not in cc clash)
 node_shown b before line lines (inr k) not well said told h = inr (inl ((λ t. no_block b t.0 before line lines k t.1), h.0, h.1))
 
--- what is said of bytes of which nothing is shown
+-- what `show` says of bytes that are neither a block nor a node
 pub unread_shown : (b : List ℕ) (well : Bool) (line told : List ℕ) → IsShown b well line told → well ≡ false → IsSaidOfNoBlock b well line told
 unread_shown b well line told (inl k) not = absurd (let clash : true ≡ false = sym k.2 ∙ not in cc clash)
 unread_shown b well line told (inr k) not = k

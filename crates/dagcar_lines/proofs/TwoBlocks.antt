@@ -1,4 +1,4 @@
--- Whether bytes are two blocks, one after the other.
+-- The test for two blocks in a row.
 use Rattle.std.proofs.Common.{◌≡◌, ℕ, List, drop, Option, Result, Ok, Err, IfOk, MatchBool, is_ok, sym, ap, subst, ◌∙◌}
 use Rattle.std.specs.declared.convert.Infallible.{Infallible}
 use Rattle.dagcbor_core.specs.declared.error.DecodeError.{DecodeError}

@@ -56,7 +56,7 @@ pub trait Teller: Sized + Drop {
 struct Telling<'a, 'b, T, W, V> {
     alloc: Global,
     teller: T,
-    /// Whether all is well so far.
+    /// `true` while all is well.
     well: bool,
     output: &'a mut W,
     errors: &'b mut V,

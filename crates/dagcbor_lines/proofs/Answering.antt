@@ -71,7 +71,7 @@ appends_next command done text left behind line old now new so_far next answer =
   answer ∙ ap (λ (s : List ℕ). s ++ (answer_to command line ++ 10 ∷ [])) so_far.1 ∙ flat_map_more (λ asked. answer_to command asked ++ 10 ∷ []) old done line,
 )
 
--- all of the bytes went out
+-- all of the bytes were written
 all_of : (bytes front back : List ℕ) → bytes ≡ front ++ back → back ≡ [] → bytes ≡ front
 all_of bytes front back parts end = parts ∙ ap (λ (s : List ℕ). front ++ s) end ∙ append-nil front
 
@@ -158,7 +158,7 @@ fill_failed command done before after old partial plain kept = fill_stopped comm
     nothing None = tt
     nothing (Some xs) = (0, tt, none_whole command (partial ++ xs) old)
 
--- of the answers of a fill a front was written
+-- a prefix of the answers of a fill was written
 pub fill_begun : (command : Command) (done : List (List ℕ)) (before old new : Option (List ℕ)) (partial shown left out front back : List ℕ)
     → IfSome before (λ xs. StartsWith xs shown) → AppendsAnswers command done (partial ++ shown) left [] out → out ≡ front ++ back → Appends old new front
     → IfSome (prepend_known partial before) (λ input. WritesBeginning command (lines input) old new)
@@ -235,14 +235,14 @@ answered_some n command e (Some input) mid after old now new h broke =
 
 -- ---- the end of the input
 
--- the reader of an input that is told tells its end
+-- if the bytes of an input are known, its end is too
 pub end_told : (n : ℕ) (command : Command) (before mid after old now : Option (List ℕ)) (partial : List ℕ) → IfSome before (λ input. HasAnswered command n input (prepend_known partial mid) old now)
     → IfSome mid (λ _. IsAtEnd after) → IfSome before (λ _. IsAtEnd after)
 end_told n command None mid after old now partial h end = tt
 end_told n command (Some input) None after old now partial h end = let never : None ≡ Some h.left = h.remains in absurd cc
 end_told n command (Some input) (Some xs) after old now partial h end = end
 
--- what is held is what is left to answer
+-- the bytes kept are those left to answer
 held_left : (after : Option (List ℕ)) (partial rest : List ℕ) → prepend_known partial after ≡ Some rest → IsAtEnd after → (after ≡ Some []) × (rest ≡ partial)
 held_left None partial rest e end = absurd cc
 held_left (Some xs) partial rest e end =
@@ -272,7 +272,7 @@ last_broken n command e (Some input) after old now new partial plain h end wrote
         let whole : partial ++ xs ≡ partial = ap (λ (s : List ℕ). partial ++ s) end ∙ append-nil partial in
         record { taken = partial; left = xs; split = refl; remains = refl; of_one_line = plain; wrote = subst (λ (s : List ℕ). WritesUntil command e n s now new) (sym whole) wrote }
 
--- what was written for the last line where the run ended there
+-- what was written for the last line, if the run ended there
 last_until : (n : ℕ) (command : Command) (e : ToolError) (now new : Option (List ℕ)) (partial : List ℕ) → n < most_lines → WritesBeginning command (lines partial) now new → (e ≢ Output → Appends now new []) → WritesUntil command e n partial now new
 last_until n command Output now new partial few begun none = begun
 last_until n command Input now new partial few begun none = (0, tt, record { enough = zero-le; appended = none (λ e. cc e) })

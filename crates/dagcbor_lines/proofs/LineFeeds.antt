@@ -3,7 +3,7 @@ use Rattle.std.proofs.Common.{◌≡◌, ◌≢◌, true, ℕ, ◌<◌, List, le
 use Rattle.std.proofs.lemmas.List.Elements.{All-from_get_or}
 use Rattle.memchr.specs.Find.{IsFirstByte, is_byte}
 
--- a byte that passes no test for a line feed is none
+-- a byte that fails the test for a line feed is not one
 other : (x : ℕ) → ¬ (is_byte 10 x ≡ true) → x ≢ 10
 other x none e = none (ap (is_byte 10) e)
 

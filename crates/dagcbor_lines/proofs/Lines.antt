@@ -1,4 +1,4 @@
--- The lines of a text, from its front.
+-- The lines of a text, from its start.
 use Rattle.std.proofs.Common.{◌≡◌, ◌≢◌, ◌++◌, ◌∷◌, ◌<◌, ◌-◌, ◌+◌, ◌==◌, ℕ, suc, Bool, true, false, cond, List, [], length, take, drop, slice_index, All, refl, sym, ap, ◌∙◌, add-one, append_assoc, arith, length-drop, ne_eqb, take-append-drop, take_all, drop-cons}
 use Rattle.std.proofs.lemmas.List.Elements.{All-append}
 use Rattle.std.proofs.lemmas.List.Splits.{slice_split_none, slice_split_at}
@@ -45,7 +45,7 @@ around text at within feed =
     ∙ ap (λ (s : List ℕ). take at text ++ s) (drop-cons text at 0 within ∙ ap (λ (b : ℕ). b ∷ drop (suc at) text) feed)
     ∙ ap (λ (n : ℕ). take at text ++ 10 ∷ drop n text) (sym (add-one at))
 
--- what is held, and the text up to its first line feed, are one line
+-- the bytes kept, and the text up to its first line feed, are one line
 pub begins_line : (partial text behind : List ℕ) (at : ℕ) → All (λ b. b ≢ 10) partial → All (λ b. b ≢ 10) (take at text) → at < length text → slice_index text at ≡ 10
     → behind ≡ take (length text - (at + 1)) (drop (at + 1) text) → BeginsWithLines (partial ++ text) (strip_carriage_return (partial ++ take at text) ∷ []) behind
 begins_line partial text behind at plain front within feed is more =

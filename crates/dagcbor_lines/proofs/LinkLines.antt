@@ -12,7 +12,7 @@ after_next (first ∷ forms) form =
     ap (λ (s : List ℕ). (32 ∷ encode_lower first) ++ s) (after_next forms form)
     ∙ sym (append_assoc (32 ∷ encode_lower first) (after_spaces forms) (32 ∷ encode_lower form))
 
--- one more link stands after those before it
+-- one more link comes after those before it
 pub link_after : (links : List CidParts) (i : ℕ) (link : CidParts) (first old spaced new : List ℕ) → i < length links → link ≡ get_or links i link
     → old ≡ first ++ after_spaces (map cid_bytes (take i links)) → spaced ≡ old ++ 32 ∷ [] → new ≡ spaced ++ encode_lower (cid_bytes link)
     → new ≡ first ++ after_spaces (map cid_bytes (take (i + 1) links))
@@ -27,11 +27,11 @@ link_after links i link first old spaced new within is so_far space digits =
     ∙ append_assoc first (after_spaces done) (32 ∷ encode_lower form)
     ∙ ap (λ (s : List ℕ). first ++ s) (sym (ap after_spaces forms ∙ after_next done form))
 
--- a front is kept
+-- a prefix is kept
 pub kept_front : (before behind : List ℕ) {now : List ℕ} → now ≡ before ++ behind → take (length before) now ≡ before
 kept_front before behind is = ap (take (length before)) is ∙ take-append_seam before behind
 
--- what stood before the links stands there still
+-- what came before the links is still there
 pub kept_before : (before first behind : List ℕ) {now : List ℕ} → now ≡ (before ++ first) ++ behind → take (length before) now ≡ before
 kept_before before first behind is =
     kept_front before (first ++ behind) (is ∙ append_assoc before first behind)
@@ -52,7 +52,7 @@ links_ended links i before first old new none so_far ended =
     ended ∙ ap (λ (s : List ℕ). s ++ 10 ∷ []) (so_far ∙ ap (λ ls. (before ++ first) ++ after_spaces (map cid_bytes ls)) all ∙ append_assoc before first behind)
     ∙ append_assoc before (first ++ behind) (10 ∷ [])
 
--- after a refusal nothing is said of what an answer would be
+-- after a refusal nothing is claimed about the answer
 pub no_answer : {T E : Type 0} (r : Result T E) (P : Type 0) → IsErr r → OnOk r P
 no_answer (Ok x) P e = absurd (cc e)
 no_answer (Err x) P e = tt

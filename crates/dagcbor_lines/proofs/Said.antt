@@ -50,7 +50,7 @@ links_refused {E} word d e {old} {new} {r} other is pushed = subst (λ (line : L
     found refusals.OutOfMemory other is = absurd (other refl)
     found _ other is = is
 
--- what is said of a line, by whether it is a text
+-- what is said of a line, given whether it is hexadecimal
 pub line_said : {E : Type 0} (command : Command) (text : Result (List ℕ) E) (is_text : Bool) (block shown : List ℕ) → shown ≡ block
     → MatchResult text (λ bytes. IsTrue is_text × (block ≡ bytes)) (λ _. is_text ≡ false) → (if is_text then said command shown else codes "refused hex") ≡ said_of command text
 line_said command (Ok bytes) true block shown same is = ap (said command) (same ∙ is.1)

@@ -24,7 +24,7 @@ pub joined_on : (a b : List ℕ) (x : Option (List ℕ)) → joined (Some a) (jo
 joined_on a b None = refl
 joined_on a b (Some s) = ap Some (sym (append_assoc a b s))
 
--- nothing is read
+-- nothing was read
 pub read_to_begin : (stored : Stored) (root : CidParts) (wanted : List Asked) → ((blocks : List ℕ → Option (List ℕ)) → stack_bytes blocks wanted ≡ bytes_under blocks 256 (cid_bytes root)) → IsReadTo stored root [] wanted
 read_to_begin stored root wanted h = λ blocks holds. sym (h blocks) ∙ sym (joined_nothing (stack_bytes blocks wanted))
 
@@ -55,13 +55,13 @@ well_verified s verdicts.Unverified h w = absurd (cc w)
 
 -- ---- one block
 
--- a part of which all went out
+-- a part that was written whole
 pub part_said : (stored : Stored) (wanted left : List Asked) (piece front back : List ℕ) (old heard new : Option (List ℕ)) → piece ≡ front ++ back → back ≡ [] → Appends old new front → IsReadOn stored wanted piece left
     → SaysNext {E = ToolError} stored wanted left old heard (Ok None) new heard
 part_said stored wanted left piece front back old heard new is none out h =
     (piece, h, subst (Appends old new) (sym (is ∙ ap (λ x. front ++ x) none ∙ append-nil front)) out, Appends-nil heard)
 
--- a part of which a front did
+-- a part of which a prefix was written
 pub part_broken : (stored : Stored) (wanted left : List Asked) (piece front back : List ℕ) (old heard new : Option (List ℕ)) (e : ToolError) → piece ≡ front ++ back → Appends old new front → IsReadOn stored wanted piece left
     → SaysNext stored wanted left old heard (Err e) new heard
 part_broken stored wanted left piece front back old heard new e is out h =
@@ -92,12 +92,12 @@ nothing_read stored root = λ blocks holds.
     let b = bytes_under blocks most_depth (cid_bytes root) in
     sym (joined_nothing (joined (Some []) b) ∙ joined_nothing b)
 
--- where it is not begun
+-- nothing was written
 pub content_not_begun : {E : Type 0} (stored : Stored) (root : CidParts) (old heard : Option (List ℕ)) (e : E) → SaysContent stored root old heard (Err e) old heard
 content_not_begun stored root old heard e =
     ([], [], ([], first_wanted root ∷ [], nothing_read stored root), inl refl, Appends-nil old, Appends-nil heard)
 
--- where so much of it went out
+-- the output after some of the file was read
 abbrev pub HasSaid : Stored → CidParts → List Asked → Option (List ℕ) → Option (List ℕ) → Option (List ℕ) → Option (List ℕ) → Type 0
 HasSaid stored root wanted old heard new after = (out : List ℕ) × IsReadTo stored root out wanted × Appends old new out × Appends heard after []
 
@@ -116,7 +116,7 @@ pub content_ended : (stored : Stored) (root : CidParts) (wanted left : List Aske
 content_ended stored root wanted left well old heard mid said new after h k =
     (h.0, k.0, (wanted, h.1, k.1), subst (Appends old new) (append-nil h.0) (Appends-trans old mid new h.0 [] h.2 k.2), Appends-trans heard said after [] k.0 h.3 k.3)
 
--- and then a device failed, or memory was wanting
+-- and then a device failed, or memory ran out
 pub content_broken : {E : Type 0} (stored : Stored) (root : CidParts) (wanted left : List Asked) (e : E) (old heard mid said new after : Option (List ℕ)) → HasSaid stored root wanted old heard mid said → SaysNext stored wanted left mid said (Err e) new after
     → SaysContent stored root old heard (Err e) new after
 content_broken stored root wanted left e old heard mid said new after h k =

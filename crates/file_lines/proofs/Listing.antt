@@ -131,6 +131,6 @@ if_ok_map P Q (Err e) f h = h
 pub listed_under : (stored : Stored) (cid : CidParts) (b : List ℕ) (entity : Entity) (well : Bool) (out told : List ℕ) → IsEntityAt stored cid b entity → IsListingOf stored cid b entity well out told → IsListingUnder stored cid well out told
 listed_under stored cid b entity well out told is h = inl (b, entity, is, h)
 
--- of a directory its entries are said
+-- the output for a directory has its entries
 pub entries_listed : (stored : Stored) (cid : CidParts) (b : List ℕ) (node : NodeParts) (well : Bool) (out told : List ℕ) → IsEntityAt stored cid b Directory → IsNode b node → IsSaidOfEach (IsEntry stored) node.links well out → told ≡ [] → IsListingUnder stored cid well out told
 entries_listed stored cid b node well out told is has said none = inl (b, Directory, is, ((node, has, said), none))

@@ -5,7 +5,7 @@ use Rattle.ipld_links.specs.Reaching.{Stored}
 use Rattle.file_lines.specs.declared.names.NamesEnd.{NamesEnd}
 use Rattle.file_lines.specs.Names.{HasEntry, NamesNothing, LeadsByNames, EndsByNames}
 
--- Where the path leads from the one block, the other path leads from the other; and so where it ends.
+-- Where the rest of a path leads from a block, or ends, the whole path does from the root.
 pub record GoesOn (stored : Stored) (root : CidParts) (path : List (List ℕ)) (at : CidParts) (left : List (List ℕ)) : Type 0 where
   pub leads : (found : CidParts) → LeadsByNames stored at left found → LeadsByNames stored root path found
   pub ends : (end : NamesEnd) → EndsByNames stored at left end → EndsByNames stored root path end

@@ -18,7 +18,7 @@ shown_parts b h =
     let k = all_false (nat_lt b 32) (b == 127) (b == 92) h in
     (ltb-false b 32 k.0, eqb-false b 127 k.1, eqb-false b 92 k.2)
 
--- a byte that is no control character of ASCII
+-- a byte that is not an ASCII control character
 abbrev IsInLine : ℕ → Type 0
 IsInLine byte = (0x20 ≤ byte) × (byte ≢ 0x7f)
 
@@ -38,7 +38,7 @@ digit_same m n e = by (nat_lt m 10) refl (nat_lt n 10) refl e
     by false p true q k = omega (arith, k, ltb-false m 10 p, ltb-true n 10 q)
     by false p false q k = omega (arith, k)
 
--- a byte as it is written, by whether it is written as it is
+-- a byte as it is written, given whether it is shown as it is
 abbrev written : Bool → ℕ → List ℕ
 written s b = if s then b ∷ [] else 0x5c ∷ 0x78 ∷ hex_digit (b / 16) ∷ hex_digit (b % 16) ∷ []
 

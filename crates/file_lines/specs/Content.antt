@@ -69,8 +69,8 @@ EndsAt stored wanted well told = ((wanted ≡ []) × (well ≡ true) × (told �
     × IsNextName wanted below w name × IsStopAt stored name w stop × (is_of_file stop ≡ true)
     × (well ≡ false) × (told ≡ stop_line name stop))
 
--- What is written for the next block: its bytes; or none, and whether the file is read to its end, or
--- a line that says why not; or writing broke off after a prefix of both.
+-- What is written for the next block: its bytes; or none, and whether the file is read to its end,
+-- or a line that says why not; or writing broke off after a prefix of both.
 abbrev pub SaysNext : {E : Type 0} → Stored → List Asked → List Asked → Option (List ℕ) → Option (List ℕ)
     → Result (Option Bool) E → Option (List ℕ) → Option (List ℕ) → Type 0
 SaysNext stored wanted left old heard result new after = MatchResult result

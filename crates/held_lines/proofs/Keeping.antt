@@ -33,9 +33,9 @@ fault_told takes IsSo b told roots old new e h is tells = (e, (h.none, inr (root
 pub start_told : (IsSo : List Section → Type 0) (b : List ℕ) (Stop : Type 0) (v : Vec ℕ Global) → TellsNotBegun {Stop = Stop} b (ended.Fault v) → TellsFault IsSo b v.items
 start_told IsSo b Stop v h = (h.0, (h.1, inl h.2), h.3)
 
--- ---- what is held
+-- ---- the blocks held
 
--- what is so where a call succeeded
+-- what holds if a call succeeded
 pub on_ok : {A E : Type 0} {P Q : Type 0} (r : Result A E) → OnOk r P → (P → Q) → OnOk r Q
 on_ok (Ok a) h f = f h
 on_ok (Err e) h f = tt
@@ -113,7 +113,7 @@ module _ (kept : Kept) (old new : Stored) (name : CidParts) (block : List ℕ) (
     ];
   }
 
--- what a map stores where this stands under the name
+-- the blocks stored if this is put back under the CID
 stored_put : (old new : BTreeMap CidParts (Vec ℕ Global)) (name : CidParts) (o : Option (Vec ℕ Global)) → PutsBack name o old new → (q : CidParts) → stored_in new q ≡ cond (is_at (cid_cmp name) q) (option_map (λ v. v.items) o) (stored_in old q)
 stored_put old new name o put q = ap (option_map (λ (w : Vec ℕ Global). w.items)) (put q) ∙ by (is_at (cid_cmp name) q)
   where
@@ -125,7 +125,7 @@ module _ (kept : Kept) (old : BTreeMap CidParts (Vec ℕ Global)) (name : CidPar
   was_stored : stored_in old name ≡ option_map (λ v. v.items) before
   was_stored = ap (option_map (λ (w : Vec ℕ Global). w.items)) (sym was)
 
-  -- where no bytes stood there, no section had those that the name says
+  -- if no bytes were held, no section had bytes that match the CID
   none_named : (k : Kept) (sections : List Section) → Stores k sections (stored_in old) → before ≡ None → IsKeptSection k (name, block) → (t : Section) → Among t sections → IsVerified t → t.0 ≡ name → IsVerified (name, block)
   none_named which.Verified sections h free is t m good e = is.1
   none_named which.All sections h free is t m good e =
@@ -145,7 +145,7 @@ module _ (kept : Kept) (old : BTreeMap CidParts (Vec ℕ Global)) (name : CidPar
   is_kept sections h (inr (inl same)) = (h.some name block (was_stored ∙ ap (option_map (λ (w : Vec ℕ Global). w.items)) same.1 ∙ ap Some same.2)).1
   is_kept sections h (inr (inr free)) = free.1
 
-  -- what stood there is as good
+  -- the bytes held are as good
   as_named : (k : Kept) (sections : List Section) → Stores k sections (stored_in old) → (IsBest k (name, block) → ⊥) → IsVerified (name, block) → (b : List ℕ) → stored_in old name ≡ Some b → IsVerified (name, b)
   as_named which.All sections h other is b e = absurd (other is)
   as_named which.Verified sections h other is b e = (h.some name b e).1.1

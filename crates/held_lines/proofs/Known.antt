@@ -1,4 +1,4 @@
--- What holds where a source tells its bytes.
+-- What holds if the bytes of a source are known.
 use Rattle.std.proofs.Common.{◌≡◌, ℕ, List, refl, Option, None, Some, IfSome}
 
 pub if_known : {P : List ℕ → Type 0} (known : Option (List ℕ)) → ((b : List ℕ) → known ≡ Some b → P b) → IfSome known P

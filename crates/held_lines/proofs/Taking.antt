@@ -21,7 +21,7 @@ use Rattle.held_lines.specs.declared.take.Ended.TheVariants as ended
 
 -- ---- refusals of the bytes
 
--- the refusal, where no source can fault
+-- the same refusal, for a source that cannot fail
 abbrev pub alone : {E : Type 0} → CarError E → CarError Infallible
 alone (faults.Read f) = faults.Truncated
 alone faults.Truncated = faults.Truncated
@@ -186,7 +186,7 @@ module _ {S Stop : Type 0} (takes : SinkTakes S Stop) (roots : List (List ℕ)) 
 
 -- ---- the whole
 
--- all after a header, where a header was taken
+-- all sections after a header, if a header was read
 pub behind_header : {S Stop : Type 0} (takes : SinkTakes S Stop) (extent : Option ℕ) (start source : Reading) (roots : Vec CidParts Global) (old new : S) (w : Ended Stop) → TakesStart start (forms roots.items) extent source → TakesBehind takes extent source old (Ok w) new → TakesFile takes start old (Ok (roots, w)) new
 behind_header takes extent start source roots old new w h k = λ b l. inr (k start (forms roots.items) h b l)
 
@@ -195,7 +195,7 @@ not_begun takes start source it error v none h is told free b l =
     let refused = header_alone start source error is h b l in
     inl ((alone error, no_file (alone error) b refused, refused, told ∙ alone_line error is), free, refl)
 
--- where the bytes are known, what holds of an `Ok` for all bytes holds of it for these
+-- if the bytes are known, what holds of an `Ok` for all bytes holds for these
 pub of_known : {A E : Type 0} (P : List ℕ → A → Type 0) (r : Result A E) (known : Option (List ℕ)) → IfOk r (λ x. (b : List ℕ) → known ≡ Some b → P b x) → (b : List ℕ) → known ≡ Some b → IfOk r (P b)
 of_known P (Ok x) known h b l = h b l
 of_known P (Err e) known h b l = tt

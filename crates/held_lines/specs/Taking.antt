@@ -82,11 +82,11 @@ abbrev pub IsFaultLine : {Stop : Type 0} → Ended Stop → List ℕ → Type 0
 IsFaultLine (ended.Fault line) text = line.items ≡ text
 IsFaultLine _ text = ⊥
 
--- a refusal of the bytes is told in a line
+-- a refusal of the bytes is reported as a line
 abbrev pub EndsByFault : {E Stop : Type 0} → CarError E → Result (Ended Stop) ToolError → Type 0
 EndsByFault e result = IfOk result (λ ended. IsFaultLine ended (refused_line e) × IsOfBytes e)
 
--- the refusal of a run is told: one of the bytes in a line, and one of the sink as it is
+-- the refusal of a run is reported: one of the bytes as a line, and one of the sink as it is
 abbrev pub EndsBy : {E Stop : Type 0} → ReadCarError E Stop → Result (Ended Stop) ToolError → Type 0
 EndsBy (stop.Header e) result = EndsByFault e result
 EndsBy (stop.Section count e) result = EndsByFault e result

@@ -27,20 +27,20 @@ use Rattle.index_lines.specs.Layouts.{IsLayout}
 use Rattle.index_lines.specs.Finds.{BeginsSought, IsListed, GivesWhere, GivesOf, IsSoughtAt, LeadsAt, LeadsIn, LeadsBy}
 use Rattle.index_lines.specs.declared.layout.Layout.{Layout}
 
--- a block is given where less is so
+-- a block is returned if a weaker condition holds
 pub gives_map : {P Q : Type 0} (r : Result (Option (Vec ℕ Global)) ToolError) → GivesWhere P r → (Q → P) → GivesWhere Q r
 gives_map (Ok None) h f = λ q. h (f q)
 gives_map (Ok (Some v)) h f = tt
 gives_map (Err e) h f = tt
 
--- the section at the front is the one that is sought
+-- the section at the start is the one looked for
 pub sought_taken : (name : CidParts) (n : ℕ) (extent rest : Option ℕ) (old new : Reading) (s : Section) (b : List ℕ) → TakesSectionBytes extent old s rest new → old.left ≡ Some b → BeginsSought name n b → (s.0 ≡ name) × IsVerified s
 sought_taken name n extent rest old new s b t l h =
     let k = t.1.takes.taken b l in
     let same : s ≡ (name, h.block) = (section_unique s (name, h.block) k.0 h.rest t.0 h.section (sym k.1 ∙ h.is)).0 in
     (ap (λ (x : Section). x.0) same, subst IsVerified (sym same) h.verified)
 
--- some bytes stand there
+-- there are some bytes there
 pub sought_some : (name : CidParts) (n : ℕ) (b : List ℕ) → BeginsSought name n b → 0 < n
 sought_some name n b h = omega (arith, section_some (name, h.block) h.section, h.within)
 
@@ -57,7 +57,7 @@ sought_refused {E} name n old new e b is r l h =
     none.1 (name, h.block) (take (n - length (section_bytes (name, h.block))) h.rest)
     (h.section, ap (take n) h.is ∙ (ap (λ m. take m (section_bytes (name, h.block) ++ h.rest)) (sym whole) ∙ take-append-add (section_bytes (name, h.block)) h.rest (n - length (section_bytes (name, h.block)))))
 
--- nothing is sought after all bytes
+-- no section looked for comes after all bytes
 pub sought_far : (name : CidParts) (layout : Layout) (offset : ℕ) (b : List ℕ) → length b < 2 ^ 64 → 2 ^ 64 ≤ layout.begin + offset → IsSoughtAt name layout offset b → ⊥
 sought_far name layout offset b below far h =
     let none : drop (layout.begin + offset) b ≡ [] = drop_all (layout.begin + offset) b (omega arith) in
@@ -70,7 +70,7 @@ at_least m n h = elim (cases_lt m n) [ inl less ↦ absurd (h less) | inr most �
 pub sought_section : (name cid : CidParts) (block : List ℕ) (s : Section) → cid ≡ s.0 → block ≡ s.1 → (s.0 ≡ name) × IsVerified s → (cid ≡ name) × IsVerified (cid, block)
 sought_section name cid block s p q h = (p ∙ h.0, subst IsVerified (λ i. (sym p i, sym q i)) h.1)
 
--- ---- of known bytes
+-- ---- for known bytes
 
 pub some_known : {P Q : List ℕ → Type 0} (known : Option (List ℕ)) → IfSome known P → ((b : List ℕ) → P b → Q b) → IfSome known Q
 some_known None h f = tt
@@ -137,7 +137,7 @@ entry_before name layout bucket first number k b f from l up =
           (it.0, subst (λ n. IsEntryOf b bucket name.digest n it.0) there it.1)
     ]
 
--- an entry that is none of the digest stands after
+-- no later entry has the digest
 pub no_entry : (name : CidParts) (layout : Layout) (bucket : Bucket) (first number : ℕ) (b : List ℕ) → IsFirst b bucket name.digest first → first ≤ number → NotPassed name layout bucket first number b → FindsOffset bucket name.digest number b None → LeadsIn name layout bucket b → ⊥
 no_entry name layout bucket first number b f from up none (k, early, l) =
     let it = entry_before name layout bucket first number k b f from l (up k l) in none l.short it.0 it.1

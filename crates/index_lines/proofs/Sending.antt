@@ -20,7 +20,7 @@ pub err_ok : {A E : Type 0} (Q : Type 0) (P : E → Type 0) (r : Result A E) →
 err_ok Q P (Ok a) h = absurd h
 err_ok Q P (Err e) h = tt
 
--- nothing went out
+-- nothing was written
 pub front_none : (A E : Type 0) (old : Option (List ℕ)) (e : E) (x : List ℕ) → WritesFront {A = A} {E = E} old old (Err e) x
 front_none A E old e x = ([], x, refl, Appends-nil old, tt)
 
@@ -28,20 +28,20 @@ front_none A E old e x = ([], x, refl, Appends-nil old, tt)
 pub stopped : {A B E : Type 0} (P : E → Type 0) (old new : Option (List ℕ)) (x y : List ℕ) (r : Result A E) (s : Result B E) → IsErrAnd s P → WritesFront old new r x → WritesFront old new s (x ++ y)
 stopped P old new x y r s err h = (h.0, h.1 ++ y, ap (λ l. l ++ y) h.2 ∙ append_assoc h.0 h.1 y, h.3, err_ok (h.1 ++ y ≡ []) P s err)
 
--- the first went out, and then the second, or a front of it
+-- the first was written, and then the second, or a prefix of it
 pub then_all : {A B E : Type 0} (old mid new : Option (List ℕ)) (x y : List ℕ) (r : Result A E) (a : A) (s : Result B E) → r ≡ Ok a → WritesFront old mid r x → WritesFront mid new s y → WritesFront old new s (x ++ y)
 then_all old mid new x y r a s is h k =
     let none : h.1 ≡ [] = subst (λ v. OnOk v (h.1 ≡ [])) is h.4 in
     let whole : x ≡ h.0 = h.2 ∙ (ap (λ l. h.0 ++ l) none ∙ append-nil h.0) in
     (h.0 ++ k.0, k.1, ap (λ l. l ++ y) whole ∙ (ap (λ l. h.0 ++ l) k.2 ∙ sym (append_assoc h.0 k.0 k.1)), Appends-trans old mid new h.0 k.0 h.3 k.3, k.4)
 
--- what is said as it is, is said where the source may fail too
+-- an answer that never fails by its source is one that may
 pub both_some : (P : Bool → List ℕ → List ℕ → Type 0) (old heard : Option (List ℕ)) (r : Result Bool ToolError) (new after : Option (List ℕ)) → SaysBoth P old heard r new after → SaysSome P old heard r new after
 both_some P old heard (Ok w) new after k = k
 both_some P old heard (Err e) new after (inl none) = inl none
 both_some P old heard (Err e) new after (inr k) = inr (k.0, k.1, k.2, k.3, k.4, k.5, k.7, k.8)
 
--- where the file of version 1 stands
+-- the offset of the CARv1 payload
 data_there : (b : List ℕ) (place n : ℕ) (roots : List (List ℕ)) (sections : List Section) → BeginsAt b place → IsFile b roots sections → n ≡ length (car_bytes roots sections) → take n (drop place b) ≡ car_bytes roots sections
 data_there b place n roots sections begins (car, inl h, is) long =
     let same : b ≡ car_bytes roots sections = sym h.1 ∙ is.is in
@@ -54,7 +54,7 @@ data_there b place n roots sections begins (car, inr h, is) long =
     let all : n ≡ length_of b = omega (arith, long, whole, missing, short) in
     ap (λ p. take n (drop p b)) (begins.within h.0) ∙ (ap (λ m. take m (drop (begin_of b) b)) all ∙ (sym h.1 ∙ is.is))
 
--- the three parts went out, or a front of them did
+-- the three parts were written, or a prefix of them was
 pub sent_so : {A : Type 0} (b : List ℕ) (found : Gathered) (parts : Parts) (old new : Option (List ℕ)) (r : Result A ToolError) (s : Result Bool ToolError) (before behind : List ℕ) → before ≡ parts.before.items → behind ≡ parts.behind.items → ArePartsOf b found parts → WritesFront old new r (before ++ (take found.length (drop parts.begin b) ++ behind)) → ((Q : Type 0) → OnOk r Q → OnOk s Q) → IfOk s (λ w. w ≡ true) → SendsFile found b old s new
 sent_so b found parts old new r s before behind first last are h so well = λ gathered.
     let car = car_bytes gathered.roots gathered.sections in

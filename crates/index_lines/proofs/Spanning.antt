@@ -10,7 +10,7 @@ use Rattle.dagcbor_car.proofs.Starting.{number_on, span_on}
 use Rattle.index_lines.specs.Spans.{IsSpanOf}
 use Rattle.index_lines.specs.Layouts.{index_field, HasIndex, BeginsAt}
 
--- why there is no span: then there is none
+-- if the span is refused, there is none
 pub not_refused : (b : List ℕ) (e : CarError Infallible) → SpanRefused e b → HasSpan b → ⊥
 not_refused b e (inl h) span = let few : length b < 51 = h.2 in let whole : 51 ≤ length b = span.whole in absurd (omega arith)
 not_refused b faults.Truncated (inr h) span = let few : length b < 51 = h.1 in let whole : 51 ≤ length b = span.whole in absurd (omega arith)

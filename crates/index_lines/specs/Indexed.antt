@@ -47,7 +47,7 @@ IsIndexed b well out told = ((roots : List (List ℕ)) × (sections : List Secti
     × (well ≡ true) × (told ≡ []))
     ⊎ ((well ≡ false) × (out ≡ []) × TellsFault (λ sections. ⊤) b told)
 
--- ---- how it goes out
+-- ---- how it is written
 
 -- the output and the error lines were written; or nothing was; or a device or the source failed,
 -- and prefixes of both were

@@ -24,7 +24,7 @@ use Rattle.index_ways.specs.Ways.{AreVerified}
 
 -- ---- the same way
 
--- where the one goes on, the other does
+-- if one path goes on, so does the other
 follows : (n : ℕ) (s o : Stored) (name next : CidParts) (path left : List (List ℕ)) (found : Option Tree) → LeadsOn s name path next left → Leads n o name path found → ((m : ℕ) × Leads m o next left found) ⊎ Collides
 follows zero s o name next path left found g k = elim (same_block o s name k.0 g.1.0 k.1 g.1.2) [
   | inl is ↦ absurd (no_end_at_link g.1.0 path left g.1.1 next found g.1.3 g.1.4 (subst (λ z. LeadsInBlock z path found) is k.2))
@@ -74,7 +74,7 @@ refused_binds (suc m) n s o name path r u all h is k = elim (follows n s o name 
 
 -- ---- a path that leads to no item
 
--- it leads to none, for no want of a block
+-- it leads nowhere, but not for lack of a block
 abbrev pub IsFailure : End → Type 0
 IsFailure (ends.NoSuchPath left) = ⊤
 IsFailure (ends.NoBlock verdict) = ⊤

@@ -1,4 +1,4 @@
--- Where a path ends for no want of a block, it ends nowhere else.
+-- If a path ends, but not for lack of a block, it ends nowhere else.
 use Rattle.std.proofs.Common.{◌≡◌, ◌≢◌, ℕ, zero, suc, ◌-◌, ◌^◌, ◌<◌, List, refl, subst, arith}
 use Rattle.ipld_tree.specs.Cid.{CidParts}
 use Rattle.ipld_links.specs.Reaching.{Stored, AreBytesOf}
@@ -35,7 +35,7 @@ settled_bytes s name path (ends.NoBlock verdict) h is = (h.0, h.1)
 settled_bytes s name path ends.NoModel h is = (h.0, h.1)
 settled_bytes s name path ends.Endless h is = absurd is
 
--- where bytes are, a path ends for no want of them
+-- if there are bytes, a path does not end for lack of them
 settled_here : (s : Stored) (name : CidParts) (path : List (List ℕ)) (end : End) (b : List ℕ) → AreBytesOf s name b → EndsAs s name path end → end ≢ ends.Endless → IsSettled end
 settled_here s name path (ends.Item kind place end) b under h never = tt
 settled_here s name path (ends.NoSuchPath left) b under h never = tt

@@ -41,7 +41,7 @@ least_push n (k ∷ ns) m = omega (arith, least_push k ns m)
 rows_push : (f : Measure → ℕ × ℕ) (ms : List Measure) (m : Measure) (rows : List (ℕ × Row)) → rows ≡ rows_of (map f ms) → counts_in rows (f m).0 (f m).1 ≡ rows_of (map f (ms ++ m ∷ []))
 rows_push f ms m rows h = ap (λ r. counts_in r (f m).0 (f m).1) h ∙ sym (ap rows_of (map_push f ms m) ∙ counts_push [] (map f ms) (f m))
 
--- one block more is counted, where the names take it
+-- one more block is counted, if its CID is added
 pub counted : {X E : Type 0} (old new : Counts) (m : Measure) (r : Result X E)
     → new.all ≡ joins m.1 old.all
     → new.least ≡ (if old.all.count == 0 then m.1 else min old.least m.1)

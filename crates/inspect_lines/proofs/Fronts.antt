@@ -4,7 +4,7 @@ use Rattle.std.proofs.Math.Seq.{take-length}
 use Rattle.std.proofs.lemmas.List.{take-append-le}
 use Rattle.inspect_lines.specs.Front.{TakesByte, TakesFront}
 
--- so many bytes were taken
+-- the first `n` bytes were taken
 abbrev pub TookSome : ℕ → List ℕ → List ℕ → Option (List ℕ) → Type 0
 TookSome n b front left = (rest : List ℕ) × (b ≡ front ++ rest) × (left ≡ Some rest) × (length front ≡ n)
 

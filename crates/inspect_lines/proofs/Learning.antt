@@ -49,7 +49,7 @@ ends_known roots b old new ended.Whole k h = (h.sections, h.file, knows_each (fo
 ends_known roots b old new (ended.Stopped stop) k h = tt
 ends_known roots b old new (ended.Fault line) k h = fault_told LearnsNext (λ ss. ⊤) b line.items (forms roots) old new h.0 h.1 tt h.2
 
--- what is told after the sections
+-- the facts after the sections
 pub facts_known : (roots : List CidParts) (b front : List ℕ) (index : Index) (new : Inspecting) (facts : Facts) → EndsKnown {E = AllocError} roots b ended.Whole new → ((sections : List Section) → Knows new (forms roots) sections → AreFactsOf facts front index roots sections) → AreFactsOfFile b front index facts
 facts_known roots b front index new facts h f = (roots, h.0, h.1, f h.0 h.2)
 
@@ -59,7 +59,7 @@ root_more missing keys roots i root told new it same is lt at h e =
     e ∙ ap (λ r. told ++ r ∷ []) (is ∙ ap (λ k. root_unless k root) same) ∙ ap (λ l. l ++ root_in missing root ∷ []) h
     ∙ sym (ap (map (root_in missing)) (take_more roots i root lt ∙ ap (λ r. take i roots ++ r ∷ []) (sym at)) ∙ map_push (root_in missing) (take i roots) root)
 
--- what is told, by the numbers
+-- the facts, by the counts
 pub facts_are : (counts : Counts) (facts : Facts) (front : List ℕ) (index : Index) (roots lost : List CidParts)
     → facts.version ≡ version_of front → facts.index ≡ index_told index front → facts.roots.items ≡ map (root_in lost) roots
     → facts.all ≡ counts.all → facts.repeated ≡ counts.all.count - length counts.names.cids.keys → facts.least ≡ counts.least → facts.greatest ≡ counts.greatest
@@ -79,7 +79,7 @@ facts_are counts facts front index roots lost version told named all repeated lo
   missing = missing;
 }
 
--- where what leads to no block is listed
+-- the facts, with the names of missing blocks as they are listed
 pub facts_listed : {E : Type 0} (r : Result Facts E) (it : Inspecting) (front : List ℕ) (index : Index) (roots : List CidParts) (v : Vec CidParts Global) (items : List CidParts) → items ≡ v.items
     → ((named : List (List ℕ)) (sections : List Section) → IsAfter it.check named sections → ListsMissingInFile named sections v)
     → IfOk r (λ facts. (blocks : List Measure) → AreCounts it.counts blocks → AreFacts facts front index roots blocks items)
@@ -100,7 +100,7 @@ start_fault start source error v h is told b l =
     let refused = header_alone start source error is h b l in
     (alone error, (no_file (alone error) b refused, inl refused), told ∙ alone_line error is)
 
--- the first bytes stand before the others again
+-- the first bytes come before the others again
 pub whole_found : {E : Type 0} (known left whole : Option (List ℕ)) (items slice front : List ℕ) (index : Index) (r : Result (Result Facts (Vec ℕ Global)) E)
     → IfSome known (λ b. TakesFront 51 b items left) → whole ≡ option_append (Some slice) left → slice ≡ items → front ≡ items
     → IfSome whole (λ b. IfOk r (IsFound b front index)) → IfSome known (λ b. IfOk r (IsFound b (take 51 b) index))

@@ -37,7 +37,7 @@ says_index front = is_version_2 front && (nat_le 51 (length front) && not (numbe
 abbrev pub index_told : Index → List ℕ → Option Index
 index_told index front = if says_index front then Some index else None
 
--- ---- what is told of a file
+-- ---- the facts about a file
 
 -- the CIDs and lengths of the blocks of sections
 abbrev pub measures : List Section → List Measure

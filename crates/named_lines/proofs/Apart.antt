@@ -1,5 +1,5 @@
--- The words of `index FILE`, of `--index`, of those that make files of sections, and of those that ask of a
--- commit are no command.
+-- The words of `index FILE`, of `--index`, of the commands that make files of sections, and of
+-- those about a commit are no other command.
 use Rattle.std.proofs.Common.{◌≡◌, ℕ, ◌+◌, ◌*◌, ◌≤◌, List, [], ap, sym, ◌∙◌, get_or, arith, codes, length, Option, None, Some}
 use Rattle.dagcar_lines.specs.Commands.{command_name, IsCommand}
 use Rattle.dagcar_lines.specs.declared.command.Command.{Command}

@@ -22,7 +22,7 @@ module _ (asked : Asked) (root : CidParts) (path : List (List ℕ)) (b : List �
   lined : (out told : List ℕ) → IsAnswerOfFile asked root path b true out told → IsAnswerPast asked root path b true out (told ++ no_way_line)
   lined out told is = inl (refl, (told, refl, is))
 
-  -- some of it went out, and the line is of what did not
+  -- part of the error output was written, and the line is in the rest
   some_past : (well : Bool) (out told others : List ℕ) → IsAnswerOfFile asked root path b well out (told ++ others) → (rest : List ℕ) × IsAnswerPast asked root path b well out (told ++ rest)
   some_past true out told others is = (others ++ no_way_line, subst (IsAnswerPast asked root path b true out) (append_assoc told others no_way_line) (lined out (told ++ others) is))
   some_past false out told others is = (others, inr (refl, is))
@@ -36,7 +36,7 @@ module _ (asked : Asked) (root : CidParts) (path : List (List ℕ)) (b : List �
   pub past_not : (old heard new after : Option (List ℕ)) (well : Bool) → well ≡ false → SaysBoth (IsAnswerOfFile asked root path b) old heard (Ok well) new after → SaysBoth (IsAnswerPast asked root path b) old heard (Ok well) new after
   past_not old heard new after well not k = (k.0, k.1, inr (not, subst (λ w. IsAnswerOfFile asked root path b w k.0 k.1) not k.2), k.3, k.4)
 
-  -- the line is told
+  -- the whole line was written
   pub past_told : (old heard new mid after : Option (List ℕ)) (well : Bool) (front back : List ℕ) → well ≡ true → no_way_line ≡ front ++ back → back ≡ [] → Appends mid after front → SaysBoth (IsAnswerOfFile asked root path b) old heard (Ok well) new mid → SaysBoth (IsAnswerPast asked root path b) old heard (Ok well) new after
   past_told old heard new mid after well front back is cut none tells k = (k.0, k.1 ++ front, said, k.3, Appends-trans heard mid after k.1 front k.4 tells)
     where
@@ -46,7 +46,7 @@ module _ (asked : Asked) (root : CidParts) (path : List (List ℕ)) (b : List �
       said : IsAnswerPast asked root path b well k.0 (k.1 ++ front)
       said = subst (λ w. IsAnswerPast asked root path b w k.0 (k.1 ++ front)) (sym is) (subst (λ l. IsAnswerPast asked root path b true k.0 (k.1 ++ l)) whole (lined k.0 k.1 (subst (λ w. IsAnswerOfFile asked root path b w k.0 k.1) is k.2)))
 
-  -- or a front of it is
+  -- or a prefix of it was
   pub past_half : (old heard new mid after : Option (List ℕ)) (well : Bool) (e : ToolError) (front back : List ℕ) → well ≡ true → no_way_line ≡ front ++ back → e ≡ Output → Appends mid after front → SaysBoth (IsAnswerOfFile asked root path b) old heard (Ok well) new mid → SaysBoth (IsAnswerPast asked root path b) old heard (Err e) new after
   past_half old heard new mid after well e front back is cut fault tells k = inr (true, k.0, [], k.1 ++ front, back, said, fault, k.3, Appends-trans heard mid after k.1 front k.4 tells)
     where
@@ -57,7 +57,7 @@ module _ (asked : Asked) (root : CidParts) (path : List (List ℕ)) (b : List �
       said = subst (λ o. IsAnswerPast asked root path b true o ((k.1 ++ front) ++ back)) (sym (append-nil k.0))
           (subst (IsAnswerPast asked root path b true k.0) (ap (λ l. k.1 ++ l) cut ∙ sym (append_assoc k.1 front back)) plain)
 
--- ---- where the bytes are known
+-- ---- if the bytes are known
 
 module _ (asked : Asked) (root : CidParts) (path : List (List ℕ)) (known old heard : Option (List ℕ)) where
   pub known_broken : (new after : Option (List ℕ)) (e : ToolError) → IfSome known (λ b. SaysBoth (IsAnswerOfFile asked root path b) old heard (Err e) new after) → IfSome known (λ b. SaysBoth (IsAnswerPast asked root path b) old heard (Err e) new after)

@@ -1,11 +1,11 @@
--- What `get` gives past an index.
+-- What `get` writes past an index.
 use Rattle.std.proofs.Common.{◌≡◌, ℕ, List, [], Bool, true, false, inl, inr, subst, Option, None, Some, IfSome, drop, Result, Ok, Err, IfOk}
 use Rattle.std.specs.Option.{option_map}
 use Rattle.ipld_tree.specs.Cid.{CidParts}
 use Rattle.dagcar_lines.specs.Finding.{IsGot}
 use Rattle.named_lines.specs.Gets.{no_entry_line, IsGotPast}
 
--- what is told of a block that is got is nothing
+-- there is no error line if the block was found
 untold : (name : CidParts) (b out told : List ℕ) → IsGot name b true out told → told ≡ []
 untold name b out told (inl k) = k.8
 untold name b out told (inr k) = let clash : true ≡ false = k.0 in cc clash

@@ -78,7 +78,7 @@ bytes_alike s o root path out told plain heard (inl h) (inl k) = same_bytes s o 
 bytes_alike s o root path out told plain heard (inl h) (inr k) = not_told o root path plain heard k
 bytes_alike s o root path out told plain heard (inr h) k = not_told s root path out told h
 
--- and over the blocks on the way, whether or not it leads anywhere
+-- and over the blocks on the way, even if the path leads nowhere
 abbrev Bound : Asked → Type 0
 Bound asked = (s o : Stored) (root : CidParts) (path : List (List ℕ)) (well : Bool) (out told plain heard : List ℕ) → HoldsWay s root path → IsAnswerOf asked root path s well out told → IsAnswerOf asked root path o true plain heard → ((well ≡ true) × (out ≡ plain) × (told ≡ heard)) ⊎ Collides
 
@@ -98,7 +98,7 @@ bytes_bound s o root path well out told plain heard holds h (inr k) = not_told o
 
 -- ---- the laws
 
--- where a file has what is asked, its sections do
+-- if there is an answer for a file, there is one over its sections
 of_file : (asked : Asked) (root : CidParts) (path : List (List ℕ)) (b out told : List ℕ) → IsAnswerOfFile asked root path b true out told → (stored : Stored) × IsAnswerOf asked root path stored true out told
 of_file asked root path b out told (inl h) = (h.3.0, h.3.2)
 of_file asked root path b out told (inr h) = absurd (let clash : true ≡ false = h.0 in cc clash)

@@ -23,7 +23,7 @@ use std::io::Write;
 pub enum IndexAsked {
     /// What it holds.
     Entries,
-    /// Whether it is right.
+    /// The judgement of it: what is wrong, if anything.
     Judgement,
 }
 

@@ -28,7 +28,7 @@ none_led : {A : Type 0} (bytes_of : A → List ℕ) (stored : Stored) (root : Ci
 none_led bytes_of stored root path (ends.Item kind place end) h = h
 none_led bytes_of stored root path _ h = tt
 
--- what is told of a path that led to none
+-- the error output for a path that does not lead to an item
 abbrev pub IsEndTold : Resolved → Bool → List ℕ → List ℕ → Type 0
 IsEndTold r well said told = (well ≡ false) × (said ≡ []) × (told ≡ end_line r.block r.end)
 

@@ -96,7 +96,7 @@ car_none roots = append-nil (header_bytes roots)
 car_length : (roots : List (List ℕ)) (part : List Section) (s : Section) → length (car_bytes roots (part ++ s ∷ [])) ≡ length (car_bytes roots part) + length (section_bytes s)
 car_length roots part s = ap length (car_push roots part s) ∙ length-append (car_bytes roots part) (section_bytes s)
 
--- what is left of the size is enough exactly where the sum is within the size
+-- the room that is left is enough exactly if the sum is within the size
 same_test : (n l size : ℕ) → 0 < n → nat_le n (size - l) ≡ nat_le (l + n) size
 same_test n l size some = by (leb_tells n (size - l)) (leb_tells (l + n) size)
   where
@@ -114,7 +114,7 @@ some_push : (part : List Section) (s : Section) → has_some (part ++ s ∷ []) 
 some_push [] s = refl
 some_push (first ∷ more) s = refl
 
--- a section goes in exactly where it fits
+-- a section goes in exactly if it fits
 fits_so : (w : Work) (size : ℕ) (roots : List (List ℕ)) (part : List Section) (s : Section) → w.holds ≡ has_some part → w.room ≡ size - length (car_bytes roots part) → goes_in w (length (section_bytes s)) ≡ fits size roots part s
 fits_so w size roots [] s some room = ap (λ b. not b || nat_le (length (section_bytes s)) w.room) some
 fits_so w size roots (first ∷ more) s some room =
@@ -249,7 +249,7 @@ module _ (plan : Plan) (roots : List (List ℕ)) (first : Option (List Named)) (
   pub parts_now : (w : Work) (done : List Section) (h : Divided plan roots first w done) → parts size roots done ≡ h.closed ++ h.part ∷ []
   parts_now w done h = ap (parts size roots) (sym (append-nil done)) ∙ h.cut []
 
-  -- where the next section does not fit, its part is one more
+  -- if the next section does not fit, it begins one more part
   pub parts_next : (w : Work) (done : List Section) (s : Section) (h : Divided plan roots first w done) → goes_in w (length (section_bytes s)) ≡ false → parts size roots (done ++ s ∷ []) ≡ (h.closed ++ h.part ∷ []) ++ (s ∷ []) ∷ []
   parts_next w done s h full =
       h.cut (s ∷ []) ∙ ap (λ l. h.closed ++ l) (begins size roots h.part s [] (sym (fits_so w size roots h.part s h.some h.room_is) ∙ full)) ∙ sym (append_assoc h.closed (h.part ∷ []) ((s ∷ []) ∷ []))
@@ -271,7 +271,7 @@ module _ (plan : Plan) (roots : List (List ℕ)) (first : Option (List Named)) (
 
 -- ---- one section
 
--- the bytes of a section were put where there is room for them, or were not
+-- the bytes of a section were written if there is room for them, or writing failed
 pub put_so : (s : Section) (n : ℕ) (b : List ℕ) (old mid new : Work) (r : Result (Unit {0}) PartFault) → n ≡ length (section_bytes s) → b ≡ section_bytes s → MakesRoom n old (Ok tt) mid → PutsBytes b mid r new → SplitsSection s old r new
 put_so s n b old mid new (Ok u) length_is is h k = (
   k.0 ∙ h.0,

@@ -136,7 +136,7 @@ first_stopped plan roots b first now has (faults.Exists name) stand same h =
     let all = forms (roots_of_parts plan.asked.now.roots.items roots) in
     ([], (roots, [], string_bytes name, car_bytes all [], stand, ap (λ n. (n, car_bytes all []) ∷ []) (sym h.0), h.1, refl), adds_same first first now [] same (adds_none first))
 
--- ---- what is told
+-- ---- the error lines
 
 module _ (asked : Split) (b : List ℕ) (m : Making) (heard : Option (List ℕ)) where
   -- the files are the first ones

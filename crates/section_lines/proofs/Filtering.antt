@@ -86,7 +86,7 @@ found_one (Named names) s ks false e =
 found_push : (kept : Kept) (done : List Section) (s : Section) → found_with kept (found_in kept (kept_sections kept done)) s ≡ found_in kept (kept_sections kept (done ++ s ∷ []))
 found_push kept done s = found_one kept s (kept_sections kept done) (keeps kept s.0) refl ∙ sym (ap (found_in kept) (kept_push kept done s))
 
--- what went out and was found after these sections
+-- what was written and found after these sections
 pub record Sent (f : Filter) (roots : List CidParts) (first : Option (List ℕ)) (w : Work) (done : List Section) : Type 0 where
   pub kept : w.kept ≡ f.kept
   pub out : Appends first w.written (filtered f roots done)
@@ -153,7 +153,7 @@ module _ {S : Type 0} (takes : SinkTakes S ToolError) (work : S → Work) (step 
       let at = sent_each h.sections new h.took in
       stopped_so IsOut IsAll first heard (work new).written (filtered f roots h.sections) r e after at.out (out_of h.sections h.wanting h.rest h.front) told.0 told.1
 
--- the header went out, or its going out broke off
+-- the header was written, or writing it broke off
 pub err_is : {T : Type 0} (r : Result T ToolError) (e : ToolError) → IsErrAnd r (λ x. x ≡ e) → r ≡ Err e
 err_is (Ok t) e is = absurd is
 err_is (Err x) e is = ap Err is

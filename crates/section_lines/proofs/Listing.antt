@@ -11,7 +11,7 @@ use Rattle.section_lines.specs.Words.{AreTexts}
 use Rattle.section_lines.specs.Lists.{list_lines, ListsNames, IsWrongLine}
 use Rattle.section_lines.proofs.Wording.{texts_push}
 
--- so many lines were read
+-- the first `number` lines were read
 pub record Read (lines rest : List (List ℕ)) (number : ℕ) (names : List CidParts) : Type 0 where
   pub done : List (List ℕ)
   pub all : lines ≡ done ++ rest

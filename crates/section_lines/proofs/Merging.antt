@@ -59,7 +59,7 @@ Knows held done = (c : CidParts) → IsHeldName c held ↔ IsHeldInFile c done
 held_before : (s : Section) (done : List Section) (c : CidParts) → IsHeldInFile c done → IsHeldInFile c (done ++ s ∷ [])
 held_before s done c k = (k.0, push_among (c, k.0) done s (inl k.1), k.2)
 
--- the names stay where this one is held, or its bytes are others
+-- the names held stay the same if this one is held, or its bytes do not match
 held_same : (s : Section) (done : List Section) (old new : HeldNames) → Knows old done → new ≡ old → (IsVerified s → IsHeldName s.0 old) → Knows new (done ++ s ∷ [])
 held_same s done old new h same if_held c = (λ m. held_before s done c ((h c).0 (subst (IsHeldName c) same m)), λ k. subst (IsHeldName c) (sym same) (back k))
   where
@@ -187,7 +187,7 @@ behind_push n [] b roots more (p ∷ places) at h is m = absurd h
 behind_push n (c ∷ bs) b roots more [] at h is m = absurd h
 behind_push n (c ∷ bs) b roots more (p ∷ places) at (f, o, i, k, rest, e) is m = (f, o ++ more, i, k, behind_push (n + 1) bs b o more places at rest is (omega (arith, m)), ap (λ l. l ++ more) e ∙ append_assoc f o more)
 
--- so many files were taken, after whose sections these places are left
+-- some files were taken, and these places are left
 pub record Mid (bs : List (List ℕ)) (file_roots roots : List CidParts) (first : Option (List ℕ)) (places : List Place) (old w : Work) : Type 0 where
   pub before : List (List ℕ)
   pub after : List (List ℕ)
@@ -305,7 +305,7 @@ so_far_all places left old w h none bs file_roots roots first behind sent = (mid
     by [] e r = (mid.sections, mid.sent, subst (λ x. AreFiles x file_roots mid.sections) (sym (e ∙ append-nil mid.before)) (subst (λ x. AreFiles mid.before x mid.sections) (sym (mid.all_roots ∙ ap (λ l. mid.roots_before ++ l) r ∙ append-nil mid.roots_before)) mid.are))
     by (b ∷ after) e r = absurd r
 
--- or up to one that is no file
+-- or up to one that is not a CAR file
 pub so_far_told : (places left next : List Place) (at : Place) (old w new : Work) (line : Vec ℕ Global) → MergedSoFar places old left w → left ≡ at ∷ next → MergesFile at w (Ok (Some line)) new → MergesFiles places old (Ok (Some line)) new
 unfolding front_of
 so_far_told places left next at old w new line h e k bs file_roots roots first behind sent =
@@ -332,7 +332,7 @@ pub so_far_broke : (places left next : List Place) (at : Place) (old w new : Wor
 so_far_broke places left next at old w new (Ok v) e h is k same = absurd same
 so_far_broke places left next at old w new (Err x) e h is k same = subst (λ y. MergesFiles places old (Err y) new) (sym same) (so_far_err places left next at old w new e h is k)
 
--- what is told is nothing, where it is no line
+-- there is no error line
 pub none_told : (told : Option (Vec ℕ Global)) → ((line : Vec ℕ Global) → told ≡ Some line → ⊥) → told ≡ None
 none_told None other = refl
 none_told (Some line) other = absurd (other line refl)
@@ -407,7 +407,7 @@ adds_append a b old mid new h k more = k more ∙ h (b ++ more) ∙ ap (λ l. ol
 pub adds_next : (roots : List CidParts) (i : ℕ) (c : CidParts) (old mid new : Roots) → i < length roots → c ≡ get_or roots i c → AddsRoots (take i roots) old mid → AddsRoots (c ∷ []) mid new → AddsRoots (take (i + 1) roots) old new
 adds_next roots i c old mid new lt at h k = subst (λ l. AddsRoots l old new) (sym (take_more roots i c lt ∙ ap (λ y. take i roots ++ y ∷ []) (sym at))) (adds_append (take i roots) (c ∷ []) old mid new h k)
 
--- so many headers were taken
+-- some headers were read
 pub record BegunMid {R : Type 0} (reading : R → Reading) (bs : List (List ℕ)) (left : List Reading) (number : ℕ) (begun : Begun R) : Type 0 where
   pub before : List (List ℕ)
   pub after : List (List ℕ)

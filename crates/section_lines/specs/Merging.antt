@@ -72,7 +72,7 @@ pub record FilesFront (bs : List (List ℕ)) (roots : List CidParts) (sections :
   pub front : IsFileFront at (forms roots_at) sections_at wanting rest
   pub begin : BeginFiles after roots_after
 
--- ---- what is told
+-- ---- error lines
 
 -- a line about the file with this number, counted from 1
 abbrev pub file_line : ℕ → List ℕ → List ℕ

@@ -22,7 +22,7 @@ pub trait NewFiles {
     /// The files finished, in order, if these are known.
     ghost whole: { Self → Option (List Named) };
 
-    /// Whether a file with this name exists, if that is known.
+    /// Returns whether a file with this name exists, if that is known.
     ghost has: { Self → List ℕ → Option Bool };
 
     /// Begins a file with this name, if none exists.

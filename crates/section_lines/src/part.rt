@@ -59,7 +59,7 @@ pub(crate) struct Part<F> {
     pub number: u64,
     /// How many more bytes it may have.
     room: u64,
-    /// Whether it has a section.
+    /// `true` if it has a section.
     holds: bool,
 }
 

@@ -11,13 +11,13 @@ use Rattle.dagcbor_cli.specs.declared.fault.ToolError.TheVariants.{Output}
 pub line_whole : (before after : Option (List ℕ)) (bytes text : List ℕ) → ((front back : List ℕ) × (bytes ≡ front ++ back) × Appends before after front × (back ≡ [])) → bytes ≡ text → Appends before after text
 line_whole before after bytes text k e = subst (Appends before after) (sym (k.2 ∙ ap (λ x. k.0 ++ x) k.4 ∙ append-nil k.0) ∙ e) k.3
 
--- lines that are what is to be said
+-- these lines are the output
 pub lines_said : (IsSaid : Bool → List ℕ → Type 0) (said : List ℕ) (well : Bool) (before after : Option (List ℕ)) (r : Result Bool ToolError) → IsSaid well said → SaysLines said well before r after → SaysToDevice IsSaid before r after
 lines_said IsSaid said well before after (Ok answer) is k = (said, subst (λ w. IsSaid w said) (sym k.0) is, k.1)
 lines_said IsSaid said well before after (Err e) is (inl none) = inl none
 lines_said IsSaid said well before after (Err e) is (inr k) = inr (k.0, k.1, (well, subst (IsSaid well) (sym k.2) is), k.3, k.4)
 
--- both that are what is to be said and told
+-- these lines are the output and the error output
 pub both_said : (IsSaid : Bool → List ℕ → List ℕ → Type 0) (lines text : List ℕ) (well : Bool) (old heard : Option (List ℕ)) (r : Result Bool ToolError) (new after : Option (List ℕ)) → IsSaid well lines text
     → SaysBoth (λ w said told. (w ≡ well) × (said ≡ lines) × (told ≡ text)) old heard r new after → SaysBoth IsSaid old heard r new after
 both_said IsSaid lines text well old heard (Ok w) new after is k = (k.0, k.1, same, k.3, k.4)

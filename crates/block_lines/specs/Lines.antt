@@ -30,7 +30,7 @@ verdict_text verdicts.NotRead = codes "not read"
 verdict_text verdicts.LinksNotRead = codes "links not read"
 verdict_text verdicts.Unverified = codes "not verified"
 
--- a verdict in words
+-- the verdict finds nothing wrong with the block
 abbrev pub is_well : Verdict → Bool
 is_well (verdicts.Block kind) = true
 is_well verdicts.Node = true

@@ -27,7 +27,7 @@ pub fn verdict_words(verdict: &Verdict) -> (&'static str, &'static str)
     }
 }
 
-/// Returns whether a verdict is well.
+/// Returns whether the verdict finds nothing wrong with the block.
 pub fn is_well(verdict: &Verdict) -> bool
     ensures { result ≡ is_well verdict.now }
 {

@@ -1,4 +1,4 @@
--- What a file that `prove` wrote decides.
+-- What a CAR file that `prove` writes decides.
 use Rattle.std.proofs.Common.{◌≡◌, inl, inr, ℕ, List, [], ◌∷◌, Bool, true, false, refl, sym, ap, ◌∙◌, subst, Option, None, Some, is_some, option_map, option_to_list}
 use Rattle.ipld_tree.specs.Cid.{CidParts, cid_bytes}
 use Rattle.dagcbor_car.specs.Car.{Section}
@@ -30,7 +30,7 @@ among_at stored name q b m = by (stored name) refl m
     by (Some x) e (inl is) = ap stored (ap (λ (p : Section). p.0) is) ∙ e ∙ ap Some (sym (ap (λ (p : Section). p.1) is))
     by (Some x) e (inr m) = absurd m
 
--- a section is what is stored
+-- each section is a stored block
 among_sections : (stored : Stored) (names : List CidParts) (q : CidParts) (b : List ℕ) → Among (q, b) (sections_at stored names) → stored q ≡ Some b
 among_sections stored [] q b m = absurd m
 among_sections stored (name ∷ names) q b m = elim (among_append (q, b) (section_at stored name) (sections_at stored names) m) [
@@ -41,13 +41,13 @@ among_sections stored (name ∷ names) q b m = elim (among_append (q, b) (sectio
 at_among : (stored : Stored) (name : CidParts) (b : List ℕ) → stored name ≡ Some b → Among (name, b) (section_at stored name)
 at_among stored name b is = subst (λ o. Among {X = Section} (name, b) (option_to_list (option_map (λ x. (name, x)) o))) (sym is) (inl refl)
 
--- what is stored under a name is a section
+-- a block stored under one of the names is a section
 sections_among : (stored : Stored) (names : List CidParts) (q : CidParts) (b : List ℕ) → Among q names → stored q ≡ Some b → Among (q, b) (sections_at stored names)
 sections_among stored [] q b m is = absurd m
 sections_among stored (name ∷ names) q b (inl e) is = append_among (q, b) (section_at stored name) (sections_at stored names) (inl (subst (λ n. Among (q, b) (section_at stored n)) e (at_among stored q b is)))
 sections_among stored (name ∷ names) q b (inr m) is = append_among (q, b) (section_at stored name) (sections_at stored names) (inr (sections_among stored names q b m is))
 
--- ---- what is read of it
+-- ---- what is read from it
 
 -- the bytes under a name on the way are the same
 same_stored : (stored others : Stored) (names : List CidParts) (q : CidParts) → Stores which.All (sections_at stored names) others → Among q names → others q ≡ stored q
@@ -70,7 +70,7 @@ agree stored others way once o each q m b =
     let same = same_stored stored others once q o ((each.lists.all q).1 m) in
     (under stored others q b same, under others stored q b (sym same))
 
--- ---- what is answered
+-- ---- the answer
 
 module _ (stored others : Stored) (root : CidParts) (path : List (List ℕ)) (way : List CidParts) (passed : AreOnTheWay stored root path way) (alike : AgreeOn way stored others) where
   pub told_here : (well : Bool) (out told : List ℕ) → IsToldAt others root path well out told → IsToldAt stored root path well out told
@@ -84,7 +84,7 @@ module _ (stored others : Stored) (root : CidParts) (path : List (List ℕ)) (wa
   bytes_here well out told (inl h) = inl (h.0, h.1, (items_decided stored others root path way passed alike h.0 (Some h.1)).1 h.2, h.3, h.4, h.5)
   bytes_here well out told (inr h) = inr (told_here well out told h)
 
--- the file of what was decided
+-- the CAR file of a path that was decided
 written : (stored : Stored) (root : CidParts) (path : List (List ℕ)) (out told : List ℕ) → IsProofOf stored root path true out told → IsProofFile stored root path out
 written stored root path out told h = elim h.2 [ inl k ↦ k.1 | inr k ↦ absurd (let clash : true ≡ false = k.1 in cc clash) ]
 

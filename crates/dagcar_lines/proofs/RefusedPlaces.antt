@@ -25,7 +25,7 @@ other_verdict s verdicts.LinksNotRead h other e k = h.1.1 (inl k.1.0)
 other_verdict s verdicts.OtherBytes h other e k = h.1 k.0
 other_verdict s verdicts.Unverified h other e k = h (verified_testable s k.0)
 
--- it is refused for what the judge says
+-- it is refused for the cause that the judge gives
 pub judged_so : (s : NamedBlock) (e : DecodeError Infallible) (r : Refused) → IsVerdict s (verdicts.Refused e) → judged (Err r) ≡ verdict s.1 (decode s.1) → IsVerdict s (verdicts.Refused r.cause)
 judged_so s e r h j = (h.0, (h.1.0, refused_for s.1 r.cause r.place (sym j)))
 

@@ -72,7 +72,7 @@ letters_of word = get_or word 0 0 + 256 * get_or word 1 0
 abbrev first_letters : List (List ℕ) → ℕ
 first_letters words = letters_of (get_or words 0 [])
 
--- how many words a command has, and the letters with which the first of them begins
+-- the number of words of a command, and the letters with which the first begins
 abbrev count_of : Command → ℕ
 count_of (commands.Get name) = 2
 count_of (commands.Tree name) = 2
@@ -171,7 +171,7 @@ word_on word text n c is (inr k) = subst (IsCommand (word ∷ text ∷ [])) (sym
 abbrev pub IsCommandOf : List (List ℕ) → Option Command → Type 0
 IsCommandOf words o = MatchOption o ((c : Command) → IsCommand words c → ⊥) (λ c. IsCommand words c)
 
--- what a word and a text are
+-- the command that a word and a text are
 pub words_on : (word text : List ℕ) (n : CidParts) (o : Option Command) → word ≢ codes "at" → word ≢ codes "prove" → word ≢ codes "ls" → word ≢ codes "cat" → word ≢ codes "check" → word ≢ codes "record" → IsTextOf text n → MatchOption o ((word ≢ codes "get") × (word ≢ codes "tree")) (IsCommandOn word n) → IsCommandOf (word ∷ text ∷ []) o
 words_on word text n None no_at no_prove no_ls no_cat no_check no_record is h = no_word word text no_at no_prove no_ls no_cat no_check no_record (λ m w t. elim w [ inl g ↦ h.0 g | inr r ↦ h.1 r ])
 words_on word text n (Some c) no_at no_prove no_ls no_cat no_check no_record is h = word_on word text n c is h

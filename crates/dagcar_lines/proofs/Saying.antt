@@ -47,7 +47,7 @@ broken : (speech : Speech) (b whole : List ℕ) (before between after : Option (
 broken speech b whole before between after IsLine e first out next (inl none) = record { whole = whole; front = []; first = first; out = Appends-trans before between after whole [] out none; next = inl refl }
 broken speech b whole before between after IsLine e first out next (inr k) = record { whole = whole; front = k.0; first = first; out = Appends-trans before between after whole k.0 out k.4; next = inr (k.3, (k.1, next (k.0 ++ k.1) k.2)) }
 
--- lines that are the last
+-- the last lines
 last_said : (IsLast : Bool → List ℕ → Type 0) (speech : Speech) (b whole : List ℕ) (before between after : Option (List ℕ)) (r : Result Bool ToolError) → AreFirstLines speech b whole → Appends before between whole → ((well : Bool) (text : List ℕ) → IsLast well text → IsSaidOfBytes speech b well (whole ++ text)) → SaysToDevice IsLast between r after
     → SaysBytes speech b before r after
 last_said IsLast speech b whole before between after (Ok well) first out next k = (whole ++ k.0, next well k.0 k.1, Appends-trans before between after whole k.0 out k.2)
@@ -173,7 +173,7 @@ roots_broken speech start now extent roots text before after (Err x) e w h is sa
     let t = left_begun roots extent start now b h l in
     broken speech b [] before before after (λ y. y ≡ text) x (inl refl) (Appends-nil before) (λ y same. inl (inr (roots, [], wanting extent t.0, bytes_within extent t.0, true, place_front b t.0 roots [] extent t.2, none_yet speech roots y (same ∙ is)))) (inr (k.0, k.1, sym k.2, same ∙ out, k.3))
 
--- ---- no file begins
+-- ---- the header is refused
 
 pub header_said : {E : Type 0} (speech : Speech) (old now : Reading) (before after : Option (List ℕ)) (e : CarError E) (line : List ℕ) (r : Result Bool ToolError) → CarRefuses RefusesStart old e now → IsOfBytes e → line ≡ speech.of_fault (refused_line e) → SaysLines line false before r after → SaysFile speech old before r after
 header_said speech old now before after e line r h is same says b l =
@@ -186,7 +186,7 @@ header_said speech old now before after e line r h is same says b l =
     as_last (Err x) (inl none) = inl none
     as_last (Err x) (inr k) = inr (k.0, k.1, (false, (refl, k.2)), k.3, k.4)
 
--- no file begins, and the only error line is for that
+-- the header is refused, and that is the only error line
 pub header_silent : {E : Type 0} (TellsOf : Section → List ℕ → Type 0) (old now : Reading) (heard before after : Option (List ℕ)) (e : CarError E) (line : List ℕ) (r : Result Bool ToolError) → CarRefuses RefusesStart old e now → IsOfBytes e → SaysLines line false before r after → SaysFile (beside TellsOf) old heard r heard
 header_silent TellsOf old now heard before after e line r h is says =
     header_said (beside TellsOf) old now heard heard e [] r h is refl (as_nothing r says)

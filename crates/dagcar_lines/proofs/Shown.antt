@@ -1,4 +1,4 @@
--- What is shown of bytes.
+-- What `show` writes for bytes.
 use Rattle.std.proofs.Common.{◌≡◌, ◌≢◌, inl, inr, ℕ, ◌==◌, List, [], ◌∷◌, length, Bool, true, false, sym, ◌∙◌, subst}
 use Rattle.ipld_tree.specs.Tree.{Tree}
 use Rattle.dagcbor_decode.specs.Blocks.{IsBlock}

@@ -1,4 +1,4 @@
--- How many sections had which verdict.
+-- How many sections got each verdict.
 use Rattle.std.proofs.Common.{◌≡◌, ℕ, ◌+◌, List, [], ◌∷◌, ◌++◌, length, length-append, append_assoc, Bool, arith, ap, ◌∙◌, subst, ◌↔◌, IsTrue, Result, Ok, Err, OnOk, Vec, Global}
 use Rattle.std.specs.Prelude.{IfOk}
 use Rattle.ipld_tree.specs.Cid.{CidParts}

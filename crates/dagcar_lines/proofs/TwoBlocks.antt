@@ -18,7 +18,7 @@ abbrev place_in : Result Kind (Option Why × ℕ) → ℕ
 place_in (Ok kind) = 0
 place_in (Err p) = p.1
 
--- what trails a block is judged
+-- the bytes after a block are judged
 pub trailing_judged : (b rest : List ℕ) (r : Refused) (second : Result Kind Refused) → judged (Err r) ≡ verdict b (decode b) → r.cause ≡ unread.TrailingData → rest ≡ drop r.place b
     → judged second ≡ verdict rest (decode rest) → IfOk second (λ kind. (t : Tree) × IsBlock rest t × (kind ≡ kind_of t)) → MatchBool (is_ok second) (AreTwoBlocks b) (AreTwoBlocks b → ⊥)
 trailing_judged b rest r (Ok kind) h cause is j k = (r.place, sym h ∙ ap (λ e. Err (why_of e, r.place)) cause, subst HasBlock is (k.0, k.1))

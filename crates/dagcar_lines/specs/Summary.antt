@@ -13,7 +13,7 @@ use Rattle.inspect_lines.specs.Facts.{number_line}
 use Rattle.dagcar_lines.specs.declared.summary.Counts.{Counts}
 use Rattle.dagcar_lines.specs.declared.summary.Summing.{Summing}
 
--- ---- how many are so
+-- ---- counts of verdicts
 
 abbrev pub is_ok : Verdict → Bool
 is_ok (verdicts.Block kind) = true

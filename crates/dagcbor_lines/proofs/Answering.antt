@@ -24,7 +24,7 @@ pub on_err : {E P : Type 0} (r : Result Unit E) → P → OnErr r P
 on_err (Ok v) p = tt
 on_err (Err e) p = p
 
--- whole lines were answered until the run ended so
+-- whole lines were answered until the run ended with this error
 until_so : (command : Command) (e : ToolError) (done count : ℕ) (input : List ℕ) (old new : Option (List ℕ)) → e ≢ Output → MayEndBehind (done + count) e → WritesWhole command count input old new → WritesUntil command e done input old new
 until_so command Output done count input old new other may wrote = absurd (other refl)
 until_so command Input done count input old new other may wrote = (count, may, wrote)
@@ -35,7 +35,7 @@ until_so command OutOfMemory done count input old new other may wrote = (count, 
 answers_join : (command : Command) (done others : List (List ℕ)) → answers command (done ++ others) ≡ answers command done ++ answers command others
 answers_join command done others = flat_map-append (λ line. answer_to command line ++ 10 ∷ []) done others
 
--- the answers of lines and then of others were written
+-- the answers of some lines, and then of others, were written
 written_both : (command : Command) (done others asked : List (List ℕ)) (old now new : Option (List ℕ)) → done ++ others ≡ asked
     → Appends old now (answers command done) → Appends now new (answers command others) → Appends old new (answers command asked)
 written_both command done others asked old now new whole first next =
@@ -96,7 +96,7 @@ consumed_shown (Some xs) (Some ys) after limit r shown n ok starts kept drops is
     below None h = tt
     below (Some most) h = omega (arith, h, is)
 
--- the answers that were appended to nothing are these bytes
+-- answers appended to nothing are these bytes
 pub answers_are : (command : Command) (done : List (List ℕ)) (text left old new bytes : List ℕ) → old ≡ [] → bytes ≡ new → AppendsAnswers command done text left old new → AppendsAnswers command done text left [] bytes
 answers_are command done text left old new bytes empty same h = (h.0, same ∙ h.1 ∙ ap (λ (s : List ℕ). s ++ answers command done) empty)
 
@@ -179,7 +179,7 @@ fill_until command e lines_done count (Some xs) old new partial other may wrote 
 
 -- ---- the last line
 
--- the bytes that were appended to nothing are its answer
+-- bytes appended to nothing are its answer
 pub answer_is : (command : Command) (line partial old new bytes : List ℕ) → line ≡ partial → old ≡ [] → bytes ≡ new → 0 < length partial → IsOfOneLine partial
     → AppendsLine (answer_to command line) old new → answers command (lines partial) ≡ bytes
 answer_is command line partial old new bytes same empty is some plain h =
@@ -278,7 +278,7 @@ last_until n command Output now new partial few begun none = begun
 last_until n command Input now new partial few begun none = (0, tt, record { enough = zero-le; appended = none (λ e. cc e) })
 last_until n command OutOfMemory now new partial few begun none = (0, omega (arith, few), record { enough = zero-le; appended = none (λ e. cc e) })
 
--- the input was at its end, and what was held is answered, or not
+-- the input was at its end, and the line kept is answered, or not
 pub last_ended : (n : ℕ) (command : Command) (r : Result Unit ToolError) (before after old now new : Option (List ℕ)) (partial : List ℕ) → n < most_lines → IsOfOneLine partial
     → IfSome before (λ input. HasAnswered command n input (prepend_known partial after) old now) → IfSome before (λ _. IsAtEnd after) → OnOk r (Appends now new (answers command (lines partial)))
     → OnErr r (WritesBeginning command (lines partial) now new) → IfErr r (λ e. e ≢ Output → Appends now new []) → RunsLines command before after old new r

@@ -27,7 +27,7 @@ lines_whole front rest plain =
     ap lines_of_parts (slice_split_at is_feed front 10 rest (no_feed front plain) refl ∙ ap (λ (parts : List (List ℕ)). front ∷ parts) p.2)
     ∙ ap (λ (parts : List (List ℕ)). strip_carriage_return front ∷ lines_of_parts parts) (sym p.2)
 
--- what no line feed ends is one line, if it is not empty
+-- a text without a line feed is one line, if it is not empty
 pub lines_last : (xs : List ℕ) → 0 < length xs → All (λ b. b ≢ 10) xs → lines xs ≡ xs ∷ []
 lines_last xs some plain =
     ap lines_of_parts (slice_split_none is_feed xs (no_feed xs plain)) ∙ ap (λ (b : Bool). cond b [] (xs ∷ [])) (ne_eqb (length xs) 0 (λ e. omega (arith, e, some)))

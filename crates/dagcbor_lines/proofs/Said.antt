@@ -1,4 +1,4 @@
--- Why a line is said as it is.
+-- Why each line is answered as it is.
 use Rattle.std.proofs.Common.{◌≡◌, ◌≢◌, ◌++◌, ℕ, List, codes, Bool, true, false, IsTrue, if◌then◌else◌, Some, Result, Ok, Err, MatchOption, MatchResult, refl, ap, subst, ◌∙◌}
 use Rattle.std.specs.Prelude.{⊤}
 use Rattle.dagcbor_core.specs.declared.error.DecodeError.{DecodeError}
@@ -32,7 +32,7 @@ refusal_told word (refused why left) e is =
     let same : why_of e ≡ Some why = cc in
     ap (λ (name : List ℕ). codes "refused " ++ name) (subst (λ o. MatchOption o ⊤ (λ w. variant_name e ≡ variant w)) same (named e))
 
--- a refusal is said of what is checked
+-- `check` reports the refusal of a block
 pub check_refused : {E : Type 0} (word : Tree → List ℕ) (d : Decoded Tree) (e : DecodeError E) {old new : List ℕ} {r : Result Unit ToolError} → answered (Err e) ≡ answer d
     → PushesLine (codes "refused " ++ variant_name e) old new r → PushesLine (told word d) old new r
 check_refused {E} word d e {old} {new} {r} is pushed = subst (λ (line : List ℕ). PushesLine line old new r) (refusal_told word d e (found d is)) pushed
@@ -41,7 +41,7 @@ check_refused {E} word d e {old} {new} {r} is pushed = subst (λ (line : List �
     found (got t rest) is = absurd cc
     found (refused why left) is = cc
 
--- a refusal is said of what has no links
+-- `links` reports the refusal of a block
 pub links_refused : {E : Type 0} (word : Tree → List ℕ) (d : Decoded Tree) (e : DecodeError E) {old new : List ℕ} {r : Result Unit ToolError} → e ≢ refusals.OutOfMemory → AnswersLinks d (Err e)
     → PushesLine (codes "refused " ++ variant_name e) old new r → PushesLine (told word d) old new r
 links_refused {E} word d e {old} {new} {r} other is pushed = subst (λ (line : List ℕ). PushesLine line old new r) (refusal_told word d e (found e other is)) pushed

@@ -8,6 +8,6 @@ abbrev pub command_name : Command → List ℕ
 command_name Check = codes "check"
 command_name Links = codes "links"
 
--- the one word that names the command
+-- the words are the one word that names the command
 abbrev pub IsCommand : List (List ℕ) → Command → Type 0
 IsCommand words command = words ≡ command_name command ∷ []

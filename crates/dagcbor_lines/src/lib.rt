@@ -1,7 +1,7 @@
-//! The lines of the program `dagcbor`: lines of hexadecimal text are tested against DAG-CBOR, or
-//! their links are listed.
+//! The program `dagcbor`, line by line: tests lines of hexadecimal text against DAG-CBOR, or lists
+//! their links.
 //!
-//! Each line is answered by one (`tests_programs`):
+//! Each line of input is answered by a line of output (`tests_programs`):
 //!
 //! ```rust
 //! const LINES: &[u8] = b"1817\nzz\n\nF6\n63616263\r\nF5\n420102";

@@ -28,7 +28,7 @@ joined_on a b (Some s) = ap Some (sym (append_assoc a b s))
 pub read_to_begin : (stored : Stored) (root : CidParts) (wanted : List Asked) → ((blocks : List ℕ → Option (List ℕ)) → stack_bytes blocks wanted ≡ bytes_under blocks 256 (cid_bytes root)) → IsReadTo stored root [] wanted
 read_to_begin stored root wanted h = λ blocks holds. sym (h blocks) ∙ sym (joined_nothing (stack_bytes blocks wanted))
 
--- one part more
+-- one more part
 pub read_further : (stored : Stored) (root : CidParts) (out piece : List ℕ) (wanted left : List Asked) → IsReadTo stored root out wanted → IsReadOn stored wanted piece left → IsReadTo stored root (out ++ piece) left
 read_further stored root out piece wanted left h k = λ blocks holds. h blocks holds ∙ ap (joined (Some out)) (k blocks holds) ∙ joined_on out piece (stack_bytes blocks left)
 
@@ -42,7 +42,7 @@ front_of_none stored wanted = ([], wanted, read_nothing stored wanted)
 pub front_further : (stored : Stored) (root : CidParts) (out front : List ℕ) (wanted : List Asked) → IsReadTo stored root out wanted → IsFrontOfPart stored wanted front → IsFrontOfContent stored root (out ++ front)
 front_further stored root out front wanted h k = (k.0, k.1, subst (λ x. IsReadTo stored root x k.1) (sym (append_assoc out front k.0)) (read_further stored root out (front ++ k.0) wanted k.1 h k.2))
 
--- a verdict that tells of nothing wrong is on the bytes that are named
+-- if the verdict finds nothing wrong, the bytes match the CID
 pub well_verified : (s : NamedBlock) (v : Verdict) → IsVerdict s v → is_well v ≡ true → IsVerified s
 well_verified s (verdicts.Block kind) h w = h.0
 well_verified s verdicts.Node h w = h.0
@@ -104,7 +104,7 @@ HasSaid stored root wanted old heard new after = (out : List ℕ) × IsReadTo st
 pub content_begun : (stored : Stored) (root : CidParts) (wanted : List Asked) (old heard : Option (List ℕ)) → IsReadTo stored root [] wanted → HasSaid stored root wanted old heard old heard
 content_begun stored root wanted old heard h = ([], h, Appends-nil old, Appends-nil heard)
 
--- and then one part more
+-- and then one more part
 pub content_on : (stored : Stored) (root : CidParts) (wanted left : List Asked) (old heard mid said new after : Option (List ℕ)) → HasSaid stored root wanted old heard mid said → SaysNext {E = ToolError} stored wanted left mid said (Ok None) new after
     → HasSaid stored root left old heard new after
 content_on stored root wanted left old heard mid said new after h k =

@@ -36,11 +36,11 @@ knows_none stored known none = λ cid said e.
     nothing : {said : Vec ℕ Global × Bool} → None ≡ Some said → ⊥
     nothing e = cc e
 
--- those that are known are the block's
+-- the words known for a block are right
 pub known_said : (stored : Stored) (known : BTreeMap CidParts (Vec ℕ Global × Bool)) (cid : CidParts) (found : Vec ℕ Global × Bool) → KnowsWords stored known → IsKnown known cid (Some found) → AreWordsOf stored cid found.1 found.0.items
 known_said stored known cid found h k = subst (λ well. AreWordsOf stored cid well found.0.items) (sym k.2) (subst (AreWordsOf stored cid k.0.1) (sym k.3) (h cid k.0 k.1))
 
--- those of one block more
+-- the words for one more block
 pub knows_more : (stored : Stored) (old new : BTreeMap CidParts (Vec ℕ Global × Bool)) (name : CidParts) (well : Bool) (words : List ℕ) → KnowsWords stored old → KeepsWords name well words old new → AreWordsOf stored name well words → KnowsWords stored new
 knows_more stored old new name well words h keeps is = λ q s e. found q s e (is_at (cid_cmp name) q) refl
   where
@@ -57,7 +57,7 @@ knows_more stored old new name well words h keeps is = λ q s e. found q s e (is
         subst (λ x. AreWordsOf stored x s.1 s.0.items) at (subst (λ (x : Vec ℕ Global × Bool). AreWordsOf stored name x.1 x.0.items) same kept)
     found q s e false t = h q s (sym (keeps.1 q (λ d. differ (sym t ∙ same_at name q (sym d)))) ∙ e)
 
--- what an insertion does of the map
+-- what an insertion does to the map
 pub words_kept : (old new : BTreeMap CidParts (Vec ℕ Global × Bool)) (name : CidParts) (said : Vec ℕ Global × Bool) (well : Bool) (words : List ℕ) → ((q : CidParts) → get cid_cmp new q ≡ cond (is_at (cid_cmp name) q) (Some said) (get cid_cmp old q)) → said.1 ≡ well → said.0.items ≡ words → KeepsWords name well words old new
 words_kept old new name said well words put is same = ((said, put name ∙ ap (λ t. cond t (Some said) (get cid_cmp old name)) (same_at name name refl), is, same), λ q other. put q ∙ ap (λ t. cond t (Some said) (get cid_cmp old q)) (apart q other (is_at (cid_cmp name) q) refl))
   where
@@ -67,7 +67,7 @@ words_kept old new name said well words put is same = ((said, put name ∙ ap (�
 
 -- ---- the entries
 
--- The links before what is left of the block are listed.
+-- The links before those left in the block are listed.
 pub record IsListedTo (stored : Stored) (block links : List ℕ) (well : Bool) (out : List ℕ) : Type 0 where
   pub row : HasRow links
   pub done : List LinkParts

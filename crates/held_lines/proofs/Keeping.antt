@@ -59,7 +59,7 @@ good_kept which.All s good = tt
 good_kept which.Verified s good = good
 
 module _ (kept : Kept) (old new : Stored) (name : CidParts) (block : List ℕ) (sections : List Section) (h : Stores kept sections old) where
-  -- the section's bytes are put under its name
+  -- the section's bytes are held under its CID
   stores_put : ((q : CidParts) → new q ≡ cond (is_at (cid_cmp name) q) (Some block) (old q)) → IsKeptSection kept (name, block) → ((t : Section) → Among t sections → IsVerified t → t.0 ≡ name → IsVerified (name, block)) → Stores kept (sections ++ (name, block) ∷ []) new
   stores_put put is best = record {
     some = λ q b e. found q b (is_at (cid_cmp name) q) refl (sym (put q) ∙ e);
@@ -132,7 +132,7 @@ module _ (kept : Kept) (old : BTreeMap CidParts (Vec ℕ Global)) (name : CidPar
       let none : stored_in old t.0 ≡ None = ap (stored_in old) e ∙ was_stored ∙ ap (option_map (λ (w : Vec ℕ Global). w.items)) free in
       absurd (let clash : true ≡ false = sym (h.all t m tt) ∙ ap is_some none in cc clash)
 
-  -- why no other section under the name is better
+  -- why no other section with this CID is better
   best : (sections : List Section) → Stores kept sections (stored_in old) → StaysInPlace kept before (name, block) → (t : Section) → Among t sections → IsVerified t → t.0 ≡ name → IsVerified (name, block)
   best sections h (inl good) t m is e = good_named kept (name, block) good
   best sections h (inr (inl same)) t m is e =
@@ -170,14 +170,14 @@ module _ (kept : Kept) (old : BTreeMap CidParts (Vec ℕ Global)) (name : CidPar
       same : (q : CidParts) → stored_in new q ≡ stored_in old q
       same q = ap (option_map (λ (w : Vec ℕ Global). w.items)) (back q ∙ ap (cond (is_at (cid_cmp name) q) before) (put q) ∙ by q (is_at (cid_cmp name) q) refl)
 
--- each section that was taken is one more
+-- each section taken is one more
 pub held_each : (kept : Kept) (done more : List Section) (old new : Holding) → old.kept ≡ kept → Stores kept done (stored_in old.blocks) → TookEach KeepsNext old more new → Stores kept (done ++ more) (stored_in new.blocks)
 held_each kept done more old new is h t = (took_knows KeepsNext (λ it ss. (it.kept ≡ kept) × Stores kept ss (stored_in it.blocks)) next done more old new (is, h) t).1
   where
     next : (s : Section) (old new : Holding) (done : List Section) → (old.kept ≡ kept) × Stores kept done (stored_in old.blocks) → KeepsNext s old (Ok tt) new → (new.kept ≡ kept) × Stores kept (done ++ s ∷ []) (stored_in new.blocks)
     next s old new done h k = (k.0 ∙ h.0, subst (λ w. Stores w done (stored_in old.blocks) → Stores w (done ++ s ∷ []) (stored_in new.blocks)) h.0 (k.1 done) h.1)
 
--- how far the file of these roots goes of which that is held
+-- how far the file with these roots goes, whose blocks are held
 abbrev pub HeldOf : {E : Type 0} → Kept → List ℕ → Vec CidParts Global → Ended E → Holding → Type 0
 HeldOf kept b roots ended.Whole new = (sections : List Section) × IsFile b (forms roots.items) sections
     × Stores kept sections (stored_in new.blocks)

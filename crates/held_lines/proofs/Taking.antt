@@ -48,13 +48,13 @@ header_alone old now _ is r = r.1
 
 -- ---- one section after the other
 
--- what is known after each section is known after all
+-- what each section preserves is known after all of them
 pub took_knows : {S Stop : Type 0} (takes : SinkTakes S Stop) (knows : S → List Section → Type 0) → ((s : Section) (old new : S) (done : List Section) → knows old done → takes s old (Ok tt) new → knows new (done ++ s ∷ []))
     → (done more : List Section) (old new : S) → knows old done → TookEach takes old more new → knows new (done ++ more)
 took_knows takes knows step done [] old new h t = subst (knows new) (sym (append-nil done)) (subst (λ x. knows x done) (sym t) h)
 took_knows takes knows step done (s ∷ more) old new h t = subst (knows new) (append_assoc done (s ∷ []) more) (took_knows takes knows step (done ++ s ∷ []) more t.0 new (step s old t.0 done h t.1) t.2)
 
--- what takes sections so takes them so too
+-- sections taken in one way are taken in any weaker way
 took_as : {S Stop : Type 0} (P Q : SinkTakes S Stop) → ((s : Section) (old : S) (r : Result (Unit {0}) Stop) (new : S) → P s old r new → Q s old r new) → (ss : List Section) (old new : S) → TookEach P old ss new → TookEach Q old ss new
 took_as P Q f [] old new t = t
 took_as P Q f (s ∷ ss) old new t = (t.0, f s old (Ok tt) t.0 t.1, took_as P Q f ss t.0 new t.2)
@@ -95,7 +95,7 @@ ends_same takes f stays roots b old new (Ok (ended.Stopped stop)) h = stays h.se
 ends_same takes f stays roots b old new (Ok (ended.Fault line)) h = took_same takes f stays h.1.first.sections old new h.1.first.took
 ends_same takes f stays roots b old new (Err e) h = took_same takes f stays h.sections old new h.took
 
--- so much is left, after the header and these sections
+-- what is left in the source after the header and these sections
 abbrev IsLeft : List ℕ → List (List ℕ) → List Section → Option ℕ → Reading → Type 0
 IsLeft b roots ss extent source = (rest : List ℕ) × (source.left ≡ Some rest) × IsPlace b roots ss extent rest
 
@@ -103,7 +103,7 @@ IsLeft b roots ss extent source = (rest : List ℕ) × (source.left ≡ Some res
 pub left_begun : (roots : List (List ℕ)) (extent : Option ℕ) (start source : Reading) (b : List ℕ) → TakesStart start roots extent source → start.left ≡ Some b → IsLeft b roots [] extent source
 left_begun roots extent start source b h l = let w = h.takes.taken b l in (w.0, w.2, subst (λ x. IsPlace x roots [] extent w.0) (sym w.1) (place_begun h.front w.0 roots extent h.header h.start))
 
--- one section more
+-- one more section
 left_more : (b : List ℕ) (roots : List (List ℕ)) (ss : List Section) (s : Section) (extent more : Option ℕ) (source behind : Reading) → IsLeft b roots ss extent source → TakesSectionBytes extent source s more behind → IsLeft b roots (ss ++ s ∷ []) more behind
 left_more b roots ss s extent more source behind h t =
     let w = t.1.takes.taken h.0 h.1 in
@@ -134,7 +134,7 @@ module _ {S Stop : Type 0} (takes : SinkTakes S Stop) (roots : List (List ℕ)) 
       let w = left_each takes b roots [] k.0 extent k.1 source k.2 old new h k.3 in
       record { sections = k.0; file = place_whole b w.0.0 roots k.0 k.1 more k.2 behind w.0.2 k.5 w.0.1; took = w.1 }
 
-  -- some were taken, and none of a fault of the bytes
+  -- some were taken, up to a fault of the bytes
   fault_behind : {E : Type 0} (count : ℕ) (ss : List Section) (extent more : Option ℕ) (mid behind : Reading) (old it new : S) (e : CarError E) (r : Result (Ended Stop) ToolError) → IsLeft b roots ss extent mid → TookEach takes old ss it → StopsEach takes (length ss) extent mid it (stop.Section count e) more behind new → EndsByFault {Stop = Stop} e r
       → MatchResult r (λ w. EndsAt takes roots b old w new) (λ _. TakesFileFront takes roots b old new)
   fault_behind count ss extent more mid behind old it new e (Err x) h t k told = taken_front ss extent mid old new h (subst (TookEach takes old ss) (sym k.2) t)

@@ -21,7 +21,7 @@ use Rattle.held_lines.specs.declared.holding.Kept.TheVariants as which
 use Rattle.held_lines.specs.declared.holding.Holding.{Holding}
 use Rattle.held_lines.specs.declared.holding.Held.{Held}
 
--- ---- no file
+-- ---- bytes that are not a CAR file
 
 -- the bytes are not a CAR file for this cause: the header is refused; or what follows the first
 -- sections is not a whole section, and these sections satisfy this
@@ -34,7 +34,7 @@ IsFileFault IsSo e b = IsNoFile b × (RefusesStart e b
 abbrev pub TellsFault : (List Section → Type 0) → List ℕ → List ℕ → Type 0
 TellsFault IsSo b told = (e : CarError Infallible) × IsFileFault IsSo e b × (told ≡ refused_line e)
 
--- ---- what is held
+-- ---- the blocks held
 
 -- which sections are kept: all, or those whose bytes match their CID by SHA-256
 abbrev pub IsKeptSection : Kept → Section → Type 0

@@ -15,7 +15,7 @@ Copied known begin done old new = IfSome known (λ b. Appends old new (take done
 parted : (b : List ℕ) (begin done n : ℕ) → take (done + n) (drop begin b) ≡ take done (drop begin b) ++ take n (drop (begin + done) b)
 parted b begin done n = take-add done n (drop begin b) ∙ ap (λ l. take done (drop begin b) ++ take n l) (drop-drop done begin b)
 
--- a piece more
+-- one more piece
 pub copied_more : {A E : Type 0} (known old mid new : Option (List ℕ)) (begin done n : ℕ) (r : Result A E) (a : A) → r ≡ Ok a → Copied known begin done old mid → IfSome known (λ b. WritesFront mid new r (take n (drop (begin + done) b))) → Copied known begin (done + n) old new
 copied_more None old mid new begin done n r a is h k = tt
 copied_more (Some b) old mid new begin done n r a is h k =

@@ -1,4 +1,4 @@
--- A section to which an index leads.
+-- A section that an index leads to.
 use Rattle.std.specs.Bool.{⊤}
 use Rattle.std.proofs.Common.{◌≡◌, ℕ, ◌+◌, ◌-◌, ◌^◌, ◌<◌, ◌≤◌, min, List, [], ◌++◌, length, take, drop, Option, None, Some, IfSome, Result, Ok, Err, IfOk, MatchOption, Vec, Global, sym, ap, ◌∙◌, subst, refl, inl, inr, arith, length-append}
 use Rattle.std.proofs.lemmas.Bool.{cases_lt}
@@ -92,7 +92,7 @@ pub four_known : {P Q R T U : List ℕ → Type 0} (known : Option (List ℕ)) �
 four_known None h k l m f = tt
 four_known (Some b) h k l m f = f b h k l m
 
--- what is known of an answer is known of what it has
+-- what holds of an answer holds of what it contains
 pub found_of : {E : Type 0} (known : Option (List ℕ)) (r : Result (Option ℕ) E) (o p : Option ℕ) (P : List ℕ → List ℕ → Option ℕ → Type 0) (d e : List ℕ) → IfSome known (λ b. length b < 2 ^ 64 → IfOk r (P d b)) → r ≡ Ok o → o ≡ p → d ≡ e → IfSome known (λ b. length b < 2 ^ 64 → P e b p)
 found_of {E} None r o p P d e h was is same = tt
 found_of {E} (Some b) r o p P d e h was is same = λ below.
@@ -119,7 +119,7 @@ from_place (Some b) left place P is h = subst (λ x. IfSome x P) is h
 
 -- ---- one entry after the other
 
--- an entry is not passed that leads to a block
+-- an entry that leads to a block is not passed over
 abbrev pub NotPassed : CidParts → Layout → Bucket → ℕ → ℕ → List ℕ → Type 0
 NotPassed name layout bucket first number b = (k : ℕ) → LeadsAt name layout bucket k b → number ≤ first + k
 
@@ -142,7 +142,7 @@ pub no_entry : (name : CidParts) (layout : Layout) (bucket : Bucket) (first numb
 no_entry name layout bucket first number b f from up none (k, early, l) =
     let it = entry_before name layout bucket first number k b f from l (up k l) in none l.short it.0 it.1
 
--- one that does not lead to a block is passed
+-- one that does not lead to a block is passed over
 pub passed_on : (name : CidParts) (layout : Layout) (bucket : Bucket) (first number offset : ℕ) (b : List ℕ) → IsFirst b bucket name.digest first → NotPassed name layout bucket first number b → IsEntryOf b bucket name.digest number offset → (IsSoughtAt name layout offset b → ⊥) → NotPassed name layout bucket first (number + 1) b
 passed_on name layout bucket first number offset b f up e none k l = elim (cases_lt number (first + k)) [
   | inl less ↦ omega (arith, less)
@@ -154,7 +154,7 @@ passed_on name layout bucket first number offset b f up e none k l = elim (cases
       absurd (none (subst (λ o. IsSoughtAt name layout o b) one it.2))
 ]
 
--- none of the first 16 does
+-- none of the first 16 leads to a block
 pub all_passed : (name : CidParts) (layout : Layout) (bucket : Bucket) (first number : ℕ) (b : List ℕ) → IsFirst b bucket name.digest first → min (first + 16) (2 ^ 64 - 1) ≤ number → NotPassed name layout bucket first number b → LeadsIn name layout bucket b → ⊥
 all_passed name layout bucket first number b f far up (k, early, l) = absurd (omega (arith, up k l, early, far, f.within, l.few))
 
@@ -167,7 +167,7 @@ digest_short : (name : CidParts) → AreCidParts name → length name.digest ≤
 digest_short name (inl h) = omega (arith, h.3)
 digest_short name (inr h) = h.3
 
--- a block that is listed is led to
+-- the index leads to a block that it lists
 pub listed_leads : (b : List ℕ) (name : CidParts) (layout : Layout) → IsLayout b layout → IsListed b name → LeadsBy name layout b
 listed_leads b name layout is h =
     let k = leads b _ h.entries (entry_of h.offset (name, h.block)) h.before h.index h.entry in (

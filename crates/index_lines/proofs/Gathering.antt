@@ -51,13 +51,13 @@ whole_gathered b roots old mid found w none header same sorted long =
       length = omega (arith, long, k.1, header, length-append (header_bytes roots) (flat_map section_bytes w.sections));
     }
 
--- no file begins
+-- the header is refused
 pub none_begun : {E : Type 0} (start source : Reading) (error : CarError E) (b told : List ℕ) → CarRefuses RefusesStart start error source → IsOfBytes error → told ≡ refused_line error → start.left ≡ Some b → TellsFault (λ ss. ⊤) b told
 none_begun start source error b told h is said l =
     let refused = header_alone start source error is h b l in
     (alone error, (no_file (alone error) b refused, inl refused), said ∙ alone_line error is)
 
--- all bytes from the first on
+-- all bytes from the start
 pub from_first : (known left : Option (List ℕ)) (P : List ℕ → Type 0) → left ≡ option_map (drop 0) known → IfSome left P → IfSome known P
 from_first None left P is h = tt
 from_first (Some b) left P is h = subst (λ x. IfSome x P) is h

@@ -1,4 +1,4 @@
--- The header of version 2.
+-- The CARv2 header.
 use Rattle.std.proofs.Common.{◌≡◌, ℕ, List, ◌++◌, sym, ap, ◌∙◌, append_assoc}
 use Rattle.std.specs.Int.{w64, to_le_bytes}
 

@@ -1,4 +1,4 @@
--- A block of a file that an index was written for.
+-- A block of a file with an index that `index` wrote.
 use Rattle.std.specs.Bool.{⊤}
 use Rattle.std.proofs.Common.{◌≡◌, ℕ, ◌+◌, ◌-◌, ◌^◌, ◌<◌, ◌≤◌, List, [], ◌∷◌, ◌++◌, length, take, drop, sym, ap, ◌∙◌, subst, refl, inl, inr, arith, length-append, append_assoc, append-nil, flat_map, All, IsPermutation}
 use Rattle.std.proofs.lemmas.Grind.{flat_map-append}
@@ -19,7 +19,7 @@ use Rattle.index_lines.specs.Indexed.{entry_of, entries_of, version_2_header, in
 use Rattle.index_lines.specs.Layouts.{index_field}
 use Rattle.index_lines.specs.Finds.{BeginsSought, IsListed, written, IndexLists}
 
--- the bytes after the first of those at a place
+-- the bytes some way after an offset
 behind_front : (b xs rest : List ℕ) (p n : ℕ) → n ≡ length xs → drop p b ≡ xs ++ rest → drop (p + n) b ≡ rest
 behind_front b xs rest p n long is =
     sym (drop-drop n p b) ∙ (ap (drop n) is ∙ (ap (λ m. drop m (xs ++ rest)) long ∙ drop-append_seam xs rest))

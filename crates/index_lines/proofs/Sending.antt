@@ -1,4 +1,4 @@
--- Texts that go out, one after the other.
+-- Texts that are written, one after the other.
 use Rattle.std.proofs.Common.{◌≡◌, ℕ, ◌-◌, ◌≤◌, List, [], ◌++◌, length, take, drop, Bool, true, Option, None, Some, IfSome, Result, Ok, Err, IfOk, OnOk, IsErrAnd, inl, inr, sym, ap, ◌∙◌, subst, refl, append-nil, append_assoc, arith}
 use Rattle.std.proofs.lemmas.List.{length-take}
 use Rattle.std.proofs.Math.Seq.{take-length}
@@ -24,7 +24,7 @@ err_ok Q P (Err e) h = tt
 pub front_none : (A E : Type 0) (old : Option (List ℕ)) (e : E) (x : List ℕ) → WritesFront {A = A} {E = E} old old (Err e) x
 front_none A E old e x = ([], x, refl, Appends-nil old, tt)
 
--- the first did not go out whole
+-- the first was not written whole
 pub stopped : {A B E : Type 0} (P : E → Type 0) (old new : Option (List ℕ)) (x y : List ℕ) (r : Result A E) (s : Result B E) → IsErrAnd s P → WritesFront old new r x → WritesFront old new s (x ++ y)
 stopped P old new x y r s err h = (h.0, h.1 ++ y, ap (λ l. l ++ y) h.2 ∙ append_assoc h.0 h.1 y, h.3, err_ok (h.1 ++ y ≡ []) P s err)
 
@@ -74,7 +74,7 @@ said_some b found old heard new (Err e) gathered h =
     let k = h gathered in
     inr (true, k.6.0, k.6.1, [], [], inl (k.0, k.1, k.2, k.3, k.4, sym k.6.2, refl, refl), k.6.3, Appends-nil heard)
 
--- what is known of two
+-- what is known from two facts
 pub both_known : {P Q R : List ℕ → Type 0} (known : Option (List ℕ)) → IfSome known P → IfSome known Q → ((b : List ℕ) → P b → Q b → R b) → IfSome known R
 both_known None h k f = tt
 both_known (Some b) h k f = f b h k

@@ -1,4 +1,4 @@
--- A section that is sought.
+-- A section that is looked for.
 use Rattle.std.proofs.Common.{◌≡◌, refl}
 use Rattle.dagcbor_car.specs.Car.{Section}
 use Rattle.ipld_links.specs.Verdicts.{IsVerified, IsVerdict}

@@ -1,4 +1,4 @@
--- What the first 51 bytes tell of a file of version 2.
+-- What the first 51 bytes say about a file of version 2.
 use Rattle.std.proofs.Common.{◌≡◌, ℕ, ◌+◌, ◌-◌, ◌<◌, ◌≤◌, ◌^◌, List, ◌++◌, length, take, drop, sym, ap, ◌∙◌, subst, arith, Option, None, Some, Result, Ok, Err, inl, inr, MatchOption, MatchResult, IfSome, [], append-nil, refl}
 use Rattle.std.proofs.lemmas.List.{take-append-drop, length-take, take-take}
 use Rattle.std.specs.declared.convert.Infallible.{Infallible}
@@ -27,7 +27,7 @@ pub span_found : (b : List ℕ) (found : Option Span) → MatchOption found (May
 span_found b None h = span_none b h
 span_found b (Some s) h = h
 
--- the first bytes of a file tell its span
+-- the first bytes of a file give its span
 first_numbers : (b : List ℕ) (n : ℕ) → n + 8 ≤ 51 → 51 ≤ length b → number_behind n (take 51 b) ≡ number_behind n b
 first_numbers b n fits whole = sym (number_on n (take 51 b) (drop 51 b) (omega (arith, length-take 51 b))) ∙ ap (number_behind n) (take-append-drop 51 b)
 

@@ -1,4 +1,4 @@
--- What is refused over blocks that their names say, no other blocks have.
+-- What is refused over blocks that match their CIDs, no other such blocks have.
 use Rattle.std.proofs.Common.{◌≡◌, ◌⊎◌, inl, inr, ℕ, zero, suc, List, sym, subst, Option, None, Some}
 use Rattle.std.specs.Bool.{⊤}
 use Rattle.ipld_tree.specs.Cid.{CidParts, cid_bytes}

@@ -1,4 +1,4 @@
--- Blocks that are more than before.
+-- More blocks than before.
 use Rattle.std.proofs.Common.{◌≡◌, inl, inr, ℕ, ◌+◌, List, refl, sym, ap, ◌∙◌, arith, Option, None, Some}
 use Rattle.ipld_tree.specs.Cid.{CidParts}
 use Rattle.ipld_links.specs.Names.{IsInline}
@@ -8,7 +8,7 @@ use Rattle.dagcbor_resolve.specs.Resolving.{LeadsOn}
 use Rattle.dagcbor_resolve.proofs.Ways.{Led, led_nowhere, led_on}
 use Rattle.index_ways.specs.Ways.{HoldsMore}
 
--- what is under a name stays there
+-- what is stored under a CID stays there
 abbrev pub Extends : Stored → Stored → Type 0
 Extends old new = (q : CidParts) (b : List ℕ) → AreBytesOf old q b → AreBytesOf new q b
 
@@ -27,7 +27,7 @@ grown known name old new h q b (inr k) = by (new q) refl
 goes_more : (old new : Stored) (name next : CidParts) (path left : List (List ℕ)) → Extends old new → LeadsOn old name path next left → LeadsOn new name path next left
 goes_more old new name next path left e g = (g.0, (g.1.0, g.1.1, (g.1.2.0, e name g.1.2.0 g.1.2.1, g.1.2.2, g.1.2.3), g.1.3, g.1.4))
 
--- the path leads there over all blocks that these are among
+-- the path leads there over any blocks that include these
 abbrev pub LedOver : Stored → CidParts → List (List ℕ) → ℕ → CidParts → List (List ℕ) → Type 0
 LedOver stored root path count name left = (s : Stored) → Extends stored s → Led s root path count name left
 

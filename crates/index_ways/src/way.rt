@@ -37,7 +37,7 @@ fn look_up<S: ReadAt>(
     ensures { IfOk result (λ has. LooksUp (S.bytes source.now) name.now (stored_in blocks.old) has
         (stored_in blocks.new)) }
 {
-    // A path can come to a block twice.
+    // A path can reach a block twice.
     if stored_bytes(blocks, name).is_some() {
         return Ok(true);
     }

@@ -1,4 +1,4 @@
--- One block more is counted after the others.
+-- One more block is counted after the others.
 use Rattle.std.proofs.Common.{◌≡◌, ℕ, ◌+◌, ◌==◌, List, [], ◌∷◌, ◌++◌, take, get_or, ◌<◌, length, length-append, map, min, max, if◌then◌else◌, refl, sym, ap, ◌∙◌, arith, Result, Ok, Err, OnOk}
 use Rattle.std.proofs.lemmas.List.{take_more}
 use Rattle.std.proofs.lemmas.Bool.{ne_eqb}
@@ -18,7 +18,7 @@ pub distinct_push : (seen cs : List CidParts) (c : CidParts) → distinct_with s
 distinct_push seen [] c = refl
 distinct_push seen (d ∷ cs) c = distinct_push (insert_key cid_cmp seen d) cs c
 
--- one CID more of a list
+-- one more CID of a list
 pub distinct_more : (cs : List CidParts) (i : ℕ) (c : CidParts) (seen : List CidParts) → i < length cs → c ≡ get_or cs i c → seen ≡ distinct (take i cs) → insert_key cid_cmp seen c ≡ distinct (take (i + 1) cs)
 distinct_more cs i c seen lt is h = ap (λ s. insert_key cid_cmp s c) h ∙ sym (ap distinct (take_more cs i c lt ∙ ap (λ x. take i cs ++ x ∷ []) (sym is)) ∙ distinct_push [] (take i cs) c)
 

@@ -1,4 +1,4 @@
--- Texts, a comma between.
+-- Texts with commas between.
 use Rattle.std.proofs.Common.{◌≡◌, ℕ, List, [], ◌∷◌, ◌++◌, map, flat_map, refl, sym, ap, ◌∙◌}
 use Rattle.dag_json.specs.DagJson.{joined}
 

@@ -38,7 +38,7 @@ learns s n old new (Ok x) is takes counts = λ roots sections k. (takes roots se
 knows_each : (roots : List (List ℕ)) (done more : List Section) (old new : Inspecting) → Knows old roots done → TookEach LearnsNext old more new → Knows new roots (done ++ more)
 knows_each roots done more old new k t = took_knows LearnsNext (λ it ss. Knows it roots ss) (λ s old new done k t. t roots done k) done more old new k t
 
--- how far the file of these roots goes
+-- how far the file with these roots goes
 abbrev pub EndsKnown : {E : Type 0} → List CidParts → List ℕ → Ended E → Inspecting → Type 0
 EndsKnown roots b ended.Whole new = (sections : List Section) × IsFile b (forms roots) sections × Knows new (forms roots) sections
 EndsKnown roots b (ended.Stopped stop) new = ⊤
@@ -53,7 +53,7 @@ ends_known roots b old new (ended.Fault line) k h = fault_told LearnsNext (λ ss
 pub facts_known : (roots : List CidParts) (b front : List ℕ) (index : Index) (new : Inspecting) (facts : Facts) → EndsKnown {E = AllocError} roots b ended.Whole new → ((sections : List Section) → Knows new (forms roots) sections → AreFactsOf facts front index roots sections) → AreFactsOfFile b front index facts
 facts_known roots b front index new facts h f = (roots, h.0, h.1, f h.0 h.2)
 
--- one root more
+-- one more root
 pub root_more : (missing keys : List CidParts) (roots : List CidParts) (i : ℕ) (root : CidParts) (told new : List Root) (it : Root) → keys ≡ distinct missing → it ≡ root_unless keys root → i < length roots → root ≡ get_or roots i root → told ≡ map (root_in missing) (take i roots) → new ≡ told ++ it ∷ [] → new ≡ map (root_in missing) (take (i + 1) roots)
 root_more missing keys roots i root told new it same is lt at h e =
     e ∙ ap (λ r. told ++ r ∷ []) (is ∙ ap (λ k. root_unless k root) same) ∙ ap (λ l. l ++ root_in missing root ∷ []) h
@@ -94,7 +94,7 @@ pub behind_start : {A E : Type 0} (P : List ℕ → A → Type 0) (r : Result A 
 behind_start P (Err e) start source roots items extent is h f = tt
 behind_start P (Ok found) start source roots items extent is h f = λ b l. f start b (subst (λ rs. TakesStart start (forms rs) extent source) (sym is) h) l
 
--- no file begins
+-- the header is refused
 pub start_fault : {E : Type 0} (start source : Reading) (error : CarError E) (v : Vec ℕ Global) → CarRefuses RefusesStart start error source → IsOfBytes error → v.items ≡ refused_line error → (b : List ℕ) → start.left ≡ Some b → TellsFault (λ ss. ⊤) b v.items
 start_fault start source error v h is told b l =
     let refused = header_alone start source error is h b l in

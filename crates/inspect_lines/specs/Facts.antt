@@ -23,7 +23,7 @@ word_line word second = line (word ++ (32 ∷ second))
 
 -- ---- numbers of the multicodec table
 
--- in hexadecimal
+-- a number in hexadecimal, with `0x`
 abbrev pub code_text : ℕ → List ℕ
 code_text number = codes "0x" ++ digits 16 false number
 

@@ -42,7 +42,7 @@ other_letters c e = omega (arith, e)
 pub index_apart : (words : List (List ℕ)) (file : List ℕ) (c : Command) → IsIndex words file → IsCommand words c → ⊥
 index_apart words file c h k = other_letters c (sym (ap first_letters h.0) ∙ first_of words c k)
 
--- the words that ask of an index are three, and those of a command fewer, or its first is another
+-- the words about an index are three; a command has fewer, or another first word
 pub index_words_apart : (words : List (List ℕ)) (asked : IndexAsked) (file : List ℕ) (c : Command) → AreIndexWords words asked file → IsCommand words c → ⊥
 index_words_apart words asked file (commands.Get name) h k = omega (arith, ap length h.0, ap length k.1)
 index_words_apart words asked file (commands.Tree name) h k = omega (arith, ap length h.0, ap length k.1)

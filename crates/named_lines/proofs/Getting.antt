@@ -18,12 +18,12 @@ past_true name b well out told line is tells h =
 pub past_false : (name : CidParts) (b : List ℕ) (well : Bool) (out told : List ℕ) → well ≡ false → IsGot name b well out told → IsGotPast name b well out told
 past_false name b well out told is h = inr (is, subst (λ w. IsGot name b w out told) is h)
 
--- what is known of two
+-- what is known from two facts
 pub both_known : {P Q R : List ℕ → Type 0} (known : Option (List ℕ)) → IfSome known P → IfSome known Q → ((b : List ℕ) → P b → Q b → R b) → IfSome known R
 both_known None h k f = tt
 both_known (Some b) h k f = f b h k
 
--- all bytes from the first on
+-- all bytes from the start
 pub from_first : (known left : Option (List ℕ)) (P : List ℕ → Type 0) → left ≡ option_map (drop 0) known → IfSome left P → IfSome known P
 from_first None left P is h = tt
 from_first (Some b) left P is h = subst (λ x. IfSome x P) is h

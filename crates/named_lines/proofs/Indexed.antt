@@ -1,4 +1,4 @@
--- What is said of an index.
+-- What the program says about an index.
 use Rattle.std.proofs.Common.{◌≡◌, ℕ, List, [], inl, Bool, Option, None, Some, IfSome, Result, Ok, Err, IfOk, refl, subst, string_bytes, String, Global}
 use Rattle.std.proofs.KnownBytes.{Appends-nil}
 use Rattle.block_lines.specs.Lines.{SaysBoth}

@@ -1,4 +1,4 @@
--- What is answered over the blocks on a path's way is what is answered of any file.
+-- The answer over the blocks on a path's way is the answer for any file.
 use Rattle.std.proofs.Common.{◌≡◌, ◌⊎◌, inl, inr, ℕ, List, [], Bool, true, false, sym, ap, ◌∙◌, subst, Some, if◌then◌else◌}
 use Rattle.ipld_tree.specs.Cid.{CidParts}
 use Rattle.ipld_tree.specs.Tree.{Tree}
@@ -27,7 +27,7 @@ use Rattle.named_lines.specs.PathAnswers.{IndexLeadsThere, WaysBind}
 one_tree : (s o : Stored) (m n : ℕ) (root : CidParts) (path : List (List ℕ)) (u v : Tree) → Leads m s root path (Some u) → Leads n o root path (Some v) → (u ≡ v) ⊎ Collides
 one_tree s o m n root path u v h k = elim (paths_bind s o m n root path (Some u) (Some v) h k) [ inl e ↦ inl (let same : Some u ≡ Some v = e in cc same) | inr c ↦ inr c ]
 
--- the same is said and told
+-- the output and the error lines are the same
 abbrev IsSame : List ℕ → List ℕ → List ℕ → List ℕ → Type 0
 IsSame out told plain heard = ((out ≡ plain) × (told ≡ heard)) ⊎ Collides
 
@@ -64,7 +64,7 @@ not_told o root path out told h = absurd (let clash : true ≡ false = h.3 in cc
 
 -- ---- the answers
 
--- what is answered over two stores is the same
+-- the answers over two stores are the same
 abbrev Alike : Asked → Type 0
 Alike asked = (s o : Stored) (root : CidParts) (path : List (List ℕ)) (out told plain heard : List ℕ) → IsAnswerOf asked root path s true out told → IsAnswerOf asked root path o true plain heard → IsSame out told plain heard
 

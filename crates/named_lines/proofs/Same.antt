@@ -1,4 +1,4 @@
--- What is got of one name is the same, whatever led to it.
+-- The block found for a CID is the same, however it was found.
 use Rattle.std.proofs.Common.{◌≡◌, inl, inr, List, [], ℕ, true, false}
 use Rattle.ipld_tree.specs.Cid.{CidParts}
 use Rattle.ipld_links.specs.Verdicts.{IsVerified}

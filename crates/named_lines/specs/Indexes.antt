@@ -66,7 +66,7 @@ index_fault_line faults.Width = line (codes "refused IndexWidth")
 index_fault_line faults.Order = line (codes "refused IndexOrder")
 index_fault_line faults.Length = line (codes "refused IndexLength")
 
--- ---- what is said
+-- ---- the output
 
 -- the only line is this error line, and something is wrong
 abbrev pub IsToldAlone : List ℕ → Bool → List ℕ → List ℕ → Type 0

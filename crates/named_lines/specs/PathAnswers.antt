@@ -18,7 +18,7 @@ asking asks.Data root = commands.At root
 asking asks.Bytes root = commands.Raw root
 asking asks.Proof root = commands.Prove root
 
--- ---- what is answered
+-- ---- the answer
 
 -- the error line if the index does not lead to a block on the way that the file has
 abbrev pub no_way_line : List ℕ

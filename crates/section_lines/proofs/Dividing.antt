@@ -18,7 +18,7 @@ use Rattle.section_lines.specs.declared.part.PartFault.{PartFault}
 use Rattle.section_lines.specs.declared.part.PartFault.TheVariants.{Failed}
 use Rattle.dagcbor_cli.specs.declared.fault.ToolError.{ToolError}
 
--- ---- a section more
+-- ---- one more section
 
 pub joins : (size : ℕ) (roots : List (List ℕ)) (part : List Section) (s : Section) (ss : List Section) → fits size roots part s ≡ true → parts_from size roots part (s ∷ ss) ≡ parts_from size roots (part ++ s ∷ []) ss
 joins size roots part s ss e = ap (λ b. if b then parts_from size roots (part ++ s ∷ []) ss else part ∷ parts_from size roots (s ∷ []) ss) e
@@ -158,7 +158,7 @@ appended old new x b is h = by new (subst (λ o. Appends o new b) is h)
 
 -- ---- so far
 
--- So the sections are divided that were taken: these parts are whole, and this one is begun.
+-- How the sections taken so far are divided: these parts are finished, and this one is begun.
 pub record Divided (plan : Plan) (roots : List (List ℕ)) (first : Option (List Named)) (w : Work) (done : List Section) : Type 0 where
   pub closed : List (List Section)
   pub part : List Section
@@ -202,7 +202,7 @@ module _ (plan : Plan) (roots : List (List ℕ)) (first : Option (List Named)) (
     told = λ before e. (whole ∙ (h.told before e).0, appended old.written new.written (car_bytes roots h.part) (section_bytes s) (h.told before e).1 put.bytes ∙ ap Some (sym (car_push roots h.part s)));
   }
 
-  -- the part that was begun is whole
+  -- the part that was begun is finished
   finished : (old new : Work) (done : List Section) (h : Divided plan roots first old done) → IsFinished old new → AddsFiles first new.whole (files_of prefix roots (h.closed ++ h.part ∷ []))
   finished old new done h k before is =
       let t = h.told before is in
@@ -243,9 +243,9 @@ module _ (plan : Plan) (roots : List (List ℕ)) (first : Option (List Named)) (
           let next : IsNext old k.2.0 = subst (λ b. MatchBool b (k.2.0 ≡ old) (IsNext old k.2.0)) (fits_so old size roots h.part s h.some h.room_is ∙ e) k.2.1 in
           begun s old k.2.0 new done h e k.1 next k.2.2 k.2.3
 
-  -- ---- what is whole
+  -- ---- the parts that are finished
 
-  -- the parts of what was taken are those that are whole, and the one that is begun
+  -- the parts of the sections taken are those that are finished, and the one that is begun
   pub parts_now : (w : Work) (done : List Section) (h : Divided plan roots first w done) → parts size roots done ≡ h.closed ++ h.part ∷ []
   parts_now w done h = ap (parts size roots) (sym (append-nil done)) ∙ h.cut []
 

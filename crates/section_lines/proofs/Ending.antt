@@ -34,7 +34,7 @@ use Rattle.section_lines.specs.declared.split.SplitEnd.TheVariants as ends
 use Rattle.section_lines.proofs.Filtering.{whole_front}
 use Rattle.section_lines.proofs.Dividing.{Divided, files_of, one_more, adds_none, files_now, files_next, parts_now, whole_now, whole_next}
 
--- no file more is whole
+-- no more files are finished
 adds_same : (first now after : Option (List Named)) (files : List Named) → after ≡ now → AddsFiles first now files → AddsFiles first after files
 adds_same first now after files same h before is = same ∙ h before is
 
@@ -123,7 +123,7 @@ module _ {S : Type 0} (takes : SinkTakes S PartFault) (work : S → Work) (step 
       let at = front_now h.sections new (made (work new).whole (work new).has) (split_each h.sections new h.took) (h.wanting, h.rest, h.front) refl in
       subst (λ x. SplitsEnded asked b x (making first after.whole after.has)) (sym k.0) (subst (λ (x : Made). SplitsEnded asked b (Err e) (making first x.whole x.has)) (sym k.1) at)
 
--- the bytes begin no file
+-- the header is refused
 pub start_refused : {E : Type 0} (of : Split) (has : List ℕ → Option Bool) (source now : Reading) (error : CarError E) (b line : List ℕ) → CarRefuses RefusesStart source error now → IsOfBytes error → line ≡ refused_line error → source.left ≡ Some b → IsSplitOf of b has ends.Fault [] line
 start_refused of has source now error b line h is tells l =
     let r = header_alone source now error is h b l in
@@ -151,7 +151,7 @@ module _ (asked : Split) (b : List ℕ) (m : Making) (heard : Option (List ℕ))
   ends_told end files line (Err e) after is adds (inl none) = inl (files, front_of end files line is, adds, none)
   ends_told end files line (Err e) after is adds (inr h) = inr (end, files, h.0, h.1, subst (IsSplitOf asked b m.has end files) (sym h.2) is, h.3, adds, h.4)
 
-  -- the run broke off, and nothing was told
+  -- the run broke off, and no error line was written
   pub broke_off : (e : ToolError) (r : Result SplitEnd ToolError) (after : Option (List ℕ)) → BreaksParts asked b m → (r ≡ Err e) → after ≡ heard → Splits asked b m heard r after
   broke_off e r after h is same =
       let at : Splits asked b m heard (Err e) heard = inl (h.0, h.1, h.2, Appends-nil heard) in
@@ -166,6 +166,6 @@ module _ (asked : Split) (b : List ℕ) (m : Making) (heard : Option (List ℕ))
   split_told (Ok (ended.Stopped (faults.Failed e))) r after h k = broke_off e r after h k.0 k.1
   split_told (Err e) r after h k = broke_off e r after h k.0 k.1
 
--- there is a file of the name of a part
+-- the name of a part is taken
 pub told_there : (how : Result (Ended PartFault) ToolError) (name : String Global) (line : List ℕ) (heard : Option (List ℕ)) (r : Result SplitEnd ToolError) (after : Option (List ℕ)) → how ≡ Ok (ended.Stopped (faults.Exists name)) → line ≡ there_line (string_bytes name) → EndsTold ends.Exists line heard r after → TellsSplit how heard r after
 told_there how name line heard r after is same h = subst (λ e. TellsSplit e heard r after) (sym is) (subst (λ l. EndsTold ends.Exists l heard r after) same h)

@@ -1,4 +1,4 @@
--- What a filter writes and tells.
+-- What a filter writes.
 use Rattle.std.specs.Bool.{⊤}
 use Rattle.std.proofs.Common.{◌≡◌, inl, inr, ℕ, ◌==◌, List, [], ◌∷◌, ◌++◌, length, append-nil, append_assoc, take, get_or, ◌+◌, ◌<◌, not, Bool, true, false, if◌then◌else◌, refl, sym, ap, ◌∙◌, subst, Option, Some, Result, Ok, Err, MatchResult, IsErrAnd, flat_map, map}
 use Rattle.std.specs.List.{filter}
@@ -39,9 +39,9 @@ use Rattle.section_lines.specs.declared.kept.Kept.TheVariants.{Codec, Named}
 use Rattle.section_lines.specs.declared.filter.Filter.{Filter}
 use Rattle.section_lines.proofs.Sending.{told_so, stopped_so, broke_so}
 
--- ---- those that are kept
+-- ---- the elements that are kept
 
--- one element more, which is kept if it passes the test
+-- one more element, which is kept if it passes the test
 pub kept_more : {X : Type 0} (p : X → Bool) (done : List X) (x : X) (t : Bool) (got new : List X) → got ≡ filter p done → t ≡ p x → new ≡ (if t then got ++ x ∷ [] else got) → new ≡ filter p (done ++ x ∷ [])
 kept_more p done x t got new h is e = e ∙ by t is ∙ sym (filter-append p done (x ∷ []))
   where
@@ -52,7 +52,7 @@ kept_more p done x t got new h is e = e ∙ by t is ∙ sym (filter-append p don
 pub kept_next : {X : Type 0} (p : X → Bool) (xs : List X) (i : ℕ) (x : X) (t : Bool) (got new : List X) → i < length xs → x ≡ get_or xs i x → got ≡ filter p (take i xs) → t ≡ p x → new ≡ (if t then got ++ x ∷ [] else got) → new ≡ filter p (take (i + 1) xs)
 kept_next p xs i x t got new lt at h is e = kept_more p (take i xs) x t got new h is e ∙ sym (ap (filter p) (take_more xs i x lt ∙ ap (λ y. take i xs ++ y ∷ []) (sym at)))
 
--- ---- one section more
+-- ---- one more section
 
 one_sent : (kept : Kept) (s : Section) (t : Bool) → keeps kept s.0 ≡ t → sent_of kept s ≡ flat_map section_bytes (kept_sections kept (s ∷ []))
 one_sent kept s true e = ap (λ b. if b then section_bytes s else []) e ∙ sym (ap (λ b. flat_map section_bytes (if b then s ∷ [] else [])) e ∙ append-nil (section_bytes s))

@@ -1,4 +1,4 @@
--- What a merge writes and tells.
+-- What a merge writes.
 use Rattle.std.proofs.Common.{◌≡◌, ◌↔◌, ◌⊎◌, inl, inr, ℕ, ◌+◌, ◌<◌, ◌^◌, List, [], ◌∷◌, ◌++◌, length, length-append, append-nil, append_assoc, map, take, get_or, Bool, true, false, refl, sym, ap, ◌∙◌, subst, arith, Option, None, Some, Result, Ok, Err, MatchResult, MatchOption, IfOk, IsErrAnd, flat_map, Vec, Global}
 use Rattle.std.proofs.lemmas.Grind.{flat_map-append}
 use Rattle.std.proofs.lemmas.List.{take_more}
@@ -51,7 +51,7 @@ merged_more before (t ∷ ss) s left (inr (other, (more, e, m))) none = inr (oth
 car_push : (roots : List (List ℕ)) (ss : List Section) (s : Section) → car_bytes roots ss ++ section_bytes s ≡ car_bytes roots (ss ++ s ∷ [])
 car_push roots ss s = append_assoc (header_bytes roots) (flat_map section_bytes ss) (section_bytes s) ∙ ap (λ l. header_bytes roots ++ l) (ap (λ l. flat_map section_bytes ss ++ l) (sym (append-nil (section_bytes s))) ∙ sym (flat_map-append section_bytes ss (s ∷ [])))
 
--- ---- one section more
+-- ---- one more section
 
 abbrev Knows : HeldNames → List Section → Type 0
 Knows held done = (c : CidParts) → IsHeldName c held ↔ IsHeldInFile c done
@@ -270,7 +270,7 @@ front_of bs file_roots roots first at next old w mid n ss all e (wanting, rest, 
   begin = begin_of (length mid.before + 1 + 1) n.after n.roots_after next n.behind;
 }
 
--- one file more
+-- one more file
 one_file : (bs : List (List ℕ)) (file_roots roots : List CidParts) (first : Option (List ℕ)) (at : Place) (next : List Place) (old w new : Work) → Mid bs file_roots roots first (at ∷ next) old w → MergesFile at w (Ok None) new → Mid bs file_roots roots first next old new
 one_file bs file_roots roots first at next old w new mid h =
     let n = next_of bs file_roots roots first at next old w mid in

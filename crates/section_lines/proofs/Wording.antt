@@ -33,7 +33,7 @@ no_root (o ∷ t ∷ ws) none = by (bytes_eq o (codes "--root")) refl
     by true e = absurd (none t ws (ap (λ x. x ∷ t ∷ ws) ((bytes_eq-Decides o (codes "--root")).0 e)))
     by false e = (ap (λ b. if b then t ∷ root_texts ws else []) e, ap (λ b. if b then behind_roots ws else o ∷ t ∷ ws) e)
 
--- so far the words were split
+-- how far the words were split
 pub record Split (words rest : List (List ℕ)) (cs : List CidParts) : Type 0 where
   pub done : List (List ℕ)
   pub texts : root_texts words ≡ done ++ root_texts rest
@@ -73,7 +73,7 @@ no_root_word words other text rest e = other (text ∷ rest) e
 pub no_root_text : (words rest : List (List ℕ)) → words ≡ codes "--root" ∷ rest → rest ≡ [] → HasNoRoot words
 no_root_text words rest e none text more h = let n : length (codes "--root" ∷ rest) ≡ length (codes "--root" ∷ text ∷ more) = ap length (sym e ∙ h) in let z : length rest ≡ 0 = ap length none in omega (arith, n, z)
 
--- ---- by what is to be kept
+-- ---- what to keep
 
 pick : (b : Bool) (x y : Option (List ℕ)) (text : List ℕ) → (if b then x else y) ≡ Some text → (x ≡ Some text) ⊎ (y ≡ Some text)
 pick true x y text e = inl e

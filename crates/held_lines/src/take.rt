@@ -21,7 +21,7 @@ pub enum Ended<T> {
     Whole,
     /// Up to a section that the sink refused, for this cause.
     Stopped(T),
-    /// Up to bytes that are not a whole section. The line says why.
+    /// Up to a header or a section that is refused. The line says why.
     Fault(Vec<u8>),
 }
 

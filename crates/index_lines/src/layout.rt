@@ -57,7 +57,8 @@ pub(crate) fn data_begin<S: ReadAt>(source: &S) -> Result<u64, ToolError>
     }
 }
 
-/// Returns the offset of the index that the header gives. 0 if it gives none, or the file is too short.
+/// Returns the offset of the index that the header gives. 0 if it gives none, or the file is too
+/// short.
 fn index_begin<S: ReadAt>(source: &S) -> Result<u64, ToolError>
     ensures { IfSome (S.bytes source.now) (λ b. IfOk result (λ n. 51 ≤ length b
         → n ≡ index_field b)) }

@@ -52,8 +52,7 @@ BeginFiles (b ∷ bs) roots = (first more : List CidParts) × ((n : ℕ) × (res
     × IsFileFront b (forms first) [] n rest) × BeginFiles bs more × (roots ≡ first ++ more)
 
 -- All begin with headers, with these roots. Those before one are whole files. The sections are
--- theirs and the first ones of that one, in which `wanting` bytes are still to come and `rest` is
--- left.
+-- theirs and the first ones of that one, in which `wanting` bytes are missing and `rest` is left.
 pub record FilesFront (bs : List (List ℕ)) (roots : List CidParts) (sections : List Section) : Type 0 where
   pub before : List (List ℕ)
   pub at : List ℕ

@@ -2,7 +2,8 @@
 
 ghost use Rattle.index_lines.specs.Finds.{IndexLists};
 
-/// The index that `index` writes lists the blocks of the file.
+/// The index that `index` writes lists each verified block that is among the first 16 with its
+/// multihash, if there are less than 2^32 entries and the file has less than 2^64 bytes.
 pub fn index_lists()
     ensures { IndexLists }
 {}

@@ -139,8 +139,8 @@ fn opened<S: Alter + Drop>(alloc: Global, store: S) -> Result<BlockStore<S>, Sto
     }
 }
 
-/// Takes a database that was just opened and is known to be a store's. If its version is not set,
-/// it is checked.
+/// Takes a database that was just opened and is known to be a store's. It is checked if its version
+/// is not that of its trees.
 fn trusted<S: Alter + Drop>(alloc: Global, store: S) -> Result<BlockStore<S>, StoreRefusal>
     requires fresh { IsClean (S.Store.view store) → IsFresh (S.Store.view store) }
     ensures ok { IfOk result (λ it. IsClean (S.Store.view it) → IsOpened (S.Store.view store) (S.Store.view it)) }

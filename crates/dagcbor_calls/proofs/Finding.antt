@@ -1,4 +1,4 @@
--- What is answered of a path, of what was found.
+-- What is returned for a path, by what was found.
 use Rattle.std.proofs.Common.{inl, inr, ℕ, ℤ, ◌+◌, ◌≤◌, List, ◌++◌, length, length-append, arith, sym, ap, ◌∙◌, subst, Option, None, Some, Result, Ok, Err, IfOk, IfErr, IfSome}
 use Rattle.std.specs.Prelude.{IsUtf8}
 use Rattle.std.specs.declared.convert.Infallible.{Infallible}
@@ -22,7 +22,7 @@ ends_within b part place s = omega (arith, ap length s.2, length-append s.0 (par
 
 -- ---- the answer
 
--- bytes that are a text, by what was found
+-- if the bytes are a text, by what was found
 pub found_answer : (b text : List ℕ) (path : List (List ℕ)) (r : Result (Option Item) (DecodeError Infallible)) (old new : Places) (code : ℤ) → IsUtf8 text → IfOk r (FindsItemIn b path) → IfErr r (λ e. IsRefusedFor b e) → TellsFound r old new code → IsFoundAnswer b text path old new code
 found_answer b text path (Ok (Some item)) old new code is k refused told = inl (
   is,

@@ -1,4 +1,4 @@
--- Tokens that stand in bytes, one after the other.
+-- Tokens in bytes, one after the other.
 use Rattle.std.proofs.Common.{◌≡◌, ◌≢◌, ◌⊎◌, inl, inr, ℕ, suc, ◌+◌, ◌-◌, ◌^◌, ◌<◌, ◌≤◌, List, [], ◌∷◌, ◌++◌, length, take, drop, set, if◌then◌else◌, refl, sym, ap, ap₂, ◌∙◌, subst, arith, append_assoc, append-nil, length-append, length-take, map, Bool, le-ltb, take-append-drop, Option, Some, None, nat_eq}
 use Rattle.std.proofs.lemmas.List.{length-map}
 use Rattle.dagcbor_core.specs.Head.{head}
@@ -237,7 +237,7 @@ one_row whole b (t ∷ ts) (u ∷ us) h k =
 
 -- ---- the tape
 
--- the tokens that stood, and those that are still to come
+-- the tokens that were there, and those still to come
 pub record Stood {T : Type 0} (made : Token → T) (whole : ℕ) (b rest : List ℕ) (old now : List T) (count : ℕ) : Type 0 where
   done : List Token
   row : (more : List Token) → AreTokensOf whole rest more → AreTokensOf whole b (done ++ more)

@@ -47,7 +47,7 @@ pub enum Asked<'a> {
     Do(Request),
     /// Store the blocks of the CAR file at the path.
     Import(&'a str),
-    /// Write a CAR file of all blocks at the path, where no file may be.
+    /// Write a CAR file of all blocks to a new file at the path.
     Export(&'a str),
 }
 

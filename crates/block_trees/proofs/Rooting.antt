@@ -147,7 +147,8 @@ leaves_all : (rows : List Row) (name : List ℕ) → (HasRoot rows name → ⊥)
 leaves_all [] name none = refl
 leaves_all (r ∷ rows) name none = inr (λ p. none (p.0, inl (sym p.1)), (rows, refl, leaves_all rows name (λ h. none (h.0, inr h.1))))
 
--- the rest is what would be left of the old rows, and whether any were removed is known
+-- some rows of the name were removed, or none; leaving out the others gives what it gives from the
+-- old rows
 pub record TakesSome (old now : List Row) (name : List ℕ) (taken : Bool) : Type 0 where
   pub were : IsTrue taken → HasRoot old name
   pub same : taken ≡ false → now ≡ old

@@ -43,7 +43,7 @@ plain_code Truncated true code none = absurd (cc (none refl))
 plain_code Truncated false code none = refl
 plain_code f more code none = refl
 
--- a cause that also holds for bytes that end too early is that
+-- bytes that end too early have no other fault
 cut_section : (e f : CarError Infallible) (b : List ℕ) → SectionFault e b → SectionFault f b → f ≡ Truncated → e ≡ Truncated
 cut_section e f b x y is = by e x (subst (λ g. SectionFault g b) is y)
   where

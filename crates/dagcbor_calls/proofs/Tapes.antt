@@ -72,7 +72,7 @@ head_there m n b c t ts h f =
     let k = by_head m n b c (items_spelling ts ++ []) t h.1 (item_opened b [] t ts f).0 h.2 in
     (k.0, k.1, sym k.2 ∙ ap (λ x. payload t ++ x) (append-nil (items_spelling ts)))
 
--- the token of an item with these parts, which come after its head
+-- the token of an item whose parts come after these first bytes of it
 first_token : (whole : ℕ) (b rest front : List ℕ) (first : Token) (t : Tree) (inside ts : Items) → length b ≤ whole → AreFronts b (item t ts) [] → AreItems inside → AreSpellableItems inside
     → spelling t ≡ front ++ items_spelling inside → tokens_of (whole - length b) t ≡ first ∷ items_tokens (whole - length b + length front) inside → rest ≡ items_spelling inside ++ items_spelling ts
     → (more : Items) × AreFronts rest more [] × (items_tokens (whole - length b) (item t ts) ≡ first ∷ items_tokens (whole - length rest) more)

@@ -135,8 +135,9 @@ pub extern "C" fn dagcbor_part(
 /// Returns the number of the kind, at least 0, of the last item on the path in the block. `places`
 /// become where the item begins, where it ends, and how many bytes of the path lead there: all of
 /// them if the whole path does. If some are left and the item is a link, the path goes on in the
-/// block of that name; else it leads nowhere. Else it returns the number of the refusal of
-/// `dagcbor_check`, or -37 if the path is not UTF-8; then the places stay.
+/// block of that name; otherwise it leads nowhere. If the bytes are not a block, it returns the
+/// number of the refusal of `dagcbor_check`, and if the path is not UTF-8, -37; then the places
+/// stay.
 #[unsafe(no_mangle)]
 pub extern "C" fn dagcbor_follow(block: &[u8], path: &[u8], places: &mut [usize; 3]) -> i32
     ensures { IsFollowAnswer block.now path.now places.old places.new result }

@@ -97,7 +97,7 @@ module _ (stored : Stored) (root : CidParts) (kept : BTreeSet CidParts) where
   back (suc n) q k = (k.0, back n k.0 k.1, leads_as (beside kept stored) stored k.0 q (beside_out kept stored k.0 (λ m. dead_end k.0 q m k.2)) k.2)
 
   module _ (roots : List CidParts) (known : (q : CidParts) → Among q kept.keys → IsRooted stored roots q) where
-    -- links lead to the name outside the set, or from a name in it
+    -- links lead to the name from the earlier roots, or on a walk that skips the set
     forth : (n : ℕ) (q : CidParts) → IsStepsFrom stored root n q → IsRooted stored roots q ⊎ IsStepsFrom (beside kept stored) root n q
     forth zero q e = inr e
     forth (suc n) q k = elim (forth n k.0 k.1) [ inl led ↦ inl (led_on stored roots k.0 q led k.2) | inr s ↦ by s (among_dec kept k.0) ]

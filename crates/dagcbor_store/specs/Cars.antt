@@ -85,8 +85,8 @@ pub record IsReadTo (roots : List (List ℕ)) (sections : List Section)
   pub same : Stays old now
   pub blocks : AllByRecursion IsSound sections
 
--- the bytes left, if they are known, begin with the CAR file of these roots and sections, and it is
--- taken, and nothing after it; the sections are sound
+-- the bytes left, if they are known, are the CAR file of these roots and sections, and it is taken,
+-- and nothing after it; the sections are sound
 pub record IsFileRead (roots : List (List ℕ)) (sections : List Section)
     (old new : Reading) : Type 0 where
   pub is_car : (b : List ℕ) → old.left ≡ Some b

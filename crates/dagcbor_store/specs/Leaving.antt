@@ -31,7 +31,7 @@ IsStoreSchema schema = (schema ≡ store_objects) ⊎ (schema ≡ earlier_object
 abbrev pub IsStoreList : List Row → Type 0
 IsStoreList rows = (rows ≡ listed_from 0 store_objects) ⊎ (rows ≡ listed_from 0 earlier_objects)
 
--- a store's trees: no name is listed twice or is not a CID, and each row of the roots is a root's
+-- a store's trees: each listed name is a CID, listed once, and each row of the roots is a root's
 pub record AreStoreTrees (db : Trees) : Type 0 where
   pub listed : IsStoreList (db catalog_tree)
   pub keyed : IsKeyed (db name_tree)

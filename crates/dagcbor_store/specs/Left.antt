@@ -63,17 +63,17 @@ ListsObjects (w ∷ wanted) (r ∷ rows) = IsRowOfObject w r × ListsObjects wan
 abbrev pub NamesSize : Image → ℕ → Type 0
 NamesSize image size = (¬ IsIgnored image.log → size ≡ be32 image.log 8) × (IsIgnored image.log → size ≡ size_in_file image.db)
 
--- the pages are a sound database of the schema, no name in its index is listed twice or is not a
--- CID, and each row of the roots is a root's
+-- the pages are a sound database of the schema; each name in its index is a CID, listed once; and
+-- each row of the roots is a root's
 pub record IsStoreFile (size : ℕ) (pages : PageMap) : Type 0 where
   pub file : IsFile size store_objects pages
   pub keyed : IsKeyed (file_trees size store_objects pages name_tree)
   pub roots : AreAllRoots (file_trees size store_objects pages root_tree)
 
 -- If the header and the list of free pages of what the files recover to are sound, and it lists the
--- schema of a store, then it is the file of a store. So is what a store leaves, and what `sqlite3`
--- makes of that with sound blocks and roots. It holds too of no file at all, and of a file of
--- something else.
+-- schema of a store, then it is the file of a store. So it is with what a store leaves, and with
+-- what `sqlite3` makes of that by sound blocks and roots. It also holds if there is no file, or a
+-- file of something else.
 abbrev pub IsLeft : Image → Type 0
 IsLeft image = (size : ℕ) (pages : PageMap) → NamesSize image size → Recovers size image pages
     → ∥ IsSoundFile size pages ∥₁

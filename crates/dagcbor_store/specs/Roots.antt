@@ -55,8 +55,8 @@ KeepsRoots v = ¬ IsEarlier v
 abbrev pub MayKeepRoots : View → List CidParts → Type 0
 MayKeepRoots v names = (names ≡ []) ⊎ KeepsRoots v
 
--- The names are roots; if all of them were, nothing is changed. Each other tree is the same, and so
--- is what was committed.
+-- The names are roots; if all of them were already, nothing is changed. Each other tree is the
+-- same, and so is what was committed.
 pub record AreRootsAdded (old new : View) (added : List CidParts) : Type 0 where
   pub roots : GainsRoots old.trees new.trees added
   pub same : (names : List CidParts) → HasRoots old names
@@ -105,7 +105,7 @@ HasJust names known = (c : CidParts) → Among c (members known) ↔ Among c nam
 abbrev pub KnowsRoots : View → CidSet → Type 0
 KnowsRoots v known = (names : List CidParts) × HasRoots v names × HasJust names known
 
--- the name is a root, added as one of several would be
+-- the name is a root, after the others unless it was one
 pub record IsRootAdded (old new : View) (name : CidParts) : Type 0 where
   pub roots : (names : List CidParts) → HasRoots old names
       → (now : List CidParts) × HasRoots new now × JoinsRoots names name now

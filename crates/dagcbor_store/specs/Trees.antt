@@ -175,17 +175,17 @@ AreFirstAt names v sections = (rest : List CidParts)
 abbrev pub AreAt : List CidParts → View → List Section → Type 0
 AreAt names v sections = OfStored v (λ stored. sections ≡ sections_at stored names)
 
--- no block is under the name, or a damaged one
+-- the name has no block, or a damaged one
 abbrev pub HoldsNoneGood : View → CidParts → Type 0
 HoldsNoneGood v name = ListsName v name → IsDamaged v name
 
--- no block is under the name, or a damaged one; or the store failed
+-- the name has no block, or a damaged one; or the store failed
 abbrev pub NamedRefused : {S : Type 0} → Ghosts S → CidParts → S → S → StoreRefusal → Type 0
 NamedRefused g name old new (refusal.Damaged n) =
     (n ≡ name) × FindsSo g old new (λ v. HoldsNoneGood v n)
 NamedRefused g name old new told = FailsByStore g ⊥ old new told
 
--- no block is under one of the names, or a damaged one; or the store failed
+-- one of the names has no block, or a damaged one; or the store failed
 abbrev pub NamesRefused : {S : Type 0} → Ghosts S → List CidParts → S → S → StoreRefusal → Type 0
 NamesRefused g names old new (refusal.Damaged n) =
     Among n names × FindsSo g old new (λ v. HoldsNoneGood v n)

@@ -31,11 +31,11 @@ impl<S: Store> SectionSink for BlockStore<S> {
 }
 
 impl<S: Store> BlockStore<S> {
-    /// Stores each block of the CAR file (version 1 or 2) that the input has left under its CID,
-    /// adds its roots as `add_roots` does, and commits that, with all that waited for a commit.
-    /// Returns the roots of the file, and how many sections it has. The input is a slice, or a
-    /// reader, such as `Input::Reader(IoReader::new(source))` for a source of std. One section is
-    /// in memory at a time.
+    /// Reads the CAR file (version 1 or 2) that the input has left, stores each block under its
+    /// CID, adds the roots as `add_roots` does, and commits that, with all that waited for a
+    /// commit. Returns the roots of the file, and how many sections it has. The input is a slice,
+    /// or a reader, such as `Input::Reader(IoReader::new(source))` for a source of std. One section
+    /// is in memory at a time.
     ///
     /// Each block must be one that `put_block` accepts, of whatever codec. If one is not, or the
     /// bytes are not a CAR file, nothing of the file is kept. Nor is a file with roots if the store

@@ -160,7 +160,7 @@ module _ {S : Type 0} (g : Ghosts S) (names : List CidParts) where
 
 -- ---- taking out
 
--- leaving names out twice
+-- leaving out items of one kind, and then of another
 leaves_then : {X : Type 0} (P Q R : X → Type 0) → ((x : X) → R x ↔ (P x ⊎ Q x)) → (xs ys zs : List X) → LeavesOut P xs ys → LeavesOut Q ys zs → LeavesOut R xs zs
 leaves_then P Q R both [] ys zs l m = subst (λ y. LeavesOut Q y zs) l m
 leaves_then P Q R both (x ∷ xs) ys zs (inl k) m = inl ((both x).1 (inl k.0), leaves_then P Q R both xs ys zs k.1 m)

@@ -34,7 +34,7 @@ told_by w after places code = (
       then offsets w.place places else after.place ∷ [],
 )
 
--- the bytes at hand, and `how` the caller asks about them
+-- the bytes at hand, and the `how` of the call
 abbrev pub Call : Type 0
 Call = List ℕ × ℕ
 

@@ -31,7 +31,7 @@ AreTextsOf [] [] = ⊤
 AreTextsOf (text ∷ texts) (name ∷ names) = IsTextOf text name × AreTextsOf texts names
 AreTextsOf _ _ = ⊥
 
--- the first of the words that is not a text of a CID is not one for this cause
+-- why the first of the words that is not the text of a CID is not one
 abbrev pub IsFirstFault : List (List ℕ) → CidTextError → Type 0
 IsFirstFault [] e = ⊥
 IsFirstFault (text ∷ texts) e = IsTextFault e text

@@ -36,7 +36,7 @@ SaysLacking old before (Err e) new after =
     × (text ≡ flat_map missing_line lacking)) before after e
 
 -- The lines of each name and each missing link were written, and then one for each root that has no
--- block; all is well if all is in both parts. Or the output was cut short.
+-- block; all is well if both parts are. Or the output was cut short.
 abbrev pub SaysStoreChecked : View → Option (List ℕ) → Result Bool Fault → View → Option (List ℕ)
     → Type 0
 SaysStoreChecked old before (Ok well) new after = (mid : View) × (between : Option (List ℕ))

@@ -34,8 +34,8 @@ abbrev pub asked_of : Bool → Asked
 asked_of true = asks.Bytes
 asked_of false = asks.Data
 
--- What `dagcar at` answers for the stored blocks. Even if a wrong answer of the disk was taken as
--- true, it is the answer for some blocks, of which each on the way matches its name.
+-- What `dagcar at` writes of the stored blocks. Even if a wrong answer of the disk was taken as
+-- true, it is what it writes of some blocks, of which each on the way matches its name.
 abbrev pub IsAnswerIn : Bool → CidParts → List (List ℕ)
     → View → View → Bool → List ℕ → List ℕ → Type 0
 IsAnswerIn is_raw root path old new well out told = (IsClean new → OfStored old (λ stored.

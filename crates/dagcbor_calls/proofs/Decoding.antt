@@ -116,7 +116,7 @@ refused_tokens b r old new needed code h coded few put =
       put = put.3 ∙ ap (λ x. with_tokens x old) (map-id put.0);
     }
 
--- ---- what a tape tells
+-- ---- what a tape encodes
 
 -- encoded bytes that were put
 pub told_put : (b : List ℕ) (tape : List Token) (s old new : List ℕ) (needed : ℕ) (code : ℤ) → tape_told b tape ≡ Some s → length s ≤ length old → needed ≡ min (length s) (2 ^ 64 - 1) → code ≡ check_code s → new ≡ s ++ drop (length s) old

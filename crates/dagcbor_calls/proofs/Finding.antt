@@ -10,7 +10,7 @@ use Rattle.dagcbor_calls.specs.Codes.{kind_code}
 use Rattle.dagcbor_calls.specs.Finds.{Places, TellsFound, IsFoundAnswer}
 use Rattle.dagcbor_calls.proofs.Decoding.{refused_as}
 
--- ---- where the item stands
+-- ---- where the item is
 
 pub stands_in : (b : List ℕ) (path : List (List ℕ)) (r : Result (Option Item) (DecodeError Infallible)) → IfOk r (FindsItemIn b path) → IfOk r (λ o. IfSome o (λ item. StandAt b item.place item.bytes.now))
 stands_in b path (Ok (Some item)) k = k.4.place

@@ -199,7 +199,7 @@ section_number false s code n h e = inl (verdict_low h.0 n (sym h.2 ∙ e))
 section_not_more : (unjudged : Bool) (s : Section) (code : ℤ) → IsSectionCode unjudged s code → code ≢ pos 10
 section_not_more unjudged s code h e = elim (section_number unjudged s code 10 h e) [ inl low ↦ omega (arith, low) | inr is ↦ omega (arith, is) ]
 
--- ---- what a call tells
+-- ---- what a call reports
 
 moved : (w after : CarWalk) (places : List ℕ) (code : ℤ) → w.place < after.place → after.step ≡ 1 → told_by w after places code ≡ (code, offsets w.place places)
 moved w after places code less step =

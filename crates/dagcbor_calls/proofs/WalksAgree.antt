@@ -155,7 +155,7 @@ one_span_fault e f b (inr h) (inr k) = by e f h k
     by InvalidOffset _ h k = absurd k
     by _ f h k = absurd h
 
--- ---- one row of what is told
+-- ---- one list of reports
 
 pub same_pair : {x y : ℤ} {p q : List ℕ} → x ≡ y → p ≡ q → ◌≡◌ {A = Told} (x, p) (y, q)
 same_pair e f = λ i. (e i, f i)

@@ -54,7 +54,7 @@ Tell unjudged file w (call ∷ calls) told =
     ⊎ ((code ≢ pos 10) × (more : List Told) × (told ≡ told_by w after new code ∷ more)
     × Tell unjudged file after calls more))
 
--- ---- what stands in the file
+-- ---- what is in the file
 
 -- These bytes of a file of version 1 are at this offset, and `wanting` bytes are missing after
 -- them. The reports are: the section at the front, and then those of the bytes after it; or, again

@@ -213,7 +213,7 @@ marks_same old mid roots kept same h = subst (λ (t : Trees). Marks (record old 
 pub more_same : (old mid : View) (root : CidParts) (kept new : BTreeSet CidParts) → mid.trees ≡ old.trees → MarksMore mid root kept new → MarksMore old root kept new
 more_same old mid root kept new same more roots h = marks_same old mid (roots ++ root ∷ []) new same (more roots (marks_same mid old roots kept (sym same) h))
 
--- ---- what is got, and what is shown
+-- ---- what is read, and what is shown
 
 -- what is read if the links under the name are known, and where a walk stops if they are not
 pub gets_known : (o : Option (Vec ℕ Global)) (v : View) (name : CidParts) → GetsSome v name (option_map (λ (b : Vec ℕ Global). b.items) o) → IfSome o (λ b. IsNamedBy name b.items) → KnowsLinks (λ q. option_map (λ (b : Vec ℕ Global). b.items) o) name

@@ -17,7 +17,7 @@ use Rattle.sqlite_store.specs.Db.{rows_at, roots_of, trees_in, thawed, shown, sl
 use Rattle.sqlite_store.specs.Catalog.{is_present, is_about, is_near, describes, root_in, roots_in, may_stand, is_listed_once, fits_shape, shape_at, reals_at, is_well_formed, has_no_pages, MayAllStand}
 use Rattle.sqlite_store.specs.Listing.{listed, listed_from, all_trees, file_trees}
 
--- ---- what a list of trees tells of each
+-- ---- what a list of trees says of each
 
 -- they are of one tree, as far as a file and its list tell
 pub record IsSameTree (a b : Wanted) : Type 0 where

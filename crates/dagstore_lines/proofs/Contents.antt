@@ -27,7 +27,7 @@ use Rattle.dagstore_lines.specs.Contents.{Got, IsNamedGot, Gives, OfGot, SaysFil
 use Rattle.dagstore_lines.specs.declared.fault.Fault.{Fault}
 use Rattle.dagstore_lines.specs.declared.fault.Fault.TheVariants as fault
 
--- ---- what was got
+-- ---- what was read
 
 gives_each : (stored : Stored) (xs ys : List Got) → Gives stored (xs ++ ys) → Gives stored xs × Gives stored ys
 gives_each stored [] ys h = (tt, h)

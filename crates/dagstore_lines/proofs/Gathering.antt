@@ -128,7 +128,7 @@ gathered_all v stored root name path left held now shows h also end =
       agree (h.names ++ name ∷ []) stored now (held_too stored held now h.names name h.all k.2 k.1),
     )
 
--- ---- why it is not taken out
+-- ---- why it is not read
 
 pub way_fails : {S : Type 0} (g : Ghosts S) (root name : CidParts) (path left : List (List ℕ)) (held : Stored) (old mid new : S) (e : Fault) → Quiet g old mid → (IsClean (g.view mid) → IsSame (g.view old) (g.view mid)) → Quiet g mid new
     → (IsClean (g.view mid) → OfStored (g.view old) (λ stored. Gathered stored root path held name left)) → GetFails g name mid new e → WayFails g root path old new e

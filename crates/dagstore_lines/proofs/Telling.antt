@@ -37,7 +37,7 @@ all_first : (v : View) (last : Option CidParts) (names : List CidParts) → AreA
 all_first v last [] h = tt
 all_first v last (x ∷ xs) h = (h.0, all_first v (Some x) xs h.1)
 
--- ---- what is said of each
+-- ---- what is written of each
 
 -- what was written stays true after more calls that change nothing
 abbrev pub StaysSaid : Telling → Type 0

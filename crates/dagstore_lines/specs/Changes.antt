@@ -100,7 +100,7 @@ pub record Commits (Does : Trees → Trees → Type 0) (old new : View) : Type 0
   pub committed : new.committed ≡ new.trees
   pub is_open : IsTrue new.is_open
 
--- ---- names that are to be taken out
+-- ---- names that are to be removed
 
 -- the name is counted among those that were there, or appended to the others
 abbrev pub Notes : CidParts → Bool → Taken → Taken → Type 0

@@ -16,7 +16,7 @@ use Rattle.dagstore_lines.specs.Said.{SaysAll}
 use Rattle.dagstore_lines.specs.declared.fault.Fault.{Fault}
 use Rattle.dagstore_lines.specs.declared.fault.Fault.TheVariants as fault
 
--- ---- what was got
+-- ---- what was read
 
 -- what was read under a name: bytes, or nothing
 abbrev pub Got : Type 0
@@ -48,7 +48,7 @@ SaysFile stored root path old heard result new after =
     × SaysContent stored found old heard result new after)
     ⊎ SaysAll (IsNoPath stored root path) old heard result new after
 
--- ---- why no more is said of it
+-- ---- why no more is written of it
 
 -- some first names of the path lead there
 abbrev pub IsOnTheWay : CidParts → List (List ℕ) → Stored → CidParts → Type 0

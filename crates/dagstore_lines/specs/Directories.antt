@@ -9,7 +9,7 @@ use Rattle.file_lines.specs.Names.{LeadsByNames}
 use Rattle.file_lines.specs.Entries.{IsEntityAt}
 use Rattle.dagstore_lines.specs.Contents.{IsOnTheWay}
 
--- ---- which blocks are got
+-- ---- which blocks are read
 
 -- one of the links leads to the block of this name
 abbrev pub IsLinked : List LinkParts → Stored → CidParts → Type 0

@@ -27,7 +27,7 @@ abbrev pub last_of : Option CidParts → List CidParts → Option CidParts
 last_of last [] = last
 last_of last (c ∷ names) = last_of (Some c) names
 
--- ---- what is said of them
+-- ---- what is written of them
 
 -- what is written of a name, by what was stored and what the store shows after the call; and
 -- whether all is well with it

@@ -60,7 +60,7 @@ Hears (heards.Request request) block before after = (text : List ℕ) × IsReque
     × Consumes before after text
 Hears (heards.Pause pause) block before after = Pauses pause before after
 
--- ---- what comes of it
+-- ---- the outcome
 
 -- a request, its block, and the reply
 pub record Exchange : Type 0 where

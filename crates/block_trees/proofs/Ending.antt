@@ -79,7 +79,7 @@ schema_then old mid new p q = record {
   numbered = q.numbered ∙ p.numbered;
 }
 
--- what only reads writes nothing
+-- a call that only reads writes nothing
 pub as_writes : {S T : Type 0} {F : Type 0} {These : ℕ → Type 0} {x : T} (g : Ghosts S) (old new : S) → EndsOnRows g OnlyReads F (Ok x) old new → EndsOnRows g (WritesIn These) F (Ok x) old new
 as_writes {S} {T} {F} {These} g old new e = record {
   frame = λ clean. reads_writes These (g.view old) (g.view new) (e.frame clean);
@@ -93,7 +93,7 @@ as_writes {S} {T} {F} {These} g old new e = record {
 
 -- ---- steps
 
--- steps that went well
+-- steps that succeeded
 pub record Goes {S : Type 0} (g : Ghosts S) (These : ℕ → Type 0) (old new : S) : Type 0 where
   pub frame : IsClean (g.view new) → WritesIn These (g.view old) (g.view new)
   pub schema : KeepsSchema (g.view old) (g.view new)
@@ -107,7 +107,7 @@ module _ {S : Type 0} {These : ℕ → Type 0} (g : Ghosts S) where
   goes old new e = record { frame = e.frame; schema = e.schema; quiet = e.quiet }
 
   module _ {U V G H : Type 0} (old mid new : S) (first : Goes g These old mid) where
-    -- and another that did
+    -- and another that succeeded
     pub goes_ok : {y : U} (z : V) → EndsOnRows g (WritesIn These) G (Ok y) mid new → EndsOnRows g (WritesIn These) H (Ok z) old new
     goes_ok z e = record {
       frame = λ clean. writes_then These (g.view old) (g.view mid) (g.view new) (first.frame (omega (arith, e.quiet.clean))) (e.frame clean);
@@ -140,7 +140,7 @@ module _ {S T U V : Type 0} {F G H : Type 0} {These : ℕ → Type 0} {x : T} (g
   pub then_err : {e : StoreError} → (G → H) → EndsOnRows {T = U} g (WritesIn These) G (Err e) mid new → EndsOnRows {T = V} g (WritesIn These) H (Err e) old new
   then_err wider h = goes_err g old mid new (goes g old mid first) wider h
 
--- a walk that memory was wanting for
+-- a walk that ran out of memory
 pub walk_stops : {S T : Type 0} (g : Ghosts S) (old new : S) → (IsClean (g.view new) → OnlyReads (g.view old) (g.view new)) → KeepsSchema (g.view old) (g.view new) → Quiet g old new → EndsOnRows {T = T} g OnlyReads ⊥ (Err OutOfMemory) old new
 walk_stops g old new frame schema quiet = record {
   frame = tt;
@@ -166,12 +166,12 @@ walk_fails g old mid new e frame schema quiet told kept cause next later = recor
   quiet = quiet_then g old mid new quiet later;
 }
 
--- one that succeeded, and whatever the other answered
+-- a step that succeeded, and another with any result
 pub then_ends : {S T U F G H : Type 0} {These : ℕ → Type 0} {x : T} (g : Ghosts S) (old mid new : S) (r : Result U StoreError) → EndsOnRows g (WritesIn These) F (Ok x) old mid → (G → H) → EndsOnRows g (WritesIn These) G r mid new → EndsOnRows g (WritesIn These) H r old new
 then_ends g old mid new (Ok y) first wider e = then_ok g old mid new first y e
 then_ends g old mid new (Err e) first wider h = then_err g old mid new first wider h
 
--- an edit of one of the trees, whatever it answered
+-- an edit of one of the trees, with any result
 pub set_ends : {S X : Type 0} (g : Ghosts S) (These : ℕ → Type 0) (tree : ℕ) (G H : Type 0) (r : Result X StoreError) (old new : S) (edit : List Row → List Row) → These tree → (G → H)
     → OnOk r (IsClean (g.view new) → SetsTree (g.view old) (g.view new) tree edit) → OnOk r (IsClean (g.view new) → OnlyWrites (g.view old) (g.view new)) → IfErr r (IsFailure (g.view old) (g.view new)) → IfErr r (Tells (g.blamed new))
     → (IsClean (g.view new) → IfErr r (HasCause (g.view old) (MoreFaults (g.faults old) (g.faults new)) G)) → KeepsSchema (g.view old) (g.view new) → Quiet g old new → EndsOnRows g (WritesIn These) H r old new

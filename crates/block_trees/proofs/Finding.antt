@@ -32,13 +32,13 @@ two_columns (x ∷ []) a b two p q = absurd (omega (arith, two))
 two_columns (x ∷ y ∷ []) a b two p q = rw (p, q)
 two_columns (x ∷ y ∷ z ∷ more) a b two p q = absurd (omega (arith, two))
 
--- what has other columns is no entry of the name
+-- a row with other columns is not an entry of the name
 pub no_entry : (name : List ℕ) (e : Row) → ((length e ≡ 2) × (column e 0 ≡ Blob name) × ((id : ℤ) → column e 1 ≢ Int id)) ⊎ ((length e ≢ 2) ⊎ (column e 0 ≢ Blob name)) → IsOther name (e ∷ [])
 no_entry name e (inl h) id same = h.2 id (rw same)
 no_entry name e (inr (inl h)) id same = h (rw same)
 no_entry name e (inr (inr h)) id same = h (rw same)
 
--- an entry beside the key of a name
+-- an entry compared with the key of a name
 pub entry_key : (m n : List ℕ) (i : ℤ) → prefix_cmp plain (name_entry m i) (Blob n ∷ []) ≡ name_cmp m n
 entry_key m n i = prefix_cmp-one (Blob m) (Int i ∷ []) (Blob n) ∙ value_cmp-Blob m n
 
@@ -48,7 +48,7 @@ names_rise m n i j h = elim (then_below (value_cmp (Blob m) (Blob n)) _ (rw firs
   | inr tied ↦ inr (sym (value_cmp-Blob m n) ∙ tied.0)
 ]
 
--- an entry that is sought and is not of the name, and a later one that is
+-- if an entry is not below the name, and a later one is of the name, the first is too
 none_later : (m n : List ℕ) (i j : ℤ) → is_lt (name_cmp m n) ≡ false → (name_cmp m n ≡ Less) ⊎ (name_cmp m n ≡ Equal) → m ≡ n
 none_later m n i j at (inl below) = absurd (true≢false (sym (ap is_lt below) ∙ at))
 none_later m n i j at (inr tied) = exact_bytes m n tied
@@ -119,7 +119,7 @@ none_from bound (e ∷ es) h q l = by (is_lt (prefix_cmp plain e (Blob bound ∷
     ]
     by false t none more = absurd (cc none)
 
--- the entry that a seek stands at is not below the bound, and each other such is after it
+-- the entry that a seek is at is not below the bound, and each other such entry is after it
 first_behind : (bound : List ℕ) (es left : List Row) (e : Row) (n : List ℕ) (id : ℤ) → IsIndex plain es → from_key plain (Blob bound ∷ []) es ≡ e ∷ left → e ≡ name_entry n id
     → (is_lt (name_cmp n bound) ≡ false) × ((q : List ℕ) → IsListed es q → is_lt (name_cmp q bound) ≡ false → (q ≡ n) ⊎ (name_cmp n q ≡ Less))
 first_behind bound [] left e n id up h is = absurd (cc h)
@@ -156,7 +156,7 @@ finds_first bound es left e (Ok c) up h enters = λ are.
     let w = first_behind bound es left e (cid_bytes c) n.1 up h is in
     record { valid = enters.0; listed = (n.1, subst (λ x. Among x es) is here); above = w.0; first = w.1 }
 
--- where a seek in the index stands
+-- where a seek in the index is
 pub sought_name : (old new : View) (key : Row) → old.shape name_tree ≡ shape.Index plain → new ≡ with_cursor old 0 (sought (order_of (old.shape name_tree)) Forward key (old.trees name_tree))
     → left_of new 0 ≡ from_key plain key (old.trees name_tree)
 sought_name old new key at is = ap (λ v. left_of v 0) is ∙ placed old 0 _ ∙ ap (λ s. from_key (order_of s) key (old.trees name_tree)) at

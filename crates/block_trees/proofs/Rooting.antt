@@ -19,24 +19,24 @@ use Rattle.block_trees.proofs.Finding.{all_among}
 use Rattle.block_trees.proofs.Numbers.{has_own}
 use Rattle.block_trees.proofs.Surveying.{among_middle}
 
--- what has other columns is no row of the name
+-- a row with other columns is not of the name
 pub no_row : (name : List ℕ) (r : Row) → ((length r ≡ 2) × (column r 1 ≡ Blob name) × ((id : ℤ) → column r 0 ≢ Int id)) ⊎ ((length r ≢ 2) ⊎ (column r 1 ≢ Blob name)) → (id : ℤ) → r ≢ root_row id name
 no_row name r (inl h) id same = h.2 id (rw same)
 no_row name r (inr (inl h)) id same = h (rw same)
 no_row name r (inr (inr h)) id same = h (rw same)
 
--- where a seek in the table stands
+-- where a seek in the table is
 pub sought_roots : (old new : View) (key : Row) → key ≡ [] → new ≡ with_cursor old 0 (sought (order_of (old.shape root_tree)) Forward key (old.trees root_tree)) → left_of new 0 ≡ old.trees root_tree
 sought_roots old new key none is =
     ap (λ v. left_of v 0) is ∙ placed old 0 _ ∙ ap (λ k. from_key (order_of (old.shape root_tree)) k (old.trees root_tree)) none ∙ from_no_key (order_of (old.shape root_tree)) (old.trees root_tree)
 
 -- ---- a walk over the rows
 
--- these rows are gone through, which are those of the names
+-- the rows passed so far are those of the names
 abbrev pub ListsTo : List Row → List Row → List CidParts → Type 0
 ListsTo rows left names = (done : List Row) × (done ++ left ≡ rows) × AreRoots done names
 
--- the rows that were gone through are of other names
+-- the rows passed so far are of other names
 abbrev pub PassesTo : List Row → List Row → List ℕ → Type 0
 PassesTo rows left name = (done : List Row) × (done ++ left ≡ rows) × (HasRoot done name → ⊥)
 
@@ -46,7 +46,7 @@ are_more [] (n ∷ names) r c are is = absurd are
 are_more (x ∷ rows) [] r c are is = absurd are
 are_more (x ∷ rows) (n ∷ names) r c are is = (are.0, are_more rows names r c are.1 is)
 
--- each row of roots is that of a root
+-- each row is a root's
 root_at : (front : List Row) (r : Row) (left : List Row) (names : List CidParts) → AreRoots (front ++ r ∷ left) names → (c : CidParts) × IsRootIn r c
 root_at [] r left [] are = absurd are
 root_at [] r left (c ∷ names) are = (c, are.0)
@@ -81,7 +81,7 @@ passes_all rows left name none h = subst (λ rs. HasRoot rs name → ⊥) (sym (
 pub passes_found : (rows left : List Row) (name : List ℕ) (r : Row) (id : ℤ) → PassesTo rows (r ∷ left) name → r ≡ root_row id name → FindsRoot rows name (Some id)
 passes_found rows left name r id h is = (h.0, left, sym h.1 ∙ ap (λ x. h.0 ++ x ∷ left) is, h.2)
 
--- a row that was found is one
+-- a row that was found is in the table
 pub found_among : (rows : List Row) (name : List ℕ) (id : ℤ) → FindsRoot rows name (Some id) → Among (root_row id name) rows
 found_among rows name id h = subst (Among (root_row id name)) (sym h.2) (among_middle h.0 (root_row id name) h.1)
 
@@ -110,7 +110,7 @@ others_behind id r (x ∷ rows) is up = (by, others_behind id r rows is up.1)
     by : has_rowid id x ≡ false
     by = ap is_eq (value_cmp_total.antisymm (rowid x) (Int id) ∙ ap ordering_reverse less)
 
--- the row with the number is left out
+-- the row with the number is removed
 takes_number : (rows : List Row) (id : ℤ) (name : List ℕ) → IsTable rows → Among (root_row id name) rows → (rest : List Row) → LeavesOut (IsRowOfRoot name) (without_rowid id rows) rest → LeavesOut (IsRowOfRoot name) rows rest
 takes_number [] id name up m rest l = absurd m
 takes_number (r ∷ rows) id name up (inl here) rest l =
@@ -134,7 +134,7 @@ takes_number (r ∷ rows) id name up (inr later) rest l = stays (takes_number ro
     stays behind (inl k) = inl (k.0, behind rest k.1)
     stays behind (inr k) = inr (k.0, (k.1.0, k.1.1, behind k.1.0 k.1.2))
 
--- where a row is there, the tree is a table
+-- if there is a row, the tree is a table
 pub shape_of : (v : View) (r : Row) → IsRootShape (v.shape root_tree) → IsOrdered v.shape v.trees → Among r (v.trees root_tree) → v.shape root_tree ≡ Table
 shape_of v r (inl at) ordered there = at
 shape_of v r (inr none) ordered there = absurd (subst (Among r) (subst (λ s. IsShaped s (v.trees root_tree)) none (ordered root_tree)) there)
@@ -142,12 +142,13 @@ shape_of v r (inr none) ordered there = absurd (subst (Among r) (subst (λ s. Is
 pub table_of : (v : View) (r : Row) → IsRootShape (v.shape root_tree) → IsOrdered v.shape v.trees → Among r (v.trees root_tree) → IsTable (v.trees root_tree)
 table_of v r rooted ordered there = (subst (λ s. IsShaped s (v.trees root_tree)) (shape_of v r rooted ordered there) (ordered root_tree)).0
 
--- where no row is of the name, none is left out
+-- if no row is of the name, no row is left out
 leaves_all : (rows : List Row) (name : List ℕ) → (HasRoot rows name → ⊥) → LeavesOut (IsRowOfRoot name) rows rows
 leaves_all [] name none = refl
 leaves_all (r ∷ rows) name none = inr (λ p. none (p.0, inl (sym p.1)), (rows, refl, leaves_all rows name (λ h. none (h.0, inr h.1))))
 
--- what is left is what would be left of the old rows, and some were taken out, or none
+-- some rows of the name were removed, or none; leaving out the others gives what it gives from the
+-- old rows
 pub record TakesSome (old now : List Row) (name : List ℕ) (taken : Bool) : Type 0 where
   pub were : IsTrue taken → HasRoot old name
   pub same : taken ≡ false → now ≡ old

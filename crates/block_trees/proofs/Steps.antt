@@ -23,7 +23,7 @@ entry_taken (Ok x) C old mid new id name row h = λ clean.
     (ap (λ (v : View). v.trees name_tree) s.is ∙ ap (remove_entry plain (name_entry name id)) k.0, subst (λ rs. ClearsRow (old.trees block_tree) rs id name) (sym (ap (λ (v : View). v.trees block_tree) s.is)) k.1)
 entry_taken (Err e) C old mid new id name row h = tt
 
--- what is free in the table is free once an entry and its row are taken out
+-- a number that is free in the table is free after an entry and its row are removed
 pub free_left : (old mid : Trees) (id fresh : ℤ) (name : List ℕ) → TakesOutEntry old mid id name → IsFreeId (old block_tree) fresh → IsFreeId (mid block_tree) fresh
 free_left old mid id fresh name t free = elim t.1 [
   | inl h ↦ subst (λ rs. IsFreeId rs fresh) (sym h.1) (all-filter _ (λ r. not (has_rowid id r)) (old block_tree) free)

@@ -1,4 +1,4 @@
--- What a walk over the index of names tells.
+-- What a walk over the index of names returns.
 use Rattle.std.proofs.Common.{Bool, IsTrue, ◌≡◌, inl, inr, ℕ, ◌+◌, ℤ, List, [], ◌∷◌, ◌++◌, Less, is_lt, refl, sym, ap, ◌∙◌, subst, true≢false, length, arith, length-append, append_assoc, ◌⊎◌, ◌↔◌}
 use Rattle.ipld_tree.specs.Cid.{IsCid}
 use Rattle.std.specs.List.{AllByRecursion}
@@ -17,11 +17,11 @@ use Rattle.block_trees.proofs.Finding.{all_among, names_rise}
 abbrev pub BelowByName : Row → Row → Type 0
 BelowByName a b = value_cmp (column a 0) (column b 0) ≡ Less
 
--- the names rise
+-- the names ascend
 abbrev pub Rising : List Row → Type 0
 Rising = IsAscending BelowByName
 
--- the last of the entries that were gone through; before the first, a row of no columns
+-- the last of the entries passed so far; before the first, a row without columns
 abbrev pub IsLastOf : List Row → Row → Type 0
 IsLastOf done last = ((done ≡ []) × (last ≡ [])) ⊎ ((front : List Row) × (done ≡ front ++ last ∷ []))
 

@@ -14,7 +14,8 @@ use Rattle.block_trees.specs.RootRows.{root_tree, IsRootShape}
 abbrev pub Quiet : {S : Type 0} → Ghosts S → S → S → Type 0
 Quiet g old new = IsQuiet g.view g.faults g.recovers g.is_shielded old new
 
--- How a call on rows ends. Where it succeeds, it changes no more than this; a row is refused only where it is too long.
+-- How a call on rows ends. If it succeeds, it changes no more than this; a row is refused only if
+-- it is too long.
 pub record EndsOnRows {S T : Type 0} (g : Ghosts S) (Changes : View → View → Type 0) (IsLong : Type 0) (result : Result T StoreError) (old new : S) : Type 0 where
   pub frame : OnOk result (IsClean (g.view new) → Changes (g.view old) (g.view new))
   pub sound : OnOk result (IsClean (g.view new) → (g.view old).is_broken ≡ false)
@@ -53,6 +54,6 @@ HasTable g t s = IsClean (g.view s) → (g.view s).shape t ≡ shape.Table
 abbrev pub HasBlocks : {S : Type 0} → Ghosts S → S → Type 0
 HasBlocks g s = HasTable g block_tree s
 
--- the table of roots is there, or no tree in its place
+-- the table of roots is there, or that tree is absent
 abbrev pub MayHaveRoots : {S : Type 0} → Ghosts S → S → Type 0
 MayHaveRoots g s = IsClean (g.view s) → IsRootShape ((g.view s).shape root_tree)

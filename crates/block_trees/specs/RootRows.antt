@@ -21,7 +21,7 @@ root_tree = 2
 abbrev pub root_row : ℤ → List ℕ → Row
 root_row id name = Int id ∷ Blob name ∷ []
 
--- the tree of the roots is a table; or it is not there, as in a database of the earlier version
+-- the tree of the roots is a table, or absent, as in a database of the earlier version
 abbrev pub IsRootShape : Shape → Type 0
 IsRootShape s = (s ≡ Table) ⊎ (s ≡ Absent)
 
@@ -29,7 +29,7 @@ IsRootShape s = (s ≡ Table) ⊎ (s ≡ Absent)
 abbrev pub IsRowOfRoot : List ℕ → Row → Type 0
 IsRowOfRoot name r = (id : ℤ) × (r ≡ root_row id name)
 
--- the row is that of a root, a CID
+-- the row is that of a root, which is a CID
 abbrev pub IsRootIn : Row → CidParts → Type 0
 IsRootIn r c = AreCidParts c × IsRowOfRoot (cid_bytes c) r
 
@@ -54,25 +54,25 @@ FindsRoot rows name (Some id) = (before after : List Row)
 abbrev pub IsAboveAll : List Row → ℤ → Type 0
 IsAboveAll rows id = AllByRecursion (λ r. value_cmp (rowid r) (Int id) ≡ Less) rows
 
--- what comes of a row of the name: it is the last one, or no number is left for it
+-- the outcome of storing a row of the name: it is the last one, or no number is left for it
 abbrev pub AppendsRoot : List Row → List Row → List ℕ → Added → Type 0
 AppendsRoot old new name New = (id : ℤ) × (new ≡ old ++ root_row id name ∷ [])
 AppendsRoot old new name Stored = ⊥
 AppendsRoot old new name NoNumber = FreesId old None × (new ≡ old)
 
--- those that are not so, in their order
+-- the new list has the items that are not so, in their order
 abbrev pub LeavesOut : {X : Type 0} → (X → Type 0) → List X → List X → Type 0
 LeavesOut IsSo [] new = new ≡ []
 LeavesOut {X} IsSo (x ∷ old) new = (IsSo x × LeavesOut IsSo old new)
     ⊎ ((¬ IsSo x) × ((more : List X) × (new ≡ x ∷ more) × LeavesOut IsSo old more))
 
--- none is of the name, and nothing is changed; or the row with the number of the first is taken out
+-- no row is of the name, and nothing is changed; or the first such row is removed by its number
 abbrev pub TakesOutRoot : List Row → List Row → List ℕ → Bool → Type 0
 TakesOutRoot old new name false = FindsRoot old name None × (new ≡ old)
 TakesOutRoot old new name true = (id : ℤ) × FindsRoot old name (Some id)
     × (new ≡ without_rowid id old)
 
--- each row of the name is taken out, if there is one
+-- each row of the name is removed, if there is one
 abbrev pub TakesRoot : List Row → List Row → List ℕ → Bool → Type 0
 TakesRoot old new name taken = (IsTrue taken ↔ HasRoot old name) × LeavesOut (IsRowOfRoot name) old new
 

@@ -20,14 +20,14 @@ use sqlite_value::row::Row;
 use sqlite_value::value::ValueRef;
 use std::alloc::{AllocError, Global};
 
-/// What the index and the table have of a name.
+/// What the index and the table hold for a name.
 #[derive(Debug, Drop)]
 pub enum Found {
     /// The name is not listed.
     Nothing,
-    /// The entry leads to no row of the name.
+    /// The entry does not lead to a row of the name.
     NoRow,
-    /// The bytes in its row.
+    /// The bytes in the row of the name.
     Block(Vec<u8>),
 }
 
@@ -37,21 +37,21 @@ pub const BLOCKS: u32 = 0;
 /// The tree of its index by names.
 pub const NAMES: u32 = 1;
 
-/// The cursor of each walk.
+/// The cursor that walks use.
 pub(crate) const CURSOR: u16 = 0;
 
-/// What came of a block that was to be kept.
+/// The outcome of storing a block.
 #[derive(Clone, Copy, Debug, PartialEq, Eq)]
 pub enum Added {
-    /// They are in a row of their own.
+    /// The bytes are in a row of their own.
     New,
-    /// The bytes stood in the row of the name, and nothing was changed.
+    /// The bytes were in the row of the name already, and nothing was changed.
     Stored,
-    /// A row has the greatest number.
+    /// A row has the greatest number, so none is left.
     NoNumber,
 }
 
-/// The integer that the value is.
+/// Returns the integer that the value is, if it is one.
 pub(crate) fn integer(value: ValueRef<'_>) -> Option<i64>
     ensures { MatchOption result ((id : _) → owned value.entry ≢ Int id)
         (λ id. owned value.entry ≡ Int id) }
@@ -62,7 +62,7 @@ pub(crate) fn integer(value: ValueRef<'_>) -> Option<i64>
     }
 }
 
-/// Whether the value is these bytes.
+/// Returns whether the value is these bytes.
 pub(crate) fn is_blob(value: ValueRef<'_>, bytes: &[u8]) -> bool
     ensures { IsTrue result ↔ (owned value.entry ≡ Blob bytes.now) }
 {
@@ -72,7 +72,7 @@ pub(crate) fn is_blob(value: ValueRef<'_>, bytes: &[u8]) -> bool
     }
 }
 
-/// The number in an entry of the index, where the entry is of this name.
+/// Returns the number in an entry of the index, if the entry is of this name.
 #[tactic(auto, using(crate::proofs::Finding::two_columns, crate::proofs::Finding::no_entry))]
 fn number_in(entry: &Row, name: &[u8]) -> Option<i64>
     ensures { MatchOption result (IsOther name.now (entry.now ∷ []))
@@ -85,7 +85,7 @@ fn number_in(entry: &Row, name: &[u8]) -> Option<i64>
     }
 }
 
-/// Reads the first entry that is not below the name. Whether there is one.
+/// Reads the first entry that is not below the name. Returns whether there is one.
 fn seek_name<S: Store>(store: &mut S, row: &mut Row, name: &[u8]) -> Result<bool, StoreError>
     requires names { HasNames S.Store store.old }
     ensures ok { IfOk result (λ is_there. IsClean (S.Store.view store.new)
@@ -98,7 +98,7 @@ fn seek_name<S: Store>(store: &mut S, row: &mut Row, name: &[u8]) -> Result<bool
     store.next(CURSOR, row)
 }
 
-/// The number of the row that has the name.
+/// Returns the number of the row that the index lists for the name, if any.
 pub fn find<S: Store>(store: &mut S, row: &mut Row, name: &[u8]) -> Result<Option<i64>, StoreError>
     requires names { HasNames S.Store store.old }
     ensures ok { IfOk result (λ o. IsClean (S.Store.view store.new)
@@ -113,7 +113,7 @@ pub fn find<S: Store>(store: &mut S, row: &mut Row, name: &[u8]) -> Result<Optio
     }
 }
 
-/// The name in an entry of the index, where it has one.
+/// Returns the name in an entry of the index, or why it has none.
 fn name_in(entry: &Row) -> Result<Cid, CidError>
     ensures { EntersName entry.now result }
 {
@@ -123,7 +123,7 @@ fn name_in(entry: &Row) -> Result<Cid, CidError>
     }
 }
 
-/// The first listed name that is not below the bound, or why the entry has none.
+/// Returns the first listed name that is not below the bound, or why its entry has no name.
 pub fn first_from<S: Store>(
     store: &mut S,
     row: &mut Row,
@@ -142,7 +142,7 @@ pub fn first_from<S: Store>(
     }
 }
 
-/// A number that no row has, above each that one has. None where a row has the greatest number.
+/// Returns a number above that of each row, or `None` if a row has the greatest number.
 pub(crate) fn free_number<S: Store>(
     store: &mut S,
     table: u32,
@@ -162,7 +162,7 @@ pub(crate) fn free_number<S: Store>(
     }
 }
 
-/// The next number. None after the greatest, and after what is no number.
+/// Returns the next number, or `None` after the greatest or if the value is not a number.
 fn number_above(value: ValueRef<'_>) -> Option<i64>
     ensures { MatchOption result ((id : _) → owned value.entry ≡ Int id → id ≡ last_id)
         (λ n. (id : _) × (owned value.entry ≡ Int id) × (n ≡ id +ℤ pos 1)) }
@@ -170,7 +170,7 @@ fn number_above(value: ValueRef<'_>) -> Option<i64>
     integer(value)?.checked_add(1)
 }
 
-/// What is kept under the name.
+/// Returns what the index and the table hold for the name.
 pub fn get<S: Store>(
     alloc: Global,
     store: &mut S,
@@ -192,7 +192,7 @@ pub fn get<S: Store>(
     }
 }
 
-/// The bytes in the row with the number. None where there is no such row of the name.
+/// Returns the bytes in the row with the number, or `None` if no row of the name has it.
 fn read<S: Store>(
     alloc: Global,
     store: &mut S,
@@ -213,7 +213,7 @@ fn read<S: Store>(
     }
 }
 
-/// The bytes in a row of the name.
+/// Returns the bytes in the row, if it is of the name.
 fn bytes_in(alloc: Global, row: &Row, name: &[u8]) -> Result<Option<Vec<u8>>, AllocError>
     ensures { IfOk result (λ o. MatchOption o ((id : _) (b : _) → row.now ≢ block_row id name.now b)
         (λ v. row.now ≡ column row.now 0 ∷ Blob name.now ∷ Blob v.items ∷ [])) }
@@ -227,7 +227,7 @@ fn bytes_in(alloc: Global, row: &Row, name: &[u8]) -> Result<Option<Vec<u8>>, Al
     }
 }
 
-/// Whether the row is one of the name with just these bytes.
+/// Returns whether the row is of the name and has just these bytes.
 fn is_row(row: &Row, name: &[u8], bytes: &[u8]) -> bool
     ensures { MatchBool result
         (row.now ≡ column row.now 0 ∷ Blob name.now ∷ Blob bytes.now ∷ [])
@@ -236,7 +236,7 @@ fn is_row(row: &Row, name: &[u8], bytes: &[u8]) -> bool
     row.len() == 3 && is_blob(row.get(1), name) && is_blob(row.get(2), bytes)
 }
 
-/// Whether the row with the number is of the name, and has just these bytes.
+/// Returns whether the row with the number is of the name and has just these bytes.
 fn is_stored<S: Store>(
     store: &mut S,
     row: &mut Row,
@@ -256,8 +256,8 @@ fn is_stored<S: Store>(
     }
 }
 
-/// Keeps the bytes in a row of their own, and lists the name. Nothing is changed where they stand
-/// under the name; what else is listed under it is taken out.
+/// Stores the bytes in a row of their own, and lists the name. If they are stored under the name
+/// already, nothing is changed; anything else that is listed under it is removed.
 pub fn add<S: Store>(
     store: &mut S,
     row: &mut Row,
@@ -279,7 +279,7 @@ pub fn add<S: Store>(
     }
 }
 
-/// Keeps the bytes in a row of their own, and lists the name, which was not listed.
+/// Stores the bytes in a row of their own, and lists the name, which was not listed.
 fn append<S: Store>(
     store: &mut S,
     row: &mut Row,
@@ -302,7 +302,7 @@ fn append<S: Store>(
     Ok(Added::New)
 }
 
-/// Puts the bytes into the place of what is listed under the name, whose entry has this number.
+/// Replaces what is listed under the name, whose entry has this number, by the bytes.
 fn renew<S: Store>(
     store: &mut S,
     row: &mut Row,
@@ -376,7 +376,8 @@ fn list<S: Store>(store: &mut S, row: &mut Row, id: i64, name: &[u8]) -> Result<
     store.insert(NAMES, row)
 }
 
-/// Takes the name out of the index, and its row out of the table where that is of the name.
+/// Removes the name from the index, and its row from the table if that is of the name. Returns
+/// whether the name was listed.
 pub fn take<S: Store>(store: &mut S, row: &mut Row, name: &[u8]) -> Result<bool, StoreError>
     requires blocks { HasBlocks S.Store store.old }
     requires names { HasNames S.Store store.old }
@@ -391,7 +392,7 @@ pub fn take<S: Store>(store: &mut S, row: &mut Row, name: &[u8]) -> Result<bool,
     Ok(true)
 }
 
-/// Takes the entry of the name, and its row where that is of the name.
+/// Removes the entry of the name, and its row if that is of the name.
 fn take_entry<S: Store>(
     store: &mut S,
     row: &mut Row,
@@ -408,7 +409,7 @@ fn take_entry<S: Store>(
     unlist(store, row, id, name)
 }
 
-/// Takes the row with the number out, where it is of the name.
+/// Removes the row with the number if it is of the name.
 fn take_row<S: Store>(store: &mut S, row: &mut Row, id: i64, name: &[u8]) -> Result<(), StoreError>
     requires blocks { HasBlocks S.Store store.old }
     ensures ok { OnOk result (IsClean (S.Store.view store.new)
@@ -423,7 +424,7 @@ fn take_row<S: Store>(store: &mut S, row: &mut Row, id: i64, name: &[u8]) -> Res
     }
 }
 
-/// Takes the entry of the name out of the index.
+/// Removes the entry of the name from the index.
 fn unlist<S: Store>(store: &mut S, row: &mut Row, id: i64, name: &[u8]) -> Result<(), StoreError>
     requires names { HasNames S.Store store.old }
     ensures ok { OnOk result (IsClean (S.Store.view store.new)

@@ -1,4 +1,4 @@
-//! The rows of a database that holds blocks: the trees, and the calls on their rows.
+//! The rows of a database that stores blocks: its trees, and the calls on their rows.
 #![tactic(auto)]
 
 pub mod entries;

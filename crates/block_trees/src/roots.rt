@@ -18,7 +18,7 @@ use std::alloc::Global;
 /// The tree of the table `root`.
 pub const ROOTS: u32 = 2;
 
-/// The number of the row, where it is of this name.
+/// Returns the number of the row, if it is of this name.
 #[tactic(auto, using(crate::proofs::Finding::two_columns, crate::proofs::Rooting::no_row))]
 fn number_in(row: &Row, name: &[u8]) -> Option<i64>
     ensures { MatchOption result ((id : _) → row.now ≢ root_row id name.now)
@@ -31,7 +31,7 @@ fn number_in(row: &Row, name: &[u8]) -> Option<i64>
     }
 }
 
-/// The CID in the row, where it is that of a root.
+/// Returns the CID in the row, if it is a root's.
 fn root_in(row: &Row) -> Option<Cid>
     ensures { MatchOption result ((c : _) → ¬ IsRootIn row.now c) (IsRootIn row.now) }
 {
@@ -44,8 +44,8 @@ fn root_in(row: &Row) -> Option<Cid>
     }
 }
 
-/// The roots, in the order of their numbers; none where there is no such table. None where a row is
-/// no root.
+/// Returns the roots, in the order of their numbers; an empty list if there is no such table, and
+/// `None` if a row is not a root's.
 pub fn list<S: Store>(
     alloc: Global,
     store: &mut S,
@@ -72,7 +72,7 @@ pub fn list<S: Store>(
     Err(StoreError::OutOfMemory)
 }
 
-/// The number of the first row of the name.
+/// Returns the number of the first row of the name, if there is one.
 fn find<S: Store>(store: &mut S, row: &mut Row, name: &[u8]) -> Result<Option<i64>, StoreError>
     ensures ok { IfOk result (λ o. IsClean (S.Store.view store.new)
         → FindsRoot ((S.Store.view store.old).trees root_tree) name.now o) }
@@ -92,7 +92,7 @@ fn find<S: Store>(store: &mut S, row: &mut Row, name: &[u8]) -> Result<Option<i6
     Err(StoreError::OutOfMemory)
 }
 
-/// Puts a row of the name after the others.
+/// Appends a row of the name after the others.
 pub fn append<S: Store>(store: &mut S, row: &mut Row, name: &[u8]) -> Result<Added, StoreError>
     requires table { HasTable S.Store root_tree store.old }
     ensures ok { IfOk result (λ added. IsClean (S.Store.view store.new)
@@ -125,7 +125,7 @@ fn put<S: Store>(store: &mut S, row: &mut Row, id: i64, name: &[u8]) -> Result<(
     store.put(ROOTS, row)
 }
 
-/// Takes each row of the name out. Whether there was one.
+/// Removes each row of the name. Returns whether there was one.
 pub fn take<S: Store>(store: &mut S, row: &mut Row, name: &[u8]) -> Result<bool, StoreError>
     requires roots { MayHaveRoots S.Store store.old }
     ensures ok { IfOk result (λ taken. IsClean (S.Store.view store.new)
@@ -144,7 +144,7 @@ pub fn take<S: Store>(store: &mut S, row: &mut Row, name: &[u8]) -> Result<bool,
     Err(StoreError::OutOfMemory)
 }
 
-/// Takes the first row of the name out, if there is one.
+/// Removes the first row of the name, and returns whether there was one.
 fn take_first<S: Store>(store: &mut S, row: &mut Row, name: &[u8]) -> Result<bool, StoreError>
     requires roots { MayHaveRoots S.Store store.old }
     ensures ok { IfOk result (λ taken. IsClean (S.Store.view store.new)
@@ -159,7 +159,7 @@ fn take_first<S: Store>(store: &mut S, row: &mut Row, name: &[u8]) -> Result<boo
     Ok(true)
 }
 
-/// Takes the row with the number out.
+/// Removes the row with the number.
 fn delete<S: Store>(store: &mut S, id: i64) -> Result<(), StoreError>
     requires table { HasTable S.Store root_tree store.old }
     ensures ok { OnOk result (IsClean (S.Store.view store.new)

@@ -20,14 +20,14 @@ use sqlite_value::value::ValueRef;
 use std::alloc::Global;
 use std::mem;
 
-/// Whether the bytes are the binary form of a CID.
+/// Returns whether the bytes are the binary form of a CID.
 fn is_cid(bytes: &[u8]) -> bool
     ensures { IsTrue result ↔ IsCid bytes.now }
 {
     Cid::try_from(bytes).is_ok()
 }
 
-/// Whether the value is the binary form of a CID.
+/// Returns whether the value is the binary form of a CID.
 fn is_name(value: ValueRef<'_>) -> bool
     ensures { IsTrue result ↔ ((name : List ℕ) × (owned value.entry ≡ Blob name) × IsCid name) }
 {
@@ -37,14 +37,14 @@ fn is_name(value: ValueRef<'_>) -> bool
     }
 }
 
-/// Whether the row is an entry of the index: the binary form of a CID, and a number.
+/// Returns whether the row is an entry of the index: the binary form of a CID, and a number.
 fn is_entry(row: &Row) -> bool
     ensures { IsTrue result ↔ IsNameEntry row.now }
 {
     row.len() == 2 && is_name(row.get(0)) && matches!(row.get(1), ValueRef::Int(_))
 }
 
-/// Whether the row is an entry of the index of another name than the last.
+/// Returns whether the row is an entry of the index, for another name than the last.
 fn follows(last: &Row, row: &Row) -> bool
     ensures { MatchBool result
         (IsNameEntry row.now × (column row.now 0 ≡ column last.now 0 → ⊥))
@@ -53,7 +53,7 @@ fn follows(last: &Row, row: &Row) -> bool
     is_entry(row) && !is_same(row.get(0), last.get(0))
 }
 
-/// How many names are listed. None where an entry is none, or a name has two.
+/// Returns how many names are listed, or `None` if a row is not an entry, or a name has two.
 pub fn survey<S: Store>(
     alloc: Global,
     store: &mut S,

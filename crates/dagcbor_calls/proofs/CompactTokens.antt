@@ -131,7 +131,7 @@ mutual
 compact_made : (b : List ℕ) (t : Tree) → IsSpelling b t → length b < 2 ^ 32 → map (λ k. compact b (wrapped k)) (tape_of t) ≡ compact_tape_of b t
 compact_made b t s few = sym (map-map (compact b) wrapped (tape_of t)) ∙ ap (map (compact b)) (tokens_fit 0 t (omega (arith, few, ap length s.is)))
 
--- what is put of bytes that are fewer is their compact tape
+-- for fewer bytes, their compact tape is put
 pub compact_decoded : (b : List ℕ) (old : List CompactToken) → AreBytes b → length b < 2 ^ 32 → decoded_tape (λ t. map (λ k. compact b (wrapped k)) (tape_of t)) (decode b) old ≡ compact_tape_answer b old
 compact_decoded b old each few = by (decode b) refl ∙ sym (ap (λ (o : Bool). if o then decoded_tape (compact_tape_of b) (decode b) old else (negsuc 20, 0, old)) (lt-ltb (length b) (2 ^ 32) few))
   where

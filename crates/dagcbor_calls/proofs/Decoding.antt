@@ -1,4 +1,4 @@
--- What is answered is what is decoded.
+-- What is returned is what is decoded.
 use Rattle.std.proofs.Common.{◌≡◌, ℕ, ℤ, negsuc, ◌-◌, ◌^◌, ◌≤◌, min, Bool, if◌then◌else◌, le-ltb, List, [], ◌++◌, length, take, drop, map, Some, Result, Ok, Err, refl, sym, ap, ap₂, ◌∙◌, subst, arith, length-take}
 use Rattle.std.proofs.lemmas.List.{length-map, map-id}
 use Rattle.ipld_tree.specs.Tree.{Tree}
@@ -23,7 +23,7 @@ use Rattle.dagcbor_calls.specs.Finds.{IsRefusedAs}
 use Rattle.dagcbor_calls.specs.declared.tape.Token.{Token}
 use Rattle.dagcbor_calls.proofs.Placing.{placed_end}
 
--- a refusal that says why has the number of that
+-- a refusal that says why has the number of why
 pub why_told : {E : Type 0} (e : DecodeError E) (why : Why) → why_of e ≡ Some why → refusal_code e ≡ why_code why
 why_told (refusals.Msg message) why h = ap why_code {x = msg (name_bytes message)} {y = why} (cc h)
 why_told (refusals.Eof name expect) why h = ap why_code {x = eof (name_bytes name) expect} {y = why} (cc h)
@@ -45,7 +45,7 @@ why_told (refusals.LengthMismatch name expect value) why h = absurd (cc h)
 why_told refusals.OutOfMemory why h = absurd (cc h)
 why_told refusals.Failed why h = absurd (cc h)
 
--- what is answered has the number of what is decoded
+-- what is returned has the number of what is decoded
 pub answer_told : {E : Type 0} (r : Result Kind (DecodeError E)) (q : Decoded Tree) → answered r ≡ answer q → answer_code r ≡ decoded_code q
 answer_told (Ok kind) (got t rest) h = ap kind_code {x = kind} {y = kind_of t} (cc h)
 answer_told (Ok kind) (refused why left) h = absurd (cc h)
@@ -116,9 +116,9 @@ refused_tokens b r old new needed code h coded few put =
       put = put.3 ∙ ap (λ x. with_tokens x old) (map-id put.0);
     }
 
--- ---- what a tape tells
+-- ---- what a tape encodes
 
--- told bytes that were put
+-- encoded bytes that were put
 pub told_put : (b : List ℕ) (tape : List Token) (s old new : List ℕ) (needed : ℕ) (code : ℤ) → tape_told b tape ≡ Some s → length s ≤ length old → needed ≡ min (length s) (2 ^ 64 - 1) → code ≡ check_code s → new ≡ s ++ drop (length s) old
     → (code, needed, new) ≡ spell_answer b tape old
 told_put b tape s old new needed code is room counted coded put =

@@ -1,4 +1,4 @@
--- What is answered of a path, of what was found.
+-- What is returned for a path, by what was found.
 use Rattle.std.proofs.Common.{inl, inr, ℕ, ℤ, ◌+◌, ◌≤◌, List, ◌++◌, length, length-append, arith, sym, ap, ◌∙◌, subst, Option, None, Some, Result, Ok, Err, IfOk, IfErr, IfSome}
 use Rattle.std.specs.Prelude.{IsUtf8}
 use Rattle.std.specs.declared.convert.Infallible.{Infallible}
@@ -10,7 +10,7 @@ use Rattle.dagcbor_calls.specs.Codes.{kind_code}
 use Rattle.dagcbor_calls.specs.Finds.{Places, TellsFound, IsFoundAnswer}
 use Rattle.dagcbor_calls.proofs.Decoding.{refused_as}
 
--- ---- where the item stands
+-- ---- where the item is
 
 pub stands_in : (b : List ℕ) (path : List (List ℕ)) (r : Result (Option Item) (DecodeError Infallible)) → IfOk r (FindsItemIn b path) → IfOk r (λ o. IfSome o (λ item. StandAt b item.place item.bytes.now))
 stands_in b path (Ok (Some item)) k = k.4.place
@@ -22,7 +22,7 @@ ends_within b part place s = omega (arith, ap length s.2, length-append s.0 (par
 
 -- ---- the answer
 
--- bytes that are a text, by what was found
+-- if the bytes are a text, by what was found
 pub found_answer : (b text : List ℕ) (path : List (List ℕ)) (r : Result (Option Item) (DecodeError Infallible)) (old new : Places) (code : ℤ) → IsUtf8 text → IfOk r (FindsItemIn b path) → IfErr r (λ e. IsRefusedFor b e) → TellsFound r old new code → IsFoundAnswer b text path old new code
 found_answer b text path (Ok (Some item)) old new code is k refused told = inl (
   is,

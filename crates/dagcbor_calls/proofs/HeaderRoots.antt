@@ -13,7 +13,7 @@ use Rattle.dagcbor_calls.specs.Packed.{packed_cids, packed_links}
 use Rattle.lent_memory.specs.Puts.{with_front}
 use Rattle.dagcbor_calls.specs.Headers.{IsHeaderAnswer}
 
--- what is put of the block of a header
+-- what is put for the block of a header
 pub roots_put : (b block rest old new : List ℕ) (roots : List (List ℕ)) (needed before behind : ℕ) (code : ℤ) → SplitsHeader b roots rest → IsSpelling block (header_tree roots) → (code, needed, new) ≡ links_answer block old
     → behind ≡ length b - length rest → IsHeaderAnswer b old new needed before behind (pos 0)
 roots_put b block rest old new roots needed before behind code h s answer end =

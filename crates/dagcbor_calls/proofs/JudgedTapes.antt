@@ -1,4 +1,4 @@
--- What tokens surely tell.
+-- What tokens surely encode.
 use Rattle.std.proofs.Common.{◌≡◌, ℕ, suc, pos, negsuc, ◌+◌, ◌-◌, ◌^◌, ◌<◌, ◌≤◌, List, [], ◌∷◌, ◌++◌, length, drop, true, false, refl, sym, ap, ◌∙◌, arith, append-nil, length-append, Option, Some, None, MatchOption, IfSome, IsUtf8}
 use Rattle.dagcbor_core.specs.Head.{head}
 use Rattle.dagcbor_core.specs.Splits.{SplitsHead}
@@ -55,7 +55,7 @@ if_some P Q (Some a) f h = f a h
 abbrev pub Splits : Type 1
 Splits = List ℕ → List ℕ → Type 0
 
--- one token, and what others tell after it
+-- one token, and what the tokens after it encode
 pub token_tells : (b s : List ℕ) (tape : List Token) (first : Token) (at old new : ℕ) → at < length tape → drop at tape ≡ first ∷ drop (at + 1) tape → token_bytes b first.kind first.number first.place ≡ Some s → length s + new ≡ old
     → TellsMore (λ x rest. x ≡ s ++ rest) b tape at (at + 1) old new
 token_tells b s tape first at old new inside is told room rest e = (s ++ rest, ap (tape_told b) is ∙ told_first b s rest first (drop (at + 1) tape) told e, refl, omega (arith, room, length-append s rest))

@@ -19,18 +19,18 @@ use Rattle.dagcbor_calls.specs.declared.walk.CarWalk.{CarWalk}
 use Rattle.dagcbor_calls.proofs.WalkRuns.{goes_on, stops_there, drop_on, section_fault_on, header_fault_on, span_fault_on, told_fault, no_bytes_at_fault}
 use Rattle.dagcbor_calls.proofs.WalksAgree.{cut_or_none, one_code, one_fault, one_header_fault, one_span_fault, has_span, untold, section_or_end}
 
--- what both calls answer
+-- what both calls return
 abbrev Same : CarWalk → CarWalk → List ℕ → List ℕ → ℤ → ℤ → Type 0
 Same later after places new number code = (number ≡ code) × (later ≡ after) × (places ≡ new)
 
--- where no bytes follow there are no more
+-- if no bytes follow, there are no more
 abbrev IsLonger : Bool → Bool → List ℕ → Type 0
 IsLonger last other more = last ≡ true → (more ≡ []) × (other ≡ true)
 
 no_more : (last other : Bool) (more : List ℕ) → IsLonger last other more → last ≡ true → more ≡ []
 no_more last other more h is = (h is).0
 
--- more bytes leave no more room for others
+-- with more bytes at hand, no more may follow than before
 grows_less : (last other : Bool) (w : CarWalk) (b more : List ℕ) → IsLonger last other more → may_grow last w b ≡ false → may_grow other w (b ++ more) ≡ false
 grows_less true other w b more h stop = ap (λ x. may_grow x w (b ++ more)) (h refl).1
 grows_less false true w b more h stop = refl
@@ -43,7 +43,7 @@ plain_code Truncated true code none = absurd (cc (none refl))
 plain_code Truncated false code none = refl
 plain_code f more code none = refl
 
--- a cause beside which bytes also end too early is that
+-- bytes that end too early have no other fault
 cut_section : (e f : CarError Infallible) (b : List ℕ) → SectionFault e b → SectionFault f b → f ≡ Truncated → e ≡ Truncated
 cut_section e f b x y is = by e x (subst (λ g. SectionFault g b) is y)
   where

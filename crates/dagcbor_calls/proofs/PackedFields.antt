@@ -1,4 +1,4 @@
--- Putting the packed links of a node's fields into memory.
+-- Writing the packed links of a node's fields into memory.
 use Rattle.std.proofs.Common.{◌≡◌, ℕ, map, ◌+◌, ◌^◌, ◌<◌, ◌≤◌, List, [], ◌∷◌, ◌++◌, length, refl, sym, ap, ◌∙◌, subst, arith, append_assoc, append-nil, length-append}
 use Rattle.ipld_tree.specs.Cid.{cid_bytes}
 use Rattle.dag_pb.specs.Node.{LinkParts, Field, BeginsWithFields}

@@ -45,7 +45,7 @@ mutual
   entries_fit (entry k t es) = behind_fits (links_of t ++ entries_links es) (text_spelling k) (spelling t ++ entries_spelling es)
       (both_fit (links_of t) (entries_links es) (spelling t) (entries_spelling es) (links_fit t) (entries_fit es))
 
--- packed links of items in a row need no more bytes than these
+-- packed links of consecutive items need no more bytes than the items
 pub row_fits : (items : List ℕ) (links : List (List ℕ)) → HoldsLinks items links → length (packed_cids links) ≤ length items
 row_fits items links h = omega (arith, trees_fit h.trees, ap (λ ls. length (packed_cids ls)) h.are, ap length h.is)
   where

@@ -1,4 +1,4 @@
--- Putting packed links into memory.
+-- Writing packed links into memory.
 use Rattle.std.proofs.Common.{◌≡◌, ℕ, ℤ, min, map, ◌-◌, ◌^◌, ◌<◌, ◌≤◌, List, [], ◌∷◌, ◌++◌, length, drop, refl, sym, ap, ◌∙◌, subst, arith, append_assoc, append-nil, length-append}
 use Rattle.dagcbor_core.specs.declared.error.DecodeError.{DecodeError}
 use Rattle.ipld_tree.specs.Cid.{CidParts, cid_bytes}
@@ -21,8 +21,7 @@ use Rattle.dagcbor_calls.proofs.Decoding.{why_told}
 
 -- ---- packed links
 
--- these bytes, and no others, were put into the memory of this name, and stand at its front where
--- there is room for them
+-- just these bytes were put into the memory of this name, and they are at its front if they all fit
 pub record HasPut (name : ℕ) (before bytes : List ℕ) (p : PackedLinks) : Type 0 where
   pub same_reference : p.out.ghost_name ≡ name
   pub counted : p.needed ≡ min (length bytes) (2 ^ 64 - 1)

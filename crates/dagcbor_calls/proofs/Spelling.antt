@@ -1,4 +1,4 @@
--- What tokens tell: counted, and put.
+-- The bytes that tokens encode: counted, and put.
 use Rattle.std.proofs.Common.{◌≡◌, ℕ, suc, ◌+◌, ◌-◌, ◌^◌, ◌<◌, ◌≤◌, min, List, [], ◌∷◌, ◌++◌, length, get_or, take, drop, Bool, true, false, if◌then◌else◌, refl, sym, ap, ap₂, ◌∙◌, arith, append_assoc, append-nil, Option, Some, None, option_map, option_and_then, MatchOption, ltb, drop-cons, ltb-false, length-append, length-take-le, length-drop}
 use Rattle.std.proofs.lemmas.Bool.{ne_eqb}
 use Rattle.dagcbor_core.specs.Head.{head}
@@ -20,7 +20,7 @@ payload_long b s place n e = by (ltb (length b) (place + n)) refl e
         let room = ltb-false (length b) (place + n) (sym f) in
         sym (ap length is) ∙ length-take-le n (drop place b) (omega (arith, room, length-drop place b))
 
--- what is told with a payload
+-- what a token with a payload encodes
 pub string_is : (b s : List ℕ) (major place n : ℕ) → payload_at b place n ≡ Some s → string_told major b n place ≡ Some (head major (length s) ++ s)
 string_is b s major place n e = ap (option_map (λ p. head major n ++ p)) e ∙ ap (λ m. Some (head major m ++ s)) (sym (payload_long b s place n e))
 
@@ -47,7 +47,7 @@ boolean_counted (suc (suc n)) (Some k) h = absurd (omega (arith, h.0))
 pub next_token : (tape : List Token) (i : ℕ) (d : Token) → i < length tape → drop i tape ≡ get_or tape i d ∷ drop (i + 1) tape
 next_token tape i d h = drop-cons tape i d h ∙ ap (λ n. get_or tape i d ∷ drop n tape) {x = suc i} {y = i + 1} (omega arith)
 
--- what was counted of a tape, of which a rest is still to come
+-- what was counted of a tape, with a rest still to come
 pub record Counted (b : List ℕ) (tape rest : List Token) (count : ℕ) : Type 0 where
   done : List ℕ
   told : (r : List ℕ) → tape_told b rest ≡ Some r → tape_told b tape ≡ Some (done ++ r)
@@ -71,7 +71,7 @@ one_is_none b tape rest more first count is e g = g.none (ap (tape_told b) is �
 pub all_counted : (b : List ℕ) (tape rest : List Token) (count least : ℕ) → rest ≡ [] → Counted b tape rest count → least ≡ min count (2 ^ 64 - 1) → CountsTold b tape (Some least)
 all_counted b tape rest count least is g e = (g.done, g.told [] (ap (tape_told b) is) ∙ ap Some (append-nil g.done), omega (arith, e, g.counted))
 
--- what is put of a tape, of which a rest is still to come
+-- what is put of a tape, with a rest still to come
 pub record Putting (b : List ℕ) (tape rest : List Token) (old now : List ℕ) (at : ℕ) : Type 0 where
   done : List ℕ
   more : List ℕ
@@ -84,7 +84,7 @@ pub record Putting (b : List ℕ) (tape rest : List Token) (old now : List ℕ) 
 pub none_put : (b : List ℕ) (tape : List Token) (old : List ℕ) → HasRoomAt (tape_told b tape) 0 old → Putting b tape tape old old 0
 none_put b tape old h = record { done = []; more = h.0; whole = h.1; told = h.1; fits = omega (arith, h.2); place = refl; stands = refl }
 
--- the parts of what a tape tells
+-- the parts of what a tape encodes
 first_told : (b m : List ℕ) (first : Token) (more : List Token) → tape_told b (first ∷ more) ≡ Some m → (s r : List ℕ) × (token_bytes b first.kind first.number first.place ≡ Some s) × (tape_told b more ≡ Some r) × (m ≡ s ++ r)
 first_told b m first more p = by (token_bytes b first.kind first.number first.place) refl (tape_told b more) refl
   where

@@ -1,4 +1,4 @@
--- Tokens that stand in bytes, one after the other.
+-- Tokens in bytes, one after the other.
 use Rattle.std.proofs.Common.{◌≡◌, ◌≢◌, ◌⊎◌, inl, inr, ℕ, suc, ◌+◌, ◌-◌, ◌^◌, ◌<◌, ◌≤◌, List, [], ◌∷◌, ◌++◌, length, take, drop, set, if◌then◌else◌, refl, sym, ap, ap₂, ◌∙◌, subst, arith, append_assoc, append-nil, length-append, length-take, map, Bool, le-ltb, take-append-drop, Option, Some, None, nat_eq}
 use Rattle.std.proofs.lemmas.List.{length-map}
 use Rattle.dagcbor_core.specs.Head.{head}
@@ -10,7 +10,7 @@ use Rattle.dagcbor_calls.specs.Standing.{IsHeadOf, null, no, yes, natural, negat
 use Rattle.dagcbor_calls.specs.declared.tape.Token.{Token}
 use Rattle.dagcbor_calls.proofs.Tapes.{put_more}
 
--- ---- what a token says of the head that stands there
+-- ---- what a token says of the head there
 
 kind_at : ℕ → ℕ → ℕ
 kind_at m n = if nat_eq m 0 then 2 else if nat_eq m 1 then 8 else if nat_eq m 2 then 4 else if nat_eq m 3 then 3
@@ -107,7 +107,7 @@ no_link_no_token whole n b c h none t rest s =
       | inr p ↦ none (same.1 ∙ p.1) t.number k.payload rest (subst (λ x. HasLinkBytes x t.number k.payload rest) (sym same.2) p.3)
     ]
 
--- ---- one token stands there
+-- ---- there is one token
 
 pub natural_stands : (whole n : ℕ) (b c : List ℕ) (t : Token) → SplitsHead b 0 n c → t ≡ token 2 n (whole - length c) → StandsToken whole b t c
 natural_stands whole n b c t h e = subst (λ x. StandsToken whole b x c) (sym e) record { front = head 0 n; payload = []; fits = h.1; head_is = natural refl refl refl; is = h.2; place_is = refl }
@@ -194,7 +194,7 @@ link_whole k whole b c d rest t h is some few r e =
       e ∙ ap (λ x. token 7 n (whole - length x)) (sym more),
     )
 
--- ---- one row stands there
+-- ---- there is one list
 
 -- a token is its parts
 token_is : (t u : Token) → t.kind ≡ u.kind → t.number ≡ u.number → t.place ≡ u.place → t ≡ u
@@ -237,7 +237,7 @@ one_row whole b (t ∷ ts) (u ∷ us) h k =
 
 -- ---- the tape
 
--- the tokens that stood, and those that are still to come
+-- the tokens that were there, and those still to come
 pub record Stood {T : Type 0} (made : Token → T) (whole : ℕ) (b rest : List ℕ) (old now : List T) (count : ℕ) : Type 0 where
   done : List Token
   row : (more : List Token) → AreTokensOf whole rest more → AreTokensOf whole b (done ++ more)

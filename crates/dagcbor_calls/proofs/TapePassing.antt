@@ -1,4 +1,4 @@
--- Items and entries that were passed, one after the other, and those that are still to come.
+-- Items and entries that were passed, one after the other, and those still to come.
 use Rattle.std.proofs.Common.{◌≡◌, ℕ, ◌+◌, ◌-◌, ◌<◌, ◌≤◌, List, ◌++◌, refl, sym, ap, ◌∙◌, subst, arith, append_assoc, Option, Some, None}
 use Rattle.dagcbor_core.specs.Head.{head}
 use Rattle.dagcbor_core.specs.Splits.{SplitsHead}
@@ -16,7 +16,7 @@ use Rattle.dagcbor_calls.specs.TapeSplits.{SplitsKey, SplitsItem, SplitsItems, S
 pub list_passed : (n steps : ℕ) (b c rest : List ℕ) → 2 ≤ steps → SplitsHead b 4 n c → SplitsItems c n (steps - 2) rest → SplitsItem b steps rest
 list_passed n steps b c rest some h k = (list k.0, subst (λ x. IsFront x (list k.0) rest) (ap (λ m. head 4 m ++ c) k.1 ∙ sym h.2) (list_closed c rest k.0 (omega (arith, k.1, h.1)) k.2), omega (arith, some, k.3))
 
--- the items that were passed, and those that are still to come where so many stand there
+-- the items that were passed, and those still to come if there are `count` of them
 pub record ItemsPassed (b : List ℕ) (count to_come steps : ℕ) (now : List ℕ) : Type 0 where
   passed : (end : List ℕ) (more : Items) → AreFronts now more end → items_need more ≤ steps → (ts : Items) × (item_count ts + to_come ≡ count + item_count more) × AreFronts b ts end × (items_need ts ≤ steps)
   left : (end : List ℕ) → SplitsItems b count steps end → (more : Items) × (item_count more ≡ to_come) × AreFronts now more end × (items_need more ≤ steps)
@@ -36,7 +36,7 @@ one_passed b now rest count to_come steps some s k = record {
     behind no_items e f n = absurd (omega (arith, e, some))
     behind {end} (item u us) e f n = (us, omega (arith, e), (items_after now rest end k.0 u us k.1 f).1, omega (arith, n))
 
--- those that were passed alone
+-- only the items that were passed
 pub items_so_far : (b now : List ℕ) (count to_come steps : ℕ) → ItemsPassed b count to_come steps now → (ts : Items) × (item_count ts + to_come ≡ count) × AreFronts b ts now × (items_need ts ≤ steps)
 items_so_far b now count to_come steps s =
     let q = s.passed now no_items record { well_formed = tt; spellable = tt; is = refl } (omega arith) in
@@ -69,7 +69,7 @@ last_of_all no_entries = refl
 last_of_all (entry k t no_entries) = refl
 last_of_all (entry k t (entry l u es)) = last_of_all (entry l u es)
 
--- the entries that were passed, and those that are still to come where so many stand there
+-- the entries that were passed, and those still to come if there are `count` of them
 pub record EntriesPassed (b : List ℕ) (count to_come steps : ℕ) (previous : Option (List ℕ)) (now : List ℕ) : Type 0 where
   passed : (end : List ℕ) (more : Entries) → AreEntryFronts now more end → entries_need more ≤ steps → AllFollow previous more
       → (es : Entries) × (entry_count es + to_come ≡ count + entry_count more) × AreEntryFronts b es end × (entries_need es ≤ steps) × (last_key es ≡ last_after previous more)
@@ -95,7 +95,7 @@ one_entry_passed b now c rest key count to_come steps previous some s h follows 
         let a = entries_after now c rest end key l k.0 u es h k.1 f in
         (es, omega (arith, e), a.3, omega (arith, n), subst (λ x. Precedes x es) a.0 a.2)
 
--- those that were passed alone, and the last of their keys
+-- only the entries that were passed, and the last of their keys
 pub entries_so_far : (b now : List ℕ) (count to_come steps : ℕ) (previous : Option (List ℕ)) → EntriesPassed b count to_come steps previous now
     → (es : Entries) × (entry_count es + to_come ≡ count) × AreEntryFronts b es now × (last_key es ≡ previous) × (entries_need es ≤ steps)
 unfolding last_after

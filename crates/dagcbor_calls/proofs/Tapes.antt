@@ -66,13 +66,13 @@ joined_told at (item t ts) us =
 
 -- ---- the first token
 
--- what a head at the front of a row of items says of the first
+-- what the head at the front of consecutive items says of the first
 head_there : (m n : ℕ) (b c : List ℕ) (t : Tree) (ts : Items) → SplitsHead b m n c → AreFronts b (item t ts) [] → (major t ≡ m) × (argument t ≡ n) × (c ≡ payload t ++ items_spelling ts)
 head_there m n b c t ts h f =
     let k = by_head m n b c (items_spelling ts ++ []) t h.1 (item_opened b [] t ts f).0 h.2 in
     (k.0, k.1, sym k.2 ∙ ap (λ x. payload t ++ x) (append-nil (items_spelling ts)))
 
--- the token of an item with these parts, which stand after so many of its bytes
+-- the token of an item whose parts come after these first bytes of it
 first_token : (whole : ℕ) (b rest front : List ℕ) (first : Token) (t : Tree) (inside ts : Items) → length b ≤ whole → AreFronts b (item t ts) [] → AreItems inside → AreSpellableItems inside
     → spelling t ≡ front ++ items_spelling inside → tokens_of (whole - length b) t ≡ first ∷ items_tokens (whole - length b + length front) inside → rest ≡ items_spelling inside ++ items_spelling ts
     → (more : Items) × AreFronts rest more [] × (items_tokens (whole - length b) (item t ts) ≡ first ∷ items_tokens (whole - length rest) more)
@@ -305,7 +305,7 @@ tagged_tokens first rest whole n b c (Some p) fits h tagged k = link_tokens firs
 
 -- ---- the tape
 
--- what was told of a block, and what is still to come
+-- what was encoded of a block, and what is still to come
 pub record Told {T : Type 0} (made : Token → T) (whole : ℕ) (t : Tree) (rest : List ℕ) (old now : List T) (count : ℕ) : Type 0 where
   done : List Token
   more : Items
@@ -332,7 +332,7 @@ put_behind done old first room =
     ∙ sym (append_assoc done (first ∷ []) (drop (suc (length done)) old))
     ∙ ap (λ n. (done ++ first ∷ []) ++ drop n old) {x = suc (length done)} {y = length done + 1} (omega arith)
 
--- what equals the entry that was put was put there
+-- a value equal to the entry that was put was put there
 pub put_made : {T : Type 0} (given made : T) (before after : List T) (count : ℕ) → given ≡ made → (count < length before → after ≡ set before count given) → count < length before → after ≡ set before count made
 put_made given made before after count same put room = put room ∙ ap (set before count) same
 

@@ -1,4 +1,4 @@
--- What the tape of a block tells.
+-- What the tape of a block encodes.
 use Rattle.std.proofs.Common.{◌≡◌, ℕ, ◌+◌, ◌≤◌, pos, negsuc, List, [], ◌∷◌, ◌++◌, length, take, drop, Bool, true, false, if◌then◌else◌, refl, sym, ap, ap₂, ◌∙◌, arith, append_assoc, append-nil, length-append, Option, Some, None, option_map, option_and_then, le-ltb}
 use Rattle.std.proofs.Math.Seq.{drop-append_seam, take-append_seam}
 use Rattle.dagcbor_core.specs.Head.{head}
@@ -8,7 +8,7 @@ use Rattle.dagcbor_calls.specs.Tapes.{token_at, tokens_of, items_tokens, entries
 use Rattle.dagcbor_calls.specs.Told.{payload_at, token_bytes, tape_told, TapeTellsBlock}
 use Rattle.dagcbor_calls.specs.declared.tape.Token.{Token}
 
--- a payload after what stands before it
+-- a payload after the bytes before it
 payload_there : (b x s y : List ℕ) (place : ℕ) → b ≡ x ++ (s ++ y) → length x ≡ place → payload_at b place (length s) ≡ Some s
 payload_there b x s y place is e =
     let room : place + length s ≤ length b = omega (arith, e, ap length is, length-append x (s ++ y), length-append s y) in

@@ -1,4 +1,4 @@
--- What calls tell of a CAR file is what stands in it, however it is cut.
+-- What calls report of a CAR file is what is in it, however it is cut.
 use Rattle.std.proofs.Common.{◌≡◌, ◌≢◌, ◌⊎◌, inl, inr, ℕ, ◌+◌, ◌-◌, ◌^◌, ◌<◌, ◌≤◌, nat_eq, nat_lt, Bool, true, false, not, ◌&&◌, ℤ, pos, List, [], ◌∷◌, ◌++◌, length, take, drop, refl, sym, ap, ◌∙◌, subst, arith, append_assoc, append-nil, length-append, length-take, take_all, drop-drop, lt-ltb, le-ltb, ltb-false, eq-eqb, if◌then◌else◌}
 use Rattle.std.proofs.lemmas.List.{take-append-le, drop-append-le, drop-take}
 use Rattle.std.proofs.lemmas.Bool.{cases_lt}
@@ -31,7 +31,7 @@ use Rattle.dagcbor_calls.specs.declared.walk.CarWalk.{CarWalk}
 
 -- ---- bytes at hand, and those that follow
 
--- of more bytes more is shown
+-- with more bytes, more is shown
 pub goes_on : (k : ℕ) (b more : List ℕ) → (tail : List ℕ) × (take k (b ++ more) ≡ take k b ++ tail)
 goes_on k b more = elim (cases_lt (length b) k) [ inl short ↦ by short | inr long ↦ ([], take-append-le k b more long ∙ sym (append-nil (take k b))) ]
   where
@@ -42,7 +42,7 @@ goes_on k b more = elim (cases_lt (length b) k) [ inl short ↦ by short | inr l
           ap (λ n. take n (b ++ more)) sum ∙ take-append-add b more (k - length b) ∙ ap (λ x. x ++ take (k - length b) more) (sym (take_all k b (omega (arith, short)))),
         )
 
--- but not where all are at hand that there are, or that are shown
+-- but not if all bytes that there are, or all that are shown, are at hand
 pub stops_there : (last : Bool) (k : ℕ) (b more : List ℕ) → (last ≡ true → more ≡ []) → (not last && nat_lt (length b) k) ≡ false → take k (b ++ more) ≡ take k b
 stops_there true k b more none stop = ap (λ m. take k (b ++ m)) (none refl) ∙ ap (take k) (append-nil b)
 stops_there false k b more none stop = take-append-le k b more (ltb-false (length b) k stop)
@@ -67,7 +67,7 @@ drop_on n b more = elim (cases_lt (length b) n) [ inl short ↦ by short | inr l
 abbrev part_of : List ℕ → ℕ → ℕ → List ℕ
 part_of file place end = take (end - place) (drop place file)
 
--- of version 1 none is wanting; of version 2 as many as are not there before the end
+-- in version 1 no bytes are missing; in version 2 as many as are not there before the end
 abbrev Stands : List ℕ → ℕ → ℕ → ℕ → ℕ → Type 0
 Stands file place end version wanting = ((version ≡ 1) × (wanting ≡ 0))
     ⊎ ((version ≡ 2) × (place ≤ end) × (wanting ≡ (end - place) - length (part_of file place end)))
@@ -106,7 +106,8 @@ counted_on b c tail inner rest is h = (h.0, is ∙ ap (λ x. x ++ tail) h.1 ∙ 
 no_varint_on : (b c tail : List ℕ) → c ≡ b ++ tail → IsNoVarint b → IsNoVarint c
 no_varint_on b c tail is none n x y fits e = none n (tail ++ x) y fits (sym (append_assoc b tail x) ∙ ap (λ z. z ++ x) (sym is) ∙ e)
 
--- a section that stands first in more bytes stands first in those that have its length and what that counts
+-- a section at the front of more bytes is at the front of those that have its length and what that
+-- counts
 section_back : (b c inner rest more other : List ℕ) (s : Section) → SplitsCounted b inner rest → SplitsCounted c inner more → SplitsSection c s other → SplitsSection b s rest
 section_back b c inner rest more other s h w k =
     let same = (counted_unique inner (section_body s) more other w.0 k.0.1 (sym w.1 ∙ k.1)).0 in
@@ -117,7 +118,7 @@ header_back b c inner rest more other roots h w k =
     let same = (counted_unique inner (spelling (header_tree roots)) more other w.0 k.0.fits (sym w.1 ∙ k.1)).0 in
     (k.0, h.1 ∙ ap (λ x. counted x ++ rest) same)
 
--- the fault of bytes is that of more, unless more might mend it
+-- the fault of bytes is that of more bytes, unless more might mend it
 pub section_fault_on : (e : CarError Infallible) (b c tail : List ℕ) → c ≡ b ++ tail → (e ≡ Truncated → c ≡ b) → BeginsNoSection b → SectionFault e b → BeginsNoSection c × SectionFault e c
 section_fault_on Truncated b c tail is same none f = subst (λ x. BeginsNoSection x × SectionFault {E = Infallible} Truncated x) (sym (same refl)) (none, f)
 section_fault_on InvalidLength b c tail is same none f = no_section_counted {E = Infallible} InvalidLength c (no_varint_on b c tail is f)
@@ -155,13 +156,13 @@ span_fault_on e b more none (inr f) = by e none f
 
 -- ---- numbers
 
--- where no more bytes are asked for, the number is the cause's, and more would not mend it
+-- if no more bytes are asked for, the number is the cause's, and more would not mend it
 pub told_fault : (e : CarError Infallible) (more : Bool) (code : ℤ) → code_or_more e more code ≢ pos 10 → (code_or_more e more code ≡ code) × (e ≡ Truncated → more ≡ false)
 told_fault Truncated true code h = absurd (h refl)
 told_fault Truncated false code h = (refl, λ _. refl)
 told_fault e more code h = (refl, λ is. absurd (cc is))
 
--- no other number than a kind's is 0 or more
+-- only a kind's number is 0 or more
 refusal_below : {E : Type 0} (e : DecodeError E) (n : ℕ) → refusal_code e ≢ pos n
 refusal_below (Msg m) n h = absurd (cc h)
 refusal_below e n h = absurd (cc h)
@@ -198,7 +199,7 @@ section_number false s code n h e = inl (verdict_low h.0 n (sym h.2 ∙ e))
 section_not_more : (unjudged : Bool) (s : Section) (code : ℤ) → IsSectionCode unjudged s code → code ≢ pos 10
 section_not_more unjudged s code h e = elim (section_number unjudged s code 10 h e) [ inl low ↦ omega (arith, low) | inr is ↦ omega (arith, is) ]
 
--- ---- what a call tells
+-- ---- what a call reports
 
 moved : (w after : CarWalk) (places : List ℕ) (code : ℤ) → w.place < after.place → after.step ≡ 1 → told_by w after places code ≡ (code, offsets w.place places)
 moved w after places code less step =
@@ -221,7 +222,7 @@ not_begun w after places code step =
     (λ i. (code, if nat_lt w.place after.place && q i then offsets w.place places else after.place ∷ []))
     ∙ ap (λ x. (code, if x then offsets w.place places else after.place ∷ [])) (and_false (nat_lt w.place after.place))
 
--- what is told once a call was made
+-- what is reported once a call was made
 abbrev Next : Bool → List ℕ → List Call → CarWalk → CarWalk → List ℕ → ℤ → List Told → Type 0
 Next unjudged file calls w after new code told = ((code ≡ pos 10) × Tell unjudged file after calls told)
     ⊎ ((code ≢ pos 10) × (more : List Told) × (told ≡ told_by w after new code ∷ more) × Tell unjudged file after calls more)
@@ -232,7 +233,7 @@ no_bytes_cut : CountFault {E = Infallible} Truncated []
 unfolding varint
 no_bytes_cut = inl (0, varint 0, omega arith, omega arith, refl)
 
--- where more may come no bytes have a fault
+-- if more may come, no bytes have a fault
 pub no_bytes_at_fault : (w : CarWalk) (e : CarError Infallible) → SectionFault e (shown w []) → (e ≡ Truncated → may_grow false w [] ≡ false) → w.place < w.end → ⊥
 no_bytes_at_fault w e f stop less = by e f stop
   where
@@ -245,7 +246,7 @@ no_bytes_at_fault w e f stop less = by e f stop
     by (InvalidCid g) f stop = no_counted {E = Infallible} Truncated [] f.0 f.1 no_bytes_cut (subst (λ x. SplitsCounted x f.0 f.1) nothing f.2)
     by _ f stop = f
 
--- Some bytes of the file are left, or wanting, where the sections are not at their end.
+-- Some bytes of the file are left, or missing, if the sections are not at their end.
 some_left : (last : Bool) (w : CarWalk) (e : CarError Infallible) (file b more : List ℕ) (wanting : ℕ) → Stands file w.place w.end w.version wanting → drop w.place file ≡ b ++ more → ¬ IsAtEnd last w b → SectionFault e (shown w b) → (e ≡ Truncated → may_grow last w b ≡ false) → 0 < length (part_of file w.place w.end) + wanting
 some_left last w e file b more wanting (inr h) is not_end f stop = elim (cases_lt w.place w.end) [ inl less ↦ omega (arith, less, h.2) | inr over ↦ absurd (not_end (inl over)) ]
 some_left last w e file (x ∷ b) more wanting (inl h) is not_end f stop = elim (cases_lt w.place w.end) [ inl less ↦ by less | inr over ↦ absurd (not_end (inl over)) ]
@@ -255,7 +256,7 @@ some_left last w e file (x ∷ b) more wanting (inl h) is not_end f stop = elim 
 some_left true w e file [] more wanting (inl h) is not_end f stop = absurd (not_end (inr ((λ two. omega (arith, h.0, two)), refl, refl)))
 some_left false w e file [] more wanting (inl h) is not_end f stop = elim (cases_lt w.place w.end) [ inl less ↦ absurd (no_bytes_at_fault w e f stop less) | inr over ↦ absurd (not_end (inl over)) ]
 
--- at the end none is left, nor wanting
+-- at the end no bytes are left, nor missing
 none_left : (last : Bool) (w : CarWalk) (file b more : List ℕ) (wanting : ℕ) → Stands file w.place w.end w.version wanting → drop w.place file ≡ b ++ more → (last ≡ true → more ≡ []) → IsAtEnd last w b → (part_of file w.place w.end ≡ []) × (wanting ≡ 0)
 none_left last w file b more wanting stands is none (inl over) =
     let zero : w.end - w.place ≡ 0 = omega (arith, over) in
@@ -312,7 +313,7 @@ module _ (unjudged : Bool) (file : List ℕ) (call : Call) (calls : List Call) (
       let first : told_by w after new code ≡ (fault_code f.0, w.place ∷ []) = stayed w after new code (omega (arith, same)) ∙ (λ i. (is i, same i ∷ [])) in
       subst (AreToldOfSections unjudged wanting w.place (part_of file w.place w.end)) (sym n.2) (inr (inr (f.0, (some, stays.0, stays.1), first, next w n.1 step stands (subst (λ v. Tell unjudged file v calls n.1) f.5 n.3))))
 
--- what a call answers after the header
+-- what a call returns after the header
 at_section : (how : ℕ) (w after : CarWalk) (b old new : List ℕ) (code : ℤ) → w.step ≡ 1 → IsNextAnswer how w b old after new code → IsSectionStep (is_last how) (is_unjudged how) w b old after new code
 at_section how w after b old new code step (inl h) = h.1
 at_section how w after b old new code step (inr (inl h)) = absurd (omega (arith, step, h.0))
@@ -325,7 +326,7 @@ tell_sections unjudged file (call ∷ calls) wanting w told step stands t =
 
 -- ---- at the header
 
--- the walk is at the file of version 1, of which so many bytes are wanting
+-- the walk is at the file of version 1, which lacks this many bytes
 pub record IsAtCar (file : List ℕ) (w : CarWalk) (wanting : ℕ) : Type 0 where
   pub step : w.step ≡ 0
   pub begins : BeginsAt file w.place
@@ -380,7 +381,7 @@ module _ (unjudged : Bool) (file : List ℕ) (calls : List Call) (wanting : ℕ)
       let first : told_by v after new code ≡ (header_code f.0, w.place ∷ []) = not_begun v after new code (ap (λ x. x.step) f.4 ∙ at.step) ∙ (λ i. (is i, (f.4 i).place ∷ [])) in
       subst (AreToldOf unjudged file) (sym m.2) (inr (w.place, part_of file w.place w.end, wanting, at.begins, at.holds, inr (f.0, stays, first, next m.1 (subst (λ x. Tell unjudged file x calls m.1) f.4 m.3))))
 
--- what a call answers before the header, where the version is known
+-- what a call returns before the header, if the version is known
 at_header : (how : ℕ) (file : List ℕ) (wanting : ℕ) (w after : CarWalk) (b old new : List ℕ) (code : ℤ) → w.step ≡ 0 → Stands file w.place w.end w.version wanting → IsNextAnswer how w b old after new code → IsHeaderStep (is_last how) 0 w b old after new code
 at_header how file wanting w after b old new code step stands (inl h) = absurd (h.0 step)
 at_header how file wanting w after b old new code step stands (inr (inl h)) = h.2
@@ -409,7 +410,7 @@ first_car file b more fits is not_second = record {
     other : ¬ IsVersion2 file
     other v = may_not ([], subst IsVersion2 (sym (append-nil file)) v)
 
--- the walk through a file of version 2, at the one in it
+-- the walk through a file of version 2, at the file of version 1 in it
 second_car : (file b more : List ℕ) → file ≡ b ++ more → HasSpan b → IsAtCar file (of_version_2 fresh b) (length_of b - length (part_of file (0 + begin_of b) (0 + (begin_of b + length_of b))))
 second_car file b more is span = record {
   step = refl;
@@ -464,7 +465,7 @@ module _ (unjudged : Bool) (file : List ℕ) (call : Call) (calls : List Call) (
       is_not true h = refl
       is_not false h = absurd (cc h)
 
--- what the first calls answer
+-- what the first calls return
 at_front : (how : ℕ) (after : CarWalk) (b old new : List ℕ) (code : ℤ) → IsNextAnswer how fresh b old after new code → IsFrontStep (is_last how) fresh b old after new code
 at_front how after b old new code (inl h) = absurd (h.0 refl)
 at_front how after b old new code (inr (inl h)) = absurd (h.1 refl)

@@ -1,4 +1,4 @@
--- Of a CAR file its roots and sections are told, and the end of no other bytes.
+-- For a CAR file its roots and sections are reported, and the end only for a CAR file.
 use Rattle.std.proofs.Common.{◌≡◌, inl, inr, ℕ, ◌+◌, ◌≤◌, Bool, List, [], ◌∷◌, ◌++◌, length, length-append, refl, sym, ap, ◌∙◌, subst, arith, flat_map}
 use Rattle.std.specs.List.{AllByRecursion}
 use Rattle.ipld_tree.specs.Cid.{varint}

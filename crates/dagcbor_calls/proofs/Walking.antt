@@ -13,7 +13,7 @@ use Rattle.dagcbor_calls.specs.Walks.{shown, IsHeaderStep, IsSectionCode, IsSect
 use Rattle.dagcbor_calls.specs.declared.walk.CarWalk.{CarWalk}
 use Rattle.dagcbor_calls.proofs.WalkRuns.{header_some}
 
--- no memory is wanted
+-- the call does not run out of memory
 pub header_refused : (e : CarError Infallible) (b : List ℕ) → HeaderRefused e b → e ≢ OutOfMemory → BeginsNoHeader b × HeaderFault e b
 header_refused OutOfMemory b h other = absurd (other refl)
 header_refused e b h other = h
@@ -43,7 +43,7 @@ part_next last w after b old new code passed is h = elim (cases_lt (length b) (b
         let same : drop passed b ≡ drop (begin_of b) b = empty passed (omega (arith, is, short)) ∙ sym (empty (begin_of b) (omega (arith, short))) in
         subst (λ x. IsHeaderStep last (begin_of b) (of_version_2 w b) x old after new code) same (inr f)
 
--- what is after so many bytes
+-- what follows n bytes
 pub rest_of : (n : ℕ) (b : List ℕ) → take (length b - n) (drop n b) ≡ drop n b
 rest_of n b = take_all (length b - n) (drop n b) (omega (arith, length-drop n b))
 

@@ -1,4 +1,4 @@
--- What calls tell of a CAR file is determined by it, wherever it is cut.
+-- What calls report of a CAR file is determined by the file, wherever it is cut.
 use Rattle.std.proofs.Common.{◌≡◌, ◌≢◌, ◌⊎◌, inl, inr, ℕ, ◌+◌, Bool, true, false, ℤ, pos, negsuc, List, [], ◌∷◌, ◌++◌, length, length-append, refl, sym, ap, ◌∙◌, subst, arith, append-nil}
 use Rattle.std.specs.declared.convert.Infallible.{Infallible}
 use Rattle.ipld_tree.specs.CidFault.{IsNoVarint}
@@ -30,7 +30,7 @@ use Rattle.dagcbor_calls.proofs.WalkRuns.{walks_are_exact}
 abbrev IsRead : ℕ → List ℕ → ℤ → Type 0
 IsRead codec b code = ((codec ≡ 0x71) × (code ≡ check_code b)) ⊎ ((codec ≢ 0x71) × (code ≡ pos 9))
 
--- the number of what is said of bytes as a block of the codec
+-- the number of the verdict on bytes as a block of the codec
 read_told : (codec : ℕ) (b : List ℕ) (v : Verdict) → IsVerdictOn codec b v → IsRead codec b (verdict_code v)
 read_told codec b (verdicts.Block kind) h = inl (h.0, ap kind_code h.1.2 ∙ ap decoded_code (sym (block_reads b h.1.0 h.1.1.0 h.1.1.1)))
 read_told codec b (verdicts.Refused e) h = (let k = refusal_told b e h.1 in inl (h.0, k.3 ∙ ap decoded_code (sym k.2)))
@@ -155,7 +155,7 @@ one_span_fault e f b (inr h) (inr k) = by e f h k
     by InvalidOffset _ h k = absurd k
     by _ f h k = absurd h
 
--- ---- one row of what is told
+-- ---- one list of reports
 
 pub same_pair : {x y : ℤ} {p q : List ℕ} → x ≡ y → p ≡ q → ◌≡◌ {A = Told} (x, p) (y, q)
 same_pair e f = λ i. (e i, f i)
@@ -191,7 +191,7 @@ one_begin file x y (inl h) (inr k) = absurd (h.0 (has_span file k.0))
 one_begin file x y (inr h) (inl k) = absurd (k.0 (has_span file h.0))
 one_begin file x y (inr h) (inr k) = h.1 ∙ sym k.1
 
--- where the place of the file of version 1 is not told it does not begin
+-- if the place of the file of version 1 is refused, it begins nowhere
 pub untold : (e : CarError Infallible) (file : List ℕ) (begin : ℕ) → SpanRefused e file → BeginsAt file begin → ⊥
 untold e file begin (inl h) (inl k) = k.0 h.1
 untold e file begin (inl h) (inr k) = omega (arith, h.2, k.0.whole)
@@ -208,7 +208,7 @@ untold e file begin (inr h) (inr k) = by e h
     by InvalidOffset f = elim f.2 [ inl low ↦ omega (arith, low, k.0.begin) | inr high ↦ omega (arith, high, k.0.end) ]
     by _ f = f
 
--- what is told where the file of version 1 begins
+-- what is reported if the file of version 1 begins somewhere
 abbrev pub AtCar : Bool → List ℕ → ℕ → List ℕ → ℕ → Told → List Told → Type 0
 AtCar unjudged file begin car n t told = ((roots : List (List ℕ)) × (rest : List ℕ) × SplitsHeader car roots rest × (t ≡ (pos 11, offsets begin (header_places 0 roots))) × AreToldOfSections unjudged n (begin + length (header_bytes roots)) rest told)
     ⊎ ((e : CarError Infallible) × RefusesHeader e car × (t ≡ (header_code e, begin ∷ [])) × AreToldOf unjudged file told)

@@ -1,4 +1,4 @@
--- What callers in other languages are answered of texts of CIDs.
+-- What callers in other languages get for texts of CIDs.
 use Rattle.std.specs.Prelude.{◌≡◌, ◌⊎◌, ℕ, ℤ, pos, negsuc, List, length, if◌then◌else◌, nat_lt}
 use Rattle.ipld_tree.specs.Cid.{CidParts, AreCidParts, cid_bytes, IsCid}
 use Rattle.cid_text.specs.Texts.{cid_text, IsTextOf, IsTextFault}
@@ -6,12 +6,12 @@ use Rattle.cid_text.specs.declared.error.CidTextError.{CidTextError}
 use Rattle.dagcbor_calls.specs.Codes.{text_fault_code}
 use Rattle.lent_memory.specs.Puts.{with_front}
 
--- the number of what is done, or -21 where there is no room for the bytes
+-- the number `done`, or -21 if there is no room for the bytes
 abbrev pub room_code : ℤ → List ℕ → List ℕ → ℤ
 room_code done bytes old = if nat_lt (length old) (length bytes) then negsuc 20 else done
 
--- how many bytes there are, which stand at the front of the memory where there is room for them
--- all, and else nothing changed there
+-- the bytes are counted, and put at the front of the memory if they all fit; if not, nothing is
+-- changed there
 pub record IsPutText (done : ℤ) (bytes old new : List ℕ) (needed : ℕ) (code : ℤ) : Type 0 where
   pub counted : needed ≡ length bytes
   pub stand : new ≡ with_front bytes old
@@ -22,14 +22,14 @@ pub record PutsNone (old new : List ℕ) (needed : ℕ) : Type 0 where
   pub none : needed ≡ 0
   pub same : new ≡ old
 
--- the text of the CID that the bytes are is put; or they are none, and -26 is answered
+-- the text of the CID that the bytes are is put; or they are not a CID, and -26 is returned
 abbrev pub IsCidTextAnswer : List ℕ → List ℕ → List ℕ → ℕ → ℤ → Type 0
 IsCidTextAnswer b old new needed code =
     ((c : CidParts) × AreCidParts c × (b ≡ cid_bytes c) × IsPutText (pos 0) (cid_text c) old new needed code)
     ⊎ ((¬ IsCid b) × (code ≡ negsuc 25) × PutsNone old new needed)
 
--- the binary form of the CID that the text is one of is put; or it is that of none, and the number
--- of the one fault in it is answered
+-- the binary form of the CID with this text is put; or the text is not that of a CID, and the
+-- number of the one fault in it is returned
 abbrev pub IsCidFromTextAnswer : List ℕ → List ℕ → List ℕ → ℕ → ℤ → Type 0
 IsCidFromTextAnswer text old new needed code =
     ((c : CidParts) × IsTextOf text c × IsPutText (pos 0) (cid_bytes c) old new needed code)

@@ -1,4 +1,4 @@
--- The numbers that callers in other languages are told.
+-- The numbers that callers in other languages get.
 use Rattle.std.specs.Prelude.{ℕ, ℤ, pos, negsuc, List, Result, Ok, Err}
 use Rattle.dagcbor_core.specs.declared.error.DecodeError.{DecodeError}
 use Rattle.dagcbor_core.specs.declared.error.DecodeError.TheVariants as refusals
@@ -39,16 +39,16 @@ why_code indefinite_size = negsuc 14
 why_code (non_minimal name found) = negsuc 15
 why_code unordered_key = negsuc 16
 
--- the number of what is decoded: that of its kind, or that of why it is refused
+-- the number of what is decoded: that of its kind, or of why it is refused
 abbrev pub decoded_code : Decoded Tree → ℤ
 decoded_code (got t rest) = kind_code (kind_of t)
 decoded_code (refused why left) = why_code why
 
--- what is answered of bytes, as a number
+-- the number that is returned for bytes
 abbrev pub check_code : List ℕ → ℤ
 check_code b = decoded_code (decode b)
 
--- the number of a refusal's variant: where it says why bytes are refused (`why_of`), that of why
+-- the number of a refusal's variant: that of why bytes are refused, if it says why (`why_of`)
 abbrev pub refusal_code : {E : Type 0} → DecodeError E → ℤ
 refusal_code (refusals.Msg message) = negsuc 0
 refusal_code (refusals.Read e) = negsuc 1
@@ -70,13 +70,14 @@ refusal_code refusals.UnorderedKey = negsuc 16
 refusal_code refusals.OutOfMemory = negsuc 17
 refusal_code refusals.Failed = negsuc 18
 
--- the number of a kind, from 0, or of a refusal, below 0
+-- the number of a kind, at least 0, or of a refusal, below 0
 abbrev pub answer_code : {E : Type 0} → Result Kind (DecodeError E) → ℤ
 answer_code (Ok kind) = kind_code kind
 answer_code (Err e) = refusal_code e
 
--- the number of a verdict on a block under a name: from 0 where nothing is wrong. Blocks of DAG-PB are
--- not told apart from those that are not read
+-- The number of a verdict on a block under a name: below 0 if the block does not match the name,
+-- the name's hash function is not known, or its DAG-CBOR is refused. Blocks of DAG-PB, valid or
+-- not, have that of blocks that are not read.
 abbrev pub verdict_code : Verdict → ℤ
 verdict_code (verdicts.Block kind) = kind_code kind
 verdict_code verdicts.NotRead = pos 9
@@ -87,8 +88,8 @@ verdict_code (verdicts.Refused e) = refusal_code e
 verdict_code verdicts.OtherBytes = negsuc 21
 verdict_code verdicts.Unverified = negsuc 22
 
--- the number of a cause for which no section stands, or no file of version 1; the last is of those that
--- are none of these: of a header that is a block of other data
+-- the number of a cause for which there is no section, or no file of version 1; the last is for all
+-- other causes, such as a header that is a block of other data
 abbrev pub fault_code : {E : Type 0} → CarError E → ℤ
 fault_code faults.Truncated = negsuc 23
 fault_code faults.InvalidLength = negsuc 24
@@ -96,14 +97,14 @@ fault_code (faults.InvalidCid e) = negsuc 25
 fault_code faults.InvalidOffset = negsuc 34
 fault_code _ = negsuc 26
 
--- the number of a cause for which no header stands: that of the refusal where its bytes are no
--- block; the last is that of a block of other data
+-- the number of a cause for which there is no header: that of the refusal if its bytes are not a
+-- block; the last is for a block of other data
 abbrev pub header_code : {E : Type 0} → CarError E → ℤ
 header_code (faults.NoBlock e) = refusal_code e
 header_code e = fault_code e
 
--- the number of a fault in the text of a CID; bytes that are no CID have the one that they have in
--- a section
+-- the number of a fault in the text of a CID; bytes that are not a CID have the same number as in a
+-- section
 abbrev pub text_fault_code : CidTextError → ℤ
 text_fault_code (texts.InvalidCid e) = negsuc 25
 text_fault_code texts.UnknownBase = negsuc 27

@@ -1,4 +1,4 @@
--- What callers in other languages are answered of a path.
+-- What callers in other languages get for a path.
 use Rattle.std.specs.Prelude.{◌≡◌, ◌⊎◌, ℕ, ◌+◌, ℤ, negsuc, List, [], ◌∷◌, ◌++◌, length, IsUtf8, Option, None, Some, Result, Ok, Err}
 use Rattle.std.specs.declared.convert.Infallible.{Infallible}
 use Rattle.dagcbor_core.specs.declared.error.DecodeError.{DecodeError}
@@ -11,12 +11,12 @@ use Rattle.dagcbor_paths.specs.Finding.{StandAt, LeadsInto, EndsWay}
 use Rattle.dagcbor_paths.specs.declared.find.Item.{Item}
 use Rattle.dagcbor_calls.specs.Codes.{kind_code, why_code, refusal_code}
 
--- where an item stands in a block: where it begins, and where it ends
+-- where an item begins in a block, and where it ends
 abbrev pub Places : Type 0
 Places = ℕ × ℕ
 
--- the path leads from the block's tree to a tree, whose spelling stands at the places; the number is its
--- kind's
+-- the path leads from the block's tree to a tree, whose spelling is at the places; the number is
+-- that of its kind
 pub record IsFoundAt (b : List ℕ) (path : List (List ℕ)) (places : Places) (code : ℤ) : Type 0 where
   pub tree : Tree
   pub found : Tree
@@ -28,34 +28,34 @@ pub record IsFoundAt (b : List ℕ) (path : List (List ℕ)) (places : Places) (
   pub ends : places.1 ≡ places.0 + length part
   pub told : code ≡ kind_code (kind_of found)
 
--- it leads nowhere in the block: -36
+-- the path leads nowhere in the block: -36
 abbrev pub IsNotFound : List ℕ → List (List ℕ) → ℤ → Type 0
 IsNotFound b path code = ((t : Tree) × IsBlock b t × ((u : Tree) → ¬ At path t u)) × (code ≡ negsuc 35)
 
--- the bytes are no block: the number of why
+-- the bytes are not a block: the number of why
 abbrev pub IsRefusedAs : List ℕ → ℤ → Type 0
 IsRefusedAs b code = (why : Why) × (left : ℕ) × (decode b ≡ refused why left)
     × (code ≡ why_code why)
 
--- the bytes are no text, -37
+-- the bytes are not UTF-8 text: -37
 abbrev pub IsNoText : List ℕ → ℤ → Type 0
 IsNoText text code = (¬ IsUtf8 text) × (code ≡ negsuc 36)
 
--- The text stands for these segments: the item to which they lead in the block; or the places stay, since
--- they lead nowhere, or the bytes are no block, or the text is none.
+-- The text names these segments, and the answer is the item to which they lead in the block; or the
+-- places stay, because they lead nowhere, the bytes are not a block, or the text is not UTF-8.
 abbrev pub IsFoundAnswer : List ℕ → List ℕ → List (List ℕ) → Places → Places → ℤ → Type 0
 IsFoundAnswer b text path old new code = (IsUtf8 text × IsFoundAt b path new code)
     ⊎ ((new ≡ old) × ((IsUtf8 text × (IsNotFound b path code ⊎ IsRefusedAs b code)) ⊎ IsNoText text code))
 
--- of a path that is a text
+-- the answer for a path
 abbrev pub IsFindAnswer : List ℕ → List ℕ → Places → Places → ℤ → Type 0
 IsFindAnswer b path = IsFoundAnswer b path (segments path)
 
--- of one segment, taken whole
+-- the answer for one segment, taken whole
 abbrev pub IsPartAnswer : List ℕ → List ℕ → Places → Places → ℤ → Type 0
 IsPartAnswer b segment = IsFoundAnswer b segment (segment ∷ [])
 
--- what is told of the item that was found, if one was
+-- what is returned for the item that was found, if one was
 abbrev pub TellsFound : Result (Option Item) (DecodeError Infallible) → Places → Places → ℤ → Type 0
 TellsFound (Ok (Some item)) old new code = (new ≡ (item.place, item.place + length item.bytes.now))
     × (code ≡ kind_code item.kind)
@@ -64,13 +64,13 @@ TellsFound (Err e) old new code = (new ≡ old) × (code ≡ refusal_code e)
 
 -- ---- as far as it leads
 
--- so many bytes stand before what is left: all of them where no segment is
+-- this many bytes come before what is left: all of them if that has no segment
 abbrev pub IsPassed : List ℕ → List ℕ → ℕ → Type 0
 IsPassed path left count = (before rest : List ℕ) × (path ≡ before ++ rest) × (length before ≡ count)
     × (segments rest ≡ segments left) × (segments rest ≡ [] → rest ≡ [])
 
--- the path is a text, and a front of it leads from the block's tree to a tree, whose spelling stands at the
--- places; what is left of it has no segment, or its first leads nowhere from there
+-- the path is a text, and its first segments lead from the block's tree to a tree, whose spelling
+-- is at the places; what is left of it has no segment, or its first leads nowhere from there
 pub record IsFollowedTo (b path : List ℕ) (begin end count : ℕ) (code : ℤ) : Type 0 where
   pub text : IsUtf8 path
   pub tree : Tree
@@ -85,8 +85,8 @@ pub record IsFollowedTo (b path : List ℕ) (begin end count : ℕ) (code : ℤ)
   pub ends : end ≡ begin + length part
   pub told : code ≡ kind_code (kind_of found)
 
--- the last item to which a front of the path leads in the block, where it begins and ends, and how many bytes
--- of the path lead there; or the places stay, since the bytes are no block, or the path is no text, -37
+-- the last item on the path in the block: where it begins and ends, and how many bytes of the path
+-- lead there; or the places stay, because the bytes are not a block, or the path is not a text, -37
 abbrev pub IsFollowAnswer : List ℕ → List ℕ → List ℕ → List ℕ → ℤ → Type 0
 IsFollowAnswer b path old new code =
     ((begin end count : ℕ) × (new ≡ begin ∷ end ∷ count ∷ []) × IsFollowedTo b path begin end count code)

@@ -8,7 +8,7 @@ use Rattle.dagcbor_decode.specs.Rows.{HoldsLinks}
 use Rattle.lent_memory.specs.Puts.{put_at, with_front}
 use Rattle.dagcbor_calls.specs.declared.links.PackedLinks.{PackedLinks}
 
--- each CID after a byte of its length, one after the other
+-- each CID after a byte with its length, one after the other
 abbrev pub packed_cids : List (List ℕ) → List ℕ
 packed_cids [] = []
 packed_cids (cid ∷ more) = (length cid ∷ cid) ++ packed_cids more
@@ -21,24 +21,23 @@ packed_links t = packed_cids (links_of t)
 abbrev pub packed_fields : List Field → List ℕ
 packed_fields row = packed_cids (map (λ link. cid_bytes link.hash) (links_in row))
 
--- the bytes were put after those before, and counted
+-- the bytes were appended, and counted
 pub record PacksBytes (bytes : List ℕ) (old new : PackedLinks) : Type 0 where
   pub same_reference : new.out.ghost_name ≡ old.out.ghost_name
   pub counted : new.needed ≡ min (old.needed + length bytes) (2 ^ 64 - 1)
   pub stands : new.out.now ≡ put_at old.needed bytes old.out.now
 
--- a byte of the CID's length and the CID were put so
+-- a byte with the CID's length and the CID were so appended
 abbrev pub PacksCid : List ℕ → PackedLinks → PackedLinks → Type 0
 PacksCid cid old new = (mid : PackedLinks) × PacksBytes (length cid ∷ []) old mid × PacksBytes cid mid new
 
--- the links of fields of a node in a row are counted, and stand at the front of the memory where there is
--- room for them all
+-- the links of consecutive fields of a node are counted, and put at the front of the memory if they
+-- all fit
 abbrev pub PacksFields : List ℕ → List ℕ → List ℕ → ℕ → Type 0
 PacksFields fields old new needed = (row : List Field) → BeginsWithFields fields row []
     → (needed ≡ length (packed_fields row)) × (length (packed_fields row) ≤ length old → new ≡ with_front (packed_fields row) old)
 
--- the links of items in a row are counted, and stand at the front of the memory where there is room for
--- them all
+-- the links of consecutive items are counted, and put at the front of the memory if they all fit
 abbrev pub Packs : List ℕ → List ℕ → List ℕ → ℕ → Type 0
 Packs items old new needed = (links : List (List ℕ)) → HoldsLinks items links
     → (needed ≡ length (packed_cids links)) × (length (packed_cids links) ≤ length old → new ≡ with_front (packed_cids links) old)

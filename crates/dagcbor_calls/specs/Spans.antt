@@ -1,13 +1,13 @@
--- What callers in other languages are answered of where the file of version 1 stands in a CAR file.
+-- What callers in other languages get for where the file of version 1 is in a CAR file.
 use Rattle.std.specs.Prelude.{◌≡◌, ◌⊎◌, ℕ, ◌+◌, ◌-◌, ◌^◌, ℤ, pos, List, [], ◌∷◌}
 use Rattle.std.specs.declared.convert.Infallible.{Infallible}
 use Rattle.dagcbor_car.specs.Versions.{MayBeVersion2, HasSpan, begin_of, length_of, SpanRefused}
 use Rattle.dagcbor_car.specs.declared.error.CarError.{CarError}
 use Rattle.dagcbor_calls.specs.Codes.{fault_code}
 
--- 0, and all from the first byte on, where no file of version 2 begins so; or 0, and where the file of
--- version 1 begins and ends; or the number of the cause for which the bytes do not tell it, and then
--- nothing changed
+-- if no file of version 2 begins so: 0, and all from the first byte on; or 0, and where the file of
+-- version 1 begins and ends; or the number of the cause for which the bytes do not tell, and then
+-- nothing is changed
 abbrev pub IsSpanAnswer : List ℕ → List ℕ → List ℕ → ℤ → Type 0
 IsSpanAnswer b old new code =
     ((¬ MayBeVersion2 b) × (code ≡ pos 0) × (new ≡ 0 ∷ (2 ^ 64 - 1) ∷ []))

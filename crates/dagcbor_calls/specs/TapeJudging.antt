@@ -1,4 +1,4 @@
--- What tokens surely tell: items, as they are split off bytes, before these bytes are there.
+-- What tokens surely encode: items, as they are split off bytes, before these bytes exist.
 use Rattle.std.specs.Prelude.{◌≡◌, ℕ, ◌+◌, List, length, drop, Option, Some}
 use Rattle.ipld_tree.specs.Tree.{Tree, any_need}
 use Rattle.ipld_tree.specs.Spelling.{IsSpelling}
@@ -6,19 +6,19 @@ use Rattle.dagcbor_decode.specs.Blocks.{IsBlock}
 use Rattle.dagcbor_calls.specs.Told.{tape_told}
 use Rattle.dagcbor_calls.specs.declared.tape.Token.{Token}
 
--- an item of n bytes is told that takes one step
+-- these bytes are an item of n bytes that takes one step
 abbrev pub IsLeafTold : Option (List ℕ) → ℕ → Type 0
 IsLeafTold told n = (s : List ℕ) × (told ≡ Some s) × (length s ≡ n)
     × ((t : Tree) × IsSpelling s t × (any_need t ≡ 1))
 
--- Where the tokens from `next` on tell bytes, those from `at` on tell more, of which these are the
--- rest; and the room is less by what is more.
+-- If the tokens from `next` on encode bytes, those from `at` on encode more bytes, of which these
+-- are the rest; and the room decreases by the difference.
 abbrev pub TellsMore : (List ℕ → List ℕ → Type 0) → List ℕ → List Token → ℕ → ℕ → ℕ → ℕ → Type 0
 TellsMore Splits b tape at next old new = (rest : List ℕ) → tape_told b (drop next tape) ≡ Some rest
     → (s : List ℕ) × (tape_told b (drop at tape) ≡ Some s) × Splits s rest
     × (length s + new ≡ length rest + old)
 
--- the tape tells a block of n bytes
+-- the tape encodes a block of n bytes
 abbrev pub TellsBlock : List ℕ → List Token → ℕ → Type 0
 TellsBlock b tape n = (s : List ℕ) × (tape_told b tape ≡ Some s) × (length s ≡ n)
     × ((t : Tree) × IsBlock s t)

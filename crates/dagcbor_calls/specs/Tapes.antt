@@ -30,8 +30,8 @@ abbrev pub integer_token : ℕ → ℤ → Token
 integer_token at (pos n) = token_at at (head 0 n) 2 n
 integer_token at (negsuc n) = token_at at (head 1 n) 8 n
 
--- The tokens of a tree whose spelling begins at a place: of each head its kind, its number, and the
--- place after it, where a payload or the first part begins; of a link the place of its CID.
+-- The tokens of a tree whose spelling begins at a place: for each head its kind, its number, and
+-- the place after it, where a payload or the first part begins; for a link the place of its CID.
 abbrev mutual
   pub tokens_of : ℕ → Tree → List Token
   tokens_of at null = token 0 0 (at + 1) ∷ []
@@ -60,24 +60,24 @@ abbrev mutual
 abbrev pub tape_of : Tree → List Token
 tape_of t = tokens_of 0 t
 
--- a tape with the tokens at its front, where there is room for them; else the tape stays
+-- a tape with the tokens at its front, if they all fit; else the tape stays
 abbrev pub with_tokens : {T : Type 0} → List T → List T → List T
 with_tokens tokens old = if nat_lt (length old) (length tokens) then old
     else tokens ++ drop (length tokens) old
 
--- The first of the trees that the bytes spell, to the end of so many bytes, begins with the token;
--- after it and its payload the rest of its tokens and those of the others follow.
+-- The first of the trees that the bytes spell, to the end of `whole` bytes, begins with the token;
+-- after it and its payload follow the rest of its tokens and those of the others.
 abbrev pub SplitsToken : ℕ → List ℕ → Token → List ℕ → Type 0
 SplitsToken whole b first rest = (t : Tree) (ts : Items) → AreFronts b (item t ts) []
     → (more : Items) × AreFronts rest more [] × (items_tokens (whole - length b) (item t ts) ≡ first ∷ items_tokens (whole - length rest) more)
 
--- A token or none, and the bytes after it, of which there are fewer.
+-- Such a token or none, and the bytes after it, which are fewer.
 abbrev pub SplitsTokenIfThere : {P : Type 0} → (P → Token) → (P → List ℕ) → ℕ → List ℕ → Option P → Type 0
 SplitsTokenIfThere first rest whole b result = MatchOption result
     ((t : Tree) (ts : Items) → ¬ AreFronts b (item t ts) [])
     (λ p. (length (rest p) < length b) × SplitsToken whole b (first p) (rest p))
 
--- the byte string of a zero and these bytes stands at the front
+-- the byte string of a zero and these bytes is at the front
 abbrev pub BeginsWithZeroAnd : List ℕ → List ℕ → List ℕ → Type 0
 BeginsWithZeroAnd b cid rest = IsFront b (bytes (0x00 ∷ cid)) rest
 
@@ -87,14 +87,14 @@ SplitsLinkIfThere first rest whole b result = MatchOption result
     ((cid more : List ℕ) → ¬ BeginsWithZeroAnd b cid more)
     (λ p. (length (rest p) < length b) × ((cid more : List ℕ) → BeginsWithZeroAnd b cid more → (first p ≡ token 7 (length cid) (whole - length (cid ++ more))) × (rest p ≡ more)))
 
--- What is made of the block's tokens is put at the front of the tape, where there is room for it
--- all, and counted.
+-- The entries made of the block's tokens are counted, and put at the front of the tape if they all
+-- fit.
 abbrev pub PutsTokens : {T : Type 0} → (Token → T) → List ℕ → List T → List T → ℕ → Type 0
 PutsTokens made b old new count = (t : Tree) → IsSpelling b t → (count ≡ length (tape_of t))
     × (length (tape_of t) ≤ length old → new ≡ map made (tape_of t) ++ drop (length (tape_of t)) old)
 
--- What is answered of what is decoded: its number, how many tokens it has, and the tape with them
--- at its front, where there is room for them all; of refused bytes none, and the tape as it was.
+-- The answer for what is decoded: its number, how many tokens it has, and the tape with them at its
+-- front, if they all fit; for refused bytes no token, and the tape as it was.
 abbrev pub decoded_tape : {T : Type 0} → (Tree → List T) → Decoded Tree → List T → ℤ × ℕ × List T
 decoded_tape tape (got t rest) old =
     (kind_code (kind_of t), length (tape t), with_tokens (tape t) old)

@@ -1,4 +1,4 @@
--- What calls tell of a whole CAR file, however it is cut into pieces.
+-- What calls report of a whole CAR file, however it is cut into pieces.
 use Rattle.std.specs.Prelude.{◌≡◌, ◌≢◌, ◌⊎◌, ℕ, ◌+◌, ◌^◌, ◌<◌, nat_eq, nat_lt, Bool, ◌&&◌, IsTrue, ℤ, pos, List, [], ◌∷◌, ◌++◌, length, map, drop, ⊤, if◌then◌else◌}
 use Rattle.std.specs.declared.convert.Infallible.{Infallible}
 use Rattle.dagcbor_car.specs.Car.{Section, section_bytes, header_bytes}
@@ -21,12 +21,12 @@ fresh = record { place = 0; end = 0; version = 0; step = 0 }
 abbrev pub offsets : ℕ → List ℕ → List ℕ
 offsets from places = map (λ n. from + n) places
 
--- a number, and offsets in the file
+-- what one call reports: a number, and offsets in the file
 abbrev pub Told : Type 0
 Told = ℤ × List ℕ
 
--- what a call tells: of a header and of a section, after which the walk is then, where its parts stand; of the
--- end and of a fault where the walk is
+-- what a call reports: of a header or a section, which the walk has then passed, where its parts
+-- are; of the end or a fault, where the walk is
 abbrev pub told_by : CarWalk → CarWalk → List ℕ → ℤ → Told
 told_by w after places code = (
   code,
@@ -34,17 +34,17 @@ told_by w after places code = (
       then offsets w.place places else after.place ∷ [],
 )
 
--- the bytes at hand, and what the caller says of them
+-- the bytes at hand, and the `how` of the call
 abbrev pub Call : Type 0
 Call = List ℕ × ℕ
 
--- They are bytes of the file from where the walk is on, as many as there may be; and all of them, where the caller
--- says that none follow.
+-- The bytes are those of the file from where the walk is on, any number of them; and all of them,
+-- if the caller says that none follow.
 abbrev pub IsOfFile : List ℕ → CarWalk → Call → Type 0
 IsOfFile file w call = (more : List ℕ) × (drop w.place file ≡ call.0 ++ more)
     × (IsTrue (is_last call.1) → more ≡ [])
 
--- Calls one after another tell this: each but those that need more bytes.
+-- Consecutive calls report this: one report for each call but those that need more bytes.
 abbrev pub Tell : Bool → List ℕ → CarWalk → List Call → List Told → Type 0
 Tell unjudged file w [] told = told ≡ []
 Tell unjudged file w (call ∷ calls) told =
@@ -54,11 +54,11 @@ Tell unjudged file w (call ∷ calls) told =
     ⊎ ((code ≢ pos 10) × (more : List Told) × (told ≡ told_by w after new code ∷ more)
     × Tell unjudged file after calls more))
 
--- ---- what stands in the file
+-- ---- what is in the file
 
--- These bytes of a file of version 1 stand at this offset, and so many are wanting after them. What is told: the
--- section that stands first, and then what is told of the bytes after it; or, again and again, that they are at
--- their end, or the fault for which no section stands first, at that offset.
+-- These bytes of a file of version 1 are at this offset, and `wanting` bytes are missing after
+-- them. The reports are: the section at the front, and then those of the bytes after it; or, again
+-- and again, the end, or the fault for which there is no section, at that offset.
 abbrev pub AreToldOfSections : Bool → ℕ → ℕ → List ℕ → List Told → Type 0
 AreToldOfSections unjudged wanting place b [] = ⊤
 AreToldOfSections unjudged wanting place b (t ∷ told) =
@@ -70,12 +70,13 @@ AreToldOfSections unjudged wanting place b (t ∷ told) =
     ⊎ ((e : CarError Infallible) × RefusesSection wanting e b × (t ≡ (fault_code e, place ∷ []))
     × AreToldOfSections unjudged wanting place b told))
 
--- where the file of version 1 begins in the file; it is told of no bytes that might be cut out of version 2
+-- where the file of version 1 begins in the file; it holds of no bytes that might be cut out of
+-- version 2
 abbrev pub BeginsAt : List ℕ → ℕ → Type 0
 BeginsAt file begin = ((¬ MayBeVersion2 file) × (begin ≡ 0)) ⊎ (HasSpan file × (begin ≡ begin_of file))
 
--- What is told of a file: the header of the file of version 1 in it, and then what is told of the sections; or,
--- again and again, the fault for which none stands there, or its place is not told.
+-- The reports of a file: the header of the file of version 1 in it, and then those of the sections;
+-- or, again and again, the fault for which there is no header, or no place for it.
 abbrev pub AreToldOf : Bool → List ℕ → List Told → Type 0
 AreToldOf unjudged file [] = ⊤
 AreToldOf unjudged file (t ∷ told) =
@@ -90,28 +91,30 @@ AreToldOf unjudged file (t ∷ told) =
 
 -- ---- laws
 
--- However a file is cut into pieces, and however often a call is made: what calls tell is what stands in it.
+-- However a file is cut into pieces, and however often a call is made, the calls report what is in
+-- it.
 abbrev pub WalksAreExact : Type 0
 WalksAreExact = (unjudged : Bool) (file : List ℕ) (calls : List Call) (told : List Told) → length file < 2 ^ 64
     → Tell unjudged file fresh calls told → AreToldOf unjudged file told
 
--- as far as both go they are the same
+-- the two lists are equal as far as both go
 abbrev pub AreAlike : List Told → List Told → Type 0
 AreAlike [] others = ⊤
 AreAlike (t ∷ told) [] = ⊤
 AreAlike (t ∷ told) (other ∷ others) = (t ≡ other) × AreAlike told others
 
--- What is told of a file is determined by it, as far as it goes.
+-- What is reported of a file is determined by it, as far as it goes.
 abbrev pub ToldAreUnique : Type 0
 ToldAreUnique = (unjudged : Bool) (file : List ℕ) (told others : List Told) → AreToldOf unjudged file told
     → AreToldOf unjudged file others → AreAlike told others
 
--- So two runs of calls over one file tell the same, wherever each cuts it.
+-- So two runs of calls over one file report the same, wherever each cuts it.
 abbrev pub CutsAgree : Type 0
 CutsAgree = (unjudged : Bool) (file : List ℕ) (calls more : List Call) (told others : List Told) → length file < 2 ^ 64
     → Tell unjudged file fresh calls told → Tell unjudged file fresh more others → AreAlike told others
 
--- These sections, of which the first stands at this offset, and then, again and again, the end.
+-- The reports of these sections, of which the first is at this offset, and then, again and again,
+-- of the end.
 abbrev pub AreSections : Bool → ℕ → List Section → List Told → Type 0
 AreSections unjudged place sections [] = ⊤
 AreSections unjudged place [] (t ∷ told) = (t ≡ (pos 12, place ∷ [])) × AreSections unjudged place [] told
@@ -119,27 +122,28 @@ AreSections unjudged place (s ∷ sections) (t ∷ told) = IsSectionCode unjudge
     × (t.1 ≡ offsets place (section_places s))
     × AreSections unjudged (place + length (section_bytes s)) sections told
 
--- The header of these roots, these sections, and then the end.
+-- The reports of the header of these roots, of these sections, and then of the end.
 abbrev pub AreOfFile : Bool → List ℕ → List (List ℕ) → List Section → List Told → Type 0
 AreOfFile unjudged file roots sections [] = ⊤
 AreOfFile unjudged file roots sections (t ∷ told) = (begin : ℕ) × BeginsAt file begin
     × (t ≡ (pos 11, offsets begin (header_places 0 roots)))
     × AreSections unjudged (begin + length (header_bytes roots)) sections told
 
--- the end is told
+-- the end is reported
 abbrev pub TellsEnd : List Told → Type 0
 TellsEnd [] = ⊥
 TellsEnd (t ∷ told) = (t.0 ≡ pos 12) ⊎ TellsEnd told
 
--- Of a CAR file its roots and sections are told, and no fault; and where the end is told, the bytes are one.
+-- For a CAR file its roots and sections are reported, and no fault; and if the end is reported, the
+-- bytes are a CAR file.
 abbrev pub FilesAreTold : Type 0
 FilesAreTold = (unjudged : Bool) (file : List ℕ) (told : List Told) → AreToldOf unjudged file told
     → ((roots : List (List ℕ)) (sections : List Section) → IsFile file roots sections
     → AreOfFile unjudged file roots sections told)
     × (TellsEnd told → (roots : List (List ℕ)) × (sections : List Section) × IsFile file roots sections)
 
--- A call that needs no more bytes answers the same if more are at hand, from wherever the walk is: the same number,
--- places and walk. Where it was said that none follow, none do.
+-- A call that needs no more bytes answers the same if more are at hand, from wherever the walk is:
+-- the same number, places and walk. If the caller said that none follow, none may.
 abbrev pub MoreBytesAgree : Type 0
 MoreBytesAgree = (how other : ℕ) (w after later : CarWalk) (b more old new places : List ℕ) (code number : ℤ)
     → is_unjudged other ≡ is_unjudged how
@@ -147,7 +151,7 @@ MoreBytesAgree = (how other : ℕ) (w after later : CarWalk) (b more old new pla
     → IsNextAnswer how w b old after new code → IsNextAnswer other w (b ++ more) old later places number
     → (number ≡ code) × (later ≡ after) × (places ≡ new)
 
--- Where all bytes are at hand no more are needed.
+-- If all bytes are at hand, no more are needed.
 abbrev pub LastNeedsNoMore : Type 0
 LastNeedsNoMore = (how : ℕ) (w after : CarWalk) (b old new : List ℕ) (code : ℤ) → IsTrue (is_last how)
     → IsNextAnswer how w b old after new code → code ≢ pos 10

@@ -1,4 +1,4 @@
-//! The text of a CID, and the CID of a text, put into memory of the caller.
+//! The text of a CID, and the CID of a text, written into the caller's memory.
 
 ghost use Rattle.std.specs.Prelude.{◌≡◌};
 ghost use Rattle.dagcbor_calls.specs.Codes.{text_fault_code};
@@ -9,7 +9,7 @@ use arrayvec::ArrayVec;
 use cid_text::{CidTextError, cid_from_text, cid_text};
 use ipld_tree::Cid;
 
-/// The number of the fault in a text.
+/// Returns the number of a fault in the text of a CID.
 fn text_fault_code(fault: &CidTextError) -> i32
     ensures { result ≡ text_fault_code fault.now }
 {
@@ -25,8 +25,8 @@ fn text_fault_code(fault: &CidTextError) -> i32
     }
 }
 
-/// Puts the bytes at the front of `out`, where there is room for them: the number of what is done, and
-/// else -21.
+/// Writes the bytes at the front of `out` if they fit, and returns `done`, and else -21. `needed`
+/// is their count.
 pub fn put_front(done: i32, bytes: &[u8], out: &mut [u8], needed: &mut usize) -> i32
     ensures { IsPutText done bytes.now out.old out.new needed.new result }
 {
@@ -38,7 +38,7 @@ pub fn put_front(done: i32, bytes: &[u8], out: &mut [u8], needed: &mut usize) ->
     done
 }
 
-/// Puts the text of the CID that the bytes are.
+/// Writes the text of the CID that the bytes are, or returns -26 if they are not a CID.
 pub fn put_cid_text(bytes: &[u8], out: &mut [u8], needed: &mut usize) -> i32
     ensures { IsCidTextAnswer bytes.now out.old out.new needed.new result }
 {
@@ -49,7 +49,7 @@ pub fn put_cid_text(bytes: &[u8], out: &mut [u8], needed: &mut usize) -> i32
     }
 }
 
-/// Puts the binary form of the CID that the text is one of.
+/// Writes the binary form of the CID whose text this is, or returns the number of the fault in it.
 pub fn put_cid_of_text(text: &[u8], out: &mut [u8], needed: &mut usize) -> i32
     ensures { IsCidFromTextAnswer text.now out.old out.new needed.new result }
 {

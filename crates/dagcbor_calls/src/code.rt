@@ -1,4 +1,4 @@
-//! Numbers for what callers in other languages are told.
+//! The numbers that callers in other languages get.
 
 ghost use Rattle.std.specs.Prelude.{◌≡◌};
 ghost use Rattle.dagcbor_calls.specs.Codes.{kind_code, refusal_code, answer_code, fault_code};
@@ -8,13 +8,13 @@ use dagcbor_car::CarError;
 use dagcbor_core::DecodeError;
 use dagcbor_decode::{Kind, check_slice};
 
-/// What is answered where there is no room.
+/// The number returned if there is no room.
 pub(crate) const NO_ROOM: i32 = -21;
 
-/// What is answered where bytes are no CID.
+/// The number returned if bytes are not a CID.
 pub(crate) const NO_CID: i32 = -26;
 
-/// The number of an answer.
+/// Returns the number of an answer: that of a kind, or of a refusal.
 fn code_of<E>(answer: &Result<Kind, DecodeError<E>>) -> i32
     ensures { result ≡ answer_code answer.now }
 {
@@ -24,7 +24,7 @@ fn code_of<E>(answer: &Result<Kind, DecodeError<E>>) -> i32
     }
 }
 
-/// The number of a kind.
+/// Returns the number of a kind.
 pub fn kind_code(kind: Kind) -> i32
     ensures { result ≡ kind_code kind }
 {
@@ -40,7 +40,7 @@ pub fn kind_code(kind: Kind) -> i32
     }
 }
 
-/// The number of a refusal.
+/// Returns the number of a refusal.
 pub fn refusal_code<E>(refusal: &DecodeError<E>) -> i32
     ensures { result ≡ refusal_code refusal.now }
 {
@@ -67,14 +67,15 @@ pub fn refusal_code<E>(refusal: &DecodeError<E>) -> i32
     }
 }
 
-/// The number of the kind of a block, from 0; below 0 that of the refusal.
+/// Returns the number of the kind of a block, at least 0, or that of the refusal, below 0.
 pub fn check(bytes: &[u8]) -> i32
     ensures { result ≡ check_code bytes.now }
 {
     code_of(&check_slice(bytes))
 }
 
-/// The number of the cause for which no section, no header or no file of version 1 stands.
+/// Returns the number of the cause for which there is no section, no header, or no file of version
+/// 1.
 pub(crate) fn fault_code<E>(fault: &CarError<E>) -> i32
     ensures { result ≡ fault_code fault.now }
 {

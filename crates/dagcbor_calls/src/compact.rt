@@ -1,4 +1,4 @@
-//! The tokens of a block in three numbers of 32 bits each.
+//! The tokens of a block, in three numbers of 32 bits each.
 
 ghost use Rattle.std.specs.Prelude.{◌≡◌, ◌/◌, ◌%◌, ◌^◌, ◌≤◌, length, take, drop};
 ghost use Rattle.dagcbor_calls.specs.CompactTapes.{are_ascii, compact, compact_kind, wrapped};
@@ -7,7 +7,7 @@ ghost use Rattle.dagcbor_calls.specs.CompactTapes.{compact_tape_answer};
 use crate::code::NO_ROOM;
 use crate::tape::{INTEGER, NEGATIVE, STRING, TapeEntry, Token, put_entries};
 
-/// A token in 12 bytes: of an integer `number` and `place` are the low and the high half of its
+/// A token in 12 bytes. For an integer, `number` and `place` are the low and the high half of its
 /// number.
 #[repr(C)]
 #[derive(Clone, Copy, Debug, PartialEq, Eq)]
@@ -20,7 +20,7 @@ pub struct CompactToken {
 /// The kind of a text whose bytes are all ASCII.
 const ASCII: u32 = 9;
 
-/// How many bytes have places of more than 32 bits.
+/// From this many bytes on, places may need more than 32 bits.
 const TOO_MANY: usize = 1 << 32;
 
 fn low_half(n: u64) -> u32
@@ -35,7 +35,7 @@ fn high_half(n: u64) -> u32
     (n >> 32) as u32
 }
 
-/// So many bytes from the place on, as far as they are there.
+/// Returns up to `number` bytes from the place on, as many as there are.
 fn payload_within(bytes: &[u8], place: u32, number: u32) -> &[u8]
     ensures { result.now ≡ take number (drop place bytes.now) }
 {
@@ -49,7 +49,7 @@ fn is_ascii(bytes: &[u8]) -> bool
     bytes.is_ascii()
 }
 
-/// The kind of a token whose payload stands there.
+/// Returns the compact kind of a token whose payload is at the place.
 fn compact_kind(bytes: &[u8], kind: u32, number: u32, place: u32) -> u32
     ensures { result ≡ compact_kind kind (take number (drop place bytes.now)) }
 {
@@ -80,8 +80,8 @@ impl TapeEntry for CompactToken {
     }
 }
 
-/// The compact tape of a block of fewer than 2^32 bytes, as `put_tape` puts a tape; of more bytes
-/// -21.
+/// Writes the compact tape of a block of fewer than 2^32 bytes, as `put_tape` writes a tape.
+/// Returns -21 if there are more bytes.
 pub fn put_compact_tape(bytes: &[u8], tape: &mut [CompactToken], needed: &mut usize) -> i32
     ensures answer { (result, needed.new, tape.new) ≡ compact_tape_answer bytes.now tape.old }
     ensures few { needed.new ≤ length bytes.now }

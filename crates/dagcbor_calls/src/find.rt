@@ -13,14 +13,14 @@ use dagcbor_paths::{Item, Stop, find_segments, find_slice, follow_slice, next_se
 use std::convert::Infallible;
 use std::str::from_utf8;
 
-/// What is answered where the path leads nowhere.
+/// The number returned if the path leads nowhere.
 const NOTHING: i32 = -36;
 
-/// What is answered where the path is no text.
+/// The number returned if the path is not UTF-8 text.
 const NO_TEXT: i32 = -37;
 
-/// Puts where the item that was found in the block stands, if one was; the number of its kind, or why
-/// there is none.
+/// Writes where the item that was found in the block begins and ends, if one was. Returns the
+/// number of its kind, or of why there is none.
 #[tactic(auto, using(crate::proofs::Finding::ends_within))]
 fn put_item(
     block: &[u8],
@@ -42,8 +42,8 @@ fn put_item(
     }
 }
 
-/// The number of the kind of the item to which the path leads in the block, and where it begins and
-/// ends; or why there is none, and then both stay.
+/// Finds the item to which the path leads in the block. Returns the number of its kind, and where
+/// it begins and ends; or the number of why there is none, and then `place` and `end` stay.
 #[tactic(auto, using(crate::proofs::Finding::stands_in))]
 pub fn put_found(block: &[u8], path: &[u8], place: &mut usize, end: &mut usize) -> i32
     ensures { IsFindAnswer block.now path.now (place.old, end.old) (place.new, end.new) result }
@@ -54,8 +54,9 @@ pub fn put_found(block: &[u8], path: &[u8], place: &mut usize, end: &mut usize) 
     put_item(block, &find_slice(block, text), place, end)
 }
 
-/// The number of the kind of the item to which one segment leads in the block, taken whole, and where
-/// that begins and ends; or why there is none, and then both stay.
+/// Finds the item to which one segment, taken whole, leads in the block. Returns the number of its
+/// kind, and where it begins and ends; or the number of why there is none, and then `place` and
+/// `end` stay.
 #[tactic(auto, using(crate::proofs::Finding::stands_in))]
 pub fn put_part(block: &[u8], segment: &[u8], place: &mut usize, end: &mut usize) -> i32
     ensures { IsPartAnswer block.now segment.now (place.old, end.old) (place.new, end.new) result }
@@ -66,7 +67,8 @@ pub fn put_part(block: &[u8], segment: &[u8], place: &mut usize, end: &mut usize
     put_item(block, &find_segments(block, &[text]), place, end)
 }
 
-/// How many bytes of the path were passed, of which this is left.
+/// Returns how many bytes of the path were passed if `left` is the rest: all of them if it has no
+/// segment.
 fn passed(path: &str, left: &str) -> usize
     requires { EndsWith path.now left.now }
     ensures { IsPassed path.now left.now result }
@@ -77,8 +79,8 @@ fn passed(path: &str, left: &str) -> usize
     }
 }
 
-/// Puts where the item stands at which a walk along the path stopped in the block, and how many bytes
-/// of the path were passed; the number of the item's kind.
+/// Writes where the item begins and ends at which a walk along the path stopped in the block, and
+/// how many bytes of the path were passed. Returns the number of the item's kind.
 fn put_stop(block: &[u8], path: &str, stop: &Stop<'_, '_>, places: &mut [usize; 3]) -> i32
     requires { StopsInBlock block.now path.now stop.now }
     ensures { IsFollowAnswer block.now path.now places.old places.new result }
@@ -89,9 +91,9 @@ fn put_stop(block: &[u8], path: &str, stop: &Stop<'_, '_>, places: &mut [usize; 
     kind_code(stop.item.kind)
 }
 
-/// The number of the kind of the last item to which a front of the path leads in the block; where it
-/// begins and ends, and how many bytes of the path lead there. Or why the bytes are no block, or the
-/// path no text, and then the places stay.
+/// Finds the last item on the path in the block. Returns the number of its kind, and writes where
+/// it begins and ends, and how many bytes of the path lead there. If the bytes are not a block, or
+/// the path is not UTF-8 text, it returns the number of why, and the places stay.
 pub fn put_followed(block: &[u8], path: &[u8], places: &mut [usize; 3]) -> i32
     ensures { IsFollowAnswer block.now path.now places.old places.new result }
 {

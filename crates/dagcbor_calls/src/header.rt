@@ -1,4 +1,5 @@
-//! The header at the front of a file's bytes: its roots, packed, and where the first section begins.
+//! The header at the front of a CAR file's bytes: its roots, packed, and where the first section
+//! begins.
 
 ghost use Rattle.std.specs.Prelude.{◌≡◌};
 ghost use Rattle.dagcbor_calls.specs.Codes.{header_code};
@@ -8,7 +9,7 @@ use crate::code::{fault_code, refusal_code};
 use crate::links::put_links;
 use dagcbor_car::{CarError, judge_header};
 
-/// The number of the cause for which no header stands.
+/// Returns the number of the cause for which there is no header.
 pub(crate) fn header_code<E>(fault: &CarError<E>) -> i32
     ensures { result ≡ header_code fault.now }
 {
@@ -18,8 +19,8 @@ pub(crate) fn header_code<E>(fault: &CarError<E>) -> i32
     }
 }
 
-/// Puts the roots of the header at the front into `out`, packed, where there is room for them all,
-/// and where the header ends; or why none stands there.
+/// Writes the roots of the header at the front into `out`, packed, if they all fit, and where the
+/// header ends. Returns 0, or the number of why there is no header.
 pub fn put_header(bytes: &[u8], out: &mut [u8], needed: &mut usize, behind: &mut usize) -> i32
     ensures { IsHeaderAnswer bytes.now out.old out.new needed.new behind.old behind.new result }
 {

@@ -1,5 +1,5 @@
-//! Judging tokens: whether what a tape tells is surely a block. Its bytes need not be there yet: a
-//! head that is made of a number is the shortest one.
+//! Checks on tokens: whether the bytes that a tape encodes are surely a block. These bytes need not
+//! exist yet: a head that is made from a number is always the shortest one.
 
 ghost use Rattle.std.specs.Prelude.{◌≡◌, ◌+◌, ◌<◌, ◌≤◌, length, Some, IfSome, IsUtf8};
 ghost use Rattle.std.specs.Prelude.{option_map};
@@ -16,7 +16,7 @@ use dagcbor_decode::{is_cid, is_text};
 use dagcbor_items::follows;
 use lent_memory::{head_length, link_length, string_length};
 
-/// The text that a token is told with, where its payload is one.
+/// Returns the text of a token, if its payload is UTF-8.
 #[inline(always)]
 fn text_of<'b>(bytes: &'b [u8], token: &Token) -> Option<&'b [u8]>
     ensures { IfSome result (λ s. IsUtf8 s.now
@@ -30,7 +30,7 @@ fn text_of<'b>(bytes: &'b [u8], token: &Token) -> Option<&'b [u8]>
     }
 }
 
-/// The CID that a token is told with, where its payload is one.
+/// Returns the CID of a token, if its payload is one.
 #[inline(always)]
 fn cid_of<'b>(bytes: &'b [u8], token: &Token) -> Option<&'b [u8]>
     ensures { IfSome result (λ s. IsCid s.now
@@ -40,7 +40,7 @@ fn cid_of<'b>(bytes: &'b [u8], token: &Token) -> Option<&'b [u8]>
     if is_cid(payload) { Some(payload) } else { None }
 }
 
-/// How many bytes the item has that the token tells alone, where it surely tells one.
+/// Returns how many bytes the item has that the token alone encodes, if it surely encodes one.
 #[inline(always)]
 fn leaf_length(bytes: &[u8], token: &Token) -> Option<usize>
     ensures { IfSome result (λ n. IsLeafTold
@@ -58,8 +58,8 @@ fn leaf_length(bytes: &[u8], token: &Token) -> Option<usize>
     }
 }
 
-/// The place after the tokens of the item at the place, where these surely tell one that takes no
-/// more than these steps. Its bytes are taken off the room.
+/// Returns the place after the tokens of the item at `at`, if they surely encode one that takes no
+/// more than these steps. Subtracts its bytes from `room`.
 #[cycle(judge)]
 #[inline(always)]
 fn behind_item(
@@ -99,7 +99,7 @@ fn behind_item(
     }
 }
 
-/// The place after so many items.
+/// Returns the place after the tokens of `count` items, as `behind_item` does for one.
 #[cycle(judge)]
 #[inline(never)]
 fn behind_items(
@@ -123,8 +123,8 @@ fn behind_items(
     Some(next)
 }
 
-/// The key at the place, where the token there surely tells one that may follow the one before
-/// it.
+/// Returns the key at the place, if the token there surely encodes one that may follow the previous
+/// one.
 #[inline(always)]
 fn key_at<'b>(
     bytes: &'b [u8],
@@ -153,7 +153,7 @@ fn key_at<'b>(
     Some(key)
 }
 
-/// The place after so many entries.
+/// Returns the place after the tokens of `count` entries, as `behind_item` does for an item.
 #[cycle(judge)]
 #[inline(never)]
 fn behind_entries(
@@ -180,7 +180,7 @@ fn behind_entries(
     Some(next)
 }
 
-/// How many bytes the tape tells, where these are surely a block and no more than these many.
+/// Returns how many bytes the tape encodes, if they are surely a block of at most `most` bytes.
 pub(crate) fn block_length(bytes: &[u8], tape: &[Token], most: usize) -> Option<usize>
     ensures { IfSome result (λ n. (n ≤ most) × TellsBlock bytes.now tape.now n) }
 {

@@ -1,5 +1,5 @@
-//! What the C library does for its calls: answers as numbers, links and tokens in a caller's own
-//! room. No memory is taken.
+//! What the C library does for its calls: answers as numbers, with links and tokens in the caller's
+//! memory. It allocates nothing.
 #![tactic(auto)]
 
 mod cid;

@@ -1,4 +1,4 @@
-//! The links of an item, packed: each a byte of its CID's length, and the CID.
+//! The links of an item, packed: for each, a byte with its CID's length, and the CID.
 
 ghost use Rattle.std.specs.Prelude.{◌≡◌, ◌∷◌, [], List, ℕ};
 ghost use Rattle.ipld_tree.specs.Cid.{cid_bytes};
@@ -14,8 +14,8 @@ use arrayvec::ArrayVec;
 use dagcbor_decode::{first_item, kind_of_front, next_link};
 use ipld_tree::Cid;
 
-/// Memory that is lent for packed links, and how many bytes they need. What has no room in it is
-/// counted alone.
+/// Memory of the caller for packed links, and how many bytes they need. Bytes that do not fit are
+/// only counted.
 #[derive(Drop)]
 struct PackedLinks<'a> {
     out: &'a mut [u8],
@@ -31,7 +31,7 @@ impl<'a> PackedLinks<'a> {
         PackedLinks { out, needed: 0 }
     }
 
-    /// Puts the bytes after those before, and counts them.
+    /// Appends the bytes, and counts them.
     fn put(&mut self, bytes: &[u8])
         ensures { PacksBytes bytes.now self.old self.new }
     {
@@ -39,7 +39,7 @@ impl<'a> PackedLinks<'a> {
         self.needed = self.needed.saturating_add(bytes.len());
     }
 
-    /// Puts a byte of the CID's length, and the CID.
+    /// Appends a byte with the CID's length, and the CID.
     fn put_cid(&mut self, cid: Cid)
         ensures { PacksCid (cid_bytes cid) self.old self.new }
     {
@@ -50,7 +50,7 @@ impl<'a> PackedLinks<'a> {
     }
 }
 
-/// Puts the bytes at the place, where there is room for them.
+/// Writes the bytes at the place, if they fit there.
 fn put_at(out: &mut [u8], at: usize, bytes: &[u8])
     ensures { out.new ≡ put_at at bytes.now out.old }
 {
@@ -59,8 +59,8 @@ fn put_at(out: &mut [u8], at: usize, bytes: &[u8])
     }
 }
 
-/// Puts the links of items in a row at the front of `out`, packed, where there is room for them all;
-/// and how many bytes they need.
+/// Writes the links of consecutive items at the front of `out`, packed, if they all fit. Returns
+/// how many bytes they need.
 fn pack(items: &[u8], out: &mut [u8]) -> usize
     requires { (links : List (List ℕ)) × HoldsLinks items.now links }
     ensures { Packs items.now out.old out.new result }
@@ -76,8 +76,8 @@ fn pack(items: &[u8], out: &mut [u8]) -> usize
     packed.needed
 }
 
-/// Puts the links of fields of a node in a row at the front of `out`, packed, where there is room for
-/// them all; and how many bytes they need.
+/// Writes the links of consecutive fields of a node at the front of `out`, packed, if they all fit.
+/// Returns how many bytes they need.
 pub(crate) fn pack_fields(fields: &[u8], out: &mut [u8]) -> usize
     requires { (row : List Field) × BeginsWithFields fields.now row [] }
     ensures { PacksFields fields.now out.old out.new result }
@@ -93,8 +93,8 @@ pub(crate) fn pack_fields(fields: &[u8], out: &mut [u8]) -> usize
     packed.needed
 }
 
-/// The number of the kind of the first item, whose links are counted, and put at the front of `out`,
-/// packed, where there is room for them all; or that of the refusal.
+/// Writes the links of the first item at the front of `out`, packed, if they all fit, and counts
+/// their bytes in `needed`. Returns the number of the item's kind, or of the refusal.
 pub fn put_links(bytes: &[u8], out: &mut [u8], needed: &mut usize) -> i32
     ensures { (result, needed.new, out.new) ≡ links_answer bytes.now out.old }
 {

@@ -1,4 +1,4 @@
-//! The name of a block.
+//! The name of a block, which is its CID.
 
 ghost use Rattle.std.specs.Prelude.{◌≡◌};
 ghost use Rattle.ipld_tree.specs.Cid.{cid_bytes};
@@ -7,7 +7,7 @@ ghost use Rattle.ipld_links.specs.Names.{block_name};
 use arrayvec::ArrayVec;
 use ipld_links::name_of_block;
 
-/// The binary form of the block's name.
+/// Returns the binary form of the block's name.
 #[tactic(auto, using(crate::proofs::Naming::name_length))]
 pub fn name_of(bytes: &[u8]) -> [u8; 36]
     ensures { result ≡ cid_bytes (block_name bytes.now) }

@@ -1,4 +1,4 @@
-//! Blocks of DAG-PB by their data model, as DAG-CBOR, put into memory of the caller.
+//! Blocks of DAG-PB as DAG-CBOR of their data model, written into the caller's memory.
 
 ghost use Rattle.std.specs.Prelude.{◌≡◌, pos, negsuc, if◌then◌else◌, nat_lt};
 ghost use Rattle.dagcbor_calls.specs.Nodes.{pb_code, node_refusal_code};
@@ -9,10 +9,10 @@ use crate::links::pack_fields;
 use dag_pb::{PbCause, check_node};
 use dag_pb_model::{ModelError, NodeError, put_model, put_node};
 
-/// What is answered where the name of a link is not UTF-8.
+/// The number returned if the name of a link is not UTF-8.
 const NAME_NOT_TEXT: i32 = -58;
 
-/// The number of why bytes are no block of DAG-PB.
+/// Returns the number of why bytes are not a block of DAG-PB.
 fn pb_code(cause: &PbCause) -> i32
     ensures { result ≡ pb_code cause.now }
 {
@@ -25,7 +25,7 @@ fn pb_code(cause: &PbCause) -> i32
     }
 }
 
-/// The number of why data is not written as a node.
+/// Returns the number of why data is not written as a node.
 fn node_refusal_code(refusal: &NodeError) -> i32
     ensures { result ≡ node_refusal_code refusal.now }
 {
@@ -36,14 +36,14 @@ fn node_refusal_code(refusal: &NodeError) -> i32
     }
 }
 
-/// The number of bytes that were put, where there was room for them.
+/// Returns 0 if `count` bytes fit, and else -21.
 fn room_code(count: usize, room: usize) -> i32
     ensures { result ≡ (if nat_lt room count then negsuc 20 else pos 0) }
 {
     if room < count { NO_ROOM } else { 0 }
 }
 
-/// Puts the links of the block of DAG-PB, packed, whatever their names are.
+/// Writes the links of the block of DAG-PB, packed, whatever their names are.
 pub fn put_node_links(node: &[u8], out: &mut [u8], needed: &mut usize, place: &mut usize) -> i32
     ensures { IsNodeLinksAnswer node.now out.old out.new needed.new place.new result }
 {
@@ -64,7 +64,7 @@ pub fn put_node_links(node: &[u8], out: &mut [u8], needed: &mut usize, place: &m
     }
 }
 
-/// Puts the data model of the block of DAG-PB, as a block of DAG-CBOR.
+/// Writes the data model of the block of DAG-PB, as a block of DAG-CBOR.
 pub fn put_from_node(node: &[u8], out: &mut [u8], needed: &mut usize, place: &mut usize) -> i32
     ensures { IsFromNodeAnswer node.now out.old out.new needed.new place.new result }
 {
@@ -83,7 +83,7 @@ pub fn put_from_node(node: &[u8], out: &mut [u8], needed: &mut usize, place: &mu
     }
 }
 
-/// Puts the block of DAG-PB whose data model the block of DAG-CBOR has.
+/// Writes the block of DAG-PB whose data model is the block of DAG-CBOR.
 pub fn put_to_node(block: &[u8], out: &mut [u8], needed: &mut usize) -> i32
     ensures { IsToNodeAnswer block.now out.old out.new needed.new result }
 {

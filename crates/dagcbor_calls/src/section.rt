@@ -1,5 +1,5 @@
-//! What is said of a block under a name; and of the section at the front of a file's bytes, and where
-//! its parts stand.
+//! The verdict on a block under a name; and on the section at the front of a CAR file's bytes, with
+//! the places of its parts.
 
 ghost use Rattle.std.specs.Prelude.{◌≡◌, length};
 ghost use Rattle.ipld_tree.specs.Cid.{cid_bytes};
@@ -14,10 +14,10 @@ use dagcbor_car::{Section, split_section};
 use ipld_links::{Verdict, verify};
 use ipld_tree::Cid;
 
-/// What is answered for a section that is not judged.
+/// The number returned for a section that is not judged.
 const SECTION: i32 = 13;
 
-/// The number of a verdict. Blocks of DAG-PB are not told apart from those that are not read.
+/// Returns the number of a verdict. Blocks of DAG-PB have that of blocks that are not read.
 fn verdict_code(verdict: &Verdict) -> i32
     ensures { result ≡ verdict_code verdict.now }
 {
@@ -33,7 +33,8 @@ fn verdict_code(verdict: &Verdict) -> i32
     }
 }
 
-/// What is said of the block under the name that the bytes are, or that these are no CID.
+/// Returns the number of the verdict on the block under the name, or -26 if the name's bytes are
+/// not a CID.
 pub fn judge_named(name: &[u8], block: &[u8]) -> i32
     ensures { IsVerifyAnswer name.now block.now result }
 {
@@ -43,7 +44,7 @@ pub fn judge_named(name: &[u8], block: &[u8]) -> i32
     }
 }
 
-/// How many bytes the CID has.
+/// Returns how many bytes the CID has.
 fn cid_length(cid: &Cid) -> usize
     ensures { result ≡ length (cid_bytes cid.now) }
 {
@@ -52,7 +53,7 @@ fn cid_length(cid: &Cid) -> usize
     form.len()
 }
 
-/// Where the parts of the section stand that begins the bytes, and after which the rest follows.
+/// Returns where the parts are of the section that begins the bytes, if `rest` follows it.
 pub(crate) fn places_of(bytes: &[u8], section: &Section<'_>, rest: &[u8]) -> [usize; 3]
     requires { SplitsSection bytes.now (section.now.cid, section.now.block.now) rest.now }
     ensures { result ≡ section_places (section.now.cid, section.now.block.now) }
@@ -62,7 +63,7 @@ pub(crate) fn places_of(bytes: &[u8], section: &Section<'_>, rest: &[u8]) -> [us
     [block - cid_length(&section.cid), block, end]
 }
 
-/// The number of the verdict on the section's block, unless that is not to be judged.
+/// Returns the number of the verdict on the section's block, or 13 if that is not to be judged.
 pub(crate) fn section_code(section: &Section<'_>, is_unjudged: bool) -> i32
     ensures { IsSectionCode is_unjudged (section.now.cid, section.now.block.now) result }
 {
@@ -72,8 +73,8 @@ pub(crate) fn section_code(section: &Section<'_>, is_unjudged: bool) -> i32
     verdict_code(&verify(&section.cid, section.block))
 }
 
-/// What is said of the block of the section at the front, whose places are put, or why none stands
-/// there.
+/// Returns the number of the verdict on the block of the section at the front, and writes the
+/// places of its parts; or returns the number of why there is no section.
 pub fn judge_section(bytes: &[u8], places: &mut [usize; 3]) -> i32
     ensures { IsSectionAnswer bytes.now places.old places.new result }
 {

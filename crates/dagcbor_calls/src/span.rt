@@ -1,12 +1,12 @@
-//! Where the file of version 1 stands in a CAR file.
+//! Where the file of version 1 is in a CAR file.
 
 ghost use Rattle.dagcbor_calls.specs.Spans.{IsSpanAnswer};
 
 use crate::code::fault_code;
 use dagcbor_car::file_span;
 
-/// Puts where the file of version 1 begins and ends, by the front of the file's bytes: of version 1 all
-/// of it; or why they do not tell it.
+/// Writes where the file of version 1 begins and ends, as the front of the CAR file's bytes says.
+/// In a file of version 1 it is the whole. Returns 0, or the number of why the bytes do not tell.
 pub fn put_span(bytes: &[u8], places: &mut [u64; 2]) -> i32
     ensures { IsSpanAnswer bytes.now places.old places.new result }
 {

@@ -1,4 +1,4 @@
-//! The bytes that a tape tells, and whether they are a block.
+//! The bytes that a tape encodes, and whether they are a block.
 
 ghost use Rattle.std.specs.Prelude.{◌≡◌, ◌≤◌, Some, List, ℕ};
 ghost use Rattle.dagcbor_calls.specs.Told.{payload_at, string_told, link_told, token_bytes};
@@ -13,7 +13,7 @@ use crate::told::told_length;
 use dagcbor_decode::kind_of_front;
 use lent_memory::{put, put_head, put_link, put_string};
 
-/// So many bytes from a place on, which are there.
+/// Returns n bytes from the place on, which must be there.
 #[inline(always)]
 fn payload_told(bytes: &[u8], place: u64, n: u64) -> &[u8]
     requires { (s : List ℕ) × (payload_at bytes.now place n ≡ Some s) }
@@ -48,7 +48,8 @@ fn put_told_link(out: &mut [u8], at: usize, bytes: &[u8], token: &Token) -> usiz
     put_link(out, at, payload_told(bytes, token.place, token.number))
 }
 
-/// Puts what the token tells at the place, which has room for it: the place after it.
+/// Writes the bytes that the token encodes at the place, which has room for them. Returns the place
+/// after them.
 #[inline(always)]
 fn put_told(out: &mut [u8], at: usize, bytes: &[u8], token: &Token) -> usize
     requires { HasRoomAt (token_bytes bytes.now token.now.kind token.now.number token.now.place) at
@@ -69,7 +70,7 @@ fn put_told(out: &mut [u8], at: usize, bytes: &[u8], token: &Token) -> usize
     }
 }
 
-/// Puts what the tape tells at the front of `out`.
+/// Writes the bytes that the tape encodes at the front of `out`.
 #[inline(never)]
 fn fill(bytes: &[u8], tape: &[Token], out: &mut [u8])
     requires { HasRoomFor bytes.now tape.now out.old }
@@ -81,10 +82,10 @@ fn fill(bytes: &[u8], tape: &[Token], out: &mut [u8])
     }
 }
 
-/// What is answered of a tape with a token that is none.
+/// The number returned for a tape with an invalid token.
 const NO_TOKEN: i32 = -20;
 
-/// Puts what the tape tells at the front of `out`, where there is room for it, and judges it.
+/// Writes the bytes that the tape encodes at the front of `out`, if they fit, and judges them.
 pub fn spell_tape(bytes: &[u8], tape: &[Token], out: &mut [u8], needed: &mut usize) -> i32
     ensures { (result, needed.new, out.new) ≡ spell_answer bytes.now tape.now out.old }
 {
@@ -96,7 +97,7 @@ pub fn spell_tape(bytes: &[u8], tape: &[Token], out: &mut [u8], needed: &mut usi
     spell_slowly(bytes, tape, out, needed)
 }
 
-/// Counts what any tape tells, puts it, and judges its bytes.
+/// Counts the bytes that any tape encodes, writes them, and judges them.
 #[cold]
 #[inline(never)]
 fn spell_slowly(bytes: &[u8], tape: &[Token], out: &mut [u8], needed: &mut usize) -> i32

@@ -1,4 +1,4 @@
-//! A block as a row of tokens: its heads, from which a caller builds values of its own.
+//! A block as a list of tokens: its heads, from which a caller builds values of its own.
 
 ghost use Rattle.std.specs.Prelude.{◌≡◌, ◌-◌, ◌<◌, ◌≤◌, ℕ, List, length, map, drop, slice_set};
 ghost use Rattle.std.specs.Prelude.{MatchOption};
@@ -45,9 +45,9 @@ const LINK: u64 = 7;
 
 pub(crate) const NEGATIVE: u64 = 8;
 
-/// What stands in a tape for a token.
+/// An entry of a tape, which is made of a token.
 pub(crate) trait TapeEntry: Copy {
-    /// What is made of a token of these bytes.
+    /// The entry that is made of a token of these bytes.
     ghost made: { List ℕ → Token → Self };
 
     fn made(bytes: &[u8], token: Token) -> Self
@@ -62,7 +62,7 @@ impl TapeEntry for Token {
     }
 }
 
-/// A token whose place is that of what follows it, in so many bytes.
+/// Returns a token whose place is that of `behind`, what follows it, in `whole` bytes.
 fn token_before(kind: u64, number: u64, whole: usize, behind: &[u8]) -> Token
     requires { length behind.now ≤ whole }
     ensures { result ≡ token kind number (whole - length behind.now) }
@@ -74,7 +74,7 @@ fn token_before(kind: u64, number: u64, whole: usize, behind: &[u8]) -> Token
     }
 }
 
-/// What follows n bytes.
+/// Returns what follows n bytes.
 fn behind_payload(bytes: &[u8], n: u64) -> Option<&[u8]>
     ensures { MatchOption result (length bytes.now < n)
         (λ rest. (n ≤ length bytes.now) × (rest.now ≡ drop n bytes.now)) }
@@ -85,7 +85,7 @@ fn behind_payload(bytes: &[u8], n: u64) -> Option<&[u8]>
     Some(&bytes[n as usize..])
 }
 
-/// The token of a simple value: false, true or null.
+/// Returns the token of a simple value: false, true or null.
 fn simple_token(value: u64, whole: usize, behind: &[u8]) -> Option<Token>
     requires { length behind.now ≤ whole }
     ensures { MatchOption result (20 ≤ value → ¬ (value ≤ 22))
@@ -99,7 +99,7 @@ fn simple_token(value: u64, whole: usize, behind: &[u8]) -> Option<Token>
     }
 }
 
-/// The token of a link, whose tag was split off, and what follows its CID.
+/// Returns the token of a link, whose tag was split off, and what follows its CID.
 fn split_link(bytes: &[u8], whole: usize) -> Option<(Token, &[u8])>
     requires { length bytes.now ≤ whole }
     ensures tokens { SplitsLinkIfThere (λ p. p.0) (λ p. p.1.now) whole bytes.now result }
@@ -120,7 +120,8 @@ fn split_link(bytes: &[u8], whole: usize) -> Option<(Token, &[u8])>
     Some((token_before(LINK, count - 1, whole, cid), rest))
 }
 
-/// The token of a link after a tag of this number, and what follows its CID: only 42 tags a link.
+/// Returns the token of a link after a tag of this number, which must be 42, and what follows its
+/// CID.
 fn split_tagged(number: u64, bytes: &[u8], whole: usize) -> Option<(Token, &[u8])>
     requires { length bytes.now ≤ whole }
     ensures tokens { number ≡ 42
@@ -133,7 +134,7 @@ fn split_tagged(number: u64, bytes: &[u8], whole: usize) -> Option<(Token, &[u8]
     split_link(bytes, whole)
 }
 
-/// The token of the head at the front, and what follows it and its payload.
+/// Returns the token of the head at the front, and what follows it and its payload.
 #[inline(always)]
 fn split_token(bytes: &[u8], whole: usize) -> Option<(Token, &[u8])>
     requires { length bytes.now ≤ whole }
@@ -162,7 +163,7 @@ fn split_token(bytes: &[u8], whole: usize) -> Option<(Token, &[u8])>
     }
 }
 
-/// Puts the entry at the place, where there is room for it.
+/// Writes the entry at the place, if there is room for it.
 fn put_entry<T: TapeEntry>(tape: &mut [T], at: usize, entry: T)
     ensures { at < length tape.old → tape.new ≡ slice_set tape.old at entry }
 {
@@ -171,8 +172,8 @@ fn put_entry<T: TapeEntry>(tape: &mut [T], at: usize, entry: T)
     }
 }
 
-/// Puts what is made of the tokens that stand one after the other from the front, as those of a block
-/// do, at the front of the tape, where there is room for it all: how many there are.
+/// Writes the entries of the tokens that follow one another from the front, as those of a block do,
+/// at the front of the tape, if they all fit. Returns how many there are.
 fn put_tokens<T: TapeEntry>(bytes: &[u8], tape: &mut [T]) -> usize
     ensures few { result ≤ length bytes.now }
     ensures tokens { PutsTokens (T.made bytes.now) bytes.now tape.old tape.new result }
@@ -188,8 +189,8 @@ fn put_tokens<T: TapeEntry>(bytes: &[u8], tape: &mut [T]) -> usize
     count
 }
 
-/// Puts what is made of the tokens of the bytes at the front of the tape, where there is room for them
-/// all, else the tape stays: how many there are.
+/// Writes the entries of the tokens of the bytes at the front of the tape, if they all fit, and
+/// else leaves the tape. Returns how many there are.
 fn put_whole<T: TapeEntry>(bytes: &[u8], tape: &mut [T]) -> usize
     ensures few { result ≤ length bytes.now }
     ensures tokens { (t : Tree) → IsSpelling bytes.now t → (result ≡ length (tape_of t))
@@ -198,7 +199,7 @@ fn put_whole<T: TapeEntry>(bytes: &[u8], tape: &mut [T]) -> usize
         × (result ≡ length tokens)
         × (tape.new ≡ with_tokens (map (T.made bytes.now) tokens) tape.old) }
 {
-    // A tape with a place for each byte has room, and wants no count before.
+    // A tape with a place for each byte has room, and needs no count first.
     if tape.len() < bytes.len() {
         let needed = put_tokens::<Token>(bytes, &mut []);
         if needed > tape.len() {
@@ -208,8 +209,8 @@ fn put_whole<T: TapeEntry>(bytes: &[u8], tape: &mut [T]) -> usize
     put_tokens(bytes, tape)
 }
 
-/// The number of the kind of a block, whose tokens are counted, and what is made of them put at the
-/// front of the tape where there is room for it all; below 0 that of the refusal.
+/// Counts the tokens of a block, and writes their entries at the front of the tape if they all fit.
+/// Returns the number of the block's kind, or that of the refusal, below 0.
 pub(crate) fn put_entries<T: TapeEntry>(bytes: &[u8], tape: &mut [T], needed: &mut usize) -> i32
     ensures answer { (result, needed.new, tape.new)
         ≡ decoded_tape (λ t. map (T.made bytes.now) (tape_of t)) (decode bytes.now) tape.old }
@@ -225,8 +226,8 @@ pub(crate) fn put_entries<T: TapeEntry>(bytes: &[u8], tape: &mut [T], needed: &m
     }
 }
 
-/// The number of the kind of a block, whose tokens are counted, and put at the front of the tape
-/// where there is room for them all; below 0 that of the refusal.
+/// Counts the tokens of a block, and writes them at the front of the tape if they all fit. Returns
+/// the number of the block's kind, or that of the refusal, below 0.
 pub fn put_tape(bytes: &[u8], tape: &mut [Token], needed: &mut usize) -> i32
     ensures answer { (result, needed.new, tape.new) ≡ tape_answer bytes.now tape.old }
     ensures few { needed.new ≤ length bytes.now }
@@ -234,8 +235,9 @@ pub fn put_tape(bytes: &[u8], tape: &mut [Token], needed: &mut usize) -> i32
     put_entries(bytes, tape, needed)
 }
 
-/// The number of the kind of a block, whose tokens are counted and put as by `put_tape`; of refused
-/// bytes that of the refusal, and the tokens before its place are.
+/// Counts and writes the tokens of a block as `put_tape` does, and returns the number of its kind.
+/// For refused bytes it returns the number of the refusal, and counts and writes the tokens before
+/// its place.
 pub fn put_front_tape(
     bytes: &[u8],
     tape: &mut [Token],

@@ -1,4 +1,4 @@
-//! How many bytes tokens tell.
+//! How many bytes tokens encode.
 
 ghost use Rattle.std.specs.Prelude.{◌≡◌, ◌<◌, ◌≤◌, Some, None, MatchOption};
 ghost use Rattle.dagcbor_calls.specs.Told.{payload_at, token_bytes, TellsLength, CountsTold};
@@ -6,7 +6,7 @@ ghost use Rattle.dagcbor_calls.specs.Told.{payload_at, token_bytes, TellsLength,
 use crate::tape::Token;
 use lent_memory::{head_length, link_length, string_length};
 
-/// So many bytes from a place on.
+/// Returns n bytes from the place on, if they are there.
 #[inline(always)]
 pub(crate) fn payload_at(bytes: &[u8], place: u64, n: u64) -> Option<&[u8]>
     ensures { MatchOption result (payload_at bytes.now place n ≡ None)
@@ -20,7 +20,7 @@ pub(crate) fn payload_at(bytes: &[u8], place: u64, n: u64) -> Option<&[u8]>
     Some(&bytes[from..from + count])
 }
 
-/// How many bytes a simple value has, where its number is no more than this.
+/// Returns how many bytes a simple value has, if its number is at most `most`.
 #[inline(always)]
 pub(crate) fn simple_length(number: u64, most: u64) -> Option<usize>
     ensures { MatchOption result (most < number) (λ n. (number ≤ most) × (n ≡ 1)) }
@@ -28,7 +28,7 @@ pub(crate) fn simple_length(number: u64, most: u64) -> Option<usize>
     if number > most { None } else { Some(1) }
 }
 
-/// How many bytes a token tells, where it is one.
+/// Returns how many bytes a token encodes, if it is valid.
 #[inline(always)]
 fn token_length(bytes: &[u8], token: &Token) -> Option<usize>
     ensures { TellsLength (token_bytes bytes.now token.now.kind token.now.number token.now.place)
@@ -48,7 +48,8 @@ fn token_length(bytes: &[u8], token: &Token) -> Option<usize>
     }
 }
 
-/// How many bytes the tape tells, where each of its tokens is one. The sum has room for any tape.
+/// Returns how many bytes the tape encodes, if each of its tokens is valid. The sum has room for
+/// any tape.
 #[inline(never)]
 pub(crate) fn told_length(bytes: &[u8], tape: &[Token]) -> Option<usize>
     ensures { CountsTold bytes.now tape.now result }

@@ -1,4 +1,4 @@
-//! A walk through a CAR file: what comes next, by the bytes at hand.
+//! A walk through a CAR file: what comes next in the bytes at hand.
 
 ghost use Rattle.std.specs.Prelude.{◌≡◌, ◌+◌, ◌^◌, ◌<◌, ◌↔◌, length, IsTrue};
 ghost use Rattle.dagcbor_car.specs.Versions.{HasSpan, begin_of, length_of};
@@ -10,21 +10,21 @@ use crate::header::header_code;
 use crate::section::{places_of, section_code};
 use dagcbor_car::{CarError, Span, file_span, judge_header, split_section};
 
-/// Where a walk through a CAR file is. All zeros at its beginning.
+/// The state of a walk through a CAR file. All zeros at its beginning.
 #[repr(C)]
 #[derive(Clone, Copy, Debug, PartialEq, Eq)]
 pub struct CarWalk {
     /// The offset in the file of the next byte that the walk needs.
     pub place: u64,
-    /// Where the sections end, once the version is known; of version 1 2^64 - 1.
+    /// The offset at which the sections end, once the version is known; 2^64 - 1 for version 1.
     pub end: u64,
-    /// 0 until it is known.
+    /// The version of the file, or 0 until it is known.
     pub version: u32,
-    /// 0 where the header comes next.
+    /// 0 if the header comes next, and else 1.
     pub step: u32,
 }
 
-/// What is answered beside verdicts and faults.
+/// The numbers returned besides verdicts and faults.
 const MORE: i32 = 10;
 
 const HEADER: i32 = 11;
@@ -33,7 +33,7 @@ const END: i32 = 12;
 
 const INVALID_OFFSET: i32 = -35;
 
-/// Those of the bytes at hand that are of the file of version 1.
+/// Returns the bytes at hand that belong to the file of version 1.
 fn shown<'a>(walk: &CarWalk, bytes: &'a [u8]) -> &'a [u8]
     ensures { result.now ≡ shown walk.now bytes.now }
 {
@@ -44,14 +44,14 @@ fn shown<'a>(walk: &CarWalk, bytes: &'a [u8]) -> &'a [u8]
     bytes
 }
 
-/// Whether more of them may follow.
+/// Returns whether more bytes of that file may follow.
 fn may_grow(walk: &CarWalk, bytes: &[u8], is_last: bool) -> bool
     ensures { result ≡ may_grow is_last walk.now bytes.now }
 {
     !is_last && (bytes.len() as u64) < walk.end.saturating_sub(walk.place)
 }
 
-/// The number of a cause, or that more bytes are needed.
+/// Returns the number of a cause, or that more bytes are needed.
 fn code_or_more<E>(fault: &CarError<E>, may_grow: bool, code: i32) -> i32
     ensures { result ≡ code_or_more fault.now may_grow code }
 {
@@ -61,7 +61,7 @@ fn code_or_more<E>(fault: &CarError<E>, may_grow: bool, code: i32) -> i32
     }
 }
 
-/// The header, after so many bytes that were passed, or why none stands first.
+/// Takes the header, after the bytes that were passed, or returns the number of why there is none.
 fn next_header(
     walk: &mut CarWalk,
     bytes: &[u8],
@@ -86,14 +86,14 @@ fn next_header(
     }
 }
 
-/// Whether the sections are at their end.
+/// Returns whether the sections are at their end.
 fn is_at_end(walk: &CarWalk, bytes: &[u8], is_last: bool) -> bool
     ensures { IsTrue result ↔ IsAtEnd is_last walk.now bytes.now }
 {
     walk.end <= walk.place || (walk.version != 2 && bytes.is_empty() && is_last)
 }
 
-/// The section at the front, or the end, or why neither is there.
+/// Takes the section at the front, or finds the end, or returns the number of why there is neither.
 fn next_section(
     walk: &mut CarWalk,
     bytes: &[u8],
@@ -118,7 +118,7 @@ fn next_section(
     }
 }
 
-/// The header of the file of version 1 that stands so in one of version 2.
+/// Takes the header of the file of version 1 that is so placed in a file of version 2.
 fn next_in_span(
     walk: &mut CarWalk,
     bytes: &[u8],
@@ -141,7 +141,8 @@ fn next_in_span(
     next_header(walk, &bytes[passed..], passed, is_last, places)
 }
 
-/// The header of a file of either version, whose front the bytes are, or why none comes.
+/// Takes the header of a file of either version that begins with these bytes, or returns the number
+/// of why there is none.
 fn next_at_front(walk: &mut CarWalk, bytes: &[u8], is_last: bool, places: &mut [usize; 3]) -> i32
     ensures { IsFrontStep is_last walk.old bytes.now places.old walk.new places.new result }
 {
@@ -156,8 +157,9 @@ fn next_at_front(walk: &mut CarWalk, bytes: &[u8], is_last: bool, places: &mut [
     }
 }
 
-/// What comes next in a CAR file, of which the bytes are those from `walk.place` on. `how` is the
-/// sum of 1, where no bytes follow them, and of 2, where sections are not judged.
+/// Takes what comes next in a CAR file; the bytes are those from `walk.place` on. `how` is the sum
+/// of 1, if no bytes follow them, and of 2, if sections are not judged. Returns its number, and
+/// writes the places of its parts.
 pub fn next_of_car(walk: &mut CarWalk, bytes: &[u8], how: u32, places: &mut [usize; 3]) -> i32
     ensures { IsNextAnswer how walk.old bytes.now places.old walk.new places.new result }
 {

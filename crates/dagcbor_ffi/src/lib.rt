@@ -1,8 +1,9 @@
-//! DAG-CBOR for callers in other languages: the judge of blocks, what a path leads to, the links of an
-//! item, a block's name, the header and the sections of a CAR file, and the text of CIDs, by the C ABI.
+//! DAG-CBOR for callers in other languages, by the C ABI: whether bytes are a block, what a path
+//! leads to, the links of an item, a block's name, the header and the sections of a CAR file, and
+//! the text of CIDs.
 //!
-//! A slice crosses as a pointer and a length. `include/dagcbor.h` has what C declares, and
-//! `docs/OTHER_LANGUAGES.md` what a caller owes.
+//! A slice crosses as a pointer and a length. `include/dagcbor.h` has the C declarations, and
+//! `docs/OTHER_LANGUAGES.md` what a caller must ensure.
 #![tactic(auto)]
 
 ghost use Rattle.std.specs.Prelude.{◌≡◌, ◌≤◌, length};
@@ -27,7 +28,7 @@ use dagcbor_calls::{
     put_to_node, spell_tape,
 };
 
-/// The number of the kind of a block, from 0; below 0 that of the refusal.
+/// Returns the number of the kind of a block, at least 0, or that of the refusal, below 0.
 #[unsafe(no_mangle)]
 pub extern "C" fn dagcbor_check(bytes: &[u8]) -> i32
     ensures { result ≡ check_code bytes.now }
@@ -35,10 +36,10 @@ pub extern "C" fn dagcbor_check(bytes: &[u8]) -> i32
     check(bytes)
 }
 
-/// The number of the kind of the first item, from 0; below 0 that of the refusal. What follows the
-/// item is not looked at. `needed` becomes the length of its links, packed: each a byte of its
-/// CID's length, and the CID. Where `out` has room for them all they are put at its front, and else
-/// it stays.
+/// Returns the number of the kind of the first item, at least 0, or that of the refusal, below 0.
+/// Bytes after the item are ignored. `needed` becomes the length of its links in bytes, packed: for
+/// each, a byte with its CID's length, and the CID. If they all fit, they are put at the front of
+/// `out`; else `out` stays.
 #[unsafe(no_mangle)]
 pub extern "C" fn dagcbor_links(bytes: &[u8], out: &mut [u8], needed: &mut usize) -> i32
     ensures { (result, needed.new, out.new) ≡ links_answer bytes.now out.old }
@@ -46,9 +47,9 @@ pub extern "C" fn dagcbor_links(bytes: &[u8], out: &mut [u8], needed: &mut usize
     put_links(bytes, out, needed)
 }
 
-/// The number of the kind of a block, from 0; below 0 that of the refusal. `needed` becomes the number
-/// of its tokens, in the order of its spelling; they are no more than its bytes. Where `tape` has room
-/// for them all they are put at its front, and else it stays.
+/// Returns the number of the kind of a block, at least 0, or that of the refusal, below 0. `needed`
+/// becomes the number of its tokens, which are in the order of its spelling, and no more than its
+/// bytes. If they all fit, they are put at the front of `tape`; else `tape` stays.
 #[unsafe(no_mangle)]
 pub extern "C" fn dagcbor_tape(bytes: &[u8], tape: &mut [Token], needed: &mut usize) -> i32
     ensures answer { (result, needed.new, tape.new) ≡ tape_answer bytes.now tape.old }
@@ -57,9 +58,9 @@ pub extern "C" fn dagcbor_tape(bytes: &[u8], tape: &mut [Token], needed: &mut us
     put_tape(bytes, tape, needed)
 }
 
-/// What `dagcbor_tape` does, in tokens of 12 bytes: of an integer `number` and `place` are the low and the
-/// high half of its number, and 9 is the kind of a text whose bytes are all below 0x80. Of 2^32 bytes
-/// or more -21 is answered; then `needed` becomes 0, and `tape` stays.
+/// Does what `dagcbor_tape` does, with tokens of 12 bytes: for an integer, `number` and `place` are
+/// the low and the high half of its number, and 9 is the kind of a text whose bytes are all below
+/// 0x80. For 2^32 bytes or more it returns -21, `needed` becomes 0, and `tape` stays.
 #[unsafe(no_mangle)]
 pub extern "C" fn dagcbor_compact_tape(
     bytes: &[u8],
@@ -72,11 +73,11 @@ pub extern "C" fn dagcbor_compact_tape(
     put_compact_tape(bytes, tape, needed)
 }
 
-/// The answer of `dagcbor_check`. Of a block, what `dagcbor_tape` does, and `place` becomes the number of
-/// its bytes. Of refused bytes `place` becomes that of the fault: of so many bytes only missing
-/// bytes are told, or they are an item, and with the next one the refusal stands. `needed` becomes the number of tokens that
-/// stand whole before it; where `tape` has room for them all they are put at its front, and else it
-/// stays.
+/// Returns what `dagcbor_check` does. For a block it does what `dagcbor_tape` does, and `place`
+/// becomes the number of its bytes. For refused bytes `place` becomes the place of the fault: the
+/// bytes before it lack only more bytes, or are an item, and the next byte causes the refusal.
+/// `needed` becomes the number of whole tokens before that place; if they all fit, they are put at
+/// the front of `tape`; else `tape` stays.
 #[unsafe(no_mangle)]
 pub extern "C" fn dagcbor_tokens(
     bytes: &[u8],
@@ -89,9 +90,10 @@ pub extern "C" fn dagcbor_tokens(
     put_front_tape(bytes, tape, needed, place)
 }
 
-/// Puts the bytes that a tape tells at the front of `out`, where there is room for them, and judges
-/// them as `dagcbor_check`. Its payloads are taken from `bytes`. `needed` becomes the number of these
-/// bytes. -20 is answered where a token tells nothing, and -21 where there is no room; then `out` stays.
+/// Puts the bytes that a tape encodes at the front of `out`, if they fit, and judges them as
+/// `dagcbor_check` does. The payloads of its tokens are taken from `bytes`. `needed` becomes the
+/// number of encoded bytes. It returns -20 if a token is invalid, and -21 if there is no room; then
+/// `out` stays.
 #[unsafe(no_mangle)]
 pub extern "C" fn dagcbor_spell(
     bytes: &[u8],
@@ -104,11 +106,11 @@ pub extern "C" fn dagcbor_spell(
     spell_tape(bytes, tape, out, needed)
 }
 
-/// The number of the kind, from 0, of the item to which the path leads in the block: segments between
-/// slashes, of which empty ones say nothing, each a key of a map, or the index of an item of a list in
-/// decimal. `place` becomes where the item begins, and `end` where it ends. Below 0 the number of the
-/// refusal of `dagcbor_check`, -36 where the path leads nowhere, and -37 where it is not UTF-8; then
-/// both stay.
+/// Returns the number of the kind, at least 0, of the item to which the path leads in the block. A
+/// path is segments between slashes, and empty ones are skipped; each is a key of a map, or the
+/// index of an item of a list in decimal. `place` becomes where the item begins, and `end` where it
+/// ends, in bytes. Else it returns the number of the refusal of `dagcbor_check`, -36 if the path
+/// leads nowhere, or -37 if it is not UTF-8; then both stay.
 #[unsafe(no_mangle)]
 pub extern "C" fn dagcbor_find(block: &[u8], path: &[u8], place: &mut usize, end: &mut usize) -> i32
     ensures { IsFindAnswer block.now path.now (place.old, end.old) (place.new, end.new) result }
@@ -116,8 +118,8 @@ pub extern "C" fn dagcbor_find(block: &[u8], path: &[u8], place: &mut usize, end
     put_found(block, path, place, end)
 }
 
-/// The answer of `dagcbor_find` for a path that is this one segment, which is taken whole: from a map it
-/// leads to the value of that key, which may have slashes or be empty.
+/// Returns what `dagcbor_find` does for a path of this one segment, which is taken whole: in a map
+/// it leads to the value of that key, which may have slashes or be empty.
 #[unsafe(no_mangle)]
 pub extern "C" fn dagcbor_part(
     block: &[u8],
@@ -130,11 +132,12 @@ pub extern "C" fn dagcbor_part(
     put_part(block, segment, place, end)
 }
 
-/// The number of the kind, from 0, of the last item to which a front of the path leads in the block.
-/// `places` become where the item begins, where it ends, and how many bytes of the path lead there: all
-/// of them where the whole path does. Where some are left and the item is a link, the path goes on in
-/// the block of that name; else it leads nowhere. Below 0 the number of the refusal of `dagcbor_check`,
-/// and -37 where the path is not UTF-8; then the places stay.
+/// Returns the number of the kind, at least 0, of the last item on the path in the block. `places`
+/// become where the item begins, where it ends, and how many bytes of the path lead there: all of
+/// them if the whole path does. If some are left and the item is a link, the path goes on in the
+/// block of that name; otherwise it leads nowhere. If the bytes are not a block, it returns the
+/// number of the refusal of `dagcbor_check`, and if the path is not UTF-8, -37; then the places
+/// stay.
 #[unsafe(no_mangle)]
 pub extern "C" fn dagcbor_follow(block: &[u8], path: &[u8], places: &mut [usize; 3]) -> i32
     ensures { IsFollowAnswer block.now path.now places.old places.new result }
@@ -142,8 +145,8 @@ pub extern "C" fn dagcbor_follow(block: &[u8], path: &[u8], places: &mut [usize;
     put_followed(block, path, places)
 }
 
-/// Puts the block's name into `out`: the CID of version 1, of the codec DAG-CBOR, by the SHA-256 of
-/// the bytes.
+/// Puts the block's name into `out`: the CID of version 1, with the codec DAG-CBOR and the SHA-256
+/// of the bytes.
 #[unsafe(no_mangle)]
 pub extern "C" fn dagcbor_name(bytes: &[u8], out: &mut [u8; 36])
     ensures { out.new ≡ cid_bytes (block_name bytes.now) }
@@ -151,10 +154,10 @@ pub extern "C" fn dagcbor_name(bytes: &[u8], out: &mut [u8; 36])
     *out = name_of(bytes);
 }
 
-/// What is said of the block under the CID that the bytes `cid` are: from 0 the number of its kind, or 9
-/// where the CID is of another codec; below 0 that of the refusal, or -22 where the CID is not the
-/// block's, or -23 where it is by a hash function that is not known here. -26 where the bytes are no
-/// CID.
+/// Returns the verdict on the block under the CID whose bytes are `cid`: the number of the block's
+/// kind, at least 0, or 9 if the CID has another codec; the number of the refusal, below 0; -22 if
+/// the CID does not match the block; -23 if its hash function is not known here; or -26 if the
+/// bytes are not a CID.
 #[unsafe(no_mangle)]
 pub extern "C" fn dagcbor_verify(cid: &[u8], block: &[u8]) -> i32
     ensures { IsVerifyAnswer cid.now block.now result }
@@ -162,12 +165,12 @@ pub extern "C" fn dagcbor_verify(cid: &[u8], block: &[u8]) -> i32
     judge_named(cid, block)
 }
 
-/// What is said of the block of the section that begins the bytes of a CAR file: from 0 the
-/// number of its kind, or 9 where its CID is of another codec; below 0 that of the refusal, or -22
-/// where the CID is not the block's, or -23 where it is by a hash function that is not known here.
+/// Returns the verdict on the block of the section that begins the bytes of a CAR file: the number
+/// of the block's kind, at least 0, or 9 if its CID has another codec; the number of the refusal,
+/// below 0; -22 if the CID does not match the block; or -23 if its hash function is not known here.
 /// `places` become those of the section: where its CID begins, where its block does, and where it
-/// ends. Where no section begins the bytes they stay: -24 where the bytes end too early, -25 where no
-/// length stands first, and -26 where no CID stands after it.
+/// ends. If no section begins the bytes, the places stay, and it returns -24 if the bytes end too
+/// early, -25 if they do not begin with a length, or -26 if no CID follows that.
 #[unsafe(no_mangle)]
 pub extern "C" fn dagcbor_car_section(bytes: &[u8], places: &mut [usize; 3]) -> i32
     ensures { IsSectionAnswer bytes.now places.old places.new result }
@@ -175,10 +178,10 @@ pub extern "C" fn dagcbor_car_section(bytes: &[u8], places: &mut [usize; 3]) -> 
     judge_section(bytes, places)
 }
 
-/// Where the file of version 1 stands in a CAR file, of which the bytes are the front: 51 of them
-/// are enough. 0, and `places` become where it begins and where it ends: of version 2 what its header
-/// says, and of version 1 0 and 2^64 - 1. Below 0 the number of the cause, and then they stay: -24
-/// where more bytes are wanted, -35 where the offsets are none.
+/// Finds where the file of version 1 is in a CAR file that begins with these bytes: 51 of them are
+/// enough. Returns 0, and `places` become where it begins and where it ends: in version 2 as its
+/// header says, and in version 1 at 0 and 2^64 - 1. Else it returns the number of the cause, and
+/// the places stay: -24 if more bytes are needed, -35 if the offsets are invalid.
 #[unsafe(no_mangle)]
 pub extern "C" fn dagcbor_car_span(bytes: &[u8], places: &mut [u64; 2]) -> i32
     ensures { IsSpanAnswer bytes.now places.old places.new result }
@@ -186,12 +189,12 @@ pub extern "C" fn dagcbor_car_span(bytes: &[u8], places: &mut [u64; 2]) -> i32
     put_span(bytes, places)
 }
 
-/// The header that begins the bytes of a CAR file, of version 1. 0 where one does: `behind`
-/// becomes where the first section begins, and `needed` the length of its roots, packed as
-/// `dagcbor_links` packs links; where `out` has room for them all they are put at its front, and else it
-/// stays. Below 0 the number of the cause: -24 and -25 as of a section, that of the refusal where no
-/// block stands after the length, and -27 where it is another one than that of roots and of version
-/// 1. Then `needed` becomes 0, and the rest stays.
+/// Reads the header, of version 1, that begins the bytes of a CAR file. Returns 0 if there is one:
+/// `behind` becomes where the first section begins, and `needed` the length of its roots, packed as
+/// `dagcbor_links` packs links; if they all fit, they are put at the front of `out`; else `out`
+/// stays. Else it returns the number of the cause: -24 and -25 as for a section, that of the
+/// refusal if no block follows the length, and -27 if the block is not a header of roots and of
+/// version 1. Then `needed` becomes 0, and the rest stays.
 #[unsafe(no_mangle)]
 pub extern "C" fn dagcbor_car_header(
     bytes: &[u8],
@@ -204,14 +207,15 @@ pub extern "C" fn dagcbor_car_header(
     put_header(bytes, out, needed, behind)
 }
 
-/// What comes next in a CAR file, of version 1 or 2, of which the bytes are those from `walk.place`
-/// on, as that is when the call begins. `how` is the sum of 1, where no bytes follow them, and of 2, where
-/// blocks are not to be judged. The answer is 10 where more bytes are needed; 11 for the header, first; for
-/// a section what `dagcbor_car_section` answers, and 13 where it is not judged; 12 at the end of the
-/// sections; or, below 0, the cause for which none of these comes, as the calls above tell it. `places`
-/// become those of the header, where it begins, where its block does and where it ends, and those of a
-/// section, counted from these bytes; and `walk.place` moves to its end. Else the places stay. Once the
-/// offsets of version 2 are known `walk.place` moves to where the file of version 1 begins.
+/// Takes what comes next in a CAR file, of version 1 or 2. The bytes are those from `walk.place`
+/// on, as it is when the call begins. `how` is the sum of 1, if no bytes follow them, and of 2, if
+/// blocks are not to be judged. Returns 10 if more bytes are needed; 11 for the header, which comes
+/// first; for a section what `dagcbor_car_section` does, or 13 if it is not judged; 12 at the end
+/// of the sections; or, below 0, the cause for which there is none of these, as the calls above
+/// return it. `places` become those of the header, where it begins, where its block does and where
+/// it ends, or those of a section, counted from these bytes; and `walk.place` moves to its end.
+/// Else the places stay. Once the offsets of version 2 are known, `walk.place` moves to where the
+/// file of version 1 begins.
 #[unsafe(no_mangle)]
 pub extern "C" fn dagcbor_car_next(
     walk: &mut CarWalk,
@@ -224,10 +228,10 @@ pub extern "C" fn dagcbor_car_next(
     next_of_car(walk, bytes, how, places)
 }
 
-/// Puts the text of the CID that the bytes are at the front of `out`, where there is room for it:
-/// base32 after `b`, and of version 0 base58btc, in ASCII, at most 139 bytes. 0 is answered then,
-/// and `needed` becomes its length. -21 is answered where there is no room, and -26 where the bytes
-/// are no CID, and then nothing is needed; after both `out` stays.
+/// Puts the text of the CID whose bytes these are at the front of `out`, if it fits, and returns 0:
+/// base32 after `b`, or base58btc for version 0, in ASCII, at most 139 bytes. `needed` becomes its
+/// length. It returns -21 if there is no room, and -26 if the bytes are not a CID, and then
+/// `needed` becomes 0. After both `out` stays.
 #[unsafe(no_mangle)]
 pub extern "C" fn dagcbor_cid_text(bytes: &[u8], out: &mut [u8], needed: &mut usize) -> i32
     ensures { IsCidTextAnswer bytes.now out.old out.new needed.new result }
@@ -235,11 +239,10 @@ pub extern "C" fn dagcbor_cid_text(bytes: &[u8], out: &mut [u8], needed: &mut us
     put_cid_text(bytes, out, needed)
 }
 
-/// Puts the binary form of the CID that the text is one of at the front of `out`, where there is
-/// room for it, at most 86 bytes. 0 is answered then, and `needed` becomes its length. -21 is
-/// answered where there is no room. Where the text is that of no CID the number of its fault is
-/// answered: that it is too long, or the first from the left; and nothing is needed. After both
-/// `out` stays.
+/// Puts the binary form of the CID with this text at the front of `out`, if it fits, at most 86
+/// bytes, and returns 0. `needed` becomes its length. It returns -21 if there is no room. If the
+/// text is not that of a CID, it returns the number of its fault, which is that it is too long, or
+/// the first from the left, and `needed` becomes 0. After both `out` stays.
 #[unsafe(no_mangle)]
 pub extern "C" fn dagcbor_cid_from_text(text: &[u8], out: &mut [u8], needed: &mut usize) -> i32
     ensures { IsCidFromTextAnswer text.now out.old out.new needed.new result }
@@ -247,11 +250,11 @@ pub extern "C" fn dagcbor_cid_from_text(text: &[u8], out: &mut [u8], needed: &mu
     put_cid_of_text(text, out, needed)
 }
 
-/// The links of the block of DAG-PB, whatever their names are. 0 is answered, and `needed` becomes their
-/// length, packed as `dagcbor_links` packs them; where `out` has room for them all they are put at its
-/// front, and else it stays. Where the bytes are no block of DAG-PB the number of the cause is answered,
-/// from -53 to -57, and `place` becomes where it stands. Then `needed` is 0, and `out` stays. Else `place`
-/// becomes 0.
+/// Reads the links of the block of DAG-PB, whatever their names are. Returns 0, and `needed`
+/// becomes their length, packed as `dagcbor_links` packs them; if they all fit, they are put at the
+/// front of `out`; else `out` stays. If the bytes are not a block of DAG-PB, it returns the number
+/// of the cause, from -53 to -57, and `place` becomes where that is. Then `needed` is 0, and `out`
+/// stays. Else `place` becomes 0.
 #[unsafe(no_mangle)]
 pub extern "C" fn dagcbor_node_links(
     node: &[u8],
@@ -264,11 +267,11 @@ pub extern "C" fn dagcbor_node_links(
     put_node_links(node, out, needed, place)
 }
 
-/// Puts the data model of the block of DAG-PB (a map of `Links` and, where there is some, `Data`), as a
-/// block of DAG-CBOR, at the front of `out`, where there is room for it. 0 is answered then, and `needed`
-/// becomes its length. -21 is answered where there is no room; then `out` stays. Where the bytes are no
-/// block of DAG-PB the number of the cause is answered, from -53 to -57, and `place` becomes where it
-/// stands; -58 where the name of a link is not UTF-8. Then `needed` is 0, and `out` stays. Else `place`
+/// Puts the data model of the block of DAG-PB (a map of `Links` and, if there is some, `Data`), as
+/// a block of DAG-CBOR, at the front of `out`, if it fits, and returns 0. `needed` becomes its
+/// length. It returns -21 if there is no room; then `out` stays. If the bytes are not a block of
+/// DAG-PB, it returns the number of the cause, from -53 to -57, and `place` becomes where that is;
+/// if the name of a link is not UTF-8, -58. Then `needed` is 0, and `out` stays. Else `place`
 /// becomes 0.
 #[unsafe(no_mangle)]
 pub extern "C" fn dagcbor_from_node(
@@ -282,11 +285,11 @@ pub extern "C" fn dagcbor_from_node(
     put_from_node(node, out, needed, place)
 }
 
-/// Puts the block of DAG-PB whose data model the block of DAG-CBOR has at the front of `out`, where there
-/// is room for it. 0 is answered then, and `needed` becomes its length. -21 is answered where there is no
-/// room; then `out` stays. Else the refusal of `dagcbor_check` is answered, -59 where the data is not that
-/// of a node, or -60 where the links are not sorted by the bytes of their names. Then `needed` is 0, and
-/// `out` stays.
+/// Puts the block of DAG-PB whose data model is the block of DAG-CBOR at the front of `out`, if it
+/// fits, and returns 0. `needed` becomes its length. It returns -21 if there is no room; then `out`
+/// stays. Else it returns the refusal of `dagcbor_check`, -59 if the data is not that of a node, or
+/// -60 if the links are not sorted by the bytes of their names. Then `needed` is 0, and `out`
+/// stays.
 #[unsafe(no_mangle)]
 pub extern "C" fn dagcbor_to_node(block: &[u8], out: &mut [u8], needed: &mut usize) -> i32
     ensures { IsToNodeAnswer block.now out.old out.new needed.new result }

@@ -1,9 +1,9 @@
-//! What DAG-CBOR for callers in other languages has that takes memory, by the C ABI: DAG-JSON, and
-//! repositories of signed records (AT Protocol) and the frames that tell of their changes.
+//! The calls that allocate memory, for callers in other languages, by the C ABI: DAG-JSON,
+//! repositories of signed records (AT Protocol), and the frames of their changes.
 //!
 //! A slice crosses as a pointer and a length, and nothing is passed for a `Global`. Unlike
-//! `dagcbor_ffi` this library takes memory, by functions of the program that links it.
-//! `include/dagcbor_memory.h` has what C declares, and what a caller owes.
+//! `dagcbor_ffi` this library allocates, by functions of the program that links it.
+//! `include/dagcbor_memory.h` has the C declarations, and what a caller must ensure.
 #![tactic(auto)]
 
 ghost use Rattle.memory_calls.specs.Answers.{IsRepositoryAnswer, IsCommitAnswer, IsProofAnswer};
@@ -15,10 +15,10 @@ use event_calls::{place_frame, put_event};
 use memory_calls::{put_block, put_commit, put_json, put_proof, put_repo};
 use std::alloc::Global;
 
-/// The number of the kind of a block, from 0, whose data in DAG-JSON is put at the front of `out`
-/// where there is room for it, and else -21; `needed` becomes its length. Below 0 the number of the
-/// refusal, or -50 where a map has the key `/`. -42 is answered where memory is wanted. Then `needed`
-/// becomes 0; `out` stays.
+/// Puts the data of the block, in DAG-JSON, at the front of `out`, if it fits, and returns the
+/// number of the block's kind, at least 0, or -21 if there is no room. `needed` becomes its length.
+/// Else it returns the number of the refusal, below 0, or -50 if a map has the key `/`, or -42 if
+/// memory runs out. Then `needed` becomes 0, and `out` stays.
 #[unsafe(no_mangle)]
 pub extern "C" fn dagcbor_to_json(
     alloc: Global,
@@ -31,11 +31,11 @@ pub extern "C" fn dagcbor_to_json(
     put_json(alloc, block, out, needed)
 }
 
-/// The number of the kind, from 0, of the block of the data that the text is, in DAG-JSON; it is put
-/// at the front of `out` where there is room for it, and else -21 is answered; `needed` becomes its
-/// length, and `place` that of the text. Below 0 the number of the fault in the text, and `place`
-/// becomes where it is. -42 is answered where memory is wanted, and `place` becomes 0. Then `needed`
-/// becomes 0; `out` stays.
+/// Puts the block of the data that the text spells, in DAG-JSON, at the front of `out`, if it fits,
+/// and returns the number of its kind, at least 0, or -21 if there is no room. `needed` becomes its
+/// length, and `place` that of the text. Else it returns the number of the fault in the text, below
+/// 0, and `place` becomes where it is; or -42 if memory runs out, and `place` becomes 0. Then
+/// `needed` becomes 0, and `out` stays.
 #[unsafe(no_mangle)]
 pub extern "C" fn dagcbor_from_json(
     alloc: Global,
@@ -49,11 +49,11 @@ pub extern "C" fn dagcbor_from_json(
     put_block(alloc, text, out, needed, place)
 }
 
-/// Of a CAR file with one root, a block that tells of the repository whose commit the root names,
-/// where its commit and its tree are whole: 0 is answered; else a line that tells why there is none, and
-/// 1. `needed` becomes its length; where `out` has room for it it is put at its front, and else `out`
-/// stays, and -21 is answered. -42 is answered where memory is wanted; then `needed` becomes 0, and `out`
-/// stays. `memory_calls::repo_answer` says what the block holds.
+/// Makes a block that describes the repository in a CAR file with one root, which names its commit,
+/// if that and its tree are whole, and returns 0; else it makes a line that says why not, and
+/// returns 1. `needed` becomes its length; if it fits, it is put at the front of `out`; else `out`
+/// stays, and it returns -21. If memory runs out, it returns -42, `needed` becomes 0, and `out`
+/// stays. `memory_calls::repo_answer` says what is in the block.
 #[unsafe(no_mangle)]
 pub extern "C" fn dagcbor_repository(
     alloc: Global,
@@ -66,10 +66,10 @@ pub extern "C" fn dagcbor_repository(
     put_repo(alloc, file, out, needed)
 }
 
-/// Of a CAR file a block that tells of the commit which its first root names: 0 is answered; else a
-/// line that tells why there is none, and 1. Of the blocks the commit's alone need be there. `needed`,
-/// `out` and the other numbers are as of `dagcbor_repository`. `memory_calls::commit_answer` says what the
-/// block holds.
+/// Makes a block that describes the commit that the first root of a CAR file names, and returns 0;
+/// else it makes a line that says why there is none, and returns 1. Of the file's blocks only the
+/// commit's is needed. `needed`, `out` and the other numbers are as for `dagcbor_repository`.
+/// `memory_calls::commit_answer` says what is in the block.
 #[unsafe(no_mangle)]
 pub extern "C" fn dagcbor_commit(
     alloc: Global,
@@ -82,10 +82,11 @@ pub extern "C" fn dagcbor_commit(
     put_commit(alloc, file, out, needed)
 }
 
-/// Of a CAR file the file that proves which record the key has, or that it has none, in the tree of
-/// the commit which the first root names: 0 is answered; else a line that tells why there is none, and 1.
-/// The commit, the nodes on the way to the key and the record need be there, and no others. `needed`,
-/// `out` and the other numbers are as of `dagcbor_repository`.
+/// Makes the CAR file that proves which record the key has, or that it has none, in the tree of the
+/// commit that the first root of a CAR file names, and returns 0; else it makes a line that says
+/// why there is none, and returns 1. Of the file's blocks only the commit, the nodes on the way to
+/// the key and the record are needed. `needed`, `out` and the other numbers are as for
+/// `dagcbor_repository`.
 #[unsafe(no_mangle)]
 pub extern "C" fn dagcbor_record_proof(
     alloc: Global,
@@ -99,10 +100,10 @@ pub extern "C" fn dagcbor_record_proof(
     put_proof(alloc, file, key, out, needed)
 }
 
-/// The number of the kind of the frame at the front of bytes, from 0: a frame of a host's stream
-/// (com.atproto.sync.subscribeRepos), which is two blocks, a header and a body. Below 0 the number of
-/// why there is none. Of two items `body` becomes where the second begins, and `end` where it ends,
-/// also where they are no frame; else both become 0.
+/// Returns the number of the kind of the frame at the front of the bytes, at least 0, or of why
+/// there is none, below 0. A frame of a host's stream (com.atproto.sync.subscribeRepos) is two
+/// blocks, a header and a body. If there are two items, `body` becomes where the second begins, and
+/// `end` where it ends, even if they are not a frame; else both become 0.
 #[unsafe(no_mangle)]
 pub extern "C" fn dagcbor_event_frame(
     alloc: Global,
@@ -115,12 +116,12 @@ pub extern "C" fn dagcbor_event_frame(
     place_frame(alloc, bytes, body, end)
 }
 
-/// Of the frame at the front of bytes, a block that tells what is verified of its commit, from the
-/// frame alone, and against the root and the revision that are known: nothing is known where `root`
-/// has no bytes. 0 is answered; else the number of why it is not verified, below 0, and where a node
-/// is the cause, its CID. `needed` becomes its length; where `out` has room for it it is put at its
-/// front, and else `out` stays, and -21 is answered. After any other number `needed` is 0, and `out`
-/// stays.
+/// Verifies the commit in the frame at the front of the bytes, from the frame alone, and against
+/// the known root and revision, or against nothing if `root` is empty. Puts a block that describes
+/// what is verified at the front of `out`, if it fits, and returns 0; or puts the CID of the node
+/// that is the cause, if one is, and returns the number of why the commit is not verified, below 0.
+/// `needed` becomes the length of these bytes. It returns -21 if there is no room; then `out`
+/// stays. After any other number `needed` is 0, and `out` stays.
 #[unsafe(no_mangle)]
 pub extern "C" fn dagcbor_verify_event(
     alloc: Global,

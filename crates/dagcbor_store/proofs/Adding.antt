@@ -130,9 +130,9 @@ module _ {S : Type 0} (g : Ghosts S) (roots : List CidParts) where
     quiet = quiet_then g old mid new h.quiet quiet;
   }
 
--- ---- what stands after a refusal
+-- ---- after a refusal
 
--- what was committed stands
+-- what was committed is the same
 pub record KeepsLast (old new : View) : Type 0 where
   pub was_open : IsTrue new.is_open → IsTrue old.is_open
   pub committed : IsTrue new.is_open → new.committed ≡ old.committed

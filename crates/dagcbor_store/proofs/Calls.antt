@@ -1,4 +1,4 @@
--- What the calls of a store answer.
+-- What the calls of a store return.
 use Rattle.std.proofs.Common.{◌≡◌, ◌↔◌, ◌⊎◌, inl, inr, ℕ, ℤ, ◌≤◌, List, [], ◌∷◌, filter, Bool, true, false, refl, sym, ap, ◌∙◌, subst, true≢false, IsTrue, arith, Option, None, option_map, Result, Ok, Err, IfOk, IfErr, OnOk, OnErr, Vec, Global}
 use Rattle.std.proofs.Math.Decide.{ℕ_discrete}
 use Rattle.std.proofs.Math.IntN.{ℤ_discrete}
@@ -128,7 +128,7 @@ added_view old new name b h sound o trees = record {
   sound = ap (λ (v : View). v.is_broken) h ∙ sound;
 }
 
--- the name was taken out, if it was listed, and is written with the bytes
+-- the name was removed, if it was listed, and is written with the bytes
 written_anew : (old mid new : Trees) (name : CidParts) (b : List ℕ) → IsKeyed (mid name_tree) → (IsListed (mid name_tree) (cid_bytes name) → ⊥) → ((q d : List ℕ) → (q ≡ cid_bytes name → ⊥) → IsStored mid q d ↔ IsStored old q d)
     → ((q : List ℕ) → (q ≡ cid_bytes name → ⊥) → IsListed (mid name_tree) q ↔ IsListed (old name_tree) q) → ((id : ℤ) (q d : List ℕ) → Among (block_row id q d) (mid block_tree) ↔ (Among (block_row id q d) (old block_tree) × ((q ≡ cid_bytes name) × Among (name_entry q id) (old name_tree) → ⊥)))
     → (IsStored old (cid_bytes name) b → ⊥) → KeepsOthers IsOfBlocks old new → WritesBlockRow mid new (cid_bytes name) b → IsAddedTo old new name b
@@ -166,7 +166,7 @@ written_anew old mid new name b keyed none stays lists table other beside w = re
     by q l (yes e) = (listed q).1 (inl e)
     by q l (no apart) = (listed q).1 (inr ((lists q apart).1 l))
 
--- the block stands in the row of its name, and nothing is changed
+-- the block is in the row of its name, and nothing is changed
 stored_already : (old : Trees) (name : CidParts) (b : List ℕ) (id : ℤ) → IsKeyed (old name_tree) → Among (name_entry (cid_bytes name) id) (old name_tree) → filter (has_rowid id) (old block_tree) ≡ block_row id (cid_bytes name) b ∷ [] → IsAddedTo old old name b
 stored_already old name b id keyed at row = record {
   stored = λ d. (stored_as_found old (cid_bytes name) d b id keyed at row, λ e. subst (IsStored old (cid_bytes name)) (sym e) (stored_found old (cid_bytes name) b id at row));
@@ -296,11 +296,11 @@ fails_since g U old mid new e told t blame tells up h =
       undone = λ clean. (h clean).1;
     }
 
--- a failure that comes only where a wrong answer of the disk was taken as true
+-- a failure that can come only if a wrong answer of the disk was taken as true
 pub fails_never : {S : Type 0} (g : Ghosts S) (U : Type 0) (old new : S) (e : StoreError) (told : StoreRefusal) → TellsOfStore e told → Tells (g.blamed new) e → (IsClean (g.view new) → ⊥) → FailsByStore g U old new told
 fails_never g U old new e told t blamed never = record { error = e; tells = t; blamed = blamed; caused = λ clean. absurd (never clean); undone = λ clean. absurd (never clean) }
 
--- memory was wanting, and what was not committed is undone
+-- memory ran out, and what was not committed is undone
 pub fails_for_memory : {S : Type 0} (g : Ghosts S) (old new : S) → (IsClean (g.view new) → IsUndone (g.view old) (g.view new)) → FailsByStore g ⊥ old new refusal.OutOfMemory
 fails_for_memory g old new undone = record { error = stored.OutOfMemory; tells = refl; blamed = λ kind is fault. absurd (cc fault); caused = λ clean. tt; undone = undone }
 

@@ -63,7 +63,7 @@ module _ (size : ℕ) (image : Image) (pages : PageMap) (found : Recovers size i
   same_stored : (n : ℕ) (other : PageMap) (a : Adopts size image pages) (b : Adopts n image other) → stored_size n ≡ stored_size size → b.stored ≡ a.stored
   same_stored n other a b same = below.recovers_once (stored_size size) image b.stored a.stored (subst (λ s. raw.Recovers s image b.stored) same b.found) a.found
 
-  -- pages whose header is sound end in sums, or do not, under one size alone
+  -- for pages with a sound header, only one size agrees on whether they end in sums
   pub size_once : (n : ℕ) (other : PageMap) → NamesSize image n → Recovers n image other → ∥ IsSoundFile n other ∥₁ → n ≡ size
   size_once n other names a there = ∥∥₁_elim there (ℕ_set n size) (by (named_as n names))
     where

@@ -73,7 +73,7 @@ open_of v shut sound = by v.is_open refl
 
 -- ---- what calls on rows leave
 
--- a store is ready, where no wrong answer of the disk was taken as true
+-- a store is ready, if no wrong answer of the disk was taken as true
 abbrev pub Ready : {S : Type 0} → Ghosts S → S → Type 0
 Ready g s = IsClean (g.view s) → IsReady (g.view s)
 
@@ -82,13 +82,13 @@ module _ {S T : Type 0} (g : Ghosts S) (old new : S) where
   pub ready_ended : {x : T} → Ready g old → EndsOnRows g OnlyReads ⊥ (Ok x) old new → Ready g new
   ready_ended {x} was e clean = ready_read _ _ (e.frame clean) (was (omega (arith, e.quiet.clean)))
 
-  -- so does one that failed, and was undone
+  -- a call that failed, and was undone, does so too
   pub ready_failed : {C : View → View → Type 0} {F : Type 0} {e : StoreError} (mid : S) → Ready g old → EndsOnRows {T = T} g C F (Err e) old mid → IsRolledBack (g.view mid) (g.view new) → Quiet g mid new → Ready g new
   ready_failed {C} {F} {e} mid was ends undone quiet clean =
       let clean_then : IsClean (g.view mid) = omega (arith, quiet.clean) in
       ready_undone _ _ _ clean (ends.err clean_then) undone (was (omega (arith, ends.quiet.clean)))
 
-  -- where a call succeeded, the store was open and each name stood once
+  -- if a call succeeded, the store was open and no name was listed twice
   pub keyed_ended : {C : View → View → Type 0} {F : Type 0} {x : T} → ((g.view old).is_open ≡ false → IsTrue (g.view old).is_broken) → Ready g old → EndsOnRows g C F (Ok x) old new → IsClean (g.view new)
       → IsTrue (g.view old).is_open × IsKeyed ((g.view old).trees name_tree)
   keyed_ended {C} {F} {x} shut was e clean =
@@ -157,7 +157,7 @@ among_put new id (r ∷ rs) x is free = by (value_cmp (rowid r) (rowid new)) ref
       λ h. elim h [ inl at ↦ inl at | inr there ↦ inr there ],
     )
 
--- the name that is added is that of no entry
+-- no entry has the name that is added
 apart_from : (name : List ℕ) (id : ℤ) (es : List Row) → AreNameEntries es → (IsListed es name → ⊥) → (e : Row) → Among e es → entry_cmp plain e (name_entry name id) ≡ Equal → ⊥
 apart_from name id es are none e there tied =
     let a = all_among IsNameEntry e es are there in
@@ -329,7 +329,7 @@ rows_left old new name id (inl h) = (
           | inr none ↦ absurd none
         ]
 
--- the row that the name led to is not left, and each other is
+-- only the row that the name led to is gone
 pub rows_taken : (old new : Trees) (name : List ℕ) (id : ℤ) → IsKeyed (old name_tree) → Among (name_entry name id) (old name_tree) → ClearsRow (old block_tree) (new block_tree) id name
     → (i : ℤ) (q d : List ℕ) → Among (block_row i q d) (new block_tree) ↔ (Among (block_row i q d) (old block_tree) × ((q ≡ name) × Among (name_entry q i) (old name_tree) → ⊥))
 rows_taken old new name id keyed at clears i q d = by clears

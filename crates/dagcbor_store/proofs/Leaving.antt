@@ -42,7 +42,7 @@ module _ {S : Type 0} (g : Ghosts S) where
     | inr before ↦ leaves db before
   ]
 
-  -- what was opened leaves what was committed
+  -- an opened database leaves what was committed
   pub leaves_opened : (old it : S) → ((db : Trees) → IsTrue (g.view it).is_open → g.recovers it db → db ≡ (g.view it).committed) → (IsClean (g.view it) → IsClean (g.view old)) → (IsClean (g.view it) → IsOpened (g.view old) (g.view it)) → Ready g it
       → LeavesAsListed g old it
   leaves_opened old it settled was opened ready clean list =

@@ -1,4 +1,5 @@
--- The names that links lead to from roots, which a walk from each finds beside those that are known.
+-- The names that links lead to from roots. A walk from each root finds those that are not known
+-- yet.
 use Rattle.std.proofs.Common.{◌≡◌, inl, inr, ℕ, zero, suc, ◌+◌, ◌≤◌, ◌<◌, List, [], ◌∷◌, ◌++◌, length, take, get_or, take-suc, Bool, true, false, true≢false, cond, refl, sym, ap, ◌∙◌, subst, arith, add-one, ◌⊎◌, ◌↔◌, Option, None, Some, is_some, option_map, Result, Ok, Err, IfOk, IfErr, IfSome, Vec, Global}
 use Rattle.std.specs.BTreeSet.{BTreeSet}
 use Rattle.std.specs.BTreeSet as set
@@ -36,7 +37,7 @@ among_dec kept q = by (set.contains cid_cmp kept q) refl
     by true t = yes (any_among q kept.keys t)
     by false f = no (λ m. true≢false (sym (among_any q kept.keys m) ∙ f))
 
--- no bytes of the names in the set
+-- empty bytes for the names in the set
 abbrev beside : BTreeSet CidParts → Stored → Stored
 beside kept stored q = cond (set.contains cid_cmp kept q) (Some []) (stored q)
 
@@ -56,7 +57,7 @@ beside_out kept stored q none = by (set.contains cid_cmp kept q) refl
 leads_as : (s t : Stored) (name next : CidParts) → s name ≡ t name → LeadsTo s name next → LeadsTo t name next
 leads_as s t name next e l = (l.0, (l.1.0, (l.1.1.0, elim l.1.1.1 [ inl is ↦ inl (sym e ∙ is) | inr n ↦ inr (sym e ∙ n.0, n.1, n.2) ], l.1.1.2), l.1.2))
 
--- no bytes are no item, and a node without links
+-- empty bytes are not an item, but are a node without links
 no_bytes : (codec : ℕ) (links : List (List ℕ)) (form : List ℕ) → HasLinks codec [] links → Among form links → ⊥
 no_bytes codec links form (inl (c, (t, h, e))) m = front_nonempty [] t (whole_front h.0)
 no_bytes codec links form (inr (c, (n, h, e))) m = subst (Among form) (e ∙ empty_node_links n h) m
@@ -96,7 +97,7 @@ module _ (stored : Stored) (root : CidParts) (kept : BTreeSet CidParts) where
   back (suc n) q k = (k.0, back n k.0 k.1, leads_as (beside kept stored) stored k.0 q (beside_out kept stored k.0 (λ m. dead_end k.0 q m k.2)) k.2)
 
   module _ (roots : List CidParts) (known : (q : CidParts) → Among q kept.keys → IsRooted stored roots q) where
-    -- links lead to the name beside the set, or from what is in it
+    -- links lead to the name from the earlier roots, or on a walk that skips the set
     forth : (n : ℕ) (q : CidParts) → IsStepsFrom stored root n q → IsRooted stored roots q ⊎ IsStepsFrom (beside kept stored) root n q
     forth zero q e = inr e
     forth (suc n) q k = elim (forth n k.0 k.1) [ inl led ↦ inl (led_on stored roots k.0 q led k.2) | inr s ↦ by s (among_dec kept k.0) ]
@@ -168,7 +169,7 @@ module _ (v : View) (old new : BTreeSet CidParts) (root : CidParts) (reached : R
   pub marks_more : Marks v (roots ++ root ∷ []) new
   marks_more stored shows name = ((marked stored shows name, all_marked stored shows name), all_known stored shows name)
 
--- the name that a walk came to, links lead to
+-- links lead to the name that a walk came to
 pub leads_beside : (v : View) (kept : BTreeSet CidParts) (root name : CidParts) (stored : Stored) → ShowsStored v stored → ((s : Stored) → Fits v kept s → LeadsFar s root name) → LeadsFar stored root name
 leads_beside v kept root name stored shows far =
     let k = far (beside kept stored) (beside_fits v kept stored shows) in
@@ -212,9 +213,9 @@ marks_same old mid roots kept same h = subst (λ (t : Trees). Marks (record old 
 pub more_same : (old mid : View) (root : CidParts) (kept new : BTreeSet CidParts) → mid.trees ≡ old.trees → MarksMore mid root kept new → MarksMore old root kept new
 more_same old mid root kept new same more roots h = marks_same old mid (roots ++ root ∷ []) new same (more roots (marks_same mid old roots kept (sym same) h))
 
--- ---- what is got, and what is shown
+-- ---- what is read, and what is shown
 
--- what is got where the links under the name are known, and what stops there where they are not
+-- what is read if the links under the name are known, and where a walk stops if they are not
 pub gets_known : (o : Option (Vec ℕ Global)) (v : View) (name : CidParts) → GetsSome v name (option_map (λ (b : Vec ℕ Global). b.items) o) → IfSome o (λ b. IsNamedBy name b.items) → KnowsLinks (λ q. option_map (λ (b : Vec ℕ Global). b.items) o) name
     → GetsKnown v name (option_map (λ (b : Vec ℕ Global). b.items) o)
 gets_known None v name gets named knows = (gets, λ i. knows name.digest (inr (refl, i, refl)))
@@ -352,7 +353,7 @@ pub fits_none : (v : View) (kept : BTreeSet CidParts) (stored : Stored) → kept
 fits_none v kept stored none shows name o (inl h) = absurd (subst (Among name) none h.0)
 fits_none v kept stored none shows name o (inr h) = got_known v stored name o shows h.1
 
--- a walk beside no names comes to what links lead to
+-- with an empty set, a walk comes to what links lead to
 pub reaches_all : (v : View) (root : CidParts) (kept : BTreeSet CidParts) (r : Reached) → kept.keys ≡ [] → ReachesBeside v kept root r → Reaches v root r
 reaches_all v root kept r none reaches stored shows =
     let w = reaches stored (fits_none v kept stored none shows) in

@@ -17,7 +17,7 @@ use Rattle.sqlite_store.specs.Db.{rows_at, roots_of, trees_in, thawed, shown, sl
 use Rattle.sqlite_store.specs.Catalog.{is_present, is_about, is_near, describes, root_in, roots_in, may_stand, is_listed_once, fits_shape, shape_at, reals_at, is_well_formed, has_no_pages, MayAllStand}
 use Rattle.sqlite_store.specs.Listing.{listed, listed_from, all_trees, file_trees}
 
--- ---- what a list of trees tells of each
+-- ---- what a list of trees says of each
 
 -- they are of one tree, as far as a file and its list tell
 pub record IsSameTree (a b : Wanted) : Type 0 where
@@ -28,7 +28,7 @@ pub record IsSameTree (a b : Wanted) : Type 0 where
   pub table : column a.row 2 ≡ column b.row 2
   pub text : column a.row 3 ≡ column b.row 3
 
--- the first are of the same trees, and after those nothing is there
+-- the first are of the same trees, and after those there is nothing
 abbrev pub AreSame : List Wanted → List Wanted → Type 0
 AreSame [] [] = Unit {0}
 AreSame [] (v ∷ b) = ⊥
@@ -172,7 +172,7 @@ may_more true {n} {m = false} imp e = refl
 may_more true {n} {m = true} imp e = absurd (true≢false (sym e ∙ ap not (imp refl)))
 may_more false {n} {m} imp e = e
 
--- an entry that may stand under the one may stand under the other
+-- an entry that may come under the one may come under the other
 stands_same : (a b : List Wanted) → AreSame a b → (e : Row) → may_stand a e ≡ true → may_stand b e ≡ true
 unfolding may_stand
 stands_same a b h e stands = by (is_well_formed e) (list_any (λ w. describes w e) a) (list_any (λ w. describes w e) b) (described_same a b h e) (has_no_pages e) (near_there a b h e) stands

@@ -33,7 +33,7 @@ checked_read old new h sound has keyed roots =
       lasting = λ e. at ∙ e ∙ sym (ap (λ (v : View). v.committed_shape) h);
     }
 
--- what a mark of a database that has no version leaves
+-- what the new mark leaves in a database that had no version
 pub marked_same : (old read mid : View) (edit : List Row → List Row) → OnlyReads old read → read.trees version_tree ≡ version_rows 0 → SetsTree read mid version_tree edit → OnlyMarks old.trees mid.trees
 marked_same old read mid edit h none set =
     let trees = ap (λ (v : View). v.trees) h in
@@ -45,7 +45,7 @@ marked_same old read mid edit h none set =
     only_set : (a b : View) (e : List Row → List Row) → SetsTree a b version_tree e → OnlyWrites a b
     only_set a b e k = k.is ∙ ap (λ t. record a { trees = t; cursors = b.cursors }) (sym (ap (λ (v : View). v.trees) k.is))
 
--- what it leaves with its commit
+-- what the mark leaves with its commit
 pub checked_marked : (old read mid new : View) (edit : List Row → List Row) → IsChecked old read → OnlyMarks old.trees mid.trees → SetsTree read mid version_tree edit → Commits mid new → IsChecked old new
 checked_marked old read mid new edit was same set done =
     let trees = ap (λ (v : View). v.trees) done.is ∙ ap (λ (v : View). v.trees) set.is in

@@ -1,4 +1,4 @@
--- Values that are kept.
+-- Values that are stored.
 use Rattle.std.proofs.Common.{◌≡◌, ℕ, List, [], ap, ◌∙◌, subst, Option, None, Some, IsSomeAnd}
 use Rattle.sqlite_trees.specs.Tree.{Trees}
 use Rattle.sqlite_trees.specs.View.{IsClean}

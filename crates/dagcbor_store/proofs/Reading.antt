@@ -1,4 +1,4 @@
--- A file that is read into a store, section by section.
+-- A CAR file that is read into a store, section by section.
 use Rattle.std.proofs.Common.{◌≡◌, ◌⊎◌, inl, inr, ℕ, List, [], ◌∷◌, ◌++◌, length, append_assoc, append-nil, refl, sym, ap, ◌∙◌, subst, arith, Option, Some, Result, Ok, Err}
 use Rattle.std.specs.List.{AllByRecursion}
 use Rattle.dagcbor_heads.proofs.Taking.{stays_both}
@@ -35,7 +35,7 @@ sound_push : (ss : List Section) (s : Section) → AllByRecursion IsSound ss →
 sound_push [] s h p = (p, tt)
 sound_push (x ∷ ss) s h p = (h.0, sound_push ss s h.1 p)
 
--- so many sections were taken
+-- these sections were taken
 pub record IsReadAt (roots : List (List ℕ)) (sections : List Section) (old : Reading) (extent : Option ℕ) (now : Reading) : Type 0 where
   pub known : (b : List ℕ) → old.left ≡ Some b → (rest : List ℕ) × (now.left ≡ Some rest) × IsPlace b roots sections extent rest
   pub same : Stays old now
@@ -140,7 +140,7 @@ module _ {S : Type 0} (g : Ghosts S) where
 -- ---- the sections, one by one
 
 module _ {S : Type 0} (g : Ghosts S) (roots : List CidParts) (start : Reading) (before : S) where
-  -- so many were taken, and added
+  -- these roots and sections were taken, and added
   abbrev IsAddedTo : List Section → Option ℕ → Reading → S → Type 0
   IsAddedTo ss extent source it = IsReadAt (forms roots) ss start extent source × AddsSections g roots ss before it
 

@@ -95,7 +95,7 @@ pub done_if_clean : {X E : Type 0} (r : Result X E) (C P : Type 0) → (C → On
 done_if_clean (Ok x) C P h = h
 done_if_clean (Err e) C P h = tt
 
--- what a call ensures where it did not refuse
+-- what a call ensures if it did not refuse
 pub on_ok : {X Y : Type 0} (r : Result X Y) (P : Type 0) → false ≡ is_err r → OnOk r P → P
 on_ok (Ok x) P e h = h
 on_ok (Err y) P e h = absurd (cc e)
@@ -109,7 +109,7 @@ adds_names rows new names c New valid none a are some = (names ++ c ∷ [], appe
 adds_names rows new names c Stored valid none a are some = absurd a
 adds_names rows new names c NoNumber valid none a are some = absurd (some refl)
 
--- each row is that of a root still
+-- each row is still a root's
 pub roots_added : (rows new : List Row) (c : CidParts) (added : Added) → AreCidParts c → AppendsRoot rows new (cid_bytes c) added → AreAllRoots rows → AreAllRoots new
 roots_added rows new c New valid a (names, are) = (names ++ c ∷ [], appended rows new names c valid a are)
 roots_added rows new c Stored valid a (names, are) = absurd a
@@ -130,7 +130,7 @@ known_added v known name h m = record {
   broken = refl;
 }
 
--- one name more
+-- one more name
 pub just_push : (names : List CidParts) (name : CidParts) (before after : CidSet) → HasJust names before → AddsCid name before after → HasJust (names ++ name ∷ []) after
 just_push names name before after h add c = (
   λ m. push_among c names name (elim ((add.1 c).0 m) [ inl was ↦ inl ((h c).0 was) | inr e ↦ inr e ]),
@@ -189,7 +189,7 @@ module _ {S : Type 0} (g : Ghosts S) (name : CidParts) (old new : S) where
 pub roots_taken : (rows new : List Row) (c : CidParts) (taken : Bool) → AreCidParts c → TakesRoot rows new (cid_bytes c) taken → AreAllRoots rows → AreAllRoots new
 roots_taken rows new c taken valid t (names, are) = let k = leaves_names rows new names c are valid t.1 in (k.0, k.1)
 
--- where no row was of the name, none is left out
+-- if no row was of the name, no row is left out
 leaves_none : (rows new : List Row) (name : List ℕ) → (HasRoot rows name → ⊥) → LeavesOut (IsRowOfRoot name) rows new → new ≡ rows
 leaves_none [] new name none l = l
 leaves_none (r ∷ rows) new name none (inl k) = absurd (none (k.0.0, inl (sym k.0.1)))

@@ -1,4 +1,4 @@
--- The names that are taken out, one by one, in the order of names.
+-- The names that are removed, one by one, in their order.
 use Rattle.std.proofs.Common.{◌≡◌, inl, inr, ℕ, ◌+◌, ◌≤◌, ℤ, List, [], ◌∷◌, ◌++◌, length-append, Bool, true, false, Less, Equal, refl, sym, ap, ◌∙◌, subst, arith, IsTrue, ◌⊎◌, ◌↔◌, Option, None, Some, is_some}
 use Rattle.std.proofs.Math.Decide.{ℕ_discrete}
 use Rattle.std.proofs.Math.Nat.{add-zero}
@@ -32,7 +32,7 @@ lists_those IsSo old new h q = (
   λ k. (k.0.0, (h.entries k.0.0 q).1 (k.0.1, k.1)),
 )
 
--- of each name that was listed it is the same to be so and to be such
+-- for each listed name the two conditions are the same
 pub those_as : (P Q : List ℕ → Type 0) (old new : Trees) → ((q : List ℕ) → IsListed (old name_tree) q → P q ↔ Q q) → HoldsThose P old new → HoldsThose Q old new
 those_as P Q old new alike h = record {
   holds = λ q b. (
@@ -56,7 +56,7 @@ those_all trees = record {
   rows = λ id q b. (λ m. (m, λ u. u.0 tt), λ k. k.0);
 }
 
--- one name more is taken out
+-- one more name is removed
 pub those_less : (P : List ℕ → Type 0) (old mid new : View) (c : CidParts) (taken : Bool) → HoldsThose P old.trees mid.trees → IsTaken mid new c taken → HoldsThose (λ q. P q × (q ≡ cid_bytes c → ⊥)) old.trees new.trees
 those_less P old mid new c taken h t = record {
   holds = λ q b. (
@@ -121,7 +121,7 @@ once_more (x ∷ names) name once none = (
   once_more names name once.1 (λ m. none (inr m)),
 )
 
--- a name that was listed is taken out
+-- a name that was listed is removed
 pub one_out : (P : List ℕ → Type 0) (old mid new : View) (c : CidParts) (count : ℕ) → HoldsThose P old.trees mid.trees → TakesOut old.trees mid.trees count → ListsName mid c → IsTaken mid new c true → TakesOut old.trees new.trees (count + 1)
 one_out P old mid new c count those taken listed t = (
   taken.0 ++ cid_bytes c ∷ [],
@@ -141,7 +141,7 @@ one_out P old mid new c count those taken listed t = (
     out q l gone (no apart) = inl ((taken.3 q).1 (l, λ k. gone ((t.lists q).1 (k, apart))))
 
 module _ (old mid : View) (kept : BTreeSet CidParts) (last : Option CidParts) (count : ℕ) (c : CidParts) (h : SweptTo old mid kept last count) (next : IsNext (mid.trees name_tree) last c) where
-  -- the names after the last one are this one, and those after it
+  -- the names after the last one are this one, and those after this one
   later : (q : List ℕ) → IsListed (old.trees name_tree) q → IsBehind last q → (q ≡ cid_bytes c) ⊎ (name_cmp (cid_bytes c) q ≡ Less)
   later q l behind = next.first q ((lists_those (Stays kept last) old.trees mid.trees h.trees q).1 (l, inr behind)) behind
 
@@ -197,7 +197,7 @@ pub swept_next : (old mid new : View) (kept : BTreeSet CidParts) (last : Option 
 swept_next old mid new kept last count (c, true) h k = swept_less old mid kept last count c h k.0 new k.1.0 k.1.1
 swept_next old mid new kept last count (c, false) h k = subst (SweptTo old new kept (Some c)) (sym (add-zero count)) (swept_same old mid kept last count c h k.0 new k.1.0 k.1.1)
 
--- a name that is listed is taken out
+-- a name that is listed is removed
 pub taken_same : (old mid new : View) (c : CidParts) (taken : Bool) → IsSame old mid → ListsName old c → IsTaken mid new c taken → IsTaken old new c true
 taken_same old mid new c taken same listed t = record {
   was = (λ x. listed, λ l. refl);
@@ -262,7 +262,7 @@ module _ (old mid swept : View) (roots : List CidParts) (kept : BTreeSet CidPart
 -- ---- refusals
 
 module _ {S : Type 0} (g : Ghosts S) where
-  -- a failure after names that were taken out
+  -- a failure after names were removed
   pub fails_swept : (old mid new : S) (told : StoreRefusal) → Quiet g old mid → (IsClean (g.view new) → IsClean (g.view mid))
       → (IsClean (g.view mid) → ((g.view mid).committed ≡ (g.view old).committed) × ((g.view mid).is_open ≡ (g.view old).is_open) × ((g.view mid).is_broken ≡ (g.view old).is_broken)) → FailsByStore g ⊥ mid new told → FailsByStore g ⊥ old new told
   fails_swept old mid new told before was same f =

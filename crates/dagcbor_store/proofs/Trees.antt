@@ -1,4 +1,4 @@
--- The blocks of a store that links lead to from a root, and the file of them.
+-- The blocks of a store that links lead to from a root, and the CAR file of them.
 use Rattle.std.proofs.Common.{◌≡◌, inl, inr, ℕ, zero, suc, ◌+◌, ◌<◌, ◌≤◌, List, [], ◌∷◌, ◌++◌, length, get_or, drop, ◌==◌, true, false, refl, sym, ap, ◌∙◌, subst, arith, append_assoc, append-nil, ◌↔◌, Option, None, Some, is_some, option_map, option_to_list, Vec, Global, drop-cons, eqb-true}
 use Rattle.std.specs.List.{AllByRecursion}
 use Rattle.std.proofs.lemmas.List.{drop_all, nil_from_length}
@@ -64,7 +64,7 @@ push_at v names ss i name b lt is holds h stored shows =
     ∙ ap (λ l. ss ++ l) (ap (λ (o : Option (List ℕ)). option_to_list (option_map (λ c. (name, c)) o) ++ rest) (sym at) ∙ sym (sections_left stored names i name lt is))
     ∙ h stored shows
 
--- the root is not lost where something was found, or it is by the identity
+-- the root is not lost if something was found, or if it holds its block inline
 pub not_lost : (stored : Stored) (root : CidParts) (found : List CidParts) → ListsReachable stored root found → (found ≡ [] → IsInline root) → IsLost stored root → ⊥
 not_lost stored root [] l either gone = gone.1 (either refl)
 not_lost stored root (x ∷ xs) l either gone = ((none_found stored root gone).lists.all x).1 ((l.lists.all x).0 (inl refl))
@@ -92,7 +92,7 @@ listed_there v stored name shows there = some (stored name) refl
 module _ {S : Type 0} (g : Ghosts S) where
   -- ---- a file
 
-  -- how much of the file of these names was written
+  -- how much of the CAR file of these names was written
   pub record IsTreeWritten (root : CidParts) (names : List CidParts) (old : S) (before : Written) (i : ℕ) (sections : List Section) (now : Written) (mid : S) : Type 0 where
     pub header : IsHeader (cid_bytes root ∷ [])
     pub named : AreAllNamed sections

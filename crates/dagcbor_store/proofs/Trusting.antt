@@ -86,7 +86,7 @@ module _ {D : Type 0} {g : Ghosts D} (found : Unopened D g) (store : FileStore D
         roots = subst (λ (t : Trees). AreAllRoots (t root_tree)) (sym is) h.ours.roots;
       }
 
--- what was opened with the schema of a store is listed as one
+-- a database opened with the schema of a store is listed as one
 pub listed_ready : {D : Type 0} {g : Ghosts D} (store : FileStore D g) (wanted : List Wanted) → IsReady store → schema_of store ≡ wanted → IsStoreSchema wanted → IsClean (view store) → IsStoreList ((view store).committed catalog_tree)
 listed_ready store wanted ready schema ours clean = subst IsStoreList (sym rows) (by ours)
   where

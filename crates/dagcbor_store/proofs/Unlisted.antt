@@ -1,4 +1,4 @@
--- The links that lead to nothing in a store.
+-- The links that lead to no block of a store.
 use Rattle.std.proofs.Common.{◌≡◌, ◌⊎◌, inl, inr, ℕ, zero, suc, ◌+◌, ◌<◌, ◌≤◌, List, [], ◌∷◌, ◌++◌, length, get_or, take, Bool, true, false, cond, refl, sym, ap, ◌∙◌, subst, arith, add-one, IsTrue, true≢false, ◌↔◌, Option, None, Vec, Result, Ok, Err, OnOk, Global, BTreeSet, take-suc}
 use Rattle.std.specs.List.Sorted.{IsStrictlySortedBy}
 use Rattle.std.specs.BTreeMap.{is_at}

@@ -228,7 +228,7 @@ module _ {S : Type 0} (g : Ghosts S) where
   pub is_car : (roots : List (List ℕ)) (old mid : S) (before now : Written) (last : Option CidParts) (ss : List Section) → IsWritten roots old before last ss now mid → IsCar (car_bytes roots ss) roots ss
   is_car roots old mid before now last ss h = record { header = h.header; all = h.sections_are; is = refl }
 
-  -- the walk was given up, and what was not committed is undone
+  -- the walk gave up, and what was not committed is undone
   pub gave_up : (roots : List (List ℕ)) (old mid new : S) (before now : Written) (last : Option CidParts) (ss : List Section) (told : StoreRefusal) → IsWritten roots old before last ss now mid → Quiet g mid new → WalkRefused g mid new told
       → WriteRefused {E = ℕ} g roots old before (car.Store told) now new
   gave_up roots old mid new before now last ss told h quiet w = next_unwritten {E = ℕ} roots old mid new before now now last ss (car.Store told) h quiet (refl, w)

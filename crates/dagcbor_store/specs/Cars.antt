@@ -30,7 +30,7 @@ use Rattle.dagcbor_store.specs.declared.car_error.ReadCarError.TheVariants as ca
 
 -- ---- what is stored
 
--- a section has this name, in its binary form
+-- a section has this name, given in its binary form
 abbrev pub IsNameIn : List Section → List ℕ → Type 0
 IsNameIn sections q = (s : Section) × Among s sections × (cid_bytes s.0 ≡ q)
 
@@ -43,7 +43,7 @@ abbrev pub IsOfStore : ℕ → Type 0
 IsOfStore t = IsOfBlocks t ⊎ IsOfRoots t
 
 -- Under the name of each section the bytes of a section of that name are stored, and no others;
--- under each other name what was stored there. Each tree that is none of the store is the same.
+-- under each other name, what was stored there. Each tree that is not a store's is the same.
 pub record HoldsSections (old new : Trees) (sections : List Section) : Type 0 where
   pub named : (q b : List ℕ) → IsNameIn sections q → IsStored new q b → IsSectionIn sections q b
   pub each : (q : List ℕ) → IsNameIn sections q → (b : List ℕ) × IsStored new q b
@@ -60,14 +60,14 @@ pub record IsFilled (old new : View) (sections : List Section) : Type 0 where
 
 -- ---- the file
 
--- want of memory is never inside another refusal
+-- out of memory has a variant of its own, and is never inside another
 abbrev pub TellsOfFile : {E : Type 0} → (CarError E → ReadCarError E)
     → CarError E → ReadCarError E → Type 0
 TellsOfFile variant file.OutOfMemory told = told ≡ car.OutOfMemory
 TellsOfFile variant error told = told ≡ variant error
 
--- The refusal is that of the file, of a cause that is so (`CarRefuses`), told as such. Memory is
--- wanted only where that lacks it.
+-- The refusal is that of the file, converted, for a cause that is so (`CarRefuses`). The call runs
+-- out of memory only if `lacks` holds.
 pub record FileRefused {E : Type 0} (variant : CarError E → ReadCarError E)
     (stands : CarError E → List ℕ → Type 0) (lacks : Type 0)
     (old : Reading) (e : ReadCarError E) (new : Reading) : Type 0 where
@@ -76,8 +76,8 @@ pub record FileRefused {E : Type 0} (variant : CarError E → ReadCarError E)
   pub refused : CarRefuses stands old error new
   pub memory : LacksMemoryIf {T = Unit {0}} lacks (Err error)
 
--- the header of these roots and these sections stood first in a file, and were taken, and so much
--- of it is left; the sections are sound
+-- the header of these roots and these sections came first in a CAR file, and were taken, and
+-- `extent` is how much of it is left; the sections are sound
 pub record IsReadTo (roots : List (List ℕ)) (sections : List Section)
     (old : Reading) (extent : Option ℕ) (now : Reading) : Type 0 where
   pub known : (b : List ℕ) → old.left ≡ Some b → (rest : List ℕ) × (now.left ≡ Some rest)
@@ -85,7 +85,7 @@ pub record IsReadTo (roots : List (List ℕ)) (sections : List Section)
   pub same : Stays old now
   pub blocks : AllByRecursion IsSound sections
 
--- the bytes left, where they are known, are the file of these roots and sections, and it is taken,
+-- the bytes left, if they are known, are the CAR file of these roots and sections, and it is taken,
 -- and nothing after it; the sections are sound
 pub record IsFileRead (roots : List (List ℕ)) (sections : List Section)
     (old new : Reading) : Type 0 where
@@ -96,27 +96,27 @@ pub record IsFileRead (roots : List (List ℕ)) (sections : List Section)
 
 -- ---- refusals
 
--- how the refusal of the block of a section, after so many, is told: one of the block with that
--- number and its name, and one of the store as such
+-- converts the refusal of the block of a section after `count` others: a refusal of the block is
+-- returned with that count and its name, and one of the store as such
 abbrev pub of_block : {E : Type 0} → ℕ → CidParts → StoreRefusal → ReadCarError E
 of_block count name (refusal.Unsound e) = car.Block count name (refusal.Unsound e)
 of_block count name refusal.TooLong = car.Block count name refusal.TooLong
 of_block count name refusal.OutOfMemory = car.OutOfMemory
 of_block count name told = car.Store told
 
--- how the refusal of the roots, or of the commit, is told
+-- converts the refusal of the roots, or of the commit
 abbrev pub of_refusal : {E : Type 0} → StoreRefusal → ReadCarError E
 of_refusal refusal.OutOfMemory = car.OutOfMemory
 of_refusal told = car.Store told
 
--- how it is told why not all sections were added
+-- by which refusal it is returned that not all sections were added
 abbrev pub TellsOfRun : {E : Type 0} → run.ReadCarError E StoreRefusal → ReadCarError E → Type 0
 TellsOfRun (stop.Header e) told = TellsOfFile car.Header e told
 TellsOfRun (stop.Section n e) told = TellsOfFile (car.Section n) e told
 TellsOfRun (stop.Block n name refusal) told = told ≡ of_block n name refusal
 
--- one of the names is no root, and no number is left for it, after the roots that there were and
--- the names before it
+-- one of the names is not a root, and no number is left for it, after the earlier roots and the
+-- names before it
 pub record RootNumbersEnd (old : Trees) (names : List CidParts) : Type 0 where
   pub mid : Trees
   pub first : List CidParts
@@ -125,8 +125,8 @@ pub record RootNumbersEnd (old : Trees) (names : List CidParts) : Type 0 where
   pub gains : GainsRoots old mid first
   pub lacks : LacksNumber mid name
 
--- Why the roots of a file are not kept: there are some, and the database is of the earlier version;
--- no number is left; or the store failed.
+-- Why the roots of a CAR file are not kept: there are some, and the database is of the earlier
+-- version; or no number is left; or the store failed.
 abbrev pub RootsNotKept : {S : Type 0} → Ghosts S → List CidParts → S → S → StoreRefusal → Type 0
 RootsNotKept g roots old new refusal.EarlierVersion = IsEarlier (g.view old) × (roots ≢ [])
 RootsNotKept g roots old new refusal.NoNumber =
@@ -139,8 +139,8 @@ pub record NumbersEnd (old : Trees) (sections : List Section) : Type 0 where
   pub holds : HoldsSections old mid sections
   pub ends : FreesId (mid block_tree) None
 
--- Why the block of a section, after these, is not kept: it is not sound; no number is left; or the
--- store failed, as where it is too long for a row.
+-- Why the block of the section after these is not kept: it is not sound; or no number is left; or
+-- the store failed, for instance because the block is too long for a row.
 abbrev pub NotKept : {S : Type 0} → Ghosts S → List Section
     → S → S → Section → StoreRefusal → Type 0
 NotKept g sections old new s (refusal.Unsound e) = IsUnsound s e
@@ -148,13 +148,13 @@ NotKept g sections old new s refusal.NoNumber =
     IsClean (g.view new) → NumbersEnd (g.view old).trees sections
 NotKept g sections old new s told = FailsByStore g (IsTooLongFor (g.view old) s) old new told
 
--- no section was taken, after so many: none stands there, though bytes do, or are wanting
+-- no section was taken after `count` others: bytes are malformed there, or are missing
 abbrev pub SectionRefused : {E : Type 0} → ℕ → Option ℕ
     → Reading → ReadCarError E → Reading → Type 0
 SectionRefused count extent old e new = FileRefused (car.Section count)
     (RefusesNext extent) (SectionLacks (of_file extent old)) old e new
 
--- the next section, after so many, was taken, and its block is refused, for such a cause
+-- the section after `count` others was taken, and its block is refused, for such a cause
 pub record BlockRefused {E : Type 0} (IsWhy : Section → StoreRefusal → Type 0)
     (count : ℕ) (extent : Option ℕ)
     (old : Reading) (e : ReadCarError E) (new : Reading) : Type 0 where
@@ -175,7 +175,7 @@ pub record RootsOfFileRefused {E : Type 0} (IsWhy : List CidParts → StoreRefus
   pub says : e ≡ of_refusal told
   pub why : IsWhy roots told
 
--- it is the end of the file, and the commit failed
+-- the file ends here, and the commit failed
 pub record CommitFails {S E : Type 0} (g : Ghosts S) (extent : Option ℕ)
     (old : Reading) (before : S) (e : ReadCarError E) (new : Reading) (after : S) : Type 0 where
   pub more : Option ℕ
@@ -184,15 +184,15 @@ pub record CommitFails {S E : Type 0} (g : Ghosts S) (extent : Option ℕ)
   pub says : e ≡ of_refusal told
   pub failed : FailsByStore g ⊥ before after told
 
--- the call gives up after so many sections, and takes no more
+-- the call gives up after this many sections, and takes no more
 pub record GivesUpBehind {E : Type 0} (sections : List Section)
     (old : Reading) (e : ReadCarError E) (new : Reading) : Type 0 where
   pub same : new ≡ old
   pub says : e ≡ car.OutOfMemory
   pub many : length sections ≡ 2 ^ 64 - 1
 
--- Why no section more is kept, after these: none was taken; the next was, and is refused; it is
--- the end, and the commit failed; or these are too many.
+-- Why no more sections are kept after these: none was taken; or the next was, and is refused; or
+-- the file ends, and the commit failed; or these are too many.
 abbrev pub StopsAt : {S E : Type 0} → Ghosts S → List Section → Option ℕ
     → Reading → S → ReadCarError E → Reading → S → Type 0
 StopsAt g sections extent old before e new after =
@@ -201,7 +201,7 @@ StopsAt g sections extent old before e new after =
     ⊎ (CommitFails g extent old before e new after
     ⊎ GivesUpBehind sections old e new))
 
--- the header of some roots, which may be kept, and some sections were taken, and no more is kept
+-- the header of some roots, which may be kept, and some sections were taken, and no more are kept
 pub record KeepsNoMore {S E : Type 0} (g : Ghosts S)
     (old : Reading) (before : S) (e : ReadCarError E) (new : Reading) (after : S) : Type 0 where
   pub roots : List CidParts
@@ -212,8 +212,8 @@ pub record KeepsNoMore {S E : Type 0} (g : Ghosts S)
   pub taken : IsReadTo (forms roots) sections old extent mid
   pub stops : StopsAt g sections extent mid before e new after
 
--- Why a file is not read: no header was taken; its roots are not kept; or no more than some of its
--- sections is.
+-- Why a CAR file is not read: no header was taken; or its roots are not kept; or not all of its
+-- sections are.
 abbrev pub ReadRefused : {S E : Type 0} → Ghosts S
     → Reading → S → ReadCarError E → Reading → S → Type 0
 ReadRefused g old before e new after =
@@ -221,8 +221,8 @@ ReadRefused g old before e new after =
     ⊎ (RootsOfFileRefused (λ roots told. RootsNotKept g roots before after told) old e new
     ⊎ KeepsNoMore g old before e new after)
 
--- A crash after the call leaves what it could leave before; or that and a whole file, which was
--- taken, and its roots.
+-- A crash after the call leaves what it could leave before, or that with the blocks and roots of a
+-- whole file, which was taken.
 pub record MayLeave (old new : Reading) (before db : Trees) : Type 0 where
   pub roots : List CidParts
   pub sections : List Section
@@ -232,7 +232,7 @@ pub record MayLeave (old new : Reading) (before db : Trees) : Type 0 where
 
 -- ---- steps
 
--- these roots and sections were added, and what was committed stands
+-- these roots and sections were added, and what was committed is the same
 pub record IsAddedAll (old new : View)
     (roots : List CidParts) (sections : List Section) : Type 0 where
   pub trees : HoldsSections old.trees new.trees sections
@@ -256,14 +256,14 @@ TakesBlock g s before result after = Quiet g before after × MatchResult result
     (λ _. IsSound s × (IsClean (g.view after) → IsAdded (g.view before) (g.view after) s.0 s.1))
     (λ told. PutRefused g s before after told)
 
--- Why no section more is added, after so many: none was taken, or the next was, and is refused.
+-- Why no more sections are added after `count`: none was taken, or the next was, and is refused.
 abbrev pub NextRefused : {S E : Type 0} → Ghosts S → ℕ → Option ℕ
     → Reading → S → ReadCarError E → Reading → S → Type 0
 NextRefused g count extent old before e new after =
     (SectionRefused count extent old e new × (after ≡ before))
     ⊎ BlockRefused (λ s told. PutRefused g s before after told) count extent old e new
 
--- the header of some roots and some sections were taken, and added, and no more is
+-- the header of some roots and some sections were taken, and added, and no more are
 pub record AddsNoMore {S E : Type 0} (g : Ghosts S)
     (old : Reading) (before : S) (e : ReadCarError E) (new : Reading) (after : S) : Type 0 where
   pub roots : List CidParts
@@ -277,8 +277,8 @@ pub record AddsNoMore {S E : Type 0} (g : Ghosts S)
   pub stops : NextRefused g (length sections) extent mid held e new after
       ⊎ ((after ≡ held) × GivesUpBehind sections mid e new)
 
--- Why not all of a file is added: no header was taken; its roots are refused; or no more than some
--- of its sections is added.
+-- Why not all of a CAR file is added: no header was taken; or its roots are refused; or not all of
+-- its sections are added.
 abbrev pub AddRefused : {S E : Type 0} → Ghosts S
     → Reading → S → ReadCarError E → Reading → S → Type 0
 AddRefused g old before e new after =
@@ -286,7 +286,7 @@ AddRefused g old before e new after =
     ⊎ (RootsOfFileRefused (λ roots told. RootsRefused g roots before after told) old e new
     ⊎ AddsNoMore g old before e new after)
 
--- these roots and the sections of a whole file are added, so many
+-- these roots and the sections of a whole file, `count` of them, are added
 pub record AddsWhole {S : Type 0} (g : Ghosts S) (old : Reading) (before : S)
     (roots : List CidParts) (count : ℕ) (new : Reading) (after : S) : Type 0 where
   pub sections : List Section
@@ -299,7 +299,7 @@ pub record AddsWhole {S : Type 0} (g : Ghosts S) (old : Reading) (before : S)
   pub read : IsFileRead (forms roots) sections old new
   pub adds : AddsSections g roots sections before after
 
--- All of a file is added, and its roots are answered, and how many sections it has; or it is
+-- All of a CAR file is added, and its roots are returned, with the number of its sections; or it is
 -- refused.
 abbrev pub AddsCar : {S E : Type 0} → Ghosts S
     → Reading → S → Result (Vec CidParts Global × ℕ) (ReadCarError E) → Reading → S → Type 0

@@ -31,7 +31,7 @@ IsStoreSchema schema = (schema ≡ store_objects) ⊎ (schema ≡ earlier_object
 abbrev pub IsStoreList : List Row → Type 0
 IsStoreList rows = (rows ≡ listed_from 0 store_objects) ⊎ (rows ≡ listed_from 0 earlier_objects)
 
--- a store's trees, in which no name is listed twice or is no CID, and each row of the roots is one
+-- a store's trees: each listed name is a CID, listed once, and each row of the roots is a root's
 pub record AreStoreTrees (db : Trees) : Type 0 where
   pub listed : IsStoreList (db catalog_tree)
   pub keyed : IsKeyed (db name_tree)
@@ -41,17 +41,17 @@ pub record AreStoreTrees (db : Trees) : Type 0 where
 abbrev pub LeavesStore : {S : Type 0} → (S → Trees → Type 0) → S → Type 0
 LeavesStore recovers it = (db : Trees) → recovers it db → AreStoreTrees db
 
--- so it is after the call, if it was before it
+-- so it is after the call, if it was so before
 abbrev pub StillLeavesStore : {S : Type 0} → Ghosts S → S → S → Type 0
 StillLeavesStore g old new = IsClean (g.view new) → LeavesStore g.recovers old → LeavesStore g.recovers new
 
--- what was opened leaves a store, if what was committed was listed as one
+-- the opened database leaves a store, if what was committed was listed as one
 abbrev pub LeavesAsListed : {S : Type 0} → Ghosts S → S → S → Type 0
 LeavesAsListed g old new = IsClean (g.view new)
     → (IsClean (g.view old) → IsStoreList ((g.view old).committed catalog_tree)) → LeavesStore g.recovers new
 
 -- After a crash an open finds what it would have found before the call, or what was committed, with
--- the version.
+-- the version set.
 abbrev pub IsSpared : {S : Type 0} → Ghosts S → S → S → Type 0
 IsSpared g old new = (db : Trees) → g.recovers new db → g.recovers old db
     ⊎ (IsClean (g.view new) → IsTrue (g.view old).is_open × OnlyMarks (g.view old).committed db)
@@ -63,13 +63,13 @@ abbrev pub WhatIsLeftIsTaken : {D : Type 0} → disk.Ghosts D → Type 0
 WhatIsLeftIsTaken {D} g = (it : FileStore D g) → LeavesStore recovers it
     → (image : Image) → (state it).may_leave image → ∥ IsLeft image ∥₁
 
--- So is what the two files hold, as when the process ends.
+-- So is the image that the two files hold, as if the process ends.
 abbrev pub WhatIsHeldIsTaken : {D : Type 0} → disk.Ghosts D → Type 0
 WhatIsHeldIsTaken {D} g = (it : FileStore D g) → LeavesStore recovers it
     → IsClean (view it) → ∥ IsLeft (seen_image g (files it).0 (files it).1) ∥₁
 
--- the files name this page size, hold what a store may leave, and recover to pages whose header is
--- sound; so does whatever a crash may leave of them
+-- the files name this page size, hold what a store may leave, and recover to pages with a sound
+-- header; so does whatever a crash may leave of them
 pub record HoldsSound {D : Type 0} {g : disk.Ghosts D} (it : Unopened D g) : Type 0 where
   pub names : NamesSize (image it) (state_of it).page_size
   pub left : IsLeft (image it)

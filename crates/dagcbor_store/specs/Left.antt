@@ -1,4 +1,4 @@
--- What a store leaves in its files, and an open takes them to hold.
+-- What a store leaves in its files, which an open relies on.
 use Rattle.std.specs.Prelude.{◌≡◌, ℕ, List, [], ◌∷◌, codes, ⊤, IsTrue, false}
 use Rattle.sqlite_disk.specs.declared.Disk.{Ghosts}
 use Rattle.sqlite_value.specs.declared.value.Value.TheVariants.{Null, Text}
@@ -63,16 +63,17 @@ ListsObjects (w ∷ wanted) (r ∷ rows) = IsRowOfObject w r × ListsObjects wan
 abbrev pub NamesSize : Image → ℕ → Type 0
 NamesSize image size = (¬ IsIgnored image.log → size ≡ be32 image.log 8) × (IsIgnored image.log → size ≡ size_in_file image.db)
 
--- the pages are a sound database of the schema, no name in its index is listed twice or is no CID,
--- and each row of the roots is one
+-- the pages are a sound database of the schema; each name in its index is a CID, listed once; and
+-- each row of the roots is a root's
 pub record IsStoreFile (size : ℕ) (pages : PageMap) : Type 0 where
   pub file : IsFile size store_objects pages
   pub keyed : IsKeyed (file_trees size store_objects pages name_tree)
   pub roots : AreAllRoots (file_trees size store_objects pages root_tree)
 
--- What the files recover to, if its header and its list of free pages are sound, and it lists the
--- schema of a store, is the file of one. So is what a store leaves, what `sqlite3` makes of that by
--- sound blocks and roots, no file at all, and a file of something else.
+-- If the header and the list of free pages of what the files recover to are sound, and it lists the
+-- schema of a store, then it is the file of a store. So it is with what a store leaves, and with
+-- what `sqlite3` makes of that by sound blocks and roots. It also holds if there is no file, or a
+-- file of something else.
 abbrev pub IsLeft : Image → Type 0
 IsLeft image = (size : ℕ) (pages : PageMap) → NamesSize image size → Recovers size image pages
     → ∥ IsSoundFile size pages ∥₁
@@ -81,7 +82,7 @@ IsLeft image = (size : ℕ) (pages : PageMap) → NamesSize image size → Recov
 -- ---- steps
 
 module _ {D : Type 0} {g : Ghosts D} where
-  -- the files recover to that of a store, and are opened as one
+  -- the files recover to those of a store, and are opened as such
   pub record HasStore (it : Unopened D g) : Type 0 where
     pub pages : PageMap
     pub found : Recovers (state_of it).page_size (image it) pages

@@ -1,4 +1,4 @@
--- The links that lead to nothing in a store.
+-- The links that lead to no block of the store.
 use Rattle.std.specs.Prelude.{◌≡◌, ◌↔◌, ◌⊎◌, ℕ, List, Option, None, Some, Vec, Result, IfOk}
 use Rattle.std.specs.List.Sorted.{IsStrictlySortedBy}
 use Rattle.std.specs.BTreeSet.{BTreeSet}
@@ -15,18 +15,17 @@ use Rattle.dagcbor_store.specs.Stored.{IsNext, GivesNextName, ListsName, Holds, 
 use Rattle.dagcbor_store.specs.Trees.{Place, StopsAt}
 use Rattle.dagcbor_store.specs.declared.error.StoreRefusal.{StoreRefusal}
 
--- the binary form is that of a link in a stored block of DAG-CBOR or DAG-PB, or of one within such a
--- link
+-- these bytes are the binary form of a link in a stored block of DAG-CBOR or DAG-PB, or in a block
+-- that such a link holds inline
 abbrev pub IsLinked : List ℕ → View → Type 0
 IsLinked form v = (c : CidParts) × (b : List ℕ) × (links : List (List ℕ))
     × AreCidParts c × Holds v c b × HasLinks c.codec b links × IsReached form links
 
--- nothing is listed under it, nor does it hold a block itself
+-- nothing is listed under the name, nor does it hold a block inline
 abbrev pub NamesNoneListed : List ℕ → View → Type 0
 NamesNoneListed form v = ¬ IsInlineForm form × ¬ IsListed (v.trees name_tree) form
 
--- the links in stored blocks of these codecs that name nothing that is listed, each once, in their
--- order
+-- the links in stored blocks of these codecs under which nothing is listed, each once, in order
 abbrev pub ListsLostLinks : View → List CidParts → Type 0
 ListsLostLinks v links = IsStrictlySortedBy cid_cmp links
     × ((form : List ℕ) → Among form (forms links) ↔ (IsLinked form v × NamesNoneListed form v))
@@ -35,12 +34,11 @@ ListsLostLinks v links = IsStrictlySortedBy cid_cmp links
 abbrev pub AtListed : Place
 AtListed v n IsSo = IsSo × ListsName v n
 
--- what is under a name that is listed is damaged, or it is not known what links it has; or the store
--- failed
+-- the block under a listed name is damaged, or its links are not known; or the store failed
 abbrev pub LostRefused : {S : Type 0} → Ghosts S → S → S → StoreRefusal → Type 0
 LostRefused g = StopsAt g AtListed
 
--- the set keeps what it had, and has no name more but such
+-- the set keeps what it had, and gains only such names
 abbrev pub GrowsByLost : (CidParts → Type 0) → BTreeSet CidParts → BTreeSet CidParts → Type 0
 GrowsByLost IsSuch old new = (q : CidParts) → (Among q old.keys → Among q new.keys)
     × (Among q new.keys → Among q old.keys ⊎ IsSuch q)
@@ -51,7 +49,7 @@ IsReachedIn codec b q = (links : List (List ℕ)) × HasLinks codec b links × I
 
 -- ---- steps
 
--- the name is put into the set where it is not listed
+-- the name is put into the set if it is not listed
 abbrev pub AddsUnlisted : View → CidParts → BTreeSet CidParts → BTreeSet CidParts → Type 0
 AddsUnlisted v name old new = (q : CidParts) → Among q new.keys
     ↔ (Among q old.keys ⊎ ((q ≡ name) × ¬ ListsName v q))
@@ -66,13 +64,13 @@ abbrev pub AddsLost : View → ℕ → List ℕ → BTreeSet CidParts → BTreeS
 AddsLost v codec b old new = (q : CidParts) → Among q new.keys
     ↔ (Among q old.keys ⊎ (IsReachedIn codec b q × ¬ ListsName v q))
 
--- where the next block is of such a codec, the names that its links lead to, and that are not listed,
+-- if the next block has such a codec, the names that its links lead to, and that are not listed,
 -- are put into the set
 abbrev pub AddsOf : View → CidParts → List ℕ → BTreeSet CidParts → BTreeSet CidParts → Type 0
 AddsOf v c b old new = (IsReadCodec c.codec × AddsLost v c.codec b old new)
     ⊎ ((¬ IsReadCodec c.codec) × (new ≡ old))
 
--- such names of the block after the last name are put into the set; or none follows it
+-- such names of the block after the last name are put into the set; or no block follows
 abbrev pub AddsLostLinks : View → Option CidParts → BTreeSet CidParts
     → Option CidParts → BTreeSet CidParts → Type 0
 AddsLostLinks v last old None new = GivesNextName v last None × (new ≡ old)

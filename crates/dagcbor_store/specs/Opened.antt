@@ -18,14 +18,15 @@ use Rattle.block_trees.specs.RootRows.{root_tree, IsRootShape}
 use Rattle.block_trees.specs.Ends.{KeepsOthers}
 use Rattle.dagcbor_store.specs.Stored.{AreAllRoots}
 
--- the trees of a store are there, that of the roots but in a file of the earlier version
+-- the trees of the blocks and of the names are there, and that of the roots unless the file is of
+-- the earlier version
 pub record HasTrees (v : View) : Type 0 where
   pub blocks : v.shape block_tree ≡ shape.Table
   pub names : v.shape name_tree ≡ shape.Index plain
   pub rooted : IsRootShape (v.shape root_tree)
 
--- The blocks, the roots and each other tree are the same; the version too, but where it was 0, as
--- in a database that was just made.
+-- The blocks, the roots and each other tree are the same; so is the version, unless it was 0, as in
+-- a database that was just made.
 pub record OnlyMarks (old new : Trees) : Type 0 where
   pub others : KeepsOthers (λ t. t ≡ version_tree) old new
   pub version : (new version_tree ≡ old version_tree) ⊎ (old version_tree ≡ version_rows 0)
@@ -56,14 +57,14 @@ pub record IsSettled (v : View) : Type 0 where
   pub committed : v.committed ≡ v.trees
 
 module _ {D : Type 0} {g : disk.Ghosts D} where
-  -- what was committed stands in the file, nothing waits for a commit, and the log is empty
+  -- what was committed is in the file, nothing waits for a commit, and the log is empty
   pub record IsMoved (old new : FileStore D g) : Type 0 where
     pub is_open : IsTrue (view new).is_open
     pub trees : (view new).trees ≡ (view old).committed
     pub committed : (view new).committed ≡ (view old).committed
     pub log : log_frames new ≡ 0
 
--- how the refusal of an open is told
+-- by which refusal each failure of an open is returned
 abbrev pub TellsOfOpening : OpenError → StoreRefusal → Type 0
 TellsOfOpening opening.OutOfMemory told = told ≡ refusal.OutOfMemory
 TellsOfOpening opening.Io told = told ≡ refusal.Disk stored.Io

@@ -18,7 +18,7 @@ use Rattle.dagcbor_store.specs.declared.error.StoreRefusal.TheVariants as refusa
 abbrev pub HasRoots : View → List CidParts → Type 0
 HasRoots v names = AreRoots (v.trees root_tree) names
 
--- the name is the last of the roots; or it was one, and they are the same
+-- the name was added as the last root; or it was a root already, and the roots are the same
 abbrev pub JoinsRoots : List CidParts → CidParts → List CidParts → Type 0
 JoinsRoots old name new = (Among name old × (new ≡ old))
     ⊎ ((¬ Among name old) × (new ≡ old ++ name ∷ []))
@@ -27,7 +27,7 @@ JoinsRoots old name new = (Among name old × (new ≡ old))
 abbrev pub IsEarlier : View → Type 0
 IsEarlier v = v.shape root_tree ≡ shape.Absent
 
--- no number is left for a row of the name, which is no root
+-- no number is left for a row of the name, which is not a root
 abbrev pub LacksNumber : Trees → CidParts → Type 0
 LacksNumber t name = FreesId (t root_tree) None
     × ((names : List CidParts) → AreRoots (t root_tree) names → ¬ Among name names)
@@ -42,7 +42,7 @@ AddsInTurn old [] new = new ≡ old
 AddsInTurn old (name ∷ more) new = (mid : List CidParts)
     × JoinsRoots old name mid × AddsInTurn mid more new
 
--- the roots are those that there were, and then each of these that was none
+-- the roots are those that there were, and then each of these names that was not one
 abbrev pub GainsRoots : Trees → Trees → List CidParts → Type 0
 GainsRoots old new added = (names : List CidParts) → AreRoots (old root_tree) names
     → (now : List CidParts) × AreRoots (new root_tree) now × AddsInTurn names added now
@@ -55,8 +55,8 @@ KeepsRoots v = ¬ IsEarlier v
 abbrev pub MayKeepRoots : View → List CidParts → Type 0
 MayKeepRoots v names = (names ≡ []) ⊎ KeepsRoots v
 
--- The names are roots; where all of them were, nothing is changed. Each other tree is the same, and
--- what was committed.
+-- The names are roots; if all of them were already, nothing is changed. Each other tree is the
+-- same, and so is what was committed.
 pub record AreRootsAdded (old new : View) (added : List CidParts) : Type 0 where
   pub roots : GainsRoots old.trees new.trees added
   pub same : (names : List CidParts) → HasRoots old names
@@ -67,7 +67,7 @@ pub record AreRootsAdded (old new : View) (added : List CidParts) : Type 0 where
   pub is_open : new.is_open ≡ old.is_open
   pub broken : new.is_broken ≡ old.is_broken
 
--- the first of the names come before this one
+-- the names begin with the first ones and then this one
 abbrev pub ComesNext : List CidParts → CidParts → List CidParts → Type 0
 ComesNext first name names = (rest : List CidParts) × (names ≡ first ++ name ∷ rest)
 
@@ -85,9 +85,9 @@ pub record RootsRunOut (old now : View) (names : List CidParts) : Type 0 where
   pub lacks : LacksNumber held.trees name
   pub same : IsSame held now
 
--- The file is of the earlier version, there are names, and nothing is changed; the first are added,
--- and no number is left for a row of the next; or the store failed, which is told as `BadRoot`
--- where a row of the table is none of a root.
+-- The file is of the earlier version, there are names, and nothing is changed; or the first are
+-- added, and no number is left for a row of the next; or the store failed, with `BadRoot` if a row
+-- of the table is not a root's.
 abbrev pub RootsRefused : {S : Type 0} → Ghosts S → List CidParts → S → S → StoreRefusal → Type 0
 RootsRefused g names old new refusal.EarlierVersion =
     IsEarlier (g.view old) × (names ≢ []) × (new ≡ old)
@@ -95,7 +95,7 @@ RootsRefused g names old new refusal.NoNumber =
     IsClean (g.view new) → RootsRunOut (g.view old) (g.view new) names
 RootsRefused g names old new told = FailsByStore g (IsAnyTooLong (g.view old) names) old new told
 
--- ---- one of them
+-- ---- one root
 
 -- the set has just these names
 abbrev pub HasJust : List CidParts → CidSet → Type 0
@@ -105,7 +105,7 @@ HasJust names known = (c : CidParts) → Among c (members known) ↔ Among c nam
 abbrev pub KnowsRoots : View → CidSet → Type 0
 KnowsRoots v known = (names : List CidParts) × HasRoots v names × HasJust names known
 
--- the name is a root, as one that is added in its turn
+-- the name is a root, after the others unless it was one
 pub record IsRootAdded (old new : View) (name : CidParts) : Type 0 where
   pub roots : (names : List CidParts) → HasRoots old names
       → (now : List CidParts) × HasRoots new now × JoinsRoots names name now
@@ -116,16 +116,17 @@ pub record IsRootAdded (old new : View) (name : CidParts) : Type 0 where
   pub is_open : new.is_open ≡ old.is_open
   pub broken : new.is_broken ≡ old.is_broken
 
--- no number is left for a row of the name, which is no root; or the store failed
+-- no number is left for a row of the name, which is not a root; or the store failed
 abbrev pub RootRefused : {S : Type 0} → Ghosts S → CidParts → S → S → StoreRefusal → Type 0
 RootRefused g name old new refusal.NoNumber = FindsSo g old new (λ v. LacksNumber v.trees name)
 RootRefused g name old new told =
     FailsByStore g (IsRootTooLongFor (g.view old) name) old new told
 
--- ---- taking out
+-- ---- removing
 
--- The name is no root, whether it was one; the others are, in their order. Nothing is changed where
--- it was none. Each other tree is the same, and what was committed.
+-- The name is not a root now, and the result says whether it was; the other roots are, in their
+-- order. If it was not, nothing is changed. Each other tree is the same, and so is what was
+-- committed.
 pub record IsRootTaken (old new : View) (name : CidParts) (taken : Bool) : Type 0 where
   pub roots : (names : List CidParts) → HasRoots old names → (IsTrue taken ↔ Among name names)
       × ((now : List CidParts) × HasRoots new now × LeavesOut (λ c. c ≡ name) names now)

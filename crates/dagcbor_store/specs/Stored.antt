@@ -30,13 +30,13 @@ use Rattle.block_trees.specs.declared.entries.Found.TheVariants.{Nothing, NoRow,
 use Rattle.dagcbor_store.specs.declared.error.StoreRefusal.{StoreRefusal}
 use Rattle.dagcbor_store.specs.declared.error.StoreRefusal.TheVariants as refusal
 
--- each row of the table is that of a root
+-- each row of the table is a root's
 abbrev pub AreAllRoots : List Row → Type 0
 AreAllRoots rows = (names : List CidParts) × AreRoots rows names
 
--- The trees are there, that of the roots but in a file of the earlier version, and the transaction
--- makes and drops none. No name is listed twice, and each row of the roots is one, as the transaction
--- sees them and as the last commit left them.
+-- The trees of the blocks and of the names are there, and that of the roots unless the file is of
+-- the earlier version. The transaction makes and drops none. No name is listed twice, and each row
+-- of the roots is a root's, both as the transaction sees them and as the last commit left them.
 pub record IsReady (v : View) : Type 0 where
   pub blocks : v.shape block_tree ≡ shape.Table
   pub names : v.shape name_tree ≡ shape.Index plain
@@ -53,11 +53,11 @@ pub record IsReady (v : View) : Type 0 where
 abbrev pub Holds : View → CidParts → List ℕ → Type 0
 Holds v name b = IsStored v.trees (cid_bytes name) b
 
--- something is listed under the name, be it a block or not
+-- something is listed under the name, whether a block or not
 abbrev pub ListsName : View → CidParts → Type 0
 ListsName v name = IsListed (v.trees name_tree) (cid_bytes name)
 
--- the name comes after the last one, if there is one, in the order of bytes
+-- the name comes after the last one, if there is one, in byte order
 abbrev pub IsBehind : Option CidParts → List ℕ → Type 0
 IsBehind None q = ⊤
 IsBehind (Some c) q = name_cmp (cid_bytes c) q ≡ Less
@@ -67,7 +67,7 @@ abbrev pub bound_behind : Option CidParts → List ℕ
 bound_behind None = []
 bound_behind (Some c) = cid_bytes c ++ 0 ∷ []
 
--- the first of the names that are listed after the last one
+-- the first listed name after the last one
 pub record IsNext (entries : List Row) (last : Option CidParts) (c : CidParts) : Type 0 where
   pub valid : AreCidParts c
   pub listed : IsListed entries (cid_bytes c)
@@ -75,29 +75,29 @@ pub record IsNext (entries : List Row) (last : Option CidParts) (c : CidParts) :
   pub first : (q : List ℕ) → IsListed entries q → IsBehind last q
       → (q ≡ cid_bytes c) ⊎ (name_cmp (cid_bytes c) q ≡ Less)
 
--- the first name after the last one is given, or none is listed there
+-- the answer is the first name after the last one, or `None` if none is listed there
 abbrev pub GivesNextName : View → Option CidParts → Option CidParts → Type 0
 GivesNextName v last None = (q : List ℕ) → IsListed (v.trees name_tree) q → IsBehind last q → ⊥
 GivesNextName v last (Some c) = IsNext (v.trees name_tree) last c
 
--- the bytes are those that the name names
+-- the bytes match the name
 abbrev pub IsNamedBy : CidParts → List ℕ → Type 0
 IsNamedBy name b = IsBySha256 name × (name.digest ≡ sha256 b)
 
--- neither what the transaction sees has changed, nor what was committed
+-- nothing has changed in what the transaction sees, nor in what was committed
 pub record IsSame (old new : View) : Type 0 where
   pub trees : new.trees ≡ old.trees
   pub committed : new.committed ≡ old.committed
   pub is_open : new.is_open ≡ old.is_open
   pub broken : new.is_broken ≡ old.is_broken
 
--- unless a wrong answer of the disk was taken as true, neither what the transaction sees has
--- changed, nor what was committed
+-- unless a wrong answer of the disk was taken as true, nothing has changed in what the transaction
+-- sees, nor in what was committed
 abbrev pub StaysSame : {S : Type 0} → Ghosts S → S → S → Type 0
 StaysSame g old new = IsClean (g.view new) → IsSame (g.view old) (g.view new)
 
--- unless a wrong answer of the disk was taken as true, it is so in the store, and neither what the
--- transaction sees has changed, nor what was committed
+-- unless a wrong answer of the disk was taken as true, it is so in the store, and nothing has
+-- changed in what the transaction sees, nor in what was committed
 abbrev pub FindsSo : {S : Type 0} → Ghosts S → S → S → (View → Type 0) → Type 0
 FindsSo g old new IsSo = IsClean (g.view new) → IsSo (g.view old) × IsSame (g.view old) (g.view new)
 
@@ -114,14 +114,14 @@ abbrev pub number_in : Value → Option ℕ
 number_in (Int (pos n)) = Some n
 number_in value = None
 
--- an entry of the index of names is told, or a row of the roots, that is none of a store's
+-- the refusal is of an index entry, or of a row of the roots, that no store writes
 abbrev pub IsBadRow : StoreRefusal → Type 0
 IsBadRow (refusal.BadEntry number) = ⊤
 IsBadRow (refusal.BadRoot number) = ⊤
 IsBadRow told = ⊥
 
--- want of memory, and a row that is too long, are told as such, and each other failure as the
--- store's, or as an entry or a row that is none of a store's
+-- out of memory and a row that is too long have refusals of their own; a broken tree is refused as
+-- such, or by its bad entry or row; any other failure is refused as the disk's
 abbrev pub TellsOfStore : StoreError → StoreRefusal → Type 0
 TellsOfStore stored.OutOfMemory told = told ≡ refusal.OutOfMemory
 TellsOfStore stored.Unstorable told = told ≡ refusal.TooLong
@@ -144,12 +144,12 @@ pub record FailsByStore {S : Type 0} (g : Ghosts S) (too_long : Type 0) (old new
 abbrev pub HoldsOnly : View → CidParts → List ℕ → Type 0
 HoldsOnly v name b = Holds v name b × ((d : List ℕ) → Holds v name d → d ≡ b)
 
--- none where nothing is listed under the name, else the bytes that are stored under it
+-- `None` if nothing is listed under the name, else the bytes that are stored under it
 abbrev pub GetsSome : View → CidParts → Option (List ℕ) → Type 0
 GetsSome v name None = ListsName v name → ⊥
 GetsSome v name (Some b) = HoldsOnly v name b
 
--- the name is listed, and no bytes that it names are stored under it
+-- the name is listed, and no bytes that match it are stored under it
 abbrev pub IsDamaged : View → CidParts → Type 0
 IsDamaged v name = ListsName v name × ((b : List ℕ) → Holds v name b → IsNamedBy name b → ⊥)
 
@@ -159,7 +159,7 @@ GetRefused g name old new (refusal.Damaged n) =
     (n ≡ name) × FindsSo g old new (λ v. IsDamaged v name)
 GetRefused g name old new told = FailsByStore g ⊥ old new told
 
--- what was found is answered where it is what the name names
+-- what was found is returned if it matches the name
 abbrev pub AnswersVerified : CidParts → Found → Result (Option (Vec ℕ Global)) StoreRefusal
     → Type 0
 AnswersVerified name Nothing r = r ≡ Ok None
@@ -167,7 +167,7 @@ AnswersVerified name NoRow r = r ≡ Err (refusal.Damaged name)
 AnswersVerified name (Block v) r = ((r ≡ Ok (Some v)) × IsNamedBy name v.items)
     ⊎ ((r ≡ Err (refusal.Damaged name)) × (IsNamedBy name v.items → ⊥))
 
--- a block was refused only for want of a number
+-- a block was refused only because no number is left
 abbrev pub IsToldAdded : Added → Result (Unit {0}) StoreRefusal → Type 0
 IsToldAdded New r = r ≡ Ok tt
 IsToldAdded Stored r = r ≡ Ok tt
@@ -190,11 +190,11 @@ pub record IsKeptBy {S : Type 0} (g : Ghosts S) (old new : S) : Type 0 where
   pub closes : IsClean (g.view new) → IsTrue (g.view old).is_open
       → IsTrue (g.view new).is_open ⊎ MoreFaults (g.faults old) (g.faults new)
 
--- ---- putting and taking out
+-- ---- putting and removing
 
--- The block is stored under its name, and nothing else; under each other name what was stored
--- there. The table has the row of the block, and the rows that it had, but that to which the name
--- led. Where just the block was stored under it, nothing is changed. Each other tree is the same.
+-- The block is stored under its name, and nothing else; under each other name, what was stored
+-- there. The table has the row of the block, and the rows that it had, but for the one to which the
+-- name led. If just the block was stored under it, nothing is changed. Each other tree is the same.
 pub record IsAddedTo (old new : Trees) (name : CidParts) (b : List ℕ) : Type 0 where
   pub stored : (d : List ℕ) → IsStored new (cid_bytes name) d ↔ (d ≡ b)
   pub others : (q d : List ℕ) → q ≢ cid_bytes name → IsStored new q d ↔ IsStored old q d
@@ -207,7 +207,7 @@ pub record IsAddedTo (old new : Trees) (name : CidParts) (b : List ℕ) : Type 0
   pub same : IsStored old (cid_bytes name) b → new ≡ old
   pub beside : KeepsOthers IsOfBlocks old new
 
--- the block is stored under its name, all else is as it was, and what was committed stands
+-- the block is stored under its name, all else is as it was, and what was committed is the same
 pub record IsAdded (old new : View) (name : CidParts) (b : List ℕ) : Type 0 where
   pub trees : IsAddedTo old.trees new.trees name b
   pub committed : new.committed ≡ old.committed
@@ -223,9 +223,9 @@ pub record IsPut (old new : View) (name : CidParts) (b : List ℕ) : Type 0 wher
   pub committed : new.committed ≡ new.trees
   pub is_open : IsTrue new.is_open
 
--- what is stored is what was stored under the other names; nothing is changed where the name is not
--- listed; the index has the entries that it had of the others, and the table the rows that it had,
--- but that to which the name led; each other tree is the same
+-- Under each other name is stored what was stored there; if the name is not listed, nothing is
+-- changed. The index has the entries that it had of the other names, and the table the rows that it
+-- had, but for the one to which the name led. Each other tree is the same.
 pub record IsTaken (old new : View) (name : CidParts) (taken : Bool) : Type 0 where
   pub was : IsTrue taken ↔ ListsName old name
   pub holds : (q d : List ℕ) → IsStored new.trees q d
@@ -247,8 +247,8 @@ pub record IsTaken (old new : View) (name : CidParts) (taken : Bool) : Type 0 wh
 abbrev pub IsTooLongFor : View → Section → Type 0
 IsTooLongFor v s = IsTooLong v.reals (cid_bytes s.0) s.1
 
--- The bytes are no block under the name, and nothing is changed; a row has the greatest number; or
--- the store failed.
+-- The bytes are not a block under the name, and nothing is changed; or a row has the greatest
+-- number; or the store failed.
 abbrev pub PutRefused : {S : Type 0} → Ghosts S → Section → S → S → StoreRefusal → Type 0
 PutRefused g s old new (refusal.Unsound e) = IsUnsound s e × (new ≡ old)
 PutRefused g s old new refusal.NoNumber =

@@ -1,4 +1,4 @@
--- The blocks of a store that links lead to from a root, and the file of them.
+-- The blocks of a store that links lead to from a root, and the CAR file of them.
 use Rattle.std.specs.Prelude.{◌≡◌, ◌↔◌, ◌⊎◌, ℕ, List, [], ◌∷◌, ◌++◌, Option, None, Some, Result, Err, MatchResult, Bool, ⊤}
 use Rattle.std.specs.BTreeSet.{BTreeSet}
 use Rattle.sqlite_trees.specs.View.{View}
@@ -25,73 +25,73 @@ use Rattle.dagcbor_store.specs.declared.car_error.WriteCarError.TheVariants as c
 use Rattle.dagcbor_store.specs.declared.car_error.WriteTreeError.{WriteTreeError}
 use Rattle.dagcbor_store.specs.declared.car_error.WriteTreeError.TheVariants as tree
 
--- it has the bytes that are stored under each name
+-- the function gives the bytes that are stored under each name
 abbrev pub ShowsStored : View → Stored → Type 0
 ShowsStored v stored = (q : CidParts) (b : List ℕ)
     → (stored q ≡ Some b) ↔ IsStored v.trees (cid_bytes q) b
 
--- that is so of the bytes that are stored under each name
+-- it is so of the bytes that are stored under each name
 abbrev pub OfStored : View → (Stored → Type 0) → Type 0
 OfStored v IsSo = (stored : Stored) → ShowsStored v stored → IsSo stored
 
 -- ---- what a walk comes to
 
--- what is got under a name whose links are known: nothing, where none is listed; or the bytes that are
--- stored under it, which it names
+-- what is read under a name whose links are known: `None` if nothing is listed, or the bytes that
+-- are stored under it, which match it
 abbrev pub GetsKnown : View → CidParts → Option (List ℕ) → Type 0
 GetsKnown v name None = (¬ ListsName v name) × (IsInline name → HasKnownLinks name.codec name.digest)
 GetsKnown v name (Some b) = HoldsOnly v name b × IsNamedBy name b × HasKnownLinks name.codec b
 
--- what is under the name is not damaged, and it is known what links it has
+-- the block under the name is not damaged, and its links are known
 abbrev pub IsKnown : View → CidParts → Type 0
 IsKnown v name = (o : Option (List ℕ)) × GetsKnown v name o
 
--- by the verdict on the block under the name it is not known what links it has
+-- by the verdict on the block under the name, its links are not known
 abbrev pub HidesLinksOf : View → CidParts → Verdict → Type 0
 HidesLinksOf v name verdict = (b : List ℕ) × HidesLinks name.codec b verdict
     × ((HoldsOnly v name b × IsNamedBy name b)
     ⊎ ((¬ ListsName v name) × IsInline name × (name.digest ≡ b)))
 
--- a place at which a walk may stop: which names stand there, and what is so of one
+-- a place at which a walk may stop: which names it may be at, and what is so of one
 abbrev pub Place : Type 1
 Place = View → CidParts → Type 0 → Type 0
 
--- A walk was stopped at such a name: what is under it is damaged, or it is not known what links it has.
--- Or the store failed.
+-- A walk stopped at such a name: the block under it is damaged, or its links are not known. Or the
+-- store failed.
 abbrev pub StopsAt : {S : Type 0} → Ghosts S → Place → S → S → StoreRefusal → Type 0
 StopsAt g At old new (refusal.Damaged n) = FindsSo g old new (λ v. At v n (IsDamaged v n))
 StopsAt g At old new (refusal.LinksUnread n verdict) =
     FindsSo g old new (λ v. At v n (HidesLinksOf v n verdict))
 StopsAt g At old new told = FailsByStore g ⊥ old new told
 
--- this name alone stands there
+-- the place is this name alone
 abbrev pub AtName : CidParts → Place
 AtName name v n IsSo = (n ≡ name) × IsSo
 
--- the names of the blocks that links lead to from the root, and those that are lost; of each name on
--- the way it is known what links it has
+-- the names of the blocks that links lead to from the root, and those that are lost; the links of
+-- each name on the way are known
 abbrev pub Reaches : View → CidParts → Reached → Type 0
 Reaches v root r = OfStored v (λ stored. ListsReachable stored root r.found.items
     × ListsLost stored root r.lost.items
     × ((q : CidParts) → LeadsFar stored root q → IsKnown v q))
 
--- links lead to the name at which it stopped; or the store failed
+-- links lead to the name at which the walk stopped; or the store failed
 abbrev pub ReachRefused : {S : Type 0} → Ghosts S → CidParts → S → S → StoreRefusal → Type 0
 ReachRefused g root = StopsAt g (λ v n IsSo. OfStored v (λ stored. IsSo × LeadsFar stored root n))
 
--- ---- a walk beside names that are known
+-- ---- a walk that skips known names
 
--- what a walk is shown: no bytes of a name in the set, and of another what is got under it
+-- what a walk is shown: empty bytes for a name in the set, and for another what is stored under it
 abbrev pub IsShownToWalk : View → BTreeSet CidParts → CidParts → Option (List ℕ) → Type 0
 IsShownToWalk v kept name o = (Among name kept.keys × (o ≡ Some []))
     ⊎ ((¬ Among name kept.keys) × GetsKnown v name o)
 
--- it has what a walk is shown of each name
+-- the function gives what a walk is shown of each name
 abbrev pub Fits : View → BTreeSet CidParts → Stored → Type 0
 Fits v kept stored = (name : CidParts) (o : Option (List ℕ))
     → IsShownToWalk v kept name o → stored name ≡ o
 
--- the name is in the set, or it is known what links it has
+-- the name is in the set, or its links are known
 abbrev pub IsKnownBeside : View → BTreeSet CidParts → CidParts → Type 0
 IsKnownBeside v kept name = Among name kept.keys ⊎ IsKnown v name
 
@@ -113,7 +113,7 @@ ReachesBeside v kept root r = (stored : Stored) → Fits v kept stored
 abbrev pub AtMetBeside : CidParts → BTreeSet CidParts → Place
 AtMetBeside root kept v n IsSo = IsSo × ((stored : Stored) → Fits v kept stored → LeadsFar stored root n)
 
--- ---- a file of them
+-- ---- the CAR file of them
 
 -- the sections are those of the names of the blocks that links lead to from the root
 abbrev pub AreReached : Stored → CidParts → List Section → Type 0
@@ -136,15 +136,16 @@ abbrev pub AreTreeOf : CidParts → List CidParts → View → List Section → 
 AreTreeOf root lost v sections = OfStored v (λ stored. ¬ IsLost stored root
     × ListsLost stored root lost × AreReached stored root sections)
 
--- The file of the stored blocks that links lead to from the root is appended; these names are lost.
+-- The CAR file of the stored blocks that links lead to from the root is appended; these names are
+-- lost.
 abbrev pub WritesTree : {S : Type 0} → Ghosts S → CidParts
     → S → Written → List CidParts → Written → S → Type 0
 WritesTree g root old before lost after new =
     WritesFile g (cid_bytes root ∷ []) (AreTreeOf root lost) old before after new
 
--- Why it is not appended: nothing is stored under the root, and nothing was sent; the writer
--- stopped within the file of first blocks; or the store refused, before anything was sent, or
--- after the file of first ones.
+-- Why it is not appended: nothing is stored under the root, and nothing was sent; or the writer
+-- stopped within the file of the first blocks; or the store refused, before anything was sent, or
+-- after the file of the first blocks.
 abbrev pub TreeRefused : {S E : Type 0} → Ghosts S → CidParts
     → S → Written → WriteTreeError E → Written → S → Type 0
 TreeRefused g root old before tree.NotStored after new = (after ≡ before)
@@ -156,7 +157,7 @@ TreeRefused g root old before (tree.Unwritten (car.Store told)) after new =
     × ((after ≡ before)
     ⊎ WritesFirst g (cid_bytes root ∷ []) (AreFirstOf root) old before after new)
 
--- where the writer takes no memory, want of memory for it comes before anything is sent
+-- if the writer takes no memory, the call runs out of memory only before anything is sent
 abbrev pub TreeUnsent : {T E : Type 0} → Bool
     → Written → Result T (WriteTreeError E) → Written → Type 0
 TreeUnsent takes_memory old (Err (tree.Unwritten e)) new =
@@ -170,21 +171,21 @@ abbrev pub AreFirstAt : List CidParts → View → List Section → Type 0
 AreFirstAt names v sections = (rest : List CidParts)
     × OfStored v (λ stored. sections ++ sections_at stored rest ≡ sections_at stored names)
 
--- the sections are those of the names
+-- the sections are those of all the names
 abbrev pub AreAt : List CidParts → View → List Section → Type 0
 AreAt names v sections = OfStored v (λ stored. sections ≡ sections_at stored names)
 
--- under the name is no block, or a damaged one
+-- the name has no block, or a damaged one
 abbrev pub HoldsNoneGood : View → CidParts → Type 0
 HoldsNoneGood v name = ListsName v name → IsDamaged v name
 
--- under the name is no block, or a damaged one; or the store failed
+-- the name has no block, or a damaged one; or the store failed
 abbrev pub NamedRefused : {S : Type 0} → Ghosts S → CidParts → S → S → StoreRefusal → Type 0
 NamedRefused g name old new (refusal.Damaged n) =
     (n ≡ name) × FindsSo g old new (λ v. HoldsNoneGood v n)
 NamedRefused g name old new told = FailsByStore g ⊥ old new told
 
--- under one of the names is no block, or a damaged one; or the store failed
+-- one of the names has no block, or a damaged one; or the store failed
 abbrev pub NamesRefused : {S : Type 0} → Ghosts S → List CidParts → S → S → StoreRefusal → Type 0
 NamesRefused g names old new (refusal.Damaged n) =
     Among n names × FindsSo g old new (λ v. HoldsNoneGood v n)
@@ -206,14 +207,14 @@ WritesNamed g name old before result after new = MatchResult result
     (λ _. AppendsSection g (λ v s. HoldsOnly v s.0 s.1) name old before after new)
     (λ e. NamedUnwritten g name old before e after new)
 
--- the file of the root and of the blocks under the names is appended
+-- the CAR file of the root and of the blocks under the names is appended
 abbrev pub WritesNames : {S : Type 0} → Ghosts S → CidParts → List CidParts
     → S → Written → Written → S → Type 0
 WritesNames g root names old before after new =
     WritesFile g (cid_bytes root ∷ []) (AreAt names) old before after new
 
--- why it is not appended: the writer stopped within the file of first blocks; or the store refused
--- after that of first ones
+-- why it is not appended: the writer stopped within the file of the first blocks; or the store
+-- refused after the file of the first blocks
 abbrev pub NamesUnwritten : {S E : Type 0} → Ghosts S → CidParts → List CidParts
     → S → Written → WriteCarError E → Written → S → Type 0
 NamesUnwritten g root names old before (car.Write e) after new =

@@ -28,39 +28,39 @@ PutsValue g tree old name new = IsSomeAnd tree (λ t.
     IsBlock (spelling t) t × (name ≡ block_name (spelling t))
     × (IsClean (g.view new) → IsPut (g.view old) (g.view new) name (spelling t)))
 
--- the value has no spelling; or its spelling is no block, or not stored
+-- the value cannot be encoded; or its spelling is not a block, or not stored
 abbrev pub PutValueRefused : {S : Type 0} → Ghosts S → Option Tree → S → PutError → S → Type 0
 PutValueRefused g tree old (put.Encode e) new =
     (new ≡ old) × ((e ≡ unwritten.OutOfMemory) ⊎ HasNoSpelling tree)
 PutValueRefused g tree old (put.Store told) new =
     IsSomeAnd tree (λ t. PutRefused g (block_name (spelling t), spelling t) old new told)
 
--- the name is of DAG-CBOR, and the value is the one that bytes of the name show to the type
+-- the name has the codec DAG-CBOR, and the value is what the type reads in bytes that match the
+-- name
 abbrev pub ShowsNamed : {T V : Type 0} → (T → V) → Shape Tree V → CidParts → Option T → Type 0
 ShowsNamed show shape name None = ⊤
 ShowsNamed show shape name (Some x) = IsDagCbor name
     × ((b : List ℕ) × IsNamedBy name b × IsWhole shape default_steps b (show x))
 
--- none where nothing is listed under the name, else what the bytes that are stored under it show to
--- the type
+-- `None` if nothing is listed under the name, else what the type reads in the bytes stored under it
 abbrev pub GetsValue : {T V : Type 0} → (T → V) → Shape Tree V → View → CidParts → Option T → Type 0
 GetsValue show shape v name None = ListsName v name → ⊥
 GetsValue show shape v name (Some x) = IsDagCbor name
     × ((b : List ℕ) × HoldsOnly v name b × IsWhole shape default_steps b (show x))
 
--- bytes of the name are stored under it
+-- bytes that match the name are stored under it
 abbrev pub HoldsNamed : {S : Type 0} → Ghosts S → CidParts → List ℕ → S → S → Type 0
 HoldsNamed g name b old new = IsNamedBy name b × FindsSo g old new (λ v. HoldsOnly v name b)
 
--- the bytes show nothing to the type, or memory was wanting where it takes some
+-- the type reads nothing in the bytes, or memory ran out and the type may take some
 pub record ShowsNothing {V : Type 0} (shape : Shape Tree V) (b : List ℕ)
     (e : DecodeError Infallible) : Type 0 where
   pub of_whole : OfWhole e
   pub memory : LacksMemoryIf (shape.memory false) e
   pub why : (e ≡ unread.OutOfMemory) ⊎ HoldsNoValue shape default_steps b
 
--- a block of another codec is stored under the name; or bytes of a name of DAG-CBOR show nothing to
--- the type; or they were not got
+-- a block of another codec is stored under the name; or the type reads nothing in the bytes stored
+-- under a DAG-CBOR name; or the bytes were not read
 abbrev pub GetValueRefused : {S V : Type 0} → Ghosts S → Shape Tree V → CidParts
     → S → GetError → S → Type 0
 GetValueRefused g shape name old (got.Decode e) new = IsDagCbor name

@@ -24,11 +24,11 @@ use Rattle.dagcbor_store.specs.declared.car_error.WriteCarError.TheVariants as c
 abbrev pub AreBefore : List Section → List ℕ → Type 0
 AreBefore sections q = AllByRecursion (λ s. name_cmp (cid_bytes s.0) q ≡ Less) sections
 
--- the names rise
+-- the names ascend
 abbrev pub AreRising : List Section → Type 0
 AreRising sections = IsAscending (λ s t. name_cmp (cid_bytes s.0) (cid_bytes t.0) ≡ Less) sections
 
--- under each of the names just these bytes are stored; the names rise; and no other is listed
+-- under each of the names just these bytes are stored; the names ascend; and no other is listed
 -- before the last of them
 pub record AreFirstBlocks (v : View) (sections : List Section) : Type 0 where
   pub stored : (s : Section) → Among s sections → HoldsOnly v s.0 s.1
@@ -42,7 +42,7 @@ pub record AreBlocks (v : View) (sections : List Section) : Type 0 where
   pub lists : (q : List ℕ) → IsListed (v.trees name_tree) q → IsNameIn sections q
   pub rising : AreRising sections
 
--- the bytes of each are those that its name names
+-- the bytes of each match its name
 abbrev pub AreAllNamed : List Section → Type 0
 AreAllNamed sections = AllByRecursion (λ s. IsNamedBy s.0 s.1) sections
 
@@ -51,25 +51,25 @@ abbrev pub WalkRefused : {S : Type 0} → Ghosts S → S → S → StoreRefusal 
 WalkRefused g old new (refusal.Damaged n) = FindsSo g old new (λ v. IsDamaged v n)
 WalkRefused g old new told = FailsByStore g ⊥ old new told
 
--- what is damaged is stored under the first name after the last one
+-- the damaged block is that of the first name after the last one
 abbrev pub IsOfNext : {S : Type 0} → Ghosts S → Option CidParts → S → S → StoreRefusal → Type 0
 IsOfNext g last old new (refusal.Damaged n) =
     IsClean (g.view new) → IsNext ((g.view old).trees name_tree) last n
 IsOfNext g last old new _ = ⊤
 
--- the first block after the last name, or none where no name is listed there
+-- the first block after the last name, or `None` if no name is listed there
 abbrev pub NextBlock : View → Option CidParts → Option (CidParts × Vec ℕ Global) → Type 0
 NextBlock v last None = GivesNextName v last None
 NextBlock v last (Some p) = IsNext (v.trees name_tree) last p.0 × HoldsOnly v p.0 p.1.items
 
--- the bytes are those that the name names
+-- the bytes match the name
 abbrev pub IsNamedNext : Option (CidParts × Vec ℕ Global) → Type 0
 IsNamedNext None = ⊤
 IsNamedNext (Some p) = IsNamedBy p.0 p.1.items
 
 -- ---- a CAR file
 
--- The file of these roots and of sections that are so is appended, and nothing has changed.
+-- The CAR file of these roots and of sections that are so is appended, and nothing has changed.
 pub record WritesFile {S : Type 0} (g : Ghosts S) (roots : List (List ℕ))
     (AreSo : View → List Section → Type 0)
     (old : S) (before after : Written) (new : S) : Type 0 where
@@ -79,7 +79,7 @@ pub record WritesFile {S : Type 0} (g : Ghosts S) (roots : List (List ℕ))
   pub is_car : IsCar (car_bytes roots sections) roots sections
   pub are_so : FindsSo g old new (λ v. AreSo v sections)
 
--- The file of these roots and of first sections that are so is appended, and no more.
+-- A CAR file of these roots and of first sections that are so is appended, and no more.
 pub record WritesFirst {S : Type 0} (g : Ghosts S) (roots : List (List ℕ))
     (AreSo : View → List Section → Type 0)
     (old : S) (before after : Written) (new : S) : Type 0 where
@@ -88,8 +88,8 @@ pub record WritesFirst {S : Type 0} (g : Ghosts S) (roots : List (List ℕ))
   pub wrote : WroteAll (Some (car_bytes roots sections)) before after
   pub are_so : IsClean (g.view new) → AreSo (g.view old) sections
 
--- The writer stopped within the file of these roots and of first sections that are so, and nothing
--- has changed.
+-- The writer stopped within the CAR file of these roots and of first sections that are so, and
+-- nothing has changed.
 pub record WriterStops {S E : Type 0} (g : Ghosts S) (roots : List (List ℕ))
     (AreSo : View → List Section → Type 0)
     (old : S) (before : Written) (e : EncodeError E) (after : Written) (new : S) : Type 0 where
@@ -98,8 +98,8 @@ pub record WriterStops {S E : Type 0} (g : Ghosts S) (roots : List (List ℕ))
   pub stops : Stops (Some (car_bytes roots sections)) before after e
   pub are_so : FindsSo g old new (λ v. AreSo v sections)
 
--- Why not all blocks are written: the writer stopped within the file of first ones; or the store
--- refused after that of first ones.
+-- Why not all blocks are written: the writer stopped within the file of the first blocks; or the
+-- store refused after that file.
 abbrev pub WriteRefused : {S E : Type 0} → Ghosts S → List (List ℕ)
     → S → Written → WriteCarError E → Written → S → Type 0
 WriteRefused g roots old before (car.Write e) after new =
@@ -107,7 +107,7 @@ WriteRefused g roots old before (car.Write e) after new =
 WriteRefused g roots old before (car.Store told) after new =
     WritesFirst g roots AreFirstBlocks old before after new × WalkRefused g old new told
 
--- where the writer takes no memory, want of memory for it comes before anything is sent
+-- if the writer takes no memory, the call runs out of memory only before anything is sent
 abbrev pub FileUnsent : {T E : Type 0} → Bool
     → Written → Result T (WriteCarError E) → Written → Type 0
 FileUnsent takes_memory old (Err (car.Write unsent.OutOfMemory)) new =
@@ -116,7 +116,7 @@ FileUnsent takes_memory old _ new = ⊤
 
 -- ---- steps
 
--- want of memory for the writer is answered only where it may take some
+-- out of memory is returned for the writer only if it may take some
 abbrev pub FileWantsMemoryOnlyIf : {T E : Type 0} → Bool → Result T (WriteCarError E) → Type 0
 FileWantsMemoryOnlyIf may (Err (car.Write unsent.OutOfMemory)) = IsTrue may
 FileWantsMemoryOnlyIf may _ = ⊤
@@ -138,7 +138,7 @@ BeginsFile roots before result after = MatchResult result
 abbrev pub IsNextSection : View → Option CidParts → Section → Type 0
 IsNextSection v last s = IsNext (v.trees name_tree) last s.0 × HoldsOnly v s.0 s.1
 
--- the writer stopped within the section that is so of this name, and nothing has changed
+-- the writer stopped within the section that is so, of this name, and nothing has changed
 pub record SectionStops {S E : Type 0} (g : Ghosts S) (IsSo : View → Section → Type 0)
     (name : CidParts) (old : S) (before : Written) (e : EncodeError E) (after : Written)
     (new : S) : Type 0 where
@@ -147,7 +147,7 @@ pub record SectionStops {S E : Type 0} (g : Ghosts S) (IsSo : View → Section �
   pub stops : Stops (Some (section_bytes (name, bytes))) before after e
   pub is_so : FindsSo g old new (λ v. IsSo v (name, bytes))
 
--- the section that is so of this name is appended, and nothing has changed
+-- the section that is so, of this name, is appended, and nothing has changed
 pub record AppendsSection {S : Type 0} (g : Ghosts S) (IsSo : View → Section → Type 0)
     (name : CidParts) (old : S) (before after : Written) (new : S) : Type 0 where
   pub bytes : List ℕ
@@ -165,8 +165,8 @@ NextUnwritten g last old before (car.Write e) after new = (name : CidParts)
 NextUnwritten g last old before (car.Store told) after new =
     (after ≡ before) × WalkRefused g old new told
 
--- The section of the next block is appended, and its name answered; or none follows the last
--- name, and nothing is sent.
+-- The section of the next block is appended, and its name returned; or no name follows the last
+-- one, and nothing is sent.
 abbrev pub WritesNext : {S E : Type 0} → Ghosts S → Option CidParts
     → S → Written → Result (Option CidParts) (WriteCarError E) → Written → S → Type 0
 WritesNext g last old before result after new = MatchResult result

@@ -13,22 +13,22 @@ use thiserror::Error;
 /// Why a CAR file was not read into a store. `E` is the reader's error.
 #[derive(Debug, Drop, Error)]
 pub enum ReadCarError<E> {
-    /// No file begins there, or its header was not read. Never want of memory.
+    /// The bytes do not begin a CAR file, or the header was not read. Never out of memory.
     #[error("{0}")]
     Header(CarError<E>),
-    /// After so many sections none stands, though bytes do or are wanting; or the next was not read.
-    /// Never want of memory.
+    /// After this many sections the next is cut short, malformed, or was not read. Never out of
+    /// memory.
     #[error("after {0} sections: {1}")]
     Section(u64, CarError<E>),
-    /// After so many sections the block of the one of this name is not kept under it, or too long
-    /// for a row.
+    /// After this many sections, the block of the next, which has this CID, does not match the CID
+    /// or is too long for a row.
     #[error("after {0} sections: {2}")]
     Block(u64, Cid, StoreRefusal),
     /// The store failed, or no number is left for a row; or the file has roots, and the store is of
-    /// the earlier version, or one of them too long for a row. Never want of memory.
+    /// the earlier version or a root is too long for a row. Never out of memory.
     #[error("{0}")]
     Store(StoreRefusal),
-    /// A growth was refused.
+    /// An allocation was refused.
     #[error("out of memory")]
     OutOfMemory,
 }
@@ -36,27 +36,29 @@ pub enum ReadCarError<E> {
 /// Why a store was not written as a CAR file. `E` is the writer's error.
 #[derive(Debug, Drop, Error)]
 pub enum WriteCarError<E> {
-    /// The writer faulted, or memory was wanting for it or for the header.
+    /// The writer failed, or memory ran out, for the writer or for the header.
     #[error("the file was not written")]
     Write(EncodeError<E>),
-    /// What is stored under a name is damaged, or the store failed.
+    /// A stored block is damaged, or the store failed.
     #[error("{0}")]
     Store(StoreRefusal),
 }
 
-/// Why a file of the blocks that links lead to was not written. `E` is the writer's error.
+/// Why the blocks that links lead to from a root were not written as a CAR file. `E` is the
+/// writer's error.
 #[derive(Debug, Drop, Error)]
 pub enum WriteTreeError<E> {
-    /// Nothing is listed under the root, which is not by the identity. Nothing was sent.
+    /// Nothing is listed under the root, and its CID does not hold a block inline. Nothing was
+    /// sent.
     #[error("no block is stored under the root")]
     NotStored,
-    /// The file was not written, or not as a whole.
+    /// The file was not written, or only in part.
     #[error("{0}")]
     Unwritten(WriteCarError<E>),
 }
 
 impl<E: Drop> ReadCarError<E> {
-    /// Why no file begins. Want of memory is told as such.
+    /// Converts an error of the header. Out of memory has a variant of its own.
     pub(crate) fn of_header(error: CarError<E>) -> ReadCarError<E>
         ensures { TellsOfFile Header error result }
     {
@@ -66,7 +68,8 @@ impl<E: Drop> ReadCarError<E> {
         }
     }
 
-    /// Why after so many sections none stands. Want of memory is told as such.
+    /// Converts an error of the section after `count` sections. Out of memory has a variant of its
+    /// own.
     fn of_section(count: u64, error: CarError<E>) -> ReadCarError<E>
         ensures { TellsOfFile (Section count) error result }
     {
@@ -76,7 +79,7 @@ impl<E: Drop> ReadCarError<E> {
         }
     }
 
-    /// Why the block of a section of this name, after so many, is not kept.
+    /// Converts the refusal of the block of the section with this name, after `count` sections.
     fn of_block(count: u64, name: Cid, refusal: StoreRefusal) -> ReadCarError<E>
         ensures { result ≡ of_block count name refusal }
     {
@@ -89,7 +92,7 @@ impl<E: Drop> ReadCarError<E> {
         }
     }
 
-    /// Why not all sections were added.
+    /// Converts the error that ended the run over the sections.
     pub(crate) fn of_run(error: RunError<E, StoreRefusal>) -> ReadCarError<E>
         ensures { TellsOfRun error result }
     {
@@ -100,7 +103,7 @@ impl<E: Drop> ReadCarError<E> {
         }
     }
 
-    /// Why the roots are not added, or nothing is committed. Want of memory is told as such.
+    /// Converts the refusal of the roots or of the commit. Out of memory has a variant of its own.
     pub(crate) fn of_refusal(refusal: StoreRefusal) -> ReadCarError<E>
         ensures { result ≡ of_refusal refusal }
     {

@@ -1,4 +1,4 @@
-//! Keeping what links lead to from roots, and nothing else.
+//! Keeping the blocks that links lead to from roots, and removing all others.
 
 ghost use Rattle.std.specs.Prelude.{◌≡◌, ◌⊎◌, IfOk, IfErr, OnOk, option_map};
 ghost use Rattle.ipld_links.specs.Sets.{Among};
@@ -17,7 +17,7 @@ use sqlite_trees::store::Store;
 use std::alloc::AllocError;
 use std::collections::BTreeSet;
 
-/// Puts the names into the set.
+/// Adds the names to the set.
 fn put_all(names: &[Cid], kept: &mut BTreeSet<Cid>) -> Result<(), AllocError>
     ensures { OnOk result (CollectsAll names.now kept.old kept.new) }
 {
@@ -31,14 +31,14 @@ fn put_all(names: &[Cid], kept: &mut BTreeSet<Cid>) -> Result<(), AllocError>
 }
 
 impl<S: Store> BlockStore<S> {
-    /// Keeps the blocks that links lead to from the roots, as `reach` finds them, takes out what else
-    /// is listed, and commits that, with whatever waited for a commit. Answers how many names were
-    /// taken out. A link may lead to nothing.
+    /// Keeps the blocks that links lead to from the roots, as `reach` finds them, removes all
+    /// others, and commits that, with all that waited for a commit. Returns how many names were
+    /// removed. A link may lead to a missing block.
     ///
-    /// Nothing is changed where a root has no block (`NoBlock`), where what is listed under a name that
-    /// links lead to is damaged, and where it is not known what links a block has that would be kept
-    /// (`LinksUnread`): what these lead to would be lost. One block is in memory at a time, and the names
-    /// that are kept.
+    /// Nothing is changed if a root has no block (`NoBlock`), if a block that links lead to is
+    /// damaged, or if the links of a block that would be kept are not known (`LinksUnread`): the
+    /// blocks they lead to would be lost. One block is in memory at a time, with the names that are
+    /// kept.
     pub fn keep_reachable(&mut self, roots: &[Cid]) -> Result<u64, StoreRefusal>
         ensures ok { IfOk result (λ count. IsClean (S.Store.view self.new) → IsCollected (S.Store.view self.old) (S.Store.view self.new) roots.now count) }
         ensures refused { IfErr result (CollectRefused S.Store roots.now self.old self.new) }
@@ -53,8 +53,8 @@ impl<S: Store> BlockStore<S> {
         Ok(count)
     }
 
-    /// The names that links lead to from the roots, of which each has a block, and under which bytes are
-    /// stored.
+    /// Returns the names that links lead to from the roots and under which bytes are stored. Each
+    /// root must have a block.
     fn mark_roots(&mut self, roots: &[Cid]) -> Result<BTreeSet<Cid>, StoreRefusal>
         ensures ok { IfOk result (λ kept. IsClean (S.Store.view self.new) → MarksRoots (S.Store.view self.old) roots.now kept) }
         ensures same { OnOk result (StaysSame S.Store self.old self.new) }
@@ -78,7 +78,7 @@ impl<S: Store> BlockStore<S> {
         Ok(())
     }
 
-    /// Refuses a root under which nothing is listed, and which holds no block itself.
+    /// Refuses a root if nothing is listed under it and its CID does not hold a block inline.
     fn check_root(&mut self, root: &Cid) -> Result<(), StoreRefusal>
         ensures ok { OnOk result (IsClean (S.Store.view self.new) → HasBlockAt (S.Store.view self.old) root.now) }
         ensures same { OnOk result (StaysSame S.Store self.old self.new) }
@@ -96,7 +96,7 @@ impl<S: Store> BlockStore<S> {
         }
     }
 
-    /// The names that links lead to from the roots, and under which bytes are stored.
+    /// Returns the names that links lead to from the roots and under which bytes are stored.
     fn mark(&mut self, roots: &[Cid]) -> Result<BTreeSet<Cid>, StoreRefusal>
         ensures ok { IfOk result (λ kept. IsClean (S.Store.view self.new) → Marks (S.Store.view self.old) roots.now kept) }
         ensures same { OnOk result (StaysSame S.Store self.old self.new) }
@@ -110,7 +110,7 @@ impl<S: Store> BlockStore<S> {
         Ok(kept)
     }
 
-    /// Puts those of one root more into the set.
+    /// Adds the names that one more root leads to.
     fn mark_from(&mut self, root: &Cid, kept: &mut BTreeSet<Cid>) -> Result<(), StoreRefusal>
         ensures ok { OnOk result (IsClean (S.Store.view self.new) → MarksMore (S.Store.view self.old) root.now kept.old kept.new) }
         ensures same { OnOk result (StaysSame S.Store self.old self.new) }
@@ -124,7 +124,8 @@ impl<S: Store> BlockStore<S> {
         }
     }
 
-    /// Where a walk from the root leads, which goes on after none of the set.
+    /// Walks from the root, and returns where links lead. The walk does not follow the links of a
+    /// name in `kept`.
     pub(crate) fn reach_beside(
         &mut self,
         root: &Cid,
@@ -147,7 +148,7 @@ impl<S: Store> BlockStore<S> {
         Err(self.give_up())
     }
 
-    /// Visits the name, with what is shown of it.
+    /// Visits the name, with its block as `shown` returns it.
     fn visit_beside(
         &mut self,
         name: Cid,
@@ -166,7 +167,8 @@ impl<S: Store> BlockStore<S> {
         }
     }
 
-    /// No bytes of a name in the set, after which a walk need not go on; of another its block.
+    /// Returns empty bytes if the name is in the set, so that a walk goes no further, and else its
+    /// block.
     fn shown(&mut self, name: &Cid, kept: &BTreeSet<Cid>) -> Result<Option<Vec<u8>>, StoreRefusal>
         ensures ok { IfOk result (λ o. IsClean (S.Store.view self.new) → IsShownToWalk (S.Store.view self.old) kept.now name.now (option_map (λ b. b.items) o)) }
         ensures same { OnOk result (StaysSame S.Store self.old self.new) }
@@ -179,7 +181,8 @@ impl<S: Store> BlockStore<S> {
         self.get_known(name)
     }
 
-    /// As `get_block`. It refuses with `LinksUnread` where it is not known what links the block has.
+    /// Returns what `get_block` does, but refuses with `LinksUnread` if the block's links are not
+    /// known.
     pub(crate) fn get_known(&mut self, name: &Cid) -> Result<Option<Vec<u8>>, StoreRefusal>
         ensures ok { IfOk result (λ o. IsClean (S.Store.view self.new) → GetsKnown (S.Store.view self.old) name.now (option_map (λ b. b.items) o)) }
         ensures same { OnOk result (StaysSame S.Store self.old self.new) }
@@ -193,7 +196,7 @@ impl<S: Store> BlockStore<S> {
         }
     }
 
-    /// Takes out each name that is not in the set, with what is listed under it. Answers how many.
+    /// Removes each name that is not in the set, with its block. Returns how many were removed.
     fn sweep(&mut self, kept: &BTreeSet<Cid>) -> Result<u64, StoreRefusal>
         ensures ok { IfOk result (λ count. IsClean (S.Store.view self.new) → IsSwept (S.Store.view self.old) (S.Store.view self.new) kept.now count) }
         ensures refused { IfErr result (FailsByStore S.Store ⊥ self.old self.new) }
@@ -213,8 +216,8 @@ impl<S: Store> BlockStore<S> {
         Err(self.give_up())
     }
 
-    /// Takes the first name after the last one out, where it is not in the set. Answers it, and
-    /// whether it was taken out.
+    /// Removes the first name after `last`, if it is not in the set. Returns it, and whether it was
+    /// removed.
     fn sweep_next(
         &mut self,
         last: Option<Cid>,

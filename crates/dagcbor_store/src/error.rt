@@ -9,59 +9,63 @@ use sqlite_store::OpenError;
 use sqlite_trees::error::StoreError;
 use thiserror::Error;
 
-/// Why a store refused a call: for memory, for the disk, or for the data.
+/// Why a store refused a call: out of memory, a failure of the disk, or wrong data.
 #[derive(Debug, Drop, Error)]
 pub enum StoreRefusal {
-    /// The block is not the one that the name names, or no DAG-CBOR where its codec is that.
+    /// The block does not match its CID, or the CID's codec is DAG-CBOR and the block is not valid
+    /// DAG-CBOR.
     #[error("{0}")]
     Unsound(Unsound),
-    /// What is stored under the name are not the bytes that it names.
+    /// The bytes that are stored under this CID do not match it.
     #[error("what is stored under the name has other bytes than it says")]
     Damaged(Cid),
-    /// The bytes under the name are those that it names. What links they have is not known: by the
-    /// verdict, they are no block of their codec, or of a codec whose links are not read here.
+    /// The bytes that are stored under this CID match it, but their links are not known. The
+    /// verdict says why: they are not a block of their codec, or links of this codec are not read.
     #[error("the links of a block cannot be read")]
     LinksUnread(Cid, Verdict),
-    /// A root has no block: nothing is stored under it, and it holds none itself.
+    /// A root has no block: none is stored under it, and its CID does not hold one inline.
     #[error("a root has no block")]
     NoBlock(Cid),
-    /// A row has the greatest number that a row can have.
+    /// A row already has the greatest number that a row can have.
     #[error("no number is left for a row")]
     NoNumber,
     /// The block is longer than a row can be: about a billion bytes.
     #[error("the block is too long for a row")]
     TooLong,
-    /// The index of names has an entry that no store writes: the row whose number it has, if it has one.
+    /// The index of names has an entry that no store writes. The number is that of the row to which
+    /// it points, if it has one.
     #[error("the index of names has a wrong entry")]
     BadEntry(Option<u64>),
-    /// The table of roots has a row that no store writes: its number, if it has one.
+    /// The table of roots has a row that no store writes. The number is that of the row, if it has
+    /// one.
     #[error("the table of roots has a wrong row")]
     BadRoot(Option<u64>),
-    /// The file holds no blocks, or something else.
+    /// The file is not a store: it holds no blocks, or something else.
     #[error("the file is no store of blocks")]
     NotAStore,
-    /// The file is of an earlier version, which keeps no roots. Export it, and import that into a new
-    /// file.
+    /// The file is of an earlier version, which keeps no roots. Export it, and import the export
+    /// into a new file.
     #[error("the file is of an earlier version, which keeps no roots: export it, and import that into a new file")]
     EarlierVersion,
     /// Another process or handle has the file open.
     #[error("another process has the file open")]
     Locked,
-    /// The file was not opened: it is no regular file, it may not be written, or it is in use by
-    /// a rollback journal.
+    /// The file was not opened: it is not a regular file, it is not writable, or a rollback journal
+    /// is in use.
     #[error("the file cannot be opened for reading and writing")]
     CannotOpen,
-    /// The disk failed or is full, the file is damaged, or it was shut by an earlier failure. Never
-    /// want of memory.
+    /// The disk failed or is full, the file is damaged, or an earlier failure closed the store.
+    /// Never out of memory.
     #[error("{0}")]
     Disk(StoreError),
-    /// A growth was refused.
+    /// An allocation was refused.
     #[error("out of memory")]
     OutOfMemory,
 }
 
 impl StoreRefusal {
-    /// Want of memory is told as such.
+    /// Converts an error of the database. Out of memory and a row that is too long have variants of
+    /// their own.
     pub(crate) fn of_store(error: StoreError) -> StoreRefusal
         ensures { TellsOfStore error result }
     {
@@ -72,7 +76,8 @@ impl StoreRefusal {
         }
     }
 
-    /// Want of memory is told as such, and a file that is refused as none of ours.
+    /// Converts an error of an open. Out of memory has a variant of its own, and a file that is not
+    /// a store is `NotAStore`.
     pub(crate) fn of_opening(error: OpenError) -> StoreRefusal
         ensures { TellsOfOpening error result }
     {

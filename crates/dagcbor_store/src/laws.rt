@@ -4,14 +4,15 @@ ghost use Rattle.dagcbor_store.specs.Leaving.{WhatIsLeftIsTaken, WhatIsHeldIsTak
 
 use sqlite_disk::Disk;
 
-/// What a store leaves, an open may take: where the clauses `leaves` hold, what its files have is for
-/// `BlockStore::open`, whether a crash cuts the store off at any moment, or the process ends.
+/// If the clauses `leaves` hold, `BlockStore::open` may take the files that a store leaves, whether
+/// a crash cuts the store off at any moment, or the process ends.
 pub fn what_is_left_is_taken<D: Disk>()
     ensures crash { WhatIsLeftIsTaken D.Disk }
     ensures end { WhatIsHeldIsTaken D.Disk }
 {}
 
-/// So is what an open leaves that fails, or is cut off, of files that a store left.
+/// An open that fails, or is cut off, of files that a store left, leaves files that an open may
+/// take.
 pub fn what_an_open_leaves_is_taken<D: Disk>()
     ensures { WhatAnOpenLeavesIsTaken D.Disk }
 {}

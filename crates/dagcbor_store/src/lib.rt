@@ -1,4 +1,4 @@
-//! A block store that lasts: blocks under their names in one file, a database that sqlite3 reads.
+//! A durable block store: blocks under their CIDs in one file, a database that sqlite3 can read.
 #![tactic(auto)]
 
 mod car_error;

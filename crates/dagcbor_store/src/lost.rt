@@ -1,4 +1,4 @@
-//! The links that lead to nothing in the store.
+//! The links that lead to no block of the store.
 
 ghost use Rattle.std.specs.Prelude.{◌≡◌, ◌↔◌, IsTrue, IfOk, IfErr, OnOk};
 ghost use Rattle.dagcbor_items.specs.Walks.{forms};
@@ -17,7 +17,7 @@ use sqlite_trees::store::Store;
 use std::alloc::{AllocError, Global};
 use std::collections::BTreeSet;
 
-/// The CIDs of a set, in their order.
+/// Returns the CIDs of the set, in their order.
 fn in_order(alloc: Global, keys: BTreeSet<Cid>) -> Result<Vec<Cid>, AllocError>
     ensures { ListsKeys keys.keys result }
 {
@@ -29,10 +29,10 @@ fn in_order(alloc: Global, keys: BTreeSet<Cid>) -> Result<Vec<Cid>, AllocError>
 }
 
 impl<S: Store> BlockStore<S> {
-    /// The links in blocks that name nothing that is listed, each once, in their order. A name by the
-    /// identity holds its block itself: it is not listed, and the links in that block are followed. It
-    /// refuses with `LinksUnread` where it is not known what links a block has. One block is in memory at
-    /// a time, beside the links that are answered.
+    /// Returns the links in stored blocks under which nothing is listed, each once, in the order of
+    /// CIDs. A CID with the identity hash holds its block inline: it is not listed, but the links
+    /// in that block are followed. It refuses with `LinksUnread` if the links of a block are not
+    /// known. One block is in memory at a time, besides the links that are returned.
     pub fn lost(&mut self) -> Result<Vec<Cid>, StoreRefusal>
         ensures lists { IfOk result (λ v. IsClean (S.Store.view self.new) → ListsLostLinks (S.Store.view self.old) v.items) }
         ensures same { OnOk result (StaysSame S.Store self.old self.new) }
@@ -53,7 +53,8 @@ impl<S: Store> BlockStore<S> {
         Err(self.give_up())
     }
 
-    /// Adds what is not listed of the links in the next block, and answers the name of that.
+    /// Adds the links of the next block under which nothing is listed, and returns the name of that
+    /// block.
     fn add_links(
         &mut self,
         last: Option<Cid>,
@@ -78,8 +79,8 @@ impl<S: Store> BlockStore<S> {
         Ok(Some(name))
     }
 
-    /// Adds the links of the block that name nothing that is listed, as `lost` answers them. A refusal
-    /// leaves in the set what it had, and some of those.
+    /// Adds the links of the block under which nothing is listed, as `lost` finds them. After a
+    /// refusal the set has what it had, and maybe some of those links.
     pub fn add_lost(
         &mut self,
         codec: u64,
@@ -99,7 +100,7 @@ impl<S: Store> BlockStore<S> {
         }
     }
 
-    /// Adds those of the names that are not listed.
+    /// Adds the names that are not listed.
     fn add_unlisted(&mut self, names: &[Cid], lost: &mut BTreeSet<Cid>) -> Result<(), StoreRefusal>
         ensures ok { OnOk result (IsClean (S.Store.view self.new) → AddsNames (S.Store.view self.old) names.now lost.old lost.new) }
         ensures grows { GrowsByLost (λ q. Among q names.now) lost.old lost.new }

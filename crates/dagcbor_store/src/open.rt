@@ -41,7 +41,7 @@ use std::rt::HostRuntime;
 /// The version of the schema, SQLite's `user_version`.
 const VERSION: u32 = 2;
 
-/// That of a schema with no roots.
+/// The version of a schema without roots.
 const EARLIER: u32 = 1;
 
 const BLOCK_TABLE: &str =
@@ -49,14 +49,14 @@ const BLOCK_TABLE: &str =
 
 const ROOT_TABLE: &str = "CREATE TABLE root (cid BLOB NOT NULL) STRICT";
 
-/// The size of a page of a file that is made.
+/// The page size of a new file, in bytes.
 const PAGE_SIZE: usize = 4096;
 
-/// How many pages that wait for a commit stay in memory, before they go to the log: 128 MB of 4096
-/// bytes. Names come in no order, so each time that they go, most pages of a large index go too.
+/// How many pages that wait for a commit stay in memory before they go to the log: 128 MB of 4096
+/// bytes. Names come in no order, so each time most pages of a large index go too.
 const SPILL_PAGES: usize = 32_768;
 
-/// The version of the schema that has these trees.
+/// Returns the version of the schema that has these trees, or `None` if none has.
 fn version_of<S: Store>(store: &S) -> Option<u32>
     ensures { IfSome result (λ _. HasTrees (S.Store.view store.now)) }
 {
@@ -70,8 +70,8 @@ fn version_of<S: Store>(store: &S) -> Option<u32>
     }
 }
 
-/// Whether the database holds blocks and roots, and nothing else; or what else it holds. One that was
-/// just made gets the version.
+/// Checks that the database holds blocks and roots, and nothing else. The inner error says what
+/// else it holds. A database that was just made gets its version.
 fn check<S: Alter>(
     alloc: Global,
     store: &mut S,
@@ -102,8 +102,8 @@ fn check<S: Alter>(
 }
 
 impl<S: Alter + Drop> BlockStore<S> {
-    /// Takes a database, and undoes what is not committed in it. One that holds no blocks, or
-    /// something else, is given back with `NotAStore`, `BadEntry` or `BadRoot`.
+    /// Takes a database, and undoes what is not committed in it. One that is not a store is given
+    /// back with `NotAStore`, `BadEntry` or `BadRoot`.
     pub fn over(alloc: Global, mut store: S) -> Result<BlockStore<S>, (StoreRefusal, S)>
         ensures ok { IfOk result (λ it. IsClean (S.Store.view it) → IsOpened (S.Store.view store) (S.Store.view it)) }
         ensures kept { IfOk result (IsKeptBy S.Store store) }
@@ -124,7 +124,7 @@ impl<S: Alter + Drop> BlockStore<S> {
     }
 }
 
-/// As `over`, for what is of no further use where it is refused.
+/// Takes a database as `over` does, and drops it if it is refused.
 fn opened<S: Alter + Drop>(alloc: Global, store: S) -> Result<BlockStore<S>, StoreRefusal>
     ensures ok { IfOk result (λ it. IsClean (S.Store.view it) → IsOpened (S.Store.view store) (S.Store.view it)) }
     ensures leaves { IfOk result (LeavesAsListed S.Store store) }
@@ -139,8 +139,8 @@ fn opened<S: Alter + Drop>(alloc: Global, store: S) -> Result<BlockStore<S>, Sto
     }
 }
 
-/// Takes a database that was just opened and is known to be a store's. One with no version is looked
-/// through.
+/// Takes a database that was just opened and is known to be a store's. It is checked if its version
+/// is not that of its trees.
 fn trusted<S: Alter + Drop>(alloc: Global, store: S) -> Result<BlockStore<S>, StoreRefusal>
     requires fresh { IsClean (S.Store.view store) → IsFresh (S.Store.view store) }
     ensures ok { IfOk result (λ it. IsClean (S.Store.view it) → IsOpened (S.Store.view store) (S.Store.view it)) }
@@ -155,7 +155,7 @@ fn trusted<S: Alter + Drop>(alloc: Global, store: S) -> Result<BlockStore<S>, St
     opened(alloc, store)
 }
 
-/// The table of blocks, the index of their names, and the table of roots.
+/// Returns the table of blocks, the index of their names, and the table of roots.
 fn schema() -> [Object<'static>; 3]
     ensures { map wanted_of result ≡ store_objects }
 {
@@ -187,14 +187,14 @@ fn schema() -> [Object<'static>; 3]
     ]
 }
 
-/// Whether the value is this text.
+/// Returns whether the value is this text.
 fn is_text(value: ValueRef<'_>, text: &str) -> bool
     ensures { IsTrue result ↔ (owned value.entry ≡ Text text.now) }
 {
     is_same(value, ValueRef::Text(text.as_bytes()))
 }
 
-/// Whether the value is the text of an object.
+/// Returns whether the value is the SQL text of an object, or null if it has none.
 fn is_sql(value: ValueRef<'_>, sql: Option<&str>) -> bool
     ensures { IsTrue result ↔ (owned value.entry ≡ text_or_null sql.entry) }
 {
@@ -204,7 +204,7 @@ fn is_sql(value: ValueRef<'_>, sql: Option<&str>) -> bool
     }
 }
 
-/// Whether the row of `sqlite_schema` is that of the object.
+/// Returns whether the row of `sqlite_schema` is that of the object.
 fn is_row_of(row: &Row, object: &Object<'_>) -> bool
     ensures { IsTrue result → IsRowOfObject (wanted_of object.now) row.now }
 {
@@ -214,7 +214,7 @@ fn is_row_of(row: &Row, object: &Object<'_>) -> bool
         && is_sql(row.get(5), object.sql)
 }
 
-/// Whether the rows are those of these objects, in this order.
+/// Returns whether the rows are those of these objects, in this order.
 fn lists(rows: &[Row], objects: &[Object<'_>]) -> bool
     ensures { IsTrue result → ListsObjects (map wanted_of objects.now) rows.now }
 {
@@ -227,14 +227,14 @@ fn lists(rows: &[Row], objects: &[Object<'_>]) -> bool
     is_row_of(row, object) && lists(rows, objects)
 }
 
-/// Whether the rows are those of the schema.
+/// Returns whether the rows are those of the schema.
 fn lists_schema(rows: &[Row]) -> bool
     ensures { IsTrue result → ListsObjects store_objects rows.now }
 {
     lists(rows, &schema())
 }
 
-/// The size of the pages, and whether the files begin as a database does.
+/// Returns the page size, and whether the files begin as a database does.
 fn page_size<D: Disk>(alloc: Global, files: &mut Files<D>) -> Result<(PageSize, bool), StoreRefusal>
     requires log { IsTrue (D.Disk.is_usable files.old.log) }
     requires db { IsTrue (D.Disk.is_usable files.old.db) }
@@ -256,7 +256,7 @@ fn page_size<D: Disk>(alloc: Global, files: &mut Files<D>) -> Result<(PageSize, 
     }
 }
 
-/// The files, with this schema, of which nothing is known yet.
+/// Returns a database of this schema over the files, not yet opened.
 fn over_files<D: Disk + Drop>(
     alloc: Global,
     files: Files<D>,
@@ -285,7 +285,7 @@ fn over_files<D: Disk + Drop>(
     }
 }
 
-/// Makes the database, or goes on with one whose making was cut off.
+/// Makes the database, or resumes one whose making was cut off.
 fn create<D: Disk + Drop>(
     alloc: Global,
     unopened: Unopened<D>,
@@ -301,7 +301,7 @@ fn create<D: Disk + Drop>(
     }
 }
 
-/// Opens the database, and looks it through: each page and each name that is listed.
+/// Opens the database, and checks each page and each listed name.
 fn open_whole<D: Disk + Drop>(
     alloc: Global,
     found: Unopened<D>,
@@ -317,7 +317,7 @@ fn open_whole<D: Disk + Drop>(
     }
 }
 
-/// Opens the database, which is a store's.
+/// Opens a database that is known to be a store's.
 fn open_trusted<D: Disk + Drop>(
     alloc: Global,
     found: Unopened<D>,
@@ -334,12 +334,12 @@ fn open_trusted<D: Disk + Drop>(
     }
 }
 
-/// How much of a database is looked through as it is opened.
+/// How much of a database is checked as it is opened.
 #[derive(Clone, Copy, Debug, PartialEq, Eq)]
 enum Depth {
-    /// The header, the list of free pages and the schema.
+    /// The header, the list of free pages, and the schema.
     Schema,
-    /// Each page, and each name that is listed.
+    /// Each page, and each listed name.
     Whole,
 }
 
@@ -368,7 +368,8 @@ fn open_listed<D: Disk + Drop>(
     }
 }
 
-/// Opens the database in files that begin as one. One of the earlier version is looked through.
+/// Opens the database in files that begin as one. A database of the earlier version is checked
+/// whole.
 fn open_found<D: Disk + Drop>(
     alloc: Global,
     mut found: Unopened<D>,
@@ -393,7 +394,7 @@ fn open_found<D: Disk + Drop>(
     open_listed(alloc, found, rows.as_slice(), depth)
 }
 
-/// Recovers the database in the files, or makes one where there is none.
+/// Recovers the database in the files, or makes one if there is none.
 fn recover<D: Disk + Drop>(
     alloc: Global,
     mut files: Files<D>,
@@ -415,7 +416,7 @@ fn recover<D: Disk + Drop>(
     }
 }
 
-/// Opens the files at the path, or makes them where there are none, with a random number.
+/// Opens the files at the path, or makes them if there are none. Returns them with a random number.
 fn files_at<S: Start>(
     rt: &HostRuntime,
     path: &str,
@@ -438,12 +439,12 @@ fn files_at<S: Start>(
 }
 
 impl<S: Start> BlockStore<FileStore<FileFrom<S>>> {
-    /// Opens the store in the file, or makes it where there is no file, or an empty one. The file is
-    /// locked until the store is dropped. One that is none of ours is refused, and left as it is.
+    /// Opens the store in the file, or makes it if there is no file, or an empty one. The file is
+    /// locked until the store is dropped. A file that is not a store is refused, and left as it is.
     ///
-    /// It reads the header, the schema and the list of free pages, whatever the size, and of a log all.
-    /// So it takes it that a file with the schema of a store is what a store left, as after any crash;
-    /// `open_whole` finds out.
+    /// It reads the header, the schema and the list of free pages, whatever the size of the file,
+    /// and the whole log. So it trusts that a file with the schema of a store is what a store left,
+    /// even after a crash; `open_whole` checks that.
     pub fn open(
         rt: &HostRuntime,
         path: &str,
@@ -457,8 +458,8 @@ impl<S: Start> BlockStore<FileStore<FileFrom<S>>> {
         recover(rt.alloc(), files, seed, Depth::Schema)
     }
 
-    /// As `open`, for a file that may be damaged: it reads each page, and refuses one whose trees are
-    /// unsound, or that lists a name twice or one that is no CID.
+    /// Opens a file that may be damaged, as `open` does. It reads each page, and refuses a file if
+    /// its trees are unsound, or it lists a name twice or one that is not a CID.
     pub fn open_whole(
         rt: &HostRuntime,
         path: &str,
@@ -473,9 +474,9 @@ impl<S: Start> BlockStore<FileStore<FileFrom<S>>> {
 }
 
 impl<D: Disk> BlockStore<FileStore<D>> {
-    /// Gives the database back, once all that was committed is moved from the log into its file, and the
-    /// log is cut to its header: so the next open reads no log. What was not committed is undone.
-    /// Where that fails, the log stays as it is, and has what the file lacks.
+    /// Moves all that was committed from the log into the database file, cuts the log to its
+    /// header, and returns the database: so the next open reads no log. Uncommitted changes are
+    /// undone. If it fails, the log stays as it is, and has what the file lacks.
     pub fn into_file(self) -> Result<FileStore<D>, (StoreRefusal, FileStore<D>)>
         ensures moved { IfOk result (λ it. IsClean (view it) → IsMoved self it) }
         ensures kept { IfOk result (IsQuietCall self) }

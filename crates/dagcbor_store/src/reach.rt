@@ -14,9 +14,9 @@ use sqlite_trees::store::Store;
 use std::collections::BTreeSet;
 
 impl<S: Store> BlockStore<S> {
-    /// The names of the blocks that links lead to from the root, each once, depth first, and those
-    /// under which nothing is listed. It refuses with `LinksUnread` where it comes to a block of which
-    /// it is not known what links it has. One block is in memory at a time, and all the names are.
+    /// Returns the names of the blocks that links lead to from the root, each once, depth first,
+    /// and the names under which nothing is listed. It refuses with `LinksUnread` if it comes to a
+    /// block whose links are not known. One block is in memory at a time, with all the names.
     pub fn reach(&mut self, root: &Cid) -> Result<Reached, StoreRefusal>
         ensures reached { IfOk result (λ r. IsClean (S.Store.view self.new) → Reaches (S.Store.view self.old) root.now r) }
         ensures same { OnOk result (StaysSame S.Store self.old self.new) }

@@ -24,22 +24,22 @@ impl<S: Store> SectionSink for BlockStore<S> {
 
     ghost takes = { λ s old result new. TakesBlock S.Store s old result new };
 
-    /// As `add_block`.
+    /// Adds the block of the section, as `add_block` does.
     fn take(&mut self, section: &Section<'_>) -> Result<(), StoreRefusal> {
         self.add_block(&section.cid, section.block)
     }
 }
 
 impl<S: Store> BlockStore<S> {
-    /// Keeps the blocks of the file that the input has left (CAR, version 1 or 2), each under its
-    /// name, and its roots, as `add_roots`, and commits them, with whatever waited for a commit.
-    /// Answers the roots of the file, and how many sections it has. The input is a slice, or a reader, as
-    /// `Input::Reader(IoReader::new(source))` for a source of std; one section of it is in memory
-    /// at a time.
+    /// Reads the CAR file (version 1 or 2) that the input has left, stores each block under its
+    /// CID, adds the roots as `add_roots` does, and commits that, with all that waited for a
+    /// commit. Returns the roots of the file, and how many sections it has. The input is a slice,
+    /// or a reader, such as `Input::Reader(IoReader::new(source))` for a source of std. One section
+    /// is in memory at a time.
     ///
-    /// Each block must be one that `put_block` takes, of whatever codec. Where one is not, or the bytes
-    /// are no file, nothing of it is kept. Nor is it of a file with roots, where the store is of the
-    /// earlier version: that is told after the header.
+    /// Each block must be one that `put_block` accepts, of whatever codec. If one is not, or the
+    /// bytes are not a CAR file, nothing of the file is kept. Nor is a file with roots if the store
+    /// is of the earlier version: that is refused right after the header.
     pub fn read_car<'de, R: Read>(
         &mut self,
         input: &mut Input<'de, R>,
@@ -68,7 +68,7 @@ impl<S: Store> BlockStore<S> {
         }
     }
 
-    /// Adds the blocks and the roots of the file, without a commit, and with nothing undone.
+    /// Adds the blocks and the roots of the file. It commits nothing and undoes nothing.
     fn add_car<'de, R: Read>(
         &mut self,
         input: &mut Input<'de, R>,

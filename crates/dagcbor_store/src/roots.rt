@@ -1,4 +1,4 @@
-//! The roots that a store keeps beside its blocks.
+//! The roots that a store keeps besides its blocks.
 
 ghost use Rattle.std.specs.Prelude.{◌≡◌, [], ◌∷◌, IfOk, IfErr, OnOk};
 ghost use Rattle.sqlite_trees.specs.View.{IsClean, KeepsSchema};
@@ -16,8 +16,8 @@ use sqlite_trees::store::{Shape, Store};
 use std::alloc::{AllocError, Global};
 
 impl<S: Store> BlockStore<S> {
-    /// The roots, in their order. A file of the earlier version has none. It refuses with `BadRoot`
-    /// where a row is none that a store writes.
+    /// Returns the roots, in their order. A file of the earlier version has none. It refuses with
+    /// `BadRoot` if the table has a row that no store writes.
     pub fn roots(&mut self) -> Result<Vec<Cid>, StoreRefusal>
         ensures ok { IfOk result (λ names. IsClean (S.Store.view self.new) → HasRoots (S.Store.view self.old) names.items) }
         ensures same { OnOk result (StaysSame S.Store self.old self.new) }
@@ -32,8 +32,8 @@ impl<S: Store> BlockStore<S> {
         }
     }
 
-    /// Makes the name a root after the others, with what is committed next, unless it is one, as
-    /// `add_roots` of this name alone. A block need not be stored under it.
+    /// Makes the name the last root, unless it is a root already, as of the next commit. It is
+    /// `add_roots` of this name alone. No block need be stored under it.
     pub fn add_root(&mut self, name: &Cid) -> Result<(), StoreRefusal>
         ensures ok { OnOk result (IsClean (S.Store.view self.new) → AreRootsAdded (S.Store.view self.old) (S.Store.view self.new) (name.now ∷ [])) }
         ensures table { OnOk result (KeepsRoots (S.Store.view self.old)) }
@@ -43,12 +43,12 @@ impl<S: Store> BlockStore<S> {
         self.add_roots(&[*name])
     }
 
-    /// Makes each of the names a root, one after the other, with what is committed next: a name that is
-    /// no root goes after the others. The rows are read once. Those before one that is refused are
-    /// roots with what is committed next, where the store did not fail.
+    /// Makes each of the names a root, one after the other, as of the next commit: a name that is
+    /// not yet a root goes after the others. The rows are read once. If a name is refused and the
+    /// store did not fail, the names before it become roots with the next commit.
     ///
-    /// A file of the earlier version keeps no roots (`EarlierVersion`). Where a row of the table is none
-    /// that a store writes, it refuses with `BadRoot`.
+    /// A file of the earlier version keeps no roots (`EarlierVersion`). If the table has a row that
+    /// no store writes, it refuses with `BadRoot`.
     pub fn add_roots(&mut self, names: &[Cid]) -> Result<(), StoreRefusal>
         ensures ok { OnOk result (IsClean (S.Store.view self.new) → AreRootsAdded (S.Store.view self.old) (S.Store.view self.new) names.now) }
         ensures table { OnOk result (MayKeepRoots (S.Store.view self.old) names.now) }
@@ -68,7 +68,7 @@ impl<S: Store> BlockStore<S> {
         Ok(())
     }
 
-    /// The set of the roots.
+    /// Returns the set of the roots.
     fn known_roots(&mut self) -> Result<CidSet, StoreRefusal>
         ensures ok { IfOk result (λ known. IsClean (S.Store.view self.new) → KnowsRoots (S.Store.view self.old) known) }
         ensures same { OnOk result (StaysSame S.Store self.old self.new) }
@@ -83,7 +83,8 @@ impl<S: Store> BlockStore<S> {
         }
     }
 
-    /// Makes the name a root after the others, unless the set of the roots has it, which has it then.
+    /// Makes the name the last root and adds it to `known`, the set of the roots, unless it is
+    /// there already.
     fn add_unknown(&mut self, name: &Cid, known: &mut CidSet) -> Result<(), StoreRefusal>
         requires table { KeepsRoots (S.Store.view self.old) }
         requires known { IsClean (S.Store.view self.old) → KnowsRoots (S.Store.view self.old) known.old }
@@ -107,7 +108,7 @@ impl<S: Store> BlockStore<S> {
         }
     }
 
-    /// Takes the name out of the roots, with what is committed next, and answers whether it was one.
+    /// Removes the name from the roots as of the next commit, and returns whether it was one.
     pub fn remove_root(&mut self, name: &Cid) -> Result<bool, StoreRefusal>
         ensures ok { IfOk result (λ taken. IsClean (S.Store.view self.new) → IsRootTaken (S.Store.view self.old) (S.Store.view self.new) name.now taken) }
         ensures refused { IfErr result (FailsByStore S.Store ⊥ self.old self.new) }
@@ -122,7 +123,7 @@ impl<S: Store> BlockStore<S> {
     }
 }
 
-/// The set of the names.
+/// Returns the set of the names.
 fn set_of(alloc: Global, names: &[Cid]) -> Result<CidSet, AllocError>
     ensures { IfOk result (λ known. HasJust names.now known) }
 {

@@ -23,7 +23,7 @@ use sqlite_value::value::ValueRef;
 use std::alloc::Global;
 use std::marker::Model;
 
-/// Blocks in a database, each under its name. What a contract sees of it is the database.
+/// Blocks in a database, each under its name, a CID. A contract sees it as the database.
 #[derive(Drop)]
 pub struct BlockStore<S: Store> {
     pub(crate) alloc: Global,
@@ -44,7 +44,7 @@ impl<S: Store> Model for BlockStore<S> {
     ghost invariant = { λ b. IsClean (S.Store.view b.store) → IsReady (S.Store.view b.store) };
 }
 
-/// Undoes what is not committed, and tells the failure.
+/// Undoes what is not committed, and returns the refusal for the error.
 pub(crate) fn undo<S: Store>(store: &mut S, error: StoreError) -> StoreRefusal
     ensures told { TellsOfStore error result }
     ensures undone { IsRolledBack (S.Store.view store.old) (S.Store.view store.new) }
@@ -55,7 +55,7 @@ pub(crate) fn undo<S: Store>(store: &mut S, error: StoreError) -> StoreRefusal
     StoreRefusal::of_store(error)
 }
 
-/// The number in a column of the row, if it has one.
+/// Returns the number in a column of the row, if it has one.
 fn number_at(row: &Row, place: usize) -> Option<u64>
     ensures { result ≡ number_in (column row.now place) }
 {
@@ -65,21 +65,21 @@ fn number_at(row: &Row, place: usize) -> Option<u64>
     }
 }
 
-/// What is told of an entry of the index of names that no store writes.
+/// Returns the refusal of an index entry that no store writes.
 pub(crate) fn bad_entry(entry: &Row) -> StoreRefusal
     ensures { result ≡ StoreRefusal.BadEntry (number_in (column entry.now 1)) }
 {
     StoreRefusal::BadEntry(number_at(entry, 1))
 }
 
-/// What is told of a row of the table of roots that no store writes.
+/// Returns the refusal of a row of the table of roots that no store writes.
 pub(crate) fn bad_root(row: &Row) -> StoreRefusal
     ensures { result ≡ StoreRefusal.BadRoot (number_in (column row.now 0)) }
 {
     StoreRefusal::BadRoot(number_at(row, 0))
 }
 
-/// Undoes what is not committed, where an entry or a row is none that a store writes.
+/// Undoes what is not committed, and returns the refusal of an entry or a row that no store writes.
 pub(crate) fn disown<S: Store>(store: &mut S, refusal: StoreRefusal) -> StoreRefusal
     requires { IsBadRow refusal }
     ensures told { TellsOfStore StoreError.Broken result }
@@ -99,8 +99,8 @@ impl<S: Store> BlockStore<S> {
         BlockStore { alloc, store, row }
     }
 
-    /// How many names are listed. It walks over the index, and where an entry is none that a store
-    /// writes, it refuses with `BadEntry`.
+    /// Returns how many names are listed. It reads the whole index, and refuses with `BadEntry` if
+    /// an entry is not one that a store writes.
     pub fn len(&mut self) -> Result<u64, StoreRefusal>
         ensures ok { IfOk result (λ n. IsClean (S.Store.view self.new) → n ≡ length ((S.Store.view self.old).trees name_tree)) }
         ensures same { OnOk result (StaysSame S.Store self.old self.new) }
@@ -114,7 +114,8 @@ impl<S: Store> BlockStore<S> {
         }
     }
 
-    /// Whether something is listed under the name. It may be damaged: `get_block` tells.
+    /// Returns whether something is listed under the name. It may be damaged: `get_block` finds
+    /// out.
     pub fn contains(&mut self, name: &Cid) -> Result<bool, StoreRefusal>
         ensures found { IfOk result (λ found. IsClean (S.Store.view self.new) → (IsTrue found ↔ ListsName (S.Store.view self.old) name.now)) }
         ensures same { OnOk result (StaysSame S.Store self.old self.new) }
@@ -129,9 +130,9 @@ impl<S: Store> BlockStore<S> {
         }
     }
 
-    /// The first of the listed names that come after the last one, or the first of all; none after
-    /// the greatest. Names stand in the order of the bytes of their binary forms. It refuses with
-    /// `BadEntry` where that entry is none that a store writes.
+    /// Returns the first listed name after `last`, or the first of all if that is `None`; `None` if
+    /// no more follow. Names are ordered by the bytes of their binary forms. It refuses with
+    /// `BadEntry` if the entry is not one that a store writes.
     pub fn next_name(&mut self, last: Option<Cid>) -> Result<Option<Cid>, StoreRefusal>
         ensures next { IfOk result (λ next. IsClean (S.Store.view self.new) → GivesNextName (S.Store.view self.old) last next) }
         ensures same { OnOk result (StaysSame S.Store self.old self.new) }
@@ -147,8 +148,8 @@ impl<S: Store> BlockStore<S> {
         }
     }
 
-    /// The bytes of the block under the name, which are those that the name names, whatever the disk
-    /// gave. None where nothing is listed under it.
+    /// Returns the bytes of the block under the name, or `None` if nothing is listed under it. The
+    /// bytes always match the name, whatever the disk returned.
     pub fn get_block(&mut self, name: &Cid) -> Result<Option<Vec<u8>>, StoreRefusal>
         ensures verified { IfOk result (λ found. IfSome found (λ b. IsNamedBy name.now b.items)) }
         ensures found { IfOk result (λ found. IsClean (S.Store.view self.new) → GetsSome (S.Store.view self.old) name.now (option_map (λ b. b.items) found)) }
@@ -164,7 +165,7 @@ impl<S: Store> BlockStore<S> {
         }
     }
 
-    /// Makes what was added and removed last. Where it fails, all of it is undone.
+    /// Makes additions and removals durable. If it fails, all of them are undone.
     pub fn commit(&mut self) -> Result<(), StoreRefusal>
         ensures ok { OnOk result (IsClean (S.Store.view self.new) → IsCommitted (S.Store.view self.old) (S.Store.view self.new)) }
         ensures refused { IfErr result (FailsByStore S.Store ⊥ self.old self.new) }
@@ -178,7 +179,7 @@ impl<S: Store> BlockStore<S> {
         }
     }
 
-    /// Undoes what is not committed.
+    /// Undoes all that is not committed.
     pub fn rollback(&mut self)
         ensures undone { IsClean (S.Store.view self.new) → IsUndone (S.Store.view self.old) (S.Store.view self.new) }
         ensures blame { S.Store.blamed self.new ≡ S.Store.blamed self.old }
@@ -187,11 +188,11 @@ impl<S: Store> BlockStore<S> {
         self.store.rollback();
     }
 
-    /// Keeps the block under its name, whatever its codec, with what is committed next. What else
-    /// stands under the name, which is damaged then, is taken out.
+    /// Stores the block under its name, whatever its codec, as of the next commit. Other bytes
+    /// under the name, which are damaged then, are replaced.
     ///
-    /// The digest of the name must be the SHA-256 of the block, of 32 bytes, and where the codec is
-    /// DAG-CBOR, the block must be one that is read within 256 steps.
+    /// The digest of the name must be the SHA-256 of the block, of 32 bytes. If the codec is
+    /// DAG-CBOR, the block must be valid, and read within 256 steps.
     pub fn add_block(&mut self, name: &Cid, block: &[u8]) -> Result<(), StoreRefusal>
         ensures ok { OnOk result (IsSound (name.now, block.now) × (IsClean (S.Store.view self.new) → IsAdded (S.Store.view self.old) (S.Store.view self.new) name.now block.now)) }
         ensures refused { IfErr result (PutRefused S.Store (name.now, block.now) self.old self.new) }
@@ -208,8 +209,8 @@ impl<S: Store> BlockStore<S> {
         }
     }
 
-    /// Keeps the block under its name, and commits it, with whatever waited for a commit. Once this
-    /// answers `Ok` the block is there, also after the power failed.
+    /// Stores the block under its name, and commits it, with all that waited for a commit. Once
+    /// this returns `Ok` the block is stored, even after a power failure.
     pub fn put_block(&mut self, name: &Cid, block: &[u8]) -> Result<(), StoreRefusal>
         ensures ok { OnOk result (IsSound (name.now, block.now) × (IsClean (S.Store.view self.new) → IsPut (S.Store.view self.old) (S.Store.view self.new) name.now block.now)) }
         ensures refused { IfErr result (PutRefused S.Store (name.now, block.now) self.old self.new) }
@@ -221,8 +222,8 @@ impl<S: Store> BlockStore<S> {
         self.commit()
     }
 
-    /// Takes the block under the name out, with what is committed next, and answers whether one was
-    /// listed. What is damaged is taken out too.
+    /// Removes the block under the name as of the next commit, and returns whether one was listed.
+    /// A damaged block is removed too.
     pub fn remove(&mut self, name: &Cid) -> Result<bool, StoreRefusal>
         ensures ok { IfOk result (λ taken. IsClean (S.Store.view self.new) → IsTaken (S.Store.view self.old) (S.Store.view self.new) name.now taken) }
         ensures refused { IfErr result (FailsByStore S.Store ⊥ self.old self.new) }
@@ -237,7 +238,7 @@ impl<S: Store> BlockStore<S> {
     }
 }
 
-/// The least bytes that come after the last name.
+/// Returns the least bytes that come after the last name.
 fn bound_behind(last: Option<Cid>) -> ArrayVec<u8, 87>
     ensures { result.items ≡ bound_behind last }
 {
@@ -251,7 +252,7 @@ fn bound_behind(last: Option<Cid>) -> ArrayVec<u8, 87>
     bound
 }
 
-/// What is told of a block that was to be kept.
+/// Returns the result for a block that was to be stored.
 pub(crate) fn told(added: Added) -> Result<(), StoreRefusal>
     ensures { IsToldAdded added result }
 {
@@ -262,14 +263,14 @@ pub(crate) fn told(added: Added) -> Result<(), StoreRefusal>
     }
 }
 
-/// Whether the bytes are those that the name names.
+/// Returns whether the bytes match the name.
 fn is_named(name: &Cid, bytes: &[u8]) -> bool
     ensures { IsTrue result ↔ IsNamedBy name.now bytes.now }
 {
     name.hash_code() == SHA2_256 && name.digest() == Sha256::digest(bytes).as_slice()
 }
 
-/// What was found under the name, where it is what the name names.
+/// Returns what was found under the name, if it matches the name.
 fn verified(name: &Cid, found: Found) -> Result<Option<Vec<u8>>, StoreRefusal>
     ensures { AnswersVerified name.now found result }
 {

@@ -9,8 +9,9 @@ use std::convert::Infallible;
 use std::fs;
 use std::test::Fail;
 
-// What its contracts leave no freedom in is not tested here; nor what `faults/run store` asks of the
-// program: the order of roots, a file of the earlier version, what is kept of a tree, refused blocks.
+// Not tested here: what the contracts already determine, and what `faults/run store` tests of the
+// program: the order of roots, a file of the earlier version, what is kept of a tree, refused
+// blocks.
 
 const FOLDER: &str = "dagcbor_store_values";
 
@@ -18,7 +19,7 @@ const FILE: &str = "dagcbor_store_values/a.db";
 
 const LOG: &str = "dagcbor_store_values/a.db-wal";
 
-/// Fails where the condition does not hold.
+/// Fails if the condition does not hold.
 fn agree(holds: bool, wanted: &str) -> Result<(), Fail> {
     if holds {
         Ok(())
@@ -27,7 +28,7 @@ fn agree(holds: bool, wanted: &str) -> Result<(), Fail> {
     }
 }
 
-/// The name of the block 17, which spells 23. Names and files here are made by another program.
+/// The name of the block 17, which encodes 23. Names and files here are made by another program.
 const NAME: &[u8] =
     b"\x01\x71\x12\x20\x8f\x11\xb0\x5d\xa7\x85\xe4\x3e\x71\x3d\x03\x77\x4c\x6b\xd3\x40\x5d\x99\xcd\x30\x24\xaf\x33\x4f\xfd\x68\xdb\x66\x3a\xa3\x70\x34";
 
@@ -45,20 +46,20 @@ fn puts_a_value<S: Store>(store: &mut BlockStore<S>) -> Result<(), Fail> {
     agree(store.len()? == 2, "two blocks")
 }
 
-/// Fails where anything but 23 was committed.
+/// Fails if anything but 23 was committed.
 fn has_one_value<S: Store>(store: &mut BlockStore<S>) -> Result<(), Fail> {
     agree(store.contains(&Cid::try_from(NAME)?)?, "it is listed")?;
     agree(store.len()? == 1, "one block")
 }
 
-/// Puts and adds in the file, and commits no more.
+/// Puts and adds in the file, without another commit.
 #[tactic(auto, using(crate::proofs::Trusting::nothing_left))]
 fn put_in_file(rt: &HostRuntime) -> Result<(), Fail> {
     let mut store = BlockStore::open(rt, FILE, Wary)?;
     puts_a_value(&mut store)
 }
 
-/// Fails where the file has anything but what was committed.
+/// Fails if the file has anything but what was committed.
 fn read_from_file(rt: &HostRuntime) -> Result<(), Fail> {
     let mut store = BlockStore::open_whole(rt, FILE, Wary)?;
     has_one_value(&mut store)
@@ -78,7 +79,7 @@ fn open_and_close(rt: &HostRuntime) -> Result<(), Fail> {
     Ok(())
 }
 
-/// Fails where a frame stays in the log.
+/// Fails if a frame stays in the log.
 fn log_is_moved(rt: &HostRuntime) -> Result<(), Fail> {
     let log = fs::metadata(rt, LOG)?;
     agree(log.len() < 56, "no frame is left")
@@ -134,18 +135,18 @@ const BAR: &[u8] =
 const FIVE: &[u8] =
     b"\x01\x71\x12\x20\xe7\x7b\x9a\x9a\xe9\xe3\x0b\x0d\xbd\xb6\xf5\x10\xa2\x64\xef\x9d\xe7\x81\x50\x1d\x7b\x6b\x92\xae\x89\xeb\x05\x9c\x5a\xb7\x43\xdb";
 
-/// The name of `NUMBERS`, with a list of 1, 2 and 4.
+/// The name of `NUMBERS`, with a list of 1, 2 and 4: the wrong bytes.
 const CHANGED: &[u8] =
     b"\x28\x01\x71\x12\x20\x4a\xbc\x31\x13\x7c\xe7\x38\xd9\xac\xeb\x8a\x1d\x1d\x51\xf1\x5c\xad\x42\xc2\xb0\x8d\xcb\x7e\xd1\x79\xf7\x37\xa1\x94\xb3\x55\xe7\x83\x01\x02\x04";
 
-/// The section of the number 5, whose name has it for a digest.
+/// The section of the number 5, whose name holds it inline as its digest.
 const IDENTITY: &[u8] = b"\x06\x01\x71\x00\x01\x05\x05";
 
 /// The section of a map whose keys are out of order.
 const UNORDERED: &[u8] =
     b"\x2b\x01\x71\x12\x20\x36\x84\xf1\x97\xac\x45\x14\xab\x69\xc1\x1b\x98\x76\x1f\x2c\x8c\x1b\xeb\xb5\x68\xf8\x97\xb4\xbe\xb5\x62\xe7\x4f\xa6\xfa\x17\x27\xa2\x61\x62\x01\x61\x61\x02";
 
-/// The name in a section, by SHA-256, after a length of one or two bytes.
+/// Returns the name in a section, by SHA-256, after a length of one or two bytes.
 fn name_in(section: &[u8]) -> Result<Cid, Fail> {
     let start = if section.first().is_some_and(|first| *first < 0x80) {
         1
@@ -158,7 +159,7 @@ fn name_in(section: &[u8]) -> Result<Cid, Fail> {
     }
 }
 
-/// The parts, one after the other.
+/// Returns the parts, one after the other.
 fn joined(alloc: Global, parts: &[&[u8]]) -> Result<Vec<u8>, Fail> {
     let mut whole = Vec::new(alloc);
     for part in parts {
@@ -167,7 +168,7 @@ fn joined(alloc: Global, parts: &[&[u8]]) -> Result<Vec<u8>, Fail> {
     Ok(whole)
 }
 
-/// Why a block is not kept, in a word.
+/// Returns why a block is not kept, in a word.
 fn cause_of(cause: &Unsound) -> &'static str {
     match cause {
         Unsound::OtherHash => "other hash",
@@ -178,7 +179,7 @@ fn cause_of(cause: &Unsound) -> &'static str {
     }
 }
 
-/// What is answered of a file, in a word.
+/// Returns the answer for a file, in a word.
 fn word_of(answer: &Result<(Vec<Cid>, u64), ReadCarError<Infallible>>) -> &'static str {
     match answer {
         Ok(_) => "read",
@@ -188,7 +189,7 @@ fn word_of(answer: &Result<(Vec<Cid>, u64), ReadCarError<Infallible>>) -> &'stat
     }
 }
 
-/// What is answered of the file of `TEXT` and this after it, in a word.
+/// Returns the answer for the file of `TEXT` and these sections after it, in a word.
 fn answer_to<S: Store>(
     alloc: Global,
     store: &mut BlockStore<S>,
@@ -199,7 +200,7 @@ fn answer_to<S: Store>(
     Ok(word_of(&store.read_car(&mut input)))
 }
 
-/// What stands in a file after `TEXT`, and what is answered of it. The last row is kept.
+/// Which sections follow `TEXT` in a file, and the answer for it. The file of the last row is kept.
 const ANSWERS: &[(&[&[u8]], &str)] = &[
     (&[CHANGED], "other bytes"),
     (&[IDENTITY], "other hash"),
@@ -208,7 +209,7 @@ const ANSWERS: &[(&[&[u8]], &str)] = &[
     (&[PARENT, MIXED, NODE, RAW, NUMBERS], "read"),
 ];
 
-/// Reads files that are refused and change nothing, and then one of blocks of three codecs.
+/// Reads files that are refused and change nothing, and then a file of blocks of three codecs.
 fn reads_files<S: Store>(alloc: Global, store: &mut BlockStore<S>) -> Result<(), Fail> {
     for (sections, word) in ANSWERS {
         agree(store.len()? == 0, "nothing is kept")?;
@@ -218,7 +219,7 @@ fn reads_files<S: Store>(alloc: Global, store: &mut BlockStore<S>) -> Result<(),
     agree(store.len()? == 6, "six blocks")
 }
 
-/// Fails where the file of all blocks, or that of what `PARENT` leads to, has other bytes.
+/// Fails if the file of all blocks, or that of what `PARENT` leads to, has other bytes.
 fn writes_files<S: Store>(alloc: Global, store: &mut BlockStore<S>) -> Result<(), Fail> {
     let mut whole = BufWriter::new(Vec::new(alloc));
     store.write_car(&[name_in(PARENT)?], &mut whole)?;
@@ -234,7 +235,7 @@ fn writes_files<S: Store>(alloc: Global, store: &mut BlockStore<S>) -> Result<()
     agree(lost.is_empty(), "no link is lost")
 }
 
-/// Fails where other links are lost after `TEXT` than the one to it, and those to "bar" and the
+/// Fails if, after `TEXT` is removed, the lost links are not just those to it, to "bar" and to the
 /// number 5.
 fn loses_links<S: Store>(store: &mut BlockStore<S>) -> Result<(), Fail> {
     let text = name_in(TEXT)?;
@@ -245,7 +246,7 @@ fn loses_links<S: Store>(store: &mut BlockStore<S>) -> Result<(), Fail> {
     agree(matches!(typed, Err(GetError::OtherCodec)), "another codec")
 }
 
-/// Reads files, writes them, and takes a block out.
+/// Reads files, writes them, and removes a block.
 fn keeps_files<S: Store>(alloc: Global, store: &mut BlockStore<S>) -> Result<(), Fail> {
     reads_files(alloc, store)?;
     writes_files(alloc, store)?;

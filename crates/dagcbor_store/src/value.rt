@@ -1,4 +1,4 @@
-//! Keeping values, and reading them.
+//! Storing values, and reading them.
 
 ghost use Rattle.std.specs.Prelude.{◌⊎◌, IsSomeAnd, IfOk, IfErr, OnOk, option_map};
 ghost use Rattle.ipld_tree.specs.Spelling.{spelling};
@@ -20,13 +20,13 @@ use sqlite_trees::store::Store;
 use std::convert::Infallible;
 use thiserror::Error;
 
-/// Why a value was not kept.
+/// Why a value was not stored.
 #[derive(Debug, Drop, Error)]
 pub enum PutError {
-    /// The value has no spelling, or memory was wanting for it.
+    /// The value cannot be encoded, or memory ran out.
     #[error("encode error: {0}")]
     Encode(EncodeError<Infallible>),
-    /// Its spelling was not kept. `Unsound`: it is not read within 256 steps.
+    /// The encoded block was not stored. `Unsound`: it cannot be read within 256 steps.
     #[error("{0}")]
     Store(StoreRefusal),
 }
@@ -34,19 +34,19 @@ pub enum PutError {
 /// Why a value was not read.
 #[derive(Debug, Drop, Error)]
 pub enum GetError {
-    /// The block under the name is not read as the type within 256 steps, or memory was wanting.
+    /// The block does not decode as the type within 256 steps, or memory ran out.
     #[error("decode error: {0}")]
     Decode(DecodeError<Infallible>),
-    /// The block under the name is of another codec than DAG-CBOR.
+    /// The block has a codec other than DAG-CBOR.
     #[error("the block is of another codec than DAG-CBOR")]
     OtherCodec,
-    /// It was not got.
+    /// The block was not read from the store.
     #[error("{0}")]
     Store(StoreRefusal),
 }
 
 impl<S: Store> BlockStore<S> {
-    /// Keeps the value's spelling under its name, and commits it, as `put_block`.
+    /// Encodes the value, stores the block under its CID, and commits it, as `put_block` does.
     pub fn put<T: Serialize>(&mut self, value: &T) -> Result<Cid, PutError>
         ensures ok { IfOk result (λ name. PutsValue S.Store (T.tree value.now) self.old name self.new) }
         ensures refused { IfErr result (λ e. PutValueRefused S.Store (T.tree value.now) self.old e self.new) }
@@ -66,8 +66,8 @@ impl<S: Store> BlockStore<S> {
         }
     }
 
-    /// The block under the name, which must be DAG-CBOR, read as a value. None where nothing is listed
-    /// under it.
+    /// Returns the value that the block under the name decodes to, or `None` if nothing is listed
+    /// under it. The block must be DAG-CBOR.
     pub fn get<'de, T: DeserializeOwned<'de>>(&mut self, name: &Cid) -> Result<Option<T>, GetError>
         ensures named { IfOk result (ShowsNamed T.meaning T.shape name.now) }
         ensures gets { IfOk result (λ found. IsClean (S.Store.view self.new) → GetsValue T.meaning T.shape (S.Store.view self.old) name.now found) }

@@ -12,8 +12,8 @@ use ipld_tree::Cid;
 use sqlite_trees::store::Store;
 
 impl<S: Store> BlockStore<S> {
-    /// The first block whose name comes after the last one, or the first of all; none after the
-    /// greatest. One block is in memory at a time.
+    /// Returns the first block whose name comes after `last`, or the first of all if that is
+    /// `None`; `None` if no more follow. One block is in memory at a time.
     pub fn next_block(&mut self, last: Option<Cid>) -> Result<Option<(Cid, Vec<u8>)>, StoreRefusal>
         ensures verified { IfOk result IsNamedNext }
         ensures next { IfOk result (λ next. IsClean (S.Store.view self.new) → NextBlock (S.Store.view self.old) last next) }
@@ -31,7 +31,7 @@ impl<S: Store> BlockStore<S> {
         }
     }
 
-    /// Undoes what is not committed, since memory is wanting.
+    /// Undoes what is not committed, because memory ran out.
     pub(crate) fn give_up(&mut self) -> StoreRefusal
         ensures refused { FailsByStore S.Store ⊥ self.old self.new result }
         ensures walk { WalkRefused S.Store self.old self.new result }

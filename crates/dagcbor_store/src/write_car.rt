@@ -1,4 +1,4 @@
-//! Writing the blocks of a store as a file.
+//! Writing the blocks of a store as a CAR file.
 
 ghost use Rattle.std.specs.Prelude.{IfErr, OnOk};
 ghost use Rattle.dagcbor_items.specs.Walks.{forms};
@@ -13,7 +13,7 @@ use ipld_tree::Cid;
 use sqlite_trees::store::Store;
 use std::alloc::Global;
 
-/// Appends the header.
+/// Appends the header of a CAR file.
 pub(crate) fn begin<W: Write>(
     alloc: Global,
     writer: &mut W,
@@ -29,8 +29,9 @@ pub(crate) fn begin<W: Write>(
 }
 
 impl<S: Store> BlockStore<S> {
-    /// Appends the file of these roots and of all blocks (CAR, version 1), in the order of their
-    /// names, each verified as it is read. No root need be stored. One block is in memory at a time.
+    /// Appends the CAR file (version 1) of these roots and of all blocks, in the order of their
+    /// names, each verified as it is read. No root need be stored. One block is in memory at a
+    /// time.
     pub fn write_car<W: Write>(
         &mut self,
         roots: &[Cid],
@@ -52,7 +53,7 @@ impl<S: Store> BlockStore<S> {
         Err(WriteCarError::Store(self.give_up()))
     }
 
-    /// Appends the section of the next block, and answers its name.
+    /// Appends the section of the next block, and returns its name.
     fn push_next<W: Write>(
         &mut self,
         last: Option<Cid>,

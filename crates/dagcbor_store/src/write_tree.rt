@@ -1,4 +1,4 @@
-//! Writing the blocks that links lead to as a file.
+//! Writing the blocks that links lead to as a CAR file.
 
 ghost use Rattle.std.specs.Prelude.{IfOk, IfErr, OnOk};
 ghost use Rattle.sqlite_trees.specs.View.{IsClean};
@@ -17,9 +17,9 @@ use ipld_tree::Cid;
 use sqlite_trees::store::Store;
 
 impl<S: Store> BlockStore<S> {
-    /// Appends the file (CAR, version 1) whose one root this is, and whose sections are the blocks
-    /// that `reach` finds, in its order, each verified as it is read. Answers the names under which
-    /// nothing is listed, where links lead. One block is in memory at a time, and all the names are.
+    /// Appends the CAR file (version 1) with this one root, and with the blocks that `reach` finds,
+    /// in its order, each verified as it is read. Returns the names that links lead to and under
+    /// which nothing is listed. One block is in memory at a time, with all the names.
     pub fn write_tree<W: Write>(
         &mut self,
         root: &Cid,
@@ -44,7 +44,7 @@ impl<S: Store> BlockStore<S> {
         }
     }
 
-    /// Appends the file of the root and of the blocks under the names, in their order.
+    /// Appends the CAR file of the root and of the blocks under the names, in their order.
     fn push_tree<W: Write>(
         &mut self,
         root: &Cid,

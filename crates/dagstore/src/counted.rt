@@ -1,10 +1,10 @@
-//! A source that tells how many of its bytes were taken.
+//! A source that reports how many of its bytes were taken.
 
 use dagstore_lines::Progress;
 use std::io;
 use std::io::{BufRead, Read, Write};
 
-/// A source that tells how many of its bytes were taken.
+/// A source that reports how many of its bytes were taken.
 #[derive(Drop)]
 pub struct Counted<R, E> {
     source: R,
@@ -12,7 +12,7 @@ pub struct Counted<R, E> {
 }
 
 impl<R: BufRead, E: Write> Counted<R, E> {
-    /// The source, and where it is told.
+    /// Takes the source, and where progress is reported.
     pub fn new(source: R, progress: Progress<E>) -> Counted<R, E> {
         Counted { source, progress }
     }

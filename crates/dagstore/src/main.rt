@@ -1,4 +1,4 @@
-//! The program `dagstore`: blocks in a file that lasts.
+//! The program `dagstore`: blocks in a durable file.
 #![tactic(auto)]
 
 mod counted;
@@ -23,12 +23,12 @@ use std::process::ExitCode;
 
 type Store = BlockStore<FileStore<FileFrom<Wary>>>;
 
-/// After so many bytes, and so many blocks, progress is told.
+/// Progress is reported after this many bytes, and after `BLOCKS` blocks.
 const BYTES: u64 = 10_000_000;
 
 const BLOCKS: u64 = 10_000;
 
-/// Keeps the blocks of the file that the source has, all of them or none, and tells how far it is.
+/// Stores the blocks of the CAR file that the source has, all or none, and reports progress.
 fn import_from<R: Read + Drop, W: Write>(
     rt: &HostRuntime,
     store: &mut Store,
@@ -44,7 +44,7 @@ fn import_from<R: Read + Drop, W: Write>(
     import_blocks(rt.alloc(), store, counted, &mut rt.stdout().lock(), errors)
 }
 
-/// Keeps the blocks of the file at the path, or of the one on standard input.
+/// Stores the blocks of the CAR file at the path, or of the one on standard input.
 fn run_import<W: Write>(rt: &HostRuntime, path: &str, from: Option<&str>, errors: &mut W) -> u8 {
     let Some(from) = from else {
         return match open(rt, path, errors) {
@@ -55,7 +55,7 @@ fn run_import<W: Write>(rt: &HostRuntime, path: &str, from: Option<&str>, errors
             Err(status) => status,
         };
     };
-    // It is opened first, so that no store is made where there is no source.
+    // The source is opened first, so that no store is made if it does not exist.
     let Ok(source) = fs::File::open(rt, from) else {
         return give_up(errors, NOT_READ, 2);
     };
@@ -68,7 +68,7 @@ fn run_import<W: Write>(rt: &HostRuntime, path: &str, from: Option<&str>, errors
     }
 }
 
-/// Keeps the block under its name of this codec.
+/// Stores the block under its name of this codec.
 fn put_into<W: Write>(
     rt: &HostRuntime,
     store: &mut Store,
@@ -86,8 +86,8 @@ fn put_into<W: Write>(
     )
 }
 
-/// Keeps the block that standard input has, under its name of this codec. One that is refused makes no
-/// file.
+/// Stores the block on standard input, under its name of this codec. A block that is refused makes
+/// no file.
 fn run_put<W: Write>(rt: &HostRuntime, path: &str, codec: u64, errors: &mut W) -> u8 {
     let mut block = Vec::new(rt.alloc());
     if rt.reader().read_to_end(&mut block).is_err() {
@@ -105,12 +105,12 @@ fn run_put<W: Write>(rt: &HostRuntime, path: &str, codec: u64, errors: &mut W) -
     }
 }
 
-/// Tells whether something is listed under the name, by the status alone.
+/// Reports whether something is listed under the name, by the status alone.
 fn run_has<W: Write>(store: &mut Store, name: &Cid, errors: &mut W) -> u8 {
     answer_has(store, name, errors)
 }
 
-/// Writes the roots, a line each.
+/// Writes the roots, one a line.
 fn run_roots<W: Write>(rt: &HostRuntime, store: &mut Store, errors: &mut W) -> u8 {
     answer_roots(rt.alloc(), store, &mut rt.stdout().lock(), errors)
 }
@@ -120,7 +120,7 @@ fn run_add_roots<W: Write>(store: &mut Store, names: &[Cid], errors: &mut W) -> 
     answer_add_roots(store, names, errors)
 }
 
-/// Takes the names out of the roots, and says how many. Status 1 where one is no root.
+/// Removes the names from the roots, and writes how many. Status 1 if one is not a root.
 fn run_drop_roots<W: Write>(
     rt: &HostRuntime,
     store: &mut Store,
@@ -130,13 +130,13 @@ fn run_drop_roots<W: Write>(
     answer_drop_roots(rt.alloc(), store, names, &mut rt.stdout().lock(), errors)
 }
 
-/// Takes out the blocks under the names, and says how many. Status 1 where one is not listed.
+/// Removes the blocks under the names, and writes how many. Status 1 if one is not listed.
 fn run_remove<W: Write>(rt: &HostRuntime, store: &mut Store, names: &[Cid], errors: &mut W) -> u8 {
     answer_remove(rt.alloc(), store, names, &mut rt.stdout().lock(), errors)
 }
 
-/// Keeps what links lead to from the roots, or from those that are stored where none is given, and
-/// says how many names were taken out.
+/// Keeps only what links lead to from these roots or, if none is given, from the stored ones, and
+/// writes how many names were removed.
 fn run_collect<W: Write>(
     rt: &HostRuntime,
     store: &mut Store,
@@ -146,8 +146,8 @@ fn run_collect<W: Write>(
     answer_collect(rt.alloc(), store, roots, &mut rt.stdout().lock(), errors)
 }
 
-/// Writes the file of these roots, or of those that are stored where none is given, and of all blocks
-/// on standard output.
+/// Writes to standard output the CAR file of all blocks, with these roots or, if none is given, the
+/// stored ones.
 fn run_export<W: Write>(
     rt: &HostRuntime,
     store: &mut Store,
@@ -161,8 +161,8 @@ fn run_export<W: Write>(
     flushed(output, status, errors)
 }
 
-/// Writes the file of the blocks that links lead to from the root on standard output, and the links
-/// that lead to none on standard error.
+/// Writes to standard output the CAR file of the blocks that links lead to from the root, and to
+/// standard error the links that lead to no block.
 fn run_tree<W: Write>(rt: &HostRuntime, store: &mut Store, root: &Cid, errors: &mut W) -> u8 {
     let Ok(mut output) = BufWriter::new(rt.alloc(), rt.stdout().lock()) else {
         return give_up(errors, OUT_OF_MEMORY, 2);
@@ -171,12 +171,13 @@ fn run_tree<W: Write>(rt: &HostRuntime, store: &mut Store, root: &Cid, errors: &
     flushed(output, status, errors)
 }
 
-/// Writes the block under the name on standard output.
+/// Writes the block under the name to standard output.
 fn run_get<W: Write>(rt: &HostRuntime, store: &mut Store, name: &Cid, errors: &mut W) -> u8 {
     answer_get(rt.alloc(), store, name, &mut rt.stdout().lock(), errors)
 }
 
-/// Writes what the path leads to from the root on standard output, or tells why it leads to nothing.
+/// Writes to standard output what the path leads to from the root, or reports why it leads to
+/// nothing.
 fn run_at<W: Write>(
     rt: &HostRuntime,
     store: &mut Store,
@@ -199,8 +200,8 @@ fn run_at<W: Write>(
     flushed(output, status, errors)
 }
 
-/// Writes what the path leads to from the root, over a file that is there, or tells why it leads to
-/// nothing.
+/// Runs `at` over an existing file: writes what the path leads to from the root, or reports why it
+/// leads to nothing.
 fn run_at_file<W: Write>(
     rt: &HostRuntime,
     file: &str,
@@ -214,8 +215,8 @@ fn run_at_file<W: Write>(
     }
 }
 
-/// Writes the bytes of the file of IPFS to which the path leads on standard output, or tells why there
-/// is none.
+/// Writes to standard output the bytes of the IPFS file to which the path leads, or reports why
+/// there is none.
 fn run_cat<W: Write>(
     rt: &HostRuntime,
     store: &mut Store,
@@ -230,8 +231,8 @@ fn run_cat<W: Write>(
     flushed(output, status, errors)
 }
 
-/// Writes the bytes of the file of IPFS to which the path leads, over a file that is there, or tells why
-/// there is none.
+/// Runs `cat` over an existing file: writes the bytes of the IPFS file to which the path leads, or
+/// reports why there is none.
 fn run_cat_file<W: Write>(
     rt: &HostRuntime,
     file: &str,
@@ -245,7 +246,7 @@ fn run_cat_file<W: Write>(
     }
 }
 
-/// Lists what stands under the path of names on standard output, or tells why there is nothing.
+/// Lists on standard output what is under the path of names, or reports why there is nothing.
 fn run_ls<W: Write>(
     rt: &HostRuntime,
     store: &mut Store,
@@ -263,7 +264,8 @@ fn run_ls<W: Write>(
     )
 }
 
-/// Lists what stands under the path of names, over a file that is there, or tells why there is nothing.
+/// Runs `ls` over an existing file: lists what is under the path of names, or reports why there is
+/// nothing.
 fn run_ls_file<W: Write>(
     rt: &HostRuntime,
     file: &str,
@@ -277,12 +279,12 @@ fn run_ls_file<W: Write>(
     }
 }
 
-/// Says how many names there are.
+/// Writes how many names there are.
 fn run_count<W: Write>(rt: &HostRuntime, store: &mut Store, errors: &mut W) -> u8 {
     answer_count(rt.alloc(), store, &mut rt.stdout().lock(), errors)
 }
 
-/// The status, once all that was written is out.
+/// Returns the status, once all output is flushed.
 fn flushed<O: Write + Drop, W: Write>(mut output: O, status: u8, errors: &mut W) -> u8 {
     match output.flush() {
         Err(_) if status != 2 => give_up(errors, NOT_WRITTEN, 2),
@@ -290,7 +292,7 @@ fn flushed<O: Write + Drop, W: Write>(mut output: O, status: u8, errors: &mut W)
     }
 }
 
-/// Writes the verdict on each block, and tells how far it is.
+/// Writes the verdict on each block, and reports progress.
 fn run_check<W: Write>(rt: &HostRuntime, store: &mut Store, errors: &mut W) -> u8 {
     let Ok(mut output) = BufWriter::new(rt.alloc(), rt.stdout().lock()) else {
         return give_up(errors, OUT_OF_MEMORY, 2);
@@ -316,7 +318,7 @@ fn run_list<W: Write>(rt: &HostRuntime, store: &mut Store, errors: &mut W) -> u8
     flushed(output, status, errors)
 }
 
-/// Opens the store, or makes it. The status, where it can't be.
+/// Opens the store, or makes it. Returns the status if it cannot.
 #[tactic(auto, using(dagcbor_store::proofs::Trusting::nothing_left))]
 fn open<W: Write>(rt: &HostRuntime, path: &str, errors: &mut W) -> Result<Store, u8> {
     match BlockStore::open(rt, path, Wary) {
@@ -325,7 +327,8 @@ fn open<W: Write>(rt: &HostRuntime, path: &str, errors: &mut W) -> Result<Store,
     }
 }
 
-/// Opens the store in a file that is there. The status, where none is or it can't be.
+/// Opens the store in an existing file. Returns the status if there is none, or it cannot be
+/// opened.
 fn open_old<W: Write>(rt: &HostRuntime, path: &str, errors: &mut W) -> Result<Store, u8> {
     if matches!(fs::exists(rt, path), Ok(false)) {
         return Err(give_up(errors, NO_STORE, 1));
@@ -333,7 +336,7 @@ fn open_old<W: Write>(rt: &HostRuntime, path: &str, errors: &mut W) -> Result<St
     open(rt, path, errors)
 }
 
-/// The same, for `check`: each page is looked through.
+/// Opens an existing store for `check`: each page is checked.
 fn open_whole<W: Write>(rt: &HostRuntime, path: &str, errors: &mut W) -> Result<Store, u8> {
     if matches!(fs::exists(rt, path), Ok(false)) {
         return Err(give_up(errors, NO_STORE, 1));
@@ -344,14 +347,14 @@ fn open_whole<W: Write>(rt: &HostRuntime, path: &str, errors: &mut W) -> Result<
     }
 }
 
-/// Moves the log into the file, so that no later call reads it. Where that fails, the log stays, and
-/// has all that was said to be stored.
+/// Moves the log into the file, so that no later call reads it. If that fails, the log stays, and
+/// has all that was reported as stored.
 fn close(store: Store, status: u8) -> u8 {
     let _ = store.into_file();
     status
 }
 
-/// Does what is to be done with a file that is there.
+/// Runs the command on an existing file.
 fn run<W: Write>(rt: &HostRuntime, path: &str, command: Command, errors: &mut W) -> u8 {
     let opened = match command {
         Command::Check => open_whole(rt, path, errors),
@@ -385,7 +388,7 @@ fn run_over<W: Write>(rt: &HostRuntime, store: &mut Store, command: Command, err
     }
 }
 
-/// Writes what was asked for.
+/// Writes the text that was asked for.
 fn run_text<W: Write>(rt: &HostRuntime, text: &str, errors: &mut W) -> u8 {
     match write_all(&mut rt.stdout().lock(), text.as_bytes()) {
         Ok(()) => 0,
@@ -393,7 +396,7 @@ fn run_text<W: Write>(rt: &HostRuntime, text: &str, errors: &mut W) -> u8 {
     }
 }
 
-/// Does what the words say, and answers the exit status.
+/// Runs the command that the arguments name, and returns the exit status.
 fn run_words<W: Write>(rt: &HostRuntime, words: &[String], errors: &mut W) -> u8 {
     match words_of(rt.alloc(), words) {
         Ok(Words::Import(path, from)) => run_import(rt, path, from, errors),

@@ -1,4 +1,4 @@
-//! `serve`: requests on standard input, and their answers on standard output.
+//! `serve`: requests on standard input, and the replies on standard output.
 
 use dagcbor_cli::{ToolError, give_up};
 use dagcbor_store::{BlockStore, FileFrom, FileStore, Wary};
@@ -11,10 +11,10 @@ use store_serving::{
 
 type Store = BlockStore<FileStore<FileFrom<Wary>>>;
 
-/// What is told where a file is not made.
+/// The message for a file that is not made.
 const NOT_MADE: &[u8] = b"dagstore: the file is there, or cannot be made\n";
 
-/// Keeps the blocks of the file at the path, all of them or none.
+/// Stores the blocks of the CAR file at the path, all or none.
 fn serve_import(rt: &HostRuntime, store: &mut Store, path: &str) -> Result<(), ToolError> {
     let mut output = rt.stdout().lock();
     let Ok(file) = fs::File::open(rt, path) else {
@@ -26,7 +26,8 @@ fn serve_import(rt: &HostRuntime, store: &mut Store, path: &str) -> Result<(), T
     }
 }
 
-/// Makes a file of all blocks at the path, where none is. One that is not whole is taken away.
+/// Writes a CAR file of all blocks at the path, where no file may be. One that is not complete is
+/// removed.
 fn serve_export(rt: &HostRuntime, store: &mut Store, path: &str) -> Result<(), ToolError> {
     let mut output = rt.stdout().lock();
     let Ok(file) = fs::File::create_new(rt, path) else {
@@ -43,7 +44,7 @@ fn serve_export(rt: &HostRuntime, store: &mut Store, path: &str) -> Result<(), T
     Ok(())
 }
 
-/// Does what the answers stopped for. The status, where no more requests are read.
+/// Handles why the answers paused. Returns the status if no more requests are read.
 fn go_on(rt: &HostRuntime, store: &mut Store, pause: Pause) -> Result<Option<u8>, ToolError> {
     match pause {
         Pause::End => Ok(Some(0)),
@@ -59,7 +60,7 @@ fn go_on(rt: &HostRuntime, store: &mut Store, pause: Pause) -> Result<Option<u8>
     }
 }
 
-/// Answers the requests until there are no more. What is not committed then is undone.
+/// Answers the requests until there are no more. What is not committed by then is undone.
 pub fn run_serve<W: Write>(rt: &HostRuntime, store: &mut Store, errors: &mut W) -> u8 {
     let Ok(mut requests) = BufReader::new(rt.alloc(), rt.reader()) else {
         return give_up(errors, OUT_OF_MEMORY, 2);

@@ -1,4 +1,4 @@
--- What the words of the program are.
+-- What the arguments of the program mean.
 use Rattle.std.proofs.Common.{◌≡◌, ◌≢◌, inl, inr, ℕ, ◌+◌, ◌<◌, ◌≤◌, ◌^◌, List, [], ◌∷◌, ◌++◌, length, take, drop, codes, map, arith, refl, sym, ap, ap₂, ◌∙◌, subst, get_or, Option, MatchOption, Result, Ok, Err, false, cond, ◌==◌, slice_index}
 use Rattle.std.specs.Result.{result_ok}
 use Rattle.std.proofs.lemmas.List.{map_more, drop_more, take-append-drop, take-map, drop-map}
@@ -16,7 +16,7 @@ use Rattle.dagstore_lines.specs.declared.command.Words.TheVariants as words
 
 -- ---- rows of CIDs
 
--- words are texts of one row of CIDs at most
+-- words are texts of at most one list of CIDs
 same_names : TextsTellCids → (texts : List (List ℕ)) (names others : List CidParts) → AreTextsOf texts names → AreTextsOf texts others → names ≡ others
 same_names law [] [] [] h k = refl
 same_names law [] [] (d ∷ others) h k = absurd k
@@ -25,7 +25,7 @@ same_names law (t ∷ texts) [] others h k = absurd h
 same_names law (t ∷ texts) (c ∷ names) [] h k = absurd k
 same_names law (t ∷ texts) (c ∷ names) (d ∷ others) h k = ap₂ (λ x xs. x ∷ xs) (law t c d h.0 k.0) (same_names law texts names others h.1 k.1)
 
--- where all are texts of CIDs, none has a fault
+-- if all are texts of CIDs, there is no fault
 no_fault : TextFaultsAreUnique → (texts : List (List ℕ)) (names : List CidParts) (e : CidTextError) → AreTextsOf texts names → IsFirstFault texts e → ⊥
 no_fault law [] names e h f = f
 no_fault law (t ∷ texts) [] e h f = h
@@ -45,7 +45,7 @@ fault_behind (t ∷ texts) text more (c ∷ names) e h is = inr ((c, h.0), fault
 
 -- ---- words tell themselves apart
 
--- of each word of the program another number
+-- a number for each word of the program, different for each
 abbrev mark : List ℕ → ℕ
 mark word = get_or word 0 0 + (get_or word 1 0 + get_or word 1 0)
 
@@ -80,7 +80,7 @@ no_names word m (inr (inr (inr (inr (inr (inr (inr e))))))) = apart (mark word) 
 
 -- ---- which words are unknown
 
--- a word after `put` that names no codec
+-- a word after `put` that does not name a codec
 no_codec : (word : List ℕ) → ((codec : ℕ) → NamesCodec word codec → ⊥) → (codec : ℕ) → IsCodec (word ∷ []) codec → ⊥
 no_codec word none codec (inl h) = let clash : 1 ≡ 0 = ap length h.0 in omega (arith, clash)
 no_codec word none codec (inr h) = none codec (subst (λ w. NamesCodec w codec) (sym (ap (λ ws. get_or ws 0 []) h.1)) h.2)
@@ -100,7 +100,7 @@ no_put path word rest is none (words.NoCid e) (inr (inr (inl h, k))) = let clash
 no_put path word rest is none (words.NoCid e) (inr (inr (inr h, k))) = let clash : 346 ≡ 338 = ap mark h in omega (arith, clash)
 no_put path word rest is none words.Unknown h = h
 
--- CIDs after a word that are no command
+-- CIDs after a word with which they are not a command
 pub no_done : TextsTellCids → TextFaultsAreUnique → (path word : List ℕ) (rest : List (List ℕ)) (names : List CidParts) → word ≢ codes "import" → word ≢ codes "put" → word ≢ codes "at" → word ≢ codes "cat" → word ≢ codes "ls" → AreTextsOf rest names → ((c : Command) → NamesCommand word names c → ⊥)
     → (it : Words) → AreKnown (path ∷ (word ∷ rest)) it → ⊥
 no_done law faults path word rest names imports puts ats cats lists texts none (words.Import file source) h = imports h.1
@@ -117,7 +117,7 @@ no_done law faults path word rest names imports puts ats cats lists texts none (
 no_done law faults path word rest names imports puts ats cats lists texts none (words.NoCid e) (inr (inr (inr h, k))) = lists h
 no_done law faults path word rest names imports puts ats cats lists texts none words.Unknown h = h
 
--- others after a word that takes none
+-- other words after a word that takes no CIDs
 pub no_word : TextFaultsAreUnique → (path word : List ℕ) (rest : List (List ℕ)) (f : CidTextError) → word ≢ codes "import" → word ≢ codes "put" → word ≢ codes "at" → word ≢ codes "cat" → word ≢ codes "ls" → IsFirstFault rest f → (WantsNames word → ⊥) → (it : Words) → AreKnown (path ∷ (word ∷ rest)) it → ⊥
 no_word faults path word rest f imports puts ats cats lists fault none (words.Import file source) h = imports h.1
 no_word faults path word rest f imports puts ats cats lists fault none (words.Put file codec) h = puts h.1
@@ -135,7 +135,7 @@ no_word faults path word rest f imports puts ats cats lists fault none words.Unk
 
 -- ---- rows of words
 
--- the CIDs of one word more
+-- the CIDs with one more word
 pub texts_more : {X : Type 0} (f : X → List ℕ) (xs : List X) (i : ℕ) (x : X) (names : List CidParts) (name : CidParts) → i < length xs → x ≡ get_or xs i x → AreTextsOf (map f (take i xs)) names → IsTextOf (f x) name → AreTextsOf (map f (take (i + 1) xs)) (names ++ name ∷ [])
 texts_more f xs i x names name below is h k =
     subst (λ ts. AreTextsOf ts (names ++ name ∷ [])) (sym (map_more f xs i x below ∙ ap (λ y. map f (take i xs) ++ f y ∷ []) (sym is))) (texts_push (map f (take i xs)) (f x) names name h k)
@@ -143,11 +143,11 @@ texts_more f xs i x names name below is h k =
 split : {X : Type 0} (f : X → List ℕ) (xs : List X) (i : ℕ) (x : X) → i < length xs → map f xs ≡ map f (take i xs) ++ (f (get_or xs i x) ∷ map f (drop (i + 1) xs))
 split f xs i x below = sym (take-append-drop i (map f xs)) ∙ ap₂ (λ a b. a ++ b) (take-map f i xs) (drop-map f i xs ∙ ap (λ ys. map f ys) (drop_more xs i x below))
 
--- the first word that is no text of a CID
+-- the first word that is not a text of a CID
 pub fault_found : {X : Type 0} (f : X → List ℕ) (xs : List X) (i : ℕ) (x : X) (names : List CidParts) (e : CidTextError) → i < length xs → x ≡ get_or xs i x → AreTextsOf (map f (take i xs)) names → IsTextFault e (f x) → IsFirstFault (map f xs) e
 fault_found f xs i x names e below is h k = subst (λ ts. IsFirstFault ts e) (sym (split f xs i x below ∙ ap (λ y. map f (take i xs) ++ (f y ∷ map f (drop (i + 1) xs))) (sym is))) (fault_behind (map f (take i xs)) (f x) (map f (drop (i + 1) xs)) names e h k)
 
--- a row of one
+-- a list of one
 pub one_word : {X : Type 0} (f : X → List ℕ) (xs : List X) (x : X) (word : List ℕ) → 1 ≤ length xs → length xs < 2 → x ≡ get_or xs 0 x → word ≡ f x → map f xs ≡ word ∷ []
 one_word f [] x word least most is same = absurd (omega (arith, least))
 one_word f (y ∷ []) x word least most is same = ap (λ w. w ∷ []) (sym (same ∙ ap f is))

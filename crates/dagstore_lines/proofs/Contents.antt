@@ -1,4 +1,4 @@
--- Files of IPFS, taken out of a store block by block.
+-- IPFS files, read from a store block by block.
 use Rattle.std.proofs.Common.{◌≡◌, inl, inr, ℕ, List, [], ◌∷◌, ◌++◌, map, Bool, true, false, refl, sym, ap, ◌∙◌, subst, append_assoc, append-nil, arith, Option, None, Some, option_map, IfSome, IfErr, Result, Ok, Err, Vec, Global}
 use Rattle.std.proofs.lemmas.List.{map-append}
 use Rattle.std.proofs.KnownBytes.{Appends-nil}
@@ -27,17 +27,17 @@ use Rattle.dagstore_lines.specs.Contents.{Got, IsNamedGot, Gives, OfGot, SaysFil
 use Rattle.dagstore_lines.specs.declared.fault.Fault.{Fault}
 use Rattle.dagstore_lines.specs.declared.fault.Fault.TheVariants as fault
 
--- ---- what was got
+-- ---- what was read
 
 gives_each : (stored : Stored) (xs ys : List Got) → Gives stored (xs ++ ys) → Gives stored xs × Gives stored ys
 gives_each stored [] ys h = (tt, h)
 gives_each stored (x ∷ xs) ys h = let k = gives_each stored xs ys h.1 in ((h.0, k.0), k.1)
 
--- nothing was
+-- nothing was read
 pub got_nothing : (old new : View) (IsSo : Stored → Type 0) → ((stored : Stored) → IsSo stored) → OfGot old new IsSo
 got_nothing old new IsSo h = ([], tt, λ clean stored shows. tt, λ stored gives. h stored)
 
--- what is under one name was
+-- what is under one name was read
 pub got_one : (old new : View) (name : CidParts) (found : Option (Vec ℕ Global)) (IsSo : Stored → Type 0) → IfSome found (λ b. IsNamedBy name b.items) → (IsClean new → GetsSome old name (option_map (λ (b : Vec ℕ Global). b.items) found))
     → ((stored : Stored) → stored name ≡ option_map (λ (b : Vec ℕ Global). b.items) found → IsSo stored) → OfGot old new IsSo
 got_one old new name found IsSo named gets h = (
@@ -59,7 +59,7 @@ pub got_so : (old new : View) (First IsSo : Stored → Type 0) → OfGot old new
 got_so old new First IsSo h f = (h.0, h.1, h.2, λ stored gives. f stored (h.3 stored gives))
 
 module _ {S : Type 0} (g : Ghosts S) where
-  -- some was got, and then more
+  -- some was read, and then more
   pub got_on : (old mid new : S) (First Then IsSo : Stored → Type 0) → StaysSame g old mid → Quiet g mid new → OfGot (g.view old) (g.view mid) First → OfGot (g.view mid) (g.view new) Then → ((stored : Stored) → First stored → Then stored → IsSo stored) → OfGot (g.view old) (g.view new) IsSo
   got_on old mid new First Then IsSo same quiet h k f = (
     h.0 ++ k.0,
@@ -158,11 +158,11 @@ came_on_the_way stored root at path left h = (h.0, left, h.1, h.2)
 
 -- ---- a file
 
--- the block of the last of those that are wanted is next
+-- the block of the last of those that are wanted comes next
 pub next_named : (items below : List Wanted) (w : Wanted) → AreCidParts w.cid → items ≡ below ++ w ∷ [] → IsNextName (map asked items) (map asked below) (asked w) w.cid
 next_named items below w valid is = (valid, ap (map asked) is ∙ map-append asked below (w ∷ []), refl)
 
--- nothing more went out
+-- nothing more was written
 pub next_refused : (stored : Stored) (wanted left : List Asked) (old heard : Option (List ℕ)) (e : Fault) → SaysNext stored wanted left old heard (Err e) old heard
 next_refused stored wanted left old heard e = ([], [], front_of_none stored wanted, inl refl, Appends-nil old, Appends-nil heard)
 

@@ -1,4 +1,4 @@
--- What stands under a path of names, taken out of a store block by block.
+-- What is under a path of names, read from a store block by block.
 use Rattle.std.proofs.Common.{inl, ℕ, List, Bool, Option, Err}
 use Rattle.std.proofs.KnownBytes.{Appends-nil}
 use Rattle.dag_pb.specs.Node.{LinkParts, NodeParts, IsNode}
@@ -14,7 +14,7 @@ use Rattle.dagstore_lines.specs.declared.fault.Fault.TheVariants as fault
 pub linked : (stored : Stored) (block links behind : List ℕ) (link : LinkParts) (well : Bool) (out : List ℕ) (node : NodeParts) → IsNode block node → IsListedTo stored block links well out → GivesLink links link behind → IsLinked node.links stored link.hash
 linked stored block links behind link well out node is h next = among_map (λ (l : LinkParts). l.hash) link node.links (next_linked stored block links behind link well out node is h next)
 
--- nothing is said
+-- nothing is written
 pub none_said : (IsSaid : Bool → List ℕ → List ℕ → Type 0) (old heard : Option (List ℕ)) (e : Fault) → SaysAll IsSaid old heard (Err e) old heard
 none_said IsSaid old heard (fault.Store told) = (Appends-nil old, Appends-nil heard)
 none_said IsSaid old heard (fault.Tool e) = inl (Appends-nil old, Appends-nil heard)

@@ -1,4 +1,4 @@
--- The blocks on the way of a path, taken out of a store.
+-- The blocks on the way of a path, read from a store.
 use Rattle.std.proofs.Common.{◌≡◌, inl, inr, ℕ, zero, suc, List, [], ◌∷◌, ◌++◌, Bool, true, false, cond, refl, sym, ap, ◌∙◌, subst, arith, Option, None, Some, option_map, Vec, Global, BTreeMap}
 use Rattle.std.specs.BTreeMap.{is_at, get}
 use Rattle.std.specs.Map.{lookup}
@@ -27,7 +27,7 @@ use Rattle.dagstore_lines.specs.declared.fault.Fault.TheVariants as fault
 
 -- ---- one block
 
--- none is stored under the name
+-- no block is stored under the name
 pub none_held : (v : View) (name : CidParts) (held : Stored) → GetsSome v name None → HoldsNameToo v name held held
 none_held v name held none stored shows part = (part, by (held name) refl, λ q same. same)
   where
@@ -77,7 +77,7 @@ comes_further zero stored root name next path left more h g =
     (next, more, here, (refl, refl))
 comes_further (suc n) stored root name next path left more h g = (h.0, h.1, h.2, comes_further n stored h.0 name next h.1 left more h.3 g)
 
--- what is held is stored, and what is stored under the names that were passed is held
+-- each block held is stored, and those stored under the names passed so far are held
 pub record Gathered (stored : Stored) (root : CidParts) (path : List (List ℕ)) (held : Stored) (name : CidParts) (left : List (List ℕ)) : Type 0 where
   pub part : IsPartOf held stored
   pub names : List CidParts
@@ -128,7 +128,7 @@ gathered_all v stored root name path left held now shows h also end =
       agree (h.names ++ name ∷ []) stored now (held_too stored held now h.names name h.all k.2 k.1),
     )
 
--- ---- why it is not taken out
+-- ---- why it is not read
 
 pub way_fails : {S : Type 0} (g : Ghosts S) (root name : CidParts) (path left : List (List ℕ)) (held : Stored) (old mid new : S) (e : Fault) → Quiet g old mid → (IsClean (g.view mid) → IsSame (g.view old) (g.view mid)) → Quiet g mid new
     → (IsClean (g.view mid) → OfStored (g.view old) (λ stored. Gathered stored root path held name left)) → GetFails g name mid new e → WayFails g root path old new e

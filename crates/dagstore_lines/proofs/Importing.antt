@@ -1,4 +1,4 @@
--- What is told of a file that is not kept.
+-- What is reported of a CAR file that is not stored.
 use Rattle.std.proofs.Common.{◌≡◌, ℕ, List, ◌++◌, codes, refl, subst}
 use Rattle.sqlite_trees.specs.declared.store.Store.{Ghosts}
 use Rattle.dagcbor_heads.specs.Inputs.{not_lending}

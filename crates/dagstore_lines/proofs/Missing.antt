@@ -1,4 +1,4 @@
--- Links in a store that lead to nothing.
+-- Links in a store that lead to no block.
 use Rattle.std.proofs.Common.{◌≡◌, ◌⊎◌, inl, inr, ℕ, List, [], ◌∷◌, ◌++◌, Bool, true, false, refl, sym, subst, ◌↔◌, Option, None, Some, BTreeSet, Vec, Global, Result, Ok, Err, IfOk, OnOk, arith}
 use Rattle.std.specs.List.Sorted.{IsStrictlySortedBy}
 use Rattle.sqlite_trees.specs.Tree.{Trees}

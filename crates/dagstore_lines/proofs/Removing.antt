@@ -1,4 +1,4 @@
--- The names that are taken out, one after the other, and what is said of them.
+-- The names that are removed, one after the other, and what is written of them.
 use Rattle.std.proofs.Common.{◌≡◌, inl, inr, ℕ, zero, suc, ◌+◌, ◌≤◌, ◌<◌, List, [], ◌∷◌, ◌++◌, length, take, get_or, take-suc, add-one, append-nil, length-append, flat_map, codes, Bool, true, false, refl, sym, ap, ap₂, ◌∙◌, subst, arith, IsTrue, ◌⊎◌, ◌↔◌, Option, Result, Ok, Err}
 use Rattle.std.proofs.Math.Seq.{take-length}
 use Rattle.std.specs.Bool.{⊤}
@@ -34,7 +34,7 @@ whole names i below end =
     let same : i ≡ length names = omega (arith, below, end) in
     ap (λ n. take n names) same ∙ take-length names
 
--- a name that is given once does not stand before itself
+-- a name that is given once does not come before itself
 pub fresh : (names : List CidParts) (i : ℕ) (c : CidParts) → NoneTwice names → i < length names → c ≡ get_or names i c → Among c (take i names) → ⊥
 fresh [] i c once within is m = absurd (omega (arith, within))
 fresh (n ∷ names) zero c once within is m = m
@@ -51,7 +51,7 @@ leaves_on P [] ys x l out = inr (out, ([], ap (λ zs. zs ++ x ∷ []) l, refl))
 leaves_on P (z ∷ xs) ys x (inl k) out = inl (k.0, leaves_on P xs ys x k.1 out)
 leaves_on P (z ∷ xs) ys x (inr k) out = inr (k.0, (k.1.0 ++ x ∷ [], ap (λ zs. zs ++ x ∷ []) k.1.1, leaves_on P xs k.1.0 x k.1.2 out))
 
--- what is left is what was, and is not so
+-- leaving out the names that are so
 pub leaves_among : {X : Type 0} (P : X → Type 0) (xs ys : List X) → LeavesOut P xs ys → (x : X) → Among x ys ↔ (Among x xs × (P x → ⊥))
 leaves_among P [] ys l x = (λ m. absurd (subst (Among x) l m), λ k. absurd k.0)
 leaves_among P (z ∷ xs) ys (inl k) x = (
@@ -92,7 +92,7 @@ splits_more P names c false old new is n h = record {
 pub splits_next : (P : CidParts → Type 0) (names : List CidParts) (i : ℕ) (c : CidParts) (was : Bool) (old new : Taken) → i < length names → c ≡ get_or names i c → (IsTrue was ↔ P c) → Notes c was old new → Splits P (take i names) old → Splits P (take (i + 1) names) new
 splits_next P names i c was old new within is so n h = subst (λ ns. Splits P ns new) (longer names i c within is) (splits_more P (take i names) c was old new so n h)
 
--- one name more was noted
+-- one more name was noted
 pub counts_up : (c : CidParts) (was : Bool) (old new : Taken) (i : ℕ) → Notes c was old new → old.count ≤ i → new.count ≤ i + 1
 counts_up c true old new i n below = omega (arith, n.0, below)
 counts_up c false old new i n below = omega (arith, n.0, below)

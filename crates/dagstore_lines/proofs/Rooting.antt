@@ -1,4 +1,4 @@
--- The roots that a store keeps: those that are meant, and how they change.
+-- The roots that a store keeps: those that a command uses, and how they change.
 use Rattle.std.proofs.Common.{◌≡◌, ◌⊎◌, inl, inr, ℕ, ◌+◌, ◌<◌, List, [], ◌∷◌, ◌++◌, length, take, get_or, codes, Bool, refl, sym, ◌∙◌, subst, arith, IsTrue, ◌↔◌, Option, Result, Ok, Err}
 use Rattle.sqlite_trees.specs.Tree.{Trees}
 use Rattle.sqlite_trees.specs.View.{View, IsClean}
@@ -108,7 +108,7 @@ module _ {S : Type 0} (g : Ghosts S) (old mid new : S) (before_quiet : Quiet g o
   collects_from roots out after (Err (fault.Store told)) was k = (collect_after g roots old mid new told before_quiet same was k.0, k.1)
   collects_from roots out after (Err (fault.Tool e)) was k = (k.0, λ clean. collected_from (g.view old) (g.view mid) (g.view new) roots k.0 (same (was clean)) (k.1 clean), k.2)
 
--- the roots that are meant, seen after another call
+-- the roots that are used, seen after another call
 pub meant_later : (old mid new : View) (given roots : List CidParts) → (IsClean new → IsClean mid) → AreMeant old mid given roots → AreMeant old new given roots
 meant_later old mid new given roots was (inl k) = inl (k.0, λ clean. k.1 (was clean))
 meant_later old mid new given roots was (inr k) = inr k
@@ -137,7 +137,7 @@ module _ {S : Type 0} (g : Ghosts S) (names : List CidParts) where
       last_then (g.view old) k.held (g.view new) (last_rooted (g.view old) k.held k.first k.added) (last_same k.held (g.view new) k.same)
   last_refused old new told clean k = last_undone (g.view old) (g.view new) (k.undone clean)
 
-  -- a rollback after names of which one was refused
+  -- a rollback after some names, one of which was refused
   pub adding_undone : (old failed new : S) (told : StoreRefusal) → Quiet g failed new → g.blamed new ≡ g.blamed failed → (IsClean (g.view new) → IsUndone (g.view failed) (g.view new)) → RootsRefused g names old failed told
       → RootsNotKept g names old new told × (IsClean (g.view new) → IsUndone (g.view old) (g.view new))
   adding_undone old failed new told quiet blame undone h = (
@@ -160,7 +160,7 @@ module _ {S : Type 0} (g : Ghosts S) (names : List CidParts) where
 
 -- ---- taking out
 
--- what is left of what is left
+-- leaving out items of one kind, and then of another
 leaves_then : {X : Type 0} (P Q R : X → Type 0) → ((x : X) → R x ↔ (P x ⊎ Q x)) → (xs ys zs : List X) → LeavesOut P xs ys → LeavesOut Q ys zs → LeavesOut R xs zs
 leaves_then P Q R both [] ys zs l m = subst (λ y. LeavesOut Q y zs) l m
 leaves_then P Q R both (x ∷ xs) ys zs (inl k) m = inl ((both x).1 (inl k.0), leaves_then P Q R both xs ys zs k.1 m)

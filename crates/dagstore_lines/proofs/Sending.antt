@@ -1,4 +1,4 @@
--- How texts go out one after the other.
+-- How texts are written one after the other.
 use Rattle.std.proofs.Common.{◌≡◌, inl, inr, ℕ, List, [], ◌∷◌, ◌++◌, refl, sym, ap, ◌∙◌, subst, append_assoc, codes, decimal, Option, Result, Ok, Err, IsErrAnd}
 use Rattle.std.proofs.KnownBytes.{Appends-nil, Appends-trans}
 use Rattle.dagcbor_core.specs.Appends.{AppendsFront}
@@ -38,7 +38,7 @@ module _ {A : Type 0} where
       whole : a ++ ((b ++ w) ++ (d ++ 10 ∷ [])) ≡ (first ++ (second ++ told)) ++ 10 ∷ []
       whole = spelled ∙ ap (λ z. first ++ z) (append_assoc second words (decimal number ++ 10 ∷ []) ∙ ap (λ z. second ++ z) (sym (append_assoc words (decimal number) (10 ∷ []))) ∙ sym (append_assoc second told (10 ∷ []))) ∙ sym (append_assoc first (second ++ told) (10 ∷ []))
 
--- a line that is so broke off
+-- a line that is so was cut short
 pub line_is : (IsLine : List ℕ → Type 0) (said : List ℕ) (before after : Option (List ℕ)) (e : ToolError) → IsLine said → BreaksLine (λ out. out ≡ said) before after e → BreaksLine IsLine before after e
 line_is IsLine said before after e is (inl none) = inl none
 line_is IsLine said before after e is (inr k) = inr (k.0, k.1, subst IsLine (sym k.2) is, k.3, k.4)
@@ -53,6 +53,6 @@ module _ {A : Type 0} where
       whole : t ++ ((a ++ b) ++ 10 ∷ []) ≡ (cid_text name ++ (first ++ second)) ++ 10 ∷ []
       whole = ap (λ z. z ++ ((a ++ b) ++ 10 ∷ [])) is ∙ ap (λ z. cid_text name ++ ((z ++ b) ++ 10 ∷ [])) one ∙ ap (λ z. cid_text name ++ ((first ++ z) ++ 10 ∷ [])) two ∙ sym (append_assoc (cid_text name) (first ++ second) (10 ∷ []))
 
--- nothing is a front of a text
+-- the empty text is a prefix of a text
 pub nothing_told : (heard : Option (List ℕ)) (text : List ℕ) → AppendsFront heard heard text
 nothing_told heard text = ([], text, refl, Appends-nil heard)

@@ -1,4 +1,4 @@
--- What is said of the names that are listed in a store, one after the other.
+-- What is written of the names that are listed in a store, one after the other.
 use Rattle.std.proofs.Common.{◌≡◌, inl, inr, ℕ, List, [], ◌∷◌, ◌++◌, Bool, true, false, ◌&&◌, refl, sym, subst, arith, Option, None, Some, Ok, Err}
 use Rattle.std.specs.Io.KnownBytes.{Appends}
 use Rattle.std.proofs.KnownBytes.{Appends-nil, Appends-trans}
@@ -37,9 +37,9 @@ all_first : (v : View) (last : Option CidParts) (names : List CidParts) → AreA
 all_first v last [] h = tt
 all_first v last (x ∷ xs) h = (h.0, all_first v (Some x) xs h.1)
 
--- ---- what is said of each
+-- ---- what is written of each
 
--- what was said stays so after more calls that change nothing
+-- what was written stays true after more calls that change nothing
 abbrev pub StaysSaid : Telling → Type 0
 StaysSaid IsSaid = (old mid now new : View) → (IsClean new → IsClean now) → (IsClean new → IsSame old mid) → (c : CidParts) (w : Bool) (t : List ℕ) → IsSaid mid now c w t → IsSaid old new c w t
 
@@ -47,7 +47,7 @@ pub listed_stays : StaysSaid IsListedLine
 listed_stays old mid now new later same c true t h = (h.0, h.1, λ clean. holds_same old mid c h.0 (same clean) (h.2 (later clean)), h.3)
 listed_stays old mid now new later same c false t h = (λ clean. damaged_same old mid c (same clean) (h.0 (later clean)), h.1)
 
--- what is said of the next name, where something is listed under it
+-- what is written of the next name, if something is listed under it
 pub said_of_next : (IsSaid : Telling) (old mid new : View) (last : Option CidParts) (c : CidParts) (w : Bool) (t : List ℕ) → StaysSaid IsSaid → (IsClean new → IsClean mid) → (IsClean mid → IsSame old mid) → (IsClean mid → IsNext (old.trees name_tree) last c)
     → ((IsClean new → ListsName mid c) → IsSaid mid new c w t) → IsSaid old new c w t
 said_of_next IsSaid old mid new last c w t stays was same next is =
@@ -55,13 +55,13 @@ said_of_next IsSaid old mid new last c w t stays was same next is =
 
 -- ---- the walk
 
--- the line of the next name broke off
+-- the line of the next name was cut short
 pub line_broken : (IsSaid : Telling) (old new : View) (last : Option CidParts) (c : CidParts) (well : Bool) (said : List ℕ) (before after : Option (List ℕ)) (e : ToolError) → (IsClean new → IsNext (old.trees name_tree) last c) → IsSaid old new c well said
     → BreaksLine (λ out. out ≡ said) before after e → Breaks (IsNextLine IsSaid old last new) before after (fault.Tool e)
 line_broken IsSaid old new last c well said before after e next is (inl none) = inl none
 line_broken IsSaid old new last c well said before after e next is (inr k) = inr (k.0, k.1, (c, well, subst (IsSaid old new c well) (sym k.2) is, next), k.3, k.4)
 
--- nothing went out after the lines of all names
+-- nothing was written after the lines of all names
 pub nothing_behind : (IsSaid : Telling) (old new : View) (before after : Option (List ℕ)) (well : Bool) (e : ToolError) → SaysNames IsSaid old before (Ok well) new after → SaysNames IsSaid old before (Err (fault.Tool e)) new after
 nothing_behind IsSaid old new before after well e h = (h.0, well, h.1, after, λ clean. all_first old None h.0 (h.2 clean), h.3, h.4, inl (Appends-nil after))
 
@@ -153,7 +153,7 @@ module _ {S : Type 0} (g : Ghosts S) where
   fails_from old mid new (fault.Store told) before same quiet f = fails_same g old mid new told before same quiet f
   fails_from old mid new (fault.Tool e) before same quiet f = λ clean. same_then (g.view old) (g.view mid) (g.view new) (same (omega (arith, quiet.clean))) (f clean)
 
--- where nothing more went out, what went out broke off
+-- if nothing more was written, the output was cut short
 pub nothing_out : (IsLine : List ℕ → Type 0) (before : Option (List ℕ)) (e : Fault) → Breaks IsLine before before e
 nothing_out IsLine before (fault.Store told) = Appends-nil before
 nothing_out IsLine before (fault.Tool e) = inl (Appends-nil before)

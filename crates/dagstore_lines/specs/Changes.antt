@@ -1,4 +1,4 @@
--- What is said of blocks that are kept and taken out.
+-- What is written of blocks that are stored and removed.
 use Rattle.std.specs.Prelude.{◌≡◌, ◌≢◌, ◌↔◌, ◌⊎◌, ℕ, ◌+◌, List, [], ◌∷◌, ◌++◌, length, codes, flat_map, Bool, true, false, IsTrue, Option, Result, Ok, Err}
 use Rattle.std.specs.Io.KnownBytes.{Appends}
 use Rattle.sha2.specs.Sha256.{sha256}
@@ -26,14 +26,14 @@ use Rattle.dagstore_lines.specs.declared.taken.Taken.{Taken}
 use Rattle.dagstore_lines.specs.declared.fault.Fault.{Fault}
 use Rattle.dagstore_lines.specs.declared.fault.Fault.TheVariants as fault
 
--- why a text is not out: the device failed, and a front of it is; or memory was wanting, and
--- nothing is
+-- why a text is not written: the device failed, after a prefix of it; or memory ran out, and
+-- nothing is written
 abbrev pub TextFails : List ℕ → Option (List ℕ) → ToolError → Option (List ℕ) → Type 0
 TextFails text before Output after = AppendsFront before after text
 TextFails text before OutOfMemory after = after ≡ before
 TextFails text before Input after = ⊥
 
--- the text went out, or is not out
+-- the text was written, or not all of it
 abbrev pub SaysText : {A : Type 0} → List ℕ
     → Option (List ℕ) → Result A ToolError → Option (List ℕ) → Type 0
 SaysText text before (Ok v) after = Appends before after text
@@ -41,7 +41,7 @@ SaysText text before (Err e) after = TextFails text before e after
 
 -- ---- put
 
--- why a block is not kept under the name
+-- why a block does not belong under the name
 abbrev pub IsUnfit : Section → StoreRefusal → Type 0
 IsUnfit s (refusal.Unsound e) = IsUnsound s e
 IsUnfit s _ = ⊥
@@ -59,8 +59,8 @@ IsPutWell g name b old new = IsSound (name, b)
 abbrev pub cid_line : CidParts → List ℕ
 cid_line name = line (cid_text name)
 
--- The block is kept, and the line of its name went out; or the store refused, and nothing did; or
--- the block is kept, and the line is not out.
+-- The block is stored, and the line of its name was written; or the store refused, and nothing was
+-- written; or the block is stored, and the line is not all written.
 abbrev pub SaysPut : {S : Type 0} → Ghosts S → CidParts → List ℕ
     → S → Option (List ℕ) → Result Bool Fault → S → Option (List ℕ) → Type 0
 SaysPut g name b old before (Ok well) new after = IsPutWell g name b old new × (well ≡ true)
@@ -72,8 +72,8 @@ SaysPut g name b old before (Err (fault.Tool e)) new after = IsPutWell g name b 
 
 -- ---- gc
 
--- What links lead to is kept, and nothing else, and so many names were taken out, whose line went
--- out; or the store refused, and nothing did; or it is so kept, and the line is not out.
+-- Just what links lead to is kept, this many names were removed, and that line was written; or the
+-- store refused, and nothing was written; or just that is kept, and the line is not all written.
 abbrev pub SaysCollected : {S : Type 0} → Ghosts S → List CidParts
     → S → Option (List ℕ) → Result Bool Fault → S → Option (List ℕ) → Type 0
 SaysCollected g roots old before (Ok well) new after = (count : ℕ)
@@ -87,7 +87,7 @@ SaysCollected g roots old before (Err (fault.Tool e)) new after = (count : ℕ)
 
 -- ---- changes
 
--- the trees are so changed, and what was committed stands
+-- the trees are so changed, and what was committed is the same
 pub record Changes (Does : Trees → Trees → Type 0) (old new : View) : Type 0 where
   pub trees : Does old.trees new.trees
   pub committed : new.committed ≡ old.committed
@@ -100,19 +100,19 @@ pub record Commits (Does : Trees → Trees → Type 0) (old new : View) : Type 0
   pub committed : new.committed ≡ new.trees
   pub is_open : IsTrue new.is_open
 
--- ---- names that are to be taken out
+-- ---- names that are to be removed
 
--- the name is one more of those that were there, or the last of the others
+-- the name is counted among those that were there, or appended to the others
 abbrev pub Notes : CidParts → Bool → Taken → Taken → Type 0
 Notes name true old new = (new.count ≡ old.count + 1) × (new.others.items ≡ old.others.items)
 Notes name false old new = (new.count ≡ old.count) × (new.others.items ≡ old.others.items ++ name ∷ [])
 
--- so many of the names are so, and the others are those that are not, in their order
+-- this many of the names are so, and the others are those that are not, in their order
 pub record Splits (IsSo : CidParts → Type 0) (names : List CidParts) (taken : Taken) : Type 0 where
   pub others : LeavesOut IsSo names taken.others.items
   pub count : taken.count + length taken.others.items ≡ length names
 
--- so it is of the names where each counts once
+-- it splits the names so, each counted once
 abbrev pub SplitsOnce : (CidParts → Type 0) → List CidParts → Taken → Type 0
 SplitsOnce IsSo names taken = (once : List CidParts) × AreOnceEach names once × Splits IsSo once taken
 
@@ -120,8 +120,8 @@ SplitsOnce IsSo names taken = (once : List CidParts) × AreOnceEach names once �
 abbrev pub line_after : List ℕ → CidParts → List ℕ
 line_after words name = line (cid_text name ++ words)
 
--- The line of how many were there went out, and of each of the others a line with these words was
--- told; all is well where there are no others. Or not all of these lines are out.
+-- The line of how many were there was written, and a line with these words was reported for each of
+-- the others; all is well if there are no others. Or not all of these lines are written.
 abbrev pub SaysTaken : List ℕ → Taken → Option (List ℕ) → Option (List ℕ)
     → Result Bool Fault → Option (List ℕ) → Option (List ℕ) → Type 0
 SaysTaken words taken before heard (Ok well) after told = (IsTrue well ↔ (taken.others.items ≡ []))
@@ -135,19 +135,19 @@ SaysTaken words taken before heard (Err (fault.Tool e)) after told =
 
 -- ---- remove
 
--- what is stored is what was, without these names
+-- the stored blocks are those that there were, without these names
 abbrev pub ListsOthers : List CidParts → Trees → Trees → Type 0
 ListsOthers names = HoldsThose (λ q. ¬ Among q (forms names))
 
 -- unless a wrong answer of the disk was taken as true, these names are removed, and all is
--- committed; of the names, each counted once, it is known which were listed
+-- committed; the result says which of the names, each counted once, were listed
 abbrev pub Removes : {S : Type 0} → Ghosts S → List CidParts → S → S → Taken → Type 0
 Removes g names old new taken = IsClean (g.view new)
     → Commits (ListsOthers names) (g.view old) (g.view new)
     × SplitsOnce (ListsName (g.view old)) names taken
 
--- The names are taken out, and it is said how many were listed, and which were not; or the store
--- failed, and nothing went out.
+-- The names are removed, and it is written how many were listed, and which were not; or the store
+-- failed, and nothing was written.
 abbrev pub SaysRemoved : {S : Type 0} → Ghosts S → List CidParts
     → S → Option (List ℕ) → Option (List ℕ) → Result Bool Fault
     → S → Option (List ℕ) → Option (List ℕ) → Type 0

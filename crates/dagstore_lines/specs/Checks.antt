@@ -1,4 +1,4 @@
--- What `check` says of a store.
+-- What `check` writes of a store.
 use Rattle.std.specs.Prelude.{◌≡◌, ◌↔◌, ◌⊎◌, ℕ, List, [], ◌++◌, Bool, true, false, ◌&&◌, IsTrue, Option, None, Some, Result, Ok, Err, IfOk, Vec, flat_map}
 use Rattle.std.specs.Io.KnownBytes.{Appends}
 use Rattle.std.specs.List.Sorted.{IsStrictlySortedBy}
@@ -21,29 +21,29 @@ use Rattle.dagstore_lines.specs.Said.{Breaks}
 use Rattle.dagstore_lines.specs.Names.{Telling, AreAll, SaysNames}
 use Rattle.dagstore_lines.specs.declared.fault.Fault.{Fault}
 
--- the verdict on the bytes that are stored under the name, which it names; or that those are others
+-- the verdict on the bytes that are stored under the name, which match it; or that the bytes do not
+-- match it
 abbrev pub IsCheckedLine : Telling
 IsCheckedLine old new name well text = ((b : List ℕ) × (verdict : Verdict) × IsNamedBy name b
     × IsVerdictOn name.codec b verdict × (IsClean new → HoldsOnly old name b)
     × (well ≡ is_well verdict) × (text ≡ verdict_line ((name, b), verdict)))
     ⊎ ((IsClean new → IsDamaged old name) × (well ≡ false) × (text ≡ damaged_line name))
 
--- the binary form is that of a link in a stored block of DAG-CBOR or DAG-PB, whose bytes are those that
--- its name names, or of one within such a link
+-- these bytes are the binary form of a link in a stored block of DAG-CBOR or DAG-PB that matches
+-- its name, or in a block that such a link holds inline
 abbrev pub IsSoundlyLinked : List ℕ → View → Type 0
 IsSoundlyLinked form v = (c : CidParts) × (b : List ℕ) × (links : List (List ℕ))
     × AreCidParts c × Holds v c b × IsNamedBy c b
     × HasLinks c.codec b links × IsReached form links
 
--- those of them that name nothing that is listed, nor hold a block themselves, each once, in their
--- order
+-- such links under which nothing is listed, and which hold no block inline, each once, in order
 abbrev pub ListsSoundlyMissing : View → List CidParts → Type 0
 ListsSoundlyMissing v links = IsStrictlySortedBy cid_cmp links
     × ((form : List ℕ) → Among form (forms links)
     ↔ (IsSoundlyLinked form v × NamesNoneListed form v))
 
--- It is said of each name, and then of each missing link; nothing is wrong where nothing is in
--- either.
+-- A line is written for each name, and then for each missing link; all is well if no block is
+-- damaged or missing.
 pub record IsStoreChecked (old new : View)
     (before : Option (List ℕ)) (well : Bool) (after : Option (List ℕ)) : Type 0 where
   pub names : List CidParts
@@ -58,8 +58,7 @@ pub record IsStoreChecked (old new : View)
   pub lines : Appends before after (said ++ flat_map missing_line links)
   pub wellness : well ≡ (all_well && none)
 
--- It broke off at a name, or after all of them: of the lines of the missing links a front went
--- out.
+-- The output was cut short at a name; or after all of them, in the lines of the missing links.
 abbrev pub BreaksCheck : View → View → Option (List ℕ) → Fault → Option (List ℕ) → Type 0
 BreaksCheck old new before e after = SaysNames IsCheckedLine old before (Err e) new after
     ⊎ ((between : Option (List ℕ)) × (well : Bool) × (links : List CidParts)
@@ -71,7 +70,7 @@ abbrev pub SaysCheck : View → Option (List ℕ) → Result Bool Fault → View
 SaysCheck old before (Ok well) new after = IsStoreChecked old new before well after
 SaysCheck old before (Err e) new after = BreaksCheck old new before e after
 
--- the verdict is that bytes are a block whose links are read
+-- the verdict is that the bytes are a block whose links are read
 abbrev pub is_linked : Verdict → Bool
 is_linked (verdicts.Block kind) = true
 is_linked verdicts.Node = true
@@ -83,8 +82,8 @@ is_linked _ = false
 abbrev pub LinksTo : View → CidParts → CidParts → Type 0
 LinksTo v c q = (b : List ℕ) × Holds v c b × IsNamedBy c b × IsReachedIn c.codec b q
 
--- those of the names that links in the block under this one lead to which are not listed are put
--- into the set
+-- the names that links in the block under this one lead to, and that are not listed, are put into
+-- the set
 abbrev pub AddsUnlistedLinks : View → CidParts → BTreeSet CidParts → BTreeSet CidParts → Type 0
 AddsUnlistedLinks v c old new = (q : CidParts) → Among q new.keys
     ↔ (Among q old.keys ⊎ (LinksTo v c q × ¬ ListsName v q))
@@ -95,12 +94,12 @@ abbrev pub AddsOfNext : View → Option (CidParts × Bool)
 AddsOfNext v None old new = new ≡ old
 AddsOfNext v (Some p) old new = AddsUnlistedLinks v p.0 old new
 
--- the set has all of them
+-- the set has all the missing links
 abbrev pub IsMissing : View → BTreeSet CidParts → Type 0
 IsMissing v s = (q : CidParts) → Among q s.keys
     ↔ (((c : CidParts) × AreCidParts c × LinksTo v c q) × ¬ ListsName v q)
 
--- the lines of the CIDs of a set, which rise, and whether there is none
+-- the lines of the CIDs of a set, in ascending order, and whether there are none
 abbrev pub SaysKeys : {E : Type 0} → List CidParts → Result (Vec ℕ Global × Bool) E → Type 0
 SaysKeys keys result = IfOk result (λ p. IsStrictlySortedBy cid_cmp keys
     × (p.0.items ≡ flat_map missing_line keys) × (IsTrue p.1 ↔ (keys ≡ [])))

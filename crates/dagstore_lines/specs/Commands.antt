@@ -1,4 +1,4 @@
--- The program's words.
+-- The program's arguments.
 use Rattle.std.specs.Prelude.{◌≡◌, ◌≢◌, ◌⊎◌, ◌≤◌, ℕ, List, [], ◌∷◌, ◌++◌, length, codes, ⊤, Bool, true, false, Option, None, Some}
 use Rattle.std.specs.Borrow.{Bor}
 use Rattle.std.specs.Str.Parse.{IsNumeral, digits_value}
@@ -31,13 +31,13 @@ AreTextsOf [] [] = ⊤
 AreTextsOf (text ∷ texts) (name ∷ names) = IsTextOf text name × AreTextsOf texts names
 AreTextsOf _ _ = ⊥
 
--- the first of the words that is no text of a CID is none for this cause
+-- why the first of the words that is not the text of a CID is not one
 abbrev pub IsFirstFault : List (List ℕ) → CidTextError → Type 0
 IsFirstFault [] e = ⊥
 IsFirstFault (text ∷ texts) e = IsTextFault e text
     ⊎ (((name : CidParts) × IsTextOf text name) × IsFirstFault texts e)
 
--- CIDs stand after the word, and nothing else
+-- only CIDs follow the word
 abbrev pub WantsNames : List ℕ → Type 0
 WantsNames word = (word ≡ codes "export") ⊎ ((word ≡ codes "get") ⊎ ((word ≡ codes "has")
     ⊎ ((word ≡ codes "tree") ⊎ ((word ≡ codes "remove") ⊎ ((word ≡ codes "gc")
@@ -77,30 +77,30 @@ AreNamesOf _ names = names ≡ []
 abbrev pub NamesCommand : List ℕ → List CidParts → Command → Type 0
 NamesCommand word names command = (word ≡ command_word command) × AreNamesOf command names
 
--- the source of a CAR file: a path; or - or nothing, which is standard input
+-- the source of a CAR file: a path; or, for - or no word, standard input
 abbrev pub IsSource : List (List ℕ) → Option (Bor (List ℕ)) → Type 0
 IsSource rest None = (rest ≡ []) ⊎ (rest ≡ codes "-" ∷ [])
 IsSource rest (Some source) = (rest ≡ source.now ∷ []) × (source.now ≢ codes "-")
 
--- the codec of a block, which is DAG-CBOR where none is named
+-- the codec of a block, which is DAG-CBOR if none is named
 abbrev pub IsCodec : List (List ℕ) → ℕ → Type 0
 IsCodec rest codec = ((rest ≡ []) × (codec ≡ 0x71))
     ⊎ ((word : List ℕ) × (rest ≡ word ∷ []) × NamesCodec word codec)
 
--- what follows `at`: a text, and --raw before it where bytes are asked for
+-- what follows `at`: a text, with --raw before it if bytes are asked for
 abbrev pub IsAskedBy : List (List ℕ) → Bool → List ℕ → Type 0
 IsAskedBy rest false text = rest ≡ text ∷ []
 IsAskedBy rest true text = rest ≡ codes "--raw" ∷ text ∷ []
 
--- a text stands alone there: one of this CID, and this path after a slash
+-- there is one text: this CID, and this path after a slash
 abbrev pub IsPathFrom : List (List ℕ) → CidParts → List ℕ → Type 0
 IsPathFrom rest root inner = (text : List ℕ) × (rest ≡ text ∷ [])
     × IsTextOf (name_part text) root × (inner ≡ path_part text)
 
 -- ---- words
 
--- a path, a word and what follows it are this; and where a CID should stand and none does,
--- they are the cause of the first that is none
+-- the meaning of a path, a command and what follows it; if a CID should follow and does not, the
+-- cause of the first that is not one
 abbrev pub AreWordsOf : List ℕ → List ℕ → List (List ℕ) → Words → Type 0
 AreWordsOf path word rest (words.Import file source) = (path ≡ file.now)
     × (word ≡ codes "import") × IsSource rest source
@@ -122,14 +122,14 @@ AreWordsOf path word rest (words.NoCid e) = (WantsNames word × IsFirstFault res
     × IsTextFault e (name_part text))))
 AreWordsOf path word rest _ = ⊥
 
--- the words are this, and known
+-- the arguments are known, with this meaning
 abbrev pub AreKnown : List (List ℕ) → Words → Type 0
 AreKnown (word ∷ []) words.Help = word ≡ codes "--help"
 AreKnown (word ∷ []) words.Version = word ≡ codes "--version"
 AreKnown (path ∷ (word ∷ rest)) it = AreWordsOf path word rest it
 AreKnown _ _ = ⊥
 
--- The words are this; or they are unknown, which are no other.
+-- The arguments have this meaning; or they are unknown, because they have no other.
 abbrev pub AreWords : List (List ℕ) → Words → Type 0
 AreWords said words.Unknown = (it : Words) → ¬ AreKnown said it
 AreWords said it = AreKnown said it

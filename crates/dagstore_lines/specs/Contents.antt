@@ -1,4 +1,4 @@
--- Files of IPFS, taken out of a store block by block.
+-- IPFS files, read from a store block by block.
 use Rattle.std.specs.Prelude.{◌≡◌, ◌⊎◌, ℕ, List, ◌++◌, Bool, Option, Result, IfSome}
 use Rattle.std.specs.List.{AllByRecursion}
 use Rattle.sqlite_trees.specs.View.{View, IsClean}
@@ -16,22 +16,23 @@ use Rattle.dagstore_lines.specs.Said.{SaysAll}
 use Rattle.dagstore_lines.specs.declared.fault.Fault.{Fault}
 use Rattle.dagstore_lines.specs.declared.fault.Fault.TheVariants as fault
 
--- ---- what was got
+-- ---- what was read
 
--- what was got under a name: bytes, or nothing
+-- what was read under a name: bytes, or nothing
 abbrev pub Got : Type 0
 Got = CidParts × Option (List ℕ)
 
--- the bytes are those that the name names
+-- the bytes match the name
 abbrev pub IsNamedGot : Got → Type 0
 IsNamedGot p = IfSome p.1 (IsNamedBy p.0)
 
--- under each of the names is what was got under it
+-- each of the names gives what was read under it
 abbrev pub Gives : Stored → List Got → Type 0
 Gives stored = AllByRecursion (λ p. stored p.0 ≡ p.1)
 
--- It is so of whatever gives what was got under some names: each the bytes that its name names, or
--- nothing. What was stored does, unless a wrong answer of the disk was taken as true.
+-- It is so of each function that gives what was read under some names, which is nothing or bytes
+-- that match the name. The stored blocks are one, unless a wrong answer of the disk was taken as
+-- true.
 abbrev pub OfGot : View → View → (Stored → Type 0) → Type 0
 OfGot old new IsSo = (got : List Got) × AllByRecursion IsNamedGot got
     × (IsClean new → OfStored old (λ stored. Gives stored got))
@@ -39,7 +40,7 @@ OfGot old new IsSo = (got : List Got) × AllByRecursion IsNamedGot got
 
 -- ---- a file
 
--- what is said of the file to which the path leads from the root
+-- what is written of the file to which the path leads from the root
 abbrev pub SaysFile : Stored → CidParts → List (List ℕ) → Option (List ℕ) → Option (List ℕ)
     → Result Bool Fault → Option (List ℕ) → Option (List ℕ) → Type 0
 SaysFile stored root path old heard result new after =
@@ -47,32 +48,32 @@ SaysFile stored root path old heard result new after =
     × SaysContent stored found old heard result new after)
     ⊎ SaysAll (IsNoPath stored root path) old heard result new after
 
--- ---- why no more is said of it
+-- ---- why no more is written of it
 
--- the first names of the path lead there
+-- some first names of the path lead there
 abbrev pub IsOnTheWay : CidParts → List (List ℕ) → Stored → CidParts → Type 0
 IsOnTheWay root path stored name = (front back : List (List ℕ)) × (path ≡ front ++ back)
     × LeadsByNames stored root front name
 
--- after some first bytes of the file under the root the block of this name is wanted
+-- after some first bytes of the file under the root, the block of this name is wanted
 abbrev pub IsWantedIn : CidParts → Stored → CidParts → Type 0
 IsWantedIn root stored name = (out : List ℕ) × (wanted below : List Asked) × (w : Asked)
     × IsReadTo stored root out wanted × IsNextName wanted below w name
 
--- the block of this name is on the path's way, or wanted of the file to which it leads
+-- the block of this name is on the path's way, or wanted in the file to which it leads
 abbrev pub IsOfFile : CidParts → List (List ℕ) → Stored → CidParts → Type 0
 IsOfFile root path stored name = IsOnTheWay root path stored name
     ⊎ ((found : CidParts) × LeadsByNames stored root path found × IsWantedIn found stored name)
 
--- what is stored under such a name is damaged, or the store failed; or it is as it was, and a device
--- failed, or memory was wanting
+-- the block under such a name is damaged, or the store failed; or the store is as it was, and a
+-- device failed, or memory ran out
 abbrev pub FailsAt : {S : Type 0} → Ghosts S → (Stored → CidParts → Type 0) → S → S → Fault → Type 0
 FailsAt g At old new (fault.Store (refusal.Damaged name)) =
     FindsSo g old new (λ v. IsDamaged v name × OfStored v (λ stored. At stored name))
 FailsAt g At old new (fault.Store told) = FailsByStore g ⊥ old new told
 FailsAt g At old new (fault.Tool e) = StaysSame g old new
 
--- it failed at the next block that is wanted
+-- it failed at the block that is wanted next
 abbrev pub FailsAtNext : {S : Type 0} → Ghosts S → List Asked → S → S → Fault → Type 0
 FailsAtNext g wanted old new e = (below : List Asked) × (w : Asked) × (name : CidParts)
     × IsNextName wanted below w name × GetFails g name old new e

@@ -1,4 +1,4 @@
--- What stands under a path of names, taken out of a store block by block.
+-- What is under a path of names, read from a store block by block.
 use Rattle.std.specs.Prelude.{◌≡◌, ◌⊎◌, ℕ, List, map}
 use Rattle.ipld_tree.specs.Cid.{CidParts}
 use Rattle.dag_pb.specs.Node.{LinkParts, NodeParts, IsNode}
@@ -9,20 +9,21 @@ use Rattle.file_lines.specs.Names.{LeadsByNames}
 use Rattle.file_lines.specs.Entries.{IsEntityAt}
 use Rattle.dagstore_lines.specs.Contents.{IsOnTheWay}
 
--- ---- which blocks are got
+-- ---- which blocks are read
 
 -- one of the links leads to the block of this name
 abbrev pub IsLinked : List LinkParts → Stored → CidParts → Type 0
 IsLinked links stored name = Among name (map (λ link. link.hash) links)
 
--- the block of this name is that under the CID; or that is a directory, and one of its links leads
--- there
+-- this is the name of the block under the CID; or that block is a directory, and one of its links
+-- leads to this name
 abbrev pub IsOfEntries : CidParts → Stored → CidParts → Type 0
 IsOfEntries cid stored name = (name ≡ cid)
     ⊎ ((b : List ℕ) × IsEntityAt stored cid b Directory
     × ((node : NodeParts) × IsNode b node × IsLinked node.links stored name))
 
--- the block of this name is on the path's way, or of what is listed of the block to which it leads
+-- the block of this name is on the path's way, or is among those listed for the block to which it
+-- leads
 abbrev pub IsOfListing : CidParts → List (List ℕ) → Stored → CidParts → Type 0
 IsOfListing root path stored name = IsOnTheWay root path stored name
     ⊎ ((found : CidParts) × LeadsByNames stored root path found × IsOfEntries found stored name)

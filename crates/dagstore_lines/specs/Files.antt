@@ -1,4 +1,4 @@
--- What is written of a store as a file, and what is said of a file that is read into it.
+-- What is written of a store as a CAR file, and what is reported of one that is read into it.
 use Rattle.std.specs.Prelude.{◌≡◌, ◌≢◌, ◌⊎◌, ℕ, List, ◌++◌, length, Bool, true, Option, Result, MatchResult, codes, decimal, flat_map}
 use Rattle.std.specs.Io.KnownBytes.{Appends}
 use Rattle.sqlite_trees.specs.View.{View, IsClean}
@@ -31,13 +31,13 @@ use Rattle.dagstore_lines.specs.declared.fault.Fault.TheVariants as fault
 
 -- ---- export
 
--- how it is told that a file is not written
+-- the fault of a CAR file that is not written
 abbrev pub fault_of : {E : Type 0} → WriteCarError E → Fault
 fault_of (unwritten.Write (unsent.Write e)) = fault.Tool Output
 fault_of (unwritten.Write e) = fault.Tool OutOfMemory
 fault_of (unwritten.Store told) = fault.Store told
 
--- The file of these roots and of sections that are so went out, and nothing has changed.
+-- The CAR file of these roots and of sections that are so was written, and nothing has changed.
 pub record SendsFile {S : Type 0} (g : Ghosts S) (roots : List (List ℕ))
     (AreSo : View → List Section → Type 0)
     (old : S) (before : Option (List ℕ)) (new : S) (after : Option (List ℕ)) : Type 0 where
@@ -47,7 +47,7 @@ pub record SendsFile {S : Type 0} (g : Ghosts S) (roots : List (List ℕ))
   pub sent : Appends before after (car_bytes roots sections)
   pub are_so : FindsSo g old new (λ v. AreSo v sections)
 
--- The file of these roots and of first sections that are so went out, and no more.
+-- A CAR file of these roots and of first sections that are so was written, and no more.
 pub record SendsFirst {S : Type 0} (g : Ghosts S) (roots : List (List ℕ))
     (AreSo : View → List Section → Type 0)
     (old : S) (before : Option (List ℕ)) (new : S) (after : Option (List ℕ)) : Type 0 where
@@ -56,8 +56,8 @@ pub record SendsFirst {S : Type 0} (g : Ghosts S) (roots : List (List ℕ))
   pub sent : Appends before after (car_bytes roots sections)
   pub are_so : IsClean (g.view new) → AreSo (g.view old) sections
 
--- Of the file of these roots and of first sections that are so a front went out, and nothing has
--- changed.
+-- A prefix of the CAR file of these roots and of first sections that are so was written, and
+-- nothing has changed.
 pub record SendsFront {S : Type 0} (g : Ghosts S) (roots : List (List ℕ))
     (AreSo : View → List Section → Type 0)
     (old : S) (before : Option (List ℕ)) (new : S) (after : Option (List ℕ)) : Type 0 where
@@ -66,8 +66,8 @@ pub record SendsFront {S : Type 0} (g : Ghosts S) (roots : List (List ℕ))
   pub sent : AppendsFront before after (car_bytes roots sections)
   pub are_so : FindsSo g old new (λ v. AreSo v sections)
 
--- the file of some first blocks went out, and the store refused; or of such a file a front did, and
--- the device failed, or memory was wanting
+-- the CAR file of some first blocks was written, and the store refused; or a prefix of such a file
+-- was written, and the device failed, or memory ran out
 abbrev pub ExportFails : {S : Type 0} → Ghosts S → List (List ℕ)
     → S → Option (List ℕ) → Fault → S → Option (List ℕ) → Type 0
 ExportFails g roots old before (fault.Store told) new after =
@@ -75,7 +75,7 @@ ExportFails g roots old before (fault.Store told) new after =
 ExportFails g roots old before (fault.Tool e) new after =
     (e ≢ Input) × SendsFront g roots AreFirstBlocks old before new after
 
--- The file of these roots and of all blocks went out.
+-- The CAR file of these roots and of all blocks was written.
 abbrev pub Exports : {S : Type 0} → Ghosts S → List (List ℕ)
     → S → Option (List ℕ) → Result Bool Fault → S → Option (List ℕ) → Type 0
 Exports g roots old before result new after = MatchResult result
@@ -84,21 +84,21 @@ Exports g roots old before result new after = MatchResult result
 
 -- ---- import
 
--- what is told of a file that is none, or was not read
+-- the message for input that is not a CAR file, or was not read
 abbrev pub file_text : {E : Type 0} → CarError E → List ℕ
 file_text (file.Read e) = tool_text Input
 file_text e = codes "the input is not a CAR file: " ++ fault_name e
 
--- 1 where the bytes are the cause, else 2
+-- status 1 if the bytes are the cause, else 2
 abbrev pub file_status : {E : Type 0} → CarError E → ℕ
 file_status (file.Read e) = 2
 file_status e = 1
 
--- of how many sections stand before the place where a file stopped
+-- the line of how many sections come before the place where a file stopped
 abbrev pub behind_line : ℕ → List ℕ
 behind_line count = line (codes "dagstore: after " ++ (decimal count ++ codes " sections"))
 
--- what is told of a file that is not kept
+-- the lines for a file that is not stored
 abbrev pub unread_lines : {E : Type 0} → ReadCarError E → List ℕ
 unread_lines (car.Header e) = dagstore_line (file_text e)
 unread_lines (car.Section count e) = behind_line count ++ dagstore_line (file_text e)
@@ -108,7 +108,7 @@ unread_lines (car.Block count name told) =
 unread_lines (car.Store told) = refusal_lines told
 unread_lines car.OutOfMemory = dagstore_line (tool_text OutOfMemory)
 
--- 1 where the bytes, or the blocks in them, are the cause, else 2
+-- status 1 if the bytes, or the blocks in them, are the cause, else 2
 abbrev pub unread_status : {E : Type 0} → ReadCarError E → ℕ
 unread_status (car.Header e) = file_status e
 unread_status (car.Section count e) = file_status e
@@ -116,11 +116,11 @@ unread_status (car.Block count name told) = refusal_status told
 unread_status (car.Store told) = refusal_status told
 unread_status car.OutOfMemory = 2
 
--- of the roots, and of how many sections are kept
+-- the lines of the roots, and of how many sections are stored
 abbrev pub stored_lines : List (List ℕ) → ℕ → List ℕ
 stored_lines roots count = flat_map root_line roots ++ stored_line count
 
--- they went out; or broke off, since a device failed, or memory was wanting
+-- these lines were written; or cut short, because a device failed, or memory ran out
 abbrev pub SaysStored : List (List ℕ) → ℕ
     → Option (List ℕ) → Result Bool Fault → Option (List ℕ) → Type 0
 SaysStored roots count before result after = MatchResult result
@@ -128,8 +128,8 @@ SaysStored roots count before result after = MatchResult result
     (λ e. (kind : ToolError) × (e ≡ fault.Tool kind)
     × BreaksLine (λ text. text ≡ stored_lines roots count) before after kind)
 
--- The file was read, and its blocks and roots are committed; and then its lines went out, or broke
--- off.
+-- The file was read, and its blocks and roots are committed; then its lines were written, or cut
+-- short.
 pub record IsImported {S : Type 0} (g : Ghosts S) (source left : Reading)
     (old : S) (before heard : Option (List ℕ)) (status : ℕ)
     (new : S) (after told : Option (List ℕ)) : Type 0 where
@@ -144,7 +144,8 @@ pub record IsImported {S : Type 0} (g : Ghosts S) (source left : Reading)
   pub is_status : status ≡ status_of ended
   pub tells : TellsRunFault ended heard told
 
--- The file was refused, and what was not committed is undone: nothing went out, and it is told why.
+-- The file was refused, and what was not committed is undone; there is no output, and the cause is
+-- reported.
 pub record IsNotImported {S : Type 0} (E : Type 0) (g : Ghosts S) (source left : Reading)
     (old : S) (before heard : Option (List ℕ)) (status : ℕ)
     (new : S) (after told : Option (List ℕ)) : Type 0 where
@@ -155,7 +156,7 @@ pub record IsNotImported {S : Type 0} (E : Type 0) (g : Ghosts S) (source left :
   pub is_status : status ≡ unread_status error
   pub tells : AppendsFront heard told (unread_lines error)
 
--- one of these came of the source
+-- the source was imported, or not, in one of these ways
 abbrev pub Imports : {S : Type 0} → Type 0 → Ghosts S → Reading
     → S → Option (List ℕ) → Option (List ℕ) → ℕ
     → S → Option (List ℕ) → Option (List ℕ) → Type 0

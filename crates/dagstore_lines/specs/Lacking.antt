@@ -1,4 +1,4 @@
--- What `check` says of roots without a block, and of a store as a whole.
+-- What `check` writes of roots without a block, and of a store as a whole.
 use Rattle.std.specs.Prelude.{◌≡◌, ◌↔◌, ◌⊎◌, List, [], ◌∷◌, ◌++◌, ℕ, Bool, ◌&&◌, IsTrue, Option, Result, Ok, Err, flat_map}
 use Rattle.std.specs.Io.KnownBytes.{Appends}
 use Rattle.sqlite_trees.specs.View.{View, IsClean}
@@ -12,11 +12,11 @@ use Rattle.dagstore_lines.specs.Checks.{SaysCheck}
 use Rattle.dagstore_lines.specs.Said.{Breaks}
 use Rattle.dagstore_lines.specs.declared.fault.Fault.{Fault}
 
--- those of the names that have no block, in their order
+-- the names that have no block, in their order
 abbrev pub LeavesStored : View → List CidParts → List CidParts → Type 0
 LeavesStored v = LeavesOut (HasBlockAt v)
 
--- the name is put after the others if it has no block
+-- the name is appended if it has no block
 abbrev pub AddsLacking : View → CidParts → List CidParts → List CidParts → Type 0
 AddsLacking v name old new = (HasBlockAt v name × (new ≡ old))
     ⊎ ((¬ HasBlockAt v name) × (new ≡ old ++ name ∷ []))
@@ -25,8 +25,8 @@ AddsLacking v name old new = (HasBlockAt v name × (new ≡ old))
 abbrev pub ListsLacking : View → List CidParts → Type 0
 ListsLacking v lacking = (names : List CidParts) × HasRoots v names × LeavesStored v names lacking
 
--- A line went out for each root that has no block; or the store failed, and nothing went out, or the
--- device did, and a front did.
+-- A line was written for each root that has no block; or the store failed, and nothing was written;
+-- or the device did, and a prefix of the lines was written.
 abbrev pub SaysLacking : View → Option (List ℕ) → Result Bool Fault → View → Option (List ℕ) → Type 0
 SaysLacking old before (Ok well) new after = (lacking : List CidParts)
     × (IsClean new → ListsLacking old lacking) × (IsTrue well ↔ (lacking ≡ []))
@@ -35,8 +35,8 @@ SaysLacking old before (Err e) new after =
     Breaks (λ text. (lacking : List CidParts) × (IsClean new → ListsLacking old lacking)
     × (text ≡ flat_map missing_line lacking)) before after e
 
--- It is said of each name and each missing link, and then of each root that has no block; nothing is
--- wrong where nothing is in either. Or it broke off.
+-- The lines of each name and each missing link were written, and then one for each root that has no
+-- block; all is well if both parts are. Or the output was cut short.
 abbrev pub SaysStoreChecked : View → Option (List ℕ) → Result Bool Fault → View → Option (List ℕ)
     → Type 0
 SaysStoreChecked old before (Ok well) new after = (mid : View) × (between : Option (List ℕ))

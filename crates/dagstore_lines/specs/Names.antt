@@ -1,4 +1,4 @@
--- What is said of each name that is listed in a store.
+-- What is written of each name that is listed in a store.
 use Rattle.std.specs.Prelude.{◌≡◌, ℕ, List, [], ◌∷◌, Bool, true, false, ⊤, Option, None, Some, Result, MatchResult, MatchOption}
 use Rattle.std.specs.Io.KnownBytes.{Appends}
 use Rattle.sqlite_trees.specs.View.{View, IsClean}
@@ -12,25 +12,25 @@ use Rattle.dagstore_lines.specs.declared.fault.Fault.{Fault}
 
 -- ---- the names
 
--- the first of the names that are listed after the last one, in the order of their bytes
+-- the first of the names that are listed after the last one, in byte order
 abbrev pub AreFirst : View → Option CidParts → List CidParts → Type 0
 AreFirst v last [] = ⊤
 AreFirst v last (c ∷ names) = IsNext (v.trees name_tree) last c × AreFirst v (Some c) names
 
--- all of the names that are listed after the last one, each once, in the order of their bytes
+-- all of the names that are listed after the last one, each once, in byte order
 abbrev pub AreAll : View → Option CidParts → List CidParts → Type 0
 AreAll v last [] = GivesNextName v last None
 AreAll v last (c ∷ names) = IsNext (v.trees name_tree) last c × AreAll v (Some c) names
 
--- the last of the names, or this one where there is none
+-- the last of the names, or this one if there are none
 abbrev pub last_of : Option CidParts → List CidParts → Option CidParts
 last_of last [] = last
 last_of last (c ∷ names) = last_of (Some c) names
 
--- ---- what is said of them
+-- ---- what is written of them
 
--- what is said of a name, by what was stored, and what the store shows after the call; and whether
--- that tells of nothing wrong
+-- what is written of a name, by what was stored and what the store shows after the call; and
+-- whether all is well with it
 abbrev pub Telling : Type 1
 Telling = View → View → CidParts → Bool → List ℕ → Type 0
 
@@ -39,8 +39,8 @@ abbrev pub IsNextLine : Telling → View → Option CidParts → View → List �
 IsNextLine IsSaid old last new text = (name : CidParts) × (well : Bool)
     × IsSaid old new name well text × (IsClean new → IsNext (old.trees name_tree) last name)
 
--- It is said of each name, unless a wrong answer of the disk was taken as true; or of some first
--- names, and a front of the line of the next one went out.
+-- A line is written for each name, unless a wrong answer of the disk was taken as true; or for some
+-- first names, and then a prefix of the line of the next.
 abbrev pub SaysNames : Telling
     → View → Option (List ℕ) → Result Bool Fault → View → Option (List ℕ) → Type 0
 SaysNames IsSaid old before result new after = MatchResult result
@@ -53,7 +53,7 @@ SaysNames IsSaid old before result new after = MatchResult result
 
 -- ---- list
 
--- how many bytes are stored under the name, which are those that it names; or that they are damaged
+-- how many bytes are stored under the name, and they match it; or that they are damaged
 abbrev pub IsListedLine : Telling
 IsListedLine old new name true text = (b : List ℕ) × IsNamedBy name b
     × (IsClean new → HoldsOnly old name b) × (text ≡ listed_line (name, b))
@@ -62,7 +62,7 @@ IsListedLine old new name false text = (IsClean new → IsDamaged old name)
 
 -- ---- a step
 
--- the line of the next name went out, or there is none; or it broke off
+-- the line of the next name was written, or there is none; or the output was cut short
 abbrev pub SaysNext : Telling → View → Option CidParts → Option (List ℕ)
     → Result (Option (CidParts × Bool)) Fault → View → Option (List ℕ) → Type 0
 SaysNext IsSaid old last before result new after = MatchResult result

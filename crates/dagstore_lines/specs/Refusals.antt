@@ -1,4 +1,4 @@
--- What is told of a refusal, and the status of a run that ends so.
+-- What is reported of a refusal, and the exit status of a run that ends so.
 use Rattle.std.specs.Prelude.{◌≡◌, ℕ, List, [], ◌∷◌, ◌++◌, codes, decimal, Bool, Option, None, Some, Result, Ok, Err, if◌then◌else◌}
 use Rattle.sqlite_trees.specs.declared.error.StoreError.{StoreError}
 use Rattle.sqlite_trees.specs.declared.error.StoreError.TheVariants as disk
@@ -16,7 +16,7 @@ use Rattle.block_lines.specs.Names.{pb_cause_name}
 use Rattle.dagstore_lines.specs.declared.fault.Fault.{Fault}
 use Rattle.dagstore_lines.specs.declared.fault.Fault.TheVariants as fault
 
--- of a failure of the database
+-- the message for a failure of the database
 abbrev pub disk_text : StoreError → List ℕ
 disk_text disk.OutOfMemory = codes "out of memory"
 disk_text disk.Io = codes "disk I/O error"
@@ -25,8 +25,8 @@ disk_text disk.Full = codes "database or disk is full"
 disk_text disk.Broken = codes "the transaction must be rolled back"
 disk_text disk.Unstorable = codes "a row cannot be stored"
 
--- of a block that is not kept under its name; of one that is no DAG-CBOR or DAG-PB, with the byte by
--- which it is none
+-- the message for a block that does not belong under its name, with the byte at which it is
+-- malformed if it is not DAG-CBOR or DAG-PB
 abbrev pub unsound_text : Unsound → List ℕ
 unsound_text unsound.OtherHash = codes "the block is named by another hash function than SHA-256"
 unsound_text unsound.OtherBytes = codes "the block has other bytes than its name says"
@@ -35,12 +35,12 @@ unsound_text (unsound.NoBlock e place) = codes "the block is no DAG-CBOR: "
 unsound_text (unsound.NoNode e) = codes "the block is no DAG-PB: "
     ++ (pb_cause_name e.cause ++ (codes " at byte " ++ decimal e.place))
 
--- the number of a row, if it has one
+-- the message for the number of a row, if it has one
 abbrev pub row_text : Option ℕ → List ℕ
 row_text None = []
 row_text (Some number) = codes " at row " ++ decimal number
 
--- of a refusal of the store
+-- the message for a refusal of the store
 abbrev pub refusal_text : StoreRefusal → List ℕ
 refusal_text (refusal.Unsound e) = unsound_text e
 refusal_text (refusal.Damaged name) =
@@ -58,7 +58,7 @@ refusal_text refusal.CannotOpen = codes "the file cannot be opened for reading a
 refusal_text (refusal.Disk e) = disk_text e
 refusal_text refusal.OutOfMemory = codes "out of memory"
 
--- 1 where the data are the cause, else 2
+-- status 1 if the data are the cause, else 2
 abbrev pub refusal_status : StoreRefusal → ℕ
 refusal_status (refusal.Unsound e) = 1
 refusal_status (refusal.Damaged name) = 1
@@ -75,17 +75,17 @@ refusal_status refusal.CannotOpen = 2
 refusal_status (refusal.Disk e) = 2
 refusal_status refusal.OutOfMemory = 2
 
--- of a device that failed, or want of memory
+-- the message for a device that failed, or for out of memory
 abbrev pub tool_text : ToolError → List ℕ
 tool_text tool.Input = codes "the input failed"
 tool_text tool.Output = codes "standard output takes no more"
 tool_text tool.OutOfMemory = codes "out of memory"
 
--- under the program's name
+-- a line that begins with the program's name
 abbrev pub dagstore_line : List ℕ → List ℕ
 dagstore_line text = line (codes "dagstore: " ++ text)
 
--- of the block of which a refusal is: its name and its state, in the words of `check`
+-- the line of the block that a refusal is about: its name and its state, in the words of `check`
 abbrev pub state_lines : StoreRefusal → List ℕ
 state_lines (refusal.Damaged name) = dagstore_line (cid_text name ++ codes " other bytes")
 state_lines (refusal.LinksUnread name verdict) =
@@ -93,26 +93,27 @@ state_lines (refusal.LinksUnread name verdict) =
 state_lines (refusal.NoBlock name) = dagstore_line (cid_text name ++ codes " missing")
 state_lines told = []
 
--- of a refusal of the store: its block, if it is of one, and why it refused
+-- the lines of a refusal of the store: its block, if it is about one, and why the store refused
 abbrev pub refusal_lines : StoreRefusal → List ℕ
 refusal_lines told = state_lines told ++ dagstore_line (refusal_text told)
 
--- of what ended a run
+-- the lines of the fault that ended a run
 abbrev pub fault_line : Fault → List ℕ
 fault_line (fault.Store told) = refusal_lines told
 fault_line (fault.Tool e) = dagstore_line (tool_text e)
 
--- the status of a run that ended so: 0 where nothing is wrong, 1 where something is
+-- the status of a run that ended so: 0 if all is well, 1 if not, or the status of its fault
 abbrev pub status_of : Result Bool Fault → ℕ
 status_of (Ok well) = if well then 0 else 1
 status_of (Err (fault.Store told)) = refusal_status told
 status_of (Err (fault.Tool e)) = 2
 
--- nothing is told of a run that was answered; of another its fault, as far as the device takes it
+-- nothing is reported of a run that ended well; of another, its fault, as far as the device takes
+-- it
 abbrev pub TellsRunFault : Result Bool Fault → Option (List ℕ) → Option (List ℕ) → Type 0
 TellsRunFault (Ok well) old new = new ≡ old
 TellsRunFault (Err e) old new = AppendsFront old new (fault_line e)
 
--- a run ended so: its status, and what is told of it after what was told before
+-- a run ended so: its status, and what is reported of it after earlier messages
 abbrev pub ExitsSo : Result Bool Fault → ℕ → Option (List ℕ) → Option (List ℕ) → Type 0
 ExitsSo ended status heard told = (status ≡ status_of ended) × TellsRunFault ended heard told

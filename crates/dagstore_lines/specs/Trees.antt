@@ -1,4 +1,4 @@
--- What is said of the blocks of a store that links lead to.
+-- What is written of the blocks of a store that links lead to.
 use Rattle.std.specs.Prelude.{◌≡◌, ◌≢◌, ◌⊎◌, ◌↔◌, ℕ, List, [], ◌∷◌, Bool, false, IsTrue, Option, Result, MatchResult, flat_map}
 use Rattle.std.specs.Io.KnownBytes.{Appends}
 use Rattle.sqlite_trees.specs.declared.store.Store.{Ghosts}
@@ -15,20 +15,20 @@ use Rattle.dagstore_lines.specs.Lines.{no_block_line}
 use Rattle.dagstore_lines.specs.declared.fault.Fault.{Fault}
 use Rattle.dagstore_lines.specs.declared.fault.Fault.TheVariants as fault
 
--- The file of the root, and of the blocks that links lead to from there, went out; these names are
--- the links that lead to none.
+-- The CAR file of the root and of the blocks that links lead to from there was written; these names
+-- are the links that lead to no block.
 abbrev pub SendsStoredTree : {S : Type 0} → Ghosts S → CidParts
     → S → Option (List ℕ) → List CidParts → S → Option (List ℕ) → Type 0
 SendsStoredTree g root old before lost new after =
     SendsFile g (cid_bytes root ∷ []) (AreTreeOf root lost) old before new after
 
--- nothing went out, since the root names nothing that is stored
+-- nothing was written, because nothing is stored under the root
 abbrev pub NamesNothing : {S : Type 0} → Ghosts S → CidParts
     → S → Option (List ℕ) → S → Option (List ℕ) → Type 0
 NamesNothing g root old before new after = (after ≡ before)
     × FindsSo g old new (λ v. OfStored v (λ stored. IsLost stored root))
 
--- what is told: the links that lead to none; or that the root names nothing
+-- what is reported: the links that lead to no block; or that the root has no block
 abbrev pub TellsTree : {S : Type 0} → Ghosts S → CidParts
     → S → Option (List ℕ) → S → Option (List ℕ) → Bool → List ℕ → Type 0
 TellsTree g root old before new after well told = ((lost : List CidParts)
@@ -36,7 +36,7 @@ TellsTree g root old before new after well told = ((lost : List CidParts)
     × (told ≡ flat_map missing_line lost) × (IsTrue well ↔ (lost ≡ [])))
     ⊎ (NamesNothing g root old before new after × (told ≡ no_block_line) × (well ≡ false))
 
--- of what is told a front was
+-- only a prefix of what is to be reported was written
 pub record BreaksTold {S : Type 0} (g : Ghosts S) (root : CidParts)
     (old : S) (before heard : Option (List ℕ))
     (new : S) (after said : Option (List ℕ)) : Type 0 where
@@ -45,9 +45,9 @@ pub record BreaksTold {S : Type 0} (g : Ghosts S) (root : CidParts)
   pub tells : TellsTree g root old before new after well told
   pub front : AppendsFront heard said told
 
--- Why it was not told: the store refused, before anything went out, or after the file of some
--- first blocks; or of such a file a front went out, or of what is told, and a device failed, or
--- memory was wanting.
+-- Why not all was written: the store refused, before anything was written, or after the CAR file of
+-- some first blocks; or a device failed, or memory ran out, after a prefix of such a file, or of
+-- what is reported.
 abbrev pub TreeFails : {S : Type 0} → Ghosts S → CidParts
     → S → Option (List ℕ) → Option (List ℕ) → Fault
     → S → Option (List ℕ) → Option (List ℕ) → Type 0
@@ -59,7 +59,7 @@ TreeFails g root old before heard (fault.Tool e) new after said = (e ≢ Input)
     × (((said ≡ heard) × SendsFront g (cid_bytes root ∷ []) (AreFirstOf root) old before new after)
     ⊎ BreaksTold g root old before heard new after said)
 
--- It was told, and nothing is wrong where each link leads to a block.
+-- All was written and reported, and all is well if each link leads to a block; or not all was.
 abbrev pub SaysTree : {S : Type 0} → Ghosts S → CidParts
     → S → Option (List ℕ) → Option (List ℕ) → Result Bool Fault
     → S → Option (List ℕ) → Option (List ℕ) → Type 0
@@ -70,7 +70,7 @@ SaysTree g root old before heard result new after said = MatchResult result
 
 -- ---- its steps
 
--- the text was told; or a front of it was, and the device failed, or memory was wanting
+-- the text was reported; or a prefix of it was, and the device failed, or memory ran out
 abbrev pub TellsText : List ℕ → (Bool → Type 0)
     → Option (List ℕ) → Result Bool Fault → Option (List ℕ) → Type 0
 TellsText text IsSo heard result said = MatchResult result

@@ -1,4 +1,4 @@
-//! The words of the program: what each says, and the status of its run.
+//! The commands of the program: what each writes, and its exit status.
 
 ghost use Rattle.std.specs.Prelude.{Result, Bool, Option, List, ℕ, ◌⊎◌, OnOk, IfErr};
 ghost use Rattle.sqlite_trees.specs.View.{IsClean};
@@ -35,7 +35,7 @@ use ipld_tree::Cid;
 use std::alloc::Global;
 use std::io::Write;
 
-/// `list`: answers the status.
+/// Runs `list`, and returns the exit status.
 pub fn answer_list<S: Store, W: Write, V: Write>(
     alloc: Global,
     store: &mut BlockStore<S>,
@@ -51,7 +51,7 @@ pub fn answer_list<S: Store, W: Write, V: Write>(
     end(list_blocks(alloc, store, output), errors)
 }
 
-/// `check`: answers the status.
+/// Runs `check`, and returns the exit status.
 pub fn answer_check<S: Store, W: Write, V: Write, E: Write>(
     alloc: Global,
     store: &mut BlockStore<S>,
@@ -68,7 +68,7 @@ pub fn answer_check<S: Store, W: Write, V: Write, E: Write>(
     end(check_store(alloc, store, output, progress), errors)
 }
 
-/// `count`: answers the status.
+/// Runs `count`, and returns the exit status.
 pub fn answer_count<S: Store, W: Write, V: Write>(
     alloc: Global,
     store: &mut BlockStore<S>,
@@ -84,7 +84,7 @@ pub fn answer_count<S: Store, W: Write, V: Write>(
     end(count_blocks(alloc, store, output), errors)
 }
 
-/// `roots`: answers the status.
+/// Runs `roots`, and returns the exit status.
 pub fn answer_roots<S: Store, W: Write, V: Write>(
     alloc: Global,
     store: &mut BlockStore<S>,
@@ -101,7 +101,7 @@ pub fn answer_roots<S: Store, W: Write, V: Write>(
     end(list_roots(alloc, store, output), errors)
 }
 
-/// `export`: answers the status.
+/// Runs `export`, and returns the exit status.
 pub fn answer_export<S: Store, W: Write, V: Write>(
     store: &mut BlockStore<S>,
     given: Vec<Cid>,
@@ -117,7 +117,7 @@ pub fn answer_export<S: Store, W: Write, V: Write>(
     end(export_meant(store, given, output), errors)
 }
 
-/// `get`: answers the status.
+/// Runs `get`, and returns the exit status.
 pub fn answer_get<S: Store, W: Write, V: Write>(
     alloc: Global,
     store: &mut BlockStore<S>,
@@ -135,7 +135,7 @@ pub fn answer_get<S: Store, W: Write, V: Write>(
     end(ended, errors)
 }
 
-/// `at`: answers the status.
+/// Runs `at`, and returns the exit status.
 pub fn answer_at<S: Store, W: Write, V: Write>(
     alloc: Global,
     store: &mut BlockStore<S>,
@@ -157,7 +157,7 @@ pub fn answer_at<S: Store, W: Write, V: Write>(
     end(ended, errors)
 }
 
-/// `cat`: answers the status.
+/// Runs `cat`, and returns the exit status.
 pub fn answer_cat<S: Store, W: Write, V: Write>(
     alloc: Global,
     store: &mut BlockStore<S>,
@@ -178,7 +178,7 @@ pub fn answer_cat<S: Store, W: Write, V: Write>(
     end(ended, errors)
 }
 
-/// `ls`: answers the status.
+/// Runs `ls`, and returns the exit status.
 pub fn answer_ls<S: Store, W: Write, V: Write>(
     alloc: Global,
     store: &mut BlockStore<S>,
@@ -199,7 +199,7 @@ pub fn answer_ls<S: Store, W: Write, V: Write>(
     end(ended, errors)
 }
 
-/// `has`: answers the status. Nothing is said.
+/// Runs `has`, and returns the exit status. It writes no output.
 pub fn answer_has<S: Store, V: Write>(store: &mut BlockStore<S>, name: &Cid, errors: &mut V) -> u8
     ensures answers { (ended : Result Bool Fault)
         × ExitsSo ended result (V.contents errors.old) (V.contents errors.new)
@@ -209,7 +209,7 @@ pub fn answer_has<S: Store, V: Write>(store: &mut BlockStore<S>, name: &Cid, err
     end(has_block(store, name), errors)
 }
 
-/// `tree`: answers the status.
+/// Runs `tree`, and returns the exit status.
 pub fn answer_tree<S: Store, W: Write, V: Write>(
     alloc: Global,
     store: &mut BlockStore<S>,
@@ -226,7 +226,7 @@ pub fn answer_tree<S: Store, W: Write, V: Write>(
     end(ended, errors)
 }
 
-/// `put`: answers the status.
+/// Runs `put`, and returns the exit status.
 pub fn answer_put<S: Store, W: Write, V: Write>(
     alloc: Global,
     store: &mut BlockStore<S>,
@@ -247,7 +247,7 @@ pub fn answer_put<S: Store, W: Write, V: Write>(
     end(put_block(alloc, store, codec, block, output), errors)
 }
 
-/// `remove`: answers the status.
+/// Runs `remove`, and returns the exit status.
 pub fn answer_remove<S: Store, W: Write, V: Write>(
     alloc: Global,
     store: &mut BlockStore<S>,
@@ -266,7 +266,7 @@ pub fn answer_remove<S: Store, W: Write, V: Write>(
     end(ended, errors)
 }
 
-/// `gc`: answers the status.
+/// Runs `gc`, and returns the exit status.
 pub fn answer_collect<S: Store, W: Write, V: Write>(
     alloc: Global,
     store: &mut BlockStore<S>,
@@ -286,7 +286,7 @@ pub fn answer_collect<S: Store, W: Write, V: Write>(
     end(ended, errors)
 }
 
-/// `add-root`: answers the status. Nothing is said.
+/// Runs `add-root`, and returns the exit status. It writes no output.
 pub fn answer_add_roots<S: Store, V: Write>(
     store: &mut BlockStore<S>,
     names: &[Cid],
@@ -302,7 +302,7 @@ pub fn answer_add_roots<S: Store, V: Write>(
     end(add_roots(store, names), errors)
 }
 
-/// `drop-root`: answers the status.
+/// Runs `drop-root`, and returns the exit status.
 pub fn answer_drop_roots<S: Store, W: Write, V: Write>(
     alloc: Global,
     store: &mut BlockStore<S>,

@@ -15,15 +15,15 @@ use ipld_tree::Cid;
 use std::alloc::Global;
 use std::io::Write;
 
-/// What is asked of a path: the bytes of the item, or its data.
+/// Returns what is asked of a path: the bytes of the item, or its data.
 fn asked_of(is_raw: bool) -> Asked
     ensures { result ≡ asked_of is_raw }
 {
     if is_raw { Asked::Bytes } else { Asked::Data }
 }
 
-/// Writes what the path leads to from the root, as DAG-JSON or as its own bytes; or tells why it leads
-/// to nothing. Whether it leads to something. The blocks on the way are in memory.
+/// Writes what the path leads to from the root, as DAG-JSON or as its own bytes, or reports why it
+/// leads to nothing. Returns whether it leads to something. The blocks on the way are in memory.
 pub fn write_at<S: Store, W: Write, V: Write>(
     alloc: Global,
     store: &mut BlockStore<S>,

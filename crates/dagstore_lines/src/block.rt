@@ -14,10 +14,10 @@ use ipld_tree::Cid;
 use std::alloc::{AllocError, Global};
 use std::io::Write;
 
-/// What is told where no block has the name.
+/// The message if no block has the name.
 pub const NO_BLOCK: &[u8] = b"dagstore: no block has the name\n";
 
-/// The line of how many names are listed.
+/// Returns the line of how many names are listed.
 fn holds_line(alloc: Global, count: u64) -> Result<Vec<u8>, AllocError>
     ensures { IfOk result (λ v. v.items ≡ holds_line count) }
 {
@@ -43,7 +43,7 @@ pub fn count_blocks<S: Store, W: Write>(
     Ok(well)
 }
 
-/// Writes the block under the name, or tells that there is none. Whether there is one.
+/// Writes the block under the name, or reports that there is none. Returns whether there is one.
 pub fn get_block<S: Store, W: Write, V: Write>(
     alloc: Global,
     store: &mut BlockStore<S>,
@@ -71,7 +71,7 @@ pub fn get_block<S: Store, W: Write, V: Write>(
     }
 }
 
-/// Whether something is listed under the name.
+/// Returns whether something is listed under the name.
 pub fn has_block<S: Store>(store: &mut BlockStore<S>, name: &Cid) -> Result<bool, Fault>
     ensures has { Has S.Store name.now store.old result store.new }
     ensures quiet { Quiet S.Store store.old store.new }

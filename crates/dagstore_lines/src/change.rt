@@ -1,4 +1,4 @@
-//! `put`, `remove` and `gc`: blocks that are kept and taken out.
+//! `put`, `remove` and `gc`: blocks that are stored and removed.
 
 ghost use Rattle.std.specs.Prelude.{◌≡◌, ◌⊎◌, OnOk, IfOk, IfErr, MatchResult};
 ghost use Rattle.sqlite_trees.specs.View.{IsClean};
@@ -23,7 +23,7 @@ use ipld_tree::Cid;
 use std::alloc::Global;
 use std::io::Write;
 
-/// The name of the block: a CID of version 1, of this codec, by its SHA-256.
+/// Returns the name of the block: a CID of version 1, with this codec and the block's SHA-256.
 pub fn name_as(codec: u64, block: &[u8]) -> Cid
     ensures { result ≡ name_as codec block.now }
 {
@@ -39,8 +39,8 @@ fn say_name<W: Write>(alloc: Global, name: &Cid, output: &mut W) -> Result<(), T
     write_all(output, &line)
 }
 
-/// Whether the block is one that a store keeps under its name of this codec. One that is not is refused
-/// by `put_block` too; this asks no store, so that none is made for it.
+/// Checks that the block is one that a store accepts under its name of this codec. `put_block`
+/// refuses the same blocks, but this needs no store, so that none is made for a bad block.
 pub fn check_put(codec: u64, block: &[u8]) -> Result<(), StoreRefusal>
     ensures { MatchResult result (λ _. IsSound (name_as codec block.now, block.now))
         (IsUnfit (name_as codec block.now, block.now)) }
@@ -51,7 +51,7 @@ pub fn check_put(codec: u64, block: &[u8]) -> Result<(), StoreRefusal>
     }
 }
 
-/// Keeps the block under its name of this codec, commits it, and then writes the name.
+/// Stores the block under its name of this codec, commits it, and then writes the name.
 pub fn put_block<S: Store, W: Write>(
     alloc: Global,
     store: &mut BlockStore<S>,
@@ -75,7 +75,8 @@ pub fn put_block<S: Store, W: Write>(
     }
 }
 
-/// Takes out what is listed under the names, of which none is given twice.
+/// Removes the blocks under the names, and counts those that were listed. No name may be given
+/// twice.
 fn take_each<S: Store>(
     alloc: Global,
     store: &mut BlockStore<S>,
@@ -99,7 +100,7 @@ fn take_each<S: Store>(
     Ok(taken)
 }
 
-/// Takes out what is listed under the names, and commits that. A name given twice counts once.
+/// Removes the blocks under the names, and commits that. A name given twice counts once.
 fn take_out<S: Store>(
     alloc: Global,
     store: &mut BlockStore<S>,
@@ -119,8 +120,8 @@ fn take_out<S: Store>(
     Ok(taken)
 }
 
-/// Takes out the blocks under the names, and writes how many. Whether each was listed; else a line of
-/// each that was not is told. A name given twice counts once.
+/// Removes the blocks under the names, and writes how many. Reports each name that was not listed,
+/// one a line. Returns whether all were. A name given twice counts once.
 pub fn remove_blocks<S: Store, W: Write, V: Write>(
     alloc: Global,
     store: &mut BlockStore<S>,
@@ -140,7 +141,7 @@ pub fn remove_blocks<S: Store, W: Write, V: Write>(
     }
 }
 
-/// Keeps what links lead to from the roots, and writes how many names were taken out.
+/// Keeps only the blocks that links lead to from the roots, and writes how many names were removed.
 pub fn collect_blocks<S: Store, W: Write>(
     alloc: Global,
     store: &mut BlockStore<S>,
@@ -162,9 +163,9 @@ pub fn collect_blocks<S: Store, W: Write>(
     }
 }
 
-/// Keeps what links lead to from the roots that are given, or that are stored where none is, and
-/// writes how many names were taken out. Where there is no root at all, that is told, and nothing is
-/// taken out.
+/// Keeps only the blocks that links lead to from the roots that are given or, if none is, those
+/// that are stored, and writes how many names were removed. If there is no root at all, it reports
+/// that and removes nothing.
 pub fn collect_meant<S: Store, W: Write, V: Write>(
     alloc: Global,
     store: &mut BlockStore<S>,

@@ -1,4 +1,4 @@
-//! `check`: a verdict on each block, and then the links that lead to nothing.
+//! `check`: a verdict on each block, and then the links that lead to no block.
 
 ghost use Rattle.std.specs.Prelude.{◌≡◌, [], OnOk, IfOk, IfErr};
 ghost use Rattle.sqlite_trees.specs.View.{IsClean};
@@ -20,7 +20,7 @@ use std::alloc::{AllocError, Global};
 use std::collections::BTreeSet;
 use std::io::Write;
 
-/// Whether a verdict is that bytes are a block whose links are read.
+/// Returns whether the verdict is that the bytes are a block whose links are read.
 fn is_linked(verdict: &Verdict) -> bool
     ensures { result ≡ is_linked verdict.now }
 {
@@ -36,8 +36,8 @@ fn is_linked(verdict: &Verdict) -> bool
     }
 }
 
-/// The line of the verdict on the block, which the name names, and which alone is stored under it. Its
-/// links that lead to nothing are put into the set.
+/// Returns the line of the verdict on the block, which matches its name and alone is stored under
+/// it. Its links under which nothing is listed are added to the set.
 fn judged_said<S: Store>(
     alloc: Global,
     store: &mut BlockStore<S>,
@@ -62,8 +62,8 @@ fn judged_said<S: Store>(
     Ok(verdict_line(alloc, name, &verdict)?)
 }
 
-/// The line of the name, under which something is listed. Links of the block under it that lead to
-/// nothing are put into the set.
+/// Returns the line of the name, under which something is listed. The links of its block under
+/// which nothing is listed are added to the set.
 fn checked_said<S: Store>(
     alloc: Global,
     store: &mut BlockStore<S>,
@@ -86,8 +86,8 @@ fn checked_said<S: Store>(
     }
 }
 
-/// Writes the line of the first name after the last one. Answers the name, and whether nothing is
-/// wrong with it.
+/// Writes the line of the first name after the last one. Returns the name, and whether all is well
+/// with it.
 fn check_next<S: Store, W: Write>(
     alloc: Global,
     store: &mut BlockStore<S>,
@@ -111,8 +111,8 @@ fn check_next<S: Store, W: Write>(
     Ok(Some((name, well)))
 }
 
-/// Writes a line for each name that is listed, and puts the links that lead to nothing into the set,
-/// which is empty before. Whether nothing is damaged.
+/// Writes a line for each listed name, and adds the links under which nothing is listed to the set,
+/// which is empty before. Returns whether no block is damaged.
 fn check_names<S: Store, W: Write, E: Write>(
     alloc: Global,
     store: &mut BlockStore<S>,
@@ -143,7 +143,7 @@ fn check_names<S: Store, W: Write, E: Write>(
     Err(Fault::Tool(ToolError::OutOfMemory))
 }
 
-/// The lines of the links in a set. Nothing is wrong where there is none.
+/// Returns the lines of the links in a set. All is well if the set is empty.
 fn missing_said(alloc: Global, missing: BTreeSet<Cid>) -> Result<Said, AllocError>
     ensures { SaysKeys missing.keys result }
 {
@@ -156,8 +156,8 @@ fn missing_said(alloc: Global, missing: BTreeSet<Cid>) -> Result<Said, AllocErro
     Ok((lines, none))
 }
 
-/// Writes a line for each name that is listed, and then one for each link that leads to nothing.
-/// Whether nothing is damaged, and nothing is missing.
+/// Writes a line for each listed name, and then one for each link that leads to no block. Returns
+/// whether no block is damaged or missing.
 pub fn check_blocks<S: Store, W: Write, E: Write>(
     alloc: Global,
     store: &mut BlockStore<S>,

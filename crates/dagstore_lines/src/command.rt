@@ -1,4 +1,4 @@
-//! The program's words.
+//! The program's arguments.
 
 ghost use Rattle.std.specs.Prelude.{◌≡◌, ◌≢◌, ◌<◌, ◌≤◌, [], ◌∷◌, codes, length, map, string_bytes, IfOk, IfErr, MatchBool, MatchOption, MatchResult, List, ℕ};
 ghost use Rattle.std.specs.Str.Parse.{IsNumeral, digits_value};
@@ -14,82 +14,82 @@ use ipld_links::DAG_CBOR;
 use ipld_tree::Cid;
 use std::alloc::{AllocError, Global};
 
-/// The codec of a block whose bytes say nothing (multicodec table).
+/// The codec of a block of opaque bytes (multicodec table).
 const RAW: u64 = 0x55;
 
-/// The greatest number of digits of a codec in hexadecimal.
+/// The most digits of a codec in hexadecimal.
 const MOST_DIGITS: usize = 16;
 
-/// What is to be done with the blocks in a file that is there.
+/// A command on the blocks of an existing file.
 #[derive(Debug, Drop)]
 pub enum Command {
-    /// To write all of them as a CAR file, with these roots, or with those that are stored where
-    /// none is given.
+    /// Write all blocks as a CAR file, with these roots or, if none is given, those that are
+    /// stored.
     Export(Vec<Cid>),
-    /// To write the one under the name.
+    /// Write the block under the name.
     Get(Cid),
-    /// To tell whether one is listed under the name.
+    /// Return by the status whether a block is listed under the name.
     Has(Cid),
-    /// To take out those under the names.
+    /// Remove the blocks under the names.
     Remove(Vec<Cid>),
-    /// To keep those that links lead to from the ones under the names, or from the roots that are
-    /// stored where none is given, and no other.
+    /// Keep only the blocks that links lead to from these roots or, if none is given, from those
+    /// that are stored.
     Collect(Vec<Cid>),
-    /// To make the names roots.
+    /// Make the names roots.
     AddRoots(Vec<Cid>),
-    /// To take the names out of the roots.
+    /// Remove the names from the roots.
     DropRoots(Vec<Cid>),
-    /// To list the roots.
+    /// List the roots.
     Roots,
-    /// To write those that links lead to from the one under the name, as a CAR file.
+    /// Write the blocks that links lead to from this root, as a CAR file.
     Tree(Cid),
-    /// To judge each, and its links.
+    /// Check each block, and its links.
     Check,
-    /// To list them.
+    /// List the blocks.
     List,
-    /// To count them.
+    /// Count the blocks.
     Count,
-    /// To answer the requests on standard input.
+    /// Answer the requests on standard input.
     Serve,
 }
 
-/// What is asked of a path from this root: the bytes of the item, or its data.
+/// A question about a path from this root: for the bytes of the item, or for its data.
 #[derive(Clone, Copy, Debug)]
 pub struct Asking {
     pub is_raw: bool,
     pub root: Cid,
 }
 
-/// The block from which the names of a path lead.
+/// The block at which a path of names begins.
 #[derive(Clone, Copy, Debug)]
 pub struct Beginning {
     pub root: Cid,
 }
 
-/// What the words are.
+/// The meaning of the arguments.
 #[derive(Debug, Drop)]
 pub enum Words<'a> {
-    /// To keep, in the file at the path, the blocks of a CAR file: of the one at the other path,
-    /// or of standard input.
+    /// Store, in the file at the first path, the blocks of a CAR file: the one at the other path,
+    /// or standard input.
     Import(&'a str, Option<&'a str>),
-    /// To keep there the block that standard input has, under its name of this codec.
+    /// Store, in the file at the path, the block on standard input under its name of this codec.
     Put(&'a str, u64),
-    /// To show what a path leads to from the root, or to write its bytes.
+    /// Show what a path leads to from the root, or write its bytes.
     At(&'a str, Asking, &'a str),
-    /// To write the bytes of the file of IPFS to which a path of names leads from the root.
+    /// Write the bytes of the IPFS file to which a path of names leads from the root.
     Cat(&'a str, Beginning, &'a str),
-    /// To list what stands under a path of names from the root.
+    /// List what is under a path of names from the root.
     Ls(&'a str, Beginning, &'a str),
-    /// A path, and what is to be done with its blocks.
+    /// The path of a file, and a command on its blocks.
     Do(&'a str, Command),
     Help,
     Version,
-    /// One that ought to be a CID is none.
+    /// An argument that should be a CID is not one.
     NoCid(CidTextError),
     Unknown,
 }
 
-/// What the words are.
+/// Parses the arguments.
 pub fn words_of(alloc: Global, words: &[String]) -> Result<Words<'_>, AllocError>
     ensures known { IfOk result (AreWords (map string_bytes words.now)) }
     ensures memory { IfErr result (λ _. 2 < length words.now) }
@@ -101,7 +101,7 @@ pub fn words_of(alloc: Global, words: &[String]) -> Result<Words<'_>, AllocError
     }
 }
 
-/// What one word is.
+/// Parses a single argument.
 fn word_alone(word: &str) -> Words<'_>
     ensures { AreWords (word.now ∷ []) result }
 {
@@ -112,7 +112,7 @@ fn word_alone(word: &str) -> Words<'_>
     }
 }
 
-/// What a path, a word and those after it are.
+/// Parses a path, a command and the arguments after it.
 fn words_behind<'a>(
     alloc: Global,
     path: &'a str,
@@ -132,7 +132,7 @@ fn words_behind<'a>(
     }
 }
 
-/// The import into the file at the path, of the source that is named, if one is.
+/// Parses an import into the file at the path, from the named source, if any.
 fn import_of<'a>(path: &'a str, rest: &'a [String]) -> Words<'a>
     ensures { AreWords (path.now ∷ (codes "import" ∷ map string_bytes rest.now)) result }
 {
@@ -146,7 +146,7 @@ fn import_of<'a>(path: &'a str, rest: &'a [String]) -> Words<'a>
     }
 }
 
-/// What is to be put into the file at the path, of the codec that is named, if one is.
+/// Parses a put into the file at the path, of the named codec, if any.
 fn put_of<'a>(path: &'a str, rest: &[String]) -> Words<'a>
     ensures { AreWords (path.now ∷ (codes "put" ∷ map string_bytes rest.now)) result }
 {
@@ -160,7 +160,7 @@ fn put_of<'a>(path: &'a str, rest: &[String]) -> Words<'a>
     }
 }
 
-/// What is asked of a path in the file.
+/// Parses a question about a path in the file.
 fn at_of<'a>(file: &'a str, rest: &'a [String]) -> Words<'a>
     ensures { AreWords (file.now ∷ (codes "at" ∷ map string_bytes rest.now)) result }
 {
@@ -174,7 +174,7 @@ fn at_of<'a>(file: &'a str, rest: &'a [String]) -> Words<'a>
     }
 }
 
-/// What is asked of the path in the text: a CID, and the path after a slash.
+/// Parses the text of such a path: a CID, and the path after a slash.
 fn at_text<'a>(file: &'a str, is_raw: bool, text: &'a str) -> Words<'a>
     ensures { (rest : List (List ℕ)) → IsAskedBy rest is_raw text.now
         → AreWords (file.now ∷ (codes "at" ∷ rest)) result }
@@ -186,7 +186,7 @@ fn at_text<'a>(file: &'a str, is_raw: bool, text: &'a str) -> Words<'a>
     }
 }
 
-/// The file of IPFS that is asked for.
+/// Parses which IPFS file is wanted.
 fn cat_of<'a>(file: &'a str, rest: &'a [String]) -> Words<'a>
     ensures { AreWords (file.now ∷ (codes "cat" ∷ map string_bytes rest.now)) result }
 {
@@ -196,7 +196,7 @@ fn cat_of<'a>(file: &'a str, rest: &'a [String]) -> Words<'a>
     }
 }
 
-/// The file of IPFS that the text asks for.
+/// Parses the text that names an IPFS file.
 fn cat_text<'a>(file: &'a str, text: &'a str) -> Words<'a>
     ensures { AreWords (file.now ∷ (codes "cat" ∷ (text.now ∷ []))) result }
 {
@@ -206,7 +206,7 @@ fn cat_text<'a>(file: &'a str, text: &'a str) -> Words<'a>
     }
 }
 
-/// What is to be listed.
+/// Parses what is to be listed.
 fn ls_of<'a>(file: &'a str, rest: &'a [String]) -> Words<'a>
     ensures { AreWords (file.now ∷ (codes "ls" ∷ map string_bytes rest.now)) result }
 {
@@ -216,7 +216,7 @@ fn ls_of<'a>(file: &'a str, rest: &'a [String]) -> Words<'a>
     }
 }
 
-/// What the text asks to list.
+/// Parses the text that names what is to be listed.
 fn ls_text<'a>(file: &'a str, text: &'a str) -> Words<'a>
     ensures { AreWords (file.now ∷ (codes "ls" ∷ (text.now ∷ []))) result }
 {
@@ -226,7 +226,8 @@ fn ls_text<'a>(file: &'a str, text: &'a str) -> Words<'a>
     }
 }
 
-/// The block from which the path in the text leads, and the path: a CID, and what follows a slash.
+/// Returns the block at which the path in the text begins, and the path: a CID, and what follows a
+/// slash.
 fn beginning_of(text: &str) -> Result<(Beginning, &str), CidTextError>
     ensures { MatchResult result
         (λ p. IsTextOf (name_part text.now) p.0.root × (p.1.now ≡ path_part text.now))
@@ -239,7 +240,7 @@ fn beginning_of(text: &str) -> Result<(Beginning, &str), CidTextError>
     }
 }
 
-/// The codec that the word names: `dag-cbor`, `raw`, or a number as `0x70`.
+/// Returns the codec that the word names: `dag-cbor`, `raw`, or a number such as `0x70`.
 pub fn codec_of(word: &str) -> Option<u64>
     ensures { MatchOption result ((codec : ℕ) → ¬ NamesCodec word.now codec) (NamesCodec word.now) }
 {
@@ -250,7 +251,7 @@ pub fn codec_of(word: &str) -> Option<u64>
     }
 }
 
-/// The number of at most 16 digits, and at least one.
+/// Returns the number that 1 to 16 hexadecimal digits spell.
 fn number_of(digits: &str) -> Option<u64>
     ensures { MatchOption result (¬ (IsNumeral 16 digits.now × (length digits.now ≤ 16)))
         (λ number. IsNumeral 16 digits.now × (length digits.now ≤ 16)
@@ -262,7 +263,7 @@ fn number_of(digits: &str) -> Option<u64>
     u64::from_str_radix(digits, 16).ok()
 }
 
-/// What is to be done by a word with CIDs after it, or with nothing.
+/// Parses a command with CIDs after it, or with nothing.
 fn names_behind<'a>(
     alloc: Global,
     path: &'a str,
@@ -286,7 +287,7 @@ fn names_behind<'a>(
     }
 }
 
-/// The CIDs that the words are, or why the first that is none isn't one.
+/// Returns the CIDs that the words are, or why the first that is not a CID is not one.
 fn cids_of(alloc: Global, words: &[String]) -> Result<Result<Vec<Cid>, CidTextError>, AllocError>
     ensures read { IfOk result (λ read. MatchResult read
         (λ names. AreTextsOf (map string_bytes words.now) names.items)
@@ -303,7 +304,7 @@ fn cids_of(alloc: Global, words: &[String]) -> Result<Result<Vec<Cid>, CidTextEr
     Ok(Ok(names))
 }
 
-/// Whether CIDs may follow the word.
+/// Returns whether CIDs may follow the word.
 fn takes_names(word: &str) -> bool
     ensures { MatchBool result (WantsNames word.now) (¬ WantsNames word.now) }
 {
@@ -313,7 +314,7 @@ fn takes_names(word: &str) -> bool
     )
 }
 
-/// The command of the word and the CIDs after it.
+/// Returns the command of the word and the CIDs after it.
 fn command_of(word: &str, names: Vec<Cid>) -> Option<Command>
     ensures { MatchOption result ((command : Command) → ¬ NamesCommand word.now names.items command)
         (NamesCommand word.now names.items) }
@@ -336,7 +337,7 @@ fn command_of(word: &str, names: Vec<Cid>) -> Option<Command>
     }
 }
 
-/// The name, if there is just one.
+/// Returns the name, if there is just one.
 fn one_of(names: &[Cid]) -> Option<Cid>
     ensures { MatchOption result ((name : CidParts) → names.now ≢ name ∷ [])
         (λ name. names.now ≡ name ∷ []) }
@@ -347,7 +348,7 @@ fn one_of(names: &[Cid]) -> Option<Cid>
     }
 }
 
-/// The names, if there are any.
+/// Returns the names, if there are any.
 fn some_of(names: Vec<Cid>) -> Option<Vec<Cid>>
     ensures { MatchOption result (names.items ≡ []) (λ some. (some.items ≡ names.items) × (names.items ≢ [])) }
 {

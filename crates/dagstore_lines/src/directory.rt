@@ -1,4 +1,4 @@
-//! `ls`: what stands under a path of names, out of a store.
+//! `ls`: what is under a path of names, read from a store.
 
 ghost use Rattle.std.specs.Prelude.{◌≡◌, List, ℕ, IfOk, OnOk, IfErr};
 ghost use Rattle.dagcbor_paths.specs.Paths.{segments};
@@ -27,8 +27,8 @@ use std::alloc::Global;
 use std::collections::BTreeMap;
 use std::io::Write;
 
-/// The words of the block under the CID, and whether it has a kind. They are known from then on, so that
-/// each block is got once.
+/// Returns the words for the block under the CID, and whether it has a kind. They are kept, so that
+/// each block is read once.
 fn words_got<S: Store>(
     alloc: Global,
     store: &mut BlockStore<S>,
@@ -51,7 +51,7 @@ fn words_got<S: Store>(
     Ok((words, has_kind))
 }
 
-/// The line of an entry, and whether it has a kind.
+/// Returns the line of an entry, and whether it has a kind.
 fn entry_got<S: Store>(
     alloc: Global,
     store: &mut BlockStore<S>,
@@ -70,8 +70,8 @@ fn entry_got<S: Store>(
     Ok((line, has_kind))
 }
 
-/// The lines of the links in the block, and whether each has a kind. One block beside it is in memory
-/// at a time.
+/// Returns the lines of the links in the block, and whether each has a kind. Besides the block, one
+/// more is in memory at a time.
 fn entries_got<S: Store>(
     alloc: Global,
     store: &mut BlockStore<S>,
@@ -99,8 +99,8 @@ fn entries_got<S: Store>(
     Ok((lines, well))
 }
 
-/// What is said of the block under the CID, and what is told of it. A directory's block is held while
-/// those of its entries are got, so that two blocks are in memory at a time.
+/// Returns what is written and reported of the block under the CID. A directory's block is held
+/// while those of its entries are read, so two blocks are in memory at a time.
 fn listing_under<S: Store>(
     alloc: Global,
     store: &mut BlockStore<S>,
@@ -123,7 +123,7 @@ fn listing_under<S: Store>(
     }
 }
 
-/// What is said of what stands under the path, and what is told of it.
+/// Returns what is written and reported of what is under the path.
 fn listing<S: Store>(
     alloc: Global,
     store: &mut BlockStore<S>,
@@ -146,10 +146,11 @@ fn listing<S: Store>(
     }
 }
 
-/// Lists what stands under the path of names from the root: of a directory each entry, with its kind,
-/// its size and its CID; of another block that. Or tells why there is nothing to list. Whether all that
-/// is listed has a kind. The lines are made in memory, and then written. Beside them a directory's block
-/// and that of one entry are in memory at a time, and the words of each block that its links lead to.
+/// Lists what is under the path of names from the root: each entry of a directory, with its kind,
+/// size and CID, or any other block itself. Reports why if there is nothing to list. Returns
+/// whether all that is listed has a kind. The lines are made in memory, and then written. Besides
+/// them, a directory's block and that of one entry are in memory at a time, and the words for each
+/// block that its links lead to.
 pub fn write_listing<S: Store, W: Write, V: Write>(
     alloc: Global,
     store: &mut BlockStore<S>,

@@ -20,7 +20,7 @@ use ipld_tree::Cid;
 use std::alloc::Global;
 use std::io::Write;
 
-/// How it is told that a file is not written.
+/// Converts the error for a CAR file that is not written.
 fn fault_of<E: Drop>(error: WriteCarError<E>) -> Fault
     ensures { result ≡ fault_of error }
 {
@@ -33,7 +33,7 @@ fn fault_of<E: Drop>(error: WriteCarError<E>) -> Fault
     }
 }
 
-/// Writes the file of these roots and of all blocks.
+/// Writes the CAR file of these roots and of all blocks.
 pub fn export_blocks<S: Store, W: Write>(
     store: &mut BlockStore<S>,
     roots: &[Cid],
@@ -53,8 +53,8 @@ pub fn export_blocks<S: Store, W: Write>(
     }
 }
 
-/// Writes the file of all blocks, with the roots that are given, or with those that are stored where
-/// none is.
+/// Writes the CAR file of all blocks, with the roots that are given or, if none is, those that are
+/// stored.
 pub fn export_meant<S: Store, W: Write>(
     store: &mut BlockStore<S>,
     given: Vec<Cid>,
@@ -70,8 +70,8 @@ pub fn export_meant<S: Store, W: Write>(
     }
 }
 
-/// Writes the file of the root, and of the blocks that links lead to from there, and tells which links
-/// lead to none, or that the root names nothing. Whether nothing is wrong.
+/// Writes the CAR file of the root and of the blocks that links lead to from there. Reports the
+/// links that lead to no block, or that the root has no block. Returns whether all is well.
 pub fn write_tree<S: Store, W: Write, V: Write>(
     alloc: Global,
     store: &mut BlockStore<S>,
@@ -96,7 +96,7 @@ pub fn write_tree<S: Store, W: Write, V: Write>(
     }
 }
 
-/// Tells which links lead to no block. Whether none does.
+/// Reports which links lead to no block. Returns whether there are none.
 #[tactic(auto, using(block_lines::proofs::Saying::told_empty))]
 fn tell_lost<V: Write>(alloc: Global, lost: &[Cid], errors: &mut V) -> Result<bool, Fault>
     ensures { TellsText (flat_map missing_line lost.now) (λ well. IsTrue well ↔ (lost.now ≡ []))
@@ -107,7 +107,7 @@ fn tell_lost<V: Write>(alloc: Global, lost: &[Cid], errors: &mut V) -> Result<bo
     Ok(lost.is_empty())
 }
 
-/// Tells the line of what is wrong.
+/// Reports the line of what is wrong, and returns false.
 pub fn tell_wrong<V: Write>(line: &[u8], errors: &mut V) -> Result<bool, Fault>
     ensures { TellsText line.now (λ well. well ≡ false) (V.contents errors.old) result (V.contents errors.new) }
 {

@@ -1,4 +1,4 @@
-//! Why not all was said.
+//! Why not all was written.
 
 ghost use Rattle.std.specs.Prelude.{◌≡◌};
 ghost use Rattle.dagcbor_cli.specs.declared.fault.ToolError.TheVariants.{OutOfMemory};
@@ -8,12 +8,12 @@ use dagcbor_cli::ToolError;
 use dagcbor_store::StoreRefusal;
 use std::alloc::AllocError;
 
-/// Why not all was said.
+/// Why not all was written.
 #[derive(Debug, Drop)]
 pub enum Fault {
     /// The store refused.
     Store(StoreRefusal),
-    /// A device failed, or memory was wanting.
+    /// A device failed, or memory ran out.
     Tool(ToolError),
 }
 

@@ -1,4 +1,4 @@
-//! `cat`: the bytes of a file of IPFS, out of a store.
+//! `cat`: the bytes of an IPFS file, read from a store.
 
 ghost use Rattle.std.specs.Prelude.{◌≡◌, [], false, List, option_map, map, MatchResult, IfOk, OnOk, IfErr};
 ghost use Rattle.dagcbor_paths.specs.Paths.{segments};
@@ -22,7 +22,7 @@ use std::alloc::Global;
 use std::io::Write;
 use unix_fs::FileReader;
 
-/// The bytes that were got, if any were.
+/// Returns the bytes that were read, if there are any.
 pub(crate) fn bytes_got(got: &Option<Vec<u8>>) -> Option<&[u8]>
     ensures { option_map (λ b. b.now) result ≡ option_map (λ v. v.items) got.now }
 {
@@ -32,7 +32,7 @@ pub(crate) fn bytes_got(got: &Option<Vec<u8>>) -> Option<&[u8]>
     }
 }
 
-/// Where the name leads from the block that is stored under the CID.
+/// Returns where the name leads from the block that is stored under the CID.
 fn find_entry<S: Store>(
     store: &mut BlockStore<S>,
     block: &Cid,
@@ -49,7 +49,7 @@ fn find_entry<S: Store>(
     Ok(entry_stored(block, bytes_got(&got), name))
 }
 
-/// Where the path of names leads from the root. One block is in memory at a time.
+/// Returns where the path of names leads from the root. One block is in memory at a time.
 pub fn find_file<'p, S: Store>(
     store: &mut BlockStore<S>,
     root: &Cid,
@@ -76,8 +76,8 @@ pub fn find_file<'p, S: Store>(
     Ok(Ok(block))
 }
 
-/// Writes the bytes of the file that stand in the block of this name, which is wanted next. None where
-/// the file may go on; else whether it is read to its end.
+/// Writes the bytes of the file that are in the block of this name, the one that is wanted next.
+/// Returns `None` if the file may go on, and else whether it is complete.
 fn write_block<S: Store, W: Write, V: Write>(
     alloc: Global,
     store: &mut BlockStore<S>,
@@ -101,8 +101,8 @@ fn write_block<S: Store, W: Write, V: Write>(
     Ok(well)
 }
 
-/// Writes the bytes of the file that stand in the next block of it, if one is wanted. None where the
-/// file may go on; else whether it is read to its end.
+/// Writes the bytes of the file that are in its next block, if one is wanted. Returns `None` if the
+/// file may go on, and else whether it is complete.
 fn write_next<S: Store, W: Write, V: Write>(
     alloc: Global,
     store: &mut BlockStore<S>,
@@ -123,13 +123,13 @@ fn write_next<S: Store, W: Write, V: Write>(
         return Ok(Some(true));
     };
     let name = wanted.cid;
-    // What is known of a CID comes with its version.
+    // The proof learns from this call that the CID is valid.
     let _version = name.version();
     write_block(alloc, store, reader, &name, output, errors)
 }
 
-/// Writes the bytes of the file under the root, block by block as they are verified, or tells why it
-/// ends before its end. Whether it is whole. One block is in memory at a time.
+/// Writes the bytes of the file under the root, block by block as they are verified, or reports why
+/// it ends early. Returns whether it is complete. One block is in memory at a time.
 fn write_content<S: Store, W: Write, V: Write>(
     alloc: Global,
     store: &mut BlockStore<S>,
@@ -153,7 +153,7 @@ fn write_content<S: Store, W: Write, V: Write>(
     Err(Fault::Tool(ToolError::OutOfMemory))
 }
 
-/// Tells why a path leads to no block.
+/// Reports why a path leads to no block.
 fn tell_end<W: Write, V: Write>(
     alloc: Global,
     end: &NamesEnd<'_>,
@@ -168,9 +168,9 @@ fn tell_end<W: Write, V: Write>(
     say_both((Vec::new(alloc), false), &line, output, errors)
 }
 
-/// Writes the bytes of the file to which the path of names leads from the root, block by block as they
-/// are verified, or tells why it ends before its end, or why the path leads nowhere. Whether it is
-/// whole. One block is in memory at a time.
+/// Writes the bytes of the file to which the path of names leads from the root, block by block as
+/// they are verified. If the file ends early, or the path leads nowhere, it reports why. Returns
+/// whether the file is complete. One block is in memory at a time.
 pub fn write_file<S: Store, W: Write, V: Write>(
     alloc: Global,
     store: &mut BlockStore<S>,

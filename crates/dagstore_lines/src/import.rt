@@ -1,4 +1,4 @@
-//! `import`: a CAR file is kept, all of it or none.
+//! `import`: a CAR file is stored, all of it or nothing.
 
 ghost use Rattle.std.specs.Prelude.{◌≡◌, ◌++◌, codes, IfOk, false, []};
 ghost use Rattle.cid_text.specs.Texts.{cid_text};
@@ -26,7 +26,8 @@ use ipld_tree::Cid;
 use std::alloc::{AllocError, Global};
 use std::io::{BufRead, Write};
 
-/// What is told of a file that is none, or was not read, and the name of a variant.
+/// Returns the message for input that is not a CAR file, or was not read, and the name of a
+/// variant.
 #[tactic(auto, using(crate::proofs::Importing::no_file))]
 fn file_words<E>(error: &CarError<E>) -> (&'static str, &'static str)
     ensures { result.0.now ++ result.1.now ≡ file_text error.now }
@@ -37,7 +38,7 @@ fn file_words<E>(error: &CarError<E>) -> (&'static str, &'static str)
     }
 }
 
-/// Status 1 where the bytes are the cause, else 2.
+/// Returns status 1 if the bytes are the cause, else 2.
 #[tactic(auto, using(crate::proofs::Importing::no_file_status))]
 fn file_status<E>(error: &CarError<E>) -> u8
     ensures { result ≡ file_status error.now }
@@ -48,7 +49,7 @@ fn file_status<E>(error: &CarError<E>) -> u8
     }
 }
 
-/// Tells that the file is none, or was not read, and answers the status.
+/// Reports that the input is not a CAR file, or was not read, and returns the status.
 fn tell_file<E, V: Write>(error: &CarError<E>, errors: &mut V) -> u8
     ensures status { result ≡ file_status error.now }
     ensures told { AppendsFront (V.contents errors.old) (V.contents errors.new) (dagstore_line (file_text error.now)) }
@@ -58,7 +59,7 @@ fn tell_file<E, V: Write>(error: &CarError<E>, errors: &mut V) -> u8
     file_status(error)
 }
 
-/// Writes the name of a block, and why it is not kept.
+/// Writes the name of a block, and why it is not stored.
 fn write_block<V: Write>(
     errors: &mut V,
     name: &Cid,
@@ -71,7 +72,7 @@ fn write_block<V: Write>(
     write_refusal(refusal, errors)
 }
 
-/// The line of how many sections stand before the place where a file stopped.
+/// Returns the line of how many sections come before the place where a file stopped.
 fn behind_line(alloc: Global, count: u64) -> Result<Vec<u8>, AllocError>
     ensures { IfOk result (λ v. v.items ≡ behind_line count) }
 {
@@ -79,7 +80,7 @@ fn behind_line(alloc: Global, count: u64) -> Result<Vec<u8>, AllocError>
     line_of(alloc, b"dagstore: after ", count.as_bytes(), b" sections")
 }
 
-/// Writes how many sections stand before the place where a file stopped.
+/// Writes how many sections come before the place where a file stopped.
 fn write_place<V: Write>(alloc: Global, errors: &mut V, count: u64) -> Result<(), ToolError>
     ensures { WritesFront (V.contents errors.old) (V.contents errors.new) result (behind_line count) }
 {
@@ -87,7 +88,7 @@ fn write_place<V: Write>(alloc: Global, errors: &mut V, count: u64) -> Result<()
     write_all(errors, &line)
 }
 
-/// Writes where a file stopped, and why no section stands there, or was not read.
+/// Writes where a file stopped, and why no section is there, or was not read.
 fn write_stopped<E, V: Write>(
     alloc: Global,
     errors: &mut V,
@@ -102,7 +103,7 @@ fn write_stopped<E, V: Write>(
     write_told(errors, text, which)
 }
 
-/// Writes where a file stopped, the name of the block there, and why it is not kept.
+/// Writes where a file stopped, the name of the block there, and why it is not stored.
 fn write_unkept<V: Write>(
     alloc: Global,
     errors: &mut V,
@@ -117,7 +118,7 @@ fn write_unkept<V: Write>(
     write_block(errors, name, refusal)
 }
 
-/// Tells why a file is not kept, and answers the status. A fault in telling it is not told.
+/// Reports why a file is not stored, and returns the status. If reporting fails, that is ignored.
 pub fn tell_unread<E, V: Write>(alloc: Global, error: &ReadCarError<E>, errors: &mut V) -> u8
     ensures status { result ≡ unread_status error.now }
     ensures told { AppendsFront (V.contents errors.old) (V.contents errors.new) (unread_lines error.now) }
@@ -137,7 +138,7 @@ pub fn tell_unread<E, V: Write>(alloc: Global, error: &ReadCarError<E>, errors: 
     }
 }
 
-/// The lines of the roots, and of how many sections are kept.
+/// Returns the lines of the roots, and of how many sections are stored.
 fn stored_lines(alloc: Global, roots: &[Cid], count: u64) -> Result<Vec<u8>, AllocError>
     ensures { IfOk result (λ v. v.items ≡ stored_lines (forms roots.now) count) }
 {
@@ -148,7 +149,7 @@ fn stored_lines(alloc: Global, roots: &[Cid], count: u64) -> Result<Vec<u8>, All
     Ok(lines)
 }
 
-/// Writes the roots of a file, and how many of its sections are kept.
+/// Writes the roots of a file, and how many of its sections are stored.
 fn say_stored<W: Write>(
     alloc: Global,
     roots: &[Cid],
@@ -162,8 +163,8 @@ fn say_stored<W: Write>(
     Ok(well)
 }
 
-/// Keeps the blocks and the roots of the file that the source has, all of them or none, writes its
-/// roots and how many sections it has, and answers the status. Why it is not kept is told.
+/// Stores the blocks and the roots of the CAR file that the source has, all or none. Writes its
+/// roots and how many sections it has, or reports why it is not stored. Returns the status.
 pub fn import_blocks<S: Store, R: BufRead + Drop, W: Write, V: Write>(
     alloc: Global,
     store: &mut BlockStore<S>,

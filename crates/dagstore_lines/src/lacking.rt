@@ -18,7 +18,7 @@ use ipld_tree::Cid;
 use std::alloc::{AllocError, Global};
 use std::io::Write;
 
-/// Whether a block is listed under the name, or the name holds it itself.
+/// Returns whether a block is listed under the name, or the name holds it inline.
 fn has_block_at<S: Store>(store: &mut BlockStore<S>, name: &Cid) -> Result<bool, StoreRefusal>
     ensures has { IfOk result (λ has. IsClean (S.Store.view store.new)
         → MatchBool has (HasBlockAt (S.Store.view store.old) name.now) (¬ HasBlockAt (S.Store.view store.old) name.now)) }
@@ -32,7 +32,7 @@ fn has_block_at<S: Store>(store: &mut BlockStore<S>, name: &Cid) -> Result<bool,
     store.contains(name)
 }
 
-/// Puts the name after the others.
+/// Appends the name to the list.
 fn push_name(list: &mut Vec<Cid>, name: &Cid) -> Result<(), AllocError>
     ensures { OnOk result (list.new.items ≡ list.old.items ++ name.now ∷ []) }
 {
@@ -40,7 +40,7 @@ fn push_name(list: &mut Vec<Cid>, name: &Cid) -> Result<(), AllocError>
     Ok(())
 }
 
-/// Puts the name after the others if it has no block.
+/// Appends the name to the list if it has no block.
 fn add_if_lacking<S: Store>(
     store: &mut BlockStore<S>,
     name: &Cid,
@@ -60,7 +60,7 @@ fn add_if_lacking<S: Store>(
     Ok(())
 }
 
-/// Those of the names that have no block, in their order.
+/// Returns the names that have no block, in their order.
 fn lacking_of<S: Store>(
     alloc: Global,
     store: &mut BlockStore<S>,
@@ -79,7 +79,7 @@ fn lacking_of<S: Store>(
     Ok(lacking)
 }
 
-/// The roots that have no block, in their order.
+/// Returns the roots that have no block, in their order.
 fn lacking_roots<S: Store>(alloc: Global, store: &mut BlockStore<S>) -> Result<Vec<Cid>, Fault>
     ensures lists { IfOk result (λ v. IsClean (S.Store.view store.new)
         → ListsLacking (S.Store.view store.old) v.items) }
@@ -91,7 +91,7 @@ fn lacking_roots<S: Store>(alloc: Global, store: &mut BlockStore<S>) -> Result<V
     lacking_of(alloc, store, &names)
 }
 
-/// Writes a line for each root that has no block. Whether each has one.
+/// Writes a line for each root that has no block. Returns whether each has one.
 fn check_roots<S: Store, W: Write>(
     alloc: Global,
     store: &mut BlockStore<S>,
@@ -109,8 +109,8 @@ fn check_roots<S: Store, W: Write>(
     Ok(well)
 }
 
-/// Writes what `check_blocks` does, and then a line for each root that has no block. Whether nothing is
-/// wrong.
+/// Writes what `check_blocks` does, and then a line for each root that has no block. Returns
+/// whether all is well.
 pub fn check_store<S: Store, W: Write, E: Write>(
     alloc: Global,
     store: &mut BlockStore<S>,

@@ -1,4 +1,4 @@
-//! The lines of the program `dagstore`: what it says of the blocks in a store that lasts.
+//! The output of the program `dagstore` about the blocks in a durable store.
 #![tactic(auto)]
 
 mod answer;

@@ -1,4 +1,4 @@
-//! The lines that the program alone writes.
+//! The lines that only this program writes.
 
 ghost use Rattle.std.specs.Prelude.{◌≡◌, IfOk, false};
 ghost use Rattle.dagstore_lines.specs.Lines.{damaged_line};
@@ -8,7 +8,7 @@ use cid_text::cid_text;
 use ipld_tree::Cid;
 use std::alloc::{AllocError, Global};
 
-/// The line of a name under which other bytes are stored than it names.
+/// Returns the line for a name that the bytes stored under it do not match. The flag is false.
 pub fn damaged_said(alloc: Global, name: &Cid) -> Result<Said, AllocError>
     ensures line { IfOk result (λ p. p.0.items ≡ damaged_line name.now) }
     ensures well { IfOk result (λ p. p.1 ≡ false) }

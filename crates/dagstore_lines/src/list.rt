@@ -16,7 +16,7 @@ use ipld_tree::Cid;
 use std::alloc::Global;
 use std::io::Write;
 
-/// The line of the name, under which something is listed.
+/// Returns the line of the name, under which something is listed, and whether all is well with it.
 fn listed_said<S: Store>(
     alloc: Global,
     store: &mut BlockStore<S>,
@@ -39,8 +39,8 @@ fn listed_said<S: Store>(
     }
 }
 
-/// Writes the line of the first name after the last one. Answers the name, and whether nothing is
-/// wrong with it.
+/// Writes the line of the first name after the last one. Returns the name, and whether all is well
+/// with it.
 fn list_next<S: Store, W: Write>(
     alloc: Global,
     store: &mut BlockStore<S>,
@@ -61,7 +61,7 @@ fn list_next<S: Store, W: Write>(
     Ok(Some((name, well)))
 }
 
-/// Writes a line for each name that is listed. Whether nothing is damaged.
+/// Writes a line for each listed name. Returns whether no block is damaged.
 pub fn list_blocks<S: Store, W: Write>(
     alloc: Global,
     store: &mut BlockStore<S>,

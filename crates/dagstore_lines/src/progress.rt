@@ -1,9 +1,9 @@
-//! Progress, which is told where standard error is a terminal.
+//! Progress, which is reported if standard error is a terminal.
 
 use std::alloc::Global;
 use std::io::Write;
 
-/// Counts what is done, and tells it each so many, where it is told.
+/// Counts the units that are done and, if `is_told`, reports the count after every `each` units.
 #[derive(Drop)]
 pub struct Progress<E> {
     alloc: Global,
@@ -16,7 +16,8 @@ pub struct Progress<E> {
 }
 
 impl<E: Write> Progress<E> {
-    /// On a device of its own. So many of the unit are done before they are told.
+    /// Starts at 0. The count is reported on `errors`, a device of its own, if `is_told`, after
+    /// every `each` of the unit.
     pub fn new(
         alloc: Global,
         errors: E,
@@ -35,7 +36,7 @@ impl<E: Write> Progress<E> {
         }
     }
 
-    /// So many more are done.
+    /// Counts `more` units.
     pub fn add(&mut self, more: u64) {
         self.done = self.done.saturating_add(more);
         if self.is_told && self.done >= self.next {
@@ -44,7 +45,7 @@ impl<E: Write> Progress<E> {
         }
     }
 
-    /// What is not told for want of memory, or since the terminal failed, is left out.
+    /// Reports the count. If memory runs out or the terminal fails, that is ignored.
     fn tell(&mut self) {
         if let Ok(line) = format!(in self.alloc; "dagstore: {} {}\n", self.done, self.unit) {
             let _ = self.errors.write_all(line.as_bytes());

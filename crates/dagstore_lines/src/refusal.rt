@@ -1,4 +1,4 @@
-//! What is told of a refusal, and the status of a run that ends so.
+//! What is reported of a refusal, and the exit status of a run that ends so.
 
 ghost use Rattle.std.specs.Prelude.{◌≡◌, ◌++◌, codes, decimal, MatchOption};
 ghost use Rattle.cid_text.specs.Texts.{cid_text};
@@ -17,10 +17,10 @@ use itoa::Buffer;
 use sqlite_trees::error::StoreError;
 use std::io::Write;
 
-/// The words before the byte by which a block is none of its codec.
+/// The words before the place of the byte at which a block is malformed.
 const AT_BYTE: &str = " at byte ";
 
-/// What is told of a failure of the database.
+/// Returns the message for a failure of the database.
 fn disk_text(error: &StoreError) -> &'static str
     ensures { result.now ≡ disk_text error.now }
 {
@@ -34,11 +34,10 @@ fn disk_text(error: &StoreError) -> &'static str
     }
 }
 
-/// What is told of a refusal: a text, the name of a variant, and the number after them, with the words
-/// before it.
+/// The message for a refusal: a text, the name of a variant, and a number with the words before it.
 type Told = (&'static str, &'static str, Option<(&'static str, u64)>);
 
-/// What is told of a block that is not kept under its name.
+/// Returns the message for a block that does not belong under its name.
 fn unsound_words(cause: &Unsound) -> Told
     ensures { MatchOption result.2 (result.0.now ++ result.1.now ≡ unsound_text cause.now)
         (λ place. result.0.now ++ (result.1.now ++ (place.0.now ++ decimal place.1)) ≡ unsound_text cause.now) }
@@ -67,7 +66,7 @@ fn unsound_words(cause: &Unsound) -> Told
     }
 }
 
-/// What is told of a row of the database that no store writes.
+/// Returns the message for a row of the database that no store writes.
 fn at_row(text: &'static str, row: &Option<u64>) -> Told
     ensures { MatchOption result.2 (result.0.now ++ result.1.now ≡ text.now ++ row_text row.now)
         (λ place. result.0.now ++ (result.1.now ++ (place.0.now ++ decimal place.1)) ≡ text.now ++ row_text row.now) }
@@ -78,7 +77,7 @@ fn at_row(text: &'static str, row: &Option<u64>) -> Told
     }
 }
 
-/// What is told of a refusal of the store.
+/// Returns the message for a refusal of the store.
 fn refusal_words(refusal: &StoreRefusal) -> Told
     ensures { MatchOption result.2 (result.0.now ++ result.1.now ≡ refusal_text refusal.now)
         (λ place. result.0.now ++ (result.1.now ++ (place.0.now ++ decimal place.1)) ≡ refusal_text refusal.now) }
@@ -115,7 +114,7 @@ fn refusal_words(refusal: &StoreRefusal) -> Told
     }
 }
 
-/// Status 1 where the data are the cause, else 2.
+/// Returns status 1 if the data are the cause, else 2.
 pub fn refusal_status(refusal: &StoreRefusal) -> u8
     ensures { result ≡ refusal_status refusal.now }
 {
@@ -137,7 +136,7 @@ pub fn refusal_status(refusal: &StoreRefusal) -> u8
     }
 }
 
-/// What is told of a device that failed, or of want of memory.
+/// Returns the message for a device that failed, or for out of memory.
 fn tool_text(error: &ToolError) -> &'static str
     ensures { result.now ≡ tool_text error.now }
 {
@@ -148,7 +147,7 @@ fn tool_text(error: &ToolError) -> &'static str
     }
 }
 
-/// Writes the bytes, and then the others.
+/// Writes `first`, and then `second`.
 pub fn write_both<W: Write>(writer: &mut W, first: &[u8], second: &[u8]) -> Result<(), ToolError>
     ensures { WritesFront (W.contents writer.old) (W.contents writer.new) result (first.now ++ second.now) }
 {
@@ -156,7 +155,7 @@ pub fn write_both<W: Write>(writer: &mut W, first: &[u8], second: &[u8]) -> Resu
     write_all(writer, second)
 }
 
-/// Writes a line under the program's name.
+/// Writes a line that begins with the program's name.
 pub fn write_told<W: Write>(errors: &mut W, first: &str, second: &str) -> Result<(), ToolError>
     ensures { WritesFront (W.contents errors.old) (W.contents errors.new) result
         (dagstore_line (first.now ++ second.now)) }
@@ -165,7 +164,8 @@ pub fn write_told<W: Write>(errors: &mut W, first: &str, second: &str) -> Result
     write_both(errors, second.as_bytes(), b"\n")
 }
 
-/// Writes a line under the program's name, and a number at its end, with the words before it.
+/// Writes a line that begins with the program's name, and ends with a number and the words before
+/// it.
 fn write_told_at<W: Write>(
     errors: &mut W,
     first: &str,
@@ -194,7 +194,7 @@ pub fn write_refusal<W: Write>(refusal: &StoreRefusal, errors: &mut W) -> Result
     }
 }
 
-/// Writes the line of the name of a block.
+/// Writes the line of the name of a block, after the program's name.
 pub fn write_name<V: Write>(errors: &mut V, name: &Cid) -> Result<(), ToolError>
     ensures { WritesFront (V.contents errors.old) (V.contents errors.new) result
         (dagstore_line (codes "of " ++ cid_text name.now)) }
@@ -203,7 +203,7 @@ pub fn write_name<V: Write>(errors: &mut V, name: &Cid) -> Result<(), ToolError>
     write_all(errors, b"\n")
 }
 
-/// Writes the line of a name and of a state, in two texts.
+/// Writes the line of a name and of a state, given in two texts.
 fn write_named<V: Write>(
     errors: &mut V,
     name: &Cid,
@@ -218,7 +218,7 @@ fn write_named<V: Write>(
     write_all(errors, b"\n")
 }
 
-/// Writes the name and the state of the block of which a refusal is, in the words of `check`.
+/// Writes the name and the state of the block that a refusal is about, in the words of `check`.
 fn write_state<V: Write>(refusal: &StoreRefusal, errors: &mut V) -> Result<(), ToolError>
     ensures { WritesFront (V.contents errors.old) (V.contents errors.new) result (state_lines refusal.now) }
 {
@@ -233,7 +233,7 @@ fn write_state<V: Write>(refusal: &StoreRefusal, errors: &mut V) -> Result<(), T
     }
 }
 
-/// Writes the lines of a refusal: of its block, if it is of one, and why the store refused.
+/// Writes the lines of a refusal: its block, if it is about one, and why the store refused.
 pub fn write_lines<V: Write>(refusal: &StoreRefusal, errors: &mut V) -> Result<(), ToolError>
     ensures { WritesFront (V.contents errors.old) (V.contents errors.new) result (refusal_lines refusal.now) }
 {
@@ -241,7 +241,7 @@ pub fn write_lines<V: Write>(refusal: &StoreRefusal, errors: &mut V) -> Result<(
     write_refusal(refusal, errors)
 }
 
-/// Tells the refusal, and answers its status. A fault in telling it is not told.
+/// Reports the refusal, and returns its status. If reporting fails, that is ignored.
 pub fn tell_refusal<W: Write>(refusal: &StoreRefusal, errors: &mut W) -> u8
     ensures status { result ≡ refusal_status refusal.now }
     ensures told { AppendsFront (W.contents errors.old) (W.contents errors.new)
@@ -251,7 +251,7 @@ pub fn tell_refusal<W: Write>(refusal: &StoreRefusal, errors: &mut W) -> u8
     refusal_status(refusal)
 }
 
-/// Tells the fault, and answers its status. A fault in telling it is not told.
+/// Reports the failure, and returns its status. If reporting fails, that is ignored.
 pub fn tell_tool<W: Write>(error: &ToolError, errors: &mut W) -> u8
     ensures status { result ≡ 2 }
     ensures told { AppendsFront (W.contents errors.old) (W.contents errors.new)
@@ -261,7 +261,7 @@ pub fn tell_tool<W: Write>(error: &ToolError, errors: &mut W) -> u8
     2
 }
 
-/// The status of a run that ended so. A fault is told on `errors`.
+/// Returns the status of a run that ended so. A fault is reported on `errors`.
 pub fn end<W: Write>(ended: Result<bool, Fault>, errors: &mut W) -> u8
     ensures status { result ≡ status_of ended }
     ensures told { TellsRunFault ended (W.contents errors.old) (W.contents errors.new) }

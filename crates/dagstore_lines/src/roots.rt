@@ -1,4 +1,5 @@
-//! `roots`, `add-root` and `drop-root`: the roots that a store keeps, and those that are meant.
+//! `roots`, `add-root` and `drop-root`: the roots that a store keeps, and those that a command
+//! uses.
 
 ghost use Rattle.std.specs.Prelude.{◌⊎◌, IfOk, OnOk, IfErr};
 ghost use Rattle.sqlite_trees.specs.View.{IsClean};
@@ -18,10 +19,10 @@ use ipld_tree::Cid;
 use std::alloc::Global;
 use std::io::Write;
 
-/// What is told where no root is given, and none is stored.
+/// The message if no root is given, and none is stored.
 pub const NO_ROOTS: &[u8] = b"dagstore: no roots are stored; name some, or add-root\n";
 
-/// Writes the roots, a line each, in their order.
+/// Writes the roots, one a line, in their order.
 pub fn list_roots<S: Store, W: Write>(
     alloc: Global,
     store: &mut BlockStore<S>,
@@ -39,7 +40,7 @@ pub fn list_roots<S: Store, W: Write>(
     Ok(well)
 }
 
-/// The roots that are given; or those that the store keeps, where none is.
+/// Returns the roots that are given or, if none is, those that the store keeps.
 pub fn meant_roots<S: Store>(
     store: &mut BlockStore<S>,
     given: Vec<Cid>,
@@ -57,8 +58,8 @@ pub fn meant_roots<S: Store>(
     }
 }
 
-/// Makes each of the names a root after the others, unless it is one, and commits that; or none of
-/// them.
+/// Adds each of the names after the other roots, unless it is one already, and commits that. All of
+/// them are added, or none.
 pub fn add_roots<S: Store>(store: &mut BlockStore<S>, names: &[Cid]) -> Result<bool, Fault>
     ensures added { AddsToRoots S.Store names.now store.old result store.new }
     ensures crash { (db : _) → S.Store.recovers store.new db → S.Store.recovers store.old db
@@ -77,7 +78,7 @@ pub fn add_roots<S: Store>(store: &mut BlockStore<S>, names: &[Cid]) -> Result<b
     }
 }
 
-/// Takes the names out of the roots, of which none is given twice.
+/// Removes the names from the roots, and counts those that were roots. No name may be given twice.
 fn drop_each<S: Store>(
     alloc: Global,
     store: &mut BlockStore<S>,
@@ -101,7 +102,7 @@ fn drop_each<S: Store>(
     Ok(taken)
 }
 
-/// Takes the names out of the roots, and commits that. A name given twice counts once.
+/// Removes the names from the roots, and commits that. A name given twice counts once.
 fn drop_out<S: Store>(
     alloc: Global,
     store: &mut BlockStore<S>,
@@ -121,8 +122,8 @@ fn drop_out<S: Store>(
     Ok(taken)
 }
 
-/// Takes the names out of the roots, and writes how many were roots. Whether each was; else a line of
-/// each that was not is told. A name given twice counts once.
+/// Removes the names from the roots, and writes how many were roots. Reports each name that was
+/// not, one a line. Returns whether all were. A name given twice counts once.
 pub fn drop_roots<S: Store, W: Write, V: Write>(
     alloc: Global,
     store: &mut BlockStore<S>,

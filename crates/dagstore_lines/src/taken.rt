@@ -1,4 +1,4 @@
-//! Names that are to be taken out, and what is said of them.
+//! Names that are to be removed, and what is written of them.
 
 ghost use Rattle.std.specs.Prelude.{◌≡◌, ◌<◌, ◌-◌, ◌^◌, [], IfOk, OnOk, flat_map};
 ghost use Rattle.dagcbor_store.specs.Ends.{Quiet};
@@ -16,7 +16,8 @@ use ipld_tree::Cid;
 use std::alloc::{AllocError, Global};
 use std::io::Write;
 
-/// Of names that are to be taken out: how many were there, and the others, in their order.
+/// The outcome for names that are to be removed: how many were there, and the others, in their
+/// order.
 #[derive(Debug, Drop)]
 pub struct Taken {
     pub count: u64,
@@ -24,7 +25,7 @@ pub struct Taken {
 }
 
 impl Taken {
-    /// Of no names.
+    /// Returns the outcome for no names.
     pub fn new(alloc: Global) -> Taken
         ensures count { result.count ≡ 0 }
         ensures others { result.others.items ≡ [] }
@@ -35,13 +36,13 @@ impl Taken {
         }
     }
 
-    /// Counts the name, if it was there; else puts it to the others.
+    /// Counts the name if it was there, and else appends it to the others.
     pub fn note(&mut self, name: &Cid, was_there: bool) -> Result<(), AllocError>
         requires { self.old.count < 2 ^ 64 - 1 }
         ensures valid { AreCidParts name.now }
         ensures notes { OnOk result (Notes name.now was_there self.old self.new) }
     {
-        // What is known of a CID comes with its version.
+        // The proof learns from this call that the CID is valid.
         let _version = name.version();
         if was_there {
             self.count += 1;
@@ -52,7 +53,7 @@ impl Taken {
     }
 }
 
-/// Undoes what is not committed, where memory is wanting.
+/// Undoes what is not committed, because memory ran out.
 pub fn give_up<S: Store>(store: &mut BlockStore<S>) -> StoreRefusal
     ensures refused { FailsByStore S.Store ⊥ store.old store.new result }
     ensures quiet { Quiet S.Store store.old store.new }
@@ -61,7 +62,7 @@ pub fn give_up<S: Store>(store: &mut BlockStore<S>) -> StoreRefusal
     StoreRefusal::OutOfMemory
 }
 
-/// The lines of the names, each with the words after it.
+/// Returns the lines of the names, each with these words after it.
 pub fn lines_of(alloc: Global, names: &[Cid], words: &[u8]) -> Result<Vec<u8>, AllocError>
     ensures { IfOk result (λ v. v.items ≡ flat_map (line_after words.now) names.now) }
 {
@@ -73,7 +74,7 @@ pub fn lines_of(alloc: Global, names: &[Cid], words: &[u8]) -> Result<Vec<u8>, A
     Ok(lines)
 }
 
-/// The line of how many names were taken out.
+/// Returns the line of how many names were removed.
 fn removed_line(alloc: Global, count: u64) -> Result<Vec<u8>, AllocError>
     ensures { IfOk result (λ v. v.items ≡ removed_line count) }
 {
@@ -81,7 +82,7 @@ fn removed_line(alloc: Global, count: u64) -> Result<Vec<u8>, AllocError>
     line_of(alloc, b"removed ", count.as_bytes(), b"")
 }
 
-/// Writes how many names were taken out.
+/// Writes how many names were removed.
 pub fn say_removed<W: Write>(alloc: Global, count: u64, output: &mut W) -> Result<(), ToolError>
     ensures { SaysText (removed_line count) (W.contents output.old) result (W.contents output.new) }
 {
@@ -89,7 +90,7 @@ pub fn say_removed<W: Write>(alloc: Global, count: u64, output: &mut W) -> Resul
     write_all(output, &line)
 }
 
-/// Tells a line of each of the names, with the words after it.
+/// Reports each of the names, one a line, with these words after it.
 fn tell_others<V: Write>(
     alloc: Global,
     names: &[Cid],
@@ -103,8 +104,8 @@ fn tell_others<V: Write>(
     write_all(errors, &lines)
 }
 
-/// Writes how many names were taken out, and tells a line of each of the others, with the words after
-/// it. Whether there were none.
+/// Writes how many names were removed, and reports each of the others, one a line, with these words
+/// after it. Returns whether there were no others.
 pub fn say_taken<W: Write, V: Write>(
     alloc: Global,
     taken: &Taken,

@@ -1,4 +1,4 @@
-//! The blocks on the way of a path, taken out of a store.
+//! The blocks on the way of a path, read from a store.
 
 ghost use Rattle.std.specs.Prelude.{IfOk, OnOk, IfErr};
 ghost use Rattle.sqlite_trees.specs.View.{IsClean};
@@ -18,7 +18,7 @@ use ipld_tree::Cid;
 use std::alloc::Global;
 use std::collections::BTreeMap;
 
-/// Holds the block under the name too, if one is stored.
+/// Adds the block under the name, if one is stored, to those in memory.
 fn hold<S: Store>(
     store: &mut BlockStore<S>,
     name: &Cid,
@@ -39,7 +39,8 @@ fn hold<S: Store>(
     }
 }
 
-/// The blocks that are stored under the names on the path's way from the root. They are in memory.
+/// Returns the blocks that are stored under the names on the path's way from the root. They are in
+/// memory.
 pub fn gather_way<S: Store>(
     alloc: Global,
     store: &mut BlockStore<S>,

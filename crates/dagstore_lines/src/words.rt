@@ -1,6 +1,6 @@
-//! What the program tells of itself, and where its words or the file are none.
+//! The texts of the program about itself, and the messages for wrong arguments or a missing file.
 
-/// What is told of other words.
+/// The message for unknown arguments.
 pub const USAGE: &str =
     "usage: dagstore FILE import|put|export|get|at|ls|cat|has|tree|remove|gc|roots|add-root|drop-root|check|list|count|serve, dagstore --help\n";
 
@@ -55,14 +55,14 @@ The status is 0 where nothing is wrong, 1 where something is, 2 where it could n
 /// What `--version` writes.
 pub const VERSION: &str = "dagstore 0.7.0\n";
 
-/// What is told of want of memory.
+/// The message for out of memory.
 pub const OUT_OF_MEMORY: &str = "dagstore: out of memory\n";
 
-/// What is told where the input is not read.
+/// The message if the input cannot be read.
 pub const NOT_READ: &str = "dagstore: the input failed\n";
 
-/// What is told where what was gathered does not go out.
+/// The message if buffered output cannot be written.
 pub const NOT_WRITTEN: &str = "dagstore: standard output takes no more\n";
 
-/// What is told where the file is not there.
+/// The message if the file does not exist.
 pub const NO_STORE: &str = "dagstore: there is no such file; `import` and `put` make one\n";

@@ -1,4 +1,4 @@
--- The block that tells what is verified of a commit.
+-- The block that describes what is verified of a commit.
 use Rattle.std.specs.Prelude.{[], ◌∷◌, map, codes, Option, None, Some}
 use Rattle.ipld_tree.specs.Cid.{CidParts, cid_bytes}
 use Rattle.ipld_tree.specs.Tree.{Tree, null, bytes, link, list, entries_tree, items_of}
@@ -17,8 +17,8 @@ link_or_null (Some c) = link (cid_bytes c)
 abbrev pub change_tree : Changed → Tree
 change_tree c = list (items_of (bytes c.0 ∷ link_or_null c.1.0 ∷ link_or_null c.1.1 ∷ []))
 
--- a map of the commit's name, of the root before, of the commit, as in its block, of the bytes that its
--- signature is of, and of the changes in their order
+-- a map of the commit's name, of the root before, of the commit's fields as in its block, of the
+-- bytes that are signed, and of the changes in their order
 abbrev pub verified_tree : CidParts → Verified → Option Tree
 verified_tree name v = entries_tree (
     field (codes "cid") (Some (link (cid_bytes name)))
@@ -29,6 +29,6 @@ verified_tree name v = entries_tree (
 
 -- ---- as changes are held
 
--- a key that is lent, beside its records
+-- a borrowed key, with its records
 abbrev pub change_of_row : ByteSlice × Option CidParts × Option CidParts → Changed
 change_of_row r = (r.0.0.now, (r.1, r.2))

@@ -1,4 +1,4 @@
--- The numbers that are told of frames of a host's stream; `negsuc n` is - 1 - n.
+-- The numbers returned for frames of a host's stream; `negsuc n` is - 1 - n.
 use Rattle.std.specs.Prelude.{ℕ, ℤ, pos, negsuc, List, [], Option, None, Some}
 use Rattle.ipld_tree.specs.Cid.{CidParts, cid_bytes}
 use Rattle.event_frames.specs.declared.body.Frame.{Frame}
@@ -10,7 +10,7 @@ use Rattle.atproto_events.specs.declared.error.UndoError.TheVariants as undo
 use Rattle.verified_events.specs.declared.refusal.EventError.{EventError}
 use Rattle.verified_events.specs.declared.refusal.EventError.TheVariants as error
 
--- the number of the kind of a frame, from 0
+-- the number of the kind of a frame, at least 0
 abbrev pub frame_kind : Frame → ℤ
 frame_kind (frame.Commit f) = pos 0
 frame_kind (frame.Sync f) = pos 1
@@ -29,7 +29,7 @@ frame_code (unread.OtherOperation n) = negsuc 62
 frame_code unread.NoKind = negsuc 63
 frame_code (unread.NoBody e) = negsuc 64
 
--- the number of why changes are not undone
+-- the number of why changes cannot be undone
 abbrev pub undo_code : UndoError → ℤ
 undo_code undo.OutOfMemory = negsuc 41
 undo_code (undo.MissingNode node) = negsuc 81
@@ -58,7 +58,7 @@ event_code error.OtherRevision = negsuc 79
 event_code error.LeadsElsewhere = negsuc 80
 event_code (error.NotUndone e) = undo_code e
 
--- the node for which changes are not undone
+-- the node because of which changes cannot be undone
 abbrev pub node_of_undo : UndoError → Option CidParts
 node_of_undo (undo.MissingNode node) = Some node
 node_of_undo (undo.OtherBytes node) = Some node

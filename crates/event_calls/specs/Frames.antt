@@ -1,4 +1,4 @@
--- What is answered of bytes as a frame of a host's stream.
+-- What is returned for bytes as a frame of a host's stream.
 use Rattle.std.specs.Prelude.{◌≡◌, ◌⊎◌, ℕ, ◌+◌, ℤ, List, length}
 use Rattle.event_frames.specs.Frames.{SplitsFrame, IsFrameOf, HasNoEnd, PartsRefused}
 use Rattle.event_frames.specs.declared.body.Frame.{Frame}
@@ -6,14 +6,14 @@ use Rattle.event_frames.specs.declared.error.FrameError.{FrameError}
 use Rattle.event_frames.specs.declared.error.FrameError.TheVariants.{NoEnd}
 use Rattle.event_calls.specs.Codes.{frame_kind, frame_code}
 
--- the two items are a frame, whose kind is told; or they are none, and why is told
+-- the two items are a frame, whose kind is returned; or they are not, and the number of why is
 abbrev pub IsPartsAnswer : (header body : List ℕ) → ℤ → Type 0
 IsPartsAnswer header body code =
     ((frame : Frame) × IsFrameOf header body frame × (code ≡ frame_kind frame))
     ⊎ ((e : FrameError) × PartsRefused header body e × (code ≡ frame_code e))
 
--- two items stand at the front by their heads; where the second begins and where it ends is told, and
--- what they are; or there are no two, and that is told
+-- by their heads, two items are at the front: where the second begins and ends is returned, and
+-- what they are; or there are not two, and that is returned
 abbrev pub IsFrameAnswer : List ℕ → (body end : ℕ) → ℤ → Type 0
 IsFrameAnswer b body end code =
     ((first second rest : List ℕ) × SplitsFrame b first second rest × (body ≡ length first)

@@ -1,4 +1,4 @@
-//! The numbers of kinds of frames, and of why there is none, or none that is verified.
+//! The numbers of the kinds of frames, of why there is no frame, and of why one is not verified.
 
 ghost use Rattle.std.specs.Prelude.{◌≡◌};
 ghost use Rattle.event_calls.specs.Codes.{frame_kind, frame_code, undo_code, event_code, node_of};
@@ -7,19 +7,19 @@ use event_frames::{Frame, FrameError};
 use ipld_tree::Cid;
 use verified_events::{EventError, UndoError};
 
-/// What is answered where memory is wanted.
+/// The number returned if memory runs out.
 pub(crate) const NO_MEMORY: i32 = -42;
 
-/// What is answered where the bytes are not two items.
+/// The number returned if the bytes are not two items.
 pub(crate) const NO_END: i32 = -61;
 
-/// What is answered of a frame of another kind than a commit.
+/// The number returned for a frame that is not a commit.
 pub(crate) const NO_COMMIT: i32 = -66;
 
-/// What is answered where what is known is no name and no text.
+/// The number returned if the known root is not a CID, or the known revision not UTF-8.
 pub(crate) const NO_KNOWN: i32 = -67;
 
-/// The number of the kind of a frame.
+/// Returns the number of the kind of a frame.
 pub(crate) fn frame_kind(frame: &Frame<'_>) -> i32
     ensures { result ≡ frame_kind frame.now }
 {
@@ -34,7 +34,7 @@ pub(crate) fn frame_kind(frame: &Frame<'_>) -> i32
     }
 }
 
-/// The number of why no frame is read.
+/// Returns the number of why no frame is read.
 pub(crate) fn frame_code(error: &FrameError) -> i32
     ensures { result ≡ frame_code error.now }
 {
@@ -48,7 +48,7 @@ pub(crate) fn frame_code(error: &FrameError) -> i32
     }
 }
 
-/// The number of why changes are not undone.
+/// Returns the number of why changes cannot be undone.
 fn undo_code(error: &UndoError) -> i32
     ensures { result ≡ undo_code error.now }
 {
@@ -63,7 +63,7 @@ fn undo_code(error: &UndoError) -> i32
     }
 }
 
-/// The number of why a commit is not verified.
+/// Returns the number of why a commit is not verified.
 pub(crate) fn event_code(error: &EventError) -> i32
     ensures { result ≡ event_code error.now }
 {
@@ -87,7 +87,7 @@ pub(crate) fn event_code(error: &EventError) -> i32
     }
 }
 
-/// The node for which the changes are not undone.
+/// Returns the node because of which the changes cannot be undone, if one is the cause.
 pub(crate) fn node_of(error: &EventError) -> Option<Cid>
     ensures { result ≡ node_of error.now }
 {

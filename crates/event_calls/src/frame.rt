@@ -1,4 +1,4 @@
-//! What kind of frame stands at the front, and where it ends.
+//! The kind of the frame at the front, and where it ends.
 
 ghost use Rattle.event_calls.specs.Frames.{IsPartsAnswer, IsFrameAnswer};
 
@@ -6,7 +6,7 @@ use crate::code::{NO_END, frame_code, frame_kind};
 use event_frames::{FrameParts, read_parts, split_frame};
 use std::alloc::Global;
 
-/// The number of the kind of the frame that the two items are, or of why they are none.
+/// Returns the number of the kind of the frame that the two items are, or of why they are not one.
 fn parts_code(alloc: Global, parts: &FrameParts<'_>) -> i32
     ensures { IsPartsAnswer parts.now.header.now parts.now.body.now result }
 {
@@ -16,8 +16,9 @@ fn parts_code(alloc: Global, parts: &FrameParts<'_>) -> i32
     }
 }
 
-/// The number of the kind of the frame at the front, from 0, or of why there is none. Of two items
-/// `body` becomes where the second begins, and `end` where it ends, also where they are no frame.
+/// Returns the number of the kind of the frame at the front, at least 0, or of why there is none,
+/// below 0. If there are two items, `body` becomes where the second begins, and `end` where it
+/// ends, even if they are not a frame.
 pub fn place_frame(alloc: Global, bytes: &[u8], body: &mut usize, end: &mut usize) -> i32
     ensures { IsFrameAnswer bytes.now body.new end.new result }
 {

@@ -7,8 +7,8 @@ use ipld_tree::Cid;
 use std::str::from_utf8;
 use verified_events::Known;
 
-/// What is known, if anything is: nothing where there are no bytes of a root. None where the bytes
-/// are no name, or those of the revision no text.
+/// Returns what is known, if anything is: nothing if `root` is empty. Returns `None` if `root` is
+/// not a CID, or `rev` not UTF-8.
 pub(crate) fn known_of<'a>(root: &[u8], rev: &'a [u8]) -> Option<Option<Known<'a>>>
     ensures { MatchOption result (SaysNoKnown root.now rev.now) (IsKnown root.now rev.now) }
 {

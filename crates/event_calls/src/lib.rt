@@ -1,4 +1,4 @@
-//! What the C library that takes memory does with the frames of a repository host's stream (AT
+//! What the C library that allocates does with the frames of a repository host's stream (AT
 //! Protocol): where a frame ends and of what kind it is, and what is verified of a commit in one.
 #![tactic(auto)]
 

@@ -18,14 +18,14 @@ use verified_events::{Change, Commit, Verified};
 /// A key, its record before, and its record after.
 type Row<'a> = (ByteSlice<'a>, Option<Cid>, Option<Cid>);
 
-/// What is told of a commit.
+/// The description of a verified commit.
 #[derive(Clone, Copy)]
 struct Told<'a> {
     /// The name of the commit.
     name: Cid,
     before: Cid,
     commit: &'a Commit,
-    /// What the signature is of.
+    /// The bytes that are signed.
     signed: &'a [u8],
     rows: &'a [Row<'a>],
 }
@@ -51,7 +51,7 @@ impl<'a> Serialize for Told<'a> {
     }
 }
 
-/// The changes, each as a row.
+/// Returns the changes, each as a row.
 fn rows_of(alloc: Global, done: &[Change]) -> Result<Vec<Row<'_>>, AllocError>
     ensures { IfOk result (λ v. map change_of_row v.items ≡ changes done.now) }
 {
@@ -63,7 +63,7 @@ fn rows_of(alloc: Global, done: &[Change]) -> Result<Vec<Row<'_>>, AllocError>
     Ok(rows)
 }
 
-/// The block that tells what is verified of the commit of this name.
+/// Returns the block that describes what is verified of the commit of this name.
 pub(crate) fn verified_block(
     alloc: Global,
     name: &Cid,
@@ -79,7 +79,7 @@ pub(crate) fn verified_block(
         signed: &verified.signed,
         rows: &rows,
     };
-    // Each has a spelling, which is refused for want of memory alone.
+    // Each can be encoded, so only memory can run out.
     match to_vec(alloc, &told) {
         Ok(block) => Ok(block),
         Err(_) => Err(AllocError),

@@ -1,4 +1,4 @@
-//! What is verified of the commit in a frame, put into memory of the caller.
+//! What is verified of the commit in a frame, written into the caller's memory.
 
 ghost use Rattle.event_calls.specs.Events.{IsRefusalPut, IsJudged, IsFrameJudged, IsEventAnswer};
 
@@ -11,7 +11,8 @@ use event_frames::{CommitFrame, Frame, read_frame};
 use std::alloc::Global;
 use verified_events::{EventError, Known, verify_event};
 
-/// Puts the name of the node for which the commit is not verified, if it is one: the number of why.
+/// Puts the name of the node because of which the commit is not verified, if one is the cause.
+/// Returns the number of why.
 fn put_refusal(error: &EventError, out: &mut [u8], needed: &mut usize) -> i32
     ensures { IsRefusalPut error.now out.old out.new needed.new result }
 {
@@ -22,7 +23,8 @@ fn put_refusal(error: &EventError, out: &mut [u8], needed: &mut usize) -> i32
     put_front(event_code(error), &form, out, needed)
 }
 
-/// Puts the block that tells what is verified of the commit; or the number of why it is not.
+/// Puts the block that describes what is verified of the commit. Returns 0, or the number of why it
+/// is not verified.
 fn put_judged(
     alloc: Global,
     frame: &CommitFrame<'_>,
@@ -44,7 +46,7 @@ fn put_judged(
     }
 }
 
-/// Puts what is verified of the frame, where it is a commit.
+/// Puts what is verified of the frame, if it is a commit.
 fn put_frame(
     alloc: Global,
     frame: &Frame<'_>,
@@ -61,9 +63,9 @@ fn put_frame(
     }
 }
 
-/// Puts the block that tells what is verified of the commit in the frame at the front, against the
-/// root and the revision that are known, if the root has bytes; else the name of the node for which
-/// it is not verified, if it is one. What follows the frame is not looked at.
+/// Puts the block that describes what is verified of the commit in the frame at the front, against
+/// the known root and revision if `root` is not empty; or the name of the node because of which it
+/// is not verified, if one is the cause. Bytes after the frame are ignored.
 pub fn put_event(
     alloc: Global,
     bytes: &[u8],

@@ -1,4 +1,4 @@
--- What a text is read as is the data of a block.
+-- The data that a text is read as is the data of a block.
 use Rattle.std.proofs.Common.{◌≡◌, inl, inr, ℕ, ◌≤◌, Bool, true, false, List, Result, Ok, Err, MatchResult, if◌then◌else◌, nat_le, refl, sym, subst, leb-true}
 use Rattle.dagcbor_core.specs.Steps.{default_steps}
 use Rattle.ipld_tree.specs.Tree.{Tree, any_need}

@@ -1,4 +1,4 @@
--- What is made is put, or what is told.
+-- The made bytes are put, or the line.
 use Rattle.std.proofs.Common.{◌≡◌, inl, inr, ℕ, ℤ, pos, List, Bool, true, false, sym, subst, Result, Ok, Err, IfOk, MatchResult, Vec}
 use Rattle.std.specs.declared.alloc.Global.{Global}
 use Rattle.std.specs.declared.alloc.AllocError.{AllocError}

@@ -1,4 +1,4 @@
--- What is answered of a CAR file as a repository, of its commit, and of a record.
+-- What is returned for a CAR file as a repository, for its commit, and for a record.
 use Rattle.std.specs.Prelude.{◌≡◌, ◌⊎◌, ℕ, ℤ, pos, negsuc, List, [], true, false, Result, MatchResult, Vec}
 use Rattle.std.specs.declared.alloc.Global.{Global}
 use Rattle.ipld_tree.specs.Cid.{CidParts}
@@ -11,37 +11,37 @@ use Rattle.commit_lines.specs.Proofs.{IsProofAt}
 use Rattle.dagcbor_calls.specs.CidTexts.{IsPutText, PutsNone}
 use Rattle.memory_calls.specs.Blocks.{repo_tree, commit_tree, IsBlockOf}
 
--- the one is made, or the other is told
+-- the bytes are made, or the line that says why not
 abbrev pub IsMadeOrTold : (IsMade IsTold : List ℕ → Type 0) → Result (Vec ℕ Global) (Vec ℕ Global) → Type 0
 IsMadeOrTold IsMade IsTold answer = MatchResult answer (λ made. IsMade made.items) (λ line. IsTold line.items)
 
 -- ---- what is made
 
--- the block tells of the repository that the bytes are
+-- the block describes the repository that the bytes are
 abbrev pub IsRepoBlock : List ℕ → List ℕ → Type 0
 IsRepoBlock b block = (c : Commit) × (records : List MstEntry) × IsRepoFile b c records
     × IsBlockOf (λ signed. repo_tree c signed (entries records)) c block
 
--- the block tells of the commit that the first root of the file names
+-- the block describes the commit that the first root of the file names
 abbrev pub IsCommitBlock : List ℕ → List ℕ → Type 0
 IsCommitBlock b block = (name : CidParts) × (c : Commit) × IsCommitFile b name c
     × IsBlockOf (commit_tree name c) c block
 
--- `record-proof` says this of the file and the key, and nothing is told: a file that proves it
+-- `record-proof` writes this file of the file and the key, which proves the record, and no message
 abbrev pub IsProofFile : List ℕ → List ℕ → List ℕ → Type 0
 IsProofFile b key proof = OfFile (IsProofAt key) b true proof []
 
--- it says nothing, and this line is told
+-- `record-proof` writes no file, but this line as a message
 abbrev pub IsNoProofFile : List ℕ → List ℕ → List ℕ → Type 0
 IsNoProofFile b key line = OfFile (IsProofAt key) b false [] line
 
 -- ---- by the C ABI
 
--- memory was wanted, and -42 is answered
+-- memory ran out, and -42 is returned
 abbrev pub WantsMemory : List ℕ → List ℕ → ℕ → ℤ → Type 0
 WantsMemory old new needed code = (code ≡ negsuc 41) × PutsNone old new needed
 
--- what is made is put; or the line that tells why there is none; or memory was wanted
+-- the bytes are put; or the line that says why there are none; or memory ran out
 abbrev pub IsEitherPut : (IsMade IsTold : List ℕ → Type 0) → List ℕ → List ℕ → ℕ → ℤ → Type 0
 IsEitherPut IsMade IsTold old new needed code =
     ((made : List ℕ) × IsMade made × IsPutText (pos 0) made old new needed code)

@@ -1,4 +1,4 @@
--- What is answered of blocks and DAG-JSON, one made of the other.
+-- What is returned for blocks and DAG-JSON, one made of the other.
 use Rattle.std.specs.Prelude.{◌≡◌, ◌⊎◌, ℕ, ◌≤◌, ℤ, negsuc, true, false, List, length, Ok, Err, IsUtf8}
 use Rattle.std.specs.Str.Lossy.{utf8_valid_len}
 use Rattle.std.specs.declared.convert.Infallible.{Infallible}
@@ -15,7 +15,7 @@ use Rattle.dagcbor_calls.specs.Codes.{kind_code, refusal_code}
 use Rattle.dagcbor_calls.specs.CidTexts.{IsPutText, PutsNone}
 use Rattle.memory_calls.specs.Answers.{WantsMemory}
 
--- the number of why a text is no data
+-- the number of why a text is not data
 abbrev pub json_code : DagJsonError → ℤ
 json_code texts.NoText = negsuc 42
 json_code texts.NoJson = negsuc 43
@@ -29,24 +29,24 @@ json_code (texts.NoCid e) = negsuc 50
 json_code texts.NoBase64 = negsuc 51
 json_code texts.OutOfMemory = negsuc 41
 
--- the text of a block's data is put; or a map in it has the key `/`, so that no text is read as it; or
--- memory was wanted
+-- the text of a block's data is put; or a map in it has the key `/`, so that no text can be read as
+-- it; or memory ran out
 abbrev pub IsDataAnswer : Tree → List ℕ → List ℕ → ℕ → ℤ → Type 0
 IsDataAnswer t old new needed code =
     ((has_reserved_key t ≡ false) × IsPutText (kind_code (kind_of t)) (dag_json t) old new needed code)
     ⊎ (((has_reserved_key t ≡ true) × (code ≡ json_code texts.ReservedKey) × PutsNone old new needed)
     ⊎ WantsMemory old new needed code)
 
--- that of the block; or the number of its refusal, never want of memory
+-- the answer for the data of a block; or the number of its refusal, never out of memory
 abbrev pub IsToJsonAnswer : List ℕ → List ℕ → List ℕ → ℕ → ℤ → Type 0
 IsToJsonAnswer b old new needed code =
     ((t : Tree) × IsBlock b t × IsDataAnswer t old new needed code)
     ⊎ ((e : DecodeError Infallible) × IsRefusedFor b e
     × (code ≡ refusal_code e) × PutsNone old new needed)
 
--- the block of the data that the text is is put, and the place is the text's end; or it is none, and
--- the number of why it is none is answered, and a place; or memory was wanted. Which byte is the
--- place is said of what is no UTF-8 alone: the first that is none.
+-- The block of the data that the text spells is put, and the place is the text's end; or the text
+-- is not data, and the number of why is returned, with a place; or memory ran out. Only for text
+-- that is not UTF-8 is the place determined: it is the first byte that is not.
 abbrev pub IsFromJsonAnswer : List ℕ → List ℕ → List ℕ → ℕ → ℕ → ℤ → Type 0
 IsFromJsonAnswer text old new needed place code =
     ((t : Tree) × (block : List ℕ) × ReadsJson text (Ok t) × IsBlock block t

@@ -1,4 +1,4 @@
-//! What the calls answer of a CAR file: as a repository, of its commit, and of a record.
+//! What the calls return for a CAR file: as a repository, for its commit, and for a record.
 
 ghost use Rattle.std.specs.Prelude.{◌≡◌, true, false, IfOk, MatchResult};
 ghost use Rattle.record_lines.specs.Repositories.{IsNoRepoFile};
@@ -17,13 +17,14 @@ pub type Made = Result<Vec<u8>, Vec<u8>>;
 
 /// Makes a block that describes a whole repository: a map of the texts `did` and `rev`, the bytes
 /// `sig` and `signed` (`sig` is the signature of `signed`), the link `data` to the tree, `prev`, a
-/// link or null, and `records`, a list of pairs: a key, as bytes, and the link to its record, in the
-/// order of keys. If the file is no repository, the line says why. The records need not be in the file.
+/// link or null, and `records`, a list of pairs: a key, as bytes, and the link to its record, in
+/// the order of keys. If the file is not a repository, the line says why. The records need not be
+/// in the file.
 pub fn repo_answer(alloc: Global, file: &[u8]) -> Result<Made, AllocError>
     ensures { IfOk result (IsMadeOrTold (IsRepoBlock file.now) (IsNoRepoFile file.now)) }
 {
     let mut input = file;
-    // A file in memory has no fault of a device, so that memory alone is wanted.
+    // A file in memory has no device errors, so only memory can run out.
     match read_file(alloc, &mut input) {
         Ok(Ok(repo)) => {
             let block = repo_block(alloc, &repo)?;
@@ -51,7 +52,7 @@ pub fn commit_answer(alloc: Global, file: &[u8]) -> Result<Made, AllocError>
     }
 }
 
-/// Standard output's bytes if the answer is well, else standard error's.
+/// Returns standard output's bytes if all is well, else standard error's.
 fn made_of(answer: Answer) -> Made
     ensures { MatchResult result (λ v. (answer.0.1 ≡ true) × (v.items ≡ answer.0.0.items))
         (λ line. (answer.0.1 ≡ false) × (line.items ≡ answer.1.items)) }
@@ -60,7 +61,7 @@ fn made_of(answer: Answer) -> Made
     if well { Ok(said) } else { Err(told) }
 }
 
-/// Makes the CAR file that proves which record the key has, or that it has none, by
+/// Makes the CAR file that proves which record the key has, or that it has none, with
 /// `commit_lines::record_proof`. If there is none, the line says why.
 pub fn proof_answer(alloc: Global, file: &[u8], key: &[u8]) -> Result<Made, AllocError>
     ensures { IfOk result (IsMadeOrTold (IsProofFile file.now key.now) (IsNoProofFile file.now key.now)) }

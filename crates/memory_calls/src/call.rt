@@ -9,10 +9,10 @@ use crate::answer::{Made, commit_answer, proof_answer, repo_answer};
 use dagcbor_calls::put_front;
 use std::alloc::{AllocError, Global};
 
-/// The answer if the call ran out of memory.
+/// The number returned if the call ran out of memory.
 pub(crate) const NO_MEMORY: i32 = -42;
 
-/// Puts what was made and answers 0, or puts the line and answers 1.
+/// Puts the made bytes and returns 0, or puts the line and returns 1.
 fn put_answer(answer: &Result<Made, AllocError>, out: &mut [u8], needed: &mut usize) -> i32
     ensures { MatchResult answer.now (λ it. MatchResult it
         (λ made. IsPutText (pos 0) made.items out.old out.new needed.new result)
@@ -29,7 +29,7 @@ fn put_answer(answer: &Result<Made, AllocError>, out: &mut [u8], needed: &mut us
     }
 }
 
-/// Puts the block that describes the repository, or the line that says why the file is none.
+/// Puts the block that describes the repository, or the line that says why the file is not one.
 #[tactic(auto, using(crate::proofs::Putting::put_so))]
 pub fn put_repo(alloc: Global, file: &[u8], out: &mut [u8], needed: &mut usize) -> i32
     ensures { IsRepositoryAnswer file.now out.old out.new needed.new result }

@@ -1,4 +1,4 @@
-//! DAG-JSON of a block, and the block of a text, put into memory of the caller.
+//! DAG-JSON of a block, and the block of a text, written into the caller's memory.
 
 ghost use Rattle.std.specs.Prelude.{◌≡◌, IfOk};
 ghost use Rattle.ipld_tree.specs.Ipld.{tree_of};
@@ -18,10 +18,10 @@ use dagcbor_write::to_vec;
 use ipld_tree::Ipld;
 use std::alloc::{AllocError, Global};
 
-/// What is answered of a map that has the key `/`, and is neither a link nor bytes.
+/// The number returned for a map that has the key `/`, and is neither a link nor bytes.
 const RESERVED_KEY: i32 = -50;
 
-/// The number of why a text is no data.
+/// Returns the number of why a text is not data.
 fn json_code(cause: &DagJsonError) -> i32
     ensures { result ≡ json_code cause.now }
 {
@@ -40,7 +40,7 @@ fn json_code(cause: &DagJsonError) -> i32
     }
 }
 
-/// The kind of the data.
+/// Returns the kind of the data.
 fn kind_of(value: &Ipld) -> Kind
     ensures { result ≡ kind_of (tree_of value.now) }
 {
@@ -56,7 +56,7 @@ fn kind_of(value: &Ipld) -> Kind
     }
 }
 
-/// Puts the bytes that are made of the data: the number of its kind.
+/// Puts the bytes that are made of the data. Returns the number of its kind.
 fn put_made(value: &Ipld, made: &[u8], out: &mut [u8], needed: &mut usize) -> i32
     ensures { IsPutText (kind_code (kind_of (tree_of value.now))) made.now out.old out.new needed.new
         result }
@@ -64,7 +64,7 @@ fn put_made(value: &Ipld, made: &[u8], out: &mut [u8], needed: &mut usize) -> i3
     put_front(kind_code(kind_of(value)), made, out, needed)
 }
 
-/// Puts the text of a block's data. Where a map has the key `/`, no text is read as the data.
+/// Puts the text of a block's data. If a map has the key `/`, no text can be read as that data.
 fn put_data(alloc: Global, value: &Ipld, out: &mut [u8], needed: &mut usize) -> i32
     ensures { IsDataAnswer (tree_of value.now) out.old out.new needed.new result }
 {
@@ -78,8 +78,8 @@ fn put_data(alloc: Global, value: &Ipld, out: &mut [u8], needed: &mut usize) -> 
     }
 }
 
-/// Puts the DAG-JSON of the block. The bytes are judged first: for what is no block no memory is
-/// taken.
+/// Puts the DAG-JSON of the block. The bytes are judged first, so nothing is allocated if they are
+/// not a block.
 pub fn put_json(alloc: Global, block: &[u8], out: &mut [u8], needed: &mut usize) -> i32
     ensures { IsToJsonAnswer block.now out.old out.new needed.new result }
 {
@@ -93,7 +93,7 @@ pub fn put_json(alloc: Global, block: &[u8], out: &mut [u8], needed: &mut usize)
     }
 }
 
-/// The block of the data. What a text spells has one, so that it lacks nothing but memory.
+/// Returns the block of the data. Data read from a text always has one, so only memory can run out.
 fn block_of(alloc: Global, value: &Ipld) -> Result<Vec<u8>, AllocError>
     ensures { IfOk result (λ v. IsSpelling v.items (tree_of value.now)) }
 {
@@ -103,7 +103,7 @@ fn block_of(alloc: Global, value: &Ipld) -> Result<Vec<u8>, AllocError>
     }
 }
 
-/// Puts the block of the data that the text is, in DAG-JSON.
+/// Puts the block of the data that the text spells in DAG-JSON.
 #[tactic(auto, using(crate::proofs::JsonReading::block_read))]
 pub fn put_block(
     alloc: Global,

@@ -1,6 +1,6 @@
-//! What the C library that takes memory does for its calls: DAG-JSON, from and to blocks; and of a
-//! repository (AT Protocol) that is read whole, or of its commit alone, a block; and the file that
-//! proves a record; each time, or a line that tells why there is none.
+//! What the C library that allocates does for its calls: DAG-JSON from and to blocks; a block that
+//! describes a repository (AT Protocol), read whole, or its commit alone; and the CAR file that
+//! proves a record. If there is none of these, a line says why.
 #![tactic(auto)]
 
 mod answer;

@@ -1,4 +1,4 @@
-//! A repository as a block, and its commit.
+//! Blocks that describe a repository, and its commit.
 
 ghost use Rattle.std.specs.Prelude.{◌≡◌, [], ◌∷◌, map, Some, codes, true, string_bytes, IfOk};
 ghost use Rattle.ipld_tree.specs.Cid.{cid_bytes};
@@ -16,11 +16,11 @@ use std::alloc::{AllocError, Global};
 /// A key, and the CID of its record.
 type Row<'a> = (ByteSlice<'a>, Cid);
 
-/// What is told of a repository.
+/// The description of a repository.
 #[derive(Clone, Copy)]
 struct Told<'a> {
     commit: &'a Commit,
-    /// What the signature is of.
+    /// The bytes that are signed.
     signed: &'a [u8],
     rows: &'a [Row<'a>],
 }
@@ -50,7 +50,7 @@ impl<'a> Serialize for Told<'a> {
     }
 }
 
-/// The keys of records, beside their CIDs.
+/// Returns the keys of records, each with its record's CID.
 fn rows_of(alloc: Global, records: &[MstEntry]) -> Result<Vec<Row<'_>>, AllocError>
     ensures { IfOk result (λ v. map entry_of_row v.items ≡ entries records.now) }
 {
@@ -62,7 +62,7 @@ fn rows_of(alloc: Global, records: &[MstEntry]) -> Result<Vec<Row<'_>>, AllocErr
     Ok(rows)
 }
 
-/// The block that tells of a repository.
+/// Returns the block that describes a repository.
 pub(crate) fn repo_block(alloc: Global, repo: &Repo) -> Result<Vec<u8>, AllocError>
     ensures { IfOk result (λ v.
         IsBlockOf (λ signed. repo_tree repo.now.commit signed (entries repo.now.records.items))
@@ -75,19 +75,19 @@ pub(crate) fn repo_block(alloc: Global, repo: &Repo) -> Result<Vec<u8>, AllocErr
         signed: &signed,
         rows: &rows,
     };
-    // Each has a spelling, which is refused for want of memory alone.
+    // Each can be encoded, so only memory can run out.
     match to_vec(alloc, &told) {
         Ok(block) => Ok(block),
         Err(_) => Err(AllocError),
     }
 }
 
-/// What is told of a commit.
+/// The description of a commit.
 #[derive(Clone, Copy)]
 struct ToldCommit<'a> {
     name: Cid,
     commit: &'a Commit,
-    /// What the signature is of.
+    /// The bytes that are signed.
     signed: &'a [u8],
 }
 
@@ -116,7 +116,7 @@ impl<'a> Serialize for ToldCommit<'a> {
     }
 }
 
-/// The block that tells of the commit of this name.
+/// Returns the block that describes the commit of this name.
 pub(crate) fn commit_block(alloc: Global, name: Cid, commit: &Commit) -> Result<Vec<u8>, AllocError>
     ensures { IfOk result (λ v. IsBlockOf (commit_tree name commit.now) commit.now v.items) }
 {
@@ -126,7 +126,7 @@ pub(crate) fn commit_block(alloc: Global, name: Cid, commit: &Commit) -> Result<
         commit,
         signed: &signed,
     };
-    // Each has a spelling, which is refused for want of memory alone.
+    // Each can be encoded, so only memory can run out.
     match to_vec(alloc, &told) {
         Ok(block) => Ok(block),
         Err(_) => Err(AllocError),

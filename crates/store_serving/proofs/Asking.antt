@@ -1,4 +1,4 @@
--- Which line asks for what.
+-- Which line makes which request.
 use Rattle.std.proofs.Common.{◌≡◌, ◌==◌, ◌+◌, ◌*◌, ℕ, List, length, get_or, refl, sym, ap, ◌∙◌, subst, cond, Option, None, Some, MatchOption, IsUtf8}
 use Rattle.store_serving.specs.Requests.{word_text, first_word, behind_word, Means, AsksFor}
 use Rattle.store_serving.specs.declared.word.Word.{Word}
@@ -7,7 +7,7 @@ use Rattle.store_serving.specs.declared.asked.Asked.{Asked}
 
 -- ---- words
 
--- of each word another number
+-- a number for each word, different for each
 abbrev mark : List ℕ → ℕ
 mark word = get_or word 0 0 + 1000 * length word
 
@@ -36,7 +36,7 @@ told_back words.Export = refl
 same_word : (v w : Word) → word_text v ≡ word_text w → v ≡ w
 same_word v w e = sym (told_back v) ∙ ap (λ t. of_mark (mark t)) e ∙ told_back w
 
--- a line of this word asks for nothing where the word means nothing there
+-- a line with this word makes no request if the word means nothing with the text after it
 pub asks_nothing : (line : List ℕ) (word : Word) → first_word line ≡ word_text word → ((asked : Asked) → ¬ Means word (behind_word line) asked) → (asked : Asked) → ¬ AsksFor line asked
 asks_nothing line word is none asked h = none asked (subst (λ w. Means w (behind_word line) asked) (same_word h.1.0 word (sym h.1.1 ∙ is)) h.1.2)
 

@@ -19,7 +19,7 @@ use Rattle.store_serving.specs.declared.heard.Heard.TheVariants as heards
 
 -- ---- lines
 
--- where no line feed ends what was read, none is left
+-- if no line feed ends what was read, nothing is left
 spent_line : (xs : List ℕ) → ((front : List ℕ) → take_through 10 xs ≢ front ++ 10 ∷ []) → drop_through 10 xs ≡ []
 spent_line [] none = refl
 spent_line (x ∷ xs) none = by_test (x == 10) refl (spent_line xs)
@@ -50,7 +50,7 @@ whole_line raw line is stops =
     let long : length (line ++ 10 ∷ []) - 1 ≡ length line = omega (arith, length-append line (10 ∷ [])) in
     subst (All (λ b. b ≢ 10)) (ap (λ (r : List ℕ). take (length r - 1) r) is ∙ ap (λ (n : ℕ). take n (line ++ 10 ∷ [])) long ∙ take-append_seam line (10 ∷ [])) stops
 
--- what was read, and no line feed ends it, has none
+-- what was read has no line feed if none ends it
 pub cut_line : (raw : List ℕ) → 0 < length raw → ((front : List ℕ) → raw ≢ front ++ 10 ∷ []) → StopsAt raw 10 → All (λ b. b ≢ 10) raw
 cut_line raw some none stops =
     let at = length raw - 1 in
@@ -62,7 +62,7 @@ cut_line raw some none stops =
 
 -- ---- blocks
 
--- so much of what is shown was consumed
+-- this much of the shown bytes was consumed
 pub consumed_front : {E : Type 0} (before mid after : Option (List ℕ)) (limit : Option ℕ) (r : Result (Bor (List ℕ)) E) (shown : Bor (List ℕ)) (n : ℕ) → r ≡ Ok shown
     → IfSome before (λ xs. StartsWith xs shown.now) → FillKeeps before mid limit r → DropsConsumable mid after limit n → n ≤ length shown.now → Consumes before after (take n shown.now)
 consumed_front None mid after limit r shown n ok starts kept drops below = tt
@@ -77,7 +77,7 @@ consumed_front (Some xs) (Some ys) after limit r shown n ok starts kept drops be
     fits None h = tt
     fits (Some most) h = omega (arith, h, below)
 
--- nothing is shown, so none is left
+-- if nothing is shown, nothing is left
 pub spent_shown : {E : Type 0} (before mid after : Option (List ℕ)) (limit : Option ℕ) (r : Result (Bor (List ℕ)) E) (shown : Bor (List ℕ)) (n : ℕ) → r ≡ Ok shown
     → IfSome before (λ xs. length shown.now ≡ 0 → xs ≡ []) → FillKeeps before mid limit r → DropsConsumable mid after limit n → n ≡ 0 → length shown.now ≡ 0 → IsSpent before after
 spent_shown None mid after limit r shown n ok end kept drops zero_n none = tt
@@ -90,7 +90,7 @@ spent_shown (Some xs) (Some ys) after limit r shown n ok end kept drops zero_n n
     fits None = tt
     fits (Some most) = omega (arith, zero_n)
 
--- what is spent after some bytes is spent
+-- an input that is at its end after some bytes were taken is at its end
 pub spent_behind : (before mid after : Option (List ℕ)) (bs : List ℕ) → Consumes before mid bs → IsSpent mid after → IsSpent before after
 spent_behind None mid after bs taken spent = tt
 spent_behind (Some xs) None after bs taken spent = absurd taken
@@ -147,7 +147,7 @@ cut before after raw shown same some none read =
       read.last unended,
     )
 
--- a line asks for nothing
+-- a line makes no request
 pub bad : (before after : Option (List ℕ)) (raw shown line : List ℕ) → shown ≡ raw → shown ≡ line ++ 10 ∷ [] → ((asked : Asked) → ¬ AsksFor line asked) → IsReadTo raw before after → Pauses pauses.Bad before after
 bad before after raw shown line same is none read =
     let whole : raw ≡ line ++ 10 ∷ [] = sym same ∙ is in

@@ -18,7 +18,7 @@ answers_next held sent now xs x first next =
     let is : answers (xs ++ x ∷ []) ≡ answers xs ++ reply_text x.reply = flat_map-append (λ (y : Exchange). reply_text y.reply) xs (x ∷ []) ∙ ap (λ (t : List ℕ). answers xs ++ t) (append-nil (reply_text x.reply)) in
     subst (λ (t : List ℕ). Appends held now t) (sym is) (Appends-trans held sent now (answers xs) (reply_text x.reply) first next)
 
--- a text whose front went out, and nothing follows it, went out
+-- a text is written if a prefix of it is, and nothing follows the prefix
 pub whole_sent : (held now : Option (List ℕ)) (front back text : List ℕ) → text ≡ front ++ back → back ≡ [] → Appends held now front → Appends held now text
 whole_sent held now front back text is none sent = subst (λ (t : List ℕ). Appends held now t) (sym (is ∙ ap (λ (t : List ℕ). front ++ t) none ∙ append-nil front)) sent
 
@@ -37,7 +37,7 @@ module _ {S : Type 0} (g : Ghosts S) where
   exchanged_next [] x before left after old now new h e = (after, new, subst (λ (l : Option (List ℕ)). Exchanges g x l old after new) h.0 (subst (λ (s : S). Exchanges g x left s after new) h.1 e), (refl, refl))
   exchanged_next (y ∷ ys) x before left after old now new h e = (h.0, h.1, h.2, exchanged_next ys x h.0 left after h.1 now new h.3 e)
 
-  -- nothing was asked of the store
+  -- the store got no request
   pub stops_early : (e : ToolError) (before after held : Option (List ℕ)) (s : S) → e ≢ Output → Stops g (Err e) before s held after s held
   stops_early Input before after held s other = (refl, refl)
   stops_early OutOfMemory before after held s other = inl (refl, refl)

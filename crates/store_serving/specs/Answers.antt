@@ -1,4 +1,4 @@
--- What a store replies to each request, and what it is then.
+-- What a store replies to each request, and its state after it.
 use Rattle.std.specs.Prelude.{◌≡◌, ◌⊎◌, ℕ, List, [], ◌∷◌, length, true, false, Option, None, Some}
 use Rattle.sqlite_trees.specs.View.{IsClean}
 use Rattle.sqlite_trees.specs.declared.store.Store.{Ghosts}
@@ -15,7 +15,7 @@ use Rattle.store_serving.specs.declared.reply.Reply.{Reply}
 use Rattle.store_serving.specs.declared.reply.Reply.TheVariants as replies
 
 module _ {S : Type 0} (g : Ghosts S) where
-  -- the bytes that are stored under the name, which it names; or nothing is listed under it
+  -- the bytes that are stored under the name, which match it; or nothing is listed under it
   abbrev pub RepliesGet : CidParts → S → Reply → S → Type 0
   RepliesGet name old (replies.Block b) new = IsNamedBy name b.items
       × (IsClean (g.view new) → HoldsOnly (g.view old) name b.items) × StaysSame g old new
@@ -33,7 +33,7 @@ module _ {S : Type 0} (g : Ghosts S) where
   RepliesHas name old (replies.Refused told) new = FailsByStore g ⊥ old new told
   RepliesHas name old _ new = ⊥
 
-  -- the first name after the last one; or none is listed there
+  -- the first name after the last one; or no name is listed there
   abbrev pub RepliesNext : Option CidParts → S → Reply → S → Type 0
   RepliesNext last old (replies.Name name) new =
       (IsClean (g.view new) → GivesNextName (g.view old) last (Some name)) × StaysSame g old new
@@ -42,7 +42,7 @@ module _ {S : Type 0} (g : Ghosts S) where
   RepliesNext last old (replies.Refused told) new = FailsByStore g ⊥ old new told
   RepliesNext last old _ new = ⊥
 
-  -- so many names are listed
+  -- this many names are listed
   abbrev pub RepliesCount : S → Reply → S → Type 0
   RepliesCount old (replies.Count n) new =
       (IsClean (g.view new) → n ≡ length ((g.view old).trees name_tree)) × StaysSame g old new
@@ -56,14 +56,14 @@ module _ {S : Type 0} (g : Ghosts S) where
   RepliesRoots old (replies.Refused told) new = FailsByStore g ⊥ old new told
   RepliesRoots old _ new = ⊥
 
-  -- the block is sound under this name of it, is stored under it, and all is committed
+  -- the block is sound under its name, is stored under it, and all is committed
   abbrev pub RepliesPut : ℕ → List ℕ → S → Reply → S → Type 0
   RepliesPut codec b old (replies.Name name) new = (name ≡ name_as codec b)
       × IsPutWell g (name_as codec b) b old new
   RepliesPut codec b old (replies.Refused told) new = PutRefused g (name_as codec b, b) old new told
   RepliesPut codec b old _ new = ⊥
 
-  -- the block is sound under this name of it, and is stored under it
+  -- the block is sound under its name, and is stored under it
   abbrev pub RepliesAdd : ℕ → List ℕ → S → Reply → S → Type 0
   RepliesAdd codec b old (replies.Name name) new = (name ≡ name_as codec b)
       × IsSound (name_as codec b, b)
@@ -71,7 +71,7 @@ module _ {S : Type 0} (g : Ghosts S) where
   RepliesAdd codec b old (replies.Refused told) new = PutRefused g (name_as codec b, b) old new told
   RepliesAdd codec b old _ new = ⊥
 
-  -- what was listed under the name is taken out; or nothing was
+  -- what was listed under the name is removed; or nothing was
   abbrev pub RepliesRemove : CidParts → S → Reply → S → Type 0
   RepliesRemove name old replies.Done new =
       IsClean (g.view new) → IsTaken (g.view old) (g.view new) name true
@@ -87,7 +87,7 @@ module _ {S : Type 0} (g : Ghosts S) where
   RepliesAddRoot name old (replies.Refused told) new = RootsRefused g (name ∷ []) old new told
   RepliesAddRoot name old _ new = ⊥
 
-  -- the name was a root, and is none; or it was none
+  -- the name was a root, and no longer is; or it was not one
   abbrev pub RepliesDropRoot : CidParts → S → Reply → S → Type 0
   RepliesDropRoot name old replies.Done new =
       IsClean (g.view new) → IsRootTaken (g.view old) (g.view new) name true
@@ -107,7 +107,7 @@ module _ {S : Type 0} (g : Ghosts S) where
   RepliesRollback old replies.Done new = IsClean (g.view new) → IsUndone (g.view old) (g.view new)
   RepliesRollback old _ new = ⊥
 
-  -- what is replied to the request, of which this is the block
+  -- what is replied to the request, which has this block
   abbrev pub Replies : Request → List ℕ → S → Reply → S → Type 0
   Replies (requests.Get name) b = RepliesGet name
   Replies (requests.Has name) b = RepliesHas name
@@ -122,8 +122,8 @@ module _ {S : Type 0} (g : Ghosts S) where
   Replies requests.Commit b = RepliesCommit
   Replies requests.Rollback b = RepliesRollback
 
-  -- what a crash can leave after the request: no more than before it; or, where it commits, what
-  -- that leaves
+  -- what a crash can leave after the request: only what it could leave before or, if the request
+  -- commits, what that leaves
   abbrev pub Leaves : Request → List ℕ → S → S → Type 0
   Leaves (requests.Put codec n) b old new = IsKeptBy g old new
       × ((db : _) → g.recovers new db → g.recovers old db ⊎ (IsClean (g.view new)

@@ -10,7 +10,7 @@ use Rattle.dagstore_lines.specs.declared.fault.Fault.TheVariants as fault
 use Rattle.store_serving.specs.declared.reply.Reply.{Reply}
 use Rattle.store_serving.specs.declared.reply.Reply.TheVariants as replies
 
--- a line of a word and of how many bytes follow, and these bytes
+-- a line with the word and the length of the body in bytes, and then the body
 abbrev pub framed : List ℕ → List ℕ → List ℕ
 framed word body = line (word ++ (codes " " ++ decimal (length body))) ++ body
 
@@ -20,7 +20,7 @@ well body = framed (codes "ok") body
 abbrev pub refused : List ℕ → List ℕ
 refused body = framed (codes "refused") body
 
--- of a reply
+-- the text of a reply
 abbrev pub reply_text : Reply → List ℕ
 reply_text replies.Done = well []
 reply_text replies.Nothing = framed (codes "none") []
@@ -30,13 +30,13 @@ reply_text (replies.Names names) = well (flat_map cid_line names.items)
 reply_text (replies.Count n) = well (decimal n)
 reply_text (replies.Refused told) = refused (refusal_lines told)
 
--- of what is no request: the word `bad`, and a line of 12 bytes
+-- the reply to a line that is not a request: the word `bad`, and a line of 12 bytes
 abbrev pub bad_text : List ℕ
 bad_text = codes "bad 12\nbad request\n"
 
 -- ---- files
 
--- of an import of this status: what it said; or what it told, where it is refused
+-- the reply to an import of this status: its output, or its messages if it is refused
 abbrev pub import_text : ℕ → List ℕ → List ℕ → List ℕ
 import_text status said told = if status == 0 then well said else refused told
 
@@ -44,7 +44,7 @@ import_text status said told = if status == 0 then well said else refused told
 abbrev pub is_whole : Result Bool Fault → Bool → Bool
 is_whole ended is_out = is_ok ended && is_out
 
--- of an export that ended so, into a file that then took all, or not
+-- the reply to an export that ended so, into a file that took all that was written, or not
 abbrev pub export_text : Result Bool Fault → Bool → List ℕ
 export_text (Err (fault.Store told)) is_out = refused (refusal_lines told)
 export_text (Err (fault.Tool OutOfMemory)) is_out = refused (codes "dagstore: out of memory\n")

@@ -1,4 +1,4 @@
--- What the lines of requests say.
+-- What the lines of requests mean.
 use Rattle.std.specs.Prelude.{◌≡◌, ◌≢◌, ◌⊎◌, ◌==◌, ◌<◌, ◌^◌, ℕ, List, [], ◌∷◌, ◌++◌, length, codes, All, Option, None, Some, IsUtf8}
 use Rattle.std.specs.List.{before_first, after_first}
 use Rattle.std.specs.Str.Parse.{IsNumeral, digits_value}
@@ -12,7 +12,7 @@ use Rattle.store_serving.specs.declared.asked.Request.TheVariants as requests
 use Rattle.store_serving.specs.declared.asked.Asked.{Asked}
 use Rattle.store_serving.specs.declared.asked.Asked.TheVariants as asks
 
--- the words
+-- the words that requests begin with
 abbrev pub word_text : Word → List ℕ
 word_text words.Get = codes "get"
 word_text words.Has = codes "has"
@@ -29,30 +29,30 @@ word_text words.Rollback = codes "rollback"
 word_text words.Import = codes "import"
 word_text words.Export = codes "export"
 
--- what stands before the first space of a text, and after it
+-- the parts of a text before and after its first space
 abbrev pub first_word : List ℕ → List ℕ
 first_word text = before_first (λ b. b == 0x20) text
 
 abbrev pub behind_word : List ℕ → List ℕ
 behind_word text = after_first (λ b. b == 0x20) text
 
--- the text is this number in decimal digits, which 64 bits hold
+-- the text is this number in decimal digits, and it fits 64 bits
 abbrev pub IsLength : List ℕ → ℕ → Type 0
 IsLength text n = IsNumeral 10 text × (digits_value 10 text < 2 ^ 64) × (n ≡ digits_value 10 text)
 
--- the text is the word of a codec, and this length after it
+-- the text is a codec's word, and this length after it
 abbrev pub IsSized : List ℕ → ℕ → ℕ → Type 0
 IsSized text codec n = NamesCodec (first_word text) codec × IsLength (behind_word text) n
 
--- the text is a CID, of which this is asked
+-- the text is a CID, and makes this request of it
 abbrev pub IsOfName : (CidParts → Request) → List ℕ → Asked → Type 0
 IsOfName request text asked = (name : CidParts) × IsTextOf text name × (asked ≡ asks.Do (request name))
 
--- the text is a codec and a length, of which this is asked
+-- the text is a codec and a length, and makes this request of them
 abbrev pub IsOfBlock : (ℕ → ℕ → Request) → List ℕ → Asked → Type 0
 IsOfBlock request text asked = (codec n : ℕ) × IsSized text codec n × (asked ≡ asks.Do (request codec n))
 
--- nothing stands there, and this is asked
+-- the text is empty, and makes this request
 abbrev pub IsAlone : Request → List ℕ → Asked → Type 0
 IsAlone request text asked = (text ≡ []) × (asked ≡ asks.Do request)
 
@@ -91,7 +91,7 @@ wanted request = 0
 abbrev pub IsLineOf : List ℕ → List ℕ → Type 0
 IsLineOf text line = (text ≡ line ++ 10 ∷ []) × All (λ b. b ≢ 10) line
 
--- the text is a line that asks for this, and the bytes of a block, if it is one of a block
+-- the text is a line that makes this request, and the bytes of the block, if it has one
 pub record IsRequest (text : List ℕ) (request : Request) (block : List ℕ) : Type 0 where
   pub line : List ℕ
   pub one_line : All (λ b. b ≢ 10) line

@@ -1,4 +1,4 @@
--- Requests that are read one after the other, and what came of each.
+-- Requests that are read one after the other, and the outcome of each.
 use Rattle.std.specs.Prelude.{◌≡◌, ◌≢◌, ◌⊎◌, ◌<◌, ℕ, List, [], ◌∷◌, ◌++◌, length, flat_map, All, Bool, true, false, Option, None, Some, IfSome, Result, Ok, Err, string_bytes}
 use Rattle.std.specs.Io.{StopsAt}
 use Rattle.std.specs.Io.KnownBytes.{Appends, Consumes, IsAtEnd}
@@ -20,7 +20,7 @@ use Rattle.store_serving.specs.declared.heard.Heard.TheVariants as heards
 
 -- ---- what is heard
 
--- if the input tells its bytes, none is left
+-- if the bytes of the input are known, none is left
 abbrev pub IsSpent : Option (List ℕ) → Option (List ℕ) → Type 0
 IsSpent before after = IfSome before (λ _. IsAtEnd after)
 
@@ -30,7 +30,7 @@ IsCut text = ((text ≢ []) × All (λ b. b ≢ 10) text)
     ⊎ ((line part : List ℕ) × (request : Request) × (text ≡ line ++ (10 ∷ part))
     × All (λ b. b ≢ 10) line × AsksFor line (asks.Do request) × (length part < wanted request))
 
--- to import the file at this path is asked for; to export one
+-- the line asks to import the file at this path; or to export one
 abbrev pub IsImport : List ℕ → Asked → Type 0
 IsImport path (asks.Import given) = given.now ≡ path
 IsImport path _ = ⊥
@@ -44,7 +44,7 @@ abbrev pub TakesLine : (Asked → Type 0) → Option (List ℕ) → Option (List
 TakesLine IsSo before after = (text line : List ℕ) × (asked : Asked) × IsLineOf text line
     × AsksFor line asked × IsSo asked × Consumes before after text
 
--- why no request was read, and what was
+-- why no request was read, and what was read
 abbrev pub Pauses : Pause → Option (List ℕ) → Option (List ℕ) → Type 0
 Pauses pauses.End before after = IsAtEnd before
 Pauses pauses.Cut before after = (text : List ℕ) × IsCut text × Consumes before after text
@@ -54,21 +54,21 @@ Pauses pauses.Bad before after = (text line : List ℕ) × IsLineOf text line
 Pauses (pauses.Import path) before after = TakesLine (IsImport (string_bytes path)) before after
 Pauses (pauses.Export path) before after = TakesLine (IsExport (string_bytes path)) before after
 
--- a whole request was read, and its block; or this is why none was
+-- a whole request was read, with its block; or this is why none was
 abbrev pub Hears : Heard → List ℕ → Option (List ℕ) → Option (List ℕ) → Type 0
 Hears (heards.Request request) block before after = (text : List ℕ) × IsRequest text request block
     × Consumes before after text
 Hears (heards.Pause pause) block before after = Pauses pause before after
 
--- ---- what comes of it
+-- ---- the outcome
 
--- a request, its block, and what was replied
+-- a request, its block, and the reply
 pub record Exchange : Type 0 where
   pub request : Request
   pub block : List ℕ
   pub reply : Reply
 
--- the answers, one after the other
+-- the texts of the replies, one after the other
 abbrev pub answers : List Exchange → List ℕ
 answers exchanges = flat_map (λ x. reply_text x.reply) exchanges
 
@@ -82,14 +82,14 @@ module _ {S : Type 0} (g : Ghosts S) where
     pub replies : Replies g x.request x.block old x.reply new
     pub leaves : Leaves g x.request x.block old new
 
-  -- each was, one after the other
+  -- each exchange took place, one after the other
   abbrev pub AreExchanged : List Exchange → Option (List ℕ) → S → Option (List ℕ) → S → Type 0
   AreExchanged [] before old after new = (after ≡ before) × (new ≡ old)
   AreExchanged (x ∷ more) before old after new = (left : Option (List ℕ)) × (now : S)
       × Exchanges x before old left now × AreExchanged more left now after new
 
-  -- Why it stops: there is no request; the input failed, or memory was wanting, and nothing was
-  -- done; or a request was replied to, and the answer is not out.
+  -- Why it stops: there is no request; or the input failed or memory ran out, and nothing was done;
+  -- or a request was replied to, and the reply is not all written.
   abbrev pub Stops : Result Pause ToolError → Option (List ℕ) → S → Option (List ℕ)
       → Option (List ℕ) → S → Option (List ℕ) → Type 0
   Stops (Ok pause) before old held after new holds =
@@ -100,8 +100,8 @@ module _ {S : Type 0} (g : Ghosts S) where
   Stops (Err Output) before old held after new holds = (x : Exchange)
       × Exchanges x before old after new × AppendsFront held holds (reply_text x.reply)
 
-  -- Requests were read, one after the other, and each was replied to, and the answers went out, in
-  -- this order; and then it stopped.
+  -- Requests were read, one after the other, each was replied to, and the replies were written in
+  -- this order; then it stopped.
   pub record Serves (ended : Result Pause ToolError) (before : Option (List ℕ)) (old : S)
       (held after : Option (List ℕ)) (new : S) (holds : Option (List ℕ)) : Type 0 where
     pub exchanges : List Exchange
@@ -112,7 +112,7 @@ module _ {S : Type 0} (g : Ghosts S) where
     pub answered : Appends held sent (answers exchanges)
     pub stops : Stops ended left now sent after new holds
 
-  -- a request was read, replied to, and the answer went out; or it stopped
+  -- a request was read and replied to, and the reply was written; or it stopped
   abbrev pub ServesOne : Result (Option Pause) ToolError → Option (List ℕ) → S → Option (List ℕ)
       → Option (List ℕ) → S → Option (List ℕ) → Type 0
   ServesOne (Ok None) before old held after new holds = (x : Exchange)
@@ -123,14 +123,14 @@ module _ {S : Type 0} (g : Ghosts S) where
 
 -- ---- its steps
 
--- the bytes up to a line feed, with it, were read, or all that there are
+-- the bytes up to and including a line feed were read, or all that there are
 pub record IsReadTo (line : List ℕ) (before after : Option (List ℕ)) : Type 0 where
   pub taken : Consumes before after line
   pub stops : StopsAt line 10
   pub none : line ≡ [] → IsAtEnd before
   pub last : ((front : List ℕ) → line ≢ front ++ 10 ∷ []) → IsSpent before after
 
--- so many bytes more were read; none only where none is left
+-- n more bytes were read; 0 only if none is left
 pub record IsPieceRead (n : ℕ) (old new : List ℕ) (before after : Option (List ℕ)) : Type 0 where
   pub bytes : List ℕ
   pub count : length bytes ≡ n
@@ -138,13 +138,13 @@ pub record IsPieceRead (n : ℕ) (old new : List ℕ) (before after : Option (Li
   pub taken : Consumes before after bytes
   pub last : n ≡ 0 → IsSpent before after
 
--- a block of so many bytes was read, or all that there are, which are fewer
+-- a block of n bytes was read; or all that there are, which are fewer
 abbrev pub IsBlockRead : Bool → ℕ → List ℕ → Option (List ℕ) → Option (List ℕ) → Type 0
 IsBlockRead true n block before after = (length block ≡ n) × Consumes before after block
 IsBlockRead false n block before after = (length block < n) × Consumes before after block
     × IsSpent before after
 
--- what came of a line that asks for this
+-- what was read after a line that asks for this
 abbrev pub HearsAsked : Asked → Heard → List ℕ → Option (List ℕ) → Option (List ℕ) → Type 0
 HearsAsked (asks.Do asked) (heards.Request request) block before after = (request ≡ asked)
     × (length block ≡ wanted request) × Consumes before after block

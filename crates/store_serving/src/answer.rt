@@ -16,7 +16,7 @@ use ipld_tree::Cid;
 use itoa::Buffer;
 use std::alloc::{AllocError, Global};
 
-/// A line of a word and of how many bytes follow, and these bytes.
+/// Returns a line with the word and the length of the body in bytes, and then the body.
 pub fn framed(alloc: Global, word: &[u8], body: &[u8]) -> Result<Vec<u8>, AllocError>
     ensures { IfOk result (λ v. v.items ≡ framed word.now body.now) }
 {
@@ -26,7 +26,7 @@ pub fn framed(alloc: Global, word: &[u8], body: &[u8]) -> Result<Vec<u8>, AllocE
     Ok(text)
 }
 
-/// The lines of a refusal.
+/// Returns the lines of a refusal.
 fn refusal_lines(alloc: Global, refusal: &StoreRefusal) -> Result<Vec<u8>, ToolError>
     ensures ok { IfOk result (λ v. v.items ≡ refusal_lines refusal.now) }
     ensures memory { IfErr result (λ e. e ≡ OutOfMemory) }
@@ -38,7 +38,7 @@ fn refusal_lines(alloc: Global, refusal: &StoreRefusal) -> Result<Vec<u8>, ToolE
     }
 }
 
-/// The text of a refusal.
+/// Returns the reply for a refusal.
 pub fn refused_text(alloc: Global, refusal: &StoreRefusal) -> Result<Vec<u8>, ToolError>
     ensures ok { IfOk result (λ v. v.items ≡ framed (codes "refused") (refusal_lines refusal.now)) }
     ensures memory { IfErr result (λ e. e ≡ OutOfMemory) }
@@ -47,7 +47,7 @@ pub fn refused_text(alloc: Global, refusal: &StoreRefusal) -> Result<Vec<u8>, To
     Ok(framed(alloc, b"refused", &lines)?)
 }
 
-/// The text of names.
+/// Returns the reply for a list of names.
 #[tactic(auto, using(dagstore_lines::proofs::Removing::plain_lines))]
 fn names_text(alloc: Global, names: &[Cid]) -> Result<Vec<u8>, AllocError>
     ensures { IfOk result (λ v. v.items ≡ framed (codes "ok") (flat_map cid_line names.now)) }
@@ -56,7 +56,7 @@ fn names_text(alloc: Global, names: &[Cid]) -> Result<Vec<u8>, AllocError>
     framed(alloc, b"ok", &lines)
 }
 
-/// The text of a count.
+/// Returns the reply for a count.
 fn count_text(alloc: Global, count: u64) -> Result<Vec<u8>, AllocError>
     ensures { IfOk result (λ v. v.items ≡ framed (codes "ok") (decimal count)) }
 {
@@ -64,7 +64,7 @@ fn count_text(alloc: Global, count: u64) -> Result<Vec<u8>, AllocError>
     framed(alloc, b"ok", digits.format(count).as_bytes())
 }
 
-/// The text of a reply. Want of memory is the one fault.
+/// Returns the text of a reply. The only error is out of memory.
 pub fn answer_text(alloc: Global, reply: &Reply) -> Result<Vec<u8>, ToolError>
     ensures ok { IfOk result (λ v. v.items ≡ reply_text reply.now) }
     ensures memory { IfErr result (λ e. e ≡ OutOfMemory) }

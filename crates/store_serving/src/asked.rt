@@ -12,32 +12,32 @@ use cid_text::cid_from_text;
 use dagstore_lines::codec_of;
 use ipld_tree::Cid;
 
-/// What is asked of a store.
+/// A request to a store.
 #[derive(Clone, Copy, Debug)]
 pub enum Request {
-    /// The block under the name.
+    /// Return the block under the name.
     Get(Cid),
-    /// Whether something is listed under the name.
+    /// Return whether something is listed under the name.
     Has(Cid),
-    /// To keep the block of this codec, of so many bytes, which follow, and to commit.
+    /// Store the block that follows, with this codec and length in bytes, and commit.
     Put(u64, u64),
-    /// The same, with what is committed next.
+    /// Store such a block as of the next commit.
     Add(u64, u64),
-    /// To take out what is listed under the name, with what is committed next.
+    /// Remove what is listed under the name, as of the next commit.
     Remove(Cid),
-    /// The first name after this one, or the first of all.
+    /// Return the first name after this one, or the first of all.
     Next(Option<Cid>),
-    /// How many names are listed.
+    /// Return how many names are listed.
     Count,
-    /// The roots, in their order.
+    /// Return the roots, in their order.
     Roots,
-    /// To make the name a root, with what is committed next.
+    /// Make the name a root, as of the next commit.
     AddRoot(Cid),
-    /// To take the name out of the roots, with what is committed next.
+    /// Remove the name from the roots, as of the next commit.
     DropRoot(Cid),
-    /// To commit what was asked for before.
+    /// Commit the changes that were requested before.
     Commit,
-    /// To undo it.
+    /// Undo them.
     Rollback,
 }
 
@@ -45,14 +45,14 @@ pub enum Request {
 #[derive(Clone, Copy, Debug)]
 pub enum Asked<'a> {
     Do(Request),
-    /// To keep the blocks of the file at the path.
+    /// Store the blocks of the CAR file at the path.
     Import(&'a str),
-    /// To make a file of all blocks at the path, where none is.
+    /// Write a CAR file of all blocks to a new file at the path.
     Export(&'a str),
 }
 
 impl Request {
-    /// How many bytes of a block follow the line.
+    /// Returns how many bytes of a block follow the line.
     pub fn wanted(&self) -> u64
         ensures { result ≡ wanted self.now }
     {
@@ -64,7 +64,7 @@ impl Request {
     }
 }
 
-/// A word, and what follows the space after it.
+/// Splits the text at its first space into a word and the rest.
 fn split_word(text: &str) -> (&str, &str)
     ensures first { result.0.now ≡ first_word text.now }
     ensures behind { result.1.now ≡ behind_word text.now }
@@ -75,7 +75,7 @@ fn split_word(text: &str) -> (&str, &str)
     }
 }
 
-/// The number that decimal digits write, of which there is at least one.
+/// Returns the number that one or more decimal digits write.
 fn length_of(digits: &str) -> Option<u64>
     ensures { MatchOption result ((n : ℕ) → ¬ IsLength digits.now n) (IsLength digits.now) }
 {
@@ -85,7 +85,7 @@ fn length_of(digits: &str) -> Option<u64>
     u64::from_str_radix(digits, 10).ok()
 }
 
-/// A codec, and a length after it.
+/// Returns a codec, and the length after it.
 fn sized(text: &str) -> Option<(u64, u64)>
     ensures { MatchOption result ((codec n : ℕ) → ¬ IsSized text.now codec n)
         (λ p. IsSized text.now p.0 p.1) }
@@ -100,14 +100,14 @@ fn sized(text: &str) -> Option<(u64, u64)>
     Some((codec, length))
 }
 
-/// The CID that the text is.
+/// Returns the CID that the text is.
 fn name_in(text: &str) -> Option<Cid>
     ensures { MatchOption result ((name : CidParts) → ¬ IsTextOf text.now name) (IsTextOf text.now) }
 {
     cid_from_text(text.as_bytes()).ok()
 }
 
-/// The name after which the next one is asked for, where one is given.
+/// Parses a request for the next name, after a name if one is given.
 fn next_in(rest: &str) -> Option<Asked<'_>>
     ensures { MatchOption result ((asked : Asked) → ¬ Means Word.Next rest.now asked)
         (Means Word.Next rest.now) }
@@ -119,7 +119,7 @@ fn next_in(rest: &str) -> Option<Asked<'_>>
     Some(Asked::Do(Request::Next(Some(name))))
 }
 
-/// What a word alone asks for.
+/// Returns the request if no text follows the word.
 fn alone(request: Request, rest: &str) -> Option<Asked<'_>>
     ensures { MatchOption result (rest.now ≢ [])
         (λ asked. (rest.now ≡ []) × (asked ≡ Asked.Do request)) }
@@ -131,7 +131,7 @@ fn alone(request: Request, rest: &str) -> Option<Asked<'_>>
     }
 }
 
-/// What the word asks for, with this after it.
+/// Parses what the word asks for, with this text after it.
 fn meant(word: Word, rest: &str) -> Option<Asked<'_>>
     ensures { MatchOption result ((asked : Asked) → ¬ Means word rest.now asked)
         (Means word rest.now) }
@@ -154,7 +154,7 @@ fn meant(word: Word, rest: &str) -> Option<Asked<'_>>
     }
 }
 
-/// The block that is to be put.
+/// Parses a request to put a block.
 fn put_in(rest: &str) -> Option<Asked<'_>>
     ensures { MatchOption result ((asked : Asked) → ¬ Means Word.Put rest.now asked)
         (Means Word.Put rest.now) }
@@ -165,7 +165,7 @@ fn put_in(rest: &str) -> Option<Asked<'_>>
     Some(Asked::Do(Request::Put(codec, length)))
 }
 
-/// The block that is to be added.
+/// Parses a request to add a block.
 fn add_in(rest: &str) -> Option<Asked<'_>>
     ensures { MatchOption result ((asked : Asked) → ¬ Means Word.Add rest.now asked)
         (Means Word.Add rest.now) }
@@ -176,7 +176,7 @@ fn add_in(rest: &str) -> Option<Asked<'_>>
     Some(Asked::Do(Request::Add(codec, length)))
 }
 
-/// What the line asks for.
+/// Parses what the line asks for.
 pub fn asked_of(line: &[u8]) -> Option<Asked<'_>>
     ensures { MatchOption result ((asked : Asked) → ¬ AsksFor line.now asked) (AsksFor line.now) }
 {

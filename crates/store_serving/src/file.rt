@@ -1,4 +1,4 @@
-//! Requests of files, which the caller opened.
+//! Requests about files, which the caller opened.
 
 ghost use Rattle.std.specs.Prelude.{◌≡◌, [], false, Bool, Result, Option, Some, List, ℕ, IfOk, IfErr};
 ghost use Rattle.std.specs.Io.KnownBytes.{Keeps};
@@ -23,7 +23,7 @@ use dagstore_lines::{Fault, export_meant, import_blocks};
 use std::alloc::{AllocError, Global};
 use std::io::{BufRead, Write};
 
-/// The text of the answer to an import of this status.
+/// Returns the reply to an import of this status.
 fn import_text(alloc: Global, status: u8, said: &[u8], told: &[u8]) -> Result<Vec<u8>, AllocError>
     ensures { IfOk result (λ v. v.items ≡ import_text status said.now told.now) }
 {
@@ -34,8 +34,8 @@ fn import_text(alloc: Global, status: u8, said: &[u8], told: &[u8]) -> Result<Ve
     }
 }
 
-/// Keeps the blocks and the roots of the file that the source has, all of them or none, and answers as
-/// `dagstore import`: with what that writes, or tells.
+/// Stores the blocks and the roots of the CAR file that the source has, all or none. The reply has
+/// the output or the messages of `dagstore import`.
 pub fn answer_import<S: Store, R: BufRead + Drop, W: Write>(
     alloc: Global,
     store: &mut BlockStore<S>,
@@ -55,7 +55,8 @@ pub fn answer_import<S: Store, R: BufRead + Drop, W: Write>(
     write_all(output, &text)
 }
 
-/// The text of the answer to an export that ended so, of a file that then took all, or not.
+/// Returns the reply to an export that ended so. `is_out` says whether the file took all that was
+/// written.
 fn export_text(
     alloc: Global,
     ended: &Result<bool, Fault>,
@@ -74,10 +75,11 @@ fn export_text(
     }
 }
 
-/// What is told of a file that takes no more.
+/// The message for a file that takes no more.
 const FILE_FULL: &[u8] = b"dagstore: the file takes no more\n";
 
-/// Answers to an export that ended so, of a file that then took all, or not. Whether it is whole.
+/// Writes the reply to an export that ended so. `is_out` says whether the file took all that was
+/// written. Returns whether the file is complete.
 fn write_exported<W: Write>(
     alloc: Global,
     ended: &Result<bool, Fault>,
@@ -92,7 +94,8 @@ fn write_exported<W: Write>(
     Ok(ended.is_ok() && is_out)
 }
 
-/// Writes the file of the roots that are stored and of all blocks, and answers whether it is whole.
+/// Writes the CAR file of the stored roots and of all blocks, and then a reply. Returns whether the
+/// file is complete.
 pub fn answer_export<S: Store, F: Write, W: Write>(
     alloc: Global,
     store: &mut BlockStore<S>,
@@ -111,7 +114,7 @@ pub fn answer_export<S: Store, F: Write, W: Write>(
     write_exported(alloc, &ended, is_out, output)
 }
 
-/// Answers that the file is not opened.
+/// Writes the reply that the file is not opened.
 pub fn refuse_file<W: Write>(alloc: Global, told: &[u8], output: &mut W) -> Result<(), ToolError>
     ensures { SaysText (refused told.now) (W.contents output.old) result (W.contents output.new) }
 {
@@ -119,7 +122,8 @@ pub fn refuse_file<W: Write>(alloc: Global, told: &[u8], output: &mut W) -> Resu
     write_all(output, &text)
 }
 
-/// Answers that a request is none. A fault in telling it is not told.
+/// Writes the reply to a line that is not a request, and returns the status. If that fails, it is
+/// ignored.
 pub fn answer_bad<W: Write>(output: &mut W) -> u8
     ensures status { result ≡ 2 }
     ensures told { AppendsFront (W.contents output.old) (W.contents output.new) bad_text }

@@ -13,7 +13,7 @@ use dagcbor_store::{BlockStore, Store};
 use dagstore_lines::name_as;
 use ipld_tree::Cid;
 
-/// The block under the name.
+/// Reads the block under the name.
 fn reply_get<S: Store>(store: &mut BlockStore<S>, name: &Cid) -> Reply
     ensures replies { RepliesGet S.Store name.now store.old result store.new }
     ensures quiet { Quiet S.Store store.old store.new }
@@ -25,7 +25,7 @@ fn reply_get<S: Store>(store: &mut BlockStore<S>, name: &Cid) -> Reply
     }
 }
 
-/// Whether something is listed under the name.
+/// Looks up whether something is listed under the name.
 fn reply_has<S: Store>(store: &mut BlockStore<S>, name: &Cid) -> Reply
     ensures replies { RepliesHas S.Store name.now store.old result store.new }
     ensures quiet { Quiet S.Store store.old store.new }
@@ -37,7 +37,7 @@ fn reply_has<S: Store>(store: &mut BlockStore<S>, name: &Cid) -> Reply
     }
 }
 
-/// The first name after the last one.
+/// Looks up the first name after the last one.
 fn reply_next<S: Store>(store: &mut BlockStore<S>, last: Option<Cid>) -> Reply
     ensures replies { RepliesNext S.Store last store.old result store.new }
     ensures quiet { Quiet S.Store store.old store.new }
@@ -49,7 +49,7 @@ fn reply_next<S: Store>(store: &mut BlockStore<S>, last: Option<Cid>) -> Reply
     }
 }
 
-/// How many names are listed.
+/// Counts the names that are listed.
 fn reply_count<S: Store>(store: &mut BlockStore<S>) -> Reply
     ensures replies { RepliesCount S.Store store.old result store.new }
     ensures quiet { Quiet S.Store store.old store.new }
@@ -60,7 +60,7 @@ fn reply_count<S: Store>(store: &mut BlockStore<S>) -> Reply
     }
 }
 
-/// The roots.
+/// Lists the roots.
 fn reply_roots<S: Store>(store: &mut BlockStore<S>) -> Reply
     ensures replies { RepliesRoots S.Store store.old result store.new }
     ensures quiet { Quiet S.Store store.old store.new }
@@ -71,7 +71,7 @@ fn reply_roots<S: Store>(store: &mut BlockStore<S>) -> Reply
     }
 }
 
-/// The name under which the block is kept, all of which is committed.
+/// Stores the block, commits all, and replies with the block's name.
 fn reply_put<S: Store>(store: &mut BlockStore<S>, codec: u64, block: &[u8]) -> Reply
     ensures replies { RepliesPut S.Store codec block.now store.old result store.new }
     ensures kept { IsKeptBy S.Store store.old store.new }
@@ -86,7 +86,7 @@ fn reply_put<S: Store>(store: &mut BlockStore<S>, codec: u64, block: &[u8]) -> R
     }
 }
 
-/// The name under which the block is kept with what is committed next.
+/// Stores the block as of the next commit, and replies with its name.
 fn reply_add<S: Store>(store: &mut BlockStore<S>, codec: u64, block: &[u8]) -> Reply
     ensures replies { RepliesAdd S.Store codec block.now store.old result store.new }
     ensures quiet { Quiet S.Store store.old store.new }
@@ -98,7 +98,7 @@ fn reply_add<S: Store>(store: &mut BlockStore<S>, codec: u64, block: &[u8]) -> R
     }
 }
 
-/// What was listed under the name is taken out, if something was.
+/// Removes what is listed under the name, if anything is.
 fn reply_remove<S: Store>(store: &mut BlockStore<S>, name: &Cid) -> Reply
     ensures replies { RepliesRemove S.Store name.now store.old result store.new }
     ensures quiet { Quiet S.Store store.old store.new }
@@ -110,7 +110,7 @@ fn reply_remove<S: Store>(store: &mut BlockStore<S>, name: &Cid) -> Reply
     }
 }
 
-/// The name is made a root.
+/// Makes the name a root.
 fn reply_add_root<S: Store>(store: &mut BlockStore<S>, name: &Cid) -> Reply
     ensures replies { RepliesAddRoot S.Store name.now store.old result store.new }
     ensures quiet { Quiet S.Store store.old store.new }
@@ -121,7 +121,7 @@ fn reply_add_root<S: Store>(store: &mut BlockStore<S>, name: &Cid) -> Reply
     }
 }
 
-/// The name is taken out of the roots, if it is one.
+/// Removes the name from the roots, if it is one.
 fn reply_drop_root<S: Store>(store: &mut BlockStore<S>, name: &Cid) -> Reply
     ensures replies { RepliesDropRoot S.Store name.now store.old result store.new }
     ensures quiet { Quiet S.Store store.old store.new }
@@ -133,7 +133,7 @@ fn reply_drop_root<S: Store>(store: &mut BlockStore<S>, name: &Cid) -> Reply
     }
 }
 
-/// What waited for it is committed.
+/// Commits what waited for a commit.
 fn reply_commit<S: Store>(store: &mut BlockStore<S>) -> Reply
     ensures replies { RepliesCommit S.Store store.old result store.new }
     ensures kept { IsKeptBy S.Store store.old store.new }
@@ -146,7 +146,7 @@ fn reply_commit<S: Store>(store: &mut BlockStore<S>) -> Reply
     }
 }
 
-/// What waited for a commit is undone.
+/// Undoes what waited for a commit.
 fn reply_rollback<S: Store>(store: &mut BlockStore<S>) -> Reply
     ensures replies { RepliesRollback S.Store store.old result store.new }
     ensures quiet { Quiet S.Store store.old store.new }
@@ -155,7 +155,7 @@ fn reply_rollback<S: Store>(store: &mut BlockStore<S>) -> Reply
     Reply::Done
 }
 
-/// What the store replies to the request, of which this is the block.
+/// Returns the store's reply to the request. `block` is the block of the request, if it has one.
 pub fn reply_to<S: Store>(store: &mut BlockStore<S>, request: &Request, block: &[u8]) -> Reply
     ensures replies { Replies S.Store request.now block.now store.old result store.new }
     ensures leaves { Leaves S.Store request.now block.now store.old store.new }

@@ -1,4 +1,4 @@
-//! What is asked of the store, as it comes in.
+//! Requests to the store, as they come in.
 
 ghost use Rattle.std.specs.Prelude.{◌≡◌, ◌≢◌, ◌<◌, ◌≤◌, ◌++◌, ◌∷◌, [], ℕ, List, length, IfOk, IfErr, IfSome, OnOk, MatchOption};
 ghost use Rattle.std.specs.Io.KnownBytes.{Consumes, IsAtEnd};
@@ -10,29 +10,30 @@ use dagcbor_cli::ToolError;
 use std::alloc::{AllocError, Global};
 use std::io::{BufRead, Error, ErrorKind};
 
-/// Why no more is replied: the input ended, or it is for the caller to go on.
+/// Why no more requests are answered here: the input ended, a line is bad, or the caller must go
+/// on.
 #[derive(Debug, Drop)]
 pub enum Pause {
     /// The input ended after a whole request.
     End,
     /// The input ended within a request.
     Cut,
-    /// A line is no request.
+    /// A line is not a request.
     Bad,
-    /// The blocks of the file at the path are to be kept.
+    /// The caller must store the blocks of the CAR file at the path.
     Import(String),
-    /// A file of all blocks is to be made at the path.
+    /// The caller must write a CAR file of all blocks at the path.
     Export(String),
 }
 
-/// What was heard.
+/// What was read: a request, or why there is none.
 #[derive(Debug, Drop)]
 pub enum Heard {
     Request(Request),
     Pause(Pause),
 }
 
-/// Why an input was not read.
+/// Converts the error of an input that was not read.
 fn fault_of(error: &Error) -> ToolError
     ensures { result ≢ Output }
 {
@@ -42,7 +43,7 @@ fn fault_of(error: &Error) -> ToolError
     }
 }
 
-/// Reads to the first line feed, which is read too, or to the end.
+/// Reads up to and including the first line feed, or to the end.
 fn read_line<R: BufRead>(requests: &mut R, line: &mut Vec<u8>) -> Result<(), ToolError>
     ensures read { OnOk result (IsReadTo line.new.items (R.remaining requests.old)
         (R.remaining requests.new)) }
@@ -55,7 +56,7 @@ fn read_line<R: BufRead>(requests: &mut R, line: &mut Vec<u8>) -> Result<(), Too
     }
 }
 
-/// The line before the line feed at its end, if one is there.
+/// Returns the line before the line feed at its end, if there is one.
 fn without_feed(bytes: &[u8]) -> Option<&[u8]>
     ensures { MatchOption result ((line : List ℕ) → bytes.now ≢ line ++ 10 ∷ [])
         (λ line. bytes.now ≡ line.now ++ 10 ∷ []) }
@@ -66,7 +67,7 @@ fn without_feed(bytes: &[u8]) -> Option<&[u8]>
     }
 }
 
-/// Appends what the input shows next, so many bytes at most. None only at its end.
+/// Appends what the input shows next, at most `most` bytes. Returns how many; 0 only at the end.
 fn read_piece<R: BufRead>(
     requests: &mut R,
     most: usize,
@@ -90,7 +91,7 @@ fn read_piece<R: BufRead>(
     Ok(count)
 }
 
-/// Reads a block of so many bytes, piece by piece. Whether all of them were there.
+/// Reads a block of `length` bytes, piece by piece. Returns whether all of them were there.
 fn read_block<R: BufRead>(
     requests: &mut R,
     length: usize,
@@ -112,7 +113,7 @@ fn read_block<R: BufRead>(
     Ok(true)
 }
 
-/// Hears what the line asks for: of a request that is one of a block, the block is read too.
+/// Takes what the line asks for. If the request has a block, it reads the block too.
 fn hear_asked<R: BufRead>(
     alloc: Global,
     asked: &Asked<'_>,
@@ -143,7 +144,8 @@ fn hear_asked<R: BufRead>(
     }
 }
 
-/// Hears the next request, and its block, or why there is none. The line is room for what is read.
+/// Reads the next request, with its block, or why there is none. `line` is a buffer for what is
+/// read.
 pub fn hear<R: BufRead>(
     alloc: Global,
     requests: &mut R,

@@ -1,5 +1,5 @@
-//! A store that answers another program: requests on an input, one after the other, and an answer to
-//! each on an output.
+//! A store that serves another program: it reads requests from an input, one after the other, and
+//! writes a reply to each to an output.
 #![tactic(auto)]
 
 mod answer;

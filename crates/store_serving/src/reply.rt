@@ -6,9 +6,9 @@ use ipld_tree::Cid;
 /// What a store replies to a request.
 #[derive(Debug, Drop)]
 pub enum Reply {
-    /// It is done, or it is so.
+    /// It is done; or the answer is yes.
     Done,
-    /// There is none.
+    /// There is nothing to return; or the answer is no.
     Nothing,
     /// The bytes of a block.
     Block(Vec<u8>),

@@ -11,7 +11,7 @@ use dagcbor_store::{BlockStore, Store};
 use std::alloc::Global;
 use std::io::{BufRead, Write};
 
-/// Answers the next request. None where it is answered, or why no more is.
+/// Answers the next request. Returns `None` if it was answered, and else why no more is.
 fn serve_one<S: Store, R: BufRead, W: Write>(
     alloc: Global,
     store: &mut BlockStore<S>,
@@ -34,8 +34,9 @@ fn serve_one<S: Store, R: BufRead, W: Write>(
     }
 }
 
-/// Answers each request of the input, in order, until it ends, or a line is none, or one is of a file,
-/// which is for the caller to open. Each answer went out before the next request is read.
+/// Answers each request of the input, in order, until the input ends, a line is not a request, or a
+/// request needs a file, which the caller must open. Each reply is written before the next request
+/// is read.
 pub fn answer_requests<S: Store, R: BufRead, W: Write>(
     alloc: Global,
     store: &mut BlockStore<S>,

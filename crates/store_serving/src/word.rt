@@ -23,7 +23,7 @@ pub enum Word {
     Export,
 }
 
-/// The word that the text is.
+/// Returns the word that the text is.
 pub fn word_of(text: &str) -> Option<Word>
     ensures { MatchOption result ((word : Word) → text.now ≢ word_text word)
         (λ word. text.now ≡ word_text word) }

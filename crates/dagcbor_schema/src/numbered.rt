@@ -13,21 +13,21 @@ ghost use Rattle.dagcbor_schema.specs.ToldValues.{told_by_number};
 use serde_ipld_dagcbor::{DecodeError, Deserialize, Deserializer, Read, ReadResult};
 use std::alloc::Global;
 
-/// A value that a number tells.
+/// A value that is told by a number.
 pub trait Numbered: Sized + Drop {
     ghost View: { Type 0 };
 
     ghost meaning: { Self → View };
 
-    /// What a number tells. None where it tells nothing.
+    /// The value told by a number, or `None` if the number does not tell one.
     ghost told: { ℕ → Option View };
 
     fn of_number(number: u64) -> Option<Self>
         ensures { option_map meaning result ≡ told number };
 }
 
-/// Reads the number that tells the value. One that tells nothing is refused with `Msg("unknown
-/// variant")`.
+/// Reads the number and returns the value that it tells. A number that does not tell one is refused
+/// with `Msg("unknown variant")`.
 pub fn read_numbered<'de, T: Numbered, R: Read>(
     alloc: Global,
     de: &mut Deserializer<'de, R>,

@@ -14,9 +14,8 @@ use Rattle.cid_text.specs.Texts.{text_of_form}
 abbrev pub digit_16 : ℕ → ℕ
 digit_16 n = slice_index (codes "0123456789abcdef") n
 
--- A byte of a text (RFC 8259, section 7). After a backslash (92) comes a quote or a backslash; or
--- b, t, n, f or r for the control that it names; or u00 and two digits of base 16 for other
--- controls.
+-- A byte of a text (RFC 8259, section 7). After a backslash (92): a quote, a backslash, or the
+-- letter b, t, n, f or r for a control; for other controls, u00 and two digits of base 16.
 abbrev pub escaped : ℕ → List ℕ
 escaped b =
     if b == 34 then 92 ∷ 34 ∷ []

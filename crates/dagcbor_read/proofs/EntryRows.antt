@@ -98,7 +98,7 @@ module _ {S : Type 0} (shape : FieldShape S) where
 
   -- ---- the loop
 
-  -- some entries were read, which brought the state to s: those after them bring it further
+  -- some entries were read, which changed the state to s; those after them change it further
   pub record FieldsSoFar (start : S) (before : AccessorState) (old : DeState) (now_left : AccessorState) (s : S) (now : DeState) : Type 0 where
     pub sound : now.failed ≡ false
     pub is_map : now_left.is_map ≡ true

@@ -194,7 +194,7 @@ module _ {V : Type 0} (shape : Shape Tree V) where
   item_refused {E} {before} {now_left} {old} {now} borrows new e s some r =
       refusal_carried Anything Anything old.input now.input new e (same_reader s.same) (λ h. first_of (all_joins shape) some (s.has h)) (λ x. refl) (λ x. x) (λ b l g. tt) r
 
--- an item that lies where the input has its values joins those that do
+-- an item that is in memory where the input has its values joins others that are
 pub lies_pushed : {A X Y : Type 0} (lies : Bool → A → Type 0) {old now : Reading} (r : Result X Y) (xs ys : List A) (o : Option A) (x : A) → Stays old now → o ≡ Some x → IfSome o (lies now.lends) → false ≡ is_err r → ys ≡ cond (is_ok r) (xs ++ x ∷ []) xs
     → All (lies old.lends) xs → All (lies old.lends) ys
 lies_pushed lies {old} {now} (Ok v) xs ys o x same some l e is h =

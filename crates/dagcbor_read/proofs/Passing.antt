@@ -1,4 +1,4 @@
--- What is kept over a part: steps that were spent on it, and where memory may be wanting.
+-- What stays the same over a part: steps that were spent on it, and whether memory may run out.
 use Rattle.std.proofs.Common.{◌≡◌, ℕ, ◌+◌, Bool, true, false, ◌||◌, refl, sym, ap, ◌∙◌, arith}
 use Rattle.dagcbor_heads.specs.Reading.{Reading, Stays, with_steps}
 use Rattle.dagcbor_items.specs.Shapes.{unless_lent}

@@ -1,4 +1,4 @@
--- A variant of an enum that holds a value of a type of its own, where the type's meaning is not named.
+-- A variant of an enum that holds a value of its own type, without naming that type's meaning.
 use Rattle.std.proofs.Common.{◌≡◌, ℕ, true, false, Bool, List, None, option_map, Result, Err, IsErrAnd, MatchResult}
 use Rattle.std.specs.Prelude.{⊤, MatchBool}
 use Rattle.dagcbor_heads.specs.Refusals.{Refuses}

@@ -91,7 +91,7 @@ pub record IsInBytes (base : Base) (text bytes : List ℕ) : Type 0 where
   pub first : base ≡ bases.Bitcoin58 → BeginsAboveZero bytes
   pub is : text ≡ text_in base bytes
 
--- why a text does not spell a CID's bytes in this base; that it is too long comes before all else
+-- why a text does not spell a CID's bytes in this base; if it is too long, that is the cause
 abbrev pub IsBytesFault : Base → CidTextError → List ℕ → Type 0
 IsBytesFault base faults.TooLong text = 172 < length text
 IsBytesFault base (faults.InvalidCid f) text = (length text ≤ 172)

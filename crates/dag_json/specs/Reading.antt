@@ -1,4 +1,5 @@
--- What data a text of DAG-JSON means, or why it means none (DAG-JSON specification, over RFC 8259).
+-- The data that a text of DAG-JSON means, or why it has none (DAG-JSON specification, over RFC
+-- 8259).
 use Rattle.std.specs.Prelude.{◌≡◌, ◌⊎◌, ℕ, suc, zero, ℤ, pos, negsuc, ◌^◌, ◌==◌, ◌≤◌, ⊤, nat_lt, nat_le, Bool, true, false, ◌&&◌, ◌||◌, List, [], ◌∷◌, codes, IsUtf8, if◌then◌else◌, Option, Some, None, Result, Ok, Err, MatchResult, MatchBool, bytes_eq}
 use Rattle.std.specs.Char.{is_ascii_digit}
 use Rattle.std.specs.Str.Parse.{signed_digits_value}
@@ -19,7 +20,7 @@ use Rattle.cid_text.specs.declared.error.CidTextError.{CidTextError}
 use Rattle.dag_json.specs.declared.error.DagJsonError.{DagJsonError}
 use Rattle.dag_json.specs.declared.error.DagJsonError.TheVariants.{NoText, NoJson, TrailingData, TooDeep, Float, OutOfRange, RepeatedKey, ReservedKey, NoCid, NoBase64}
 
--- what is read, or why nothing is
+-- what is read, or why nothing is read
 abbrev pub Read : Type 0 → Type 0
 Read A = Result A DagJsonError
 

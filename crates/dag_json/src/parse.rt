@@ -144,8 +144,8 @@ fn data_from_text(alloc: Global, text: &str) -> Result<Ipld, Refusal>
     whole_data(alloc, text, &value)
 }
 
-/// Reads the data that the text spells in DAG-JSON. The contract tells the offset of a refusal only
-/// for a text that is not UTF-8: it is that of the first byte that is not.
+/// Reads the data that the text spells in DAG-JSON. The contract gives the offset of a refusal only
+/// for a text that is not UTF-8: that of the first invalid byte.
 pub fn data_from_json(alloc: Global, text: &[u8]) -> Result<Ipld, Refusal>
     ensures data { IfOk result (λ v. ReadsJson text.now (Ok (tree_of v))) }
     ensures refused { IfErr result (λ e. e.cause ≢ DagJsonError.OutOfMemory

@@ -55,12 +55,12 @@ all_of shape = record {
   memory = takes_some;
 }
 
--- the view of an empty row
+-- the view of a row that must be empty
 abbrev pub view_none : Items → Option (Unit {0})
 view_none no_items = Some tt
 view_none (item t ts) = None
 
--- the empty row
+-- a row that must be empty
 abbrev pub no_more : Shape Items (Unit {0})
 no_more = record { view = view_none; need = λ ts. 0; wants_loan = false; memory = takes_none }
 
@@ -143,7 +143,7 @@ pub record FieldShape (S : Type 0) : Type 0 where
   pub need : List ℕ → Tree → ℕ
   -- whether reading it wants a loan of the input
   pub wants_loan : Bool
-  -- whether reading a value may take memory, if the input lends or does not
+  -- whether reading a value may take memory, depending on whether the input lends
   pub memory : Bool → Bool
 
 -- The state after all entries of a map.

@@ -31,8 +31,8 @@ pub record EnumShape (V : Type 0) : Type 0 where
   pub need : List ℕ → Tree → ℕ
   -- whether reading it wants a loan of the input
   pub wants_loan : Bool
-  -- whether reading what a variant holds may take memory, if the input lends or does not; the
-  -- argument tells which
+  -- whether reading what a variant holds may take memory; the argument says whether the input lends
+  -- its bytes
   pub memory : Bool → Bool
 
 -- an enum: the text that names a variant, or a map of one entry from that name

@@ -27,7 +27,7 @@ abbrev pub field_own : {V : Type 0} → Shape Tree V → OwnShape (Option V)
 field_own shape [] own k = None
 field_own shape (name ∷ names) own k = if bytes_eq k name then Some (slot_of shape) else None
 
--- a view put beside something else
+-- the shape with its view mapped by f
 abbrev pub beside : {V W : Type 0} → (V → W) → Shape Tree V → Shape Tree W
 beside f shape = record {
   view = λ t. option_map f (shape.view t);
@@ -84,7 +84,7 @@ JoinsShape O Held held before behind own_shape = (S : Type 0)
 abbrev pub FinishBefore : (Type 0 → Type 0) → (Type 0 → Type 0) → Type 1
 FinishBefore Held Shows = (S W : Type 0) → (S → Option W) → Held S → Option (Shows W)
 
--- both are there
+-- the view of both, if both are there
 abbrev pub both_there : {V W X : Type 0} → (V → W → X) → Option V → Option W → Option X
 both_there shows own others = option_and_then (λ v. option_map (shows v) others) own
 
@@ -122,7 +122,7 @@ pub record RefusesOwn {O E : Type 0} (known : List ℕ → Type 0) (shape : O �
   pub is_own : shape own key ≡ Some of_key
   pub refused : RefusesRead (HasFront of_key mid.input) of_key mid.input e new.input
 
--- nothing was read, and the next key is not known to be one of the group's names
+-- nothing was read, and no slice has one of the group's names as its next key
 pub record PassesOn {O : Type 0} (shape : O → List ℕ → Option (Shape Tree O)) (own : O) (before : AccessorState) (old : DeState) (o : O) (after : AccessorState) (new : DeState) : Type 0 where
   pub kept : o ≡ own
   pub counted : after ≡ before

@@ -15,7 +15,7 @@ pub record ShowsKind (old : Reading) (kind : Kind) (new : Reading) : Type 0 wher
   pub kept : Keeps old new
   pub same : Stays old new
 
--- The kind of an item is told exactly if a byte is left, and nothing is taken.
+-- The kind of an item is returned exactly if a byte is left, and nothing is taken.
 abbrev pub PeeksKind : {E : Type 0} → Reading → Result Kind (DecodeError E) → Reading → Type 0
 PeeksKind old result new = MatchResult result
     (λ kind. ShowsKind old kind new)

@@ -33,7 +33,7 @@ abbrev pub ReadsStringOnce : {T E : Type 0} → ℕ
 ReadsStringOnce kind reads looks of old result new = ReadsOnce reads looks of old result new
     × IfErr result (LacksForString kind old.input.left)
 
--- What another type promises, where the value holds one of that type.
+-- What another type promises, for a value that holds one of that type.
 abbrev pub ReadsAs : {A T E : Type 0} → (A → T)
     → (DeState → Result T (DecodeError E) → DeState → Type 0) → DeState
     → Result A (DecodeError E) → DeState → Type 0
@@ -41,7 +41,7 @@ ReadsAs held answers old result new = MatchResult result
     (λ a. answers old (Ok (held a)) new)
     (λ e. answers old (Err e) new)
 
--- What another type promises, where the value holds one of that type; or that one was read, and
+-- What another type promises, for a value that holds one of that type; or that one was read, and
 -- memory to hold it ran out.
 abbrev pub ReadsInMemory : {A T E : Type 0} → (A → T)
     → (DeState → Result T (DecodeError E) → DeState → Type 0) → DeState

@@ -94,7 +94,7 @@ GivesNext meaning shape old item new = MatchBool old.done
     ((new.done ≡ is_last item)
     × Call (ReadsNext meaning shape) old.source (as_answer item) new.source)
 
--- A value that is given is in memory where its type says, if the input lends or does not.
+-- A value that is given is in memory where its type says, depending on whether the input lends.
 abbrev pub LiesNext : {T E : Type 0} → (Bool → T → Type 0) → StreamState
     → Option (Result T (DecodeError E)) → Type 0
 LiesNext lies old item = IfSome item (λ r. IfOk r (lies old.source.input.lends))

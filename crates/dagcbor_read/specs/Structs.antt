@@ -66,7 +66,7 @@ no_fields = record { fields = no_places; unread = tt; finish = Some }
 abbrev pub no_other_fields : StructShape (Unit {0}) (Unit {0})
 no_other_fields = record { fields = no_other_places; unread = tt; finish = Some }
 
--- the first field is there, and so are the others
+-- the view, if the first field is there and the others have a view
 abbrev pub finish_required : {V S W : Type 0} → (S → Option W) → Option V × S → Option (V × W)
 finish_required others s = option_and_then (λ v. option_map (λ w. (v, w)) (others s.1)) s.0
 

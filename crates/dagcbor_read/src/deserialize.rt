@@ -12,7 +12,7 @@ use std::alloc::Global;
 
 /// A type whose values can be read from a `Deserializer`, from an input that lives for `'de`.
 pub trait Deserialize<'de>: Shown + Sized + Drop {
-    /// Where a value that was read is in memory, if the input lends or does not. A type whose
+    /// Where a value that was read is in memory, depending on whether the input lends. A type whose
     /// values may be lent says here when they are.
     ghost lies: { Bool → Self → Type 0 } = { λ lends v. ⊤ };
 

@@ -124,7 +124,7 @@ impl<'de, R: Read> Deserializer<'de, R> {
         Ok(())
     }
 
-    /// Returns the kind of the next item, told by its first byte, which is not taken.
+    /// Returns the kind of the next item from its first byte, which is not taken.
     pub fn peek_kind(&mut self) -> ReadResult<Kind, R>
         ensures kind { Over R.reading (Call PeeksKind) self.old result self.new }
         ensures variant { IfErr result OfPeek }

@@ -1,4 +1,4 @@
--- A map of two entries: the first tells what the second holds.
+-- A map of two entries: a tag, and the content that it identifies.
 use Rattle.std.specs.Prelude.{◌≡◌, ◌||◌, ◌<◌, ℕ, ◌+◌, List, Option, None, if◌then◌else◌, Result, MatchResult, false, bytes_eq}
 use Rattle.dagcbor_heads.specs.Reading.{Reading}
 use Rattle.dagcbor_heads.specs.Refusals.{RefusesOrLacksMemoryUnlent}
@@ -15,7 +15,7 @@ use Rattle.dagcbor_read.specs.EnumViews.{EnumShape}
 
 -- ---- the view
 
--- The text at the tag's key tells what is at the content's key. There is no other entry.
+-- The text at the tag's key determines what is at the content's key. There is no other entry.
 abbrev pub view_envelope : {V : Type 0} → (tag content : List ℕ) → (List ℕ → Tree → Option V) → Tree
     → Option V
 view_envelope tag content part (mapping (entry k (text name) (entry l t no_entries))) =
@@ -28,7 +28,7 @@ abbrev pub need_envelope : (List ℕ → Tree → ℕ) → Tree → ℕ
 need_envelope need (mapping (entry k (text name) (entry l t no_entries))) = 1 + need name t
 need_envelope need _ = 1
 
--- a map of a tag and of the content that it tells, under these keys
+-- a map of a tag and of the content that it identifies, under these keys
 abbrev pub envelope_of : {V : Type 0} → (tag content : List ℕ) → EnumShape V → Shape Tree V
 envelope_of tag content shape = record {
   view = view_envelope tag content shape.part;

@@ -1,8 +1,8 @@
--- A field that has a meant value if it is left out. Data that holds that value itself is refused,
--- so that each value has one spelling.
+-- A field that has an implied value if it is left out. Data that holds that value itself is
+-- refused, so that each value has one spelling.
 use Rattle.std.specs.Prelude.{Bool, Option, None, Some, if◌then◌else◌}
 
--- what is made of the field's value, or of the meant value if it is left out; `eq` is the equality
+-- what is made from the field's value, or from the implied one if it is left out; `eq` is equality
 abbrev pub implied : {A B : Type 0} → (A → A → Bool) → A → Option A → (A → Option B) → Option B
 implied eq meant None made = made meant
 implied eq meant (Some x) made = if eq x meant then None else made x

@@ -1,4 +1,4 @@
--- A value whose type is told by the kind of its data.
+-- A value whose type depends on the kind of its data.
 use Rattle.std.specs.Prelude.{◌||◌, ℕ, Option, None, option_map}
 use Rattle.serde_ipld_dagcbor.specs.Tree.{Tree, null, boolean, integer, text, bytes, list, mapping, link}
 use Rattle.serde_ipld_dagcbor.specs.Shapes.{Shape, leaf}

@@ -29,7 +29,7 @@ Makes {A} meaning made message answers old result new = MatchResult result
     (λ e. answers old (Err e) new
     ⊎ (HasMessage message e × ((a : A) × (made a ≡ None) × answers old (Ok a) new)))
 
--- What another type promises, if this value is made of a value of that type.
+-- What another type promises, if this value is made from a value of that type.
 abbrev pub ReadsFrom : {A T E : Type 0} → (A → T)
     → (DeState → Result A (DecodeError E) → DeState → Type 0) → DeState
     → Result T (DecodeError E) → DeState → Type 0
@@ -37,9 +37,9 @@ ReadsFrom {A} make answers old result new = MatchResult result
     (λ v. (a : A) × (v ≡ make a) × answers old (Ok a) new)
     (λ e. answers old (Err e) new)
 
--- ---- a value told by its kind
+-- ---- a value whose type depends on its kind
 
--- the kind is told by one look
+-- the kind is read with one look
 abbrev pub PeeksOnce : {E : Type 0} → DeState → Result Kind (DecodeError E) → DeState → Type 0
 PeeksOnce = ReadsOnce PeeksKind (λ old result new. LooksOnce old new) OfPeek
 

@@ -1,4 +1,4 @@
-//! A union whose member is told by a tag that comes before the member's content.
+//! A union whose member is identified by a tag that comes before the member's content.
 
 ghost use Rattle.std.specs.Prelude.{◌≡◌, ◌<◌, true, false, IfErr, ⊤};
 ghost use Rattle.dagcbor_core.specs.declared.error.DecodeError.{DecodeError};
@@ -14,7 +14,7 @@ use serde_ipld_dagcbor::{Accessor, DecodeError, Deserializer, Read, ReadResult};
 use std::alloc::Global;
 use std::borrow::CowStr;
 
-/// A union whose members are told by their tags.
+/// A union whose members are identified by tags.
 pub trait Enveloped<'de>: Sized + Drop {
     ghost View: { Type 0 };
 

@@ -1,9 +1,9 @@
-//! Fields that have a meant value if they are left out.
+//! Fields that have an implied value if they are left out.
 
 ghost use Rattle.std.specs.Prelude.{◌≡◌};
 ghost use Rattle.dagcbor_schema.specs.Implied.{unless_implied};
 
-/// Returns what is written for a field: `None` if its value is the meant one.
+/// Returns what is written for a field: `None` if its value is the implied one.
 pub fn unless_meant<T: Copy + PartialEq>(value: &T, meant: T) -> Option<T>
     ensures { result ≡ unless_implied T.eq meant value.now }
 {

@@ -1,6 +1,6 @@
-//! The base of the types that `dagcbor-types` makes of an IPLD Schema: written tuples with any
-//! number of parts, written structs with any number of fields, and values told by a number, by
-//! their kind, or by a tag before them.
+//! The base of the types that `dagcbor-types` makes from an IPLD Schema: written tuples with any
+//! number of parts, written structs with any number of fields, and values identified by a number,
+//! by their kind, or by a tag before them.
 #![tactic(auto)]
 
 mod by_kind;

@@ -129,11 +129,11 @@ pub record BeginsStage (s : Stage) (old new : Sink) : Type 0 where
   pub spans : new.spans.items ≡ old.spans.items
   pub below : new.below.items ≡ old.below.items ++ old.top ∷ []
 
--- the events so far make a state, and it is represented
+-- the events so far make a state, and the writer represents it
 abbrev pub FollowsLog : Log → Sink → Type 0
 FollowsLog log sink = IsSomeAnd log (λ es. (s : State) × (steps es start ≡ Some s) × HoldsAll s sink)
 
--- the events so far make a state, and it is represented, unless a call was refused
+-- the same, unless a call was refused
 abbrev pub FollowsUnless : Bool → Log → Sink → Type 0
 FollowsUnless true log sink = ⊤
 FollowsUnless false log sink = FollowsLog log sink

@@ -361,7 +361,7 @@ impl Sink {
     }
 }
 
-// Calls whose name or text is made here.
+// Events whose name or text is built here first.
 impl Sink {
     pub(crate) fn char(&mut self, v: char) -> Result<(), Refusal>
         ensures moved { OnOk result (MovesTop (put (text (encode_utf8 v))) self.old self.new) }

@@ -30,7 +30,7 @@ pub trait Row<'de>: Sized + Drop {
     /// The view of the items.
     ghost shape: { Shape Items View };
 
-    /// Where the parts are in memory, if the input lends or does not.
+    /// Where the parts are in memory, depending on whether the input lends.
     ghost lies: { Bool → Self → Type 0 };
 
     /// How many items it takes if this many are left.

@@ -129,8 +129,8 @@ fn wide(alloc: Global, before: u8, after: u8) -> Result<Vec<u8>, Fail> {
     Ok(block)
 }
 
-/// Which fields were read is known only for the first 63 entries. After such a refusal, no other
-/// variant is tried.
+/// Which fields were read is known only for the first 63 entries. A field after these is refused,
+/// and no other variant is tried.
 #[test]
 fn fields_are_among_the_first_entries(rt: HostRuntime) -> Result<(), Fail> {
     let alloc = rt.alloc();

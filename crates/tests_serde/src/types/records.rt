@@ -16,7 +16,7 @@ pub struct Post {
     pub rest: Rest,
 }
 
-/// An enum whose variant is told by a field, among fields that are kept.
+/// An enum whose variant is identified by a field, among fields that are kept.
 #[derive(Drop, Serialize, Deserialize)]
 #[serde(tag = "$type")]
 pub enum Record {
@@ -56,7 +56,7 @@ pub struct Late {
     pub plain: Plain,
 }
 
-/// An enum that does not tell which entries it took, before the rest.
+/// An enum, and the rest. The enum does not tell which entries it took.
 #[derive(Drop, Serialize, Deserialize)]
 pub struct Beside {
     #[serde(flatten)]
@@ -65,8 +65,7 @@ pub struct Beside {
     pub rest: Rest,
 }
 
-/// A struct that flattens values of its own, and does not tell which entries it took, before the
-/// rest.
+/// A struct that flattens values of its own, and the rest. It does not tell which entries it took.
 #[derive(Drop, Serialize, Deserialize)]
 pub struct Around {
     #[serde(flatten)]

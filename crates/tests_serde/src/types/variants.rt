@@ -20,7 +20,7 @@ pub enum Side {
     Right,
 }
 
-/// An enum whose variant is told by a field beside its data.
+/// An enum whose variant is identified by a field beside its data.
 #[derive(Drop, Serialize, Deserialize)]
 #[serde(tag = "t", content = "c")]
 pub enum Adjacent {
@@ -29,7 +29,7 @@ pub enum Adjacent {
     Whole(Plain),
 }
 
-/// An enum whose variant is told by a field among its data: that of a struct, or a link.
+/// An enum whose variant is identified by a field among its data: that of a struct, or a link.
 #[derive(Drop, Serialize, Deserialize)]
 #[serde(tag = "type")]
 pub enum Tagged {

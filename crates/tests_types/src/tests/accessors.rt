@@ -89,7 +89,7 @@ fn an_enum_begins_with_a_text_or_with_a1(rt: HostRuntime) -> Result<(), Fail> {
     agree(name.as_str(), "B")?;
     let part: u8 = variant.newtype_variant(alloc, &mut de)?;
     is_told(alloc, &(part, de.end()), "(1, Ok(()))")?;
-    // The text is left, and is read as the name. This spends no step: there is none.
+    // The text is left, and is read as the name. No step is spent, because none is left.
     let mut de = Deserializer::from_slice_reader(SliceReader::with_depth(b"\x61A", 0));
     let (name, variant) = EnumAccessor::enum_(&mut de)?.variant(alloc, &mut de)?;
     agree(name.as_str(), "A")?;

@@ -70,8 +70,8 @@ const NUMBERS: &[(Type, &[u8], &str)] = &[
     (Type::I8, b"\x38\x80", r#"Err(CastOverflow { name: "i8" })"#),
 ];
 
-/// Numbers as byte strings after the tags 2 and 3: 1, -2, and those on both sides of what a head
-/// can hold.
+/// Numbers as byte strings after the tags 2 and 3: 1, -2, and the first beyond what a head can
+/// hold.
 const BIG_NUMBERS: &[(Type, &[u8], &str)] = &[
     (
         Type::U128,

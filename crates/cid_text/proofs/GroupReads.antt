@@ -11,7 +11,7 @@ use Rattle.cid_text.proofs.Alphabet.{no_other_symbol, alphabet_length}
 use Rattle.cid_text.proofs.Bits.{all_push, same_front, length-bits, join, same_number, bits_of_zero, length-all_bits}
 use Rattle.cid_text.proofs.Grouping.{grouping_length, grouping_of_text, text_of_grouping, no_bytes_of_others, one_more, pushed, parts}
 
--- the bytes that were read, and the bits that fill none yet, are the bits of the text
+-- the bytes that were read, and the bits that do not fill a byte yet, are the bits of the text
 pub record IsRead (w : ℕ) (symbols text bytes : List ℕ) (held rest : ℕ) : Type 0 where
   pub values : List ℕ
   pub below : AllBelowBase (2 ^ w) values

@@ -89,7 +89,7 @@ same_bytes_from_groups w symbols a b base ha hb e =
 
 -- ---- writing
 
--- the groups that are out, and the bits that fill none yet, are these bits
+-- the groups that were appended, and the bits that do not fill a group yet, are these bits
 pub record IsGrouped (w : ℕ) (symbols start out b : List ℕ) (held rest : ℕ) : Type 0 where
   pub values : List ℕ
   pub below : AllBelowBase (2 ^ w) values

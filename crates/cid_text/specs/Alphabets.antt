@@ -1,4 +1,4 @@
--- What makes symbols an alphabet, as tests that compute.
+-- What makes symbols an alphabet, as computable tests.
 use Rattle.std.specs.Prelude.{◌≡◌, ℕ, zero, suc, ◌<◌, ◌≤◌, ◌^◌, ◌==◌, Bool, true, not, ◌&&◌, List, length, slice_index, IsTrue}
 use Rattle.std.specs.List.{AllByRecursion}
 

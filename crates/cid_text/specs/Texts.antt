@@ -55,7 +55,7 @@ abbrev pub IsTold : List ℕ → CidParts → Type 0
 IsTold text c = ((c.version ≡ 0) × (text ≡ text_in_58 (cid_bytes c)))
     ⊎ ((c.version ≡ 1) × ((base : Base) × (text ≡ prefix_of base ∷ text_in base (cid_bytes c))))
 
--- the text is one of this CID
+-- the text is a text of this CID
 pub record IsTextOf (text : List ℕ) (c : CidParts) : Type 0 where
   pub valid : AreCidParts c
   pub are_bytes : AreBytes (cid_bytes c)

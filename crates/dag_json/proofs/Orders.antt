@@ -43,7 +43,7 @@ cases : (b : Bool) → (b ≡ true) ⊎ (b ≡ false)
 cases true = inl refl
 cases false = inr refl
 
--- the first of two goes in before the other, whichever goes in first
+-- two entries put in either order give the same result
 put_both : (p q : Member) (ms : List Member) → before p.0 q.0 ≡ true → before q.0 p.0 ≡ false → put_member p (put_member q ms) ≡ put_member q (put_member p ms)
 put_both p q [] h g = put_here p q [] h ∙ sym (put_later q p [] g)
 put_both p q (m ∷ ms) h g = by (cases (before q.0 m.0)) (cases (before p.0 m.0)) (put_both p q ms h g)

@@ -55,7 +55,7 @@ begins_unlent e r = record {
 }
 
 module _ {T E : Type 0} (answers : DeState → Result T (DecodeError E) → DeState → Type 0) (left : Option (List ℕ)) (steps : ℕ) (lends : Bool) where
-  -- the refusal that `?` hands on
+  -- the refusal that `?` passes on
   pub hands_refusal : (start now : DeState) (r : Result T (DecodeError E)) (e : DecodeError E) → IsErrAnd r (λ y. y ≡ e) → IsStart left steps lends start → answers start (Err e) now → HandsWholeOn answers left steps lends r
   hands_refusal start now (Ok v) e h is a = absurd h
   hands_refusal start now (Err y) e h is a = (start, now, is, inl (subst (λ x. answers start (Err x) now) (sym h) a))

@@ -147,7 +147,7 @@ module _ {V W U : Type 0} {shape : Shape Tree V} {others : Shape Items W} {f : V
 -- ---- items of one type
 
 module _ {V : Type 0} (shape : Shape Tree V) where
-  -- some items were read, which show vs: those after them show the others
+  -- some items, with the views vs, were read; those after them have the other views
   pub record ReadSoFar (before : AccessorState) (old : DeState) (now_left : AccessorState) (vs : List V) (now : DeState) : Type 0 where
     pub sound : now.failed ≡ false
     pub is : now_left ≡ record before { left = now_left.left }
@@ -172,7 +172,7 @@ module _ {V : Type 0} (shape : Shape Tree V) where
             (s.takes (count + 1) (v ∷ xs) end (row_taken (all_joins shape) a t));
       }
 
-  -- none of those that are left
+  -- no items are taken from those left
   pub no_more_items : (r : Reading) → TakesRow (all_of shape) 0 r [] r
   no_more_items r = record { taken = λ b l. (no_items, b, refl, record { well_formed = tt; spellable = tt; is = refl }, refl, omega arith, l); same = stays r }
 

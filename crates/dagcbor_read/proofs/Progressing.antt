@@ -40,7 +40,7 @@ pub call_of : {T E : Type 0} (reads : Reading → Result T (DecodeError E) → R
     → (new.failed ≡ is_err r) × reads old.input r new.input → Call reads old r new
 call_of reads old new r sound h = by_false old.failed _ _ sound h
 
--- the error that `?` hands on
+-- the error that `?` passes on
 pub call_refused : {T E : Type 0} (reads : Reading → Result T (DecodeError E) → Reading → Type 0) (old new : DeState) (r : Result T (DecodeError E)) (e : DecodeError E) → IsErrAnd r (λ y. y ≡ e)
     → Call reads old (Err e) new → Call reads old r new
 call_refused reads old new (Ok v) e h q = absurd h
@@ -70,7 +70,7 @@ pub begun_and_read : {T E : Type 0} (reads : Reading → Result T (DecodeError E
 begun_and_read reads old mid v now b r =
     call_of reads old _ (Ok v) b.0 (refl, subst (λ (p : DeState). reads p.input (Ok v) now) b.1 r)
 
--- the error that `?` hands on
+-- the error that `?` passes on
 pub begun_and_refused : {T E : Type 0} (reads : Reading → Result T (DecodeError E) → Reading → Type 0)
     (old mid : DeState) (r : Result T (DecodeError E)) (e : DecodeError E) (now : Reading)
     → Begun old mid → IsErrAnd r (λ y. y ≡ e) → reads mid.input (Err e) now

@@ -17,7 +17,7 @@ use Rattle.dagcbor_read.specs.Values.{ReadsValue}
 use Rattle.dagcbor_read.specs.Whole.{IsWhole, HoldsNoValue, IsFirst, TakesFirst, BeginsWithNoValue, IsReadExcuse, OfWhole, IsForBehind, LacksMemoryIf}
 use Rattle.dagcbor_items.specs.Shapes.{Shape}
 
--- what holds of a refusal that `?` hands on
+-- what holds of a refusal that `?` passes on
 pub on_refusal : {T E : Type 0} (Q : DecodeError E → Type 0) (r : Result T (DecodeError E)) (e : DecodeError E) → IsErrAnd r (λ y. y ≡ e) → Q e → IfErr r Q
 on_refusal Q (Ok v) e h q = tt
 on_refusal Q (Err y) e h q = subst Q (sym h) q
@@ -51,7 +51,7 @@ follows : {T E : Type 0} (P Q : DecodeError E → Type 0) → ((e : DecodeError 
 follows P Q f (Ok v) h = tt
 follows P Q f (Err e) h = f e h
 
--- a slice has no source, which might fault
+-- a slice has no source that might fault
 pub slice_excused : {P : Type 0} (e : DecodeError Infallible) → IsReadExcuse e ⊎ P → (e ≡ OutOfMemory) ⊎ P
 slice_excused (Read x) r = elim x [ ]
 slice_excused OutOfMemory r = inl refl

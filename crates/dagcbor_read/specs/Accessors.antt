@@ -150,7 +150,7 @@ after_value (Err e) c = c
 
 -- ---- ending
 
--- items are unread: how many were read, and how many were announced
+-- the refusal says that items are unread: how many were read, and how many were announced
 abbrev pub LeavesUnread : {E : Type 0} → AccessorState → DecodeError E → Type 0
 LeavesUnread c (LengthMismatch name expect value) = (name ≡ c.name)
     × (expect + c.left ≡ c.announced) × (value ≡ c.announced)

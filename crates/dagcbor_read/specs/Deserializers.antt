@@ -10,7 +10,7 @@ use Rattle.dagcbor_read.specs.declared.deserializer.Deserializer.{Deserializer}
 
 -- a Deserializer
 pub record DeState : Type 0 where
-  -- what it reads from
+  -- its reader
   pub input : Reading
   -- whether a call was refused
   pub failed : Bool

@@ -16,7 +16,7 @@ view_enum unit part (text s) = unit s
 view_enum unit part (mapping (entry k t no_entries)) = part k t
 view_enum unit part _ = None
 
--- a step for the enum, and what the variant holds
+-- a step for the enum, and the need of what the variant holds
 abbrev pub need_enum : (List ℕ → Tree → ℕ) → Tree → ℕ
 need_enum need (mapping (entry k t no_entries)) = 1 + need k t
 need_enum need _ = 1
@@ -44,7 +44,7 @@ enum_of shape = record {
   memory = λ lends. unless_lent lends || shape.memory lends;
 }
 
--- what the variant of this name holds
+-- the shape of what the variant of this name holds
 abbrev pub part_of : {V : Type 0} → EnumShape V → List ℕ → Shape Tree V
 part_of shape k = record { view = shape.part k; need = shape.need k; wants_loan = shape.wants_loan; memory = shape.memory }
 

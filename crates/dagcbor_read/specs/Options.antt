@@ -46,7 +46,7 @@ EntersOption old result new = MatchResult result
     (λ is_null. MatchBool is_null (Takes old (0xf6 ∷ []) new) (EntersSome old new))
     (λ e. RefusesToEnter old e new)
 
--- the part after the step was refused, as its law says
+-- a step was spent, and then the part was refused as its law says
 abbrev pub RefusesPart : {V E : Type 0} → Shape Tree V → Reading → DecodeError E → Reading → Type 0
 RefusesPart shape old e new = (mid : Reading) × EntersSome old mid
     × RefusesRead (HasFront shape mid) shape mid e new

@@ -41,7 +41,7 @@ StreamsAreUnique {V} shape = (steps : ℕ) (b : List ℕ) (items others : List (
 
 -- what contracts see of a stream
 pub record StreamState : Type 0 where
-  -- what it reads from
+  -- its reader
   pub source : DeState
   -- whether an error, or the end, was met
   pub done : Bool
@@ -52,7 +52,7 @@ stream_state reading s = record { source = de_state reading s.de; done = s.done 
 
 -- ---- what one call does
 
--- known bytes are left
+-- if the bytes left are known, there are some
 abbrev pub SomeLeft : Reading → Type 0
 SomeLeft r = (b : List ℕ) → r.left ≡ Some b → 0 < length b
 

@@ -701,7 +701,7 @@ fn enter<R: Read>(name: &str, reader: &mut R, major: u8) -> ReadResult<u64, R>
     Ok(count)
 }
 
-/// Takes a null, if there is one. Else spends a step. Answers whether there was.
+/// Takes a null and returns true, or spends a step and returns false if the value is not null.
 fn enter_option<R: Read>(reader: &mut R) -> ReadResult<bool, R>
     ensures entered { EntersOption (R.reading reader.old) result (R.reading reader.new) }
     ensures looked { LooksAtFirst (λ is_null. is_null) (R.reading reader.old) result

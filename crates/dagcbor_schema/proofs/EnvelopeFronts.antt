@@ -33,7 +33,7 @@ use Rattle.dagcbor_schema.specs.Envelopes.{view_envelope, need_envelope, envelop
 
 -- ---- a key that is known beforehand
 
--- none was left, or it was another
+-- no key was left, or it was another key
 pub key_refused_by_name : {E : Type 0} (L B : Type 0) (name : List ℕ) (before : AccessorState) (old new : Reading) (message : Name) (e : DecodeError E) → e ≡ Msg message → new.faults ≡ old.faults → (HasNamedKey name before old → ⊥)
     → Refuses (record { could = HasNamedKey name before old; lacks = L; borrows = B; stands = Anything }) old e new
 key_refused_by_name {E} L B name before old new message e is same never = subst (λ x. Refuses {E = E} (record { could = HasNamedKey name before old; lacks = L; borrows = B; stands = Anything }) old x new) (sym is) (same, never, λ b l. tt)
@@ -418,7 +418,7 @@ module _ {V W : Type 0} (shape : EnumShape V) (f : W → V) (own : Shape Tree W)
       let takes = takes_as f own (part_of shape name) same much r.2 in
       (r.1, subst (λ x. TakesFront (part_of shape x) old.input (f shown) new.input) (sym is) takes)
 
-  -- which `?` hands on
+  -- which `?` passes on
   pub content_handed_on : {U : Type 0} (P : U → Type 0) (borrows : Type 0) (old new : DeState) {k : List ℕ} (name : List ℕ) (r : DecodeError E) (result : Result U (DecodeError E)) → IsErrAnd result (λ y. y ≡ r) → k ≡ name
       → ((t : Tree) → shape.part name t ≡ option_map f (own.view t)) → ((t : Tree) → shape.need name t ≡ own.need t) → (own.wants_loan ≡ true → borrows) → ((lends : Bool) → own.memory lends ≡ true → shape.memory lends ≡ true) → old.failed ≡ false
       → Call {T = T} (λ old r new. MatchResult r (λ v. ⊤) (λ e. RefusesRead (HasFront own old) own old e new)) old (Err r) new

@@ -17,7 +17,7 @@ use Rattle.dagcbor_schema.specs.declared.by_kind.ByKind.{ByKind}
 use Rattle.dagcbor_schema.specs.SchemaAnswers.{PeeksOnce, AnswersOfKind, AnswersByKind, RefusesNamedKey, RefusesContent, RefusesTagged, RefusesTag, RefusesEnvelope}
 use Rattle.dagcbor_schema.proofs.EnvelopeFronts.{AtFirstKey, AtTold, AtSecondKey, AtHeld}
 
--- the refusal that `?` hands on
+-- the refusal that `?` passes on
 pub told_as : {T E : Type 0} (Q : DecodeError E → Type 0) (r : Result T (DecodeError E)) (e : DecodeError E) → IsErrAnd r (λ y. y ≡ e) → Q e → IsErrAnd r Q
 told_as Q (Ok x) e h q = absurd h
 told_as Q (Err y) e h q = subst (λ x. Q x) (sym h) q

@@ -14,7 +14,7 @@ use Rattle.dagcbor_read.proofs.NamedVariants.{fields_refused}
 use Rattle.dagcbor_read.proofs.Progressing.{call_told}
 
 module _ {V W : Type 0} (shape : EnumShape V) (f : W → V) (own : Shape Tree W) (E T : Type 0) where
-  -- What it holds was refused, which `?` hands on.
+  -- What it holds was refused, which `?` passes on.
   pub held_handed_on : {U : Type 0} (P : U → Type 0) (borrows : Type 0) (e : EnumState) (old new : DeState) {k : List ℕ} (name : List ℕ) (r : DecodeError E) (result : Result U (DecodeError E)) → IsErrAnd result (λ y. y ≡ r)
       → k ≡ name → shape.unit name ≡ None → ((t : Tree) → shape.part name t ≡ option_map f (own.view t)) → ((t : Tree) → shape.need name t ≡ own.need t)
       → (own.wants_loan ≡ true → borrows) → ((lends : Bool) → own.memory lends ≡ true → shape.memory lends ≡ true) → old.failed ≡ false

@@ -75,7 +75,7 @@ ReadsKeyOnce last left old result new = Call (ReadsNextKey last left) old result
     × (0 < left → Looks 3 old.input result new.input) × IfErr result OfKey
     × IfErr result (LacksForString 3 old.input.left)
 
--- no key is left, or it is another
+-- no key is left, or the key is another one
 abbrev pub IsOtherKey : {E : Type 0} → List ℕ → Option (CowStr Global) → DecodeError E → Type 0
 IsOtherKey name None e = HasMessage (codes "missing field") e
 IsOtherKey name (Some key) e = HasMessage (codes "unknown field") e × (cow_str_bytes key ≢ name)

@@ -1,4 +1,4 @@
--- What is open, by what it wants.
+-- What is open, by what it expects next.
 use Rattle.std.proofs.Common.{◌≡◌, ℕ, List, Some, None, sym, ◌∙◌, subst}
 use Rattle.ipld_tree.specs.Tree.{Tree}
 use Rattle.dagcbor_write.specs.Trees.{Pair}

@@ -20,7 +20,7 @@ abbrev pub IsRefused : Error Infallible → List ℕ → Type 0
 IsRefused (NoBlock e) b = IsRefusedFor b e
 IsRefused (Misfit m at) b = ((t : Tree) × IsBlock b t) × (at ≤ length b)
 
--- the type does not accept the block, as was found at a place in it
+-- the type does not accept the block, for a cause at a place in it
 abbrev pub IsMisfitIn : {E : Type 0} → List ℕ → Error E → Type 0
 IsMisfitIn b (NoBlock e) = ⊥
 IsMisfitIn b (Misfit m at) = at ≤ length b

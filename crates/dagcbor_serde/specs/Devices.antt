@@ -24,7 +24,7 @@ abbrev pub LacksDeviceMemoryIf : {E : Type 0} → Bool → DeviceError E → Typ
 LacksDeviceMemoryIf may (Device OutOfMemory) = IsTrue may
 LacksDeviceMemoryIf may _ = ⊤
 
--- known bytes grew by the block of the events
+-- the block of the events was appended to known bytes
 abbrev pub GrowsByBlock : Log → Option (List ℕ) → Option (List ℕ) → Type 0
 GrowsByBlock log old new = (b : List ℕ) × IsBlockOfLog log b × Appends old new b
 

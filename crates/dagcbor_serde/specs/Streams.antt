@@ -24,7 +24,7 @@ pub record StreamState : Type 0 where
 abbrev pub stream_state : {R T : Type 0} → (R → Reading) → Stream R T → StreamState
 stream_state reading s = record { reading = input_reading reading s.input; done = s.done }
 
--- known bytes are left
+-- if the bytes left are known, there are some
 abbrev pub SomeLeft : Reading → Type 0
 SomeLeft r = (b : List ℕ) → r.left ≡ Some b → 0 < length b
 
@@ -32,7 +32,7 @@ SomeLeft r = (b : List ℕ) → r.left ≡ Some b → 0 < length b
 abbrev pub CauseInSome : {E : Type 0} → ℕ → DecodeError E → List ℕ → Type 0
 CauseInSome steps e b = (0 < length b) × ItemCause steps e b
 
--- a block was taken, and the type does not accept it, as was found at a place in it
+-- a block was taken, and the type does not accept it, for a cause at a place in it
 abbrev pub TakesMisfit : Reading → ℕ → Reading → Type 0
 TakesMisfit old at new = (t : Tree) × TakesItem 0 old t new × (at ≤ length (spelling t))
 

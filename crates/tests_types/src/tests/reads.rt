@@ -261,7 +261,7 @@ fn each_is_read(alloc: Global, rows: &[(Type, &[u8], &str)]) -> Result<(), Fail>
     Ok(())
 }
 
-/// Numbers of each width, four by four.
+/// Numbers of each width, in groups of four.
 type Numbers = (
     (u8, u16, u32, u64),
     (usize, u128, i8, i16),

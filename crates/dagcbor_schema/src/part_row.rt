@@ -26,13 +26,13 @@ pub trait PartRow: Copy {
     /// The trees of the parts that are in the list.
     ghost trees: { Self → List (Option Tree) };
 
-    /// Whether writing a part may take memory if the writer takes none.
+    /// True if writing a part may take memory even with a writer that takes none.
     ghost takes_memory: { Bool };
 
     /// The messages with which parts that have no spelling may be refused.
     ghost message: { Self → List ℕ → Type 0 };
 
-    /// Whether the first part is absent although others come after it.
+    /// True if the first part is absent although others come after it.
     ghost gap: { Self → Bool };
 
     /// The most parts that there are.

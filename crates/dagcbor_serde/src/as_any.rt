@@ -107,7 +107,7 @@ fn fetch_map_or_link<F: Format>(
     Ok(Ipld::Map(fetch_entries(alloc, from, depth - 1, Taken::new(0))?))
 }
 
-/// Reads the entries of the map that no field took. After that all entries are taken.
+/// Reads the map's entries that no field took. After that, all entries count as taken.
 pub(crate) fn fetch_rest<F: Format>(
     alloc: Global,
     from: &mut Deserializer<'_, '_, F>,

@@ -1,5 +1,5 @@
-//! A block as a `Format` of serde: its heads, one by one. The block was validated before, so
-//! nothing is checked again that is not read.
+//! A block as a `Format` of serde: its heads, one by one. The block was validated before, so only
+//! what is read is looked at again.
 
 ghost use Rattle.std.specs.Prelude.{◌≤◌, length};
 
@@ -120,7 +120,7 @@ impl<'r> Block<'r> {
         }
     }
 
-    /// Returns the offset in the bytes of what is not read yet.
+    /// Returns the offset in the bytes at which the unread part begins.
     pub(crate) fn place_in(&self, bytes: &[u8]) -> usize
         ensures { result ≤ length bytes.now }
     {

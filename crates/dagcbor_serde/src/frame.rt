@@ -19,7 +19,7 @@ pub(crate) enum Stage {
     List,
     /// A map that expects a key.
     Rests,
-    /// A map that expects its next key as a value.
+    /// A map that takes the next value as a key.
     WantsKey,
     /// A map whose key waits for its value.
     WantsValue,

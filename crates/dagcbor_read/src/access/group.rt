@@ -39,8 +39,7 @@ pub struct Omissible<T>(pub Option<T>);
 
 /// A group of fields that comes before others in a row: a field (`Required`, `Option`,
 /// `Omissible`), or two groups, the second after the first. What a row holds and shows is flat by
-/// computation, however its fields are grouped: `((a, b), (c, ()))` is the same as `(a, (b, (c,
-/// ())))`.
+/// computation, however its fields are grouped: `((a, b), (c, ()))` equals `(a, (b, (c, ())))`.
 pub trait FieldGroup<'de>: Sized + Drop {
     /// What was read of the group so far.
     type Own: Drop;
